@@ -23,7 +23,7 @@ use Rattle.sysv_gate.specs.History.{made_at}
 use Rattle.sysv_gate.specs.Orders.{turns_at, AreBelow, NoneMadeUnder}
 use Rattle.sysv_gate.specs.Halls.{view_at, me_at}
 use Rattle.sysv_gate.specs.Doors.{Doorway, IsDoorOf, IsAt, IsSame, Idles, EndsOrder}
-use Rattle.sysv_gate.proofs.Ordering.{turns_append, turns_here, turns_longer, below_front}
+use Rattle.sysv_gate.proofs.OrderByPlace.{turns_append, turns_here, turns_longer, below_front}
 use Rattle.sysv_bank.specs.declared.seat.BankSeat.TheInside.{Inside}
 use Rattle.sysv_bank.specs.declared.bank.Bank.TheInside.{Inside as BankInside}
 use Rattle.sysv_bank.specs.Banks.{ChangesAt, gates_of, EachKnowsItsOwn}
@@ -31,8 +31,8 @@ use Rattle.sysv_gate.specs.Held.{holding, RestsAt}
 use Rattle.sysv_bank.specs.Passes.{Pass, holdings, GoesOn, AddsToOrder, SeenInOrder, IsOfPass, KnowsItsTurns}
 use Rattle.sysv_bank.specs.Resting.{IsNamedAs, pass_of, Rests, gateways, IsOpen}
 use Rattle.sysv_lists.proofs.Places.{at_below, there}
-use Rattle.sysv_bank.proofs.Owning.{made_at-longer, before_last, goes_without}
-use Rattle.sysv_bank.proofs.Calling.{Stays, Adds}
+use Rattle.sysv_bank.proofs.OwnTurns.{made_at-longer, before_last, goes_without}
+use Rattle.sysv_bank.proofs.PassAfterCall.{Stays, Adds}
 
 pub read_at : {A : Type 0} (xs : List A) (i : ℕ) (d a : A) → get_elem? xs i ≡ some a → get_or xs i d ≡ a
 read_at [] i d a at = absurd (some-ne-none a (sym at))

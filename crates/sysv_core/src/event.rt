@@ -1,3 +1,5 @@
+//! Calls, the events of a world, and their results.
+
 use sysv_model::{Body, Cred, Errno, Flags, SetTo, Stat};
 use sysv_steps::{Phase, Wait};
 

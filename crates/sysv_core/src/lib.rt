@@ -10,8 +10,8 @@
 //! ```
 #![tactic(auto)]
 
+mod actor_steps;
 mod doing;
-mod driver;
 mod event;
 mod giveback;
 mod laws;

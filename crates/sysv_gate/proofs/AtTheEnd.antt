@@ -27,10 +27,10 @@ use Rattle.sysv_gate.specs.Halls.{block, view_at, state_at, InOrder}
 use Rattle.sysv_lists.proofs.Places.{at_below, one_there, there}
 use Rattle.sysv_lists.proofs.Sums.{some_part}
 use Rattle.sysv_lists.proofs.Counting.{once_between-first}
-use Rattle.sysv_gate.proofs.Keeping.{no_ticket_no_turn, own_turns}
+use Rattle.sysv_gate.proofs.OneViewKeepsRule.{no_ticket_no_turn, own_turns}
 use Rattle.sysv_gate.proofs.Blocks.{block_read}
-use Rattle.sysv_gate.proofs.Lifting.{read_there}
-use Rattle.sysv_gate.proofs.Sharing.{none_out}
+use Rattle.sysv_gate.proofs.StepAtPlace.{read_there}
+use Rattle.sysv_gate.proofs.TableShares.{none_out}
 
 read_at : (xs : List ℕ) (i a : ℕ) → get_elem? xs i ≡ some a → get_or xs i 0 ≡ a
 read_at [] i a at = absurd (some-ne-none a (sym at))

@@ -20,8 +20,8 @@ use Rattle.sysv_gate.specs.Halls.{block, view_at, IsFull, InOrder, outset}
 use Rattle.sysv_gate.specs.Laying.{IsLaid, AreLaidUpTo, AreDoorsUpTo, all_put}
 use Rattle.sysv_gate.specs.Doors.{Doorway}
 use Rattle.sysv_gate.proofs.Blocks.{block_length}
-use Rattle.sysv_gate.proofs.Opening.{starts}
-use Rattle.sysv_gate.proofs.Sharing.{first_whole}
+use Rattle.sysv_gate.proofs.OpenedMeetsRule.{starts}
+use Rattle.sysv_gate.proofs.TableShares.{first_whole}
 
 -- The words of another place are appended.
 block_before : (place count : ℕ) (words new : List ℕ) → length words ≡ 80 * count → place < count → block place (words ++ new) ≡ block place words

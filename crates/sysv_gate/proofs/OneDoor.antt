@@ -33,9 +33,9 @@ use Rattle.sysv_gate.specs.Plays.{halved, both_views, both_of, Merges}
 use Rattle.sysv_gate.specs.Steps.{Mine, named, newcomer, parted}
 use Rattle.sysv_gate.specs.Turns.{HasWorn, HasRead, HasWaited, HasWaitedWithin}
 use Rattle.sysv_gate.specs.Doors.{Doorway, IsDoorOf, IsAt, IsSame, Idles, HasCalled, HasTried, KnowsAll, Idling, IsNewcomer}
-use Rattle.sysv_gate.proofs.Calling.{bare, answers, worn, refused, reads, waited, waited_within, call_rests, try_rests, count_rests, await_rests, within_rests}
-use Rattle.sysv_gate.proofs.Coming.{none_own, parted_there, newcomer_view, newcomer_there, joined_one, joined_view, joined_told, joined_there}
-use Rattle.sysv_gate.proofs.Passing.{both_length, merged_length}
+use Rattle.sysv_gate.proofs.SeenAfterCall.{bare, answers, worn, refused, reads, waited, waited_within, call_rests, try_rests, count_rests, await_rests, within_rests}
+use Rattle.sysv_gate.proofs.RestingViews.{none_own, parted_there, newcomer_view, newcomer_there, joined_one, joined_view, joined_told, joined_there}
+use Rattle.sysv_gate.proofs.PassSplitKeepsRule.{both_length, merged_length}
 use Rattle.sysv_gate.proofs.AtTheEnd.{served_from, closes_at}
 
 module _ {O C R : Type 0} (moves : O → C → R → O → Type 0) (g : GateInside O C R) (s : Inside O C R) (w : Gateway O) (h : Holding O C R) (opened : IsOpen g) (rest : IsAtRest moves s) (viewed : gateway g ≡ w) (shown : held s ≡ h)

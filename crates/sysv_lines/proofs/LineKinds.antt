@@ -12,7 +12,7 @@ use Rattle.sysv_lines.specs.Said.{Said, Nothing, MakesPreset, GivesCred, GivesMo
 use Rattle.sysv_lines.specs.Lines.{IsSkipped, SaysStart, OrderNamed, SaysOrder, TellsAlone, TellsInWords, Tells, Says, order_name}
 use Rattle.sysv_lines.specs.declared.line.Line.{Line}
 use Rattle.sysv_lines.specs.SaidBy.{said_of}
-use Rattle.sysv_lines.proofs.Naming.{named_order, order_named}
+use Rattle.sysv_lines.proofs.CallNames.{named_order, order_named}
 
 -- The kind of a meaning, as a number.
 abbrev pub kind : Said → ℕ

@@ -11,9 +11,9 @@ use Rattle.sysv_lines.specs.declared.actor.Actor.{Actor}
 use Rattle.sysv_lines.specs.declared.blocks.Blocks.{Blocks}
 use Rattle.sysv_lines.specs.Said.{Said, Nothing, MakesPreset, GivesCred, GivesMoment, Starts, StepsOnce, Continues, AllContinue, GivesBlocks}
 use Rattle.sysv_lines.specs.Lines.{IsActor, actor, IsBlocks, of_blocks, IsSkipped, SaysCall, SaysStart, order_name, SaysOrderArguments, OrderNamed, SaysOrder, TellsAlone, TellsInWords, Tells, Says}
-use Rattle.sysv_lines.proofs.Naming.{first_bytes}
+use Rattle.sysv_lines.proofs.CallNames.{first_bytes}
 use Rattle.sysv_lines.proofs.LineKinds.{kind, kind_said, in_words, words_alone, alone_in_words, order_in_words, nothing_in_words, in_words_only, tail_same}
-use Rattle.sysv_lines.proofs.ReadingCalls.{actor_read, blocks_read, call_read}
+use Rattle.sysv_lines.proofs.CallsReadOnce.{actor_read, blocks_read, call_read}
 
 abbrev SaysCredWords : List ℕ → Actor × (ℕ × (ℕ × ℕ)) → Type 0
 SaysCredWords = Pair IsActor (Pair IsNat32 (Pair IsNat32 IsNat32))

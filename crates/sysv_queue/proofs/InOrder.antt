@@ -22,9 +22,9 @@ use Rattle.sysv_queue.proofs.Filters.{Rises, below_of}
 use Rattle.sysv_queue.proofs.Turns.{Kind, Quiet, Makes, Accepts, Takes, Changes, Discards, IsStill, delivered-more, discarded-more, accepted-still, delivered-still, discarded-still, waiting-still, still_install, still_set, kind_of}
 use Rattle.sysv_queue.proofs.Ids.{decided, waiting_on-id}
 use Rattle.sysv_queue.proofs.Facts.{Facts, facts, waiting_rises, accepted-sent, accepted_else, delivered-sent, discarded-sent, waiting-sent, waiting_else, accepted-taken, delivered-taken, delivered_else, discarded-taken, waiting-taken, untouched, there_at, accepted-removed, delivered-removed, discarded_else, left_else, none_waits}
-use Rattle.sysv_queue.proofs.Naming.{type_of_place, first_of_type}
+use Rattle.sysv_queue.proofs.NamedMessage.{type_of_place, first_of_type}
 use Rattle.sysv_queue.proofs.Order.{nothing_in, earlier_place, rises_across, stands_more, stands_last, accepted_around}
-use Rattle.sysv_queue.proofs.Accepting.{accepts_number, accepts_alone, discarded_before}
+use Rattle.sysv_queue.proofs.AcceptedNumber.{accepts_number, accepts_alone, discarded_before}
 use Rattle.sysv_queue.proofs.Conserved.{IsConserved, conserved}
 
 -- Two messages of the same type and identifier, of which the first has the lower number.

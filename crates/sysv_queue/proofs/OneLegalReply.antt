@@ -24,7 +24,7 @@ use Rattle.sysv_queue.specs.Named.{types_of}
 use Rattle.sysv_queue.specs.OneReply.{SomeReplyIsLegal, NoTwoRepliesAreLegal}
 use Rattle.sysv_queue.proofs.Ids.{is_live}
 use Rattle.sysv_queue.proofs.Rules.{PermittedOrNot, NamedOrNone, OneNamed}
-use Rattle.sysv_queue.proofs.Naming.{named_message, none_named, never_given, one_message_named}
+use Rattle.sysv_queue.proofs.NamedMessage.{named_message, none_named, never_given, one_message_named}
 
 room_at : (qbytes : ℕ) (messages : List Message) (size : ℕ) → FitsOn qbytes messages size ⊎ ¬ FitsOn qbytes messages size
 room_at qbytes messages size = elim (at_most (bytes_of messages + size) qbytes) [

@@ -24,7 +24,7 @@ use Rattle.sysv_queue.proofs.Legality.{legal_front, legal_last}
 use Rattle.sysv_queue.proofs.Turns.{Kind, Quiet, Makes, Accepts, Takes, Changes, Discards, arrived-more, freed-more, arrived_grows, freed_grows, kind_of}
 use Rattle.sysv_queue.proofs.Ids.{keeps_id}
 use Rattle.sysv_queue.proofs.Removal.{types_of-remove}
-use Rattle.sysv_queue.proofs.Naming.{none_named}
+use Rattle.sysv_queue.proofs.NamedMessage.{none_named}
 use Rattle.sysv_queue.proofs.Rules.{NamedOrNone}
 use Rattle.sysv_queue.proofs.Stands.{slot, after_quiet, after_sent, after_taken}
 

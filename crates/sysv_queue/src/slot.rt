@@ -1,3 +1,5 @@
+//! The slot of a queue, and the calls at it.
+
 ghost use Rattle.std.specs.Prelude.{true, false, ◌≡◌, ◌+◌, ◌^◌, ◌<◌, ◌≤◌, ◌↔◌, [], ◌∷◌, ◌++◌, length, IfOk, IfErr, OnOk, OnErr, Some, IsTrue, MatchOption, option_map};
 ghost use Rattle.sysv_model.specs.declared.limits.TheConstants.{QUEUE_MESSAGES, MESSAGE_BYTES as most_bytes};
 ghost use Rattle.sysv_model.specs.History.{Install, Place, Take, ReadStat, ReadRow, Set, Remove, Installed, Shown};

@@ -1,3 +1,5 @@
+//! The world of a script, with what its lines refer to.
+
 ghost use Rattle.std.specs.Prelude.{false, ◌≡◌, ◌+◌, ◌<◌, ◌++◌, List, ℕ, replicate, map, IfOk, IsOk, OnOk, OnErr, [], ◌∷◌, ◌≤◌, length, Some};
 ghost use Rattle.std.specs.List.{range_with_len};
 ghost use Rattle.sysv_lists.specs.Prefix.{IsPrefixOf};

@@ -25,7 +25,7 @@ use Rattle.sysv_gate.specs.declared.closing.Closing.{Closing}
 use Rattle.sysv_gate.specs.History.{Moves, IsLegal, after_all}
 use Rattle.sysv_gate.specs.Gates.{Gateway}
 use Rattle.sysv_gate.specs.Orders.{turns_at}
-use Rattle.sysv_gate.proofs.Ordering.{turns_append, turns_here, turns_else, turns_none}
+use Rattle.sysv_gate.proofs.OrderByPlace.{turns_append, turns_here, turns_else, turns_none}
 use Rattle.sysv_gate.proofs.Histories.{after_all-snoc}
 use Rattle.sysv_bank.specs.Banks.{gates_of}
 use Rattle.sysv_bank.specs.Closing.{ClosesInOrder}

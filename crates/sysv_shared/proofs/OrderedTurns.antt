@@ -9,7 +9,7 @@ use Rattle.sysv_passes.specs.Members.{MakesTurn}
 use Rattle.sysv_gate.specs.History.{after_all}
 use Rattle.sysv_gate.specs.Gates.{Holding}
 use Rattle.sysv_gate.specs.Orders.{turns_at}
-use Rattle.sysv_gate.proofs.Ordering.{turns_append, turns_here}
+use Rattle.sysv_gate.proofs.OrderByPlace.{turns_append, turns_here}
 use Rattle.sysv_bank.specs.Banks.{gates_of}
 use Rattle.sysv_bank.specs.Passes.{AddsToOrder}
 use Rattle.sysv_shared.specs.declared.kinds.Gated.{Gated}

@@ -90,8 +90,8 @@ impl Gates {
     }
 }
 
-// Makes the objects: a registry without rows, whose slots have this generation, a pool of this
-// number of blocks, and the vacant slots. Returns `None` if memory is refused.
+/// Makes the objects: a registry without rows, whose slots have this generation, a pool of this
+/// number of blocks, and the vacant slots. Returns `None` if memory is refused.
 fn fresh_objects(alloc: Global, blocks: u32, generation: u32) -> Option<Vec<SharedObject>>
     requires blocks { (least_blocks ≤ blocks) × (blocks ≤ most_blocks) }
     requires generation { generation ≤ GENERATION_LAST }
@@ -120,7 +120,7 @@ fn fresh_objects(alloc: Global, blocks: u32, generation: u32) -> Option<Vec<Shar
     Some(objects)
 }
 
-// Frees the objects.
+/// Frees the objects.
 fn end_all(mut objects: Vec<SharedObject>) {
     while let Some(object) = objects.pop() {
         object.into_kind().end();

@@ -99,7 +99,7 @@ impl Gates {
     }
 }
 
-// Returns what the closed gate of a slot holds, as a slot.
+/// Returns what the closed gate of a slot holds, as a slot.
 fn slot_closing(closing: Closing<SharedObject>) -> Closing<QueueSlot>
     ensures { IfSome closing.object IsSlot → IsClosingAs as_slot closing result }
 {
@@ -115,7 +115,7 @@ fn slot_closing(closing: Closing<SharedObject>) -> Closing<QueueSlot>
     }
 }
 
-// Returns what the closed gate of the registry holds, as a registry.
+/// Returns what the closed gate of the registry holds, as a registry.
 fn registry_closing(closing: Closing<SharedObject>) -> Closing<Registry>
     ensures { IfSome closing.object IsRegistry → IsClosingAs as_registry closing result }
 {
@@ -131,7 +131,7 @@ fn registry_closing(closing: Closing<SharedObject>) -> Closing<Registry>
     }
 }
 
-// Returns what the closed gate of the pool holds, as a pool.
+/// Returns what the closed gate of the pool holds, as a pool.
 fn pool_closing(closing: Closing<SharedObject>) -> Closing<Pool>
     ensures { IfSome closing.object IsPool → IsClosingAs as_pool closing result }
 {
@@ -147,7 +147,7 @@ fn pool_closing(closing: Closing<SharedObject>) -> Closing<Pool>
     }
 }
 
-// Returns the slot if the object is one. Any other object is freed.
+/// Returns the slot if the object is one. Any other object is freed.
 fn slot_of(object: Option<SharedObject>) -> Option<QueueSlot>
     ensures { IfSome object IsSlot → result ≡ option_map slot_in object }
 {
@@ -160,7 +160,7 @@ fn slot_of(object: Option<SharedObject>) -> Option<QueueSlot>
     }
 }
 
-// Returns the registry if the object is one. Any other object is freed.
+/// Returns the registry if the object is one. Any other object is freed.
 fn registry_of(object: Option<SharedObject>) -> Option<Registry>
     ensures { IfSome object IsRegistry → result ≡ option_map registry_in object }
 {
@@ -173,7 +173,7 @@ fn registry_of(object: Option<SharedObject>) -> Option<Registry>
     }
 }
 
-// Returns the pool if the object is one. Any other object is freed.
+/// Returns the pool if the object is one. Any other object is freed.
 fn pool_of(object: Option<SharedObject>) -> Option<Pool>
     ensures { IfSome object IsPool → result ≡ option_map pool_in object }
 {

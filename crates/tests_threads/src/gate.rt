@@ -117,7 +117,7 @@ impl Object for Drawer {
     }
 }
 
-// Spends a slip, and returns its number.
+/// Spends a slip, and returns its number.
 fn number_of(slip: Slip) -> u32 {
     let Slip { number } = slip;
     number
@@ -146,7 +146,7 @@ fn what_cannot_be_dropped_goes_through(rt: HostRuntime) {
     }
 }
 
-// Spends the slip that a drawer keeps. Returns its number, or 0 if there is no drawer.
+/// Spends the slip that a drawer keeps. Returns its number, or 0 if there is no drawer.
 fn number_in(drawer: Option<Drawer>) -> u32 {
     match drawer {
         Some(Drawer { kept }) => number_of(kept),

@@ -1,6 +1,6 @@
 use Rattle.std.specs.Int.{w32}
 use Rattle.std.proofs.lemmas.Int.{to_z-of_z}
-use Rattle.sysv_clients.proofs.Talking.{runs_of}
+use Rattle.sysv_clients.proofs.TalkLemmas.{runs_of}
 use Rattle.sysv_clients.proofs.Courses.{shows_course}
 use Rattle.sysv_clients.proofs.client.run_client_watched.Goals as goal
 

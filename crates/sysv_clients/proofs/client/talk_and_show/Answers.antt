@@ -1,6 +1,6 @@
 use Rattle.std.specs.Int.{w32}
 use Rattle.std.proofs.lemmas.Int.{to_z-of_z}
-use Rattle.sysv_clients.proofs.Talking.{refused_so}
+use Rattle.sysv_clients.proofs.TalkLemmas.{refused_so}
 use Rattle.sysv_clients.proofs.client.talk_and_show.Goals as goal
 
 pub returns-clause-runs : goal.returns-clause-runs

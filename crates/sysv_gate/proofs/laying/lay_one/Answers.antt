@@ -1,7 +1,7 @@
 use Rattle.std.proofs.Common.{ap, refl, ◌∙◌, ◌*◌, [], length, arith}
 use lib.ListN.{get_elem?}
 use Rattle.sysv_gate.specs.Halls.{outset}
-use Rattle.sysv_gate.proofs.Opening.{pushed, popped}
+use Rattle.sysv_gate.proofs.OpenedMeetsRule.{pushed, popped}
 use Rattle.sysv_gate.proofs.laying.lay_one.Goals as goal
 
 pub returns-in-Some-clause-ok : goal.returns-in-Some-clause-ok

@@ -2,7 +2,7 @@ use Rattle.std.proofs.Common.{rules, ap, ◌∙◌, length, arith, sym, subst}
 use Rattle.sysv_lists.proofs.Places.{at_below}
 use Rattle.sysv_gate.specs.History.{Moves}
 use Rattle.sysv_gate.specs.Plays.{Merges}
-use Rattle.sysv_gate.proofs.Passing.{joins_all, merges_all, both_length, both_idle}
+use Rattle.sysv_gate.proofs.PassSplitKeepsRule.{joins_all, merges_all, both_length, both_idle}
 use Rattle.sysv_gate.proofs.passes.join_pass.Goals as goal
 
 pub join_seat-requires : goal.join_seat-requires

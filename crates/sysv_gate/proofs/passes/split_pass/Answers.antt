@@ -2,7 +2,7 @@ use Rattle.std.proofs.Common.{rules, ap, ◌∙◌, length, arith}
 use Rattle.std.proofs.lemmas.List.{length-map}
 use Rattle.sysv_lists.proofs.Places.{at_below}
 use Rattle.sysv_gate.specs.Steps.{newcomer}
-use Rattle.sysv_gate.proofs.Passing.{splits_all, names_all, newcomer_at, newcomer_named}
+use Rattle.sysv_gate.proofs.PassSplitKeepsRule.{splits_all, names_all, newcomer_at, newcomer_named}
 use Rattle.sysv_gate.proofs.passes.split_pass.Goals as goal
 
 pub split_seat-other-requires : goal.split_seat-other-requires

@@ -1,4 +1,4 @@
-use Rattle.sysv_gate.proofs.Announcing.{rises_by}
+use Rattle.sysv_gate.proofs.CountsStayAnnounced.{rises_by}
 use Rattle.sysv_gate.proofs.turns.apply.Goals as goal
 
 pub returns : goal.returns

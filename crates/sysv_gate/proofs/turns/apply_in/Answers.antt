@@ -1,7 +1,7 @@
 use Rattle.std.proofs.Common.{refl, subst}
 use Rattle.sysv_gate.specs.History.{Moves}
 use Rattle.sysv_gate.specs.Turns.{Applied}
-use Rattle.sysv_gate.proofs.Turning.{same_object}
+use Rattle.sysv_gate.proofs.LearnedInCall.{same_object}
 use Rattle.sysv_gate.proofs.turns.apply_in.Goals as goal
 
 pub returns : goal.returns

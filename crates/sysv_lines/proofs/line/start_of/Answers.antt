@@ -1,4 +1,4 @@
-use Rattle.sysv_lines.proofs.Naming.{start_without_actor, start_without_call}
+use Rattle.sysv_lines.proofs.CallNames.{start_without_actor, start_without_call}
 use Rattle.sysv_lines.proofs.line.start_of.Goals as goal
 
 pub returns-in_err-actor-clause-says : goal.returns-in_err-actor-clause-says

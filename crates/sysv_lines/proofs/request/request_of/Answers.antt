@@ -1,4 +1,4 @@
-use Rattle.sysv_lines.proofs.Naming.{call_unsplit, request_named}
+use Rattle.sysv_lines.proofs.CallNames.{call_unsplit, request_named}
 use Rattle.sysv_lines.proofs.request.request_of.Goals as goal
 
 pub returns-in_err-name-clause-says : goal.returns-in_err-name-clause-says

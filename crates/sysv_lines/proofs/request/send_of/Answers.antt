@@ -1,6 +1,6 @@
 use Rattle.std.proofs.Common.{w32, w64}
 use Rattle.std.proofs.lemmas.Int.{to_z-of_z}
-use Rattle.sysv_lines.proofs.Naming.{send_without_id, send_without_type, send_without_flags, send_without_text, says_send}
+use Rattle.sysv_lines.proofs.CallNames.{send_without_id, send_without_type, send_without_flags, send_without_text, says_send}
 use Rattle.sysv_lines.proofs.request.send_of.Goals as goal
 
 pub returns-in_err-id-clause-says : goal.returns-in_err-id-clause-says

@@ -2,7 +2,7 @@ use Rattle.std.proofs.Common.{◌≡◌, ℕ, inl, inr, ◌+◌, ◌-◌, ◌/�
 use Rattle.std.proofs.lemmas.Int.{ints}
 use Rattle.std.proofs.lemmas.Bool.{cases_lt}
 use Rattle.sysv_rules.specs.Digits.{digits, digits-is}
-use Rattle.sysv_messages.proofs.Halving.{below_from, above_from, halved}
+use Rattle.sysv_messages.proofs.SortedEntries.{below_from, above_from, halved}
 use Rattle.sysv_messages.proofs.index.first_from.Goals as goal
 
 pub loop-low-init : goal.loop-low-init

@@ -1,6 +1,6 @@
 use Rattle.std.proofs.Common.{◌++◌, [], ◌∙◌, ap, sym, arith, append_assoc}
 use Rattle.std.proofs.lemmas.List.{append-nil}
-use Rattle.sysv_workers.proofs.Crewing.{one_longer, one_fewer, none_joined, one_joined, all_joined}
+use Rattle.sysv_workers.proofs.RunningThreads.{one_longer, one_fewer, none_joined, one_joined, all_joined}
 use Rattle.sysv_workers.proofs.Feeds.{nil_of}
 use Rattle.sysv_workers.proofs.crew.join_all.Goals as goal
 

@@ -2,7 +2,7 @@ use Rattle.std.proofs.Common.{◌≡◌, ◌+◌, ◌≤◌, List, ◌++◌, len
 use Rattle.sysv_workers.specs.Crews.{AreOn}
 use Rattle.sysv_workers.specs.Doing.{Gathered}
 use Rattle.sysv_workers.specs.Parts.{Part}
-use Rattle.sysv_workers.proofs.Crewing.{Joining}
+use Rattle.sysv_workers.proofs.RunningThreads.{Joining}
 use Rattle.sysv_workers.proofs.crew.join_all.Given as goal
 
 -- The threads at the end of the list were joined.

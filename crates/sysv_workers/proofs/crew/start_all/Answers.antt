@@ -1,5 +1,5 @@
 use Rattle.std.proofs.Common.{◌∷◌, ◌∙◌, arith}
-use Rattle.sysv_workers.proofs.Crewing.{but_last, one_longer, moves, one_more}
+use Rattle.sysv_workers.proofs.RunningThreads.{but_last, one_longer, moves, one_more}
 use Rattle.sysv_workers.proofs.crew.start_all.Goals as goal
 
 pub loop-state-preserved : goal.loop-state-preserved

@@ -2,8 +2,8 @@ use Rattle.std.proofs.Common.{[], ◌∷◌, ◌++◌, refl, sym, subst, ◌≡�
 use Rattle.sysv_workers.specs.Running.{GivesBack}
 use Rattle.sysv_workers.specs.declared.refusals.WorkersFault.{WorkersFault}
 use Rattle.sysv_workers.specs.declared.refusals.WorkersFault.TheVariants.{Thread, Missed}
-use Rattle.sysv_workers.proofs.Crewing.{gathers}
-use Rattle.sysv_workers.proofs.Ending.{none_gathered, gives_up}
+use Rattle.sysv_workers.proofs.RunningThreads.{gathers}
+use Rattle.sysv_workers.proofs.EndedRun.{none_gathered, gives_up}
 use Rattle.sysv_workers.proofs.workers.give_up.Goals as goal
 use Rattle.sysv_workers.proofs.workers.give_up.Goals.{then-tally-eq0, else-tally-eq0}
 

@@ -5,8 +5,8 @@ use Rattle.std.proofs.Common.{◌≡◌, ◌≤◌, ℕ, Some, refl, List, [], �
 use Rattle.sysv_workers.specs.Running.{GivesBack}
 use Rattle.sysv_workers.specs.Feeding.{counted, HasFed}
 use Rattle.sysv_workers.specs.Sources.{GivesAll}
-use Rattle.sysv_workers.proofs.Crewing.{on_length}
-use Rattle.sysv_workers.proofs.Ending.{at_some, at_none, none_gathered, gathered_looks, ends, leads, fails_early, fails_late, cause_early, cause_late, late}
+use Rattle.sysv_workers.proofs.RunningThreads.{on_length}
+use Rattle.sysv_workers.proofs.EndedRun.{at_some, at_none, none_gathered, gathered_looks, ends, leads, fails_early, fails_late, cause_early, cause_late, late}
 use Rattle.sysv_workers.proofs.Feeds.{fed_longer, grown_longer, looks_longer}
 use Rattle.sysv_workers.proofs.workers.run_in.Goals as goal
 

@@ -2,8 +2,8 @@ use Rattle.std.proofs.Common.{arith}
 use Rattle.sysv_gate.specs.History.{Moves}
 use Rattle.sysv_gate.specs.Halls.{me_at}
 use Rattle.sysv_bank.proofs.Passes.{door_there, door_of, is_at, idles, rests_there, gates_after, changes, goes_on, rests_after}
-use Rattle.sysv_gate.proofs.Calling.{bare, within_rests, waited_within}
-use Rattle.sysv_bank.proofs.Calling.{stays_within}
+use Rattle.sysv_gate.proofs.SeenAfterCall.{bare, within_rests, waited_within}
+use Rattle.sysv_bank.proofs.PassAfterCall.{stays_within}
 use Rattle.sysv_bank.proofs.bank.Bank.await_within.Goals as goal
 
 pub index-requires : goal.index-requires

@@ -7,8 +7,8 @@ use Rattle.sysv_bank.specs.Passes.{GoesOn, AddsToOrder}
 use Rattle.sysv_bank.specs.Resting.{pass_of}
 use Rattle.sysv_bank.proofs.Places.{if_ok, if_err, both_ok, on_err}
 use Rattle.sysv_bank.proofs.Passes.{door_there, door_of, is_at, idles, accepted, rests_there, gates_after, changes, goes_on, rests_after, adds_to_order}
-use Rattle.sysv_gate.proofs.Calling.{bare, call_rests, answers, worn}
-use Rattle.sysv_bank.proofs.Calling.{call_names, adds, stays_worn}
+use Rattle.sysv_gate.proofs.SeenAfterCall.{bare, call_rests, answers, worn}
+use Rattle.sysv_bank.proofs.PassAfterCall.{call_names, adds, stays_worn}
 use Rattle.sysv_bank.proofs.bank.Bank.call.Goals as goal
 
 pub index-requires : goal.index-requires

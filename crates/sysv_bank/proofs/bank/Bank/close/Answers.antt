@@ -13,7 +13,7 @@ use Rattle.sysv_bank.specs.Banks.{Each2}
 use Rattle.sysv_bank.specs.Closing.{ClosesInOrder}
 use Rattle.sysv_gate.proofs.AtTheEnd.{served_from}
 use Rattle.sysv_bank.proofs.Passes.{same_table}
-use Rattle.sysv_bank.proofs.Ending.{emptied, none_read, one_read, closes_all, closes_order}
+use Rattle.sysv_bank.proofs.ClosedBank.{emptied, none_read, one_read, closes_all, closes_order}
 use Rattle.sysv_bank.proofs.bank.Bank.close.Goals as goal
 
 pub close_with-closed-requires : goal.close_with-closed-requires

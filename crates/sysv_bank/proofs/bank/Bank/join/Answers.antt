@@ -7,7 +7,7 @@ use Rattle.sysv_bank.specs.Banks.{Each3, gates_of}
 use Rattle.sysv_bank.specs.Passes.{JoinsOrders}
 use Rattle.sysv_bank.specs.Resting.{pass_of}
 use Rattle.sysv_bank.proofs.Passes.{same_table, gates_same}
-use Rattle.sysv_bank.proofs.Coming.{knows_all, joined_now, joined_rests, joined_order}
+use Rattle.sysv_bank.proofs.SeatsMade.{knows_all, joined_now, joined_rests, joined_order}
 use Rattle.sysv_bank.proofs.bank.Bank.join.Goals as goal
 
 pub join_pass-requires-clause-table : goal.join_pass-requires-clause-table

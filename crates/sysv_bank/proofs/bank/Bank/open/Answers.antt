@@ -7,7 +7,7 @@ use Rattle.sysv_bank.specs.Banks.{AreOpened, gates_of}
 use Rattle.sysv_bank.specs.Passes.{holdings}
 use Rattle.sysv_bank.specs.Resting.{gateways}
 use Rattle.sysv_bank.proofs.Passes.{gates_there}
-use Rattle.sysv_bank.proofs.Coming.{first_rests, first_named, first_seats, first_opened}
+use Rattle.sysv_bank.proofs.SeatsMade.{first_rests, first_named, first_seats, first_opened}
 use Rattle.sysv_bank.proofs.bank.Bank.open.Goals as goal
 
 pub invariant_of-bank : goal.invariant_of-bank

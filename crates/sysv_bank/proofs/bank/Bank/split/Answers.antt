@@ -6,7 +6,7 @@ use Rattle.sysv_bank.specs.Banks.{Each2, gates_of}
 use Rattle.sysv_bank.specs.Passes.{SplitsOff}
 use Rattle.sysv_bank.specs.Resting.{pass_of}
 use Rattle.sysv_bank.proofs.Passes.{same_table, gates_same}
-use Rattle.sysv_bank.proofs.Coming.{knows_all, parted_now, parted_rests, split_now, split_rests, split_order, rests_key, seats_key}
+use Rattle.sysv_bank.proofs.SeatsMade.{knows_all, parted_now, parted_rests, split_now, split_rests, split_order, rests_key, seats_key}
 use Rattle.sysv_bank.proofs.bank.Bank.split.Goals as goal
 
 pub split_pass-token-requires-clause-table : goal.split_pass-token-requires-clause-table

@@ -1,6 +1,6 @@
 use Rattle.std.proofs.Common.{rules, ap, sym, ◌∙◌, ◌∷◌, ◌%◌, Some, None}
 use Rattle.atomic_table.specs.Table.{rest}
-use Rattle.sysv_buffer.proofs.Stepping.{takes'}
+use Rattle.sysv_buffer.proofs.StepKeepsRule.{takes'}
 use Rattle.sysv_buffer.proofs.buffer.OneBuffer.empty.Goals as goal
 
 pub exchange-requires : goal.exchange-requires

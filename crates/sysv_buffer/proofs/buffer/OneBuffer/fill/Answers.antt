@@ -1,6 +1,6 @@
 use Rattle.std.proofs.Common.{rules, ap, sym, ◌∙◌, ◌∷◌, ◌%◌, Some, length}
 use Rattle.atomic_table.specs.Table.{rest}
-use Rattle.sysv_buffer.proofs.Stepping.{puts}
+use Rattle.sysv_buffer.proofs.StepKeepsRule.{puts}
 use Rattle.sysv_buffer.proofs.buffer.OneBuffer.fill.Goals as goal
 
 pub fetch_add-requires : goal.fetch_add-requires

@@ -1,5 +1,5 @@
 use Rattle.std.proofs.Common.{rules, ap, ◌∙◌}
-use Rattle.sysv_buffer.proofs.Stepping.{counts_out, looks}
+use Rattle.sysv_buffer.proofs.StepKeepsRule.{counts_out, looks}
 use Rattle.sysv_buffer.proofs.buffer.OneBuffer.look.Goals as goal
 
 pub load-count-requires : goal.load-count-requires

@@ -1,5 +1,5 @@
 use Rattle.std.proofs.Common.{rules, ap, ◌∙◌, ◌≡◌, length, arith}
-use Rattle.sysv_buffer.proofs.Stepping.{counts_in, reaches}
+use Rattle.sysv_buffer.proofs.StepKeepsRule.{counts_in, reaches}
 use Rattle.sysv_buffer.proofs.buffer.OneBuffer.reach.Goals as goal
 
 pub load-count-requires : goal.load-count-requires

@@ -1,5 +1,5 @@
 use Rattle.std.proofs.Common.{ap, ◌∙◌, ◌++◌, ◌∷◌, []}
-use Rattle.sysv_buffer.proofs.Turning.{took}
+use Rattle.sysv_buffer.proofs.ConsumerAfterTake.{took}
 use Rattle.sysv_buffer.proofs.buffer.OneBuffer.try_take.Goals as goal
 
 pub invariant_of-end : goal.invariant_of-end

@@ -1,5 +1,5 @@
 use Rattle.std.proofs.Common.{rules, ap, sym, ◌∙◌, ◌∷◌, [], refl, arith}
-use Rattle.sysv_buffer.proofs.ManyStepping.{counts_put, counts_taken, draws_take, reaches_item}
+use Rattle.sysv_buffer.proofs.ManyStepKeepsRule.{counts_put, counts_taken, draws_take, reaches_item}
 use Rattle.sysv_buffer.proofs.many.ManyBuffer.find_item.Goals as goal
 
 pub load-count-requires : goal.load-count-requires

@@ -1,6 +1,6 @@
 use Rattle.std.proofs.Common.{rules, ap, ◌∙◌}
-use Rattle.sysv_buffer.proofs.ManySeating.{many_joins}
-use Rattle.sysv_buffer.proofs.ManyStepping.{counts_put}
+use Rattle.sysv_buffer.proofs.ManySplitKeepsRule.{many_joins}
+use Rattle.sysv_buffer.proofs.ManyStepKeepsRule.{counts_put}
 use Rattle.sysv_buffer.proofs.many.ManyBuffer.join.Goals as goal
 
 pub join_seat-requires : goal.join_seat-requires

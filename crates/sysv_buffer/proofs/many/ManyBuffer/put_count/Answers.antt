@@ -1,5 +1,5 @@
 use Rattle.std.proofs.Common.{rules}
-use Rattle.sysv_buffer.proofs.ManyStepping.{counts_put}
+use Rattle.sysv_buffer.proofs.ManyStepKeepsRule.{counts_put}
 use Rattle.sysv_buffer.proofs.many.ManyBuffer.put_count.Goals as goal
 
 pub load-requires : goal.load-requires

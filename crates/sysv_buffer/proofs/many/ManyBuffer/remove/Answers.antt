@@ -1,6 +1,6 @@
 use Rattle.std.proofs.Common.{rules, ap, sym, ◌∙◌, ◌∷◌, ◌%◌, Some, None}
 use Rattle.atomic_table.specs.Table.{rest}
-use Rattle.sysv_buffer.proofs.ManyStepping.{removes}
+use Rattle.sysv_buffer.proofs.ManyStepKeepsRule.{removes}
 use Rattle.sysv_buffer.proofs.many.ManyBuffer.remove.Goals as goal
 
 pub exchange-requires : goal.exchange-requires

@@ -1,7 +1,7 @@
 use Rattle.std.proofs.Common.{ap, sym, ◌∙◌, ◌++◌, refl}
 use mathlib.Core.Option.{some}
 use lib.ListN.{get_elem?}
-use Rattle.sysv_buffer.proofs.Turning.{same_item}
+use Rattle.sysv_buffer.proofs.ConsumerAfterTake.{same_item}
 use Rattle.sysv_buffer.proofs.many.ManyBuffer.take.Goals as goal
 
 pub returns-clause-ok : goal.returns-clause-ok

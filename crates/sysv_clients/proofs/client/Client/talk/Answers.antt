@@ -2,7 +2,7 @@ use Rattle.std.proofs.Common.{length, arith, refl, ◌∙◌}
 use Rattle.std.specs.Int.{w32}
 use Rattle.std.proofs.lemmas.Int.{to_z-of_z}
 use Rattle.std.proofs.lemmas.Result.{err_from_is_err_and}
-use Rattle.sysv_clients.proofs.Talking.{begins, blamed, breaks_off, goes_on, has_room, no_line, short_head, stays_within}
+use Rattle.sysv_clients.proofs.TalkLemmas.{begins, blamed, breaks_off, goes_on, has_room, no_line, short_head, stays_within}
 use Rattle.sysv_clients.proofs.client.Client.talk.Goals as goal
 
 pub loop-ask-init : goal.loop-ask-init

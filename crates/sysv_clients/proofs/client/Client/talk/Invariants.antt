@@ -3,7 +3,7 @@ use Rattle.std.proofs.Common.{◌≡◌, ◌-◌, ◌≤◌, length}
 use Rattle.sysv_clients.specs.declared.command.TheConstants.{MAX_REQUESTS}
 use Rattle.sysv_clients.specs.Asks.{text_of}
 use Rattle.sysv_model.specs.Watched.{failures_of, stream_name, stream_of}
-use Rattle.sysv_clients.proofs.Talking.{Talking, page_most}
+use Rattle.sysv_clients.proofs.TalkLemmas.{Talking, page_most}
 use Rattle.sysv_clients.proofs.client.Client.talk.Given as goal
 
 abbrev pub invariant-loop-ask : goal.invariant-loop-ask

@@ -3,7 +3,7 @@ use Rattle.std.proofs.lemmas.Bool.Decides.{nat_tests}
 use Rattle.sysv_eventcount.specs.Counter.{Holding, Learns}
 use Rattle.sysv_eventcount.specs.declared.view.View.{View}
 use Rattle.sysv_eventcount.specs.Steps.{Informs}
-use Rattle.sysv_eventcount.proofs.Keeping.{clears, adds, before_clearing}
+use Rattle.sysv_eventcount.proofs.StepKeepsRule.{clears, adds, before_clearing}
 use Rattle.sysv_eventcount.proofs.word.Word.add.Goals as goal
 
 pub load-found-requires : goal.load-found-requires

@@ -2,10 +2,10 @@ use Rattle.std.proofs.Common.{rules, arith, ap, sym, refl, cond, ◌+◌, ◌*�
 use Rattle.sysv_gate.specs.Counts.{word_of}
 use Rattle.sysv_gate.specs.Steps.{Announces, announced_by}
 use Rattle.sysv_gate.specs.Halls.{me_at}
-use Rattle.sysv_gate.proofs.Announcing.{below_80}
-use Rattle.sysv_gate.proofs.Stepping.{announces}
-use Rattle.sysv_gate.proofs.Lifting.{lifted_none}
-use Rattle.sysv_gate.proofs.Entering.{stepped_only}
+use Rattle.sysv_gate.proofs.CountsStayAnnounced.{below_80}
+use Rattle.sysv_gate.proofs.StepKeepsRule.{announces}
+use Rattle.sysv_gate.proofs.StepAtPlace.{lifted_none}
+use Rattle.sysv_gate.proofs.PassUnchanged.{stepped_only}
 use Rattle.sysv_gate.proofs.door.Door.announce.Goals as goal
 
 pub fetch_add-requires : goal.fetch_add-requires

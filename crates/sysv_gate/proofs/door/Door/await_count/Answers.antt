@@ -1,6 +1,6 @@
 use Rattle.std.proofs.Common.{rules}
-use Rattle.sysv_gate.proofs.Turning.{read_again, read_more, read_nothing, more_again, waited_later}
-use Rattle.sysv_gate.proofs.Entering.{only_self, same_trans}
+use Rattle.sysv_gate.proofs.LearnedInCall.{read_again, read_more, read_nothing, more_again, waited_later}
+use Rattle.sysv_gate.proofs.PassUnchanged.{only_self, same_trans}
 use Rattle.sysv_gate.proofs.door.Door.await_count.Goals as goal
 
 pub loop-init : goal.loop-init

@@ -1,5 +1,5 @@
-use Rattle.sysv_gate.proofs.Turning.{read_more, more_again, waited_later, waited_within_later, if_within}
-use Rattle.sysv_gate.proofs.Entering.{same_trans}
+use Rattle.sysv_gate.proofs.LearnedInCall.{read_more, more_again, waited_later, waited_within_later, if_within}
+use Rattle.sysv_gate.proofs.PassUnchanged.{same_trans}
 use Rattle.sysv_gate.proofs.door.Door.await_within.Goals as goal
 
 pub returns-in-Some-clause-same : goal.returns-in-Some-clause-same

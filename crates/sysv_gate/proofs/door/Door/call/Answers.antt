@@ -1,7 +1,7 @@
 use Rattle.std.proofs.Common.{ap, ◌∙◌}
 use Rattle.sysv_gate.specs.History.{Moves}
 use Rattle.sysv_gate.specs.Halls.{me_at}
-use Rattle.sysv_gate.proofs.Entering.{at_after, same_trans}
+use Rattle.sysv_gate.proofs.PassUnchanged.{at_after, same_trans}
 use Rattle.sysv_gate.proofs.Called.{called, came_drawn, room_for, still_named, order_later}
 use Rattle.sysv_gate.proofs.door.Door.call.Goals as goal
 

@@ -1,11 +1,11 @@
 use Rattle.std.proofs.Common.{rules, arith, ap, refl, ◌+◌, ◌*◌, ◌∙◌}
 use Rattle.sysv_gate.specs.Counts.{word_of}
 use Rattle.sysv_gate.specs.Steps.{Reads}
-use Rattle.sysv_gate.proofs.Announcing.{below_80}
-use Rattle.sysv_gate.proofs.Stepping.{reads}
-use Rattle.sysv_gate.proofs.Turning.{never_falls, has_read}
-use Rattle.sysv_gate.proofs.Lifting.{lifted_none}
-use Rattle.sysv_gate.proofs.Entering.{stepped_only}
+use Rattle.sysv_gate.proofs.CountsStayAnnounced.{below_80}
+use Rattle.sysv_gate.proofs.StepKeepsRule.{reads}
+use Rattle.sysv_gate.proofs.LearnedInCall.{never_falls, has_read}
+use Rattle.sysv_gate.proofs.StepAtPlace.{lifted_none}
+use Rattle.sysv_gate.proofs.PassUnchanged.{stepped_only}
 use Rattle.sysv_gate.proofs.door.Door.count.Goals as goal
 
 pub load-requires : goal.load-requires

@@ -1,9 +1,9 @@
 use Rattle.std.proofs.Common.{rules, arith, ◌+◌, eqb, refl}
 use prog.Atomic.{either}
 use Rattle.sysv_gate.specs.Steps.{Draws}
-use Rattle.sysv_gate.proofs.Stepping.{draws}
-use Rattle.sysv_gate.proofs.Lifting.{lifted_none}
-use Rattle.sysv_gate.proofs.Entering.{stepped_only}
+use Rattle.sysv_gate.proofs.StepKeepsRule.{draws}
+use Rattle.sysv_gate.proofs.StepAtPlace.{lifted_none}
+use Rattle.sysv_gate.proofs.PassUnchanged.{stepped_only}
 use Rattle.sysv_gate.proofs.door.Door.draw_next.Goals as goal
 
 pub compare_exchange-requires : goal.compare_exchange-requires

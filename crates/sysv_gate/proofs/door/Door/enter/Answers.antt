@@ -3,9 +3,9 @@ use Rattle.sysv_gate.specs.History.{Moves, IsLegal, HasItsOwn}
 use Rattle.sysv_gate.specs.Steps.{entered}
 use Rattle.sysv_gate.specs.Turns.{Looked, SawMore}
 use Rattle.sysv_gate.specs.Halls.{me_at}
-use Rattle.sysv_gate.proofs.Counting.{unmarked}
-use Rattle.sysv_gate.proofs.Turning.{unweighed, idle_look, look_count, look_legal, look_own, came_at_once}
-use Rattle.sysv_gate.proofs.Entering.{same_trans}
+use Rattle.sysv_gate.proofs.MarksAndCounts.{unmarked}
+use Rattle.sysv_gate.proofs.LearnedInCall.{unweighed, idle_look, look_count, look_legal, look_own, came_at_once}
+use Rattle.sysv_gate.proofs.PassUnchanged.{same_trans}
 use Rattle.sysv_gate.proofs.door.Door.enter.Goals as goal
 
 pub enter_next-found-requires-clause-served : goal.enter_next-found-requires-clause-served

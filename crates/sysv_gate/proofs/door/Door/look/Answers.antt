@@ -1,10 +1,10 @@
 use Rattle.std.proofs.Common.{rules, arith}
 use Rattle.sysv_gate.specs.History.{Moves}
 use Rattle.sysv_gate.specs.Steps.{Turns}
-use Rattle.sysv_gate.proofs.Stepping.{looks}
-use Rattle.sysv_gate.proofs.Turning.{look_tells}
-use Rattle.sysv_gate.proofs.Lifting.{lifted_none}
-use Rattle.sysv_gate.proofs.Entering.{stepped_only}
+use Rattle.sysv_gate.proofs.StepKeepsRule.{looks}
+use Rattle.sysv_gate.proofs.LearnedInCall.{look_tells}
+use Rattle.sysv_gate.proofs.StepAtPlace.{lifted_none}
+use Rattle.sysv_gate.proofs.PassUnchanged.{stepped_only}
 use Rattle.sysv_gate.proofs.door.Door.look.Goals as goal
 
 pub load-requires : goal.load-requires

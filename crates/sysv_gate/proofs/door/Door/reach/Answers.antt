@@ -1,6 +1,6 @@
 use Rattle.std.proofs.Common.{rules}
-use Rattle.sysv_gate.proofs.Turning.{turn_later, saw_later, saw_nothing}
-use Rattle.sysv_gate.proofs.Entering.{only_self, same_trans}
+use Rattle.sysv_gate.proofs.LearnedInCall.{turn_later, saw_later, saw_nothing}
+use Rattle.sysv_gate.proofs.PassUnchanged.{only_self, same_trans}
 use Rattle.sysv_gate.proofs.door.Door.reach.Goals as goal
 
 pub loop-init : goal.loop-init

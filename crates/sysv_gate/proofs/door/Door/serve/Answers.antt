@@ -7,10 +7,10 @@ use Rattle.sysv_gate.specs.Steps.{announced_by, after_turn, Ends}
 use Rattle.sysv_gate.specs.Halls.{view_at, me_at}
 use Rattle.sysv_gate.specs.Plays.{turns_told}
 use Rattle.sysv_gate.specs.declared.count.Count.TheVariants.{Arrived, Freed}
-use Rattle.sysv_gate.proofs.Lifting.{lifted}
-use Rattle.sysv_gate.proofs.Entering.{only_trans, stepped_only}
-use Rattle.sysv_gate.proofs.Serving.{out_there, lent_there, written_there, refilled_only, ends_told, ends_order}
-use Rattle.sysv_gate.proofs.Turning.{made_turn, counts_low, handed, told_move, announced_all}
+use Rattle.sysv_gate.proofs.StepAtPlace.{lifted}
+use Rattle.sysv_gate.proofs.PassUnchanged.{only_trans, stepped_only}
+use Rattle.sysv_gate.proofs.SlotToOrder.{out_there, lent_there, written_there, refilled_only, ends_told, ends_order}
+use Rattle.sysv_gate.proofs.LearnedInCall.{made_turn, counts_low, handed, told_move, announced_all}
 use Rattle.sysv_gate.proofs.door.Door.serve.Goals as goal
 
 pub slot_mut-spot-requires : goal.slot_mut-spot-requires

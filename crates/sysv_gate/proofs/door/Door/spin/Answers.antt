@@ -1,4 +1,4 @@
-use Rattle.sysv_gate.proofs.Entering.{same_trans, looked_mine, looked_other}
+use Rattle.sysv_gate.proofs.PassUnchanged.{same_trans, looked_mine, looked_other}
 use Rattle.sysv_gate.proofs.door.Door.spin.Goals as goal
 
 pub loop-preserved : goal.loop-preserved

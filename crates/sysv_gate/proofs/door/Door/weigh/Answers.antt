@@ -1,8 +1,8 @@
 use Rattle.std.proofs.Common.{rules, arith}
 use Rattle.sysv_gate.specs.Steps.{Weighs}
-use Rattle.sysv_gate.proofs.Stepping.{weighs}
-use Rattle.sysv_gate.proofs.Lifting.{lifted_none}
-use Rattle.sysv_gate.proofs.Entering.{stepped_only}
+use Rattle.sysv_gate.proofs.StepKeepsRule.{weighs}
+use Rattle.sysv_gate.proofs.StepAtPlace.{lifted_none}
+use Rattle.sysv_gate.proofs.PassUnchanged.{stepped_only}
 use Rattle.sysv_gate.proofs.door.Door.weigh.Goals as goal
 
 pub load-requires : goal.load-requires

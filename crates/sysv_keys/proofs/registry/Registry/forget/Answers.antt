@@ -9,7 +9,7 @@ use Rattle.sysv_keys.specs.Identifier.{slot_of_id}
 use Rattle.sysv_keys.specs.Kept.{IsIndex, KeysDiffer, age_after, is_indexed}
 use Rattle.sysv_keys.proofs.Logic.{same_bits}
 use Rattle.sysv_keys.proofs.Index.{differ_without, unindexed, key_private, private_unindexed}
-use Rattle.sysv_keys.proofs.Keeping.{settled_small, kept_forgotten}
+use Rattle.sysv_keys.proofs.PlaceWritten.{settled_small, kept_forgotten}
 use Rattle.sysv_keys.proofs.Turns.{turn_forgotten_at, turn_not_forgotten}
 use Rattle.sysv_keys.proofs.registry.Registry.forget.Goals as goal
 

@@ -15,7 +15,7 @@ use Rattle.sysv_keys.proofs.Logic.{other_id}
 use Rattle.sysv_keys.proofs.Places.{one_there}
 use Rattle.sysv_keys.proofs.Changes.{a_row}
 use Rattle.sysv_keys.proofs.Index.{added, unindexed, inserted, none_unknown, key_shared, key_private, private_unindexed}
-use Rattle.sysv_keys.proofs.Keeping.{kept_made, room_for_one}
+use Rattle.sysv_keys.proofs.PlaceWritten.{kept_made, room_for_one}
 use Rattle.sysv_keys.proofs.registry.Registry.make.Goals as goal
 
 pub unwrap-requires : goal.unwrap-requires

@@ -5,7 +5,7 @@ use Rattle.indexmap.specs.IndexMap.{get, index_map_len, spare}
 use Rattle.sysv_keys.specs.declared.identifier.TheConstants.{SLOTS, GENERATION_LAST}
 use Rattle.sysv_keys.specs.Kept.{IsKept}
 use Rattle.sysv_keys.proofs.Stands.{a_place, stands_empty}
-use Rattle.sysv_keys.proofs.Keeping.{kept_fresh}
+use Rattle.sysv_keys.proofs.PlaceWritten.{kept_fresh}
 use Rattle.sysv_keys.proofs.registry.Registry.open_at.Goals as goal
 
 pub invariant_of-result : goal.invariant_of-result

@@ -4,7 +4,7 @@ use Rattle.std.proofs.lemmas.Option.{slice_get_read, same_Some}
 use Rattle.sysv_keys.specs.declared.registry.KeyRow.{KeyRow}
 use Rattle.sysv_keys.specs.Identifier.{slot_of_id}
 use Rattle.sysv_keys.proofs.Logic.{not_then, not_else, same_bits, never_both}
-use Rattle.sysv_keys.proofs.Keeping.{settled_small, kept_settled}
+use Rattle.sysv_keys.proofs.PlaceWritten.{settled_small, kept_settled}
 use Rattle.sysv_keys.proofs.Turns.{turn_settled_at, turn_not_settled}
 use Rattle.sysv_keys.proofs.registry.Registry.settle.Goals as goal
 

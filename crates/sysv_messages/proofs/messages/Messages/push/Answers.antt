@@ -10,7 +10,7 @@ use Rattle.sysv_messages.specs.declared.entry.Entry.{Entry}
 use Rattle.sysv_messages.specs.Texts.{chain_of}
 use Rattle.sysv_messages.specs.Kept.{messages_of, head_of, IsStore}
 use Rattle.sysv_messages.proofs.Seen.{numbers_seen}
-use Rattle.sysv_messages.proofs.Putting.{seen_put, store_put}
+use Rattle.sysv_messages.proofs.Added.{seen_put, store_put}
 use Rattle.sysv_messages.proofs.messages.Messages.push.Goals as goal
 
 pub push-requires-clause-last : goal.push-requires-clause-last

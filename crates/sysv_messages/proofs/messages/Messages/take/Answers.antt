@@ -2,7 +2,7 @@ use Rattle.std.proofs.Common.{ap, arith, rules, w64, FitsSigned}
 use Rattle.std.proofs.lemmas.Int.{to_z-of_z}
 use Rattle.sysv_messages.specs.declared.head.Head.{Head}
 use Rattle.sysv_messages.proofs.Lists.{some_is}
-use Rattle.sysv_messages.proofs.Receiving.{none_there, kept_it, head_is, too_long, len_below, len_short, kept_as, store_without, taken_it}
+use Rattle.sysv_messages.proofs.SelectedMessage.{none_there, kept_it, head_is, too_long, len_below, len_short, kept_as, store_without, taken_it}
 use Rattle.sysv_messages.proofs.messages.Messages.take.Goals as goal
 
 pub returns-in_default-clause-refused : goal.returns-in_default-clause-refused

@@ -3,7 +3,7 @@ use Rattle.std.specs.List.{insert}
 use Rattle.std.specs.Int.Signed.{le_z}
 use Rattle.std.proofs.lemmas.List.Sorted.{IsPartitionPoint-from_clause}
 use Rattle.sysv_messages.specs.declared.entry.Entry.{Entry}
-use Rattle.sysv_messages.proofs.Halving.{parted, comes_in}
+use Rattle.sysv_messages.proofs.SortedEntries.{parted, comes_in}
 use Rattle.sysv_messages.proofs.rows.Row.insert.Goals as goal
 
 pub returns-clause-inserted : goal.returns-clause-inserted

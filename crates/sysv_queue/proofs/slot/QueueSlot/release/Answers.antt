@@ -1,6 +1,6 @@
 use Rattle.std.proofs.Common.{sym, subst}
 use Rattle.sysv_queue.specs.Numbered.{AreNumberedBelow}
-use Rattle.sysv_queue.proofs.Numbering.{numbered_left}
+use Rattle.sysv_queue.proofs.NumbersStayBelow.{numbered_left}
 use Rattle.sysv_queue.proofs.slot.QueueSlot.release.Goals as goal
 
 pub invariant_of-self : goal.invariant_of-self

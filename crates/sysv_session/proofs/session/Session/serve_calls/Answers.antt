@@ -1,5 +1,5 @@
 use Rattle.std.proofs.Common.{arith, ap, refl, ◌∙◌, ◌+◌}
-use Rattle.sysv_session.proofs.Talking.{begins, ends_turn, goes_on, has_room}
+use Rattle.sysv_session.proofs.SessionLemmas.{begins, ends_turn, goes_on, has_room}
 use Rattle.sysv_session.proofs.session.Session.serve_calls.Goals as goal
 
 pub loop-init : goal.loop-init

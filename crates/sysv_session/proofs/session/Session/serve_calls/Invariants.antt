@@ -1,6 +1,6 @@
 use Rattle.std.proofs.Common.{◌≡◌}
 use Rattle.sysv_model.specs.Watched.{failures_of, stream_name, stream_of}
-use Rattle.sysv_session.proofs.Talking.{Talking}
+use Rattle.sysv_session.proofs.SessionLemmas.{Talking}
 use Rattle.sysv_session.proofs.session.Session.serve_calls.Given as goal
 
 abbrev pub invariant-loop : goal.invariant-loop

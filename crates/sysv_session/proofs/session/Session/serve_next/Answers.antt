@@ -1,4 +1,4 @@
-use Rattle.sysv_session.proofs.Talking.{taken_turn}
+use Rattle.sysv_session.proofs.SessionLemmas.{taken_turn}
 use Rattle.sysv_session.proofs.session.Session.serve_next.Goals as goal
 
 pub returns-clause-turns : goal.returns-clause-turns
