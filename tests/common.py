@@ -283,7 +283,7 @@ def run_trial(name, function, trial, seconds):
         trial.end()
 
 
-def run_trials(seconds=150):
+def run_trials(seconds=100):
     """Runs the script's trials one after another: those whose names have the words of the command line in them, all if
     there are none. Returns the status with which the script ends. Whatever ends it, it leaves no process and no folder."""
     for number in signal.SIGTERM, signal.SIGHUP:
