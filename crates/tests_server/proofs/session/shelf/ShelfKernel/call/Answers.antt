@@ -2,7 +2,7 @@ use Rattle.std.proofs.Common.{arith, refl, sym, ap, subst, ◌∙◌, length}
 use Rattle.sysv_wire.specs.Frames.{op_number}
 use Rattle.sysv_wire.specs.Replies.{IsAnswer}
 use Rattle.sysv_wire.specs.Requests.{op_of}
-use Rattle.tests_service.proofs.session.shelf.ShelfKernel.call.Goals as goal
+use Rattle.tests_server.proofs.session.shelf.ShelfKernel.call.Goals as goal
 
 pub returns-in-Get-clause-answer : goal.returns-in-Get-clause-answer
 returns-in-Get-clause-answer c =
