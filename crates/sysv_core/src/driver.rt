@@ -29,8 +29,8 @@ use sysv_objects::{Directly, Objects};
 use sysv_pool::Chain;
 use sysv_queue::Delivery;
 use sysv_steps::{
-    Call, Ending, Getting, Outcome, Phase, Receiving, Sending, State, Wait, begin_remove, begin_set,
-    begin_stat,
+    Call, Ending, Getting, Outcome, Phase, Receiving, Sending, State, Wait, begin_remove,
+    begin_set, begin_stat,
 };
 
 /// Starts a call. `released` is the released count at that time.

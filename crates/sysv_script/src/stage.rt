@@ -138,11 +138,7 @@ impl Stage {
             Line::Skipped => {}
             Line::Cred { actor, cred } => self.creds[actor as usize - 1] = cred,
             Line::Moment(moment) => self.moment = moment,
-            Line::Start {
-                actor,
-                call,
-                goes,
-            } => self.start(alloc, actor, call, goes, output)?,
+            Line::Start { actor, call, goes } => self.start(alloc, actor, call, goes, output)?,
             Line::Step { actor } => self.take_on(actor, 1, output)?,
             Line::Go { actor } => self.take_on(actor, MAX_STEPS, output)?,
             Line::All => self.take_all_on(output)?,

@@ -8,14 +8,7 @@ use sysv_steps::{Call, Outcome};
 #[test]
 fn a_line_says_what_an_actor_starts(rt: HostRuntime) {
     let said = line_of(b"2 snd -1 9223372036854775807 NOWAIT+0600 =a b");
-    let Some(
-        Line::Start {
-            actor,
-            call,
-            goes,
-        },
-    ) = said
-    else {
+    let Some(Line::Start { actor, call, goes }) = said else {
         panic!(rt; "no start");
     };
     assert_eq!(rt; actor, 2);
@@ -101,7 +94,10 @@ fn heads_are_printed(rt: HostRuntime) {
             Outcome::Got { mtype: -7, len: 5 },
             b"1 snd = 5 type -7 =".as_slice(),
         ),
-        (Outcome::Refused(Errno::EAGAIN), b"1 snd ! EAGAIN".as_slice()),
+        (
+            Outcome::Refused(Errno::EAGAIN),
+            b"1 snd ! EAGAIN".as_slice(),
+        ),
     ];
     for (outcome, line) in table {
         let head = Head::Answers {

@@ -15,8 +15,8 @@ loop-preserved c =
     (omega arith)
     (subst (λ last. GoingOn c.args.self.now c.loop.self c.args.actor all c.args.last last (all - c.loop.counter)) c.in-Nothing.is c.loop.invariant)
     (λ s seen.
-      let made = c.step-given.ensures.single s.world seen.world in
-      (in_world s made.0, (made.1, refl), record { world = made.2; creds = seen.creds; moment = seen.moment; fresh = seen.fresh }))
+    let made = c.step-given.ensures.single s.world seen.world in
+    (in_world s made.0, (made.1, refl), record { world = made.2; creds = seen.creds; moment = seen.moment; fresh = seen.fresh }))
 
 pub returns-after-loop : goal.returns-after-loop
 returns-after-loop c =
