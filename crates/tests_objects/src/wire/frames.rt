@@ -122,10 +122,10 @@ fn a_session(rt: HostRuntime) {
         (3, ReplyContent::Rcv { mtype: 5 }),
         (3, ReplyContent::Refused(Errno::ENOMSG)),
     ]
-    .map(|(op, result)| Reply {
+    .map(|(op, content)| Reply {
         version: Version::One,
         op,
-        result,
+        result: content,
     });
     for piece in [1, 2, 3, 5, 200] {
         reads_and_writes(&rt, rt.alloc(), Version::One, SESSION, &asks, piece);
@@ -166,10 +166,10 @@ fn a_session_of_version_2(rt: HostRuntime) {
         (0, ReplyContent::HelloSlots { slots: u32::MAX }),
         (0, ReplyContent::Refused(Errno::EPERM)),
     ]
-    .map(|(op, result)| Reply {
+    .map(|(op, content)| Reply {
         version: Version::Two,
         op,
-        result,
+        result: content,
     });
     for piece in [1, 2, 3, 5, 200] {
         reads_and_writes(&rt, rt.alloc(), Version::Two, SECOND, &asks, piece);
@@ -247,10 +247,10 @@ fn attributes_and_rows(rt: HostRuntime) {
         (6, ReplyContent::Rm),
         (7, ReplyContent::Refused(Errno::EAGAIN)),
     ]
-    .map(|(op, result)| Reply {
+    .map(|(op, content)| Reply {
         version: Version::One,
         op,
-        result,
+        result: content,
     });
     for piece in [1, 7, 200] {
         reads_and_writes_replies(&rt, rt.alloc(), TOLD, &replies, piece);
