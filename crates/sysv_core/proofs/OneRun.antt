@@ -7,7 +7,7 @@ use Rattle.sysv_steps.specs.Call.{SystemCall}
 use Rattle.sysv_steps.specs.State.{Phase, Wait, Ending, State, Goes, Waits, Over}
 use Rattle.sysv_steps.specs.Next.{next}
 use Rattle.sysv_core.specs.declared.event.Answer.{Answer}
-use Rattle.sysv_core.specs.declared.event.Outcome.{Outcome}
+use Rattle.sysv_steps.specs.declared.outcome.Outcome.{Outcome}
 use Rattle.sysv_core.specs.declared.event.Stepped.{Stepped}
 use Rattle.sysv_core.specs.declared.event.Stepped.TheVariants as stepped
 use Rattle.sysv_core.specs.World.{World, Started, Doing, Given, Happening, Preset, Start, Step, actor_at, given_in, in_state, with_turn, Turns, Looks, Continues, StartsAt, StepsAt, Presets, Makes}

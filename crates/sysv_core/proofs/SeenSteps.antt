@@ -16,9 +16,9 @@ use Rattle.sysv_objects.specs.StandsFor.{StandsFor as ObjectsStandFor}
 use Rattle.sysv_steps.specs.State.{Phase, Wait, State, Goes, Waits, Over}
 use Rattle.sysv_steps.specs.Resume.{awaited, resume}
 use Rattle.sysv_steps.specs.Begin.{begin}
+use Rattle.sysv_steps.specs.declared.call.Call.{Call}
 use Rattle.sysv_core.specs.declared.doing.Led.{Led}
 use Rattle.sysv_core.specs.declared.doing.Led.TheVariants as led
-use Rattle.sysv_core.specs.declared.event.Call.{Call as Coded}
 use Rattle.sysv_core.specs.declared.event.Event.{Event}
 use Rattle.sysv_core.specs.declared.event.Event.TheVariants.{Start, Step}
 use Rattle.sysv_core.specs.declared.event.Standing.{Standing as StandingKept}
@@ -28,7 +28,7 @@ use Rattle.sysv_core.specs.declared.event.Stepped.TheVariants as stepped
 use Rattle.sysv_core.specs.World.{World, Started, Doing, Given, Start as Begun, Step as Stepping, Preset, actor_at, doing_in, given_in, in_state, with_call, starting, begun, value_of, Continues, StartsAt, StepsAt, Presets, with_preset}
 use Rattle.sysv_core.specs.Kinds.{kind_of, phase_kind, wait_kind, gives_back, IsOf}
 use Rattle.sysv_core.specs.Sound.{IsToCaller, StaysSound}
-use Rattle.sysv_core.specs.Asked.{asked_of}
+use Rattle.sysv_steps.specs.Asked.{asked_of}
 use Rattle.sysv_core.specs.Standing.{stands_at}
 use Rattle.sysv_core.specs.Held.{text_in}
 use Rattle.sysv_core.specs.Kept.{kept_led, counted_led, told_by}
@@ -128,12 +128,12 @@ module _ (w : World) (seen : Seen) (s : IsSeenAs w seen) (sound : StaysSound) wh
 
   -- ---- an event that is not possible
 
-  pub start_absent : (actor : ℕ) (cred : Cred) (call : Coded) → seen.steps < WORN → (actor ≡ 0) ⊎ (length seen.states < actor) → Moves w (Start actor cred call) stepped.Nothing seen
+  pub start_absent : (actor : ℕ) (cred : Cred) (call : Call (List ℕ) (List ℕ)) → seen.steps < WORN → (actor ≡ 0) ⊎ (length seen.states < actor) → Moves w (Start actor cred call) stepped.Nothing seen
   start_absent actor cred call h none =
       let young = young_too h in
       (w, ([], inr (young, subst (λ o. StartsAt w actor cred (asked_of call) o [] w) (sym (absent actor none)) (refl, refl)), (young, refl)), s)
 
-  pub start_busy : (actor place : ℕ) (cred : Cred) (call : Coded) (p : State) → seen.steps < WORN → actor ≡ place + 1 → slice_get seen.states place ≡ Some (Some p) → Moves w (Start actor cred call) stepped.Nothing seen
+  pub start_busy : (actor place : ℕ) (cred : Cred) (call : Call (List ℕ) (List ℕ)) (p : State) → seen.steps < WORN → actor ≡ place + 1 → slice_get seen.states place ≡ Some (Some p) → Moves w (Start actor cred call) stepped.Nothing seen
   start_busy actor place cred call p h e there =
       let young = young_too h in
       let d = busy_at place p there in
@@ -154,7 +154,7 @@ module _ (w : World) (seen : Seen) (s : IsSeenAs w seen) (sound : StaysSound) wh
   set_states : (place : ℕ) (o : Option Doing) (p : Option State) → state_in o ≡ p → map state_in (slice_set w.actors place o) ≡ slice_set seen.states place p
   set_states place o p e = map-slice_set state_in w.actors place o ∙ (ap (λ ps. slice_set ps place (state_in o)) s.states ∙ ap (slice_set seen.states place) e)
 
-  start_here : (n place : ℕ) (cred : Cred) (call : Coded) (count : ℕ) (l : Led) → seen.steps < WORN → n ≡ place → slice_get seen.states place ≡ Some None →
+  start_here : (n place : ℕ) (cred : Cred) (call : Call (List ℕ) (List ℕ)) (count : ℕ) (l : Led) → seen.steps < WORN → n ≡ place → slice_get seen.states place ≡ Some None →
       LeadsTo (gives_back (Some (kind_of (asked_of call)))) (begin cred (asked_of call) count) l → count ≡ released (pool_history w.turns) →
       Moves w (Start (suc n) cred call) (told_by (suc n) l) (record seen { states = slice_set seen.states place (kept_led l); steps = seen.steps + 1 })
   start_here n place cred call count l h same there leads is =
@@ -177,7 +177,7 @@ module _ (w : World) (seen : Seen) (s : IsSeenAs w seen) (sound : StaysSound) wh
         },
       )
 
-  pub start_idle : (actor place : ℕ) (cred : Cred) (call : Coded) (count : ℕ) (l : Led) → seen.steps < WORN → actor ≡ place + 1 → slice_get seen.states place ≡ Some None →
+  pub start_idle : (actor place : ℕ) (cred : Cred) (call : Call (List ℕ) (List ℕ)) (count : ℕ) (l : Led) → seen.steps < WORN → actor ≡ place + 1 → slice_get seen.states place ≡ Some None →
       LeadsTo (gives_back (Some (kind_of (asked_of call)))) (begin cred (asked_of call) count) l → count ≡ released (pool_history w.turns) →
       Moves w (Start actor cred call) (told_by actor l) (record seen { states = slice_set seen.states place (kept_led l); steps = seen.steps + 1 })
   start_idle zero place cred call count l h e there leads is = absurd (omega arith)

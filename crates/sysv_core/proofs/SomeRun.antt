@@ -25,7 +25,7 @@ use Rattle.sysv_core.specs.declared.event.Stepped.TheVariants as stepped
 use Rattle.sysv_core.specs.World.{World, Started, Doing, Given, Happening, Preset, Start, Step, opening, actor_at, given_in, in_state, with_call, with_turn, with_preset, starting, begun, value_of, StartsAt, StepsAt, Presets, Makes}
 use Rattle.sysv_core.specs.Run.{Leads}
 use Rattle.sysv_core.specs.Answered.{outcome_of, text_given, body_with}
-use Rattle.sysv_core.specs.Asked.{asked_of}
+use Rattle.sysv_steps.specs.Asked.{asked_of}
 use Rattle.sysv_core.specs.Kinds.{Kind, kind_of, phase_kind, gives_back}
 use Rattle.sysv_core.specs.Sound.{IsToCaller, IsSound, StaysSound}
 use Rattle.sysv_core.specs.Seen.{Gives, happening_of}

@@ -13,7 +13,7 @@ use Rattle.sysv_core.specs.declared.event.Stepped.{Stepped}
 use Rattle.sysv_core.specs.declared.event.Stepped.TheVariants as stepped
 use Rattle.sysv_core.specs.World.{World, Opening, Doing, Given, Happening, Start, Step, Makes, Presets, opening}
 use Rattle.sysv_core.specs.Run.{Leads}
-use Rattle.sysv_core.specs.Asked.{asked_of}
+use Rattle.sysv_steps.specs.Asked.{asked_of}
 use Rattle.sysv_core.specs.Answered.{TellsEnding}
 use Rattle.sysv_core.specs.Kinds.{kind_of, gives_back}
 use Rattle.sysv_core.specs.Sound.{IsToCaller, IsSound}

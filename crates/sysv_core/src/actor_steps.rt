@@ -13,7 +13,7 @@ ghost use Rattle.sysv_driver.specs.Kinds.{Sends, Receives};
 ghost use Rattle.sysv_driver.specs.Stepping.{StepsOn};
 ghost use Rattle.sysv_core.specs.World.{value_of};
 ghost use Rattle.sysv_core.specs.Answered.{TellsEnding, outcome_of, text_given, body_with};
-ghost use Rattle.sysv_core.specs.Asked.{asked_of};
+ghost use Rattle.sysv_steps.specs.Asked.{asked_of};
 ghost use Rattle.sysv_core.specs.Kinds.{kind_of, gives_back};
 ghost use Rattle.sysv_core.specs.Standing.{stands_at};
 ghost use Rattle.sysv_core.specs.Held.{text_in, IsHeldBy, IsHeldOrOver};
@@ -22,14 +22,15 @@ ghost use Rattle.sysv_core.specs.Tallying.{is_got};
 ghost use Rattle.sysv_core.specs.Led.{LeadsTo, TurnLeads, LookLeads, StepLeads};
 
 use crate::doing::{Doing, Ended, Led};
-use crate::event::{Call, Outcome, Standing};
+use crate::event::Standing;
 use sysv_driver::{Clock, get_step, receive_step, remove_step, send_step, set_step, stat_step};
 use sysv_model::{Body, Cred};
 use sysv_objects::{Directly, Objects};
 use sysv_pool::Chain;
 use sysv_queue::Delivery;
 use sysv_steps::{
-    Ending, Getting, Phase, Receiving, Sending, State, Wait, begin_remove, begin_set, begin_stat,
+    Call, Ending, Getting, Outcome, Phase, Receiving, Sending, State, Wait, begin_remove,
+    begin_set, begin_stat,
 };
 
 /// Starts a call. `released` is the released count at that time.

@@ -13,7 +13,7 @@ ghost use Rattle.sysv_core.specs.declared.event.Event.TheVariants.{Start, Step};
 
 use crate::actor_steps::{advance, begin, counted};
 use crate::doing::{Doing, Ended, Led};
-use crate::event::{Answer, Call, Event, Standing, Stepped};
+use crate::event::{Answer, Event, Standing, Stepped};
 use crate::giveback::{chain_in, end_all};
 use crate::laws::{each_world_is_sound, every_run_obeys};
 use crate::preset::preset_queue;
@@ -23,6 +23,7 @@ use sysv_keys::{GENERATION_LAST, unused_slots};
 use sysv_model::{Body, Cred, MAX_ACTORS, MAX_BLOCKS, MIN_BLOCKS, WORN};
 use sysv_objects::{Objects, legal_turns};
 use sysv_queue::Tally;
+use sysv_steps::Call;
 use thiserror::Error;
 
 /// The reason why a world cannot be opened.

@@ -1,7 +1,7 @@
 -- A call, and a line of a name and arguments, is recognized by its name, and the words after the
 -- name are its arguments.
 use Rattle.std.proofs.Common.{◌≡◌, ◌≤◌, ◌+◌, ◌-◌, ◌*◌, ℕ, ℤ, pos, List, [], ◌∷◌, take, drop, take_all, Option, Some, None, MatchOption, length, get_or, codes, inl, inr, sym, ap, subst, ◌∙◌, arith}
-use Rattle.std.specs.Prelude.{Contains}
+use Rattle.std.specs.Prelude.{⊤, Contains}
 use Rattle.sysv_model.specs.declared.flags.Flags.{Flags}
 use Rattle.sysv_words.specs.Words.{SplitsAt, Pair, SaysFirst, SaysNoFirst, IsNumeralOf, IsInt32, IsInt64}
 use Rattle.sysv_words.specs.FlagNames.{IsFlagList}
@@ -11,7 +11,8 @@ use Rattle.sysv_lines.specs.declared.actor.Actor.{Actor}
 use Rattle.sysv_lines.specs.declared.blocks.Blocks.{Blocks}
 use Rattle.sysv_lines.specs.Said.{Said, StepsOnce, Continues, GivesBlocks}
 use Rattle.sysv_lines.specs.Lines.{IsActor, actor, IsBlocks, of_blocks, SaysText, call_name, SaysArguments, SaysNamed, SaysCall, SaysStart, order_name, SaysOrderArguments, OrderNamed, SaysOrder}
-use Rattle.sysv_lines.specs.declared.request.Request.{Request}
+use Rattle.sysv_steps.specs.declared.call.Call.{Call}
+use Rattle.sysv_lines.specs.declared.call.Text.{Text}
 use Rattle.sysv_lines.specs.SaidBy.{call_asked}
 
 -- The first two bytes of a name, as one number.
@@ -109,11 +110,11 @@ call_named words name rest asked split h =
 pub named_call : (words name rest : List ℕ) (asked : SystemCall) → SplitsAt 32 words name rest → SaysNamed name rest asked → SaysCall words asked
 named_call words name rest asked split h = record { rest = rest; split = subst (λ (n : List ℕ). SplitsAt 32 words n rest) (sym h.is) split; says = h.arguments }
 
-pub request_named : (words name rest : List ℕ) (r : Option Request) → SplitsAt 32 words name rest →
-    MatchOption r ((asked : SystemCall) → ¬ SaysNamed name rest asked) (λ request. SaysNamed name rest (call_asked request)) →
-    MatchOption r ((asked : SystemCall) → ¬ SaysCall words asked) (λ request. SaysCall words (call_asked request))
-request_named words name rest None split none = λ asked h. none asked (call_named words name rest asked split h)
-request_named words name rest (Some request) split says = named_call words name rest (call_asked request) split says
+pub call_found : (words name rest : List ℕ) (r : Option (Call Text ⊤)) → SplitsAt 32 words name rest →
+    MatchOption r ((asked : SystemCall) → ¬ SaysNamed name rest asked) (λ call. SaysNamed name rest (call_asked call)) →
+    MatchOption r ((asked : SystemCall) → ¬ SaysCall words asked) (λ call. SaysCall words (call_asked call))
+call_found words name rest None split none = λ asked h. none asked (call_named words name rest asked split h)
+call_found words name rest (Some call) split says = named_call words name rest (call_asked call) split says
 
 pub call_unsplit : (words : List ℕ) → ¬ Contains words 32 → (asked : SystemCall) → ¬ SaysCall words asked
 call_unsplit words plain asked h = plain (SplitsAt-marked 32 words (call_name asked) h.rest h.split)

@@ -11,6 +11,8 @@ use Rattle.sysv_lines.specs.declared.actor.Actor.{Actor}
 use Rattle.sysv_lines.specs.declared.blocks.Blocks.{Blocks}
 use Rattle.sysv_lines.specs.declared.actor.TheConstants.{SCRIPT_ACTORS}
 use Rattle.sysv_lines.specs.declared.line.TheConstants.{LINE_BYTES}
+use Rattle.sysv_lines.specs.Heads.{operation_name}
+use Rattle.sysv_lines.specs.Names.{operation_of}
 use Rattle.sysv_lines.specs.Said.{Said, Nothing, MakesPreset, GivesCred, GivesMoment, Starts, StepsOnce, Continues, AllContinue, GivesBlocks}
 
 -- The word is the number of an actor, 1 to 16.
@@ -48,12 +50,7 @@ SaysText body text = (length text ≤ BODY_ROOM) × ((body ≡ 61 ∷ text) ⊎ 
 
 -- The name of a call in a script.
 abbrev pub call_name : SystemCall → List ℕ
-call_name (Msgget key flags) = codes "get"
-call_name (Msgsnd id mtype flags text) = codes "snd"
-call_name (Msgrcv id size mtype flags) = codes "rcv"
-call_name (MsgctlStat id) = codes "stat"
-call_name (MsgctlSet id to) = codes "set"
-call_name (MsgctlRmid id) = codes "rm"
+call_name asked = operation_name (operation_of asked)
 
 -- These permission bits.
 abbrev pub octal : ℕ → Octal

@@ -19,7 +19,8 @@ use Rattle.sysv_lines.specs.Heads.{head_text}
 use Rattle.sysv_lines.specs.declared.head.Head.TheVariants as head
 use Rattle.sysv_lines.specs.Lines.{Says}
 use Rattle.sysv_lines.specs.Said.{Said, Nothing, MakesPreset, GivesCred, GivesMoment, Starts, StepsOnce, Continues, AllContinue, GivesBlocks}
-use Rattle.sysv_script.specs.Scene.{Scene, opening_scene, opening_world, begun_scene, first_cred, in_world, cred_at, with_cred, Advances, GoesOn, call_for, most_steps, CallRuns, StartRuns, StepsRun, OneRuns, AllRun, LineRuns, operation_of, under_way, printed}
+use Rattle.sysv_script.specs.Scene.{Scene, opening_scene, opening_world, begun_scene, first_cred, in_world, cred_at, with_cred, Advances, GoesOn, call_for, most_steps, CallRuns, StartRuns, StepsRun, OneRuns, AllRun, LineRuns, under_way, printed}
+use Rattle.sysv_lines.specs.Names.{operation_of}
 use Rattle.sysv_script.specs.ScriptText.{BeginsWith, LineDoes, IsBad, Ending, Whole, BadLine, TooMany, Prints, Ends, Exceeds, Fails, Goes}
 use Rattle.sysv_script.specs.EachText.{EachTextPrints}
 use Rattle.sysv_script.specs.CredHeld.{cred_held}

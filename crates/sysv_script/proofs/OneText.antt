@@ -4,7 +4,7 @@ use Rattle.std.specs.List.{range_with_len}
 use Rattle.std.proofs.Common.{Bool, if◌then◌else◌}
 use Rattle.sysv_steps.specs.Call.{SystemCall}
 use Rattle.sysv_lines.specs.declared.names.Operation.{Operation}
-use Rattle.sysv_core.specs.declared.event.Call.{Call}
+use Rattle.sysv_steps.specs.declared.call.Call.{Call}
 use Rattle.sysv_core.specs.Seen.{happening_of}
 use Rattle.sysv_core.specs.Sound.{IsSound, OpensSound, StaysSound}
 use Rattle.sysv_script.proofs.Opening.{opening_sound}
@@ -15,7 +15,8 @@ use Rattle.sysv_core.specs.declared.event.Stepped.TheVariants as stepped
 use Rattle.sysv_model.specs.declared.cred.Cred.{Cred}
 use Rattle.sysv_core.specs.World.{World, Preset, actor_at, Presets}
 use Rattle.sysv_lines.specs.Said.{Said, Nothing, MakesPreset, GivesCred, GivesMoment, Starts, StepsOnce, Continues, AllContinue, GivesBlocks}
-use Rattle.sysv_script.specs.Scene.{Scene, in_world, begun_scene, opening_world, LineActs, Advances, GoesOn, StartsAs, call_for, most_steps, CallRuns, StartRuns, StepsRun, OneRuns, AllRun, LineRuns, operation_of, under_way, printed}
+use Rattle.sysv_script.specs.Scene.{Scene, in_world, begun_scene, opening_world, LineActs, Advances, GoesOn, StartsAs, call_for, most_steps, CallRuns, StartRuns, StepsRun, OneRuns, AllRun, LineRuns, under_way, printed}
+use Rattle.sysv_lines.specs.Names.{operation_of}
 use Rattle.sysv_lists.specs.Prefix.{IsPrefixOf}
 use Rattle.sysv_script.specs.Faults.{bad_line_text}
 use Rattle.sysv_script.specs.ScriptText.{BeginsWith, LineDoes, IsBad, Ending, Whole, BadLine, TooMany, Prints, Ends, Exceeds, Fails, Goes}
@@ -167,12 +168,12 @@ module _ (split : OneSplit) (saying : OneSaying) where
     goes_on_once (suc n) s actor (stepped.Answer answer) given told a b sound h k = (h.0 ∙ sym k.0, h.1 ∙ sym k.1)
     goes_on_once (suc n) s actor stepped.Worn given told a b sound h k = (h.0 ∙ sym k.0, h.1 ∙ sym k.1)
 
-    starts_once : (s : Scene) (actor : ℕ) (call : Call) (given told : Stepped) (a b : Scene) → IsSound s.world → StartsAs s actor call given a → StartsAs s actor call told b → (given ≡ told) × (a ≡ b)
+    starts_once : (s : Scene) (actor : ℕ) (call : Call (List ℕ) (List ℕ)) (given told : Stepped) (a b : Scene) → IsSound s.world → StartsAs s actor call given a → StartsAs s actor call told b → (given ≡ told) × (a ≡ b)
     starts_once s actor call given told a b sound h k =
         let who : k.0 ≡ h.0 = one_cred k.0 h.0 (sym k.1 ∙ h.1) in
         advances_once s (Start actor h.0 call) given told a b sound h.2 (subst (λ cred. Advances s (Start actor cred call) told b) who k.2)
 
-    starts_sound : (s : Scene) (actor : ℕ) (call : Call) (given : Stepped) (a : Scene) → IsSound s.world → StartsAs s actor call given a → IsSound a.world
+    starts_sound : (s : Scene) (actor : ℕ) (call : Call (List ℕ) (List ℕ)) (given : Stepped) (a : Scene) → IsSound s.world → StartsAs s actor call given a → IsSound a.world
     starts_sound s actor call given a sound h = advances_sound s (Start actor h.0 call) given a sound h.2
 
     call_once : (s : Scene) (actor : ℕ) (asked : SystemCall) (goes : Bool) (given told : Stepped) (a b : Scene) → IsSound s.world →

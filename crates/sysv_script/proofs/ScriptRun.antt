@@ -3,7 +3,7 @@ use Rattle.std.proofs.Common.{◌≡◌, ℕ, zero, suc, ◌+◌, Bool, true, fa
 use Rattle.sysv_core.specs.Run.{Leads}
 use Rattle.sysv_core.specs.Seen.{happening_of}
 use Rattle.sysv_core.specs.World.{World, Happening, Given, Preset, Makes, actor_at, opening}
-use Rattle.sysv_core.specs.declared.event.Call.{Call}
+use Rattle.sysv_steps.specs.declared.call.Call.{Call}
 use Rattle.sysv_core.specs.declared.event.Event.{Event}
 use Rattle.sysv_core.specs.declared.event.Event.TheVariants.{Start, Step}
 use Rattle.sysv_core.specs.declared.event.Stepped.{Stepped}
@@ -50,7 +50,7 @@ goes_on_runs (suc n) s actor stepped.Nothing given a run h = goes_on_runs n h.0 
 goes_on_runs (suc n) s actor (stepped.Answer answer) given a run h = same_scene s a run h.1
 goes_on_runs (suc n) s actor stepped.Worn given a run h = same_scene s a run h.1
 
-starts_runs : (s : Scene) (actor : ℕ) (call : Call) (given : Stepped) (a : Scene) → IsOfRun s.world → StartsAs s actor call given a → IsOfRun a.world
+starts_runs : (s : Scene) (actor : ℕ) (call : Call (List ℕ) (List ℕ)) (given : Stepped) (a : Scene) → IsOfRun s.world → StartsAs s actor call given a → IsOfRun a.world
 starts_runs s actor call given a run h = advances_runs s (Start actor h.0 call) given a run h.2
 
 start_runs : (s : Scene) (actor : ℕ) (asked : SystemCall) (goes : Bool) (o : Option Operation) (out : List ℕ) (a : Scene) → IsOfRun s.world → StartRuns s actor asked goes o out a → IsOfRun a.world

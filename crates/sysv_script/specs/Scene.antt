@@ -8,24 +8,19 @@ use Rattle.std.specs.List.{range_with_len}
 use Rattle.sysv_model.specs.declared.cred.Cred.{Cred}
 use Rattle.sysv_steps.specs.Call.{SystemCall, Msgget, Msgsnd, Msgrcv, MsgctlStat, MsgctlSet, MsgctlRmid}
 use Rattle.sysv_steps.specs.State.{State, Goes, Waits, Over}
-use Rattle.sysv_core.specs.declared.event.Call.{Call}
-use Rattle.sysv_core.specs.declared.event.Call.TheVariants as call
+use Rattle.sysv_steps.specs.declared.call.Call.{Call}
+use Rattle.sysv_steps.specs.declared.call.Call.TheVariants as call
 use Rattle.sysv_core.specs.declared.event.Event.{Event}
 use Rattle.sysv_core.specs.declared.event.Event.TheVariants.{Start, Step}
-use Rattle.sysv_core.specs.declared.event.Outcome.{Outcome}
-use Rattle.sysv_core.specs.declared.event.Outcome.TheVariants as outcome
 use Rattle.sysv_core.specs.declared.event.Stepped.{Stepped}
 use Rattle.sysv_core.specs.declared.event.Stepped.TheVariants as stepped
 use Rattle.sysv_core.specs.World.{World, Doing, actor_at, opening, Presets}
 use Rattle.sysv_core.specs.Seen.{Steps}
 use Rattle.sysv_lines.specs.Said.{Said, Nothing, MakesPreset, GivesCred, GivesMoment, Starts, StepsOnce, Continues, AllContinue, GivesBlocks}
 use Rattle.sysv_lines.specs.declared.names.Operation.{Operation}
-use Rattle.sysv_lines.specs.declared.names.Operation.TheVariants.{Get, Send, Receive, Stat as OfStat, Set as OfSet, Remove as OfRemove}
-use Rattle.sysv_lines.specs.declared.told.Told.{Told}
-use Rattle.sysv_lines.specs.declared.told.Told.TheVariants as told
 use Rattle.sysv_lines.specs.declared.head.Head.TheVariants as head
 use Rattle.sysv_lines.specs.Heads.{head_text}
-use Rattle.sysv_lines.specs.Names.{operation_at, operation_of_wait, standing_text}
+use Rattle.sysv_lines.specs.Names.{operation_at, operation_of, operation_of_wait, standing_text}
 use Rattle.sysv_lines.specs.declared.actor.TheConstants.{SCRIPT_ACTORS}
 use Rattle.sysv_script.specs.declared.stage.TheConstants.{SCRIPT_BLOCKS, MAX_STEPS}
 
@@ -62,15 +57,6 @@ with_cred creds actor cred = slice_set creds (actor - 1) cred
 abbrev pub in_world : Scene → World → Scene
 in_world s world = record s { world = world }
 
--- The kind of a call, by its arguments.
-abbrev pub operation_of : SystemCall → Operation
-operation_of (Msgget key flags) = Get
-operation_of (Msgsnd id mtype flags text) = Send
-operation_of (Msgrcv id size mtype flags) = Receive
-operation_of (MsgctlStat id) = OfStat
-operation_of (MsgctlSet id to) = OfSet
-operation_of (MsgctlRmid id) = OfRemove
-
 -- The kind of a call under way, by its state.
 abbrev pub operation_in : State → Option Operation
 operation_in (Goes phase) = Some (operation_at phase)
@@ -96,7 +82,7 @@ GoesOn n s actor (stepped.Answer answer) given after = (given ≡ stepped.Answer
 GoesOn n s actor stepped.Worn given after = (given ≡ stepped.Worn) × (after ≡ s)
 
 -- The call as an event of the world starts it. A receive brings an empty body.
-abbrev pub call_for : SystemCall → Call
+abbrev pub call_for : SystemCall → Call (List ℕ) (List ℕ)
 call_for (Msgget key flags) = call.Get key flags
 call_for (Msgsnd id mtype flags text) = call.Send id mtype flags text
 call_for (Msgrcv id size mtype flags) = call.Receive id size mtype flags []
@@ -105,7 +91,7 @@ call_for (MsgctlSet id to) = call.Set id to
 call_for (MsgctlRmid id) = call.Remove id
 
 -- A call is started with the present credentials of the actor.
-abbrev pub StartsAs : Scene → ℕ → Call → Stepped → Scene → Type 0
+abbrev pub StartsAs : Scene → ℕ → Call (List ℕ) (List ℕ) → Stepped → Scene → Type 0
 StartsAs s actor call given after = (cred : Cred) × (cred_at s.creds actor ≡ Some cred) × Advances s (Start actor cred call) given after
 
 -- The maximum number of steps at the line that starts a call: none if the call is only started.
@@ -118,14 +104,6 @@ abbrev pub CallRuns : Scene → ℕ → SystemCall → Bool → Stepped → Scen
 CallRuns s actor asked goes given after =
     (mid : Scene) × (first : Stepped) × StartsAs s actor (call_for asked) first mid × GoesOn (most_steps goes) mid actor first given after
 
--- How an outcome is printed.
-abbrev pub told_of : Outcome → Told
-told_of (outcome.Id id) = told.Id id
-told_of outcome.Zero = told.Zero
-told_of (outcome.Got mtype len) = told.Got len mtype
-told_of (outcome.Stat stat) = told.Stat stat
-told_of (outcome.Refused why) = told.Refused why
-
 -- The line that is printed if the call of the actor has no result yet: its state.
 abbrev pub standing_line : ℕ → Option (Option Doing) → List ℕ
 standing_line actor (Some (Some doing)) = standing_text actor doing.state ++ 10 ∷ []
@@ -135,7 +113,7 @@ standing_line actor None = head_text (head.Idle actor) ++ 10 ∷ []
 -- The line that is printed after the steps of an actor's call: its result, with the bytes of a
 -- message unchanged, or its state.
 abbrev pub printed : World → ℕ → Operation → Stepped → List ℕ
-printed w actor operation (stepped.Answer answer) = head_text (head.Answers answer.actor operation (told_of answer.result)) ++ (unwrap_or answer.body [] ++ 10 ∷ [])
+printed w actor operation (stepped.Answer answer) = head_text (head.Answers answer.actor operation answer.result) ++ (unwrap_or answer.body [] ++ 10 ∷ [])
 printed w actor operation stepped.Worn = head_text (head.Worn actor) ++ 10 ∷ []
 printed w actor operation stepped.Nothing = standing_line actor (actor_at w.actors actor)
 

@@ -3,47 +3,11 @@ ghost use Rattle.std.specs.Prelude.{◌≤◌, ℕ, List, pos, codes, IfSome, Ma
 ghost use Rattle.sysv_words.specs.Words.{IsNumeralOf};
 ghost use Rattle.sysv_steps.specs.Call.{SystemCall};
 ghost use Rattle.sysv_lines.specs.Lines.{SaysText, SaysNamed, SaysCall};
-ghost use Rattle.sysv_lines.specs.SaidBy.{FitsBody, RequestFits, call_asked, text_bytes};
+ghost use Rattle.sysv_lines.specs.SaidBy.{FitsBody, CallFits, call_asked, text_bytes};
 
 use sysv_model::{BODY_ROOM, Flags, SetTo};
+use sysv_steps::Call;
 use sysv_words::{Octal, Reads, first, split_at_mark};
-
-/// The call that a line starts.
-#[derive(Clone, Copy)]
-pub enum Request<'a> {
-    /// `get`: msgget.
-    Get {
-        key: i32,
-        flags: Flags,
-    },
-    /// `snd`: msgsnd.
-    Send {
-        id: i32,
-        mtype: i64,
-        flags: Flags,
-        text: Text<'a>,
-    },
-    /// `rcv`: msgrcv.
-    Receive {
-        id: i32,
-        size: u32,
-        mtype: i64,
-        flags: Flags,
-    },
-    /// `stat`: msgctl with IPC_STAT.
-    Stat {
-        id: i32,
-    },
-    /// `set`: msgctl with IPC_SET.
-    Set {
-        id: i32,
-        to: SetTo,
-    },
-    /// `rm`: msgctl with IPC_RMID.
-    Remove {
-        id: i32,
-    },
-}
 
 /// The body of a message, at most 8,256 bytes.
 #[derive(Clone, Copy)]
@@ -55,21 +19,21 @@ pub enum Text<'a> {
 }
 
 /// Returns the call with this name and these arguments, or `None` if the words are not a call.
-pub(crate) fn request_of(words: &[u8]) -> Option<Request<'_>>
+pub(crate) fn call_of(words: &[u8]) -> Option<Call<Text<'_>, ()>>
     ensures says { MatchOption result ((asked : SystemCall) →
-        ¬ SaysCall words.now asked) (λ request. SaysCall words.now (call_asked request)) }
-    ensures fits { IfSome result RequestFits }
+        ¬ SaysCall words.now asked) (λ call. SaysCall words.now (call_asked call)) }
+    ensures fits { IfSome result CallFits }
 {
     let (name, arguments) = split_at_mark(words, b' ')?;
     named(name, arguments)
 }
 
 /// Returns the call of this name with these arguments.
-fn named<'a>(name: &[u8], arguments: &'a [u8]) -> Option<Request<'a>>
+fn named<'a>(name: &[u8], arguments: &'a [u8]) -> Option<Call<Text<'a>, ()>>
     ensures says { MatchOption result ((asked : SystemCall) →
-        ¬ SaysNamed name.now arguments.now asked) (λ request.
-        SaysNamed name.now arguments.now (call_asked request)) }
-    ensures fits { IfSome result RequestFits }
+        ¬ SaysNamed name.now arguments.now asked) (λ call.
+        SaysNamed name.now arguments.now (call_asked call)) }
+    ensures fits { IfSome result CallFits }
 {
     if name == b"get".as_slice() {
         get_of(arguments)
@@ -89,73 +53,74 @@ fn named<'a>(name: &[u8], arguments: &'a [u8]) -> Option<Request<'a>>
 }
 
 /// Reads `KEY FLAGS`.
-fn get_of(arguments: &[u8]) -> Option<Request<'_>>
+fn get_of(arguments: &[u8]) -> Option<Call<Text<'_>, ()>>
     ensures says { MatchOption result ((asked : SystemCall) →
-        ¬ SaysNamed (codes "get") arguments.now asked) (λ request.
-        SaysNamed (codes "get") arguments.now (call_asked request)) }
-    ensures fits { IfSome result RequestFits }
+        ¬ SaysNamed (codes "get") arguments.now asked) (λ call.
+        SaysNamed (codes "get") arguments.now (call_asked call)) }
+    ensures fits { IfSome result CallFits }
 {
     let (key, flags) = <(i32, Flags)>::read(arguments)?;
-    Some(Request::Get { key, flags })
+    Some(Call::Get { key, flags })
 }
 
 /// Reads `ID MTYPE FLAGS BODY`.
-fn send_of(arguments: &[u8]) -> Option<Request<'_>>
+fn send_of(arguments: &[u8]) -> Option<Call<Text<'_>, ()>>
     ensures says { MatchOption result ((asked : SystemCall) →
-        ¬ SaysNamed (codes "snd") arguments.now asked) (λ request.
-        SaysNamed (codes "snd") arguments.now (call_asked request)) }
-    ensures fits { IfSome result RequestFits }
+        ¬ SaysNamed (codes "snd") arguments.now asked) (λ call.
+        SaysNamed (codes "snd") arguments.now (call_asked call)) }
+    ensures fits { IfSome result CallFits }
 {
     let (id, rest) = first::<i32>(arguments)?;
     let (mtype, rest) = first::<i64>(rest)?;
-    let (flags, body) = first::<Flags>(rest)?;
-    let text = text_of(body)?;
-    Some(Request::Send {
+    let (flags, text) = first::<Flags>(rest)?;
+    let body = text_of(text)?;
+    Some(Call::Send {
         id,
         mtype,
         flags,
-        text,
+        body,
     })
 }
 
 /// Reads `ID SIZE MTYPE FLAGS`.
-fn receive_of(arguments: &[u8]) -> Option<Request<'_>>
+fn receive_of(arguments: &[u8]) -> Option<Call<Text<'_>, ()>>
     ensures says { MatchOption result ((asked : SystemCall) →
-        ¬ SaysNamed (codes "rcv") arguments.now asked) (λ request.
-        SaysNamed (codes "rcv") arguments.now (call_asked request)) }
-    ensures fits { IfSome result RequestFits }
+        ¬ SaysNamed (codes "rcv") arguments.now asked) (λ call.
+        SaysNamed (codes "rcv") arguments.now (call_asked call)) }
+    ensures fits { IfSome result CallFits }
 {
     let (id, (size, (mtype, flags))) = <(i32, (u32, (i64, Flags)))>::read(arguments)?;
-    Some(Request::Receive {
+    Some(Call::Receive {
         id,
         size,
         mtype,
         flags,
+        body: (),
     })
 }
 
 /// Reads `ID`.
-fn stat_of(arguments: &[u8]) -> Option<Request<'_>>
+fn stat_of(arguments: &[u8]) -> Option<Call<Text<'_>, ()>>
     ensures says { MatchOption result ((asked : SystemCall) →
-        ¬ SaysNamed (codes "stat") arguments.now asked) (λ request.
-        SaysNamed (codes "stat") arguments.now (call_asked request)) }
-    ensures fits { IfSome result RequestFits }
+        ¬ SaysNamed (codes "stat") arguments.now asked) (λ call.
+        SaysNamed (codes "stat") arguments.now (call_asked call)) }
+    ensures fits { IfSome result CallFits }
 {
     let id = i32::read(arguments)?;
-    Some(Request::Stat { id })
+    Some(Call::Stat { id })
 }
 
 /// Reads `ID UID GID MODE QBYTES`.
-fn set_of(arguments: &[u8]) -> Option<Request<'_>>
+fn set_of(arguments: &[u8]) -> Option<Call<Text<'_>, ()>>
     ensures says { MatchOption result ((asked : SystemCall) →
-        ¬ SaysNamed (codes "set") arguments.now asked) (λ request.
-        SaysNamed (codes "set") arguments.now (call_asked request)) }
-    ensures fits { IfSome result RequestFits }
+        ¬ SaysNamed (codes "set") arguments.now asked) (λ call.
+        SaysNamed (codes "set") arguments.now (call_asked call)) }
+    ensures fits { IfSome result CallFits }
 {
     let (id, (uid, (gid, (Octal(mode), qbytes)))) = <(i32, (u32, (u32, (Octal, u32))))>::read(
         arguments,
     )?;
-    Some(Request::Set {
+    Some(Call::Set {
         id,
         to: SetTo {
             uid,
@@ -167,14 +132,14 @@ fn set_of(arguments: &[u8]) -> Option<Request<'_>>
 }
 
 /// Reads `ID`.
-fn remove_of(arguments: &[u8]) -> Option<Request<'_>>
+fn remove_of(arguments: &[u8]) -> Option<Call<Text<'_>, ()>>
     ensures says { MatchOption result ((asked : SystemCall) →
-        ¬ SaysNamed (codes "rm") arguments.now asked) (λ request.
-        SaysNamed (codes "rm") arguments.now (call_asked request)) }
-    ensures fits { IfSome result RequestFits }
+        ¬ SaysNamed (codes "rm") arguments.now asked) (λ call.
+        SaysNamed (codes "rm") arguments.now (call_asked call)) }
+    ensures fits { IfSome result CallFits }
 {
     let id = i32::read(arguments)?;
-    Some(Request::Remove { id })
+    Some(Call::Remove { id })
 }
 
 /// Reads `=` and the bytes of the body, or `*N` for N letters x.

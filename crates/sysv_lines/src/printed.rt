@@ -1,35 +1,25 @@
-//! How a script prints the result of a call.
+//! How a script prints the outcome of a call.
 ghost use Rattle.std.specs.Prelude.{Some};
-ghost use Rattle.sysv_lines.specs.Heads.{told_text, stat_text, perm_text, mode_text, counts_text, times_text};
+ghost use Rattle.sysv_lines.specs.Heads.{outcome_text, stat_text, perm_text, mode_text, counts_text, times_text};
 
 use std::fmt;
-use sysv_model::{Errno, Perm, Stat};
+use sysv_model::{Perm, Stat};
+use sysv_steps::Outcome;
 
-/// The result of a call.
+/// The outcome of a call, as it is printed.
 #[derive(Clone, Copy)]
-pub enum Told {
-    /// A get succeeded, with this identifier.
-    Id(i32),
-    /// The call succeeded and returns no value.
-    Zero,
-    /// A receive succeeded. The body of its message, which has this length, follows.
-    Got { len: usize, mtype: i64 },
-    /// The attributes of a queue.
-    Stat(Stat),
-    /// The call failed with this error.
-    Refused(Errno),
-}
+pub(crate) struct Printed(pub(crate) Outcome);
 
-impl fmt::Display for Told {
-    ghost output = { λ told. Some (told_text told) };
+impl fmt::Display for Printed {
+    ghost output = { λ printed. Some (outcome_text printed.0) };
 
     fn fmt<W: fmt::Write>(&self, f: &mut fmt::Formatter<W>) -> fmt::Result {
-        match self {
-            Told::Id(id) => write!(f, "= {id}"),
-            Told::Zero => f.write_str("= 0"),
-            Told::Got { len, mtype } => write!(f, "= {len} type {mtype} ="),
-            Told::Stat(stat) => write!(f, "= {}", Shown(*stat)),
-            Told::Refused(why) => write!(f, "! {why}"),
+        match self.0 {
+            Outcome::Id(id) => write!(f, "= {id}"),
+            Outcome::Zero => f.write_str("= 0"),
+            Outcome::Got { mtype, len } => write!(f, "= {len} type {mtype} ="),
+            Outcome::Stat(stat) => write!(f, "= {}", Shown(stat)),
+            Outcome::Refused(why) => write!(f, "! {why}"),
         }
     }
 }

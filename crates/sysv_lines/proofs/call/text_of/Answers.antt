@@ -1,6 +1,6 @@
 use Rattle.std.proofs.Common.{◌≡◌, ◌≤◌, length, get_or, rules}
 use Rattle.sysv_lines.proofs.CallNames.{begins, no_letters}
-use Rattle.sysv_lines.proofs.request.text_of.Goals as goal
+use Rattle.sysv_lines.proofs.call.text_of.Goals as goal
 
 pub returns-in_err-letters_of-in-42-clause-says : goal.returns-in_err-letters_of-in-42-clause-says
 returns-in_err-letters_of-in-42-clause-says c =
