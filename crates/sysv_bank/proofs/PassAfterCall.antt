@@ -36,35 +36,57 @@ module _ {O C R : Type 0} (moves : O → C → R → O → Type 0) (counted : O 
         names = (ap (λ (v : View O C R). v.number) is, ap (λ (v : View O C R). v.numbers) is);
         last = length before;
         own = ap (λ (v : View O C R). v.own) is;
-        seen = ap (λ (v : View O C R). length v.seen) is ∙ length-append before (turn_of m.0 call reply told.object ∷ []);
+        seen =
+            ap (λ (v : View O C R). length v.seen) is ∙ length-append before (turn_of m.0 call reply told.object ∷ []);
       }
 
   pub stays_worn : (m m' : Mine O C R) → HasWorn m m' → Stays m.0 m'.0
-  stays_worn m m' told = let is = ap (λ (n : Mine O C R). n.0) told in record { names = (ap (λ (v : View O C R). v.number) is, ap (λ (v : View O C R). v.numbers) is); own = ap (λ (v : View O C R). v.own) is }
+  stays_worn m m' told =
+      let is = ap (λ (n : Mine O C R). n.0) told in
+      record {
+        names = (ap (λ (v : View O C R). v.number) is, ap (λ (v : View O C R). v.numbers) is);
+        own = ap (λ (v : View O C R). v.own) is;
+      }
 
   pub stays_tried : (m m' : Mine O C R) (call : C) (e : TryRefused C) → HasTried moves o m call e m' → Stays m.0 m'.0
-  stays_tried m m' call (Busy c) told = let is = ap (λ (n : Mine O C R). n.0) told.1.is in record { names = (ap (λ (v : View O C R). v.number) is, ap (λ (v : View O C R). v.numbers) is); own = ap (λ (v : View O C R). v.own) is }
+  stays_tried m m' call (Busy c) told =
+      let is = ap (λ (n : Mine O C R). n.0) told.1.is in
+      record {
+        names = (ap (λ (v : View O C R). v.number) is, ap (λ (v : View O C R). v.numbers) is);
+        own = ap (λ (v : View O C R). v.own) is;
+      }
   stays_tried m m' call (Worn c) told = stays_worn m m' told.1
 
   pub stays_read : (m m' : Mine O C R) (count : Count) (n : ℕ) → HasRead counted o count m n m' → Stays m.0 m'.0
-  stays_read m m' count n told = let is = ap (λ (n : Mine O C R). n.0) told.is in record { names = (ap (λ (v : View O C R). v.number) is, ap (λ (v : View O C R). v.numbers) is); own = ap (λ (v : View O C R). v.own) is }
+  stays_read m m' count n told =
+      let is = ap (λ (n : Mine O C R). n.0) told.is in
+      record {
+        names = (ap (λ (v : View O C R). v.number) is, ap (λ (v : View O C R). v.numbers) is);
+        own = ap (λ (v : View O C R). v.own) is;
+      }
 
-  pub stays_waited : (m m' : Mine O C R) (count : Count) (goal : ℕ) (a : Awaited) → HasWaited counted o count goal m a m' → Stays m.0 m'.0
+  pub stays_waited : (m m' : Mine O C R) (count : Count) (goal : ℕ) (a : Awaited) →
+      HasWaited counted o count goal m a m' → Stays m.0 m'.0
   stays_waited m m' count goal (Reached n) told = stays_read m m' count n told.1
   stays_waited m m' count goal awaited.Worn told =
       let one = stays_read m told.1 count told.0 told.3 in
       let two = stays_worn told.1 m' told.4 in
       record { names = (two.names.0 ∙ one.names.0, two.names.1 ∙ one.names.1); own = two.own ∙ one.own }
 
-  pub stays_within : (m m' : Mine O C R) (count : Count) (goal : ℕ) (a : Option Awaited) → HasWaitedWithin counted o count goal m a m' → Stays m.0 m'.0
+  pub stays_within : (m m' : Mine O C R) (count : Count) (goal : ℕ) (a : Option Awaited) →
+      HasWaitedWithin counted o count goal m a m' → Stays m.0 m'.0
   stays_within m m' count goal (Some a) told = stays_waited m m' count goal a told
   stays_within m m' count goal None told = stays_read m m' count told.0 told.2
 
   -- The numbers stay, whatever the result of a call is.
-  pub call_names : (m m' : Mine O C R) (call : C) (r : Result R (WornCall C)) → IfOk r (λ x. HasCalled moves counted o m call x m') → IfErr r (λ w. (w.call ≡ call) × HasWorn m m') → IsNamedAs m.0 m'.0
+  pub call_names : (m m' : Mine O C R) (call : C) (r : Result R (WornCall C)) →
+      IfOk r (λ x. HasCalled moves counted o m call x m') → IfErr r (λ w. (w.call ≡ call) × HasWorn m m') →
+      IsNamedAs m.0 m'.0
   call_names m m' call (Ok x) ok err = (adds m m' call x ok).names
   call_names m m' call (Err w) ok err = (stays_worn m m' err.1).names
 
-  pub try_names : (m m' : Mine O C R) (call : C) (r : Result R (TryRefused C)) → IfOk r (λ x. HasCalled moves counted o m call x m') → IfErr r (λ e. HasTried moves o m call e m') → IsNamedAs m.0 m'.0
+  pub try_names : (m m' : Mine O C R) (call : C) (r : Result R (TryRefused C)) →
+      IfOk r (λ x. HasCalled moves counted o m call x m') → IfErr r (λ e. HasTried moves o m call e m') →
+      IsNamedAs m.0 m'.0
   try_names m m' call (Ok x) ok err = (adds m m' call x ok).names
   try_names m m' call (Err e) ok err = (stays_tried m m' call e err).names

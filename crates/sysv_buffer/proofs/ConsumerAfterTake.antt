@@ -1,5 +1,6 @@
 -- Proves what a take leaves of the consumer's end.
-use Rattle.std.proofs.Common.{Option, ◌%◌, ◌≡◌, ℕ, zero, suc, ◌+◌, ◌≤◌, false, List, [], ◌∷◌, ◌++◌, length, take, refl, sym, ap, ◌∙◌, arith, add-one, None, Some}
+use Rattle.std.proofs.Common.{Option, ◌%◌, ◌≡◌, ℕ, zero, suc, ◌+◌, ◌≤◌, false, List, [], ◌∷◌, ◌++◌, length, take, refl}
+use Rattle.std.proofs.Common.{sym, ap, ◌∙◌, arith, add-one, None, Some}
 use mathlib.Core.Option.{some, some-injective, some-ne-none}
 use lib.ListN.{get_elem?}
 use Rattle.std.proofs.lemmas.List.{take-append-le}
@@ -19,7 +20,8 @@ module _ {T : Type 0} where
   first_item d ((i, None) ∷ xs) = d
   first_item d ((i, Some a) ∷ xs) = a
 
-  pub same_item : (xs ys : List (ℕ × Option T)) (a b : T) (i k : ℕ) → xs ≡ ys → xs ≡ (i, Some a) ∷ [] → ys ≡ (k, Some b) ∷ [] → a ≡ b
+  pub same_item : (xs ys : List (ℕ × Option T)) (a b : T) (i k : ℕ) → xs ≡ ys → xs ≡ (i, Some a) ∷ [] →
+      ys ≡ (k, Some b) ∷ [] → a ≡ b
   unfolding first_item
   same_item xs ys a b i k e is was = sym (ap (first_item a) is) ∙ (ap (first_item a) e ∙ ap (first_item a) was)
 
@@ -30,19 +32,24 @@ module _ {T : Type 0} where
     pub known : m'.0.taken ≤ length m'.0.put
     pub longer : take m'.0.taken m'.0.put ≡ take m.0.taken m.0.put ++ item ∷ []
 
-  pub took : (slots : ℕ) (m n k : Mine T) (cell : ℕ) (item : T) → m.0.role ≡ Consumer → m.1 ≡ [] → m.0.taken ≤ length m.0.put → Grabs slots m n
+  pub took : (slots : ℕ) (m n k : Mine T) (cell : ℕ) (item : T) → m.0.role ≡ Consumer → m.1 ≡ []
+      → m.0.taken ≤ length m.0.put → Grabs slots m n
       → n.1 ≡ (cell, Some item) ∷ [] → k ≡ (record n.0 { taken = n.0.taken + 1; holds = false }, []) → Took m k item
   took slots m n k cell item role bare known g was is =
       let t = m.0.taken in
       let low = at_below g.put t g.item g.at in
       let taken : k.0.taken ≡ t + 1 = ap (λ (x : Mine T). x.0.taken) is ∙ ap (λ (x : Mine T). x.0.taken + 1) g.is in
       let put : k.0.put ≡ g.put = ap (λ (x : Mine T). x.0.put) is ∙ ap (λ (x : Mine T). x.0.put) g.is in
-      let same : item ≡ g.item = same_item n.1 n.1 item g.item cell (t % slots) refl was (ap (λ (x : Mine T). x.1) g.is ∙ ap (λ xs. (t % slots, Some g.item) ∷ xs) bare) in
+      let same : item ≡ g.item = same_item n.1 n.1 item g.item cell (t % slots) refl was
+      (ap (λ (x : Mine T). x.1) g.is ∙ ap (λ xs. (t % slots, Some g.item) ∷ xs) bare) in
       record {
         role = ap (λ (x : Mine T). x.0.role) is ∙ (ap (λ (x : Mine T). x.0.role) g.is ∙ role);
         idle = ap (λ (x : Mine T). x.0.holds) is;
         no_cell = ap (λ (x : Mine T). x.1) is;
         known = omega (arith, ap length put);
-        longer = ap (λ n. take n k.0.put) taken ∙ (ap (λ l. take (t + 1) l) put ∙ (rw add-one (take_next g.put t g.item g.at)
-            ∙ (ap (λ l. take t l ++ g.item ∷ []) g.longer ∙ (ap (λ l. l ++ g.item ∷ []) (take-append-le t m.0.put g.more known) ∙ ap (λ x. take t m.0.put ++ x ∷ []) (sym same)))));
+        longer =
+            ap (λ n. take n k.0.put) taken ∙ (ap (λ l. take (t + 1) l) put ∙ (rw add-one (take_next g.put t g.item g.at)
+            ∙ (ap (λ l. take t l ++ g.item ∷ []) g.longer
+            ∙ (ap (λ l. l ++ g.item ∷ []) (take-append-le t m.0.put g.more known)
+            ∙ ap (λ x. take t m.0.put ++ x ∷ []) (sym same)))));
       }

@@ -6,7 +6,13 @@ use Rattle.sysv_lists.proofs.Sums.{at-le-sum_by, two-le-sum_by}
 
 module _ (T : Type 0) where
   pub one_list : OneList T
-  one_list s g = (g.put, g.taken, g.runs.order, g.runs.within, λ i v at. let fit = g.seats.each i v at in (fit.seen, fit.own_put, fit.own_taken))
+  one_list s g = (
+    g.put,
+    g.taken,
+    g.runs.order,
+    g.runs.within,
+    λ i v at. let fit = g.seats.each i v at in (fit.seen, fit.own_put, fit.own_taken),
+  )
 
   pub no_place_twice : NoPlaceTwice T
   no_place_twice s g = (

@@ -1,5 +1,6 @@
 -- Proves that splits and joins of seats keep the rule of a `ManyBuffer`.
-use Rattle.std.proofs.Common.{◌≡◌, ℕ, ◌%◌, ◌<◌, false, List, [], ◌∷◌, ◌++◌, ⊎_elim, length, set, get_or, map, replicate, refl, sym, ap, ◌∙◌, subst, arith, Option, None}
+use Rattle.std.proofs.Common.{◌≡◌, ℕ, ◌%◌, ◌<◌, false, List, [], ◌∷◌, ◌++◌, ⊎_elim, length, set, get_or, map, replicate}
+use Rattle.std.proofs.Common.{refl, sym, ap, ◌∙◌, subst, arith, Option, None}
 use Rattle.std.specs.Prelude.{sum_by, cond}
 use mathlib.Core.Bool.{true≢false}
 use mathlib.Core.Logic.{dite}
@@ -36,13 +37,17 @@ module _ {T : Type 0} where
     empties = λ h. absurd (true≢false (sym h));
   }
 
-  pub many_starts : (n : ℕ) (ws : List ℕ) (xs : List (Option T)) → 0 < n → length ws ≡ 64 → get_or ws 0 0 ≡ 0 → get_or ws 16 0 ≡ 0 → get_or ws 32 0 ≡ 0 → get_or ws 48 0 ≡ 0 → xs ≡ replicate n None → Crowded (opening ws xs first_sight)
+  pub many_starts : (n : ℕ) (ws : List ℕ) (xs : List (Option T)) → 0 < n → length ws ≡ 64 → get_or ws 0 0 ≡ 0 →
+      get_or ws 16 0 ≡ 0 → get_or ws 32 0 ≡ 0 → get_or ws 48 0 ≡ 0 → xs ≡ replicate n None →
+      Crowded (opening ws xs first_sight)
   many_starts n ws xs room wide in_word out_word puts takes is =
       let p : View T = record { role = Producer; put = []; taken = 0; holds = false } in
       let c : View T = record { role = Consumer; put = []; taken = 0; holds = false } in
       let long = all_cells T n in
       let seats : Seated [] 0 p c 0 0 (first_sight ∷ []) = record {
-        each = λ i v at. ⊎_elim (λ t. absurd (some-ne-none v (sym t))) (λ t. subst (Knows [] 0 p c) t (nothing_known [] 0 p c)) (at_snoc [] first_sight v i at);
+        each = λ i v at.
+            ⊎_elim (λ t. absurd (some-ne-none v (sym t))) (λ t. subst (Knows [] 0 p c) t (nothing_known [] 0 p c))
+            (at_snoc [] first_sight v i at);
         put_once = λ k. omega arith;
         put_later = λ k far. refl;
         put_order = omega arith;
@@ -83,7 +88,8 @@ module _ {T : Type 0} where
               let same : i % length cells ≡ i = mod-eq_of_lt {n = i} {m = length cells} (omega arith) in
               ap (λ j. get_elem? cells j) same ∙ empty_cell n i (omega arith);
         };
-        seats = subst (λ m. Seated [] 0 p c m (get_or ws 48 0) (first_sight ∷ [])) (sym puts) (subst (λ m. Seated [] 0 p c 0 m (first_sight ∷ [])) (sym takes) seats);
+        seats = subst (λ m. Seated [] 0 p c m (get_or ws 48 0) (first_sight ∷ [])) (sym puts)
+            (subst (λ m. Seated [] 0 p c 0 m (first_sight ∷ [])) (sym takes) seats);
       })
 
   pub many_splits : (id : ℕ) (v : Sight T) → Splits Crowded id v v (beside v)
@@ -106,11 +112,14 @@ module _ {T : Type 0} where
           empties = λ h. absurd (true≢false (sym h));
         })) (at_snoc s.views (beside v) u i there);
         put_once = λ k. let one = old.put_once k in let sum = sum_by_push (put_at k) s.views (beside v) in omega arith;
-        put_later = λ k far. let one = old.put_later k far in let sum = sum_by_push (put_at k) s.views (beside v) in omega arith;
+        put_later = λ k far.
+            let one = old.put_later k far in let sum = sum_by_push (put_at k) s.views (beside v) in omega arith;
         put_order = old.put_order;
         put_limit = old.put_limit;
-        taken_once = λ k. let one = old.taken_once k in let sum = sum_by_push (taken_at k) s.views (beside v) in omega arith;
-        taken_later = λ k far. let one = old.taken_later k far in let sum = sum_by_push (taken_at k) s.views (beside v) in omega arith;
+        taken_once = λ k.
+            let one = old.taken_once k in let sum = sum_by_push (taken_at k) s.views (beside v) in omega arith;
+        taken_later = λ k far.
+            let one = old.taken_later k far in let sum = sum_by_push (taken_at k) s.views (beside v) in omega arith;
         taken_order = old.taken_order;
         filler = λ h. let one = old.filler h in let sum = sum_by_push filling s.views (beside v) in omega arith;
         emptier = λ h. let one = old.emptier h in let sum = sum_by_push emptying s.views (beside v) in omega arith;
@@ -124,11 +133,13 @@ module _ {T : Type 0} where
         in_word = g.in_word;
         out_word = g.out_word;
         runs = g.runs;
-        seats = subst (λ vs. Seated g.put g.taken g.p g.c np nt (vs ++ beside v ∷ [])) (sym (set_again s.views id v at)) seats;
+        seats = subst (λ vs. Seated g.put g.taken g.p g.c np nt (vs ++ beside v ∷ [])) (sym (set_again s.views id v at))
+            seats;
       }
 
   -- A join of two seats.
-  pub many_joins : (id other : ℕ) (v w : Sight T) → v.fills ≡ false → v.empties ≡ false → w.fills ≡ false → w.empties ≡ false → w.put_ticket ≡ [] → w.take_ticket ≡ [] → Joins Crowded id v other w (both_of v w) first_sight
+  pub many_joins : (id other : ℕ) (v w : Sight T) → v.fills ≡ false → v.empties ≡ false → w.fills ≡ false →
+      w.empties ≡ false → w.put_ticket ≡ [] → w.take_ticket ≡ [] → Joins Crowded id v other w (both_of v w) first_sight
   many_joins id other v w idle idle' quiet quiet' bare bare' s g at apart still =
       let np : ℕ = get_or s.words 32 0 in
       let nt : ℕ = get_or s.words 48 0 in
@@ -151,8 +162,12 @@ module _ {T : Type 0} where
         seen = know.seen;
         told = know'.seen;
         gone = let a = know.gone in let b = know'.gone in omega arith;
-        own_put = λ k h. dite (dec_le 1 (times k v.puts)) (λ d. know.own_put k d) (λ nd. know'.own_put k (omega (arith, nd, times-append k v.puts w.puts)));
-        own_taken = λ k h. dite (dec_le 1 (times k v.takes)) (λ d. know.own_taken k d) (λ nd. know'.own_taken k (omega (arith, nd, times-append k v.takes w.takes)));
+        own_put = λ k h.
+            dite (dec_le 1 (times k v.puts)) (λ d. know.own_put k d)
+            (λ nd. know'.own_put k (omega (arith, nd, times-append k v.puts w.puts)));
+        own_taken = λ k h.
+            dite (dec_le 1 (times k v.takes)) (λ d. know.own_taken k d)
+            (λ nd. know'.own_taken k (omega (arith, nd, times-append k v.takes w.takes)));
         waits_to_put = know.waits_to_put;
         waits_to_take = know.waits_to_take;
         fills = λ h. absurd (true≢false (sym h ∙ idle));
@@ -168,7 +183,8 @@ module _ {T : Type 0} where
         out_word = g.out_word;
         runs = g.runs;
         seats = record {
-          each = each_set K K middle other first_sight (each_set K K s.views id b old.each (λ _ _ _ _ fit. fit) both) (λ _ _ _ _ fit. fit) (nothing_known g.put g.taken g.p g.c);
+          each = each_set K K middle other first_sight (each_set K K s.views id b old.each (λ _ _ _ _ fit. fit) both)
+              (λ _ _ _ _ fit. fit) (nothing_known g.put g.taken g.p g.c);
           put_once = λ k. let is = same_put k in let one = old.put_once k in omega arith;
           put_later = λ k far. same_put k ∙ old.put_later k far;
           put_order = old.put_order;

@@ -1,5 +1,6 @@
 -- Proves that the rule holds when a buffer is opened and when its two ends are made.
-use Rattle.std.proofs.Common.{◌≡◌, ℕ, zero, suc, ◌%◌, ◌<◌, List, [], ◌∷◌, ◌++◌, inl, inr, ⊎_elim, length, set, get_or, map, replicate, refl, sym, ap, ◌∙◌, subst, arith, Option, None}
+use Rattle.std.proofs.Common.{◌≡◌, ℕ, zero, suc, ◌%◌, ◌<◌, List, [], ◌∷◌, ◌++◌, inl, inr, ⊎_elim, length, set, get_or}
+use Rattle.std.proofs.Common.{map, replicate, refl, sym, ap, ◌∙◌, subst, arith, Option, None}
 use mathlib.Core.Bool.{true≢false}
 use mathlib.Core.Option.{some, some-ne-none}
 use lib.ListN.{get_elem?}
@@ -21,10 +22,18 @@ module _ {T : Type 0} where
   empty_cell (suc n) zero less = refl
   empty_cell (suc n) (suc i) less = empty_cell n i (omega arith)
 
-  pub starts : (n : ℕ) (ws : List ℕ) (xs : List (Option T)) → 0 < n → length ws ≡ 32 → get_or ws 0 0 ≡ 0 → get_or ws 16 0 ≡ 0 → xs ≡ replicate n None → Kept (opening ws xs start)
+  pub starts : (n : ℕ) (ws : List ℕ) (xs : List (Option T)) → 0 < n → length ws ≡ 32 → get_or ws 0 0 ≡ 0 →
+      get_or ws 16 0 ≡ 0 → xs ≡ replicate n None → Kept (opening ws xs start)
   starts n ws xs room wide in_word out_word is =
       subst (λ (ys : List (Option T)). Kept (opening ws ys start)) (sym is)
-      (inl (record { wide = wide; in_word = in_word; out_word = out_word; ends = refl; room = omega (arith, all_cells T n); cells = λ i less. empty_cell n i (omega (arith, all_cells T n)) }))
+      (inl (record {
+        wide = wide;
+        in_word = in_word;
+        out_word = out_word;
+        ends = refl;
+        room = omega (arith, all_cells T n);
+        cells = λ i less. empty_cell n i (omega (arith, all_cells T n));
+      }))
 
   pub parts : (id : ℕ) (v : View T) → v.role ≡ Both → Splits Kept id v (first_producer v) (first_consumer v)
   parts id v role s held at = ⊎_elim
@@ -38,7 +47,8 @@ module _ {T : Type 0} where
         wide = fresh.wide;
         in_word = fresh.in_word;
         out_word = fresh.out_word;
-        ends = ap (λ i. set s.views i (first_producer v) ++ first_consumer v ∷ []) w.0 ∙ ap (λ l. set l 0 (first_producer v) ++ first_consumer v ∷ []) fresh.ends;
+        ends = ap (λ i. set s.views i (first_producer v) ++ first_consumer v ∷ []) w.0
+            ∙ ap (λ l. set l 0 (first_producer v) ++ first_consumer v ∷ []) fresh.ends;
         runs = record {
           room = fresh.room;
           size = refl;

@@ -7,4 +7,10 @@ pub learns_before : (h k : Holding) (n : ℕ) → k ≡ saw k.seen h → h.seen 
 learns_before h k n is le told =
     let same : Learns (saw k.seen h) n = subst (λ (x : Holding). Learns x n) is told in
     let since = told.since in
-    record { since = omega arith; own_additions = same.own_additions; none_twice = same.none_twice; alone = same.alone; within = same.within }
+    record {
+      since = omega arith;
+      own_additions = same.own_additions;
+      none_twice = same.none_twice;
+      alone = same.alone;
+      within = same.within;
+    }

@@ -13,7 +13,8 @@ marked_by true n d was le now = was refl
 marked_by false n d was le now = grind (arith, nat_tests)
 
 -- A count that rises by at most one rises by one if it is greater than before.
-pub risen_by : (before after : ℕ) → before ≤ after → after ≤ before + 1 → after ≡ before + cond (nat_lt before after) 1 0
+pub risen_by : (before after : ℕ) → before ≤ after → after ≤ before + 1 →
+    after ≡ before + cond (nat_lt before after) 1 0
 risen_by before after le most = grind (arith, nat_tests)
 
 pub not_true : (b : Bool) → ¬ (b ≡ true) → b ≡ false

@@ -6,7 +6,8 @@ use Rattle.sysv_steps.specs.declared.call.Call.TheVariants as call
 use Rattle.sysv_steps.specs.Call.{SystemCall}
 use Rattle.sysv_steps.specs.Asked.{asked_by}
 use Rattle.sysv_lines.specs.declared.actor.TheConstants.{SCRIPT_ACTORS}
-use Rattle.sysv_lines.specs.Said.{Said, Nothing, MakesPreset, GivesCred, GivesMoment, Starts, StepsOnce, Continues, AllContinue, GivesBlocks}
+use Rattle.sysv_lines.specs.Said.{Said, Nothing, MakesPreset, GivesCred, GivesMoment, Starts, StepsOnce, Continues}
+use Rattle.sysv_lines.specs.Said.{AllContinue, GivesBlocks}
 use Rattle.sysv_lines.specs.declared.call.Text.{Text}
 use Rattle.sysv_lines.specs.declared.call.Text.TheVariants.{Given, Letters}
 use Rattle.sysv_lines.specs.declared.line.Line.{Line}

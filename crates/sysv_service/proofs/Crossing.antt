@@ -18,7 +18,18 @@ use Rattle.sysv_service.specs.contracts.pass.Pass as pass
 use Rattle.sysv_service.specs.contracts.service.Service as service
 use Rattle.sysv_bank.proofs.Crossing.{bank_seat_send, bank_sync}
 
-pub ruleset crossing = (sendable, crosses, options.the_send, options.the_field_send, options.the_sync, options.the_field_sync, declared_send, declared_sync, as_row_send, as_row_sync)
+pub ruleset crossing = (
+  sendable,
+  crosses,
+  options.the_send,
+  options.the_field_send,
+  options.the_sync,
+  options.the_field_sync,
+  declared_send,
+  declared_sync,
+  as_row_send,
+  as_row_sync,
+)
 
 pool_send : IsSend pool.the_row
 pool_send = search (crossing, block_send) depth 30

@@ -137,9 +137,12 @@ Accepts object (asked.Pool call) = IsPool object
 -- The call and the reply are of one kind, and an object of that kind makes the turn and stays of
 -- that kind.
 abbrev pub makes : ObjectCall → ObjectReply → Gated → Gated → Type 0
-makes (asked.Slot call) (told.Slot reply) before after = IsSlot before × IsSlot after × SlotMoves (slot_in before) call reply (slot_in after)
-makes (asked.Registry call) (told.Registry reply) before after = IsRegistry before × IsRegistry after × RegistryMoves (registry_in before) call reply (registry_in after)
-makes (asked.Pool call) (told.Pool reply) before after = IsPool before × IsPool after × PoolMoves (pool_in before) call reply (pool_in after)
+makes (asked.Slot call) (told.Slot reply) before after =
+    IsSlot before × IsSlot after × SlotMoves (slot_in before) call reply (slot_in after)
+makes (asked.Registry call) (told.Registry reply) before after =
+    IsRegistry before × IsRegistry after × RegistryMoves (registry_in before) call reply (registry_in after)
+makes (asked.Pool call) (told.Pool reply) before after =
+    IsPool before × IsPool after × PoolMoves (pool_in before) call reply (pool_in after)
 makes call reply before after = ⊥
 
 -- The meaning of the objects' calls.

@@ -1,11 +1,13 @@
 -- A word means flags, or it does not.
-use Rattle.std.proofs.Common.{◌≡◌, ◌≤◌, ◌⊎◌, ℕ, zero, suc, inl, inr, List, [], ◌∷◌, length, refl, sym, subst, arith, bit_or}
+use Rattle.std.proofs.Common.{◌≡◌, ◌≤◌, ◌⊎◌, ℕ, zero, suc, inl, inr, List, [], ◌∷◌, length, refl, sym, subst, arith}
+use Rattle.std.proofs.Common.{bit_or}
 use Rattle.std.specs.Prelude.{Contains, codes}
 use Rattle.std.specs.Str.Parse.{digits_value}
 use Rattle.sysv_words.specs.Words.{SplitsAt}
 use Rattle.sysv_words.specs.FlagNames.{IsMode, NamesMode, NamesFlag, AddsFlags, IsFlags, One, More}
 use Rattle.sysv_words.proofs.FlagLists.{AddsFlags-split, AddsFlags-last, NamesFlag-once}
-use Rattle.sysv_words.specs.Deciding.{Decided, decided_as, two, either, at_most_or_not, same_or_not, behind_or_not, splits_or_not, splits_shorter}
+use Rattle.sysv_words.specs.Deciding.{Decided, decided_as, two, either, at_most_or_not, same_or_not, behind_or_not}
+use Rattle.sysv_words.specs.Deciding.{splits_or_not, splits_shorter}
 use Rattle.sysv_words.proofs.NumeralsOrNot.{digits_or_not}
 
 -- A text is at most three octal digits, or it is not.
@@ -30,7 +32,9 @@ IsName name =
 -- A text is such a name, or it is not.
 name_or_not : (name : List ℕ) → Decided (IsName name)
 name_or_not name =
-    either (some_mode_or_not name) (either (same_or_not name (codes "CREAT")) (either (same_or_not name (codes "EXCL")) (either (same_or_not name (codes "NOWAIT"))
+    either (some_mode_or_not name)
+    (either (same_or_not name (codes "CREAT"))
+    (either (same_or_not name (codes "EXCL")) (either (same_or_not name (codes "NOWAIT"))
     (either (same_or_not name (codes "NOERROR")) (same_or_not name (codes "EXCEPT"))))))
 
 -- A text is such a name if and only if it has some bits.
@@ -65,14 +69,19 @@ AddsSome before list = (all : ℕ) × AddsFlags before list all
 -- A list without `+` has bits if its only name has.
 adds_one_or_not : (before : ℕ) (list : List ℕ) → ¬ Contains list 43 → Decided (AddsSome before list)
 adds_one_or_not before list plain =
-    decided_as (λ h. (bit_or before h.0, One before list h.0 h.1)) (λ h. AddsFlags-last before list h.0 plain h.1) (some_or_not list)
+    decided_as (λ h. (bit_or before h.0, One before list h.0 h.1)) (λ h. AddsFlags-last before list h.0 plain h.1)
+    (some_or_not list)
 
 -- A list that splits after a name has bits if and only if the rest has.
-adds_more : (before : ℕ) (list name rest : List ℕ) (bits : ℕ) → SplitsAt 43 list name rest → NamesFlag name bits → AddsSome (bit_or before bits) rest → AddsSome before list
-adds_more before list name rest bits s named more =
-    (more.0, subst (λ (l : List ℕ). AddsFlags before l more.0) (sym s.whole) (More before name rest bits more.0 named more.1))
+adds_more : (before : ℕ) (list name rest : List ℕ) (bits : ℕ) → SplitsAt 43 list name rest → NamesFlag name bits →
+    AddsSome (bit_or before bits) rest → AddsSome before list
+adds_more before list name rest bits s named more = (
+  more.0,
+  subst (λ (l : List ℕ). AddsFlags before l more.0) (sym s.whole) (More before name rest bits more.0 named more.1),
+)
 
-adds_behind : (before : ℕ) (list name rest : List ℕ) (bits : ℕ) → SplitsAt 43 list name rest → NamesFlag name bits → AddsSome before list → AddsSome (bit_or before bits) rest
+adds_behind : (before : ℕ) (list name rest : List ℕ) (bits : ℕ) → SplitsAt 43 list name rest → NamesFlag name bits →
+    AddsSome before list → AddsSome (bit_or before bits) rest
 adds_behind before list name rest bits s named h =
     let behind = AddsFlags-split before list h.0 name rest s h.1 in
     let same : behind.0 ≡ bits = NamesFlag-once name behind.0 bits behind.1 named in
@@ -88,7 +97,8 @@ adds_or_not (suc bound) before list short = elim (splits_or_not 43 list) [
   | inl s ↦ elim (some_or_not s.0) [
     | inl named ↦
         let shorter = splits_shorter 43 list s.0 s.1 s.2 in
-        decided_as (adds_more before list s.0 s.1 named.0 s.2 named.1) (adds_behind before list s.0 s.1 named.0 s.2 named.1)
+        decided_as (adds_more before list s.0 s.1 named.0 s.2 named.1)
+        (adds_behind before list s.0 s.1 named.0 s.2 named.1)
         (adds_or_not bound (bit_or before named.0) s.1 (omega (arith, short, shorter)))
     | inr not ↦ inr (λ h. let behind = AddsFlags-split before list h.0 s.0 s.1 s.2 h.1 in not (behind.0, behind.1))
   ]

@@ -1,5 +1,6 @@
 -- A word is a numeral of a number in its range, or it is not.
-use Rattle.std.proofs.Common.{◌≡◌, ◌≤◌, ◌≤ℤ◌, ◌^◌, ℕ, ℤ, pos, negsuc, inl, inr, List, [], ◌∷◌, length, refl, sym, subst, le→leb, leb→le}
+use Rattle.std.proofs.Common.{◌≡◌, ◌≤◌, ◌≤ℤ◌, ◌^◌, ℕ, ℤ, pos, negsuc, inl, inr, List, [], ◌∷◌, length, refl, sym, subst}
+use Rattle.std.proofs.Common.{le→leb, leb→le}
 use Rattle.std.specs.Char.{digit_value}
 use Rattle.std.specs.Str.Parse.{AllDigits, IsNumeral}
 use Rattle.std.specs.Int.RustNames.{FitsSigned}
@@ -24,7 +25,8 @@ number_or_not word = numeral_or_not (digits_in word)
 
 -- A number fits a width, or it does not.
 fits_or_not : (w : Width) (z : ℤ) → Decided (FitsSigned w z)
-fits_or_not w z = decided_as (λ below. record { sfits = below }) (λ fits. fits.sfits) (below_or_not (mag z) (2 ^ hbits w))
+fits_or_not w z =
+    decided_as (λ below. record { sfits = below }) (λ fits. fits.sfits) (below_or_not (mag z) (2 ^ hbits w))
 
 -- The word is a numeral whose number fits this width, or it is not.
 pub signed_or_not : (w : Width) (word : List ℕ) → Decided (IsNumber word × FitsSigned w (number_in word))
@@ -55,13 +57,16 @@ natural_between least most (pos n) h = (n, refl, leb→le least n h.0.le, leb→
 natural_between least most (negsuc n) h = absurd h.0.le
 
 -- The number of such a numeral is a natural number.
-pub number_between : (least most : ℕ) (word : List ℕ) → IsNumberBetween least most word → (n : ℕ) × IsNumeralOf word (pos n) × (least ≤ n) × (n ≤ most)
+pub number_between : (least most : ℕ) (word : List ℕ) → IsNumberBetween least most word →
+    (n : ℕ) × IsNumeralOf word (pos n) × (least ≤ n) × (n ≤ most)
 number_between least most word h =
     let found = natural_between least most (number_in word) h.1 in
     (found.0, (h.0, found.1), found.2, found.3)
 
 -- A numeral of a natural number between these two is such a numeral.
-pub numeral_between : (least most : ℕ) (word : List ℕ) (n : ℕ) → IsNumeralOf word (pos n) → least ≤ n → n ≤ most → IsNumberBetween least most word
+pub numeral_between : (least most : ℕ) (word : List ℕ) (n : ℕ) → IsNumeralOf word (pos n) → least ≤ n → n ≤ most →
+    IsNumberBetween least most word
 numeral_between least most word n h low high =
-    let between : IsBetween least most (pos n) = (record { le = le→leb least n low }, record { le = le→leb n most high }) in
+    let between : IsBetween least most (pos n) =
+    (record { le = le→leb least n low }, record { le = le→leb n most high }) in
     (h.0, subst (IsBetween least most) (sym h.1) between)

@@ -9,7 +9,8 @@ use Rattle.sysv_words.specs.FlagNames.{IsFlagList}
 use Rattle.sysv_words.specs.Octal.{IsOctal}
 use Rattle.sysv_words.specs.Readings.{SaysOnce, IsDecided, IsReading, WordsAreRead}
 use Rattle.sysv_words.specs.Deciding.{Decided, four, at_most_or_not}
-use Rattle.sysv_words.proofs.NumeralsOrNot.{digits_or_not, signed_or_not, number_between_or_not, number_between, numeral_between}
+use Rattle.sysv_words.proofs.NumeralsOrNot.{digits_or_not, signed_or_not, number_between_or_not, number_between}
+use Rattle.sysv_words.proofs.NumeralsOrNot.{numeral_between}
 use Rattle.sysv_words.proofs.FlagsOrNot.{flags_or_not}
 use Rattle.sysv_words.proofs.FlagLists.{flag_list_once}
 
@@ -46,10 +47,16 @@ int64 : IsReading IsInt64
 int64 = record { once = λ word a b h k. numeral_once word a b h.0 k.0; decided = signed_decided w64 }
 
 nat32 : IsReading IsNat32
-nat32 = record { once = λ word a b h k. pos_same a b (numeral_once word (pos a) (pos b) h.0 k.0); decided = natural_decided 4294967295 }
+nat32 = record {
+  once = λ word a b h k. pos_same a b (numeral_once word (pos a) (pos b) h.0 k.0);
+  decided = natural_decided 4294967295;
+}
 
 nat64 : IsReading IsNat64
-nat64 = record { once = λ word a b h k. pos_same a b (numeral_once word (pos a) (pos b) h.0 k.0); decided = natural_decided 18446744073709551615 }
+nat64 = record {
+  once = λ word a b h k. pos_same a b (numeral_once word (pos a) (pos b) h.0 k.0);
+  decided = natural_decided 18446744073709551615;
+}
 
 -- ---- octal numerals and flags
 
@@ -59,12 +66,15 @@ octal_made mode = record { 0 = mode }
 octal_once : SaysOnce IsOctal
 octal_once word a b h k = ap octal_made (h.value ∙ sym k.value)
 
-mode_or_not : (word : List ℕ) → Decided ((1 ≤ length word) × (length word ≤ 4) × AllDigits 8 word × (digits_value 8 word ≤ 511))
-mode_or_not word = four (at_most_or_not 1 (length word)) (at_most_or_not (length word) 4) (digits_or_not 8 word) (at_most_or_not (digits_value 8 word) 511)
+mode_or_not : (word : List ℕ) →
+    Decided ((1 ≤ length word) × (length word ≤ 4) × AllDigits 8 word × (digits_value 8 word ≤ 511))
+mode_or_not word = four (at_most_or_not 1 (length word)) (at_most_or_not (length word) 4) (digits_or_not 8 word)
+    (at_most_or_not (digits_value 8 word) 511)
 
 octal_decided : IsDecided IsOctal
 octal_decided word = elim (mode_or_not word) [
-  | inl h ↦ inl (octal_made (digits_value 8 word), record { least = h.0; most = h.1; digits = h.2; value = refl; low = h.3 })
+  | inl h ↦
+      inl (octal_made (digits_value 8 word), record { least = h.0; most = h.1; digits = h.2; value = refl; low = h.3 })
   | inr none ↦ inr (λ mode h. none (h.least, h.most, h.digits, subst (λ n. n ≤ 511) h.value h.low))
 ]
 

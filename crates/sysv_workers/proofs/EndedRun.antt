@@ -1,5 +1,6 @@
 -- What is known of a run after all workers have ended.
-use Rattle.std.proofs.Common.{◌≡◌, ◌≢◌, ◌⊎◌, inl, inr, ⊎_elim, ℕ, ◌+◌, ◌≤◌, true, false, Bool, Option, Some, None, List, [], ◌∷◌, ◌++◌, length, map, refl, sym, ap, ◌∙◌, subst, arith, length-append}
+use Rattle.std.proofs.Common.{◌≡◌, ◌≢◌, ◌⊎◌, inl, inr, ⊎_elim, ℕ, ◌+◌, ◌≤◌, true, false, Bool, Option, Some, None, List}
+use Rattle.std.proofs.Common.{[], ◌∷◌, ◌++◌, length, map, refl, sym, ap, ◌∙◌, subst, arith, length-append}
 use Rattle.std.specs.Prelude.{min, ◌^◌, ◌-◌, IfSome, IfNone}
 use mathlib.Core.Bool.{true≢false}
 use Rattle.std.specs.List.{All, FoldsTo, flat_map}
@@ -31,7 +32,9 @@ module _ {W T : Type 0} (runs : W → T → W → Type 0) (fits : W → Type 0) 
   RanBy p = FoldsTo runs p.before p.items p.after
 
   -- No worker has ended yet.
-  pub none_gathered : (others : List W) (h : Holding (Feed T)) (states : List W) (ran : ℕ) (ended : Bool) → h.takes ≡ [] → states ≡ others → All fits others → ran ≡ 0 → ended ≡ true → Gathered runs fits others [] h states ran ended
+  pub none_gathered : (others : List W) (h : Holding (Feed T)) (states : List W) (ran : ℕ) (ended : Bool) →
+      h.takes ≡ [] → states ≡ others → All fits others → ran ≡ 0 → ended ≡ true →
+      Gathered runs fits others [] h states ran ended
   none_gathered others h states ran ended none same all zero not = record {
     left = same ∙ sym (append-nil others);
     folds = λ k d low. absurd (omega arith);
@@ -45,13 +48,17 @@ module _ {W T : Type 0} (runs : W → T → W → Type 0) (fits : W → Type 0) 
   }
 
   -- The seat sees more.
-  pub gathered_looks : (others : List W) (parts : List (Part W T)) (h h' : Holding (Feed T)) (states : List W) (ran : ℕ) (ended : Bool) → Gathered runs fits others parts h states ran ended → Looks h h' → Gathered runs fits others parts h' states ran ended
+  pub gathered_looks : (others : List W) (parts : List (Part W T)) (h h' : Holding (Feed T)) (states : List W) (ran : ℕ)
+      (ended : Bool) → Gathered runs fits others parts h states ran ended → Looks h h' →
+      Gathered runs fits others parts h' states ran ended
   gathered_looks others parts h h' states ran ended g l = record {
     left = g.left;
     folds = g.folds;
     still = g.still;
     feeds = g.feeds;
-    reads = subst (λ (ks : List ℕ). Reads h'.seen ks g.feeds) (sym l.takes) (subst (λ (m : List (Feed T)). Reads m h.takes g.feeds) (sym l.seen) (reads_longer h.seen l.more h.takes g.feeds g.reads));
+    reads = subst (λ (ks : List ℕ). Reads h'.seen ks g.feeds) (sym l.takes)
+        (subst (λ (m : List (Feed T)). Reads m h.takes g.feeds) (sym l.seen)
+        (reads_longer h.seen l.more h.takes g.feeds g.reads));
     items = g.items;
     count = g.count;
     worn = λ e. let far = g.worn e in let low = looks_longer h h' l in omega arith;
@@ -59,8 +66,10 @@ module _ {W T : Type 0} (runs : W → T → W → Type 0) (fits : W → Type 0) 
   }
 
   -- All items of the source were run, each once.
-  pub dealt : (parts : List (Part W T)) (h : Holding (Feed T)) (states : List W) (ran : ℕ) (ended : Bool) (given : List T) (n put : ℕ) → Gathered runs fits [] parts h states ran ended → HasFed given n h → HasItsOwn h
-      → ended ≡ true → length parts ≡ n → 1 ≤ n → ran ≡ counted (length given) → put ≡ length h.seen → put ≡ min (ran + n) (2 ^ 64 - 1) → IsPermutation (flat_map (λ p. p.items) parts) given
+  pub dealt : (parts : List (Part W T)) (h : Holding (Feed T)) (states : List W) (ran : ℕ) (ended : Bool)
+      (given : List T) (n put : ℕ) → Gathered runs fits [] parts h states ran ended → HasFed given n h → HasItsOwn h
+      → ended ≡ true → length parts ≡ n → 1 ≤ n → ran ≡ counted (length given) → put ≡ length h.seen
+      → put ≡ min (ran + n) (2 ^ 64 - 1) → IsPermutation (flat_map (λ p. p.items) parts) given
   dealt parts h states ran ended given n put g f own all parts_n some same is most =
       let flat : List T = flat_map (λ (p : Part W T). p.items) parts in
       let fed_most = f.most in
@@ -70,23 +79,29 @@ module _ {W T : Type 0} (runs : W → T → W → Type 0) (fits : W → Type 0) 
       let feeds : length g.feeds ≡ length flat + length parts = g.count all in
       let read = reads_length h.seen h.takes g.feeds g.reads in
       let apart' = apart h.takes own.1.once in
-      let p : IsPermutation (items_in g.feeds) (items_in h.seen) = all_dealt g.feeds h.seen h.takes g.reads apart' (omega arith) in
-      subst (λ (l : List T). IsPermutation flat l) (ap items_in whole ∙ items_fed given n) (subst (λ (l : List T). IsPermutation l (items_in h.seen)) g.items p)
+      let p : IsPermutation (items_in g.feeds) (items_in h.seen) =
+      all_dealt g.feeds h.seen h.takes g.reads apart' (omega arith) in
+      subst (λ (l : List T). IsPermutation flat l) (ap items_in whole ∙ items_fed given n)
+      (subst (λ (l : List T). IsPermutation l (items_in h.seen)) g.items p)
 
   -- If no item was run, no state has changed.
-  unchanged : (parts : List (Part W T)) → length (flat_map (λ p. p.items) parts) ≡ 0 → All RanBy parts → map (λ p. p.after) parts ≡ map (λ p. p.before) parts
+  unchanged : (parts : List (Part W T)) → length (flat_map (λ p. p.items) parts) ≡ 0 → All RanBy parts →
+      map (λ p. p.after) parts ≡ map (λ p. p.before) parts
   unfolding RanBy
   unchanged [] none all = refl
   unchanged (p ∷ ps) none all =
       let long = length-append p.items (flat_map (λ (q : Part W T). q.items) ps) in
       let same : p.after ≡ p.before = idle p.items p.before p.after (omega arith) (all 0 p (omega arith)) in
-      ap (λ w. w ∷ map (λ (q : Part W T). q.after) ps) same ∙ ap (λ l. p.before ∷ l) (unchanged ps (omega arith) (All-tail RanBy p ps all))
+      ap (λ w. w ∷ map (λ (q : Part W T). q.after) ps) same
+      ∙ ap (λ l. p.before ∷ l) (unchanged ps (omega arith) (All-tail RanBy p ps all))
     where
       idle : (xs : List T) (v w : W) → length xs ≡ 0 → FoldsTo runs v xs w → w ≡ v
       idle [] v w none f = sym f
       idle (x ∷ xs) v w none f = absurd (omega arith)
 
-  pub all_unchanged : (others : List W) (parts : List (Part W T)) (h : Holding (Feed T)) (states : List W) (ran : ℕ) (ended : Bool) (rest : List W) → Gathered runs fits others parts h states ran ended → ran ≡ 0 → map (λ p. p.before) parts ≡ rest → states ≡ others ++ rest
+  pub all_unchanged : (others : List W) (parts : List (Part W T)) (h : Holding (Feed T)) (states : List W) (ran : ℕ)
+      (ended : Bool) (rest : List W) → Gathered runs fits others parts h states ran ended → ran ≡ 0 →
+      map (λ p. p.before) parts ≡ rest → states ≡ others ++ rest
   unfolding RanBy
   all_unchanged others parts h states ran ended rest g zero began =
       let total = g.total in
@@ -110,63 +125,100 @@ module _ {W T : Type 0} (runs : W → T → W → Type 0) (fits : W → Type 0) 
   rans [] = λ k d low. absurd (omega arith)
   rans (w ∷ ws) = All-cons RanBy (still_one w) (map still_one ws) refl (rans ws)
 
-  flats : (ws : List W) (ps : List (Part W T)) → flat_map (λ (p : Part W T). p.items) (map still_one ws ++ ps) ≡ flat_map (λ (p : Part W T). p.items) ps
+  flats : (ws : List W) (ps : List (Part W T)) →
+      flat_map (λ (p : Part W T). p.items) (map still_one ws ++ ps) ≡ flat_map (λ (p : Part W T). p.items) ps
   unfolding still_one
   flats [] ps = refl
   flats (w ∷ ws) ps = flats ws ps
 
   -- The parts of the workers that were started follow the states of those that were not.
-  pub leads : (others : List W) (parts : List (Part W T)) (h : Holding (Feed T)) (states : List W) (ran : ℕ) (ended : Bool) (rest : List W) → Gathered runs fits others parts h states ran ended → map (λ p. p.before) parts ≡ rest
-      → (all : List (Part W T)) × Leads runs (others ++ rest) all states × (length (flat_map (λ p. p.items) all) ≡ length (flat_map (λ p. p.items) parts))
+  pub leads : (others : List W) (parts : List (Part W T)) (h : Holding (Feed T)) (states : List W) (ran : ℕ)
+      (ended : Bool) (rest : List W)
+      → Gathered runs fits others parts h states ran ended → map (λ p. p.before) parts ≡ rest
+      → (all : List (Part W T)) × Leads runs (others ++ rest) all states
+      × (length (flat_map (λ p. p.items) all) ≡ length (flat_map (λ p. p.items) parts))
   unfolding RanBy
   leads others parts h states ran ended rest g began = (
     map still_one others ++ parts,
     record {
-      began = map-append (λ (p : Part W T). p.before) (map still_one others) parts ∙ (ap (λ l. l ++ map (λ (p : Part W T). p.before) parts) (befores others) ∙ ap (λ l. others ++ l) began);
-      left = map-append (λ (p : Part W T). p.after) (map still_one others) parts ∙ (ap (λ l. l ++ map (λ (p : Part W T). p.after) parts) (afters others) ∙ sym g.left);
+      began = map-append (λ (p : Part W T). p.before) (map still_one others) parts
+          ∙ (ap (λ l. l ++ map (λ (p : Part W T). p.before) parts) (befores others) ∙ ap (λ l. others ++ l) began);
+      left = map-append (λ (p : Part W T). p.after) (map still_one others) parts
+          ∙ (ap (λ l. l ++ map (λ (p : Part W T). p.after) parts) (afters others) ∙ sym g.left);
       ran = All-append RanBy (map still_one others) parts (rans others) g.folds;
     },
     ap length (flats others parts),
   )
 
   -- The causes of a refusal after threads were started.
-  pub fails_early : {S : Type 0} (gives : S → Option T → S → Type 0) (before after : List W) (source : S) (why : WorkersFault) → (why ≡ Thread) ⊎ (why ≡ Missed) → GivesBack {T = T} runs before why after → All fits after → Fails {T = T} runs fits gives before source why after source
+  pub fails_early : {S : Type 0} (gives : S → Option T → S → Type 0) (before after : List W) (source : S)
+      (why : WorkersFault) → (why ≡ Thread) ⊎ (why ≡ Missed) → GivesBack {T = T} runs before why after →
+      All fits after → Fails {T = T} runs fits gives before source why after source
   fails_early gives before after source why cause back all = record {
     back = back;
     still = all;
-    asked = ⊎_elim (λ (e : why ≡ Thread). subst (λ (y : WorkersFault). LeavesSource gives source y source) (sym e) refl) (λ (e : why ≡ Missed). subst (λ (y : WorkersFault). LeavesSource gives source y source) (sym e) ([], inr (refl, refl))) cause;
-    count = λ is. ⊎_elim (λ (e : why ≡ Thread). let z : Thread ≡ BadCount = sym e ∙ is in cc) (λ (e : why ≡ Missed). let z : Missed ≡ BadCount = sym e ∙ is in cc) cause;
-    memory = λ is. ⊎_elim (λ (e : why ≡ Thread). let z : Thread ≡ NoMemory = sym e ∙ is in cc) (λ (e : why ≡ Missed). let z : Missed ≡ NoMemory = sym e ∙ is in cc) cause;
+    asked = ⊎_elim (λ (e : why ≡ Thread). subst (λ (y : WorkersFault). LeavesSource gives source y source) (sym e) refl)
+        (λ (e : why ≡ Missed).
+        subst (λ (y : WorkersFault). LeavesSource gives source y source) (sym e) ([], inr (refl, refl))) cause;
+    count = λ is.
+        ⊎_elim (λ (e : why ≡ Thread). let z : Thread ≡ BadCount = sym e ∙ is in cc)
+        (λ (e : why ≡ Missed). let z : Missed ≡ BadCount = sym e ∙ is in cc) cause;
+    memory = λ is.
+        ⊎_elim (λ (e : why ≡ Thread). let z : Thread ≡ NoMemory = sym e ∙ is in cc)
+        (λ (e : why ≡ Missed). let z : Missed ≡ NoMemory = sym e ∙ is in cc) cause;
   }
 
-  pub fails_late : {S : Type 0} (gives : S → Option T → S → Type 0) (before after : List W) (source source' : S) (why : WorkersFault) → ((why ≡ Worn) × ((given : List T) × Returned gives source given source')) ⊎ ((why ≡ Missed) × ((given : List T) × GivesAll gives source given source')) → (parts : List (Part W T)) × Leads runs before parts after → All fits after → Fails {T = T} runs fits gives before source why after source'
+  pub fails_late : {S : Type 0} (gives : S → Option T → S → Type 0) (before after : List W) (source source' : S)
+      (why : WorkersFault) →
+      ((why ≡ Worn) × ((given : List T) × Returned gives source given source'))
+      ⊎ ((why ≡ Missed) × ((given : List T) × GivesAll gives source given source')) →
+      (parts : List (Part W T)) × Leads runs before parts after → All fits after →
+      Fails {T = T} runs fits gives before source why after source'
   fails_late gives before after source source' why cause led all = record {
-    back = ⊎_elim (λ e. subst (λ (y : WorkersFault). GivesBack {T = T} runs before y after) (sym e.0) led) (λ e. subst (λ (y : WorkersFault). GivesBack {T = T} runs before y after) (sym e.0) led) cause;
+    back = ⊎_elim (λ e. subst (λ (y : WorkersFault). GivesBack {T = T} runs before y after) (sym e.0) led)
+        (λ e. subst (λ (y : WorkersFault). GivesBack {T = T} runs before y after) (sym e.0) led) cause;
     still = all;
-    asked = ⊎_elim (λ e. subst (λ (y : WorkersFault). LeavesSource gives source y source') (sym e.0) e.1) (λ e. subst (λ (y : WorkersFault). LeavesSource gives source y source') (sym e.0) (e.1.0, inl e.1.1)) cause;
-    count = λ is. ⊎_elim (λ e. let z : Worn ≡ BadCount = sym e.0 ∙ is in cc) (λ e. let z : Missed ≡ BadCount = sym e.0 ∙ is in cc) cause;
-    memory = λ is. ⊎_elim (λ e. let z : Worn ≡ NoMemory = sym e.0 ∙ is in cc) (λ e. let z : Missed ≡ NoMemory = sym e.0 ∙ is in cc) cause;
+    asked = ⊎_elim (λ e. subst (λ (y : WorkersFault). LeavesSource gives source y source') (sym e.0) e.1)
+        (λ e. subst (λ (y : WorkersFault). LeavesSource gives source y source') (sym e.0) (e.1.0, inl e.1.1)) cause;
+    count = λ is.
+        ⊎_elim (λ e. let z : Worn ≡ BadCount = sym e.0 ∙ is in cc) (λ e. let z : Missed ≡ BadCount = sym e.0 ∙ is in cc)
+        cause;
+    memory = λ is.
+        ⊎_elim (λ e. let z : Worn ≡ NoMemory = sym e.0 ∙ is in cc) (λ e. let z : Missed ≡ NoMemory = sym e.0 ∙ is in cc)
+        cause;
   }
 
-  module _ {S : Type 0} (gives : S → Option T → S → Type 0) (before after : List W) (source source' : S) (seat : Holding (Feed T)) (marks : ℕ) where
+  module _ {S : Type 0} (gives : S → Option T → S → Type 0) (before after : List W) (source source' : S)
+      (seat : Holding (Feed T)) (marks : ℕ) where
     -- The cause, if a thread was refused.
-    pub cause_early : (why : WorkersFault) → source' ≡ source → (why ≡ Thread) ⊎ (why ≡ Missed) → (why ≡ Missed → (parts : List (Part W T)) × Leads runs before parts after × (1 ≤ length (flat_map (λ p. p.items) parts)))
+    pub cause_early : (why : WorkersFault) → source' ≡ source → (why ≡ Thread) ⊎ (why ≡ Missed)
+        → (why ≡ Missed
+        → (parts : List (Part W T)) × Leads runs before parts after × (1 ≤ length (flat_map (λ p. p.items) parts)))
         → HasCause runs gives before source marks why after source' seat
     cause_early why still which ran = ⊎_elim
         (λ e. subst (λ (y : WorkersFault). HasCause runs gives before source marks y after source' seat) (sym e) tt)
-        (λ e. let m = ran e in let low = m.2 in subst (λ (y : WorkersFault). HasCause runs gives before source marks y after source' seat) (sym e) (record { parts = m.0; given = []; leads = m.1; gave = inr (refl, still); differs = inl (λ q. omega arith) }))
+        (λ e.
+        let m = ran e in
+        let low = m.2 in
+        subst (λ (y : WorkersFault). HasCause runs gives before source marks y after source' seat) (sym e)
+        (record { parts = m.0; given = []; leads = m.1; gave = inr (refl, still); differs = inl (λ q. omega arith) }))
         which
 
     -- The cause, after all workers have ended.
-    pub cause_late : (why : WorkersFault) (items : Option ℕ) (marked ended : Bool) (ran put m : ℕ) (parts : List (Part W T)) → m ≡ marks → Told items marked ended ran put m why
-        → (items ≡ None → 2 ^ 62 ≤ length seat.seen) → (marked ≡ false → 2 ^ 62 ≤ length seat.seen) → (ended ≡ false → 2 ^ 62 ≤ length seat.seen)
-        → ((n : ℕ) → items ≡ Some n → (given : List T) × GivesAll gives source given source' × (n ≡ counted (length given)))
-        → put ≡ length seat.seen → ran ≡ counted (length (flat_map (λ p. p.items) parts)) → Leads runs before parts after
+    pub cause_late : (why : WorkersFault) (items : Option ℕ) (marked ended : Bool) (ran put m : ℕ)
+        (parts : List (Part W T)) → m ≡ marks → Told items marked ended ran put m why
+        → (items ≡ None → 2 ^ 62 ≤ length seat.seen) → (marked ≡ false → 2 ^ 62 ≤ length seat.seen)
+        → (ended ≡ false → 2 ^ 62 ≤ length seat.seen)
+        → ((n : ℕ) → items ≡ Some n
+        → (given : List T) × GivesAll gives source given source' × (n ≡ counted (length given)))
+        → put ≡ length seat.seen → ran ≡ counted (length (flat_map (λ p. p.items) parts))
+        → Leads runs before parts after
         → HasCause runs gives before source marks why after source' seat
     cause_late BadCount items marked ended ran put m parts same told a b c gave is all led = told
     cause_late NoMemory items marked ended ran put m parts same told a b c gave is all led = told
     cause_late Thread items marked ended ran put m parts same told a b c gave is all led = absurd told
-    cause_late Worn items marked ended ran put m parts same told a b c gave is all led = ⊎_elim a (λ t. ⊎_elim b c t) told
+    cause_late Worn items marked ended ran put m parts same told a b c gave is all led =
+        ⊎_elim a (λ t. ⊎_elim b c t) told
     cause_late Missed items marked ended ran put m parts same told a b c gave is all led =
         let s = gave told.0 told.1 in
         let n = s.2 in
@@ -179,16 +231,22 @@ module _ {W T : Type 0} (runs : W → T → W → Type 0) (fits : W → Type 0) 
         }
 
     -- The items that the source returned if not all of them were put, or if all were.
-    returned : (items : Option ℕ) → (items ≡ None → (given : List T) × FoldsTo (λ s x s'. gives s (Some x) s') source given source')
-        → ((n : ℕ) → items ≡ Some n → (given : List T) × GivesAll gives source given source' × (n ≡ counted (length given))) → (given : List T) × Returned gives source given source'
+    returned : (items : Option ℕ)
+        → (items ≡ None → (given : List T) × FoldsTo (λ s x s'. gives s (Some x) s') source given source')
+        → ((n : ℕ) → items ≡ Some n
+        → (given : List T) × GivesAll gives source given source' × (n ≡ counted (length given)))
+        → (given : List T) × Returned gives source given source'
     returned None early gave = let e = early refl in (e.0, inl e.1)
     returned (Some n) early gave = let s = gave n refl in (s.0, inr s.1)
 
     -- What is known of the source after all workers have ended.
-    pub late : (why : WorkersFault) (items : Option ℕ) (marked ended : Bool) (ran put m : ℕ) → Told items marked ended ran put m why
+    pub late : (why : WorkersFault) (items : Option ℕ) (marked ended : Bool) (ran put m : ℕ)
+        → Told items marked ended ran put m why
         → (items ≡ None → (given : List T) × FoldsTo (λ s x s'. gives s (Some x) s') source given source')
-        → ((n : ℕ) → items ≡ Some n → (given : List T) × GivesAll gives source given source' × (n ≡ counted (length given)))
-        → ((why ≡ Worn) × ((given : List T) × Returned gives source given source')) ⊎ ((why ≡ Missed) × ((given : List T) × GivesAll gives source given source'))
+        → ((n : ℕ) → items ≡ Some n
+        → (given : List T) × GivesAll gives source given source' × (n ≡ counted (length given)))
+        → ((why ≡ Worn) × ((given : List T) × Returned gives source given source'))
+        ⊎ ((why ≡ Missed) × ((given : List T) × GivesAll gives source given source'))
     late BadCount items marked ended ran put m told early gave = absurd told
     late NoMemory items marked ended ran put m told early gave = absurd told
     late Thread items marked ended ran put m told early gave = absurd told
@@ -196,20 +254,31 @@ module _ {W T : Type 0} (runs : W → T → W → Type 0) (fits : W → Type 0) 
     late Missed items marked ended ran put m told early gave = let s = gave told.0 told.1 in inr (refl, (s.0, s.1))
 
   -- A thread could not be started.
-  pub gives_up : (others rest : List W) (state : W) (part : Part W T) (more : List (Part W T)) (h : Holding (Feed T)) (states : List W) (ran : ℕ) (ended : Bool)
-      → part.before ≡ state → map (λ p. p.before) more ≡ rest → Gathered runs fits others (part ∷ more) h states ran ended
-      → (ran ≡ 0 → states ≡ others ++ state ∷ rest) × ((all : List (Part W T)) × Leads runs (others ++ state ∷ rest) all states × (ran ≢ 0 → 1 ≤ length (flat_map (λ p. p.items) all)))
+  pub gives_up : (others rest : List W) (state : W) (part : Part W T) (more : List (Part W T)) (h : Holding (Feed T))
+      (states : List W) (ran : ℕ) (ended : Bool)
+      → part.before ≡ state → map (λ p. p.before) more ≡ rest
+      → Gathered runs fits others (part ∷ more) h states ran ended
+      → (ran ≡ 0 → states ≡ others ++ state ∷ rest)
+      × ((all : List (Part W T)) × Leads runs (others ++ state ∷ rest) all states
+      × (ran ≢ 0 → 1 ≤ length (flat_map (λ p. p.items) all)))
   gives_up others rest state part more h states ran ended one two g =
-      let began : map (λ (p : Part W T). p.before) (part ∷ more) ≡ state ∷ rest = ap (λ w. w ∷ map (λ (p : Part W T). p.before) more) one ∙ ap (λ l. state ∷ l) two in
+      let began : map (λ (p : Part W T). p.before) (part ∷ more) ≡ state ∷ rest =
+      ap (λ w. w ∷ map (λ (p : Part W T). p.before) more) one ∙ ap (λ l. state ∷ l) two in
       let led = leads others (part ∷ more) h states ran ended (state ∷ rest) g began in
-      let total = g.total in
-      ((λ zero. all_unchanged others (part ∷ more) h states ran ended (state ∷ rest) g zero began), (led.0, led.1, λ some. let long = led.2 in omega (arith, some)))
+      let total = g.total in (
+        (λ zero. all_unchanged others (part ∷ more) h states ran ended (state ∷ rest) g zero began),
+        (led.0, led.1, λ some. let long = led.2 in omega (arith, some)),
+      )
 
   -- All items were run.
-  pub ends : {S : Type 0} (gives : S → Option T → S → Type 0) (before after : List W) (source source' : S) (parts : List (Part W T)) (given : List T) (h : Holding (Feed T)) (ran : ℕ) (ended : Bool) (n put : ℕ)
-      → Gathered runs fits [] parts h after ran ended → map (λ p. p.before) parts ≡ before → length before ≡ n → 1 ≤ n → GivesAll gives source given source' → HasFed given n h → HasItsOwn h
-      → ended ≡ true → ran ≡ counted (length given) → put ≡ length h.seen → put ≡ min (ran + n) (2 ^ 64 - 1) → Ends runs fits gives before source after source'
-  ends gives before after source source' parts given h ran ended n put g began long some gave fed own all ran_all is most =
+  pub ends : {S : Type 0} (gives : S → Option T → S → Type 0) (before after : List W) (source source' : S)
+      (parts : List (Part W T)) (given : List T) (h : Holding (Feed T)) (ran : ℕ) (ended : Bool) (n put : ℕ)
+      → Gathered runs fits [] parts h after ran ended → map (λ p. p.before) parts ≡ before → length before ≡ n → 1 ≤ n
+      → GivesAll gives source given source' → HasFed given n h → HasItsOwn h
+      → ended ≡ true → ran ≡ counted (length given) → put ≡ length h.seen → put ≡ min (ran + n) (2 ^ 64 - 1)
+      → Ends runs fits gives before source after source'
+  ends gives before after source source' parts given h ran ended n put g began long some gave fed own all ran_all is
+      most =
       let count : length parts ≡ n = sym (map_length (λ (p : Part W T). p.before) parts) ∙ (ap length began ∙ long) in
       record {
         all = record {

@@ -11,7 +11,10 @@ use Rattle.sysv_core.proofs.actor_steps.look_again.Goals as goal
 pub invariant_of-result : goal.invariant_of-result
 invariant_of-result c =
     let wait = wait_of c.args.wait (text_in c.args.body) in
-    record { held = resumed_held wait c.count_of-value.result _ c.args.body (c.resume.ensures (text_in c.args.body)) c.requires }
+    record {
+      held =
+          resumed_held wait c.count_of-value.result _ c.args.body (c.resume.ensures (text_in c.args.body)) c.requires;
+    }
 
 pub returns-then-is_over : goal.returns-then-is_over
 returns-then-is_over c = λ generation turns s.
@@ -19,7 +22,11 @@ returns-then-is_over c = λ generation turns s.
     let value = value_of turns (awaited (wait_of c.args.wait text)) in
     let is = c.count_of-value.ensures text generation turns s in
     let yes : IsTrue c.is_over.result = search rules in
-    inl (subst (λ n. goal_of (wait_of c.args.wait text) ≤ n) is ((c.is_over.ensures text).0 yes), subst (λ n. Goes (resume (wait_of c.args.wait text) n) ≡ Goes (phase_of c.resume.result text)) is (ap Goes (c.resume.ensures text)))
+    inl (
+      subst (λ n. goal_of (wait_of c.args.wait text) ≤ n) is ((c.is_over.ensures text).0 yes),
+      subst (λ n. Goes (resume (wait_of c.args.wait text) n) ≡ Goes (phase_of c.resume.result text)) is
+          (ap Goes (c.resume.ensures text)),
+    )
 
 pub returns-else-is_over : goal.returns-else-is_over
 returns-else-is_over c = λ generation turns s.

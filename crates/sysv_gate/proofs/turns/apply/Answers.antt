@@ -8,5 +8,6 @@ returns g c = record {
   beside = c.tell.ensures;
   asked = c.of-asked.ensures;
   answered = c.of.ensures;
-  rises = rises_by _ _ c.counts-before.result c.counts-after.result c.counts-before.ensures.0 c.counts-before.ensures.1 c.counts-after.ensures.0 c.counts-after.ensures.1 c.apply-reply.ensures.counts;
+  rises = rises_by _ _ c.counts-before.result c.counts-after.result c.counts-before.ensures.0 c.counts-before.ensures.1
+      c.counts-after.ensures.0 c.counts-after.ensures.1 c.apply-reply.ensures.counts;
 }

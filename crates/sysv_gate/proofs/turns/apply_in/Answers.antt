@@ -8,6 +8,8 @@ pub returns : goal.returns
 returns g c = λ object last was. (
   c.apply.new.place,
   refl,
-  subst (λ o. Applied (Moves g.O.Object.meaning g.O.Object.counted) g.O.Object.counted o c.args.call c.apply.new.place c.apply.result.0 c.apply.result.1)
+  subst (λ o.
+      Applied (Moves g.O.Object.meaning g.O.Object.counted) g.O.Object.counted o c.args.call c.apply.new.place
+      c.apply.result.0 c.apply.result.1)
       (same_object c.in-Some.place object last _ c.in-Some.is was) c.apply.ensures,
 )

@@ -11,7 +11,9 @@ loop-preserved c =
     let is = subst IsSlot (sym c.of-in-loop.ensures) tt in
     let stands = subst (λ o. StandsFor [] (slot_in o)) (sym c.of-in-loop.ensures) c.in-Ok-open-2.ensures in
     record {
-      fresh = subst (AreFreshUpTo (c.loop.counter + 1) c.args.generation c.args.blocks) (sym c.push_reserved-in-loop.ensures.items)
-          (fresh_snoc c.loop.counter c.args.generation c.args.blocks c.loop.objects.items object c.loop.invariant.fresh is stands);
+      fresh = subst (AreFreshUpTo (c.loop.counter + 1) c.args.generation c.args.blocks)
+          (sym c.push_reserved-in-loop.ensures.items)
+          (fresh_snoc c.loop.counter c.args.generation c.args.blocks c.loop.objects.items object c.loop.invariant.fresh
+          is stands);
       room = omega (arith, c.push_reserved-in-loop.ensures.capacity, c.loop.invariant.room);
     }

@@ -12,8 +12,12 @@ invariant-loop-handle g l = record {
   on : (job : _) × (left : List _) × AreOn job l.buffer left l.handles.items;
   room : vec_len l.states + length l.handles.items ≤ vec_capacity l.states;
   grown : (more : List _) × (l.seat.seen ≡ l.fn.seat.seen ++ more);
-  gathered : (job : _) (others : List _) (parts : List (Part _ _)) (rest : List _) → AreOn job l.buffer rest l.fn.handles.items → Gathered (g.J.Job.runs job) (g.J.Job.fits job) others parts l.fn.seat l.fn.states.items l.fn.tally.ran l.fn.tally.ended
-      → Joining g.J.Job.runs g.J.Job.fits l.buffer job others parts rest l.handles.items l.seat l.states.items l.tally.ran l.tally.ended;
+  gathered : (job : _) (others : List _) (parts : List (Part _ _)) (rest : List _)
+      → AreOn job l.buffer rest l.fn.handles.items
+      → Gathered (g.J.Job.runs job) (g.J.Job.fits job) others parts l.fn.seat l.fn.states.items l.fn.tally.ran
+      l.fn.tally.ended
+      → Joining g.J.Job.runs g.J.Job.fits l.buffer job others parts rest l.handles.items l.seat l.states.items
+      l.tally.ran l.tally.ended;
 }
 
 abbrev pub decreases-loop-handle : goal.decreases-loop-handle

@@ -19,4 +19,5 @@ loop-state-preserved g c =
     }
 
 pub returns-in-Err-clause-fits : goal.returns-in-Err-clause-fits
-returns-in-Err-clause-fits g c = but_last (g.J.Job.fits c.args.job.now) _ _ _ c.in-Some.ensures.items c.loop-state.invariant.fits
+returns-in-Err-clause-fits g c =
+    but_last (g.J.Job.fits c.args.job.now) _ _ _ c.in-Some.ensures.items c.loop-state.invariant.fits

@@ -7,5 +7,8 @@ load-count-requires g c = (search rules, search rules, counts_out _ _ _ c.requir
 
 pub load-put-requires : goal.load-put-requires
 load-put-requires g c =
-    let still = c.load-count.ensures.2.0 in
-    (search rules, search rules, looks _ _ _ (ap (λ m. m.0.role) still ∙ c.requires.idle.0) (ap (λ m. m.0.holds) still ∙ c.requires.idle.1))
+    let still = c.load-count.ensures.2.0 in (
+      search rules,
+      search rules,
+      looks _ _ _ (ap (λ m. m.0.role) still ∙ c.requires.idle.0) (ap (λ m. m.0.holds) still ∙ c.requires.idle.1),
+    )

@@ -19,5 +19,8 @@ returns-clause-learned g c =
     let number = c.fetch_add-number.result in
     let load = c.load-found.ensures.2 in
     let step = c.fetch_add-number.ensures.2 in
-    let before : Informs c.seat.inside.token.me.0 number = before_clearing c.seat.inside.token.me.0 c.load-found.new.seat.me.0 c.load-found.result number (ap (λ m. m.0) load.0) load.1 step.1 in
-    (subst (λ (h : Holding). Learns h number) c.seat.view_is before, subst (λ (v : View). Informs v (number + 1)) (sym (ap (λ m. m.0) step.0)) step.2)
+    let before : Informs c.seat.inside.token.me.0 number = before_clearing c.seat.inside.token.me.0
+    c.load-found.new.seat.me.0 c.load-found.result number (ap (λ m. m.0) load.0) load.1 step.1 in (
+      subst (λ (h : Holding). Learns h number) c.seat.view_is before,
+      subst (λ (v : View). Informs v (number + 1)) (sym (ap (λ m. m.0) step.0)) step.2,
+    )

@@ -39,4 +39,5 @@ pub returns-in-Rm-clause-meaning : goal.returns-in-Rm-clause-meaning
 returns-in-Rm-clause-meaning g c =
     let id : FitsSigned w32 c.in-Rm.id = search rules in
     let removes = simp to_z-of_z at c.remove.ensures.removes in
-    rw c.in-Rm.is (c.remove.ensures.service, c.remove.ensures.clock, c.remove.ensures.caller, (removes, c.requires.empty))
+    rw c.in-Rm.is
+    (c.remove.ensures.service, c.remove.ensures.clock, c.remove.ensures.caller, (removes, c.requires.empty))

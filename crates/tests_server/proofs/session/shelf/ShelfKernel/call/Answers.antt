@@ -7,11 +7,24 @@ use Rattle.tests_server.proofs.session.shelf.ShelfKernel.call.Goals as goal
 pub returns-in-Get-clause-answer : goal.returns-in-Get-clause-answer
 returns-in-Get-clause-answer c =
     let version = c.args.request.now.version in
-    let answer = subst (λ n. IsAnswer version n c.get-result.result) (sym c.number.ensures) (c.get-result.ensures.answer version) in
-    (refl, c.number.ensures ∙ ap (λ a. op_number (op_of a)) (sym c.in-Get.is), answer, c.get-result.ensures.text, omega (arith, ap length c.requires.empty))
+    let answer =
+    subst (λ n. IsAnswer version n c.get-result.result) (sym c.number.ensures)
+    (c.get-result.ensures.answer version) in (
+      refl,
+      c.number.ensures ∙ ap (λ a. op_number (op_of a)) (sym c.in-Get.is),
+      answer,
+      c.get-result.ensures.text,
+      omega (arith, ap length c.requires.empty),
+    )
 
 pub returns-in-Snd-clause-answer : goal.returns-in-Snd-clause-answer
 returns-in-Snd-clause-answer c =
     let version = c.args.request.now.version in
-    let answer = subst (λ n. IsAnswer version n c.send-result.result) (sym c.number-in-Snd.ensures) (c.send-result.ensures.answer version) in
-    (refl, c.number-in-Snd.ensures ∙ ap (λ a. op_number (op_of a)) (sym c.in-Snd.is), answer, c.send-result.ensures.text, omega (arith, ap length c.requires.empty))
+    let answer = subst (λ n. IsAnswer version n c.send-result.result) (sym c.number-in-Snd.ensures)
+    (c.send-result.ensures.answer version) in (
+      refl,
+      c.number-in-Snd.ensures ∙ ap (λ a. op_number (op_of a)) (sym c.in-Snd.is),
+      answer,
+      c.send-result.ensures.text,
+      omega (arith, ap length c.requires.empty),
+    )
