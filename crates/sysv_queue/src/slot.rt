@@ -324,6 +324,14 @@ impl QueueSlot {
         self.freed += 1;
     }
 
+    /// Returns the number of queued messages, at most 256 (specific to this profile). It requires no
+    /// permission.
+    pub fn qnum(&self) -> u32
+        ensures { result ≡ length self.now.messages }
+    {
+        self.messages.len() as u32
+    }
+
     /// Returns the live queue's row in the list of queues, or `None` if no queue is live (specific
     /// to this profile). It requires no permission.
     pub fn row(&self) -> Option<Row>

@@ -97,19 +97,9 @@ fn end_slot(slot: Closing<QueueSlot>, pool: &mut Option<Pool>) -> Option<u32>
         rest.end().end();
     }
     let slot = object?;
-    let messages = queued_in(&slot);
+    let messages = slot.qnum();
     put_back(pool, slot.end());
     Some(messages)
-}
-
-/// Returns the number of messages that are queued in the slot.
-fn queued_in(slot: &QueueSlot) -> u32
-    ensures { result ≡ length slot.now.messages }
-{
-    match slot.row() {
-        Some(row) => row.qnum,
-        None => 0,
-    }
 }
 
 /// Returns 1 if the gate of the registry is held, else 0.

@@ -631,6 +631,7 @@ fn a_probe_asks_what_the_mode_asks(rt: HostRuntime) {
 fn a_queue_shows_its_attributes(rt: HostRuntime) {
     let mut desk = open_desk(&rt, rt.alloc());
     assert_eq!(rt; desk.slot.row(), None);
+    assert_eq!(rt; desk.slot.qnum(), 0);
     assert_eq!(rt; desk.slot.stat(64, SENDER), Err(Errno::EINVAL));
     assert!(rt; desk.slot.install(64, 3, SENDER, 0o640, 50));
     assert_sends_as(&rt, &mut desk, 64, SENDER, 4, b"abc", Ok(0));
@@ -664,5 +665,6 @@ fn a_queue_shows_its_attributes(rt: HostRuntime) {
         qnum: 1,
     };
     assert_eq!(rt; desk.slot.row(), Some(row));
+    assert_eq!(rt; desk.slot.qnum(), 1);
     end_desk(&rt, desk, 1);
 }
