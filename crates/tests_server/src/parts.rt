@@ -4,7 +4,13 @@ ghost use Rattle.sysv_shared.specs.Seats.{AreOf};
 
 use std::alloc::Global;
 use std::process::Abort;
+use sysv_pool::Pool;
 use sysv_service::{Clock, Closed, OpenRefused, Pass, Service};
+
+/// Opens a pool with this number of blocks. Tolerates one refusal of memory.
+pub(crate) fn open_pool(rt: &impl Abort, alloc: Global, blocks: u32) -> Pool {
+    tests_kit::open_pool(alloc, blocks).expect(rt, "a second try")
+}
 
 /// A clock that always returns the same time.
 pub(crate) struct Still(pub(crate) u64);

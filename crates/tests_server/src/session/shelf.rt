@@ -6,6 +6,7 @@ ghost use Rattle.sysv_wire.specs.Frames.{op_number};
 ghost use Rattle.sysv_wire.specs.Replies.{IsAnswer, gives_text};
 ghost use Rattle.sysv_wire.specs.Requests.{op_of};
 
+use crate::parts::open_pool;
 use bitflags::Flags as Set;
 use std::alloc::Global;
 use std::process::Abort;
@@ -15,7 +16,6 @@ use sysv_pool::{Chain, Pool};
 use sysv_queue::{PlaceRefused, QueueSlot, TakeRefused, Unplaced};
 use sysv_session::{Kernel, Outcome};
 use sysv_wire::{Ask, Op, Reply, ReplyContent, Request, Version};
-use tests_kit::open_pool;
 
 /// The maximum of each count here.
 const MAX_COUNT: u64 = 1 << 32;

@@ -4,7 +4,7 @@ ghost use Rattle.std.specs.Prelude.{ℕ};
 ghost use Rattle.sysv_shared.specs.Seats.{AreOf};
 
 use super::ask::waiting;
-use crate::parts::{CLOCK, body_of, closed, opened};
+use crate::parts::{CLOCK, assert_is, body_of, closed, opened};
 use std::alloc::Global;
 use std::process::Abort;
 use std::sync::Wait;
@@ -13,7 +13,7 @@ use std::sync::atomic::Ordering::SeqCst;
 use sysv_model::{Errno, Flags, SetTo};
 use sysv_queue::Tally;
 use sysv_service::{Caller, Pass, Service, Stays};
-use tests_kit::{USER, assert_is, creating};
+use tests_kit::{USER, creating};
 
 /// A caller that reports a number of times that it stays, and after that that it has left.
 #[derive(Drop)]
