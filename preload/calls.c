@@ -76,11 +76,10 @@ static int outcome(int error)
 
 EXPORTED int msgget(key_t key, int flags)
 {
-    unsigned char bytes[SMALL_ROOM];
     struct frame frame;
     if (!is_ours())
         return own.get(key, flags);
-    frame_begin(&frame, GET, bytes, sizeof bytes);
+    frame_begin(&frame, GET);
     frame_put_u32(&frame, (uint32_t)key);
     frame_put_u32(&frame, (uint32_t)flags);
     frame_end(&frame);
@@ -90,7 +89,6 @@ EXPORTED int msgget(key_t key, int flags)
 
 EXPORTED int msgsnd(int id, const void *message, size_t size, int flags)
 {
-    unsigned char bytes[SND_ROOM];
     struct frame frame;
     long type;
     if (!is_ours())
@@ -98,14 +96,14 @@ EXPORTED int msgsnd(int id, const void *message, size_t size, int flags)
     pthread_testcancel();
     if (size > TEXT_MAX)
         return outcome(EINVAL);
-    struct iovec pieces[] = {{&type, sizeof type}, {bytes + REQUEST_HEAD + SND_FIELDS, size}};
-    if (copy_from_caller(pieces, 2, message) != 0)
+    if (!is_readable(message))
         return outcome(EFAULT);
-    frame_begin(&frame, SND, bytes, sizeof bytes);
+    memcpy(&type, message, sizeof type);
+    frame_begin(&frame, SND);
+    frame.message = (struct iovec){(char *)message + sizeof type, size};
     frame_put_u32(&frame, (uint32_t)id);
     frame_put_u64(&frame, (uint64_t)type);
     frame_put_u32(&frame, (uint32_t)flags);
-    frame.length += size;
     frame_end(&frame);
     return outcome(ask(&frame, !(flags & IPC_NOWAIT)));
 }
@@ -114,7 +112,7 @@ EXPORTED int msgsnd(int id, const void *message, size_t size, int flags)
 static int ask_for_message(struct frame *frame, int id, size_t size, long type, int flags)
 {
     frame_put_u32(frame, (uint32_t)id);
-    frame_put_u32(frame, size < TEXT_MAX ? (uint32_t)size : TEXT_MAX);
+    frame_put_u32(frame, (uint32_t)size);
     frame_put_u64(frame, (uint64_t)type);
     frame_put_u32(frame, (uint32_t)flags);
     frame_end(frame);
@@ -123,33 +121,30 @@ static int ask_for_message(struct frame *frame, int id, size_t size, long type, 
 
 EXPORTED ssize_t msgrcv(int id, void *message, size_t size, long type, int flags)
 {
-    unsigned char bytes[RCV_ROOM];
     struct frame frame;
-    long got;
     if (!is_ours())
         return own.rcv(id, message, size, type, flags);
     pthread_testcancel();
     if (size > SSIZE_MAX || flags & MSG_COPY)
         return outcome(EINVAL);
-    /* A pointer to nowhere is refused before a message is taken that could not be given. */
-    if (copy_from_caller(&(struct iovec){&got, sizeof got}, 1, message) != 0)
+    /* It is refused before a message is taken that could not be given. */
+    if (!message)
         return outcome(EFAULT);
-    frame_begin(&frame, RCV, bytes, sizeof bytes);
+    size = size < TEXT_MAX ? size : TEXT_MAX;
+    frame_begin(&frame, RCV);
+    frame.message = (struct iovec){message, TYPE_BYTES + size};
     int error = ask_for_message(&frame, id, size, type, flags);
     if (error != 0)
         return outcome(error);
-    got = (long)frame_take_u64(&frame);
-    size_t length = frame.length - frame.read;
-    struct iovec pieces[] = {
-        {&got, sizeof got}, {bytes + frame.read, length < size ? length : size}};
-    return copy_to_caller(message, pieces, 2) == 0 ? (ssize_t)pieces[1].iov_len : outcome(EFAULT);
+    long got = (long)frame_type(&frame);
+    memcpy(message, &got, sizeof got);
+    return (ssize_t)(frame.length - REPLY_HEAD - TYPE_BYTES);
 }
 
 /* Asks for one thing of one queue or slot. */
-static int ask_of(
-    struct frame *frame, enum operation operation, int number, unsigned char *bytes, size_t room)
+static int ask_of(struct frame *frame, enum operation operation, int number)
 {
-    frame_begin(frame, operation, bytes, room);
+    frame_begin(frame, operation);
     frame_put_u32(frame, (uint32_t)number);
     frame_end(frame);
     return ask(frame, false);
@@ -157,9 +152,8 @@ static int ask_of(
 
 static int ask_stat(int id, struct msqid_ds *told)
 {
-    unsigned char bytes[SMALL_ROOM];
     struct frame frame;
-    int error = ask_of(&frame, STAT, id, bytes, sizeof bytes);
+    int error = ask_of(&frame, STAT, id);
     if (error != 0)
         return error;
     memset(told, 0, sizeof *told);
@@ -190,9 +184,8 @@ struct row {
 
 static int ask_row(int slot, struct row *row)
 {
-    unsigned char bytes[SMALL_ROOM];
     struct frame frame;
-    int error = ask_of(&frame, ROW, slot, bytes, sizeof bytes);
+    int error = ask_of(&frame, ROW, slot);
     if (error != 0)
         return error;
     memset(row, 0, sizeof *row);
@@ -223,12 +216,11 @@ static int stat_queue(int id, struct msqid_ds *to)
 
 static int set_queue(int id, const struct msqid_ds *from)
 {
-    unsigned char bytes[SMALL_ROOM];
     struct frame frame;
     struct msqid_ds wanted;
     if (copy_from_caller(&(struct iovec){&wanted, sizeof wanted}, 1, from) != 0)
         return outcome(EFAULT);
-    frame_begin(&frame, SET, bytes, sizeof bytes);
+    frame_begin(&frame, SET);
     frame_put_u32(&frame, (uint32_t)id);
     frame_put_u32(&frame, wanted.msg_perm.uid);
     frame_put_u32(&frame, wanted.msg_perm.gid);
@@ -241,9 +233,15 @@ static int set_queue(int id, const struct msqid_ds *from)
 
 static int remove_queue(int id)
 {
-    unsigned char bytes[SMALL_ROOM];
     struct frame frame;
-    return outcome(ask_of(&frame, RM, id, bytes, sizeof bytes));
+    return outcome(ask_of(&frame, RM, id));
+}
+
+/* Adds to a sum that stays at the greatest number if it would be greater. */
+static void add(int *sum, unsigned long more)
+{
+    unsigned long left = (unsigned long)(INT_MAX - *sum);
+    *sum += (int)(more < left ? more : left);
 }
 
 /* Adds up the rows of all slots. */
@@ -258,9 +256,9 @@ static int add_rows(struct msginfo *sums, int *slots, int *greatest)
         if (error != 0)
             return error;
         if (row.present) {
-            sums->msgpool += 1;
-            sums->msgmap += (int)row.told.msg_qnum;
-            sums->msgtql += (int)row.told.__msg_cbytes;
+            add(&sums->msgpool, 1);
+            add(&sums->msgmap, row.told.msg_qnum);
+            add(&sums->msgtql, row.told.__msg_cbytes);
             *greatest = slot;
         }
     } while (++slot < row.slots);

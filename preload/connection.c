@@ -3,6 +3,7 @@
 
 #include <errno.h>
 #include <fcntl.h>
+#include <linux/capability.h>
 #include <poll.h>
 #include <pthread.h>
 #include <signal.h>
@@ -12,6 +13,7 @@
 #include <sys/resource.h>
 #include <sys/socket.h>
 #include <sys/stat.h>
+#include <sys/syscall.h>
 #include <sys/uio.h>
 #include <sys/un.h>
 #include <time.h>
@@ -23,15 +25,21 @@ enum {
     REST_SECONDS = 10,     /* how long the rest of a reply may take that has begun */
 };
 
+/* Tells whether a descriptor still is the file that it was. */
+struct file {
+    dev_t device;
+    ino_t inode;
+};
+
 /* The connection of a thread or of a single call. */
 struct connection {
     atomic_bool taken;
-    int fd;       /* -1: it is not open */
-    dev_t device; /* these two tell whether the descriptor still is the connection */
-    ino_t inode;
+    int fd; /* -1: it is not open */
+    struct file file;
     uid_t user; /* of the hello */
     gid_t group;
-    int slots; /* of the reply to the hello */
+    bool has_fixed_ids; /* these two can't change any more */
+    int slots;          /* of the reply to the hello */
 };
 
 /* How a call was made. */
@@ -52,6 +60,10 @@ static bool serves;
 static bool keeps; /* connections after a call */
 static bool ends_by_signals;
 static struct sockaddr_un server = {.sun_family = AF_UNIX}; /* without a path if that is too long */
+
+/* Standard error as it was when the library was loaded. */
+static bool has_standard_error;
+static struct file standard_error;
 
 /* Held while a descriptor is opened or closed and `connections` is told. fork waits for it, so that
  * its child finds all its copies there. Signals are blocked meanwhile: a handler may fork. */
@@ -86,13 +98,27 @@ static void release_descriptors(const struct hold *hold)
     pthread_sigmask(SIG_SETMASK, &hold->mask, NULL);
 }
 
+/* Notes which file a descriptor is. Returns whether it is open. */
+static bool note_file(int fd, struct file *file)
+{
+    struct stat found;
+    if (fstat(fd, &found) != 0)
+        return false;
+    *file = (struct file){found.st_dev, found.st_ino};
+    return true;
+}
+
+static bool is_file(int fd, const struct file *file)
+{
+    struct file found;
+    return note_file(fd, &found) && found.device == file->device && found.inode == file->inode;
+}
+
 /* Whether the descriptor still is the connection. The program may have closed it, and its number
  * may be another file. */
 static bool is_open(const struct connection *connection)
 {
-    struct stat found;
-    return connection->fd >= 0 && fstat(connection->fd, &found) == 0
-           && found.st_dev == connection->device && found.st_ino == connection->inode;
+    return connection->fd >= 0 && is_file(connection->fd, &connection->file);
 }
 
 /* Closes the connection. A shutdown ends the session even if another process has a copy of the
@@ -148,6 +174,7 @@ static void begin(void)
         return;
     if (strlen(word) < sizeof server.sun_path)
         strcpy(server.sun_path, word);
+    has_standard_error = note_file(STDERR_FILENO, &standard_error);
     process = getpid();
     keeps = pthread_key_create(&at_thread_end, end_thread) == 0
             && pthread_atfork(before_fork, after_fork, begin_child) == 0;
@@ -177,11 +204,13 @@ static void write_line(const struct iovec *pieces, int count)
 
 static struct iovec piece(const char *text) { return (struct iovec){(void *)text, strlen(text)}; }
 
-/* Reports on standard error why calls fail, once per process. */
+/* Reports on standard error why calls fail, once per process. If the program has put another file
+ * in its place, that may be one of data. */
 static void say_once(const char *why)
 {
     static atomic_flag said = ATOMIC_FLAG_INIT;
-    if (atomic_flag_test_and_set(&said))
+    if (atomic_flag_test_and_set(&said) || !has_standard_error
+        || !is_file(STDERR_FILENO, &standard_error))
         return;
     struct iovec line[] = {piece("libsysvmsg_preload: "),
         piece(*server.sun_path ? server.sun_path : "SYSVMSG_PATH"), piece(": "), piece(why),
@@ -210,30 +239,56 @@ static void abandon(void *connection)
         in_call = 0;
 }
 
+/* Takes bytes off the front of two pieces. */
+static void skip(struct iovec pieces[2], size_t count)
+{
+    for (int i = 0; i < 2; i++) {
+        size_t here = count < pieces[i].iov_len ? count : pieces[i].iov_len;
+        pieces[i].iov_base = (char *)pieces[i].iov_base + here;
+        pieces[i].iov_len -= here;
+        count -= here;
+    }
+}
+
+/* Most frames are in one piece, and then these two cost less without a list of pieces. */
+static ssize_t send_pieces(int fd, struct iovec pieces[2])
+{
+    if (pieces[1].iov_len == 0)
+        return send(fd, pieces[0].iov_base, pieces[0].iov_len, MSG_NOSIGNAL);
+    return sendmsg(fd, &(struct msghdr){.msg_iov = pieces, .msg_iovlen = 2}, MSG_NOSIGNAL);
+}
+
+static ssize_t receive_pieces(int fd, struct iovec pieces[2], int flags)
+{
+    if (pieces[1].iov_len == 0)
+        return recv(fd, pieces[0].iov_base, pieces[0].iov_len, flags);
+    return recvmsg(fd, &(struct msghdr){.msg_iov = pieces, .msg_iovlen = 2}, flags);
+}
+
 /* Waits for the beginning of a reply, and returns what recv returns. If `by_signals`, a handled
  * signal ends the wait. That takes a poll, which every handled signal ends: recv is restarted if
  * the handler has SA_RESTART. */
-static ssize_t await_bytes(int fd, struct frame *reply, bool by_signals)
+static ssize_t await_bytes(int fd, struct iovec pieces[2], bool by_signals)
 {
     ssize_t got;
     if (by_signals && poll(&(struct pollfd){.fd = fd, .events = POLLIN}, 1, -1) < 0) {
-        got = recv(fd, reply->bytes, reply->room, MSG_DONTWAIT);
-        if (got < 0)
+        got = receive_pieces(fd, pieces, MSG_DONTWAIT);
+        if (got < 0 && errno != EFAULT)
             errno = EINTR;
         return got;
     }
     do
-        got = recv(fd, reply->bytes, reply->room, 0);
+        got = receive_pieces(fd, pieces, 0);
     while (got < 0 && errno == EINTR);
     return got;
 }
 
-static ssize_t await_cancellable(struct connection *connection, struct frame *reply)
+static ssize_t await_cancellable(struct connection *connection, struct iovec pieces[2])
 {
     ssize_t got;
     pthread_cleanup_push(abandon, connection);
     pthread_setcancelstate(PTHREAD_CANCEL_ENABLE, NULL);
-    got = await_bytes(connection->fd, reply, ends_by_signals);
+    got = await_bytes(connection->fd, pieces, ends_by_signals);
     pthread_setcancelstate(PTHREAD_CANCEL_DISABLE, NULL);
     pthread_cleanup_pop(0);
     return got;
@@ -246,77 +301,112 @@ static long milliseconds(void)
     return now.tv_sec * 1000L + now.tv_nsec / 1000000L;
 }
 
-/* Waits for more of a reply. Returns what recv returns, or -1 if nothing came until `deadline`. */
-static ssize_t await_rest(int fd, void *bytes, size_t room, long deadline)
+/* Waits for more of a reply. Returns what recv returns, or 0 if nothing came until `deadline`. */
+static ssize_t await_rest(int fd, struct iovec pieces[2], long deadline)
 {
     for (;;) {
         long left = deadline - milliseconds();
         int ready =
             left <= 0 ? 0 : poll(&(struct pollfd){.fd = fd, .events = POLLIN}, 1, (int)left);
         if (ready == 0)
-            return -1;
+            return 0;
         if (ready > 0)
-            return recv(fd, bytes, room, MSG_DONTWAIT);
+            return receive_pieces(fd, pieces, MSG_DONTWAIT);
         if (errno != EINTR)
             return -1;
     }
 }
 
-/* Returns the length of a frame of which the first `got` bytes have arrived. While that is unknown
- * it is `got + 1`. */
-static size_t wanted(const struct frame *frame, size_t got)
+/* Whether a reply goes on after the bytes that have arrived, within the room that is left. */
+static bool goes_on(const struct frame *frame, const struct iovec pieces[2])
 {
-    return got < LENGTH_BYTES ? got + 1 : frame_length(frame->bytes);
+    if (frame->length < LENGTH_BYTES)
+        return true;
+    size_t whole = frame_length(frame->bytes), room = pieces[0].iov_len + pieces[1].iov_len;
+    return whole > frame->length && whole - frame->length <= room;
 }
 
-/* Reads the rest of a reply. Returns whether exactly one frame arrived. */
-static bool read_rest(int fd, struct frame *frame)
+/* Waits for the beginning of a reply as its call may wait. */
+static ssize_t await_reply(
+    struct connection *connection, struct iovec pieces[2], const struct call *call)
 {
-    long deadline =
-        frame->length == wanted(frame, frame->length) ? 0 : milliseconds() + REST_SECONDS * 1000L;
-    while (frame->length < wanted(frame, frame->length)) {
-        if (wanted(frame, frame->length) > frame->room)
-            return false;
-        ssize_t got =
-            await_rest(fd, frame->bytes + frame->length, frame->room - frame->length, deadline);
-        if (got <= 0)
-            return false;
+    if (call->may_wait && call->may_be_cancelled)
+        return await_cancellable(connection, pieces);
+    return await_bytes(connection->fd, pieces, call->may_wait && ends_by_signals);
+}
+
+/* Reads a reply. Returns what recv returned last: if that is above 0, no more is to come. */
+static ssize_t read_reply(
+    struct connection *connection, struct frame *frame, const struct call *call)
+{
+    struct iovec pieces[2];
+    long deadline = 0;
+    frame_reply(frame, pieces);
+    frame->length = 0;
+    ssize_t got = await_reply(connection, pieces, call);
+    while (got > 0) {
         frame->length += (size_t)got;
+        skip(pieces, (size_t)got);
+        if (!goes_on(frame, pieces))
+            break;
+        if (deadline == 0)
+            deadline = milliseconds() + REST_SECONDS * 1000L;
+        got = await_rest(connection->fd, pieces, deadline);
     }
-    return frame->length == wanted(frame, frame->length);
+    return got;
 }
 
-static bool write_all(int fd, const struct frame *frame)
+/* Sends a request. Returns how many of its bytes were sent. If not all were, errno says why. */
+static size_t write_request(int fd, struct frame *frame)
 {
+    struct iovec pieces[2];
     size_t sent = 0;
+    frame_request(frame, pieces);
     while (sent < frame->length) {
-        ssize_t count = send(fd, frame->bytes + sent, frame->length - sent, MSG_NOSIGNAL);
+        ssize_t count = send_pieces(fd, pieces);
         if (count < 0 && errno != EINTR)
-            return false;
-        sent += count > 0 ? (size_t)count : 0;
+            break;
+        count = count > 0 ? count : 0;
+        skip(pieces, (size_t)count);
+        sent += (size_t)count;
     }
-    return true;
+    return sent;
+}
+
+/* Ends a call whose request was not sent as a whole. If its text isn't there, the session goes on
+ * unless it has a part of the request. */
+static int unsent(struct connection *connection, const struct call *call, size_t sent)
+{
+    if (errno != EFAULT)
+        return broken(connection, call, "the server closed the connection");
+    if (sent > 0)
+        end_session(connection);
+    return EFAULT;
+}
+
+/* Ends a call whose reply did not come as a whole: `got` is what recv returned last. */
+static int unanswered(
+    struct connection *connection, const struct frame *frame, const struct call *call, ssize_t got)
+{
+    if (got < 0 && (errno == EINTR || errno == EFAULT)) {
+        int error = errno;
+        end_session(connection);
+        return error;
+    }
+    return broken(connection, call,
+        frame->length == 0 ? "the server closed the connection"
+                           : "the server did not complete a reply");
 }
 
 /* Sends a request and reads its reply. */
 static int exchange(struct connection *connection, struct frame *frame, const struct call *call)
 {
-    ssize_t got;
-    if (!write_all(connection->fd, frame))
-        return broken(connection, call, "the server closed the connection");
-    if (call->may_wait && call->may_be_cancelled)
-        got = await_cancellable(connection, frame);
-    else
-        got = await_bytes(connection->fd, frame, call->may_wait && ends_by_signals);
-    if (got < 0 && errno == EINTR) {
-        end_session(connection);
-        return EINTR;
-    }
+    size_t sent = write_request(connection->fd, frame);
+    if (sent < frame->length)
+        return unsent(connection, call, sent);
+    ssize_t got = read_reply(connection, frame, call);
     if (got <= 0)
-        return broken(connection, call, "the server closed the connection");
-    frame->length = (size_t)got;
-    if (!read_rest(connection->fd, frame))
-        return broken(connection, call, "the server did not complete a reply");
+        return unanswered(connection, frame, call, got);
     int error = frame_judge(frame);
     return error >= 0 ? error : broken(connection, call, "a reply of the server is malformed");
 }
@@ -337,17 +427,14 @@ static int move_up(int fd)
 /* Opens the connection's socket, and notes which file it is. */
 static bool open_held(struct connection *connection)
 {
-    struct stat found;
     int fd = socket(AF_UNIX, SOCK_STREAM | SOCK_CLOEXEC, 0);
     if (fd < 0)
         return false;
     fd = move_up(fd);
-    if (fstat(fd, &found) != 0) {
+    if (!note_file(fd, &connection->file)) {
         close(fd);
         return false;
     }
-    connection->device = found.st_dev;
-    connection->inode = found.st_ino;
     connection->fd = fd;
     return true;
 }
@@ -371,9 +458,8 @@ static bool connect_server(int fd)
 
 static int say_hello(struct connection *connection, const struct call *call)
 {
-    unsigned char bytes[SMALL_ROOM];
     struct frame hello;
-    frame_begin(&hello, HELLO, bytes, sizeof bytes);
+    frame_begin(&hello, HELLO);
     frame_put_u32(&hello, connection->user);
     frame_put_u32(&hello, connection->group);
     frame_put_u32(&hello, (uint32_t)call->process);
@@ -382,10 +468,7 @@ static int say_hello(struct connection *connection, const struct call *call)
     if (error != 0)
         return connection->fd < 0 ? error
                                   : broken(connection, call, "the server refused the hello");
-    uint32_t slots = frame_take_u32(&hello);
-    if (slots > SLOTS_MAX)
-        return broken(connection, call, "a reply of the server is malformed");
-    connection->slots = (int)slots;
+    connection->slots = (int)frame_take_u32(&hello);
     return 0;
 }
 
@@ -408,16 +491,42 @@ static int begin_session(struct connection *connection, const struct call *call)
     return say_hello(connection, call);
 }
 
+/* Whether the thread lacks the capabilities to become any user or group. Only a new program or user
+ * namespace can give it these. */
+static bool is_confined(void)
+{
+    struct __user_cap_header_struct self = {.version = _LINUX_CAPABILITY_VERSION_3};
+    struct __user_cap_data_struct sets[_LINUX_CAPABILITY_U32S_3];
+    return syscall(SYS_capget, &self, sets) == 0
+           && !(sets[0].permitted & (CAP_TO_MASK(CAP_SETUID) | CAP_TO_MASK(CAP_SETGID)));
+}
+
+/* Notes the effective user and group. If the real and the saved ones are the same, there are no
+ * others that a confined thread can change to. */
+static void note_ids(struct connection *connection)
+{
+    uid_t real_user, saved_user;
+    gid_t real_group, saved_group;
+    getresuid(&real_user, &connection->user, &saved_user);
+    getresgid(&real_group, &connection->group, &saved_group);
+    connection->has_fixed_ids = real_user == connection->user && saved_user == connection->user
+                                && real_group == connection->group
+                                && saved_group == connection->group && is_confined();
+}
+
+static bool has_present_ids(const struct connection *connection)
+{
+    return connection->has_fixed_ids
+           || (connection->user == geteuid() && connection->group == getegid());
+}
+
 /* Opens the connection unless it is open and its hello had the present effective user and group. */
 static int make_ready(struct connection *connection, const struct call *call)
 {
-    uid_t user = geteuid();
-    gid_t group = getegid();
-    if (is_open(connection) && connection->user == user && connection->group == group)
+    if (is_open(connection) && has_present_ids(connection))
         return 0;
     end_session(connection);
-    connection->user = user;
-    connection->group = group;
+    note_ids(connection);
     return begin_session(connection, call);
 }
 

@@ -1,8 +1,13 @@
 #include "frames.h"
 
 #include <errno.h>
+#include <limits.h>
+#include <stdbool.h>
 
 enum { VERSION = 2 };
+
+/* Where a field is among those of its reply. */
+enum { STAT_MODE = 20, ROW_ID = 1, ROW_MODE = 13 };
 
 static void put(struct frame *frame, uint64_t value, int bytes)
 {
@@ -10,18 +15,23 @@ static void put(struct frame *frame, uint64_t value, int bytes)
         frame->bytes[frame->length++] = (unsigned char)(value >> (8 * i));
 }
 
-static uint64_t take(struct frame *frame, int bytes)
+static uint64_t number(const unsigned char *bytes, int count)
 {
     uint64_t value = 0;
-    for (int i = 0; i < bytes; i++)
-        value = value << 8 | frame->bytes[frame->read++];
+    for (int i = 0; i < count; i++)
+        value = value << 8 | bytes[i];
     return value;
 }
 
-void frame_begin(struct frame *frame, enum operation operation, unsigned char *bytes, size_t room)
+static uint64_t take(struct frame *frame, int bytes)
 {
-    *frame = (struct frame){
-        .bytes = bytes, .room = room, .length = LENGTH_BYTES, .operation = operation};
+    frame->read += (size_t)bytes;
+    return number(frame->bytes + frame->read - bytes, bytes);
+}
+
+void frame_begin(struct frame *frame, enum operation operation)
+{
+    *frame = (struct frame){.length = LENGTH_BYTES, .operation = operation};
     put(frame, VERSION, 1);
     put(frame, operation, 1);
 }
@@ -30,20 +40,41 @@ void frame_put_u32(struct frame *frame, uint32_t value) { put(frame, value, 4); 
 
 void frame_put_u64(struct frame *frame, uint64_t value) { put(frame, value, 8); }
 
+/* The bytes of a request that are in the caller's memory. */
+static size_t outside(const struct frame *frame)
+{
+    return frame->operation == SND ? frame->message.iov_len : 0;
+}
+
 void frame_end(struct frame *frame)
 {
-    size_t length = frame->length;
+    size_t length = frame->length + outside(frame);
     frame->length = 0;
     put(frame, length - LENGTH_BYTES, 4);
     frame->length = length;
 }
 
+/* Fills two pieces, of which the second one may be empty. */
+static void fill(
+    struct frame *frame, struct iovec pieces[2], size_t inside, enum operation with_message)
+{
+    pieces[0] = (struct iovec){frame->bytes, inside};
+    pieces[1] = frame->operation == with_message ? frame->message : (struct iovec){frame->bytes, 0};
+}
+
+void frame_request(struct frame *frame, struct iovec pieces[2])
+{
+    fill(frame, pieces, frame->length - outside(frame), SND);
+}
+
+void frame_reply(struct frame *frame, struct iovec pieces[2])
+{
+    fill(frame, pieces, frame->operation == RCV ? REPLY_HEAD : sizeof frame->bytes, RCV);
+}
+
 size_t frame_length(const unsigned char *bytes)
 {
-    size_t length = 0;
-    for (int i = 0; i < LENGTH_BYTES; i++)
-        length = length << 8 | bytes[i];
-    return LENGTH_BYTES + length;
+    return LENGTH_BYTES + (size_t)number(bytes, LENGTH_BYTES);
 }
 
 /* Returns the errno of an error byte, or -1 if the protocol has no such error. The protocol's
@@ -66,19 +97,33 @@ static int error_of(unsigned char error)
     }
 }
 
-/* Whether a reply without an error may have so many bytes of fields. */
-static int has_fields(const struct frame *frame)
+int64_t frame_type(const struct frame *frame)
 {
-    size_t fields = frame->length - REPLY_HEAD;
+    return (int64_t)number(frame->message.iov_base, TYPE_BYTES);
+}
+
+/* Whether the fields of a row are those of no queue, or of one. */
+static bool is_row(const unsigned char *fields, size_t count)
+{
+    if (count == 1)
+        return fields[0] == 0;
+    return count == ROW_FIELDS && fields[0] == 1 && number(fields + ROW_ID, 4) <= INT_MAX
+           && number(fields + ROW_MODE, 2) <= MODE_MAX;
+}
+
+/* Whether a reply without an error has the fields of its operation, within their limits. */
+static bool has_fields(const struct frame *frame)
+{
+    const unsigned char *fields = frame->bytes + REPLY_HEAD;
+    size_t count = frame->length - REPLY_HEAD;
     switch (frame->operation) {
-    case HELLO: return fields == HELLO_FIELDS;
-    case GET: return fields == 4;
-    case RCV: return fields >= TYPE_BYTES && fields <= TYPE_BYTES + TEXT_MAX;
-    case STAT: return fields == STAT_FIELDS;
-    case ROW:
-        return fields == (frame->bytes[REPLY_HEAD] == 1 ? ROW_FIELDS : 1)
-               && frame->bytes[REPLY_HEAD] <= 1;
-    default: return fields == 0;
+    case HELLO: return count == 4 && number(fields, 4) <= SLOTS_MAX;
+    case GET: return count == 4 && number(fields, 4) <= INT_MAX;
+    case RCV:
+        return count >= TYPE_BYTES && count <= frame->message.iov_len && frame_type(frame) > 0;
+    case STAT: return count == STAT_FIELDS && number(fields + STAT_MODE, 2) <= MODE_MAX;
+    case ROW: return is_row(fields, count);
+    default: return count == 0;
     }
 }
 

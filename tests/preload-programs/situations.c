@@ -5,6 +5,7 @@
 #include <dirent.h>
 #include <errno.h>
 #include <fcntl.h>
+#include <poll.h>
 #include <pthread.h>
 #include <setjmp.h>
 #include <signal.h>
@@ -17,6 +18,7 @@
 #include <sys/resource.h>
 #include <sys/socket.h>
 #include <sys/stat.h>
+#include <sys/syscall.h>
 #include <sys/time.h>
 #include <sys/un.h>
 #include <sys/wait.h>
@@ -316,6 +318,18 @@ static void vforks(void)
     expect(receive_text(id, 1, 0) == 4, "the parent doesn't receive");
 }
 
+/* A child of which the handlers of fork know nothing. */
+static void raw_forks(void)
+{
+    int id = new_queue(), before = connection();
+    pid_t child = (pid_t)syscall(SYS_clone, SIGCHLD, NULL, NULL, NULL, NULL);
+    if (child == 0)
+        _exit(send_text(id, 1) != 0 || receive_text(id, 2, IPC_NOWAIT) != -1);
+    expect(status_of(child) == 0, "the child doesn't send");
+    expect(stat_of(id).msg_lspid == child, "msg_lspid is not the child's");
+    expect(connection() == before && receive_text(id, 1, 0) == 4, "the parent doesn't receive");
+}
+
 static volatile sig_atomic_t caught;
 
 static void send_in_handler(int number)
@@ -472,8 +486,23 @@ static void changes_user(void)
     int own = new_queue();
     expect(stat_of(own).msg_perm.cuid == 1000 && stat_of(own).msg_perm.cgid == 1001,
         "it isn't the effective user's");
+    expect(seteuid(0) == 0 && syscall(SYS_setresuid, -1, 1000, -1) == 0, "setresuid");
+    expect(refused(msgctl(id, IPC_RMID, NULL), EPERM), "the user isn't that of the system call");
     expect(seteuid(0) == 0 && msgctl(id, IPC_RMID, NULL) == 0, "root is root again");
+    expect(setresgid(1001, 1001, 1001) == 0 && setresuid(1000, 1000, 1000) == 0, "setresuid");
+    expect(stat_of(own).msg_perm.cuid == 1000 && msgctl(own, IPC_RMID, NULL) == 0,
+        "it isn't that user's for good");
     expect(count_descriptors(is_socket) == 1, "connections are left");
+}
+
+/* A user who lacks all privileges, but can change between two users and two groups. */
+static void changes_between_users(void)
+{
+    expect(setresgid(2001, 1001, 1001) == 0 && setresuid(2000, 1000, 1000) == 0, "only root can");
+    int one = new_queue();
+    expect(seteuid(2000) == 0 && refused(msgctl(one, IPC_RMID, NULL), EPERM), "seteuid");
+    expect(setegid(2001) == 0 && stat_of(new_queue()).msg_perm.cgid == 2001, "setegid");
+    expect(seteuid(1000) == 0 && msgctl(one, IPC_RMID, NULL) == 0, "it isn't the first user again");
 }
 
 /* The last 16 bytes of a page, and the page after it may not be touched. */
@@ -488,20 +517,28 @@ static char *edge(void)
 
 static void bad_pointers(void)
 {
-    int id = new_queue();
+    int id = new_queue(), before = connection();
     char *last = edge();
     void *constant = mmap(NULL, 4096, PROT_READ, MAP_PRIVATE | MAP_ANONYMOUS, -1, 0);
     *(long *)(void *)last = 9;
     expect(msgsnd(id, last, 8, 0) == 0, "a message up to the edge isn't sent");
     expect(refused(msgsnd(id, last, 9, 0), EFAULT) && refused(msgsnd(id, NULL, 5, 0), EFAULT),
         "msgsnd: EFAULT");
+    expect(refused(msgsnd(id, last + 9, 0, 0), EFAULT), "msgsnd: EFAULT for a part of the type");
     expect(stat_of(id).msg_qnum == 1, "a message of nowhere was sent");
     expect(refused(msgrcv(id, NULL, 5, 0, 0), EFAULT) && stat_of(id).msg_qnum == 1,
         "msgrcv: EFAULT, and it stays");
+    expect(connection() == before, "EFAULT ends the connection");
     expect(msgrcv(id, last, 8192, 0, 0) == 8,
         "a short text isn't received into the room that is there");
     send_text(id, 1);
     expect(refused(msgrcv(id, constant, 5, 0, 0), EFAULT), "msgrcv: EFAULT for constant memory");
+    msgsnd(id, &(struct message){1, "text"}, 64, 0);
+    expect(refused(msgrcv(id, last, 64, 0, 0), EFAULT) && stat_of(id).msg_qnum == 0,
+        "msgrcv: EFAULT for a text that goes on past the edge");
+    send_text(id, 1);
+    expect(refused(msgrcv(id, last + 9, 5, 0, 0), EFAULT) && stat_of(id).msg_qnum == 0,
+        "msgrcv: EFAULT for a part of the type");
     expect(refused(msgctl(id, IPC_STAT, NULL), EFAULT)
                && refused(msgctl(id, IPC_STAT, constant), EFAULT)
                && refused(msgctl(id, IPC_SET, (void *)last), EFAULT)
@@ -604,6 +641,7 @@ static void bad_replies(const char *path)
     one_bad_reply(listener, "too short", "\0\0\0\2\2\1", 6);
     one_bad_reply(listener, "too long", "\xff\xff\xff\xff\2\1\0\0\0\0\0", 11);
     one_bad_reply(listener, "more than a reply", "\0\0\0\7\2\1\0\0\0\0\5\0", 12);
+    one_bad_reply(listener, "a negative identifier", "\0\0\0\7\2\1\0\xff\0\0\0", 11);
 }
 
 static void half_reply(const char *path)
@@ -638,12 +676,27 @@ static void idle(void)
     expect(send_text(id, 1) == 0 && receive_text(id, 1, 0) == 4, "the next call doesn't connect");
 }
 
-/* The standard error is a pipe that nobody reads. */
 static void no_server(void)
 {
-    int pipe_ends[2];
-    expect(pipe(pipe_ends) == 0 && close(pipe_ends[0]) == 0 && dup2(pipe_ends[1], 2) == 2, "pipe");
     expect(refused(msgget(1, 0), EIO) && refused(msgget(1, 0), EIO), "EIO");
+}
+
+/* The standard error is a pipe from the start, and nobody reads it any more. */
+static void unread_error(void)
+{
+    while (poll(&(struct pollfd){.fd = STDERR_FILENO}, 1, 1000) == 0)
+        ;
+    no_server();
+}
+
+/* A file has the number of the standard error, which was closed before or is closed here. */
+static void error_is_file(const char *path)
+{
+    struct stat found;
+    close(STDERR_FILENO);
+    expect(open(path, O_RDWR | O_CREAT, 0600) == STDERR_FILENO, "open");
+    no_server();
+    expect(fstat(STDERR_FILENO, &found) == 0 && found.st_size == 0, "the line is in the file");
 }
 
 static const struct {
@@ -658,6 +711,7 @@ static const struct {
     {"cancel", cancels},
     {"cancel-disabled", cancels_disabled},
     {"vfork", vforks},
+    {"raw-fork", raw_forks},
     {"call-in-handler", calls_in_handler},
     {"many-handlers", many_handlers},
     {"fork-in-handler", forks_in_handler},
@@ -667,10 +721,12 @@ static const struct {
     {"descriptors", descriptors},
     {"few-descriptors", few_descriptors},
     {"user", changes_user},
+    {"two-users", changes_between_users},
     {"bad-pointers", bad_pointers},
     {"tables", tables},
     {"idle", idle},
     {"no-server", no_server},
+    {"unread-error", unread_error},
     {"wait-for-worker", waits_for_worker},
 };
 
@@ -678,7 +734,11 @@ static const struct {
     const char *name;
     void (*run)(const char *);
 } WITH_SERVER[] = {
-    {"bad-replies", bad_replies}, {"half-reply", half_reply}, {"server-gone", server_gone}};
+    {"bad-replies", bad_replies},
+    {"half-reply", half_reply},
+    {"server-gone", server_gone},
+    {"error-is-file", error_is_file},
+};
 
 int main(int count, char **words)
 {
