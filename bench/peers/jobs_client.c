@@ -1,14 +1,14 @@
 /* N senders and N receivers on one queue of a server, each a process with a connection of its own to a Unix socket.
  *   jobs_client WAY PATH PAIRS MILLISECONDS PID
- * WAY is sysvmsg (a send, and a receive that waits), redis (LPUSH, BRPOP) or beanstalkd (put, reserve, delete). PAIRS is N,
- * 1 to 127. PID is the server's process. The queue must be new or empty.
+ * WAY is sysvmsg (a send; a receive that waits), redis (LPUSH; BRPOP) or beanstalkd (put; reserve and delete). PAIRS is
+ * N, 1 to 127. PID is the process of the server. Its queue must be new or empty.
  *
- * The receivers wait before the first send. The senders send messages of 64 bytes for the given time, each as soon as it
- * has the reply to the one before. Then one message per receiver, behind all others, ends the receivers. It prints
- * the messages per second, from the first send to the last receipt; the 99th percentile of the microseconds from a send to
- * its receipt; and the microseconds of processor time that the server used per message. It prints an error instead and
- * ends with status 1 if a message was lost, came twice or was never sent, if a client failed, or if the run is not over
- * 15 seconds after it should have sent all.
+ * The receivers wait before the first send. The senders send messages of 64 bytes for the given time, each as soon as
+ * it has the reply to its last message. Then one message per receiver, behind all others, ends the receivers. It prints
+ * the messages per second, from the first send to the last receipt; the 99th percentile of the time from a send to its
+ * receipt, in microseconds; and the processor time of the server per message, in microseconds. It prints an error
+ * instead and ends with status 1 if a message was lost, came twice or was never sent, if a client failed, or if the run
+ * is not over 16 seconds after the end of the sending.
  */
 #define _GNU_SOURCE
 #include <inttypes.h>
@@ -278,8 +278,10 @@ static void when_child_ended(int signal) {
     _exit(1);
 }
 
-/* The clients, by number: first the receivers, then the senders. Each reports that it is ready; senders await the start. */
-static void client(const struct way *way, const char *path, int which, int pairs, int64_t milliseconds, const int *ready, const int *go) {
+/* A client, by its number: first come the receivers, then the senders. It reports that it is ready, and a sender awaits
+ * the start. */
+static void client(const struct way *way, const char *path, int which, int pairs, int64_t milliseconds,
+                   const int *ready, const int *go) {
     struct peer peer = {0};
     char byte = 0;
     prctl(PR_SET_PDEATHSIG, SIGKILL);
@@ -360,7 +362,8 @@ static size_t judge(int pairs, int64_t *delays) {
         }
     }
     if (found != sent || twice + strange > 0 || sent == 0) {
-        fprintf(stderr, "jobs: %s: of %zu messages %zu lost, %zu came twice, %zu were never sent\n", doing, sent, sent - found, twice, strange);
+        fprintf(stderr, "jobs: %s: of %zu messages %zu lost, %zu came twice, %zu were never sent\n", doing, sent,
+                sent - found, twice, strange);
         exit(1);
     }
     return got;
@@ -377,8 +380,8 @@ static void report(int pairs, int64_t processor) {
     if (delays == NULL) fail("no memory");
     size_t count = judge(pairs, delays);
     qsort(delays, count, sizeof *delays, by_size);
-    printf("%.0f %.1f %.2f\n", (double)count * 1e9 / (double)(last - shared->start), (double)delays[count - count / 100 - 1] / 1e3,
-           (double)processor / 1e3 / (double)count);
+    printf("%.0f %.1f %.2f\n", (double)count * 1e9 / (double)(last - shared->start),
+           (double)delays[count - count / 100 - 1] / 1e3, (double)processor / 1e3 / (double)count);
 }
 
 int main(int argc, char **argv) {
@@ -399,7 +402,8 @@ int main(int argc, char **argv) {
     shared = mmap(NULL, room, PROT_READ | PROT_WRITE, MAP_SHARED | MAP_ANONYMOUS | MAP_NORESERVE, -1, 0);
     if (shared == MAP_FAILED) fail("no memory");
     int limit = milliseconds / 1000 + 1 + GRACE;
-    snprintf(too_long, sizeof too_long, "jobs: %s: not over after %d seconds: a message is lost, or the server is stuck\n", doing, limit);
+    snprintf(too_long, sizeof too_long,
+             "jobs: %s: not over after %d seconds: a message is lost, or the server is stuck\n", doing, limit);
     signal(SIGALRM, when_too_long);
     alarm((unsigned)limit);
     report(pairs, run(way, argv[2], pairs, milliseconds, server));
