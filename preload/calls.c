@@ -127,7 +127,7 @@ EXPORTED ssize_t msgrcv(int id, void *message, size_t size, long type, int flags
     pthread_testcancel();
     if (size > SSIZE_MAX || flags & MSG_COPY)
         return outcome(EINVAL);
-    /* It is refused before a message is taken that could not be given. */
+    /* A null pointer is refused before a message is taken that could not be given. */
     if (!message)
         return outcome(EFAULT);
     size = size < TEXT_MAX ? size : TEXT_MAX;
