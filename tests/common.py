@@ -257,8 +257,8 @@ def trial(name=None):
 
 def why(error):
     """Where in the script a trial failed, and how."""
-    places = [place for place in traceback.extract_tb(error.__traceback__) if place.filename != __file__]
-    own = [place for place in places if os.path.abspath(place.filename).startswith(TOP)]
+    places = traceback.extract_tb(error.__traceback__)
+    own = [place for place in places if os.path.abspath(place.filename).startswith(TOP) and place.filename != __file__]
     place = (own or places)[-1]
     how = type(error).__name__ + ": " * bool(str(error)) + str(error)
     return "line %d: %s: %s" % (place.lineno, place.line, " ".join(how.split()))
@@ -283,15 +283,19 @@ def run_trial(name, function, trial, seconds):
         trial.end()
 
 
-def run_trials(seconds=150):
+def run_trials(seconds=100):
     """Runs the script's trials one after another: those whose names have the words of the command line in them, all if
-    there are none. Returns the status with which the script ends. Whatever ends it, it leaves no process and no folder."""
+    there are none. Returns the status with which the script ends. Whatever ends it, it leaves no process, and no folder
+    unless it is killed."""
+    chosen = [(name, function) for name, function in TRIALS
+              if all(word in (name or function.__name__.replace("_", " ")) for word in sys.argv[1:])]
+    if not chosen:
+        sys.exit("no trial has these words in its name")
     for number in signal.SIGTERM, signal.SIGHUP:
         signal.signal(number, lambda *_: sys.exit(1))
     program, report = os.path.realpath(built_program()), Report()
-    for name, function in TRIALS:
-        if all(word in (name or function.__name__) for word in sys.argv[1:]):
-            with tempfile.TemporaryDirectory() as folder:
-                os.chmod(folder, 0o755)
-                run_trial(name, function, Trial(program, folder, report), seconds)
+    for name, function in chosen:
+        with tempfile.TemporaryDirectory() as folder:
+            os.chmod(folder, 0o755)
+            run_trial(name, function, Trial(program, folder, report), seconds)
     return report.status()

@@ -26,17 +26,24 @@ use Rattle.sysv_bank.specs.contracts.bank.Bank.TheInside as within
 
 ruleset fields = (sendable, crosses, declared_sync, as_row_sync, door_sync)
 
-pub bank_seat_send : (O C R : RattleType) (g : Ghosts O.Denot C.Denot R.Denot) → IsSend O → IsSend (seat.the_row O C R g)
+pub bank_seat_send : (O C R : RattleType) (g : Ghosts O.Denot C.Denot R.Denot) → IsSend O →
+    IsSend (seat.the_row O C R g)
 bank_seat_send O C R g s = view_send (inside.the_row O C R g) _ _ _ _
     (declared_send (inside.the_type O C R g) (
-      as_row_send (token.the_field (option.the_row (place.the_row O C R)) (sight.the_row O C R)) (tokens.the_send (option.the_row (place.the_row O C R)) (sight.the_row O C R) (spot_send O C R s)),
+      as_row_send (token.the_field (option.the_row (place.the_row O C R)) (sight.the_row O C R))
+          (tokens.the_send (option.the_row (place.the_row O C R)) (sight.the_row O C R) (spot_send O C R s)),
       (as_row_send (snapshot.the_field (hall_key.the_row O)) (snapshot_send (hall_key.the_row O)), tt),
     ))
 
-pub bank_sync : (O C R : RattleType) (g : Ghosts O.Denot C.Denot R.Denot) → IsSend O → IsSync O → IsSync (bank.the_row O C R g)
+pub bank_sync : (O C R : RattleType) (g : Ghosts O.Denot C.Denot R.Denot) → IsSend O → IsSync O →
+    IsSync (bank.the_row O C R g)
 bank_sync O C R g s y = view_sync (within.the_row O C R g) _ _ _ _
     (declared_sync (within.the_type O C R g) (
-      tables.the_sync (option.the_row (place.the_row O C R)) (sight.the_row O C R) (hall_key.the_row O) (hall_rule.the_row O) heap.the_row
-          (record { holds = λ k. InOrder (Moves g.meaning g.counted) g.counted k.openings.value.items k.first; first = λ k. outset k.openings.value.items k.first }) _ (spot_send O C R s) heaps.the_send heaps.the_sync frees,
+      tables.the_sync (option.the_row (place.the_row O C R)) (sight.the_row O C R) (hall_key.the_row O)
+          (hall_rule.the_row O) heap.the_row
+          (record {
+            holds = λ k. InOrder (Moves g.meaning g.counted) g.counted k.openings.value.items k.first;
+            first = λ k. outset k.openings.value.items k.first;
+          }) _ (spot_send O C R s) heaps.the_send heaps.the_sync frees,
       (hall_key_sync O, (search fields depth 30, (search fields depth 30, tt))),
     ))

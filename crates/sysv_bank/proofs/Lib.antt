@@ -1,7 +1,7 @@
 pub mod Places
-pub mod Owning
-pub mod Calling
+pub mod OwnTurns
+pub mod PassAfterCall
 pub mod Passes
-pub mod Coming
-pub mod Ending
+pub mod SeatsMade
+pub mod ClosedBank
 pub mod Crossing

@@ -14,7 +14,8 @@ on_ok (Ok x) P Q is goes = goes is
 on_ok (Err e) P Q is goes = tt
 
 -- What holds of a result, and of each successful one.
-pub both_ok : {T E : Type 0} (r : Result T E) (P : T → Type 0) (Q S : Type 0) → IfOk r P → OnOk r Q → ((x : T) → P x → Q → S) → OnOk r S
+pub both_ok : {T E : Type 0} (r : Result T E) (P : T → Type 0) (Q S : Type 0) → IfOk r P → OnOk r Q →
+    ((x : T) → P x → Q → S) → OnOk r S
 both_ok (Ok x) P Q S is on goes = goes x is on
 both_ok (Err e) P Q S is on goes = tt
 

@@ -43,8 +43,10 @@ module _ {O C R : Type 0} where
   EachKnowsItsOwn moves seats = (place : ℕ) (h : Holding O C R) → get_elem? seats place ≡ some h → KnowsItsOwn moves h
 
 -- Every object to which legal turns lead at the place accepts the call.
-abbrev pub AcceptsAt : {O C R : Type 0} → (O → C → R → O → Type 0) → (O → C → Type 0) → ℕ → List (Gateway O) → C → Type 0
-AcceptsAt {O} moves accepts place gates call = (gate : Gateway O) → get_elem? gates place ≡ some gate → IsAccepted moves accepts gate.opening call
+abbrev pub AcceptsAt : {O C R : Type 0} → (O → C → R → O → Type 0) → (O → C → Type 0) → ℕ → List (Gateway O) → C →
+    Type 0
+AcceptsAt {O} moves accepts place gates call =
+    (gate : Gateway O) → get_elem? gates place ≡ some gate → IsAccepted moves accepts gate.opening call
 
 module _ {O : Type 0} where
   -- The gates were opened with these objects, in order, and with this first ticket.

@@ -18,11 +18,14 @@ use Rattle.sysv_bank.specs.Passes.{Pass}
 -- No number of the pass occurs twice. If the pass has the whole bank as its share, so that no other
 -- pass is left, it had seen the whole order, each turn was made under one of its numbers, and each
 -- place has returned its object.
-pub record ClosesInOrder {O C R : Type 0} (moves : O → C → R → O → Type 0) (pass : Pass O C R) (closings : List (Closing O)) : Type 0 where
+pub record ClosesInOrder {O C R : Type 0} (moves : O → C → R → O → Type 0) (pass : Pass O C R)
+    (closings : List (Closing O)) : Type 0 where
   pub order : List (Placed O C R)
   pub longer : IsPrefixOf pass.order order
   pub strangers : NoneMadeUnder pass.numbers longer.0
   pub apart : NoneTwice pass.numbers
-  pub home : IsWhole pass.shares → (order ≡ pass.order) × AllMadeUnder pass.numbers order × AllByRecursion IsBack closings
+  pub home : IsWhole pass.shares →
+      (order ≡ pass.order) × AllMadeUnder pass.numbers order × AllByRecursion IsBack closings
   pub below : AreBelow (length pass.seats) order
-  pub each : (place : ℕ) (h : Holding O C R) (c : Closing O) → get_elem? pass.seats place ≡ some h → get_elem? closings place ≡ some c → (closes : Closes moves h c) × (closes.log ≡ turns_at place order)
+  pub each : (place : ℕ) (h : Holding O C R) (c : Closing O) → get_elem? pass.seats place ≡ some h →
+      get_elem? closings place ≡ some c → (closes : Closes moves h c) × (closes.log ≡ turns_at place order)

@@ -12,4 +12,5 @@ use Rattle.sysv_gate.specs.Halls.{InOrder}
 abbrev pub OneOrder : {O C R : Type 0} → (O → C → R → O → Type 0) → (O → ℕ × ℕ) → Type 0
 OneOrder {O} {C} {R} moves counted =
     (openings : List O) (first : ℕ) (s : State (Spot O C R) (Sight O C R)) → InOrder moves counted openings first s
-    → (i k : ℕ) (v w : Sight O C R) → get_elem? s.views i ≡ some v → get_elem? s.views k ≡ some w → IsPrefixOf w.seen v.seen ⊎ IsPrefixOf v.seen w.seen
+    → (i k : ℕ) (v w : Sight O C R) → get_elem? s.views i ≡ some v → get_elem? s.views k ≡ some w
+    → IsPrefixOf w.seen v.seen ⊎ IsPrefixOf v.seen w.seen

@@ -78,7 +78,8 @@ module _ {O C R : Type 0} where
 
   -- What was seen at each place is a prefix of that place's part of the order.
   abbrev pub SeenInOrder : Pass O C R → Type 0
-  SeenInOrder pass = (place : ℕ) (h : Holding O C R) → get_elem? pass.seats place ≡ some h → IsPrefixOf h.seen (turns_at place pass.order)
+  SeenInOrder pass = (place : ℕ) (h : Holding O C R) → get_elem? pass.seats place ≡ some h →
+      IsPrefixOf h.seen (turns_at place pass.order)
 
   -- The seat at the place makes its turns under the pass's number, which is one of the pass's
   -- numbers. Its own turns are exactly those of the order there that were made under these numbers.

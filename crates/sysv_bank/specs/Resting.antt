@@ -39,7 +39,8 @@ module _ {O C R : Type 0} where
     pub many : length s.token.me.0.views ≡ length s.key.value.openings.value.items
     pub each : (place : ℕ) (o : O) → get_elem? s.key.value.openings.value.items place ≡ some o
         → RestsThere moves place o s.key.value.first s.token.me.0
-    pub named : (place : ℕ) → place < length s.token.me.0.views → IsNamedAs (view_at 0 s.token.me.0) (view_at place s.token.me.0)
+    pub named : (place : ℕ) → place < length s.token.me.0.views →
+        IsNamedAs (view_at 0 s.token.me.0) (view_at place s.token.me.0)
     pub owns : OwnsInOrder s.token.me.0
 
   -- The token is that of a seat of which contracts see this.

@@ -1,9 +1,9 @@
-pub mod Running
-pub mod Stepping
-pub mod Opening
-pub mod Turning
-pub mod Agreeing
+pub mod CellsOutAndBack
+pub mod StepKeepsRule
+pub mod OpenedMeetsRule
+pub mod ConsumerAfterTake
+pub mod TakenIsPrefix
 pub mod ManySeats
-pub mod ManyStepping
-pub mod ManySeating
-pub mod ManyAgreeing
+pub mod ManyStepKeepsRule
+pub mod ManySplitKeepsRule
+pub mod ManySeatsAgree

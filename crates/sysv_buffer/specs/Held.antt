@@ -8,7 +8,11 @@ use Rattle.sysv_buffer.specs.Ends.{Putting, Taking}
 module _ {T : Type 0} where
   -- What contracts see of a stored producer's end.
   abbrev pub putting : InProducer T → Putting T
-  putting e = record { buffer = record { table = e.token.table_id; room = e.token.table_id.slots }; put = e.token.me.0.put; gone = e.token.me.0.taken }
+  putting e = record {
+    buffer = record { table = e.token.table_id; room = e.token.table_id.slots };
+    put = e.token.me.0.put;
+    gone = e.token.me.0.taken;
+  }
 
   -- The condition of a producer's end between two calls.
   pub record IsProducer (e : InProducer T) : Type 0 where
@@ -18,7 +22,11 @@ module _ {T : Type 0} where
 
   -- What contracts see of a stored consumer's end.
   abbrev pub taking : InConsumer T → Taking T
-  taking e = record { buffer = record { table = e.token.table_id; room = e.token.table_id.slots }; taken = take e.token.me.0.taken e.token.me.0.put; seen = e.token.me.0.put }
+  taking e = record {
+    buffer = record { table = e.token.table_id; room = e.token.table_id.slots };
+    taken = take e.token.me.0.taken e.token.me.0.put;
+    seen = e.token.me.0.put;
+  }
 
   -- The condition of a consumer's end between two calls.
   pub record IsConsumer (e : InConsumer T) : Type 0 where

@@ -11,5 +11,6 @@ use Rattle.sysv_buffer.specs.Ring.{Kept}
 -- most the number of cells.
 abbrev pub TakenIsABeginning : Type 0 → Type 0
 TakenIsABeginning T =
-    (s : State (Option T) (View T)) → Kept s → (i k : ℕ) (p c : View T) → get_elem? s.views i ≡ some p → p.role ≡ Producer → get_elem? s.views k ≡ some c → c.role ≡ Consumer
+    (s : State (Option T) (View T)) → Kept s → (i k : ℕ) (p c : View T) → get_elem? s.views i ≡ some p
+    → p.role ≡ Producer → get_elem? s.views k ≡ some c → c.role ≡ Consumer
     → (rest : List T) × (p.put ≡ take c.taken c.put ++ rest) × (length rest ≤ length s.homes)

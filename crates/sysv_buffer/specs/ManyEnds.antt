@@ -75,8 +75,10 @@ module _ {T : Type 0} where
   -- `Full` only if every cell had an item, and `Busy` only if a cell was empty; in both cases fewer
   -- than 2^62 items were put. It is `Worn` only if 2^62 items were put.
   abbrev pub GivesBack : T → Holding T → ManyPutRefused T → Type 0
-  GivesBack item after (refused.Full back) = (back ≡ item) × (after.gone + after.buffer.room ≤ length after.seen) × (length after.seen < 2 ^ 62)
-  GivesBack item after (refused.Busy back) = (back ≡ item) × (length after.seen < after.gone + after.buffer.room) × (length after.seen < 2 ^ 62)
+  GivesBack item after (refused.Full back) =
+      (back ≡ item) × (after.gone + after.buffer.room ≤ length after.seen) × (length after.seen < 2 ^ 62)
+  GivesBack item after (refused.Busy back) =
+      (back ≡ item) × (length after.seen < after.gone + after.buffer.room) × (length after.seen < 2 ^ 62)
   GivesBack item after (refused.Worn back) = (back ≡ item) × (2 ^ 62 ≤ length after.seen)
 
   -- The refusal describes the buffer by the counts that were loaded. It is `Empty` only if all

@@ -3,7 +3,8 @@
 -- OUT, as in a `OneBuffer`. Word 32 is the sequencer of the puts, and word 48 is the sequencer of
 -- the takes. Each is the next ticket, and a ticket is the place of one item. The cells keep the
 -- rule of a `OneBuffer` whose one producer and one consumer make all puts and takes.
-use Rattle.std.specs.Prelude.{◌≡◌, ℕ, ◌+◌, ◌^◌, ◌<◌, ◌≤◌, true, false, cond, List, [], ◌∷◌, length, slice_index, sum_by, Option}
+use Rattle.std.specs.Prelude.{◌≡◌, ℕ, ◌+◌, ◌^◌, ◌<◌, ◌≤◌, true, false, cond, List, [], ◌∷◌, length, slice_index, sum_by}
+use Rattle.std.specs.Prelude.{Option}
 use mathlib.Core.Option.{some}
 use lib.ListN.{get_elem?}
 use Rattle.atomic_table.specs.Table.{State}
@@ -44,7 +45,8 @@ module _ {T : Type 0} where
     pub empties : v.empties ≡ true → (v.take_ticket ≡ taken ∷ []) × (c.holds ≡ true) × (taken < length v.seen)
 
   -- All seats together. No place is used twice, and none before its ticket is drawn.
-  pub record Seated (put : List T) (taken : ℕ) (p c : View T) (next_put next_take : ℕ) (views : List (Sight T)) : Type 0 where
+  pub record Seated (put : List T) (taken : ℕ) (p c : View T) (next_put next_take : ℕ)
+      (views : List (Sight T)) : Type 0 where
     pub each : (i : ℕ) (v : Sight T) → get_elem? views i ≡ some v → Knows put taken p c v
     pub put_once : (k : ℕ) → sum_by (put_at k) views ≤ 1
     pub put_later : (k : ℕ) → next_put ≤ k → sum_by (put_at k) views ≡ 0
@@ -70,4 +72,14 @@ module _ {T : Type 0} where
 
   -- What the first seat knows.
   abbrev pub first_sight : Sight T
-  first_sight = record { seen = []; told = []; gone = 0; puts = []; takes = []; put_ticket = []; take_ticket = []; fills = false; empties = false }
+  first_sight = record {
+    seen = [];
+    told = [];
+    gone = 0;
+    puts = [];
+    takes = [];
+    put_ticket = [];
+    take_ticket = [];
+    fills = false;
+    empties = false;
+  }

@@ -1,6 +1,7 @@
 -- What a seat of a `ManyBuffer` learns from each kind of step that it makes. This project's
 -- profile.
-use Rattle.std.specs.Prelude.{◌≡◌, ℕ, ◌+◌, ◌%◌, ◌^◌, ◌<◌, ◌≤◌, true, false, List, [], ◌∷◌, ◌++◌, length, max, Option, Some, None}
+use Rattle.std.specs.Prelude.{◌≡◌, ℕ, ◌+◌, ◌%◌, ◌^◌, ◌<◌, ◌≤◌, true, false, List, [], ◌∷◌, ◌++◌, length, max, Option}
+use Rattle.std.specs.Prelude.{Some, None}
 use mathlib.Core.Option.{some}
 use lib.ListN.{get_elem?}
 use Rattle.atomic_table.specs.Table.{Me, Step, rest}
@@ -21,12 +22,14 @@ module _ {T : Type 0} where
   -- The compare-exchange that draws a ticket for a put. If it does not find the expected ticket,
   -- nothing changes.
   abbrev pub DrawsPut : At T → Own T → ℕ → Own T → Type 0
-  DrawsPut st m n m' = (n ≡ st.first → m' ≡ (record m.0 { put_ticket = st.first ∷ [] }, m.1)) × (¬ (n ≡ st.first) → m' ≡ m)
+  DrawsPut st m n m' =
+      (n ≡ st.first → m' ≡ (record m.0 { put_ticket = st.first ∷ [] }, m.1)) × (¬ (n ≡ st.first) → m' ≡ m)
 
   -- The compare-exchange that draws a ticket for a take. If it does not find the expected ticket,
   -- nothing changes.
   abbrev pub DrawsTake : At T → Own T → ℕ → Own T → Type 0
-  DrawsTake st m n m' = (n ≡ st.first → m' ≡ (record m.0 { take_ticket = st.first ∷ [] }, m.1)) × (¬ (n ≡ st.first) → m' ≡ m)
+  DrawsTake st m n m' =
+      (n ≡ st.first → m' ≡ (record m.0 { take_ticket = st.first ∷ [] }, m.1)) × (¬ (n ≡ st.first) → m' ≡ m)
 
   -- No place is in the list twice, and each place is one of an item put.
   pub record AreOnce (put : List T) (places : List ℕ) : Type 0 where
@@ -79,7 +82,8 @@ module _ {T : Type 0} where
   abbrev pub placed : Sight T → List (ℕ × Option T) → Sight T
   placed v [] = v
   placed v ((k, None) ∷ xs) = v
-  placed v ((k, Some x) ∷ xs) = record v { seen = v.seen ++ x ∷ []; puts = v.puts ++ length v.seen ∷ []; put_ticket = []; fills = false }
+  placed v ((k, Some x) ∷ xs) =
+      record v { seen = v.seen ++ x ∷ []; puts = v.puts ++ length v.seen ∷ []; put_ticket = []; fills = false }
 
   -- The addition to IN, which returns the cell to the table.
   abbrev pub Places : At T → Own T → ℕ → Own T → Type 0
@@ -87,7 +91,8 @@ module _ {T : Type 0} where
 
   -- The addition to OUT, which returns the empty cell to the table.
   abbrev pub Removes : At T → Own T → ℕ → Own T → Type 0
-  Removes st m n m' = m' ≡ (record m.0 { takes = m.0.takes ++ m.0.take_ticket; take_ticket = []; empties = false }, rest m.1)
+  Removes st m n m' =
+      m' ≡ (record m.0 { takes = m.0.takes ++ m.0.take_ticket; take_ticket = []; empties = false }, rest m.1)
 
   -- What a split makes: a seat that has seen the same, and has put and taken nothing.
   abbrev pub beside : Sight T → Sight T
@@ -96,4 +101,5 @@ module _ {T : Type 0} where
   -- What a seat knows after another was joined into it: it is told what the other had seen, and has
   -- seen taken what either had.
   abbrev pub both_of : Sight T → Sight T → Sight T
-  both_of v w = record v { told = w.seen; gone = max v.gone w.gone; puts = v.puts ++ w.puts; takes = v.takes ++ w.takes }
+  both_of v w =
+      record v { told = w.seen; gone = max v.gone w.gone; puts = v.puts ++ w.puts; takes = v.takes ++ w.takes }

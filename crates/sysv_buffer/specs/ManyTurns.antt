@@ -1,6 +1,7 @@
 -- What the parts of a call require of a seat of a `ManyBuffer`, and what they leave. This project's
 -- profile.
-use Rattle.std.specs.Prelude.{◌≡◌, ◌⊎◌, ℕ, ◌+◌, ◌%◌, ◌<◌, ◌≤◌, ◌^◌, true, false, List, [], ◌∷◌, ◌++◌, length, Option, None, Some}
+use Rattle.std.specs.Prelude.{◌≡◌, ◌⊎◌, ℕ, ◌+◌, ◌%◌, ◌<◌, ◌≤◌, ◌^◌, true, false, List, [], ◌∷◌, ◌++◌, length, Option}
+use Rattle.std.specs.Prelude.{None, Some}
 use mathlib.Core.Option.{some}
 use lib.ListN.{get_elem?}
 use Rattle.atomic_table.specs.declared.shared.Seat.{Seat}
@@ -61,8 +62,10 @@ module _ {T : Type 0} where
   -- the buffer is worn out. `Full` holds the number of items taken, and `Busy` that of items put.
   abbrev pub FindsRoom : ℕ → Own T → Room → Own T → Type 0
   FindsRoom slots m (room.Cell cell) m' = HasRoom slots cell m' × Keeps m.0 m'.0
-  FindsRoom slots m (room.Full out) m' = Waits [] [] m' × Keeps m.0 m'.0 × (out ≡ m'.0.gone) × (m'.0.gone + slots ≤ length m'.0.seen) × (length m'.0.seen < 2 ^ 62)
-  FindsRoom slots m (room.Busy count) m' = Waits [] [] m' × Keeps m.0 m'.0 × (count ≡ length m'.0.seen) × (length m'.0.seen < m'.0.gone + slots) × (length m'.0.seen < 2 ^ 62)
+  FindsRoom slots m (room.Full out) m' = Waits [] [] m' × Keeps m.0 m'.0 × (out ≡ m'.0.gone)
+      × (m'.0.gone + slots ≤ length m'.0.seen) × (length m'.0.seen < 2 ^ 62)
+  FindsRoom slots m (room.Busy count) m' = Waits [] [] m' × Keeps m.0 m'.0 × (count ≡ length m'.0.seen)
+      × (length m'.0.seen < m'.0.gone + slots) × (length m'.0.seen < 2 ^ 62)
   FindsRoom slots m room.Worn m' = Waits [] [] m' × Keeps m.0 m'.0 × (2 ^ 62 ≤ length m'.0.seen)
 
   -- What a try for an item finds: the seat holds the cell of the item at its place; or, by the
@@ -70,8 +73,10 @@ module _ {T : Type 0} where
   -- the buffer is worn out. `Empty` holds the number of items put, and `Busy` that of items taken.
   abbrev pub FindsItem : ℕ → Own T → Next → Own T → Type 0
   FindsItem slots m (next.Cell cell) m' = HasItem slots cell m' × Keeps m.0 m'.0
-  FindsItem slots m (next.Empty count) m' = Waits [] [] m' × Keeps m.0 m'.0 × (count ≡ length m'.0.seen) × (length m'.0.seen ≤ m'.0.gone) × (m'.0.gone < 2 ^ 62)
-  FindsItem slots m (next.Busy count) m' = Waits [] [] m' × Keeps m.0 m'.0 × (count ≡ m'.0.gone) × (m'.0.gone < length m'.0.seen) × (m'.0.gone < 2 ^ 62)
+  FindsItem slots m (next.Empty count) m' = Waits [] [] m' × Keeps m.0 m'.0 × (count ≡ length m'.0.seen)
+      × (length m'.0.seen ≤ m'.0.gone) × (m'.0.gone < 2 ^ 62)
+  FindsItem slots m (next.Busy count) m' =
+      Waits [] [] m' × Keeps m.0 m'.0 × (count ≡ m'.0.gone) × (m'.0.gone < length m'.0.seen) × (m'.0.gone < 2 ^ 62)
   FindsItem slots m next.Worn m' = Waits [] [] m' × Keeps m.0 m'.0 × (2 ^ 62 ≤ m'.0.gone)
 
   -- The number that was found is the value of the word that the seat saw last. The word is OUT if

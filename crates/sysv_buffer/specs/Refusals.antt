@@ -11,7 +11,8 @@ use Rattle.sysv_buffer.specs.declared.refusals.TakeRefused.TheVariants as taken
 -- has seen items taken, and fewer than 2^62 items were put. It is `Worn` only if 2^62 items were
 -- put.
 abbrev pub HandsBack : {T : Type 0} → T → Putting T → PutRefused T → Type 0
-HandsBack item after (put.Full back) = (back ≡ item) × (after.gone + after.buffer.room ≤ length after.put) × (length after.put < 2 ^ 62)
+HandsBack item after (put.Full back) =
+    (back ≡ item) × (after.gone + after.buffer.room ≤ length after.put) × (length after.put < 2 ^ 62)
 HandsBack item after (put.Worn back) = (back ≡ item) × (2 ^ 62 ≤ length after.put)
 
 -- A refused take is `Empty` only if all items put, as far as the end has seen them, were taken, and

@@ -2,7 +2,8 @@
 -- with Eventcounts and Sequencers", Communications of the ACM, 1979). Word 0 is IN, the number of
 -- items put, and word 16 is OUT, the number of items taken. They are 128 bytes apart, so that they
 -- share no cache line. Item i is in cell i mod n.
-use Rattle.std.specs.Prelude.{◌≡◌, ◌≢◌, ◌⊎◌, ℕ, ◌+◌, ◌%◌, ◌^◌, ◌<◌, ◌≤◌, true, false, List, [], ◌∷◌, length, slice_index, Option, Some, None}
+use Rattle.std.specs.Prelude.{◌≡◌, ◌≢◌, ◌⊎◌, ℕ, ◌+◌, ◌%◌, ◌^◌, ◌<◌, ◌≤◌, true, false, List, [], ◌∷◌, length}
+use Rattle.std.specs.Prelude.{slice_index, Option, Some, None}
 use mathlib.Core.Option.{some}
 use mathlib.Core.Option as maybe
 use lib.ListN.{get_elem?}
@@ -36,9 +37,11 @@ module _ {T : Type 0} where
     pub known : taken ≤ length c.put
     pub may_take : c.holds ≡ true → taken < length c.put
     -- A queued item is in its cell, except one whose cell the consumer holds.
-    pub full : (i : ℕ) (x : T) → taken ≤ i → get_elem? put i ≡ some x → (c.holds ≡ true → i ≢ taken) → get_elem? homes (i % n) ≡ some (some (Some x))
+    pub full : (i : ℕ) (x : T) → taken ≤ i → get_elem? put i ≡ some x → (c.holds ≡ true → i ≢ taken) →
+        get_elem? homes (i % n) ≡ some (some (Some x))
     -- Every other cell is empty, except one that the producer holds.
-    pub free : (i : ℕ) → length put ≤ i → i < taken + n → (p.holds ≡ true → i ≢ length put) → get_elem? homes (i % n) ≡ some (some None)
+    pub free : (i : ℕ) → length put ≤ i → i < taken + n → (p.holds ≡ true → i ≢ length put) →
+        get_elem? homes (i % n) ≡ some (some None)
 
   -- The words are the numbers of items put and taken, and the views are those of the two ends.
   pub record Going (s : State (Option T) (View T)) : Type 0 where

@@ -71,7 +71,8 @@ module _ {T : Type 0} where
   -- an item. If there is none, the number of items put is the number that the consumer has taken,
   -- and it has seen no more items than that.
   abbrev pub Looks : At T → Mine T → ℕ → Mine T → Type 0
-  Looks st m n m' = (m.0.taken < n → Grabs st.slots m m') × (n ≤ m.0.taken → (m' ≡ m) × (n ≡ m.0.taken) × (length m.0.put ≤ m.0.taken))
+  Looks st m n m' = (m.0.taken < n → Grabs st.slots m m')
+      × (n ≤ m.0.taken → (m' ≡ m) × (n ≡ m.0.taken) × (length m.0.put ≤ m.0.taken))
 
   -- The consumer's addition to OUT, which returns the empty cell to the table.
   abbrev pub Takes : At T → Mine T → ℕ → Mine T → Type 0

@@ -45,7 +45,8 @@ module _ {T : Type 0} where
   -- seen items taken, and the number found is the number of those; or the buffer is worn out.
   abbrev pub Reached : ℕ → List T → Reach → Mine T → Type 0
   Reached slots put (Room cell) m = HasRoom slots cell put m
-  Reached slots put (Full out) m = HasPut put m × (out ≡ m.0.taken) × (m.0.taken + slots ≤ length put) × (length put < 2 ^ 62)
+  Reached slots put (Full out) m =
+      HasPut put m × (out ≡ m.0.taken) × (m.0.taken + slots ≤ length put) × (length put < 2 ^ 62)
   Reached slots put WornOut m = HasPut put m × (2 ^ 62 ≤ length put)
 
   -- What the consumer found: it holds the cell of the next item; or it has taken all items put, and
@@ -61,4 +62,5 @@ module _ {T : Type 0} where
   abbrev pub IsStuck : ℕ → ℕ → ℕ → Mine T → Type 0
   IsStuck slots word found m =
       (found ≡ m.0.taken)
-      × (((word ≡ 16) × (m.0.role ≡ Producer) × (m.0.taken + slots ≤ length m.0.put)) ⊎ ((word ≡ 0) × (m.0.role ≡ Consumer)))
+      × (((word ≡ 16) × (m.0.role ≡ Producer) × (m.0.taken + slots ≤ length m.0.put))
+      ⊎ ((word ≡ 0) × (m.0.role ≡ Consumer)))

@@ -26,7 +26,7 @@ pub(crate) type Board<T> = Table<Option<T>, View<T>, (), Buffering<T>, Global>;
 /// The right to make steps on the table.
 pub(crate) type Token<T> = atomic_table::Seat<Option<T>, View<T>>;
 
-// Allocates a row of `cells` empty cells.
+/// Allocates a row of `cells` empty cells.
 pub(crate) fn empty_cells<T: Drop>(alloc: Global, cells: usize) -> Option<Vec<Option<T>>>
     ensures { IfSome result (λ v. v.items ≡ replicate cells None) }
 {
@@ -39,7 +39,7 @@ pub(crate) fn empty_cells<T: Drop>(alloc: Global, cells: usize) -> Option<Vec<Op
     Some(row)
 }
 
-// Makes the table with its first seat.
+/// Makes the table with its first seat.
 pub(crate) fn lay<T: Drop>(alloc: Global, cells: usize) -> Option<(Board<T>, Token<T>)>
     requires { 0 < cells }
     ensures { IfSome result (λ t. (t.1.me ≡ (start, [])) × (t.1.table_id ≡ t.0.shared.table_id)

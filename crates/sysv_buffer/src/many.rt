@@ -179,7 +179,7 @@ impl<T: Drop> ManyBuffer<T> {
         }
     }
 
-    // Wakes the threads that sleep on this word.
+    /// Wakes the threads that sleep on this word.
     pub(crate) fn wake(&self, word: usize)
         requires { word ≤ 16 }
     {

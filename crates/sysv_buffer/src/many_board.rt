@@ -24,7 +24,7 @@ pub(crate) type Board<T> = Table<Option<T>, Sight<T>, (), Crowding<T>, Global>;
 /// The right to make steps on the table.
 pub(crate) type Token<T> = atomic_table::Seat<Option<T>, Sight<T>>;
 
-// Makes the table with its first seat.
+/// Makes the table with its first seat.
 pub(crate) fn lay<T: Drop>(alloc: Global, cells: usize) -> Option<(Board<T>, Token<T>)>
     requires { 0 < cells }
     ensures { IfSome result (λ t. (t.1.me ≡ (first_sight, []))

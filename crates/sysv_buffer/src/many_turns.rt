@@ -37,8 +37,8 @@ pub(crate) enum Next {
 }
 
 impl<T> ManyBuffer<T> {
-    // If there is an empty cell, draws the ticket whose turn it is and takes the cell out of the
-    // table.
+    /// If there is an empty cell, draws the ticket whose turn it is and takes the cell out of the
+    /// table.
     pub(crate) fn find_room(&self, token: &mut Token<T>) -> Room
         requires table { IsOf self.now token.old }
         requires idle { Waits [] [] token.old.me }
@@ -62,8 +62,8 @@ impl<T> ManyBuffer<T> {
         Room::Cell((count % room) as usize)
     }
 
-    // If there is an item, draws the ticket whose turn it is and takes the item's cell out of the
-    // table.
+    /// If there is an item, draws the ticket whose turn it is and takes the item's cell out of the
+    /// table.
     pub(crate) fn find_item(&self, token: &mut Token<T>) -> Next
         requires table { IsOf self.now token.old }
         requires idle { Waits [] [] token.old.me }
@@ -86,7 +86,7 @@ impl<T> ManyBuffer<T> {
         Next::Cell((count % self.room as u64) as usize)
     }
 
-    // Puts the item into the cell that the seat holds, and returns the cell to the table.
+    /// Puts the item into the cell that the seat holds, and returns the cell to the table.
     pub(crate) fn place(&self, token: &mut Token<T>, cell: usize, item: T)
         requires table { IsOf self.now token.old }
         requires room { HasRoom self.now.room cell token.old.me }
@@ -99,7 +99,7 @@ impl<T> ManyBuffer<T> {
         shared.fetch_add::<Placing>(token, IN, 1);
     }
 
-    // Takes the item from the cell that the seat holds, and returns the cell to the table.
+    /// Takes the item from the cell that the seat holds, and returns the cell to the table.
     pub(crate) fn remove(&self, token: &mut Token<T>, cell: usize) -> T
         requires table { IsOf self.now token.old }
         requires item { HasItem self.now.room cell token.old.me }

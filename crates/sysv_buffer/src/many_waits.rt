@@ -73,9 +73,9 @@ impl<T: Drop> ManyBuffer<T> {
 }
 
 impl<T> ManyBuffer<T> {
-    // Waits until the next ticket for a put is free and a cell is empty, and takes that cell out of
-    // the table. Returns `None` only if 2^62 items were put. It holds no ticket while it waits, so
-    // no thread waits for a thread that sleeps.
+    /// Waits until the next ticket for a put is free and a cell is empty, and takes that cell out
+    /// of the table. Returns `None` only if 2^62 items were put. It holds no ticket while it waits,
+    /// so no thread waits for a thread that sleeps.
     fn await_room(&self, rt: &impl Wait, token: &mut Token<T>) -> Option<usize>
         requires table { IsOf self.now token.old }
         requires idle { Waits [] [] token.old.me }
@@ -96,8 +96,8 @@ impl<T> ManyBuffer<T> {
         unreachable!()
     }
 
-    // Waits until the next ticket for a take is free and an item is in the buffer, and takes the
-    // item's cell out of the table. Returns `None` only if 2^62 items were taken.
+    /// Waits until the next ticket for a take is free and an item is in the buffer, and takes the
+    /// item's cell out of the table. Returns `None` only if 2^62 items were taken.
     fn await_item(&self, rt: &impl Wait, token: &mut Token<T>) -> Option<usize>
         requires table { IsOf self.now token.old }
         requires idle { Waits [] [] token.old.me }
@@ -117,7 +117,7 @@ impl<T> ManyBuffer<T> {
         unreachable!()
     }
 
-    // The number of threads that sleep on this word, IN or OUT.
+    /// The number of threads that sleep on this word, IN or OUT.
     pub(crate) fn sleepers(&self, word: usize) -> &AtomicU64 {
         if word == IN {
             &self.in_sleepers
@@ -126,9 +126,9 @@ impl<T> ManyBuffer<T> {
         }
     }
 
-    // Looks a number of times whether the word has changed from `found`, and then sleeps until a
-    // wake. It registers as a sleeper before it sleeps, so that other threads wake it. The condition
-    // rules out a sleep on a value that the seat did not see last in this word.
+    /// Looks a number of times whether the word has changed from `found`, and then sleeps until a
+    /// wake. It registers as a sleeper before it sleeps, so that other threads wake it. The
+    /// condition rules out a sleep on a value that the seat did not see last in this word.
     fn pause(&self, rt: &impl Wait, token: &Token<T>, word: usize, found: u64)
         requires saw { SawLast word found token.now.me }
     {

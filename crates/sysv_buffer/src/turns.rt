@@ -40,7 +40,7 @@ pub(crate) enum Found {
 }
 
 impl<T> OneBuffer<T> {
-    // Takes the next cell out of the table if a cell is empty.
+    /// Takes the next cell out of the table if a cell is empty.
     pub(crate) fn reach(&self, token: &mut Token<T>) -> Reach
         requires table { IsOf self.now token.old }
         requires idle { IsIdleProducer token.old.me }
@@ -59,7 +59,7 @@ impl<T> OneBuffer<T> {
         Reach::Room((count % room) as usize)
     }
 
-    // Puts the item into the cell that the producer holds, and returns the cell to the table.
+    /// Puts the item into the cell that the producer holds, and returns the cell to the table.
     pub(crate) fn fill(&self, token: &mut Token<T>, cell: usize, item: T)
         requires table { IsOf self.now token.old }
         requires producer { token.old.me.0.role ≡ Producer }
@@ -76,7 +76,7 @@ impl<T> OneBuffer<T> {
         shared.fetch_add::<Putting>(token, IN, 1);
     }
 
-    // Takes the cell of the next item out of the table if there is an item.
+    /// Takes the cell of the next item out of the table if there is an item.
     pub(crate) fn look(&self, token: &mut Token<T>) -> Found
         requires table { IsOf self.now token.old }
         requires idle { IsIdleConsumer token.old.me }
@@ -94,7 +94,7 @@ impl<T> OneBuffer<T> {
         Found::Item((count % self.room as u64) as usize)
     }
 
-    // Takes the item from the cell that the consumer holds, and returns the cell to the table.
+    /// Takes the item from the cell that the consumer holds, and returns the cell to the table.
     pub(crate) fn empty(&self, token: &mut Token<T>, cell: usize) -> T
         requires table { IsOf self.now token.old }
         requires consumer { token.old.me.0.role ≡ Consumer }
@@ -114,7 +114,7 @@ impl<T> OneBuffer<T> {
         item
     }
 
-    // Looks a number of times for an empty cell.
+    /// Looks a number of times for an empty cell.
     fn spin_room(&self, token: &mut Token<T>) -> Reach
         requires table { IsOf self.now token.old }
         requires idle { IsIdleProducer token.old.me }
@@ -132,8 +132,8 @@ impl<T> OneBuffer<T> {
         found
     }
 
-    // Waits for an empty cell, and takes it out of the table. Returns `None` only if 2^62 items
-    // were put.
+    /// Waits for an empty cell, and takes it out of the table. Returns `None` only if 2^62 items
+    /// were put.
     pub(crate) fn await_room(&self, rt: &impl Wait, token: &mut Token<T>) -> Option<usize>
         requires table { IsOf self.now token.old }
         requires idle { IsIdleProducer token.old.me }
@@ -153,7 +153,7 @@ impl<T> OneBuffer<T> {
         unreachable!()
     }
 
-    // Looks a number of times for an item.
+    /// Looks a number of times for an item.
     fn spin_item(&self, token: &mut Token<T>) -> Found
         requires table { IsOf self.now token.old }
         requires idle { IsIdleConsumer token.old.me }
@@ -171,8 +171,8 @@ impl<T> OneBuffer<T> {
         found
     }
 
-    // Waits for an item, and takes its cell out of the table. Returns `None` only if 2^62 items
-    // were taken.
+    /// Waits for an item, and takes its cell out of the table. Returns `None` only if 2^62 items
+    /// were taken.
     pub(crate) fn await_item(&self, rt: &impl Wait, token: &mut Token<T>) -> Option<usize>
         requires table { IsOf self.now token.old }
         requires idle { IsIdleConsumer token.old.me }
@@ -191,9 +191,9 @@ impl<T> OneBuffer<T> {
         unreachable!()
     }
 
-    // Sleeps until a wake if the word still has the value that was found. It registers as a sleeper
-    // before it sleeps, so that the other end wakes it. The condition rules out a sleep on another
-    // word or value.
+    /// Sleeps until a wake if the word still has the value that was found. It registers as a
+    /// sleeper before it sleeps, so that the other end wakes it. The condition rules out a sleep on
+    /// another word or value.
     fn sleep(&self, rt: &impl Wait, token: &Token<T>, word: usize, found: u64)
         requires stuck { IsStuck self.now.room word found token.now.me }
     {
@@ -202,7 +202,7 @@ impl<T> OneBuffer<T> {
         self.sleepers.fetch_sub(1, SeqCst);
     }
 
-    // Wakes the other end if it sleeps on this word.
+    /// Wakes the other end if it sleeps on this word.
     pub(crate) fn wake(&self, word: usize)
         requires { word ≤ 16 }
     {

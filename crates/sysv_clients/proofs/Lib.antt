@@ -1,3 +1,3 @@
-pub mod Talking
+pub mod TalkLemmas
 pub mod WordLemmas
 pub mod Courses

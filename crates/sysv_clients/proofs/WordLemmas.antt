@@ -1,5 +1,6 @@
 -- The words of a command line, and what they mean.
-use Rattle.std.proofs.Common.{◌≢◌, ◌<◌, ◌≤◌, ◌^◌, ℕ, List, [], ◌∷◌, length, get_or, Result, Ok, Err, sym, ap, subst, ◌∙◌, arith}
+use Rattle.std.proofs.Common.{◌≢◌, ◌<◌, ◌≤◌, ◌^◌, ℕ, List, [], ◌∷◌, length, get_or, Result, Ok, Err, sym, ap, subst}
+use Rattle.std.proofs.Common.{◌∙◌, arith}
 use Rattle.std.specs.Option.{SomeIff}
 use Rattle.std.specs.Result.{result_ok}
 use Rattle.std.specs.Char.{digit_value}
@@ -31,7 +32,8 @@ hex_small ds h few =
     omega (arith, below, most)
 
 -- The result of parsing at most eight digits that do not begin with a plus.
-pub hex_read : {E : Type 0} (digits : List ℕ) (r : Result ℕ E) → get_or digits 0 0 ≢ 43 → length digits ≤ 8 → ParsesUnsigned 32 16 digits r →
+pub hex_read : {E : Type 0} (digits : List ℕ) (r : Result ℕ E) → get_or digits 0 0 ≢ 43 → length digits ≤ 8 →
+    ParsesUnsigned 32 16 digits r →
     SomeIff (result_ok r) (IsNumeral 16 digits × (length digits ≤ 8)) (digits_value 16 digits)
 hex_read {E} digits (Ok x) plain few h =
     let own = without_leading_plus_none digits plain in
@@ -39,4 +41,7 @@ hex_read {E} digits (Ok x) plain few h =
     ((subst (IsNumeral 16) own read.0.0, few), read.1 ∙ ap (digits_value 16) own)
 hex_read {E} digits (Err e) plain few h =
     let own = without_leading_plus_none digits plain in
-    λ n. OkIff-at_err {T = ℕ} {E = E} (Err e) _ (digits_value 16 (without_leading_plus digits)) e h (λ i. Err e) (subst (IsNumeral 16) (sym own) n.0, subst (λ ds. digits_value 16 ds < 2 ^ 32) (sym own) (hex_small digits n.0.1 few))
+    λ n. OkIff-at_err {T = ℕ} {E = E} (Err e) _ (digits_value 16 (without_leading_plus digits)) e h (λ i. Err e) (
+      subst (IsNumeral 16) (sym own) n.0,
+      subst (λ ds. digits_value 16 ds < 2 ^ 32) (sym own) (hex_small digits n.0.1 few),
+    )

@@ -11,7 +11,8 @@ use Rattle.sysv_clients.specs.declared.command.Task.{Task}
 use Rattle.sysv_clients.specs.declared.command.Task.TheVariants.{List as Table, Remove, Send, Receive}
 use Rattle.sysv_clients.specs.declared.command.TheConstants.{MAX_ROWS}
 use Rattle.sysv_model.specs.declared.flags.Flags.{Flags}
-use Rattle.sysv_model.specs.declared.flags.TheConstants.Flags.{IPC_CREAT, IPC_NOWAIT, MSG_NOERROR, USER_READ, USER_WRITE}
+use Rattle.sysv_model.specs.declared.flags.TheConstants.Flags.{IPC_CREAT, IPC_NOWAIT, MSG_NOERROR, USER_READ}
+use Rattle.sysv_model.specs.declared.flags.TheConstants.Flags.{USER_WRITE}
 use Rattle.sysv_wire.specs.declared.frame.Version.TheVariants.{Two}
 use Rattle.sysv_wire.specs.declared.request.Ask.{Ask}
 use Rattle.sysv_wire.specs.declared.request.Ask.TheVariants.{Hello, Get, Snd, Rcv, Stat, Set, Rm, Row}
@@ -35,7 +36,8 @@ flags_to_wait nowait = if nowait then IPC_NOWAIT else no_flags
 
 -- The flags of a receive: IPC_NOWAIT and MSG_NOERROR, or those of them that the command has.
 abbrev pub flags_to_receive : Bool → Bool → Flags
-flags_to_receive nowait noerror = if noerror then record { 0 = bit_or (flags_to_wait nowait).0 MSG_NOERROR.0 } else flags_to_wait nowait
+flags_to_receive nowait noerror =
+    if noerror then record { 0 = bit_or (flags_to_wait nowait).0 MSG_NOERROR.0 } else flags_to_wait nowait
 
 -- The requests for the rows of this number of slots, or of MAX_ROWS slots if that is fewer.
 unfoldable pub row_asks : ℕ → List Ask
@@ -51,7 +53,8 @@ abbrev pub task_asks : Task → ℕ → ℤ → List Ask
 task_asks Table slots found = row_asks slots
 task_asks (Remove target) slots found = remove_asks target found
 task_asks (Send key text mtype nowait) slots found = Get key create_flags ∷ Snd found mtype (flags_to_wait nowait) ∷ []
-task_asks (Receive key size mtype nowait noerror) slots found = Get key no_flags ∷ Rcv found size mtype (flags_to_receive nowait noerror) ∷ []
+task_asks (Receive key size mtype nowait noerror) slots found =
+    Get key no_flags ∷ Rcv found size mtype (flags_to_receive nowait noerror) ∷ []
 
 -- All requests of a command, if the reply to its hello states this number of slots and its msgget
 -- returns this identifier.

@@ -24,7 +24,8 @@ abbrev pub Unheard : Ask → (had has : ℕ) → (left rest : Option (List ℕ))
 Unheard ask had has left rest =
     (Consumes left rest [] × IsAtEnd rest × (has ≡ had))
     ⊎ ((fault : Fault) × Faults ReplyFault fault left rest × (has ≡ failures_after (is_read fault) had))
-    ⊎ ((reply : Reply) × (text : List ℕ) × FitsReply reply text × IsOther ask reply × Consumes left rest (reply_spelling reply text) × (has ≡ had))
+    ⊎ ((reply : Reply) × (text : List ℕ) × FitsReply reply text × IsOther ask reply
+    × Consumes left rest (reply_spelling reply text) × (has ≡ had))
 
 -- What was read as the reply, by the reader's count of failures.
 abbrev pub HeardBy : Ask → Result ReplyContent ClientFault → (had has : ℕ) → (left rest : Option (List ℕ)) → Type 0
@@ -41,7 +42,8 @@ Unanswered ask had has wrote writes left rest =
     ⊎ ((writes ≡ wrote) × Unheard ask had has left rest)
 
 -- The result of a request, by the reader's and the writer's counts of failures.
-abbrev pub ExchangedBy : Ask → Result ReplyContent ClientFault → (had has wrote writes : ℕ) → (left rest : Option (List ℕ)) → Type 0
+abbrev pub ExchangedBy : Ask → Result ReplyContent ClientFault → (had has wrote writes : ℕ) →
+    (left rest : Option (List ℕ)) → Type 0
 ExchangedBy ask (Ok answer) had has wrote writes left rest = (has ≡ had) × (writes ≡ wrote)
 ExchangedBy ask (Err (fault.Refused error)) had has wrote writes left rest = (has ≡ had) × (writes ≡ wrote)
 ExchangedBy ask (Err fault.NoReply) had has wrote writes left rest = Unanswered ask had has wrote writes left rest
@@ -54,7 +56,8 @@ Blames command (Ok done) had has wrote writes left rest = (has ≡ had) × (writ
 Blames command (Err (fault.Refused error)) had has wrote writes left rest = (has ≡ had) × (writes ≡ wrote)
 Blames command (Err fault.NoMemory) had has wrote writes left rest = (has ≡ had) × (writes ≡ wrote)
 Blames command (Err fault.NoReply) had has wrote writes left rest =
-    (exchanges : List Exchange) × (ask : Ask) × (unread : Option (List ℕ)) × Talked command exchanges × Consumes left unread (answered_spelling exchanges)
+    (exchanges : List Exchange) × (ask : Ask) × (unread : Option (List ℕ)) × Talked command exchanges
+    × Consumes left unread (answered_spelling exchanges)
     × (next_ask command exchanges ≡ Some ask) × Unanswered ask had has wrote writes unread rest
 
 -- The streams of a client at one time: what the reader has left, what the writer and the screen
@@ -67,7 +70,8 @@ pub record Streams : Type 0 where
   pub failed_writes : ℕ
 
 -- The streams of a client, by what each of their types has left or has taken.
-abbrev pub streams_of : {R W S : Type 0} → (R → Option (List ℕ)) → (W → Option (List ℕ)) → (S → Option (List ℕ)) → Watched R → Watched W → S → Streams
+abbrev pub streams_of : {R W S : Type 0} → (R → Option (List ℕ)) → (W → Option (List ℕ)) → (S → Option (List ℕ)) →
+    Watched R → Watched W → S → Streams
 streams_of remaining contents shown reader writer screen = record {
   left = remaining (stream_of reader);
   taken = contents (stream_of writer);
@@ -82,4 +86,5 @@ pub record RunsBlaming (command : Command) (status : ℤ) (before after : Stream
   pub ended : Result ⊤ ClientFault
   pub talks : Talks command exchanges ended before.left after.left before.taken after.taken
   pub shows : Shows status (status_of ended) (shown_text command.task exchanges ended) before.shown after.shown
-  pub blames : Blames command ended before.failed_reads after.failed_reads before.failed_writes after.failed_writes before.left after.left
+  pub blames : Blames command ended before.failed_reads after.failed_reads before.failed_writes after.failed_writes
+      before.left after.left

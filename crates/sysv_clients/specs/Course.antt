@@ -26,13 +26,16 @@ IsNoReplyTo ask (Err why) = ⊤
 -- How the talk ends if this is read next.
 abbrev pub EndsOn : Command → List Exchange → Result ⊤ ClientFault → List ℕ → Type 0
 EndsOn command exchanges (Ok done) rest = next_ask command exchanges ≡ None
-EndsOn command exchanges (Err (fault.Refused error)) rest = (ask : Ask) × (next_ask command exchanges ≡ Some ask) × ReplyAt rest (Ok (Some (reply_to ask (Refused error))))
+EndsOn command exchanges (Err (fault.Refused error)) rest =
+    (ask : Ask) × (next_ask command exchanges ≡ Some ask) × ReplyAt rest (Ok (Some (reply_to ask (Refused error))))
 EndsOn command exchanges (Err fault.NoReply) rest =
-    (ask : Ask) × (answer : Result (Option Reply) Fault) × (next_ask command exchanges ≡ Some ask) × IsNoReplyTo ask answer × ReplyAt rest answer
+    (ask : Ask) × (answer : Result (Option Reply) Fault) × (next_ask command exchanges ≡ Some ask)
+    × IsNoReplyTo ask answer × ReplyAt rest answer
 EndsOn command exchanges (Err fault.NoMemory) rest = ⊥
 
 -- The input is the replies to these exchanges, and then what ends the talk.
-pub record Makes (command : Command) (input : List ℕ) (exchanges : List Exchange) (ended : Result ⊤ ClientFault) : Type 0 where
+pub record Makes (command : Command) (input : List ℕ) (exchanges : List Exchange)
+    (ended : Result ⊤ ClientFault) : Type 0 where
   pub talked : Talked command exchanges
   pub rest : List ℕ
   pub replies : input ≡ answered_spelling exchanges ++ rest

@@ -6,7 +6,8 @@ use Rattle.sysv_clients.specs.declared.line.TheConstants.{MAX_LINE}
 use Rattle.sysv_clients.specs.Table.{row_line, table_head}
 use Rattle.sysv_clients.specs.Talk.{Exchange}
 use Rattle.sysv_wire.specs.declared.reply.ReplyContent.{ReplyContent}
-use Rattle.sysv_wire.specs.declared.reply.ReplyContent.TheVariants.{Refused, Hello, HelloSlots, Get, Snd, Rcv, Stat, Set, Rm, Row}
+use Rattle.sysv_wire.specs.declared.reply.ReplyContent.TheVariants.{Refused, Hello, HelloSlots, Get, Snd, Rcv, Stat}
+use Rattle.sysv_wire.specs.declared.reply.ReplyContent.TheVariants.{Set, Rm, Row}
 
 -- What a result adds to what is shown: for a row with a queue its line, and for a message its body
 -- and an LF.

@@ -24,7 +24,8 @@ status_of (Err why) = pos 1
 -- A text is shown whole, with the status that is due; or the screen failed, a prefix of the text is
 -- shown, which may be all of it, and the status is 1.
 abbrev pub Shows : ℤ → ℤ → List ℕ → (shown after : Option (List ℕ)) → Type 0
-Shows status due text shown after = ((status ≡ due) × Appends shown after text) ⊎ ((status ≡ pos 1) × AppendsPrefix shown after text)
+Shows status due text shown after =
+    ((status ≡ due) × Appends shown after text) ⊎ ((status ≡ pos 1) × AppendsPrefix shown after text)
 
 -- The body is one that a request can carry.
 abbrev pub HasShortText : Task → Type 0
@@ -33,7 +34,8 @@ HasShortText task = length (text_of task) ≤ BODY_ROOM
 -- A talk, and what was collected of it.
 abbrev pub TalksThrough : Command → Result ⊤ ClientFault → List ℕ → (left rest taken more : Option (List ℕ)) → Type 0
 TalksThrough command ended page left rest taken more =
-    (exchanges : List Exchange) × Talks command exchanges ended left rest taken more × OnOk ended (page ≡ page_text command.task exchanges)
+    (exchanges : List Exchange) × Talks command exchanges ended left rest taken more
+    × OnOk ended (page ≡ page_text command.task exchanges)
 
 -- What a client that ended with this status did to its reader, its writer and its screen.
 pub record Runs (command : Command) (status : ℤ) (left rest taken more shown after : Option (List ℕ)) : Type 0 where

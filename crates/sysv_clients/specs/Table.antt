@@ -28,7 +28,8 @@ mode_text mode = (48 + mode / 64 % 8) ∷ (48 + mode / 8 % 8) ∷ (48 + mode % 8
 -- A line: key, identifier, owner, mode, bytes and messages.
 unfoldable pub row_line : Row → List ℕ
 row_line row =
-    key_text row.key ++ (column 10 (signed_decimal row.id) ++ (column 10 (decimal row.uid) ++ (column 5 (mode_text row.mode)
+    key_text row.key
+    ++ (column 10 (signed_decimal row.id) ++ (column 10 (decimal row.uid) ++ (column 5 (mode_text row.mode)
     ++ (column 6 (decimal row.cbytes) ++ (column 8 (decimal row.qnum) ++ 10 ∷ [])))))
 
 -- The head of the table.

@@ -1,6 +1,7 @@
 -- A client's talk with a server (this project's programs): the client writes a request and reads
 -- the reply, and its next request depends on the replies before.
-use Rattle.std.specs.Prelude.{◌≡◌, ◌≢◌, ◌⊎◌, ⊤, ℕ, ℤ, pos, List, [], ◌∷◌, ◌++◌, length, Bool, true, false, Option, None, Some, Result, Ok, Err, flat_map, fold, slice_get}
+use Rattle.std.specs.Prelude.{◌≡◌, ◌≢◌, ◌⊎◌, ⊤, ℕ, ℤ, pos, List, [], ◌∷◌, ◌++◌, length, Bool, true, false, Option, None}
+use Rattle.std.specs.Prelude.{Some, Result, Ok, Err, flat_map, fold, slice_get}
 use Rattle.std.specs.Io.KnownBytes.{Appends, Consumes, IsAtEnd}
 use Rattle.sysv_clients.specs.declared.command.Command.{Command}
 use Rattle.sysv_clients.specs.declared.fault.ClientFault.{ClientFault}
@@ -9,7 +10,8 @@ use Rattle.sysv_clients.specs.Asks.{asks_of, request_of, text_of}
 use Rattle.sysv_wire.specs.declared.fault.Fault.{Fault}
 use Rattle.sysv_wire.specs.declared.frame.Version.TheVariants.{Two}
 use Rattle.sysv_wire.specs.declared.reply.ReplyContent.{ReplyContent}
-use Rattle.sysv_wire.specs.declared.reply.ReplyContent.TheVariants.{Refused, Hello, HelloSlots, Get, Snd, Rcv, Stat, Set, Rm, Row}
+use Rattle.sysv_wire.specs.declared.reply.ReplyContent.TheVariants.{Refused, Hello, HelloSlots, Get, Snd, Rcv, Stat}
+use Rattle.sysv_wire.specs.declared.reply.ReplyContent.TheVariants.{Set, Rm, Row}
 use Rattle.sysv_wire.specs.declared.reply.Reply.{Reply}
 use Rattle.sysv_wire.specs.declared.request.Ask.{Ask}
 use Rattle.sysv_wire.specs.Faults.{Faults}
@@ -45,7 +47,8 @@ asked_spelling command exchanges = flat_map (λ exchange. ask_spelling command e
 
 -- The frames of the replies, in order.
 abbrev pub answered_spelling : List Exchange → List ℕ
-answered_spelling exchanges = flat_map (λ exchange. reply_spelling (reply_to exchange.ask exchange.answer) exchange.given) exchanges
+answered_spelling exchanges =
+    flat_map (λ exchange. reply_spelling (reply_to exchange.ask exchange.answer) exchange.given) exchanges
 
 -- The identifier that the last msgget returned, 0 before one.
 abbrev pub id_after : ℤ → ReplyContent → ℤ
@@ -89,7 +92,8 @@ next_ask command exchanges = slice_get (asks_of command (slots_in exchanges) (fo
 abbrev pub Follows : Command → List Exchange → List Exchange → Type 0
 Follows command before [] = ⊤
 Follows command before (exchange ∷ more) =
-    (next_ask command before ≡ Some exchange.ask) × IsDone exchange.ask exchange.answer exchange.given × Follows command (before ++ exchange ∷ []) more
+    (next_ask command before ≡ Some exchange.ask) × IsDone exchange.ask exchange.answer exchange.given
+    × Follows command (before ++ exchange ∷ []) more
 
 -- Exchanges of a command from its start on, possibly not all of them.
 abbrev pub Talked : Command → List Exchange → Type 0
@@ -105,12 +109,15 @@ abbrev pub HasNoReply : Ask → (left rest : Option (List ℕ)) → Type 0
 HasNoReply ask left rest =
     (Consumes left rest [] × IsAtEnd rest)
     ⊎ ((fault : Fault) × Faults ReplyFault fault left rest)
-    ⊎ ((reply : Reply) × (text : List ℕ) × FitsReply reply text × IsOther ask reply × Consumes left rest (reply_spelling reply text))
+    ⊎ ((reply : Reply) × (text : List ℕ) × FitsReply reply text × IsOther ask reply
+    × Consumes left rest (reply_spelling reply text))
 
 -- What was read as the reply to a request.
 abbrev pub Hears : Ask → Result ReplyContent ClientFault → (left rest : Option (List ℕ)) → List ℕ → Type 0
-Hears ask (Ok answer) left rest given = Consumes left rest (reply_spelling (reply_to ask answer) given) × IsDone ask answer given
-Hears ask (Err (fault.Refused error)) left rest given = Consumes left rest (reply_spelling (reply_to ask (Refused error)) [])
+Hears ask (Ok answer) left rest given =
+    Consumes left rest (reply_spelling (reply_to ask answer) given) × IsDone ask answer given
+Hears ask (Err (fault.Refused error)) left rest given =
+    Consumes left rest (reply_spelling (reply_to ask (Refused error)) [])
 Hears ask (Err fault.NoReply) left rest given = HasNoReply ask left rest
 Hears ask (Err fault.NoMemory) left rest given = ⊥
 
@@ -119,9 +126,12 @@ abbrev pub IsUnwritten : List ℕ → (left rest taken more : Option (List ℕ))
 IsUnwritten frame left rest taken more = AppendsPrefix taken more frame × (rest ≡ left)
 
 -- A request was written and its reply read, or there is no reply to it.
-abbrev pub Exchanges : List ℕ → Ask → Result ReplyContent ClientFault → (left rest taken more : Option (List ℕ)) → List ℕ → Type 0
-Exchanges frame ask (Ok answer) left rest taken more given = Appends taken more frame × Hears ask (Ok answer) left rest given
-Exchanges frame ask (Err (fault.Refused error)) left rest taken more given = Appends taken more frame × Hears ask (Err (fault.Refused error)) left rest given
+abbrev pub Exchanges : List ℕ → Ask → Result ReplyContent ClientFault → (left rest taken more : Option (List ℕ)) →
+    List ℕ → Type 0
+Exchanges frame ask (Ok answer) left rest taken more given =
+    Appends taken more frame × Hears ask (Ok answer) left rest given
+Exchanges frame ask (Err (fault.Refused error)) left rest taken more given =
+    Appends taken more frame × Hears ask (Err (fault.Refused error)) left rest given
 Exchanges frame ask (Err fault.NoReply) left rest taken more given =
     IsUnwritten frame left rest taken more ⊎ (Appends taken more frame × Hears ask (Err fault.NoReply) left rest given)
 Exchanges frame ask (Err fault.NoMemory) left rest taken more given = ⊥
@@ -129,7 +139,8 @@ Exchanges frame ask (Err fault.NoMemory) left rest taken more given = ⊥
 -- The next request ends the talk with a fault.
 abbrev pub BreaksOff : Command → List Exchange → ClientFault → (left rest taken more : Option (List ℕ)) → Type 0
 BreaksOff command exchanges why left rest taken more =
-    (ask : Ask) × (next_ask command exchanges ≡ Some ask) × Exchanges (ask_spelling command ask) ask (Err why) left rest taken more []
+    (ask : Ask) × (next_ask command exchanges ≡ Some ask)
+    × Exchanges (ask_spelling command ask) ask (Err why) left rest taken more []
 
 -- The result is a row with a queue.
 abbrev pub is_row : ReplyContent → Bool
@@ -147,19 +158,25 @@ is_row Rm = false
 
 -- The last reply reported a row with a queue.
 abbrev pub EndsWithRow : List Exchange → Type 0
-EndsWithRow exchanges = (before : List Exchange) × (last : Exchange) × (exchanges ≡ before ++ last ∷ []) × (is_row last.answer ≡ true)
+EndsWithRow exchanges =
+    (before : List Exchange) × (last : Exchange) × (exchanges ≡ before ++ last ∷ []) × (is_row last.answer ≡ true)
 
 -- How a talk ends after these exchanges: all requests were made, or the next request ends it, or
 -- memory was refused, either before the first request or for the line of a row.
 abbrev pub EndsTalk : Command → List Exchange → Result ⊤ ClientFault → (left rest taken more : Option (List ℕ)) → Type 0
-EndsTalk command exchanges (Ok done) left rest taken more = (next_ask command exchanges ≡ None) × (rest ≡ left) × (more ≡ taken)
-EndsTalk command exchanges (Err (fault.Refused error)) left rest taken more = BreaksOff command exchanges (fault.Refused error) left rest taken more
-EndsTalk command exchanges (Err fault.NoReply) left rest taken more = BreaksOff command exchanges fault.NoReply left rest taken more
-EndsTalk command exchanges (Err fault.NoMemory) left rest taken more = ((exchanges ≡ []) ⊎ EndsWithRow exchanges) × (rest ≡ left) × (more ≡ taken)
+EndsTalk command exchanges (Ok done) left rest taken more =
+    (next_ask command exchanges ≡ None) × (rest ≡ left) × (more ≡ taken)
+EndsTalk command exchanges (Err (fault.Refused error)) left rest taken more =
+    BreaksOff command exchanges (fault.Refused error) left rest taken more
+EndsTalk command exchanges (Err fault.NoReply) left rest taken more =
+    BreaksOff command exchanges fault.NoReply left rest taken more
+EndsTalk command exchanges (Err fault.NoMemory) left rest taken more =
+    ((exchanges ≡ []) ⊎ EndsWithRow exchanges) × (rest ≡ left) × (more ≡ taken)
 
 -- A talk that ended this way. What was read is the replies to its requests, and then what ended it.
 -- What was written is those requests, each whole except perhaps the last.
-pub record Talks (command : Command) (exchanges : List Exchange) (ended : Result ⊤ ClientFault) (left rest taken more : Option (List ℕ)) : Type 0 where
+pub record Talks (command : Command) (exchanges : List Exchange) (ended : Result ⊤ ClientFault)
+    (left rest taken more : Option (List ℕ)) : Type 0 where
   pub talked : Talked command exchanges
   pub unread : Option (List ℕ)  -- what the reader had left after these exchanges
   pub written : Option (List ℕ)  -- what the writer had taken

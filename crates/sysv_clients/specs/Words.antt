@@ -14,7 +14,8 @@ IsType word mtype = IsInt64 word mtype × (pos 1 ≤ℤ mtype)
 
 -- The 32 bits of a key: 0x and one to eight hexadecimal digits.
 abbrev pub IsHexKey : List ℕ → ℤ → Type 0
-IsHexKey word key = (digits : List ℕ) × (word ≡ 48 ∷ 120 ∷ digits) × IsNumeral 16 digits × (length digits ≤ 8) × (key ≡ cast_signed w32 (digits_value 16 digits))
+IsHexKey word key = (digits : List ℕ) × (word ≡ 48 ∷ 120 ∷ digits) × IsNumeral 16 digits × (length digits ≤ 8)
+    × (key ≡ cast_signed w32 (digits_value 16 digits))
 
 -- A key, in decimal or by its bits, but not key 0.
 abbrev pub IsKey : List ℕ → ℤ → Type 0

@@ -9,10 +9,10 @@ use sysv_wire::Ask;
 /// The maximum number of rows that `ipcs` requests, whatever number of slots a server states. Linux
 /// allows at most this number of queues in a namespace (its `IPCMNI`), so no table of `ipcs` is
 /// longer.
-pub const MAX_ROWS: u32 = 32_768;
+pub(crate) const MAX_ROWS: u32 = 32_768;
 
 /// The maximum number of requests of a command: those of `ipcs`, a hello and one for each row.
-pub const MAX_REQUESTS: u32 = 32_769;
+pub(crate) const MAX_REQUESTS: u32 = 32_769;
 
 /// A client's task, with the credentials for it.
 #[derive(Clone, Copy, PartialEq, Eq, Debug)]

@@ -13,7 +13,7 @@ mod screen;
 mod words;
 
 pub use client::{run_client, run_client_watched};
-pub use command::{Command, MAX_REQUESTS, MAX_ROWS, Target, Task};
+pub use command::{Command, Target, Task};
 pub use fault::ClientFault;
 pub use laws::numerals_of_commands;
 pub use words::{id_of, key_of, type_of};

@@ -7,7 +7,8 @@ use Rattle.std.proofs.lemmas.Grind.{flat_map-append}
 use Rattle.std.proofs.lemmas.Bool.Decides.{nat_tests}
 use Rattle.sysv_model.specs.History.{Who, Call, Reply, Entry}
 use Rattle.sysv_model.specs.Registry.{RegistryCall, RegistryReply}
-use Rattle.sysv_model.specs.Turn.{Deed, AtSlot, AtRegistry, Turn, slot_entry, registry_entry, slot_history, registry_history, is_same, deeds_of}
+use Rattle.sysv_model.specs.Turn.{Deed, AtSlot, AtRegistry, Turn, slot_entry, registry_entry, slot_history}
+use Rattle.sysv_model.specs.Turn.{registry_history, is_same, deeds_of}
 use Rattle.sysv_core.proofs.Histories.{turn_of}
 
 -- The turn of that deed, with the deeds of the call before it and after it.
@@ -21,9 +22,11 @@ pub record Made (who : Who) (turns : List Turn) (front : List Deed) (deed : Deed
   pub later_is : deeds_of who after ≡ later
 
 abbrev kept : Who → Bool → Turn → List Turn → List Deed
-kept who b t ts = map (λ (x : Turn). x.deed) (cond b (t ∷ filter (λ (x : Turn). is_same who x.who) ts) (filter (λ (x : Turn). is_same who x.who) ts))
+kept who b t ts = map (λ (x : Turn). x.deed)
+    (cond b (t ∷ filter (λ (x : Turn). is_same who x.who) ts) (filter (λ (x : Turn). is_same who x.who) ts))
 
-one_more : (who : Who) (t : Turn) (ts : List Turn) (front : List Deed) (deed : Deed) (later : List Deed) (b : Bool) → is_same who t.who ≡ b →
+one_more : (who : Who) (t : Turn) (ts : List Turn) (front : List Deed) (deed : Deed) (later : List Deed) (b : Bool) →
+    is_same who t.who ≡ b →
     Made who ts front deed later → Made who (t ∷ ts) (cond b (t.deed ∷ front) front) deed later
 one_more who t ts front deed later b is m = record {
   before = t ∷ m.before;
@@ -39,8 +42,11 @@ one_more who t ts front deed later b is m = record {
     still true = ap (λ ds. t.deed ∷ ds) m.front_is
     still false = m.front_is
 
-made_here : (who : Who) (t : Turn) (ts : List Turn) (b : Bool) → is_same who t.who ≡ b → ((front : List Deed) (deed : Deed) (later : List Deed) → deeds_of who ts ≡ front ++ deed ∷ later → Made who ts front deed later) →
-    (front : List Deed) (deed : Deed) (later : List Deed) → kept who b t ts ≡ front ++ deed ∷ later → Made who (t ∷ ts) front deed later
+made_here : (who : Who) (t : Turn) (ts : List Turn) (b : Bool) → is_same who t.who ≡ b →
+    ((front : List Deed) (deed : Deed) (later : List Deed) → deeds_of who ts ≡ front ++ deed ∷ later →
+    Made who ts front deed later) →
+    (front : List Deed) (deed : Deed) (later : List Deed) → kept who b t ts ≡ front ++ deed ∷ later →
+    Made who (t ∷ ts) front deed later
 made_here who t ts true is rest [] deed later e =
     let same : t.deed ≡ deed = cc in
     record {
@@ -54,20 +60,25 @@ made_here who t ts true is rest [] deed later e =
     }
 made_here who t ts true is rest (f ∷ front) deed later e =
     let same : t.deed ≡ f = cc in
-    subst (λ ds. Made who (t ∷ ts) ds deed later) (ap (λ d. d ∷ front) same) (one_more who t ts front deed later true is (rest front deed later cc))
-made_here who t ts false is rest front deed later e = one_more who t ts front deed later false is (rest front deed later e)
+    subst (λ ds. Made who (t ∷ ts) ds deed later) (ap (λ d. d ∷ front) same)
+    (one_more who t ts front deed later true is (rest front deed later cc))
+made_here who t ts false is rest front deed later e =
+    one_more who t ts front deed later false is (rest front deed later e)
 
-pub made_at : (who : Who) (turns : List Turn) (front : List Deed) (deed : Deed) (later : List Deed) → deeds_of who turns ≡ front ++ deed ∷ later → Made who turns front deed later
+pub made_at : (who : Who) (turns : List Turn) (front : List Deed) (deed : Deed) (later : List Deed) →
+    deeds_of who turns ≡ front ++ deed ∷ later → Made who turns front deed later
 made_at who [] [] deed later e = absurd cc
 made_at who [] (f ∷ front) deed later e = absurd cc
-made_at who (t ∷ ts) front deed later e = made_here who t ts (is_same who t.who) refl (made_at who ts) front deed later e
+made_at who (t ∷ ts) front deed later e =
+    made_here who t ts (is_same who t.who) refl (made_at who ts) front deed later e
 
 itself : (n : ℕ) → eqb n n ≡ true
 itself n = grind (arith, nat_tests)
 
 -- The history of a slot around one of its turns.
 pub slot_around : (slot : ℕ) (before after : List Turn) (who : Who) (call : Call) (reply : Reply) →
-    slot_history slot (before ++ turn_of who (AtSlot slot call reply) ∷ after) ≡ slot_history slot before ++ record { who = who; call = call; reply = reply } ∷ slot_history slot after
+    slot_history slot (before ++ turn_of who (AtSlot slot call reply) ∷ after)
+    ≡ slot_history slot before ++ record { who = who; call = call; reply = reply } ∷ slot_history slot after
 slot_around slot before after who call reply =
     let e : Entry = record { who = who; call = call; reply = reply } in
     flat_map-append (λ (x : Turn). slot_entry slot x.who x.deed) before (turn_of who (AtSlot slot call reply) ∷ after)
@@ -75,5 +86,7 @@ slot_around slot before after who call reply =
 
 -- The history of the registry around one of its turns.
 pub registry_around : (before after : List Turn) (who : Who) (call : RegistryCall) (reply : RegistryReply) →
-    registry_history (before ++ turn_of who (AtRegistry call reply) ∷ after) ≡ registry_history before ++ record { who = who; call = call; reply = reply } ∷ registry_history after
-registry_around before after who call reply = flat_map-append (λ (x : Turn). registry_entry x.who x.deed) before (turn_of who (AtRegistry call reply) ∷ after)
+    registry_history (before ++ turn_of who (AtRegistry call reply) ∷ after)
+    ≡ registry_history before ++ record { who = who; call = call; reply = reply } ∷ registry_history after
+registry_around before after who call reply =
+    flat_map-append (λ (x : Turn). registry_entry x.who x.deed) before (turn_of who (AtRegistry call reply) ∷ after)

@@ -1,15 +1,18 @@
 -- A get that waits below its goal waits for a row of its key that another call still has to settle
 -- or forget.
-use Rattle.std.proofs.Common.{◌≡◌, ◌⊎◌, inl, inr, ℕ, ℤ, ◌+◌, ◌<◌, ◌≤◌, ◌||◌, Bool, true, false, cond, List, [], ◌∷◌, ◌++◌, Option, None, Some, refl, sym, ap, subst, ◌∙◌, arith, append_assoc}
+use Rattle.std.proofs.Common.{◌≡◌, ◌⊎◌, inl, inr, ℕ, ℤ, ◌+◌, ◌<◌, ◌≤◌, ◌||◌, Bool, true, false, cond, List, [], ◌∷◌}
+use Rattle.std.proofs.Common.{◌++◌, Option, None, Some, refl, sym, ap, subst, ◌∙◌, arith, append_assoc}
 use Rattle.std.specs.List.{list_any}
 use Rattle.std.proofs.lemmas.Bool.Decides.{Decides-int_eq}
 use Rattle.std.proofs.lemmas.Grind.{flat_map-append}
 use Rattle.std.proofs.lemmas.List.{append-nil}
 use Rattle.std.proofs.lemmas.List.Sums.{sum_by-cons, sum_by-append}
 use Rattle.sysv_model.specs.declared.attributes.Attributes.{Attributes}
-use Rattle.sysv_model.specs.History.{Who, Call, Install, Probe, Place, Take, Set, Remove, Reply, Installed, Gone, Accepted, Taken, Done, Discarded, Entry, History}
+use Rattle.sysv_model.specs.History.{Who, Call, Install, Probe, Place, Take, Set, Remove, Reply, Installed, Gone}
+use Rattle.sysv_model.specs.History.{Accepted, Taken, Done, Discarded, Entry, History}
 use Rattle.sysv_model.specs.Live.{live, live_after, HasId, IsLive}
-use Rattle.sysv_model.specs.Registry.{RegistryCall, RegistryReply, RegistryEntry, RegistryHistory, Begin, Settle, Forget, Found, Busy, Changed, changes_row, settled}
+use Rattle.sysv_model.specs.Registry.{RegistryCall, RegistryReply, RegistryEntry, RegistryHistory, Begin, Settle}
+use Rattle.sysv_model.specs.Registry.{Forget, Found, Busy, Changed, changes_row, settled}
 use Rattle.sysv_model.specs.Turn.{Deed, AtSlot, AtRegistry, Turn, slot_entry, slot_history, registry_history, deeds_of}
 use Rattle.sysv_queue.specs.QueueLaw.{installs}
 use Rattle.sysv_queue.specs.ForGood.{IsInstalledOnce}
@@ -43,22 +46,30 @@ or_no : (b : Bool) → (b || false) ≡ b
 or_no true = refl
 or_no false = refl
 
-row_still : (h : RegistryHistory) (e : RegistryEntry) (row : KeyRow) → changes_row e.reply ≡ false → IsRow h row → IsRow (h ++ e ∷ []) row
+row_still : (h : RegistryHistory) (e : RegistryEntry) (row : KeyRow) → changes_row e.reply ≡ false → IsRow h row →
+    IsRow (h ++ e ∷ []) row
 row_still h e row quiet is = record {
-  made = any_more (λ (x : RegistryEntry). makes row.id row.key x.call x.reply) h e ∙ or_left (is_made row.id row.key h) (makes row.id row.key e.call e.reply) is.made;
-  kept = any_more (λ (x : RegistryEntry). forgets row.id x.call x.reply) h e ∙ (ap (λ b. is_forgotten row.id h || b) (no_forget row.id e.call e.reply quiet) ∙ (or_no (is_forgotten row.id h) ∙ is.kept));
-  stage = any_more (λ (x : RegistryEntry). settles row.id x.call x.reply) h e ∙ (ap (λ b. is_settled row.id h || b) (no_settle row.id e.call e.reply quiet) ∙ (or_no (is_settled row.id h) ∙ is.stage));
+  made = any_more (λ (x : RegistryEntry). makes row.id row.key x.call x.reply) h e
+      ∙ or_left (is_made row.id row.key h) (makes row.id row.key e.call e.reply) is.made;
+  kept = any_more (λ (x : RegistryEntry). forgets row.id x.call x.reply) h e
+      ∙ (ap (λ b. is_forgotten row.id h || b) (no_forget row.id e.call e.reply quiet)
+      ∙ (or_no (is_forgotten row.id h) ∙ is.kept));
+  stage = any_more (λ (x : RegistryEntry). settles row.id x.call x.reply) h e
+      ∙ (ap (λ b. is_settled row.id h || b) (no_settle row.id e.call e.reply quiet)
+      ∙ (or_no (is_settled row.id h) ∙ is.stage));
 }
 
 abbrev one : Bool → ℕ
 one b = cond {A = ℕ} b 1 0
 
-count_around : (h more : RegistryHistory) (e : RegistryEntry) → settled (h ++ e ∷ more) ≡ settled h + (one (changes_row e.reply) + settled more)
+count_around : (h more : RegistryHistory) (e : RegistryEntry) →
+    settled (h ++ e ∷ more) ≡ settled h + (one (changes_row e.reply) + settled more)
 count_around h more e =
     let f = λ (x : RegistryEntry). one (changes_row x.reply) in
     omega (arith, sum_by-append f h (e ∷ more), sum_by-cons f e more)
 
-rows_stay : (more h : RegistryHistory) (row : KeyRow) → settled (h ++ more) ≤ settled h → IsRow h row → IsRow (h ++ more) row
+rows_stay : (more h : RegistryHistory) (row : KeyRow) → settled (h ++ more) ≤ settled h → IsRow h row →
+    IsRow (h ++ more) row
 rows_stay [] h row le is = subst (λ k. IsRow k row) (sym (append-nil h)) is
 rows_stay (e ∷ more) h row le is =
     let path = append_assoc h (e ∷ []) more in
@@ -67,7 +78,8 @@ rows_stay (e ∷ more) h row le is =
     let quiet = changes (changes_row e.reply) refl (omega (arith, le, around)) in
     let none : one (changes_row e.reply) ≡ 0 = ap one quiet in
     let same : settled ((h ++ e ∷ []) ++ more) ≡ settled (h ++ e ∷ more) = ap settled path in
-    subst (λ k. IsRow k row) path (rows_stay more (h ++ e ∷ []) row (omega (arith, le, around, first, none, same)) (row_still h e row quiet is))
+    subst (λ k. IsRow k row) path
+    (rows_stay more (h ++ e ∷ []) row (omega (arith, le, around, first, none, same)) (row_still h e row quiet is))
   where
     changes : (b : Bool) → changes_row e.reply ≡ b → one (changes_row e.reply) ≤ 0 → changes_row e.reply ≡ false
     changes false is low = is
@@ -75,7 +87,8 @@ rows_stay (e ∷ more) h row le is =
 
 -- ---- a queue that does not live, and is not installed again
 
-lived_or_made : (l : Option Attributes) (id : ℤ) (c : Call) (reply : Reply) → HasId (live_after l c reply) id → HasId l id ⊎ (installs id c reply ≡ true)
+lived_or_made : (l : Option Attributes) (id : ℤ) (c : Call) (reply : Reply) → HasId (live_after l c reply) id →
+    HasId l id ⊎ (installs id c reply ≡ true)
 lived_or_made l id (Install at key cred mode now) (Installed true) lives = inr ((Decides-int_eq at id).1 lives)
 lived_or_made None id (Place at cred mtype bytes now) (Accepted number) lives = absurd lives
 lived_or_made (Some a) id (Place at cred mtype bytes now) (Accepted number) lives = inl lives
@@ -86,7 +99,9 @@ lived_or_made (Some a) id (Set at cred to now) Done lives = inl lives
 lived_or_made l id (Remove at cred) (Discarded messages) lives = absurd lives
 lived_or_made l id c reply lives = inl lives
 
-dead_still : (since h : History) (id : ℤ) → ((middle rest : History) (f : Entry) → since ≡ middle ++ f ∷ rest → installs id f.call f.reply ≡ false) → ¬ IsLive h id → ¬ IsLive (h ++ since) id
+dead_still : (since h : History) (id : ℤ) →
+    ((middle rest : History) (f : Entry) → since ≡ middle ++ f ∷ rest → installs id f.call f.reply ≡ false) →
+    ¬ IsLive h id → ¬ IsLive (h ++ since) id
 dead_still [] h id none dead = subst (λ (k : History). ¬ IsLive k id) (sym (append-nil h)) dead
 dead_still (e ∷ since) h id none dead =
     subst (λ (k : History). ¬ IsLive k id) (append_assoc h (e ∷ []) since)
@@ -108,12 +123,24 @@ install_in : (id : ℤ) (h : History) → list_any (λ (x : Entry). installs id 
 install_in id [] e = absurd cc
 install_in id (x ∷ h) e = by_first (installs id x.call x.reply) refl e (install_in id h)
   where
-    by_first : (b : Bool) → installs id x.call x.reply ≡ b → (b || list_any (λ (y : Entry). installs id y.call y.reply) h) ≡ true → (list_any (λ (y : Entry). installs id y.call y.reply) h ≡ true → InstallIn id h) → InstallIn id (x ∷ h)
+    by_first : (b : Bool) → installs id x.call x.reply ≡ b →
+        (b || list_any (λ (y : Entry). installs id y.call y.reply) h) ≡ true →
+        (list_any (λ (y : Entry). installs id y.call y.reply) h ≡ true → InstallIn id h) → InstallIn id (x ∷ h)
     by_first true is any rest = record { front = []; turn = x; back = h; whole = refl; makes_it = is }
-    by_first false is any rest = let r = rest any in record { front = x ∷ r.front; turn = r.turn; back = r.back; whole = ap (λ k. x ∷ k) r.whole; makes_it = r.makes_it }
+    by_first false is any rest =
+        let r = rest any in
+        record {
+          front = x ∷ r.front;
+          turn = r.turn;
+          back = r.back;
+          whole = ap (λ k. x ∷ k) r.whole;
+          makes_it = r.makes_it;
+        }
 
 -- A queue that was installed before a turn that found it not live is not live.
-never_lives : (id : ℤ) (h before more after : History) (p : Entry) → IsInstalledOnce id h → h ≡ (before ++ more) ++ p ∷ after → list_any (λ (x : Entry). installs id x.call x.reply) before ≡ true → ¬ IsLive (before ++ more) id → ¬ IsLive h id
+never_lives : (id : ℤ) (h before more after : History) (p : Entry) → IsInstalledOnce id h →
+    h ≡ (before ++ more) ++ p ∷ after → list_any (λ (x : Entry). installs id x.call x.reply) before ≡ true →
+    ¬ IsLive (before ++ more) id → ¬ IsLive h id
 never_lives id h before more after p once whole was dead =
     let i = install_in id before was in
     subst (λ (k : History). ¬ IsLive k id) (sym whole)
@@ -125,7 +152,9 @@ never_lives id h before more after p once whole was dead =
     ∙ (append_assoc before more (middle ++ f ∷ rest)
     ∙ (ap (λ k. k ++ (more ++ (middle ++ f ∷ rest))) i.whole
     ∙ (append_assoc i.front (i.turn ∷ i.back) (more ++ (middle ++ f ∷ rest))
-    ∙ ap (λ k. i.front ++ i.turn ∷ k) (ap (λ k. i.back ++ k) (sym (append_assoc more middle (f ∷ rest))) ∙ sym (append_assoc i.back (more ++ middle) (f ∷ rest)))))))) i.makes_it)
+    ∙ ap (λ k. i.front ++ i.turn ∷ k)
+    (ap (λ k. i.back ++ k) (sym (append_assoc more middle (f ∷ rest)))
+    ∙ sym (append_assoc i.back (more ++ middle) (f ∷ rest)))))))) i.makes_it)
     dead)
 
 -- ---- the two refusals
@@ -133,24 +162,35 @@ never_lives id h before more after p once whole was dead =
 slot_both : (slot : ℕ) (xs ys : List Turn) → slot_history slot (xs ++ ys) ≡ slot_history slot xs ++ slot_history slot ys
 slot_both slot xs ys = flat_map-append (λ (x : Turn). slot_entry slot x.who x.deed) xs ys
 
-module _ (w : World) (legal : AreLegal w.generation w.blocks w.turns) (tended : AreTended w) (good : AreRemovedForGood w.turns) (order : SettledOnceInstalled w.turns) (who : Who) (get : Getting) (told : ℕ) (below : settled (registry_history w.turns) < told + 1) where
+module _ (w : World) (legal : AreLegal w.generation w.blocks w.turns) (tended : AreTended w)
+    (good : AreRemovedForGood w.turns) (order : SettledOnceInstalled w.turns) (who : Who) (get : Getting) (told : ℕ)
+    (below : settled (registry_history w.turns) < told + 1) where
   abbrev all_rows : RegistryHistory
   all_rows = registry_history w.turns
 
   -- The row that the registry reported still exists.
-  row_now : (front later : List Deed) (reply : RegistryReply) (row : KeyRow) (m : Made who w.turns front (AtRegistry (Begin get.key get.flags) reply) later) → IsRow (registry_history m.before) row → told ≡ settled (registry_history m.before) → IsRow all_rows row
+  row_now : (front later : List Deed) (reply : RegistryReply) (row : KeyRow)
+      (m : Made who w.turns front (AtRegistry (Begin get.key get.flags) reply) later) →
+      IsRow (registry_history m.before) row → told ≡ settled (registry_history m.before) → IsRow all_rows row
   row_now front later reply row m is count =
       let e : RegistryEntry = record { who = m.by; call = Begin get.key get.flags; reply = reply } in
-      let whole : all_rows ≡ registry_history m.before ++ e ∷ registry_history m.after = ap registry_history m.whole ∙ registry_around m.before m.after m.by (Begin get.key get.flags) reply in
-      let low : settled (registry_history m.before ++ e ∷ registry_history m.after) < told + 1 = subst (λ h. settled h < told + 1) whole below in
-      subst (λ h. IsRow h row) (sym whole) (rows_stay (e ∷ registry_history m.after) (registry_history m.before) row (omega (arith, low, count)) is)
+      let whole : all_rows ≡ registry_history m.before ++ e ∷ registry_history m.after =
+      ap registry_history m.whole ∙ registry_around m.before m.after m.by (Begin get.key get.flags) reply in
+      let low : settled (registry_history m.before ++ e ∷ registry_history m.after) < told + 1 =
+      subst (λ h. settled h < told + 1) whole below in
+      subst (λ h. IsRow h row) (sym whole)
+      (rows_stay (e ∷ registry_history m.after) (registry_history m.before) row (omega (arith, low, count)) is)
 
-  registry_legal : (front later : List Deed) (reply : RegistryReply) (m : Made who w.turns front (AtRegistry (Begin get.key get.flags) reply) later) → IsLegalReply w.generation (registry_history m.before) (Begin get.key get.flags) reply
+  registry_legal : (front later : List Deed) (reply : RegistryReply)
+      (m : Made who w.turns front (AtRegistry (Begin get.key get.flags) reply) later) →
+      IsLegalReply w.generation (registry_history m.before) (Begin get.key get.flags) reply
   registry_legal front later reply m =
-      legal.registry (registry_history m.before) (record { who = m.by; call = Begin get.key get.flags; reply = reply }) (registry_history m.after)
+      legal.registry (registry_history m.before) (record { who = m.by; call = Begin get.key get.flags; reply = reply })
+      (registry_history m.after)
       (ap registry_history m.whole ∙ registry_around m.before m.after m.by (Begin get.key get.flags) reply)
 
-  pub was_busy : (front : List Deed) → deeds_of who w.turns ≡ front ++ AtRegistry (Begin get.key get.flags) (Busy told) ∷ [] → IsBeingChanged w get.key
+  pub was_busy : (front : List Deed) →
+      deeds_of who w.turns ≡ front ++ AtRegistry (Begin get.key get.flags) (Busy told) ∷ [] → IsBeingChanged w get.key
   was_busy front e =
       let m = made_at who w.turns front (AtRegistry (Begin get.key get.flags) (Busy told)) [] e in
       let l = registry_legal front [] (Busy told) m in
@@ -158,7 +198,10 @@ module _ (w : World) (legal : AreLegal w.generation w.blocks w.turns) (tended : 
       let is = row_now front [] (Busy told) row m l.1.1 l.2 in
       record { row = row; bound = is; of_key = refl; tended = tended row is (inl refl) }
 
-  pub was_gone : (id : ℤ) (front : List Deed) → deeds_of who w.turns ≡ front ++ AtRegistry (Begin get.key get.flags) (Found id told) ∷ AtSlot (slot_of_id id) (Probe id get.cred get.flags) Gone ∷ [] → IsBeingChanged w get.key
+  pub was_gone : (id : ℤ) (front : List Deed) →
+      deeds_of who w.turns
+      ≡ front ++ AtRegistry (Begin get.key get.flags) (Found id told)
+      ∷ AtSlot (slot_of_id id) (Probe id get.cred get.flags) Gone ∷ [] → IsBeingChanged w get.key
   was_gone id front e =
       let slot = slot_of_id id in
       let probe = Probe id get.cred get.flags in
@@ -171,13 +214,20 @@ module _ (w : World) (legal : AreLegal w.generation w.blocks w.turns) (tended : 
       let x : Entry = record { who = p.by; call = probe; reply = Gone } in
       let since = turn_of m.by begin_deed ∷ p.before in
       let turns_are : w.turns ≡ (m.before ++ since) ++ turn_of p.by (AtSlot slot probe Gone) ∷ p.after =
-      m.whole ∙ (ap (λ ts. m.before ++ turn_of m.by begin_deed ∷ ts) p.whole ∙ sym (append_assoc m.before since (turn_of p.by (AtSlot slot probe Gone) ∷ p.after))) in
-      let parts : slot_history slot (m.before ++ since) ≡ slot_history slot m.before ++ slot_history slot since = slot_both slot m.before since in
-      let around : slot_history slot w.turns ≡ slot_history slot (m.before ++ since) ++ x ∷ slot_history slot p.after = ap (slot_history slot) turns_are ∙ slot_around slot (m.before ++ since) p.after p.by probe Gone in
-      let dead : ¬ IsLive (slot_history slot (m.before ++ since)) id = legal.slots slot (slot_history slot (m.before ++ since)) x (slot_history slot p.after) around in
+      m.whole
+      ∙ (ap (λ ts. m.before ++ turn_of m.by begin_deed ∷ ts) p.whole
+      ∙ sym (append_assoc m.before since (turn_of p.by (AtSlot slot probe Gone) ∷ p.after))) in
+      let parts : slot_history slot (m.before ++ since) ≡ slot_history slot m.before ++ slot_history slot since =
+      slot_both slot m.before since in
+      let around : slot_history slot w.turns ≡ slot_history slot (m.before ++ since) ++ x ∷ slot_history slot p.after =
+      ap (slot_history slot) turns_are ∙ slot_around slot (m.before ++ since) p.after p.by probe Gone in
+      let dead : ¬ IsLive (slot_history slot (m.before ++ since)) id =
+      legal.slots slot (slot_history slot (m.before ++ since)) x (slot_history slot p.after) around in
       let was = order id m.before (turn_of m.by begin_deed ∷ m.after) m.whole l.1.stage in
-      let not_live = never_lives id (slot_history slot w.turns) (slot_history slot m.before) (slot_history slot since) (slot_history slot p.after) x (good.once slot id)
-      (around ∙ ap (λ k. k ++ x ∷ slot_history slot p.after) parts) was (subst (λ (k : History). ¬ IsLive k id) parts dead) in
+      let not_live = never_lives id (slot_history slot w.turns) (slot_history slot m.before) (slot_history slot since)
+      (slot_history slot p.after) x (good.once slot id)
+      (around ∙ ap (λ k. k ++ x ∷ slot_history slot p.after) parts) was
+      (subst (λ (k : History). ¬ IsLive k id) parts dead) in
       record { row = row; bound = is; of_key = refl; tended = tended row is (inr not_live) }
 
   pub being_changed : WasUnsettled get told (deeds_of who w.turns) → IsBeingChanged w get.key

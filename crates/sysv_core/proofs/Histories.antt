@@ -5,32 +5,43 @@ use Rattle.std.proofs.lemmas.List.{append-nil}
 use Rattle.std.proofs.lemmas.List.Sums.{sum_by-cons, sum_by-append}
 use Rattle.sysv_model.specs.History.{Who}
 use Rattle.sysv_model.specs.Pool.{PoolEntry, PoolHistory, frees, released}
-use Rattle.sysv_model.specs.Turn.{Deed, Turn, slot_entry, registry_entry, pool_entry, slot_history, registry_history, pool_history}
+use Rattle.sysv_model.specs.Turn.{Deed, Turn, slot_entry, registry_entry, pool_entry, slot_history, registry_history}
+use Rattle.sysv_model.specs.Turn.{pool_history}
 use Rattle.sysv_pool.specs.State.{reserved_by, returned_by, reserved, returned}
 use Rattle.sysv_core.specs.World.{preset_who, preset_begin, preset_install, preset_settle, with_preset_turns}
 
 abbrev pub turn_of : Who → Deed → Turn
 turn_of who deed = record { who = who; deed = deed }
 
-pub slot_more : (slot : ℕ) (turns : List Turn) (t : Turn) → slot_history slot (turns ++ t ∷ []) ≡ slot_history slot turns ++ slot_entry slot t.who t.deed
+pub slot_more : (slot : ℕ) (turns : List Turn) (t : Turn) →
+    slot_history slot (turns ++ t ∷ []) ≡ slot_history slot turns ++ slot_entry slot t.who t.deed
 slot_more slot turns t =
-    flat_map-append (λ (x : Turn). slot_entry slot x.who x.deed) turns (t ∷ []) ∙ ap (λ es. slot_history slot turns ++ es) (append-nil (slot_entry slot t.who t.deed))
+    flat_map-append (λ (x : Turn). slot_entry slot x.who x.deed) turns (t ∷ [])
+    ∙ ap (λ es. slot_history slot turns ++ es) (append-nil (slot_entry slot t.who t.deed))
 
-pub registry_more : (turns : List Turn) (t : Turn) → registry_history (turns ++ t ∷ []) ≡ registry_history turns ++ registry_entry t.who t.deed
+pub registry_more : (turns : List Turn) (t : Turn) →
+    registry_history (turns ++ t ∷ []) ≡ registry_history turns ++ registry_entry t.who t.deed
 registry_more turns t =
-    flat_map-append (λ (x : Turn). registry_entry x.who x.deed) turns (t ∷ []) ∙ ap (λ es. registry_history turns ++ es) (append-nil (registry_entry t.who t.deed))
+    flat_map-append (λ (x : Turn). registry_entry x.who x.deed) turns (t ∷ [])
+    ∙ ap (λ es. registry_history turns ++ es) (append-nil (registry_entry t.who t.deed))
 
-pub pool_more : (turns : List Turn) (t : Turn) → pool_history (turns ++ t ∷ []) ≡ pool_history turns ++ pool_entry t.who t.deed
+pub pool_more : (turns : List Turn) (t : Turn) →
+    pool_history (turns ++ t ∷ []) ≡ pool_history turns ++ pool_entry t.who t.deed
 pool_more turns t =
-    flat_map-append (λ (x : Turn). pool_entry x.who x.deed) turns (t ∷ []) ∙ ap (λ es. pool_history turns ++ es) (append-nil (pool_entry t.who t.deed))
+    flat_map-append (λ (x : Turn). pool_entry x.who x.deed) turns (t ∷ [])
+    ∙ ap (λ es. pool_history turns ++ es) (append-nil (pool_entry t.who t.deed))
 
 -- A turn that is not at the pool leaves the pool's history as it was, and one that is not at a slot
 -- leaves that of each slot.
-pub pool_stays : (turns : List Turn) (who : Who) (deed : Deed) → pool_entry who deed ≡ [] → pool_history (turns ++ turn_of who deed ∷ []) ≡ pool_history turns
-pool_stays turns who deed none = pool_more turns (turn_of who deed) ∙ (ap (λ es. pool_history turns ++ es) none ∙ append-nil (pool_history turns))
+pub pool_stays : (turns : List Turn) (who : Who) (deed : Deed) → pool_entry who deed ≡ [] →
+    pool_history (turns ++ turn_of who deed ∷ []) ≡ pool_history turns
+pool_stays turns who deed none =
+    pool_more turns (turn_of who deed) ∙ (ap (λ es. pool_history turns ++ es) none ∙ append-nil (pool_history turns))
 
-pub slot_stays : (slot : ℕ) (turns : List Turn) (who : Who) (deed : Deed) → slot_entry slot who deed ≡ [] → slot_history slot (turns ++ turn_of who deed ∷ []) ≡ slot_history slot turns
-slot_stays slot turns who deed none = slot_more slot turns (turn_of who deed) ∙ (ap (λ es. slot_history slot turns ++ es) none ∙ append-nil (slot_history slot turns))
+pub slot_stays : (slot : ℕ) (turns : List Turn) (who : Who) (deed : Deed) → slot_entry slot who deed ≡ [] →
+    slot_history slot (turns ++ turn_of who deed ∷ []) ≡ slot_history slot turns
+slot_stays slot turns who deed none = slot_more slot turns (turn_of who deed)
+    ∙ (ap (λ es. slot_history slot turns ++ es) none ∙ append-nil (slot_history slot turns))
 
 -- The three turns of a preset.
 abbrev pub begun_turns : List Turn → List Turn
@@ -39,12 +50,14 @@ begun_turns turns = turns ++ turn_of preset_who preset_begin ∷ []
 abbrev pub installed_turns : List Turn → List Turn
 installed_turns turns = begun_turns turns ++ turn_of preset_who preset_install ∷ []
 
-pub preset_slot : (slot : ℕ) (turns : List Turn) → slot_history slot (with_preset_turns turns) ≡ slot_history slot (installed_turns turns)
+pub preset_slot : (slot : ℕ) (turns : List Turn) →
+    slot_history slot (with_preset_turns turns) ≡ slot_history slot (installed_turns turns)
 preset_slot slot turns = slot_stays slot (installed_turns turns) preset_who preset_settle refl
 
 pub preset_pool : (turns : List Turn) → pool_history (with_preset_turns turns) ≡ pool_history turns
 preset_pool turns =
-    pool_stays (installed_turns turns) preset_who preset_settle refl ∙ (pool_stays (begun_turns turns) preset_who preset_install refl ∙ pool_stays turns preset_who preset_begin refl)
+    pool_stays (installed_turns turns) preset_who preset_settle refl
+    ∙ (pool_stays (begun_turns turns) preset_who preset_install refl ∙ pool_stays turns preset_who preset_begin refl)
 
 -- ---- what the pool has counted
 
@@ -52,10 +65,14 @@ abbrev pub one : Bool → ℕ
 one b = cond {A = ℕ} b 1 0
 
 pub released_more : (h : PoolHistory) (e : PoolEntry) → released (h ++ e ∷ []) ≡ released h + one (frees e.reply)
-released_more h e = let f = λ (x : PoolEntry). one (frees x.reply) in omega (arith, sum_by-append f h (e ∷ []), sum_by-cons f e [])
+released_more h e =
+    let f = λ (x : PoolEntry). one (frees x.reply) in omega (arith, sum_by-append f h (e ∷ []), sum_by-cons f e [])
 
 pub returned_more : (h : PoolHistory) (e : PoolEntry) → returned (h ++ e ∷ []) ≡ returned h + returned_by e.call e.reply
-returned_more h e = let f = λ (x : PoolEntry). returned_by x.call x.reply in omega (arith, sum_by-append f h (e ∷ []), sum_by-cons f e [])
+returned_more h e =
+    let f = λ (x : PoolEntry). returned_by x.call x.reply in
+    omega (arith, sum_by-append f h (e ∷ []), sum_by-cons f e [])
 
 pub reserved_more : (h : PoolHistory) (e : PoolEntry) → reserved (h ++ e ∷ []) ≡ reserved h + reserved_by e.reply
-reserved_more h e = let f = λ (x : PoolEntry). reserved_by x.reply in omega (arith, sum_by-append f h (e ∷ []), sum_by-cons f e [])
+reserved_more h e =
+    let f = λ (x : PoolEntry). reserved_by x.reply in omega (arith, sum_by-append f h (e ∷ []), sum_by-cons f e [])

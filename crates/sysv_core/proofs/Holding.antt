@@ -1,5 +1,6 @@
 -- What a call holds, from step to step.
-use Rattle.std.proofs.Common.{◌≡◌, ◌≤◌, inl, inr, arith, ℕ, ℤ, Bool, true, false, cond, ◌||◌, nat_lt, length, List, Option, Some, None, is_some, refl, sym, ap, subst, ◌∙◌}
+use Rattle.std.proofs.Common.{◌≡◌, ◌≤◌, inl, inr, arith, ℕ, ℤ, Bool, true, false, cond, ◌||◌, nat_lt, length, List}
+use Rattle.std.proofs.Common.{Option, Some, None, is_some, refl, sym, ap, subst, ◌∙◌}
 use Rattle.std.proofs.lemmas.Bool.Decides.{nat_tests}
 use Rattle.sysv_model.specs.declared.cred.Cred.{Cred}
 use Rattle.sysv_model.specs.declared.errno.Errno.TheVariants.{EINVAL}
@@ -8,7 +9,9 @@ use Rattle.sysv_model.specs.declared.limits.TheConstants.{MESSAGE_BYTES}
 use Rattle.sysv_objects.specs.Objects.{Objects}
 use Rattle.sysv_objects.specs.StandsFor.{MakesTurn}
 use Rattle.sysv_steps.specs.Call.{SystemCall, Msgget, Msgsnd, Msgrcv, MsgctlStat, MsgctlSet, MsgctlRmid}
-use Rattle.sysv_steps.specs.State.{Wait, OnSettled, OnFreed, OnReleased, OnArrived, IsRefused, WaitsOn, Phase, AtBegin, AtInstall, AtSettle, AtProbe, AtUnmake, AtLook, AtReserve, AtPlace, AtSendGiveback, AtTake, AtReceiveGiveback, AtSet, State, Goes, Waits, Over, Refused}
+use Rattle.sysv_steps.specs.State.{Wait, OnSettled, OnFreed, OnReleased, OnArrived, IsRefused, WaitsOn, Phase, AtBegin}
+use Rattle.sysv_steps.specs.State.{AtInstall, AtSettle, AtProbe, AtUnmake, AtLook, AtReserve, AtPlace, AtSendGiveback}
+use Rattle.sysv_steps.specs.State.{AtTake, AtReceiveGiveback, AtSet, State, Goes, Waits, Over, Refused}
 use Rattle.sysv_steps.specs.Begin.{is_refused, first, begin}
 use Rattle.sysv_steps.specs.Resume.{resume}
 use Rattle.sysv_steps.specs.Asks.{asks}
@@ -27,11 +30,16 @@ use Rattle.sysv_core.specs.Held.{text_in, IsHeldBy, IsHeldOrOver}
 use Rattle.sysv_lists.proofs.Orders.{at_most}
 
 -- A call whose wait is over has what it had.
-pub resumed_held : (wait : Wait) (value : ℕ) (phase : Phase) (body : Option (List ℕ)) → resume wait value ≡ phase → IsHeldBy (Waits wait) body → IsHeldBy (Goes phase) body
-resumed_held (OnSettled goal get) value phase body e h = subst (λ p. IsHeldBy (Goes p) body) e (record { has = h.has; short = h.short; blocks = λ send n f. absurd cc; afterwards = λ n w f. absurd cc })
-resumed_held (OnFreed goal send) value phase body e h = subst (λ p. IsHeldBy (Goes p) body) e (record { has = h.has; short = h.short; blocks = λ send n f. absurd cc; afterwards = λ n w f. absurd cc })
-resumed_held (OnArrived goal receive) value phase body e h = subst (λ p. IsHeldBy (Goes p) body) e (record { has = h.has; short = h.short; blocks = λ send n f. absurd cc; afterwards = λ n w f. absurd cc })
-resumed_held (OnReleased goal send) value phase body e h = subst (λ p. IsHeldBy (Goes p) body) e (record { has = h.has; short = h.short; blocks = λ send n f. absurd cc; afterwards = λ n w f. absurd cc })
+pub resumed_held : (wait : Wait) (value : ℕ) (phase : Phase) (body : Option (List ℕ)) → resume wait value ≡ phase →
+    IsHeldBy (Waits wait) body → IsHeldBy (Goes phase) body
+resumed_held (OnSettled goal get) value phase body e h = subst (λ p. IsHeldBy (Goes p) body) e
+    (record { has = h.has; short = h.short; blocks = λ send n f. absurd cc; afterwards = λ n w f. absurd cc })
+resumed_held (OnFreed goal send) value phase body e h = subst (λ p. IsHeldBy (Goes p) body) e
+    (record { has = h.has; short = h.short; blocks = λ send n f. absurd cc; afterwards = λ n w f. absurd cc })
+resumed_held (OnArrived goal receive) value phase body e h = subst (λ p. IsHeldBy (Goes p) body) e
+    (record { has = h.has; short = h.short; blocks = λ send n f. absurd cc; afterwards = λ n w f. absurd cc })
+resumed_held (OnReleased goal send) value phase body e h = subst (λ p. IsHeldBy (Goes p) body) e
+    (record { has = h.has; short = h.short; blocks = λ send n f. absurd cc; afterwards = λ n w f. absurd cc })
 
 -- ---- the start
 
@@ -49,20 +57,31 @@ received text = record { has = refl; short = λ e. absurd cc }
 sent : (text : List ℕ) → length text ≤ MESSAGE_BYTES → IsBrought Sends (Some text)
 sent text low = record { has = refl; short = λ e. low }
 
-held_first : (cred : Cred) (asked : SystemCall) (released : ℕ) (body : Option (List ℕ)) → IsBrought (kind_of asked) body → IsHeldBy (Goes (first cred asked released)) body
-held_first cred (Msgget key flags) released body h = record { has = h.has; short = λ e. absurd cc; blocks = λ send n e. absurd cc; afterwards = λ n w e. absurd cc }
-held_first cred (Msgsnd id mtype flags text) released body h = record { has = h.has; short = λ e. h.short refl; blocks = λ send n e. absurd cc; afterwards = λ n w e. absurd cc }
-held_first cred (Msgrcv id size mtype flags) released body h = record { has = h.has; short = λ e. absurd cc; blocks = λ send n e. absurd cc; afterwards = λ n w e. absurd cc }
-held_first cred (MsgctlStat id) released body h = record { has = h.has; short = λ e. absurd cc; blocks = λ send n e. absurd cc; afterwards = λ n w e. absurd cc }
-held_first cred (MsgctlSet id to) released body h = record { has = h.has; short = λ e. absurd cc; blocks = λ send n e. absurd cc; afterwards = λ n w e. absurd cc }
-held_first cred (MsgctlRmid id) released body h = record { has = h.has; short = λ e. absurd cc; blocks = λ send n e. absurd cc; afterwards = λ n w e. absurd cc }
+held_first : (cred : Cred) (asked : SystemCall) (released : ℕ) (body : Option (List ℕ)) →
+    IsBrought (kind_of asked) body → IsHeldBy (Goes (first cred asked released)) body
+held_first cred (Msgget key flags) released body h =
+    record { has = h.has; short = λ e. absurd cc; blocks = λ send n e. absurd cc; afterwards = λ n w e. absurd cc }
+held_first cred (Msgsnd id mtype flags text) released body h =
+    record { has = h.has; short = λ e. h.short refl; blocks = λ send n e. absurd cc; afterwards = λ n w e. absurd cc }
+held_first cred (Msgrcv id size mtype flags) released body h =
+    record { has = h.has; short = λ e. absurd cc; blocks = λ send n e. absurd cc; afterwards = λ n w e. absurd cc }
+held_first cred (MsgctlStat id) released body h =
+    record { has = h.has; short = λ e. absurd cc; blocks = λ send n e. absurd cc; afterwards = λ n w e. absurd cc }
+held_first cred (MsgctlSet id to) released body h =
+    record { has = h.has; short = λ e. absurd cc; blocks = λ send n e. absurd cc; afterwards = λ n w e. absurd cc }
+held_first cred (MsgctlRmid id) released body h =
+    record { has = h.has; short = λ e. absurd cc; blocks = λ send n e. absurd cc; afterwards = λ n w e. absurd cc }
 
-begun_held : (cred : Cred) (asked : SystemCall) (released : ℕ) (s : State) (body : Option (List ℕ)) (b : Bool) → IsBrought (kind_of asked) body → cond b (Over (Refused EINVAL)) (Goes (first cred asked released)) ≡ s → IsHeldOrOver s body
+begun_held : (cred : Cred) (asked : SystemCall) (released : ℕ) (s : State) (body : Option (List ℕ)) (b : Bool) →
+    IsBrought (kind_of asked) body → cond b (Over (Refused EINVAL)) (Goes (first cred asked released)) ≡ s →
+    IsHeldOrOver s body
 begun_held cred asked released s body true h e = subst (λ x. IsHeldOrOver x body) e tt
-begun_held cred asked released s body false h e = subst (λ x. IsHeldOrOver x body) e (held_first cred asked released body h)
+begun_held cred asked released s body false h e =
+    subst (λ x. IsHeldOrOver x body) e (held_first cred asked released body h)
 
 -- A call that was just started.
-pub held_begun : (cred : Cred) (asked : SystemCall) (released : ℕ) (s : State) (body : Option (List ℕ)) → IsBrought (kind_of asked) body → begin cred asked released ≡ s → IsHeldOrOver s body
+pub held_begun : (cred : Cred) (asked : SystemCall) (released : ℕ) (s : State) (body : Option (List ℕ)) →
+    IsBrought (kind_of asked) body → begin cred asked released ≡ s → IsHeldOrOver s body
 held_begun cred asked released s body h e = begun_held cred asked released s body (is_refused asked) h e
 
 or_false : (a b c : Bool) → (a || b || c) ≡ false → b ≡ false
@@ -76,23 +95,35 @@ not_long a b e = elim (at_most b a) [
   | inr high ↦ let yes : nat_lt a b ≡ true = grind (arith, nat_tests, high) in absurd cc
 ]
 
-sent_by : (cred : Cred) (id mtype : ℤ) (flags : Flags) (text : List ℕ) (released : ℕ) (s : State) (b : Bool) → is_refused (Msgsnd id mtype flags text) ≡ b → begin cred (Msgsnd id mtype flags text) released ≡ s → IsHeldOrOver s (Some text)
+sent_by : (cred : Cred) (id mtype : ℤ) (flags : Flags) (text : List ℕ) (released : ℕ) (s : State) (b : Bool) →
+    is_refused (Msgsnd id mtype flags text) ≡ b → begin cred (Msgsnd id mtype flags text) released ≡ s →
+    IsHeldOrOver s (Some text)
 sent_by cred id mtype flags text released s true r e =
-    subst (λ x. IsHeldOrOver x (Some text)) (ap (λ b. cond b (Over (Refused EINVAL)) (Goes (first cred (Msgsnd id mtype flags text) released))) (sym r) ∙ e) tt
+    subst (λ x. IsHeldOrOver x (Some text))
+    (ap (λ b. cond b (Over (Refused EINVAL)) (Goes (first cred (Msgsnd id mtype flags text) released))) (sym r) ∙ e) tt
 sent_by cred id mtype flags text released s false r e =
-    held_begun cred (Msgsnd id mtype flags text) released s (Some text) (sent text (not_long MESSAGE_BYTES (length text) (or_false _ _ _ r))) e
+    held_begun cred (Msgsnd id mtype flags text) released s (Some text)
+    (sent text (not_long MESSAGE_BYTES (length text) (or_false _ _ _ r))) e
 
-pub held_sent : (cred : Cred) (id mtype : ℤ) (flags : Flags) (text : List ℕ) (released : ℕ) (s : State) → begin cred (Msgsnd id mtype flags text) released ≡ s → IsHeldOrOver s (Some text)
-held_sent cred id mtype flags text released s e = sent_by cred id mtype flags text released s (is_refused (Msgsnd id mtype flags text)) refl e
+pub held_sent : (cred : Cred) (id mtype : ℤ) (flags : Flags) (text : List ℕ) (released : ℕ) (s : State) →
+    begin cred (Msgsnd id mtype flags text) released ≡ s → IsHeldOrOver s (Some text)
+held_sent cred id mtype flags text released s e =
+    sent_by cred id mtype flags text released s (is_refused (Msgsnd id mtype flags text)) refl e
 
 -- A get holds no body and no blocks.
 pub held_get : (s : State) → Gets s → IsHeldOrOver s None
-held_get (Goes (AtBegin get)) k = record { has = refl; short = λ e. absurd cc; blocks = λ send n e. absurd cc; afterwards = λ n w e. absurd cc }
-held_get (Goes (AtInstall get id)) k = record { has = refl; short = λ e. absurd cc; blocks = λ send n e. absurd cc; afterwards = λ n w e. absurd cc }
-held_get (Goes (AtSettle id)) k = record { has = refl; short = λ e. absurd cc; blocks = λ send n e. absurd cc; afterwards = λ n w e. absurd cc }
-held_get (Goes (AtProbe get id settled)) k = record { has = refl; short = λ e. absurd cc; blocks = λ send n e. absurd cc; afterwards = λ n w e. absurd cc }
-held_get (Goes (AtUnmake id)) k = record { has = refl; short = λ e. absurd cc; blocks = λ send n e. absurd cc; afterwards = λ n w e. absurd cc }
-held_get (Waits (OnSettled goal get)) k = record { has = refl; short = λ e. absurd cc; blocks = λ send n e. absurd cc; afterwards = λ n w e. absurd cc }
+held_get (Goes (AtBegin get)) k =
+    record { has = refl; short = λ e. absurd cc; blocks = λ send n e. absurd cc; afterwards = λ n w e. absurd cc }
+held_get (Goes (AtInstall get id)) k =
+    record { has = refl; short = λ e. absurd cc; blocks = λ send n e. absurd cc; afterwards = λ n w e. absurd cc }
+held_get (Goes (AtSettle id)) k =
+    record { has = refl; short = λ e. absurd cc; blocks = λ send n e. absurd cc; afterwards = λ n w e. absurd cc }
+held_get (Goes (AtProbe get id settled)) k =
+    record { has = refl; short = λ e. absurd cc; blocks = λ send n e. absurd cc; afterwards = λ n w e. absurd cc }
+held_get (Goes (AtUnmake id)) k =
+    record { has = refl; short = λ e. absurd cc; blocks = λ send n e. absurd cc; afterwards = λ n w e. absurd cc }
+held_get (Waits (OnSettled goal get)) k =
+    record { has = refl; short = λ e. absurd cc; blocks = λ send n e. absurd cc; afterwards = λ n w e. absurd cc }
 held_get (Over ending) k = tt
 held_get (Goes phase) k = absurd k
 held_get (Waits wait) k = absurd k
@@ -109,7 +140,8 @@ same_asks p n now e = refl
 abbrev pub IsStep : ℕ → Phase → Objects → ℕ → State → Objects → ℕ → Type 0
 IsStep now = StepsOn MakesTurn (λ _ _ _. ⊥) (λ n. n ≡ now)
 
-leads_so : (old new : Objects) (p : Phase) (now before after : ℕ) (s : State) (l : Led) → IsStep now p old before s new after → LeadsTo (gives_back (phase_kind p)) s l → TurnLeads old p now l new
+leads_so : (old new : Objects) (p : Phase) (now before after : ℕ) (s : State) (l : Led) →
+    IsStep now p old before s new after → LeadsTo (gives_back (phase_kind p)) s l → TurnLeads old p now l new
 leads_so old new p now before after s l (inl step) leads = record {
   deed = step.deed;
   state = s;
@@ -126,8 +158,10 @@ none_back (Some Sends) e = refl
 none_back (Some Bare) e = refl
 none_back (Some Receives) e = absurd cc
 
-pub bare_leads : (old new : Objects) (p : Phase) (now before after : ℕ) (s : State) (l : Led) → IsHeldBy (Goes p) None → IsStep now p old before s new after → LeadsTo false s l → TurnLeads old p now l new
-bare_leads old new p now before after s l h step leads = leads_so old new p now before after s l step (subst (λ b. LeadsTo b s l) (sym (none_back (phase_kind p) h.has)) leads)
+pub bare_leads : (old new : Objects) (p : Phase) (now before after : ℕ) (s : State) (l : Led) → IsHeldBy (Goes p) None →
+    IsStep now p old before s new after → LeadsTo false s l → TurnLeads old p now l new
+bare_leads old new p now before after s l h step leads = leads_so old new p now before after s l step
+    (subst (λ b. LeadsTo b s l) (sym (none_back (phase_kind p) h.has)) leads)
 
 send_back : (p : Phase) → IsOfSend (Goes p) → gives_back (phase_kind p) ≡ false
 send_back (AtSendGiveback blocks (WaitsOn (OnFreed goal send))) k = refl
@@ -139,16 +173,21 @@ send_back (AtPlace send blocks) k = refl
 send_back (AtSendGiveback blocks (WaitsOn wait)) k = absurd k
 send_back p k = absurd k
 
-pub send_leads : (old new : Objects) (p : Phase) (now before after : ℕ) (s : State) (l : Led) → IsOfSend (Goes p) → IsStep now p old before s new after → LeadsTo false s l → TurnLeads old p now l new
-send_leads old new p now before after s l k step leads = leads_so old new p now before after s l step (subst (λ b. LeadsTo b s l) (sym (send_back p k)) leads)
+pub send_leads : (old new : Objects) (p : Phase) (now before after : ℕ) (s : State) (l : Led) → IsOfSend (Goes p) →
+    IsStep now p old before s new after → LeadsTo false s l → TurnLeads old p now l new
+send_leads old new p now before after s l k step leads =
+    leads_so old new p now before after s l step (subst (λ b. LeadsTo b s l) (sym (send_back p k)) leads)
 
 receive_back : (p : Phase) → IsOfReceive (Goes p) → gives_back (phase_kind p) ≡ true
 receive_back (AtTake receive) k = refl
 receive_back (AtReceiveGiveback blocks mtype text) k = refl
 receive_back p k = absurd k
 
-pub receive_leads : (old new : Objects) (p : PhaseKept) (text out : List ℕ) (now before after : ℕ) (s : StateKept) (l : Led) → IsOfReceive (Goes (phase_of p text)) →
-    StepsGiving MakesTurn (λ _ _ _. ⊥) (λ n. n ≡ now) p text old before s out new after → LeadsTo true (state_of s out) l → TurnLeads old (phase_of p text) now l new
+pub receive_leads : (old new : Objects) (p : PhaseKept) (text out : List ℕ) (now before after : ℕ) (s : StateKept)
+    (l : Led) → IsOfReceive (Goes (phase_of p text)) →
+    StepsGiving MakesTurn (λ _ _ _. ⊥) (λ n. n ≡ now) p text old before s out new after →
+    LeadsTo true (state_of s out) l → TurnLeads old (phase_of p text) now l new
 receive_leads old new p text out now before after s l k (inl step) leads =
-    leads_so old new (phase_of p text) now before after (state_of s out) l (inl step.0) (subst (λ b. LeadsTo b (state_of s out) l) (sym (receive_back (phase_of p text) k)) leads)
+    leads_so old new (phase_of p text) now before after (state_of s out) l (inl step.0)
+    (subst (λ b. LeadsTo b (state_of s out) l) (sym (receive_back (phase_of p text) k)) leads)
 receive_leads old new p text out now before after s l k (inr step) leads = absurd step.0.worn

@@ -1,5 +1,6 @@
 -- The actors that the code keeps, as the states that are seen.
-use Rattle.std.proofs.Common.{◌≡◌, ℕ, ◌+◌, ◌<◌, ◌≤◌, Bool, true, false, cond, List, Option, None, Some, refl, sym, ap, subst, ◌∙◌, arith, length, slice_get, slice_set, option_map, is_some}
+use Rattle.std.proofs.Common.{◌≡◌, ℕ, ◌+◌, ◌<◌, ◌≤◌, Bool, true, false, cond, List, Option, None, Some, refl, sym, ap}
+use Rattle.std.proofs.Common.{subst, ◌∙◌, arith, length, slice_get, slice_set, option_map, is_some}
 use Rattle.std.specs.List.{slice_index_or}
 use Rattle.std.proofs.lemmas.List.{length-map}
 use Rattle.std.proofs.lemmas.Option.{slice_get-map, slice_get_read}
@@ -29,36 +30,46 @@ pub kept_none : (x : Option Doing) → is_some x ≡ false → state_kept x ≡ 
 kept_none None e = refl
 kept_none (Some p) e = absurd cc
 
-module _ (items : List (Option Doing)) (states : List (Option State)) (view : states_kept items ≡ states) (place : ℕ) (within : place < length states) where
+module _ (items : List (Option Doing)) (states : List (Option State)) (view : states_kept items ≡ states) (place : ℕ)
+    (within : place < length states) where
   inside : place < length items
   inside = omega (arith, length-map items state_kept, ap length view)
 
   pub seen_at : (x : Option Doing) → x ≡ slice_index_or items place x → slice_get states place ≡ Some (state_kept x)
   seen_at x read =
       sym (ap (λ ps. slice_get ps place) view)
-      ∙ (slice_get-map state_kept items place ∙ ap (option_map state_kept) (slice_get_read items (length items) place x refl inside read))
+      ∙ (slice_get-map state_kept items place
+      ∙ ap (option_map state_kept) (slice_get_read items (length items) place x refl inside read))
 
-  pub seen_set : (x : Option Doing) (p : Option State) → state_kept x ≡ p → states_kept (slice_set items place x) ≡ slice_set states place p
-  seen_set x p e = map-slice_set state_kept items place x ∙ (ap (λ ps. slice_set ps place (state_kept x)) view ∙ ap (slice_set states place) e)
+  pub seen_set : (x : Option Doing) (p : Option State) → state_kept x ≡ p →
+      states_kept (slice_set items place x) ≡ slice_set states place p
+  seen_set x p e = map-slice_set state_kept items place x
+      ∙ (ap (λ ps. slice_set ps place (state_kept x)) view ∙ ap (slice_set states place) e)
 
-  pub seen_taken : (x y : Option Doing) (p : Option State) → state_kept y ≡ p → states_kept (slice_set (slice_set items place x) place y) ≡ slice_set states place p
+  pub seen_taken : (x y : Option Doing) (p : Option State) → state_kept y ≡ p →
+      states_kept (slice_set (slice_set items place x) place y) ≡ slice_set states place p
   seen_taken x y p e = ap states_kept (slice_set-twice items place x y) ∙ seen_set y p e
 
-  pub seen_same : (x : Option Doing) (p : Option State) → state_kept x ≡ p → slice_get states place ≡ Some p → states_kept (slice_set items place x) ≡ states
+  pub seen_same : (x : Option Doing) (p : Option State) → state_kept x ≡ p → slice_get states place ≡ Some p →
+      states_kept (slice_set items place x) ≡ states
   seen_same x p e there = seen_set x p e ∙ slice_set-same states place p there
 
   -- What is stored at that place, whether or not something was taken from it.
-  pub seen_settled : (new : List (Option Doing)) (l : Led) → new ≡ slice_set items place (doing_led l) → states_kept new ≡ slice_set states place (kept_led l)
+  pub seen_settled : (new : List (Option Doing)) (l : Led) → new ≡ slice_set items place (doing_led l) →
+      states_kept new ≡ slice_set states place (kept_led l)
   seen_settled new l e = ap states_kept e ∙ seen_set (doing_led l) (kept_led l) refl
 
-  pub seen_resettled : (x : Option Doing) (new : List (Option Doing)) (l : Led) → new ≡ slice_set (slice_set items place x) place (doing_led l) → states_kept new ≡ slice_set states place (kept_led l)
+  pub seen_resettled : (x : Option Doing) (new : List (Option Doing)) (l : Led) →
+      new ≡ slice_set (slice_set items place x) place (doing_led l) →
+      states_kept new ≡ slice_set states place (kept_led l)
   seen_resettled x new l e = ap states_kept e ∙ seen_taken x (doing_led l) (kept_led l) refl
 
   there : (x : Option Doing) → x ≡ slice_index_or items place x → slice_get items place ≡ Some x
   there x read = slice_get_read items (length items) place x refl inside read
 
   -- The actor at that place is in no call.
-  pub idle_there : (x : Option Doing) → x ≡ slice_index_or items place x → is_some x ≡ false → slice_get items place ≡ Some None
+  pub idle_there : (x : Option Doing) → x ≡ slice_index_or items place x → is_some x ≡ false →
+      slice_get items place ≡ Some None
   idle_there x read e = there x read ∙ ap Some (none_is x e)
     where
       none_is : (y : Option Doing) → is_some y ≡ false → y ≡ None
@@ -66,11 +77,14 @@ module _ (items : List (Option Doing)) (states : List (Option State)) (view : st
       none_is (Some d) e = absurd cc
 
   -- An actor whose call was taken out is in no call.
-  pub taken_there : (x : Option Doing) → x ≡ slice_index_or items place x → (new : Option Doing) → new ≡ None → slice_get (slice_set items place new) place ≡ Some None
+  pub taken_there : (x : Option Doing) → x ≡ slice_index_or items place x → (new : Option Doing) → new ≡ None →
+      slice_get (slice_set items place new) place ≡ Some None
   taken_there x read new e = get_set_same items place new x (there x read) ∙ ap Some e
 
 pub same_seen : (o p : Objects) (s t : List (Option State)) (m n : ℕ) (a b : Tallied) → o ≡ p → s ≡ t → m ≡ n → a ≡ b →
-    let x : Seen = record { objects = o; states = s; steps = m; tally = a } in let y : Seen = record { objects = p; states = t; steps = n; tally = b } in x ≡ y
+    let x : Seen = record { objects = o; states = s; steps = m; tally = a } in
+    let y : Seen = record { objects = p; states = t; steps = n; tally = b } in
+    x ≡ y
 same_seen o p s t m n a b e f g h = cc
 
 -- ---- the bound of the tally
@@ -96,7 +110,8 @@ given_at_most actor l = omega (arith, given_counted actor l, counted_at_most l)
 -- ---- the bound of the counts
 
 pub weaker : (m n : ℕ) (o : Objects) → m ≤ n → CountsUpTo m o → CountsUpTo n o
-weaker m n o le up = (λ number slot here. let u = up.0 number slot here in (omega (arith, u.0), omega (arith, u.1)), omega (arith, up.1))
+weaker m n o le up =
+    (λ number slot here. let u = up.0 number slot here in (omega (arith, u.0), omega (arith, u.1)), omega (arith, up.1))
 
 raises_one : (call : Call) → raises call ≤ 1
 raises_one (Install id key cred mode now) = omega arith
@@ -116,9 +131,13 @@ raises_at_most (AtPool (Reserve size) reply) = omega arith
 raises_at_most (AtPool (Release blocks) reply) = omega arith
 
 -- A step does not raise the counts above the step number.
-pub counts_on : (old : Objects) (state : State) (now : ℕ) (l : Led) (new : Objects) (n : ℕ) → StepLeads old state now l new → CountsUpTo n old → CountsUpTo (n + counted_led l) new
-counts_on old (Goes phase) now (led.To doing) new n step up = weaker (n + raises_by step.deed) (n + 1) new (omega (arith, raises_at_most step.deed)) (step.turn.counts n up)
-counts_on old (Goes phase) now (led.Over ended) new n step up = weaker (n + raises_by step.deed) (n + 1) new (omega (arith, raises_at_most step.deed)) (step.turn.counts n up)
+pub counts_on : (old : Objects) (state : State) (now : ℕ) (l : Led) (new : Objects) (n : ℕ) →
+    StepLeads old state now l new → CountsUpTo n old → CountsUpTo (n + counted_led l) new
+counts_on old (Goes phase) now (led.To doing) new n step up =
+    weaker (n + raises_by step.deed) (n + 1) new (omega (arith, raises_at_most step.deed)) (step.turn.counts n up)
+counts_on old (Goes phase) now (led.Over ended) new n step up =
+    weaker (n + raises_by step.deed) (n + 1) new (omega (arith, raises_at_most step.deed)) (step.turn.counts n up)
 counts_on old (Goes phase) now (led.Stays doing) new n step up = absurd step.leads
-counts_on old (Waits wait) now l new n step up = weaker n (n + counted_led l) new (omega arith) (subst (CountsUpTo n) (sym step.1) up)
+counts_on old (Waits wait) now l new n step up =
+    weaker n (n + counted_led l) new (omega arith) (subst (CountsUpTo n) (sym step.1) up)
 counts_on old (Over ending) now l new n step up = absurd step

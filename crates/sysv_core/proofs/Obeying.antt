@@ -1,9 +1,12 @@
 -- Every list of happenings leads only to worlds that obey the laws.
-use Rattle.std.proofs.Common.{◌≡◌, ◌≢◌, ℕ, zero, suc, ◌+◌, ◌<◌, ◌≤◌, ◌⊎◌, inl, inr, Bool, true, false, cond, List, [], ◌∷◌, ◌++◌, Option, None, Some, refl, sym, ap, subst, ◌∙◌, arith, slice_get, slice_set, append_assoc, map}
+use Rattle.std.proofs.Common.{◌≡◌, ◌≢◌, ℕ, zero, suc, ◌+◌, ◌<◌, ◌≤◌, ◌⊎◌, inl, inr, Bool, true, false, cond, List, []}
+use Rattle.std.proofs.Common.{◌∷◌, ◌++◌, Option, None, Some, refl, sym, ap, subst, ◌∙◌, arith, slice_get, slice_set}
+use Rattle.std.proofs.Common.{append_assoc, map}
 use Rattle.std.specs.List.{All, AllPairs, Contains, filter}
 use Rattle.std.proofs.Math.ListN.{get_or}
 use Rattle.std.proofs.lemmas.List.{append-nil}
-use Rattle.std.proofs.lemmas.List.Elements.{All-weaker, All-push, All-contains_itself, All-contains, Contains-get_or, Contains-append_left, Contains-push, Contains-push_cases}
+use Rattle.std.proofs.lemmas.List.Elements.{All-weaker, All-push, All-contains_itself, All-contains, Contains-get_or}
+use Rattle.std.proofs.lemmas.List.Elements.{Contains-append_left, Contains-push, Contains-push_cases}
 use Rattle.std.proofs.lemmas.List.Quantifiers.{all_pairs_push}
 use Rattle.sysv_model.specs.declared.cred.Cred.{Cred}
 use Rattle.sysv_model.specs.History.{Who, Actor, History}
@@ -29,9 +32,13 @@ use Rattle.sysv_steps.specs.Effects.{effects, EachHasOneEffect}
 use Rattle.sysv_steps.specs.HoldsAsked.{EachHoldsWhatItWasAsked}
 use Rattle.sysv_steps.specs.WaitsFor.{EachWaitsForItsRefusal}
 use Rattle.sysv_steps.specs.AfterRemoval.{EachIsToldOfRemoval}
-use Rattle.sysv_core.specs.World.{World, Opening, Started, Doing, Given, Happening, Preset, Start, Step, opening, doing_in, given_in, StaysWith, starting, begun, Turns, value_of, Looks, Continues, StartsAt, StepsAt, preset_who, preset_begin, preset_install, preset_settle, with_preset_turns, Presets, Makes}
+use Rattle.sysv_core.specs.World.{World, Opening, Started, Doing, Given, Happening, Preset, Start, Step, opening}
+use Rattle.sysv_core.specs.World.{doing_in, given_in, StaysWith, starting, begun, Turns, value_of, Looks, Continues}
+use Rattle.sysv_core.specs.World.{StartsAt, StepsAt, preset_who, preset_begin, preset_install, preset_settle}
+use Rattle.sysv_core.specs.World.{with_preset_turns, Presets, Makes}
 use Rattle.sysv_core.specs.Run.{Leads}
-use Rattle.sysv_core.specs.AnswerLaw.{endings_of, stands_in, standing_of, ended, standing, Fate, IsOfPreset, IsMade, AsksAsItWasAsked}
+use Rattle.sysv_core.specs.AnswerLaw.{endings_of, stands_in, standing_of, ended, standing, Fate, IsOfPreset, IsMade}
+use Rattle.sysv_core.specs.AnswerLaw.{AsksAsItWasAsked}
 use Rattle.sysv_core.specs.Headline.{IsLawful, Obeys}
 use Rattle.sysv_core.specs.Conserved.{AreConserved}
 use Rattle.sysv_core.specs.Vacant.{AllFindVacant}
@@ -50,7 +57,8 @@ use Rattle.sysv_core.proofs.Telling.{told_so}
 use Rattle.sysv_core.proofs.Tending.{are_tended}
 use Rattle.sysv_core.proofs.Settling.{settled_once_installed}
 use Rattle.sysv_core.proofs.Lists.{get_set_same, get_set_other, same_place}
-use Rattle.sysv_core.proofs.Own.{same_who, same_itself, not_same, same_or_not, own_deed, other_deed, own_endings, other_endings, IsIn, at_actor, own_standing, other_standing}
+use Rattle.sysv_core.proofs.Own.{same_who, same_itself, not_same, same_or_not, own_deed, other_deed, own_endings}
+use Rattle.sysv_core.proofs.Own.{other_endings, IsIn, at_actor, own_standing, other_standing}
 
 -- The call was started by an actor before this step number.
 abbrev pub IsBefore : ℕ → Started → Type 0
@@ -96,12 +104,22 @@ pub record Stands (turns : List Turn) (given : List Given) (call : Started) (sta
 abbrev pub OthersStay : Who → List Turn → List Turn → Type 0
 OthersStay who turns more = (other : Who) → is_same other who ≡ false → deeds_of other more ≡ deeds_of other turns
 
-module _ (w : World) (given : List Given) (turns : List Turn) (calls : List Started) (place : ℕ) (was : Option Doing) (call : Started) (state : State)
-    (there : slice_get w.actors place ≡ Some was) (within : IsIn call.who was) (stay : OthersStay call.who w.turns turns) where
+module _ (w : World) (given : List Given) (turns : List Turn) (calls : List Started) (place : ℕ) (was : Option Doing)
+    (call : Started) (state : State)
+    (there : slice_get w.actors place ≡ Some was) (within : IsIn call.who was)
+    (stay : OthersStay call.who w.turns turns) where
   abbrev moved : World
-  moved = record { turns = turns; calls = calls; actors = slice_set w.actors place (doing_in call state); steps = w.steps + 1; blocks = w.blocks; generation = w.generation }
+  moved = record {
+    turns = turns;
+    calls = calls;
+    actors = slice_set w.actors place (doing_in call state);
+    steps = w.steps + 1;
+    blocks = w.blocks;
+    generation = w.generation;
+  }
 
-  other_fate : (c : Started) → is_same c.who call.who ≡ false → Fate w given c → Fate moved (given ++ given_in call state) c
+  other_fate : (c : Started) → is_same c.who call.who ≡ false → Fate w given c →
+      Fate moved (given ++ given_in call state) c
   other_fate c apart f = record {
     state = f.state;
     plays = subst (λ ds. Plays (begun c) ds f.state) (sym (stay c.who apart)) f.plays;
@@ -109,7 +127,8 @@ module _ (w : World) (given : List Given) (turns : List Turn) (calls : List Star
     stands = other_standing c.who w.actors place was call state apart there within ∙ f.stands;
   }
 
-  own_fate : (start : ℕ) → call.who ≡ Actor (suc place) start → Stands turns given call state → Fate moved (given ++ given_in call state) call
+  own_fate : (start : ℕ) → call.who ≡ Actor (suc place) start → Stands turns given call state →
+      Fate moved (given ++ given_in call state) call
   own_fate start who s = record {
     state = state;
     plays = s.plays;
@@ -118,14 +137,18 @@ module _ (w : World) (given : List Given) (turns : List Turn) (calls : List Star
   }
 
   -- An actor is in a call that it started.
-  now_doing : (start : ℕ) → call.who ≡ Actor (suc place) start → Contains calls call → ((c : Started) → Contains w.calls c → Contains calls c) → AreOwn w.calls w.actors →
+  now_doing : (start : ℕ) → call.who ≡ Actor (suc place) start → Contains calls call →
+      ((c : Started) → Contains w.calls c → Contains calls c) → AreOwn w.calls w.actors →
       (o : Option Doing) → o ≡ doing_in call state → AreOwn calls (slice_set w.actors place o)
   now_doing start who has more own o is = λ p d at. elim (same_place place p) [
     | inl same ↦
-        let here : Some o ≡ Some (Some d) = sym (get_set_same w.actors place o was there) ∙ subst (λ n. slice_get (slice_set w.actors place o) n ≡ Some (Some d)) (sym same) at in
+        let here : Some o ≡ Some (Some d) = sym (get_set_same w.actors place o was there)
+        ∙ subst (λ n. slice_get (slice_set w.actors place o) n ≡ Some (Some d)) (sym same) at in
         let mine : doing_in call state ≡ Some d = sym is ∙ some_is o (Some d) here in
-        let c = call_of call state d mine in
-        (subst (Contains calls) (sym c) has, (start, ap (λ (x : Started). x.who) c ∙ (who ∙ ap (λ n. Actor (suc n) start) same)))
+        let c = call_of call state d mine in (
+          subst (Contains calls) (sym c) has,
+          (start, ap (λ (x : Started). x.who) c ∙ (who ∙ ap (λ n. Actor (suc n) start) same)),
+        )
     | inr apart ↦
         let old = own p d (sym (get_set_other w.actors place p o apart) ∙ at) in
         (more d.call old.0, old.1)
@@ -139,11 +162,15 @@ module _ (w : World) (given : List Given) (turns : List Turn) (calls : List Star
       call_of c (Waits wait) d e = cc
       call_of c (Over ending) d e = absurd cc
 
-known_more : (calls : List Started) (given : List Given) (call : Started) (state : State) → Contains calls call → All (λ (g : Given). Contains calls g.call) given →
+known_more : (calls : List Started) (given : List Given) (call : Started) (state : State) → Contains calls call →
+    All (λ (g : Given). Contains calls g.call) given →
     All (λ (g : Given). Contains calls g.call) (given ++ given_in call state)
-known_more calls given call (Goes phase) has all = subst (All (λ (g : Given). Contains calls g.call)) (sym (append-nil given)) all
-known_more calls given call (Waits wait) has all = subst (All (λ (g : Given). Contains calls g.call)) (sym (append-nil given)) all
-known_more calls given call (Over ending) has all = All-push (λ (g : Given). Contains calls g.call) given (record { call = call; ending = ending }) all has
+known_more calls given call (Goes phase) has all =
+    subst (All (λ (g : Given). Contains calls g.call)) (sym (append-nil given)) all
+known_more calls given call (Waits wait) has all =
+    subst (All (λ (g : Given). Contains calls g.call)) (sym (append-nil given)) all
+known_more calls given call (Over ending) has all =
+    All-push (λ (g : Given). Contains calls g.call) given (record { call = call; ending = ending }) all has
 
 -- ---- a call that is under way goes on
 
@@ -151,7 +178,8 @@ sooner : (n : ℕ) (c : Started) → IsBefore n c → IsBefore (n + 1) c
 sooner n c b = (b.0, b.1, b.2, omega (arith, b.3))
 
 -- If an actor is in a call, the call is in that state and has no ending.
-module _ (w : World) (given : List Given) (i : Inv w given) (place : ℕ) (d : Doing) (there : slice_get w.actors place ≡ Some (Some d)) where
+module _ (w : World) (given : List Given) (i : Inv w given) (place : ℕ) (d : Doing)
+    (there : slice_get w.actors place ≡ Some (Some d)) where
   abbrev it : Started
   it = d.call
 
@@ -162,10 +190,12 @@ module _ (w : World) (given : List Given) (i : Inv w given) (place : ℕ) (d : D
   its_name = (i.doing place d there).1
 
   standing_is : (o : Option (Option Doing)) → o ≡ Some (Some d) → stands_in d.call.who o ≡ Some d.state
-  standing_is o e = ap (stands_in d.call.who) e ∙ ap (λ b. cond b (Some d.state) None) (same_itself place its_name.0 d.call.who its_name.1)
+  standing_is o e = ap (stands_in d.call.who) e
+      ∙ ap (λ b. cond b (Some d.state) None) (same_itself place its_name.0 d.call.who its_name.1)
 
   where_it_stands : standing_of d.call.who w.actors ≡ Some d.state
-  where_it_stands = at_actor d.call.who place its_name.0 w.actors its_name.1 ∙ standing_is (slice_get w.actors place) there
+  where_it_stands =
+      at_actor d.call.who place its_name.0 w.actors its_name.1 ∙ standing_is (slice_get w.actors place) there
 
   its_state : (s : State) → standing s ≡ Some d.state → (s ≡ d.state) × (ended s ≡ [])
   its_state (Goes phase) e = (cc, refl)
@@ -176,10 +206,28 @@ module _ (w : World) (given : List Given) (i : Inv w given) (place : ℕ) (d : D
   stands_there =
       let f = i.fates d.call has_it in
       let s = its_state f.state (sym f.stands ∙ where_it_stands) in
-      record { plays = subst (Plays (begun d.call) (deeds_of d.call.who w.turns)) s.0 f.plays; quiet = f.answered ∙ s.1 }
+      record {
+        plays = subst (Plays (begun d.call) (deeds_of d.call.who w.turns)) s.0 f.plays;
+        quiet = f.answered ∙ s.1;
+      }
 
-  pub goes_on : (turns : List Turn) (state : State) → IsSound (record { turns = turns; calls = w.calls; actors = slice_set w.actors place (doing_in d.call state); steps = w.steps + 1; blocks = w.blocks; generation = w.generation }) → OthersStay d.call.who w.turns turns → Stands turns given d.call state → All (HasName w.calls) turns →
-      Inv (record { turns = turns; calls = w.calls; actors = slice_set w.actors place (doing_in d.call state); steps = w.steps + 1; blocks = w.blocks; generation = w.generation }) (given ++ given_in d.call state)
+  pub goes_on : (turns : List Turn) (state : State) →
+      IsSound (record {
+        turns = turns;
+        calls = w.calls;
+        actors = slice_set w.actors place (doing_in d.call state);
+        steps = w.steps + 1;
+        blocks = w.blocks;
+        generation = w.generation;
+      }) → OthersStay d.call.who w.turns turns → Stands turns given d.call state → All (HasName w.calls) turns →
+      Inv (record {
+        turns = turns;
+        calls = w.calls;
+        actors = slice_set w.actors place (doing_in d.call state);
+        steps = w.steps + 1;
+        blocks = w.blocks;
+        generation = w.generation;
+      }) (given ++ given_in d.call state)
   goes_on turns state sound stay s made = record {
     sound = sound;
     fates = λ c has. elim (same_or_not c.who d.call.who (is_same c.who d.call.who) refl) [
@@ -194,7 +242,8 @@ module _ (w : World) (given : List Given) (i : Inv w given) (place : ℕ) (d : D
     named = i.named;
     made = made;
     known = known_more w.calls given d.call state has_it i.known;
-    doing = now_doing w given turns w.calls place (Some d) d.call state there refl stay its_name.0 its_name.1 has_it (λ c has. has) i.doing (doing_in d.call state) refl;
+    doing = now_doing w given turns w.calls place (Some d) d.call state there refl stay its_name.0 its_name.1 has_it
+        (λ c has. has) i.doing (doing_in d.call state) refl;
   }
 
 -- ---- the start of a call
@@ -205,19 +254,28 @@ number_of p q s t e = cc
 not_new : (n place : ℕ) (c : Started) (name : Who) → name ≡ Actor (suc place) n → IsBefore n c → c.who ≢ name
 not_new n place c name is b = λ same. omega (arith, b.3, number_of b.0 place b.1 n (sym b.2 ∙ (same ∙ is)))
 
-no_deeds : (name : Who) (turns : List Turn) → ((t : Turn) → Contains turns t → is_same name t.who ≡ false) → deeds_of name turns ≡ []
+no_deeds : (name : Who) (turns : List Turn) → ((t : Turn) → Contains turns t → is_same name t.who ≡ false) →
+    deeds_of name turns ≡ []
 no_deeds name [] f = refl
 no_deeds name (t ∷ turns) f =
-    ap (λ b. map (λ (x : Turn). x.deed) (cond b (t ∷ filter (λ (x : Turn). is_same name x.who) turns) (filter (λ (x : Turn). is_same name x.who) turns))) (f t (0, omega arith, refl))
+    ap (λ b.
+    map (λ (x : Turn). x.deed)
+    (cond b (t ∷ filter (λ (x : Turn). is_same name x.who) turns) (filter (λ (x : Turn). is_same name x.who) turns)))
+    (f t (0, omega arith, refl))
     ∙ no_deeds name turns (λ x has. f x (suc has.0, omega (arith, has.1), has.2))
 
-no_endings : (name : Who) (given : List Given) → ((g : Given) → Contains given g → is_same name g.call.who ≡ false) → endings_of name given ≡ []
+no_endings : (name : Who) (given : List Given) → ((g : Given) → Contains given g → is_same name g.call.who ≡ false) →
+    endings_of name given ≡ []
 no_endings name [] f = refl
 no_endings name (g ∷ given) f =
-    ap (λ b. map (λ (x : Given). x.ending) (cond b (g ∷ filter (λ (x : Given). is_same name x.call.who) given) (filter (λ (x : Given). is_same name x.call.who) given))) (f g (0, omega arith, refl))
+    ap (λ b.
+    map (λ (x : Given). x.ending)
+    (cond b (g ∷ filter (λ (x : Given). is_same name x.call.who) given)
+    (filter (λ (x : Given). is_same name x.call.who) given))) (f g (0, omega arith, refl))
     ∙ no_endings name given (λ x has. f x (suc has.0, omega (arith, has.1), has.2))
 
-module _ (w : World) (given : List Given) (i : Inv w given) (place : ℕ) (there : slice_get w.actors place ≡ Some None) (call : Started) (name : call.who ≡ Actor (suc place) w.steps) where
+module _ (w : World) (given : List Given) (i : Inv w given) (place : ℕ) (there : slice_get w.actors place ≡ Some None)
+    (call : Started) (name : call.who ≡ Actor (suc place) w.steps) where
   is_new : (c : Started) → Contains w.calls c → c.who ≢ call.who
   is_new c has = not_new w.steps place c call.who name (i.before c has)
 
@@ -233,19 +291,37 @@ module _ (w : World) (given : List Given) (i : Inv w given) (place : ℕ) (there
   stands_new : Stands w.turns given call (begun call)
   stands_new = record {
     plays = subst (λ ds. Plays (begun call) ds (begun call)) (sym (no_deeds call.who w.turns new_turns)) begins;
-    quiet = no_endings call.who given (λ g has. not_same call.who g.call.who (λ e. is_new g.call (All-contains (λ (x : Given). Contains w.calls x.call) given g i.known has) (sym e)));
+    quiet = no_endings call.who given (λ g has.
+        not_same call.who g.call.who
+        (λ e. is_new g.call (All-contains (λ (x : Given). Contains w.calls x.call) given g i.known has) (sym e)));
   }
 
-  pub starts : IsSound (record { turns = w.turns; calls = w.calls ++ call ∷ []; actors = slice_set w.actors place (doing_in call (begun call)); steps = w.steps + 1; blocks = w.blocks; generation = w.generation }) →
-      Inv (record { turns = w.turns; calls = w.calls ++ call ∷ []; actors = slice_set w.actors place (doing_in call (begun call)); steps = w.steps + 1; blocks = w.blocks; generation = w.generation }) (given ++ given_in call (begun call))
+  pub starts : IsSound (record {
+    turns = w.turns;
+    calls = w.calls ++ call ∷ [];
+    actors = slice_set w.actors place (doing_in call (begun call));
+    steps = w.steps + 1;
+    blocks = w.blocks;
+    generation = w.generation;
+  }) →
+      Inv (record {
+        turns = w.turns;
+        calls = w.calls ++ call ∷ [];
+        actors = slice_set w.actors place (doing_in call (begun call));
+        steps = w.steps + 1;
+        blocks = w.blocks;
+        generation = w.generation;
+      }) (given ++ given_in call (begun call))
   starts sound =
       let calls = w.calls ++ call ∷ [] in
       let stay : OthersStay call.who w.turns w.turns = λ other apart. refl in
       record {
         sound = sound;
         fates = λ c has. elim (Contains-push_cases w.calls call c has) [
-          | inl old ↦ other_fate w given w.turns calls place None call (begun call) there tt stay c (not_same c.who call.who (is_new c old)) (i.fates c old)
-          | inr same ↦ subst (Fate _ (given ++ given_in call (begun call))) same (own_fate w given w.turns calls place None call (begun call) there tt stay w.steps name stands_new)
+          | inl old ↦ other_fate w given w.turns calls place None call (begun call) there tt stay c
+              (not_same c.who call.who (is_new c old)) (i.fates c old)
+          | inr same ↦ subst (Fate _ (given ++ given_in call (begun call))) same
+              (own_fate w given w.turns calls place None call (begun call) there tt stay w.steps name stands_new)
         ];
         before = λ c has. elim (Contains-push_cases w.calls call c has) [
           | inl old ↦ sooner w.steps c (i.before c old)
@@ -263,10 +339,14 @@ module _ (w : World) (given : List Given) (i : Inv w given) (place : ℕ) (there
             | inr newer ↦ sym new ∙ newer
           ]
         ];
-        made = All-weaker (HasName w.calls) (HasName calls) (λ t m. elim m [ inl p ↦ inl p | inr by ↦ inr (by.0, Contains-append_left w.calls (call ∷ []) by.0 by.1, by.2) ]) w.turns i.made;
+        made = All-weaker (HasName w.calls) (HasName calls) (λ t m.
+            elim m [ inl p ↦ inl p | inr by ↦ inr (by.0, Contains-append_left w.calls (call ∷ []) by.0 by.1, by.2) ])
+            w.turns i.made;
         known = known_more calls given call (begun call) (Contains-push w.calls call)
-            (All-weaker (λ (g : Given). Contains w.calls g.call) (λ (g : Given). Contains calls g.call) (λ g has. Contains-append_left w.calls (call ∷ []) g.call has) given i.known);
-        doing = now_doing w given w.turns calls place None call (begun call) there tt stay w.steps name (Contains-push w.calls call)
+            (All-weaker (λ (g : Given). Contains w.calls g.call) (λ (g : Given). Contains calls g.call)
+            (λ g has. Contains-append_left w.calls (call ∷ []) g.call has) given i.known);
+        doing = now_doing w given w.turns calls place None call (begun call) there tt stay w.steps name
+            (Contains-push w.calls call)
             (λ c has. Contains-append_left w.calls (call ∷ []) c has) i.doing (doing_in call (begun call)) refl;
       }
 
@@ -276,34 +356,45 @@ abbrev IsAmong : Ending → List Ending → Type 0
 IsAmong e [] = ⊥
 IsAmong e (x ∷ xs) = (x ≡ e) ⊎ IsAmong e xs
 
-also_before : (who : Who) (e : Ending) (x : Given) (rest : List Given) (b : Bool) → IsAmong e (map (λ (g : Given). g.ending) rest) → IsAmong e (map (λ (g : Given). g.ending) (cond b (x ∷ rest) rest))
+also_before : (who : Who) (e : Ending) (x : Given) (rest : List Given) (b : Bool) →
+    IsAmong e (map (λ (g : Given). g.ending) rest) → IsAmong e (map (λ (g : Given). g.ending) (cond b (x ∷ rest) rest))
 also_before who e x rest true h = inr h
 also_before who e x rest false h = h
 
 -- An ending that a call had is among its endings.
-given_is : (who : Who) (given : List Given) (g : Given) → Contains given g → is_same who g.call.who ≡ true → IsAmong g.ending (endings_of who given)
+given_is : (who : Who) (given : List Given) (g : Given) → Contains given g → is_same who g.call.who ≡ true →
+    IsAmong g.ending (endings_of who given)
 given_is who [] g (k, low, is) same = absurd (omega (arith, low))
 given_is who (x ∷ given) g (zero, low, is) same =
     let here : is_same who x.call.who ≡ true = ap (λ (y : Given). is_same who y.call.who) is ∙ same in
-    subst (λ b. IsAmong g.ending (map (λ (y : Given). y.ending) (cond b (x ∷ filter (λ (y : Given). is_same who y.call.who) given) (filter (λ (y : Given). is_same who y.call.who) given)))) (sym here)
+    subst (λ b.
+    IsAmong g.ending
+    (map (λ (y : Given). y.ending)
+    (cond b (x ∷ filter (λ (y : Given). is_same who y.call.who) given)
+    (filter (λ (y : Given). is_same who y.call.who) given)))) (sym here)
     (inl (ap (λ (y : Given). y.ending) is))
 given_is who (x ∷ given) g (suc k, low, is) same =
-    also_before who g.ending x (filter (λ (y : Given). is_same who y.call.who) given) (is_same who x.call.who) (given_is who given g (k, omega (arith, low), is) same)
+    also_before who g.ending x (filter (λ (y : Given). is_same who y.call.who) given) (is_same who x.call.who)
+    (given_is who given g (k, omega (arith, low), is) same)
 
 -- An ending that a call had is that of its state, and is right.
-is_right : EachAnswerIsRight → (call : Started) (deeds : List Deed) (state : State) (ending : Ending) → Plays (begun call) deeds state → IsAmong ending (ended state) → IsRightAnswer call.asked deeds ending
+is_right : EachAnswerIsRight → (call : Started) (deeds : List Deed) (state : State) (ending : Ending) →
+    Plays (begun call) deeds state → IsAmong ending (ended state) → IsRightAnswer call.asked deeds ending
 is_right right call deeds (Goes phase) ending plays among = absurd among
 is_right right call deeds (Waits wait) ending plays among = absurd among
-is_right right call deeds (Over e) ending plays (inl is) = subst (IsRightAnswer call.asked deeds) is (right call.cred call.asked call.released deeds e plays)
+is_right right call deeds (Over e) ending plays (inl is) =
+    subst (IsRightAnswer call.asked deeds) is (right call.cred call.asked call.released deeds e plays)
 is_right right call deeds (Over e) ending plays (inr none) = absurd none
 
-pub right_now : (w : World) (given : List Given) → Inv w given → EachAnswerIsRight → (g : Given) → Contains given g → IsRightAnswer g.call.asked (deeds_of g.call.who w.turns) g.ending
+pub right_now : (w : World) (given : List Given) → Inv w given → EachAnswerIsRight → (g : Given) → Contains given g →
+    IsRightAnswer g.call.asked (deeds_of g.call.who w.turns) g.ending
 right_now w given i right g has =
     let one = All-contains (λ (x : Given). Contains w.calls x.call) given g i.known has in
     let name = i.before g.call one in
     let f = i.fates g.call one in
     is_right right g.call (deeds_of g.call.who w.turns) f.state g.ending f.plays
-    (subst (IsAmong g.ending) f.answered (given_is g.call.who given g has (same_itself name.0 name.1 g.call.who name.2)))
+    (subst (IsAmong g.ending) f.answered
+    (given_is g.call.who given g has (same_itself name.0 name.1 g.call.who name.2)))
 
 -- ---- the laws that need no waits
 
@@ -373,44 +464,65 @@ module _ (laws : Laws) (o : Opening) (w : World) (given : List Given) (i : Inv w
 
 stays : (w after : World) (given one : List Given) → StaysWith w one after → Inv w given → Inv after (given ++ one)
 stays w after given one s i =
-    subst (λ gs. Inv after (given ++ gs)) (sym s.0) (subst (λ v. Inv v (given ++ [])) (sym s.1) (subst (Inv w) (sym (append-nil given)) i))
+    subst (λ gs. Inv after (given ++ gs)) (sym s.0)
+    (subst (λ v. Inv v (given ++ [])) (sym s.1) (subst (Inv w) (sym (append-nil given)) i))
 
 -- ---- what a world was opened with
 
-continues_opened : (w after : World) (given : List Given) (place now : ℕ) (call : Started) (state : State) → Continues w place now call state given after → (after.generation ≡ w.generation) × (after.blocks ≡ w.blocks)
-continues_opened w after given place now call (Goes phase) s = (ap (λ (v : World). v.generation) s.6, ap (λ (v : World). v.blocks) s.6)
-continues_opened w after given place now call (Waits wait) (inl s) = (ap (λ (v : World). v.generation) s.2, ap (λ (v : World). v.blocks) s.2)
-continues_opened w after given place now call (Waits wait) (inr s) = (ap (λ (v : World). v.generation) s.1.1, ap (λ (v : World). v.blocks) s.1.1)
-continues_opened w after given place now call (Over ending) s = (ap (λ (v : World). v.generation) s.1, ap (λ (v : World). v.blocks) s.1)
+continues_opened : (w after : World) (given : List Given) (place now : ℕ) (call : Started) (state : State) →
+    Continues w place now call state given after → (after.generation ≡ w.generation) × (after.blocks ≡ w.blocks)
+continues_opened w after given place now call (Goes phase) s =
+    (ap (λ (v : World). v.generation) s.6, ap (λ (v : World). v.blocks) s.6)
+continues_opened w after given place now call (Waits wait) (inl s) =
+    (ap (λ (v : World). v.generation) s.2, ap (λ (v : World). v.blocks) s.2)
+continues_opened w after given place now call (Waits wait) (inr s) =
+    (ap (λ (v : World). v.generation) s.1.1, ap (λ (v : World). v.blocks) s.1.1)
+continues_opened w after given place now call (Over ending) s =
+    (ap (λ (v : World). v.generation) s.1, ap (λ (v : World). v.blocks) s.1)
 
-starts_opened : (w after : World) (given : List Given) (actor : ℕ) (cred : Cred) (asked : SystemCall) (o : Option (Option Doing)) → StartsAt w actor cred asked o given after → (after.generation ≡ w.generation) × (after.blocks ≡ w.blocks)
-starts_opened w after given actor cred asked None s = (ap (λ (v : World). v.generation) s.1, ap (λ (v : World). v.blocks) s.1)
-starts_opened w after given actor cred asked (Some None) s = (ap (λ (v : World). v.generation) s.1, ap (λ (v : World). v.blocks) s.1)
-starts_opened w after given actor cred asked (Some (Some d)) s = (ap (λ (v : World). v.generation) s.1, ap (λ (v : World). v.blocks) s.1)
+starts_opened : (w after : World) (given : List Given) (actor : ℕ) (cred : Cred) (asked : SystemCall)
+    (o : Option (Option Doing)) → StartsAt w actor cred asked o given after →
+    (after.generation ≡ w.generation) × (after.blocks ≡ w.blocks)
+starts_opened w after given actor cred asked None s =
+    (ap (λ (v : World). v.generation) s.1, ap (λ (v : World). v.blocks) s.1)
+starts_opened w after given actor cred asked (Some None) s =
+    (ap (λ (v : World). v.generation) s.1, ap (λ (v : World). v.blocks) s.1)
+starts_opened w after given actor cred asked (Some (Some d)) s =
+    (ap (λ (v : World). v.generation) s.1, ap (λ (v : World). v.blocks) s.1)
 
-steps_opened : (w after : World) (given : List Given) (actor now : ℕ) (o : Option (Option Doing)) → StepsAt w actor now o given after → (after.generation ≡ w.generation) × (after.blocks ≡ w.blocks)
+steps_opened : (w after : World) (given : List Given) (actor now : ℕ) (o : Option (Option Doing)) →
+    StepsAt w actor now o given after → (after.generation ≡ w.generation) × (after.blocks ≡ w.blocks)
 steps_opened w after given actor now None s = (ap (λ (v : World). v.generation) s.1, ap (λ (v : World). v.blocks) s.1)
-steps_opened w after given actor now (Some None) s = (ap (λ (v : World). v.generation) s.1, ap (λ (v : World). v.blocks) s.1)
+steps_opened w after given actor now (Some None) s =
+    (ap (λ (v : World). v.generation) s.1, ap (λ (v : World). v.blocks) s.1)
 steps_opened w after given actor now (Some (Some d)) s = continues_opened w after given actor now d.call d.state s
 
-pub makes_opened : (w after : World) (x : Happening) (given : List Given) → Makes w x given after → (after.generation ≡ w.generation) × (after.blocks ≡ w.blocks)
-makes_opened w after Preset given (none, (made, inl p)) = (ap (λ (v : World). v.generation) p.2, ap (λ (v : World). v.blocks) p.2)
-makes_opened w after Preset given (none, (made, inr p)) = (ap (λ (v : World). v.generation) p.2, ap (λ (v : World). v.blocks) p.2)
-makes_opened w after (Start actor cred asked) given (inl worn) = (ap (λ (v : World). v.generation) worn.1.1, ap (λ (v : World). v.blocks) worn.1.1)
+pub makes_opened : (w after : World) (x : Happening) (given : List Given) → Makes w x given after →
+    (after.generation ≡ w.generation) × (after.blocks ≡ w.blocks)
+makes_opened w after Preset given (none, (made, inl p)) =
+    (ap (λ (v : World). v.generation) p.2, ap (λ (v : World). v.blocks) p.2)
+makes_opened w after Preset given (none, (made, inr p)) =
+    (ap (λ (v : World). v.generation) p.2, ap (λ (v : World). v.blocks) p.2)
+makes_opened w after (Start actor cred asked) given (inl worn) =
+    (ap (λ (v : World). v.generation) worn.1.1, ap (λ (v : World). v.blocks) worn.1.1)
 makes_opened w after (Start actor cred asked) given (inr young) = starts_opened w after given actor cred asked _ young.1
-makes_opened w after (Step actor now) given (inl worn) = (ap (λ (v : World). v.generation) worn.1.1, ap (λ (v : World). v.blocks) worn.1.1)
+makes_opened w after (Step actor now) given (inl worn) =
+    (ap (λ (v : World). v.generation) worn.1.1, ap (λ (v : World). v.blocks) worn.1.1)
 makes_opened w after (Step actor now) given (inr young) = steps_opened w after given actor now _ young.1
 
-leads_generation : (w after : World) (xs : List Happening) (given : List Given) → Leads w xs given after → after.generation ≡ w.generation
+leads_generation : (w after : World) (xs : List Happening) (given : List Given) → Leads w xs given after →
+    after.generation ≡ w.generation
 leads_generation w after [] given l = ap (λ (v : World). v.generation) l.1
 leads_generation w after (x ∷ xs) given l = leads_generation l.0 after xs l.2 l.4 ∙ (makes_opened w l.0 x l.1 l.3).0
 
-pub leads_blocks : (w after : World) (xs : List Happening) (given : List Given) → Leads w xs given after → after.blocks ≡ w.blocks
+pub leads_blocks : (w after : World) (xs : List Happening) (given : List Given) → Leads w xs given after →
+    after.blocks ≡ w.blocks
 leads_blocks w after [] given l = ap (λ (v : World). v.blocks) l.1
 leads_blocks w after (x ∷ xs) given l = leads_blocks l.0 after xs l.2 l.4 ∙ (makes_opened w l.0 x l.1 l.3).1
 
 module _ (sound : StaysSound) where
-  pub turns_keep : (w after : World) (given one : List Given) (place : ℕ) (call : Started) (phase : Phase) (now : ℕ) → Inv w given → slice_get w.actors place ≡ Some (Some record { call = call; state = Goes phase }) →
+  pub turns_keep : (w after : World) (given one : List Given) (place : ℕ) (call : Started) (phase : Phase) (now : ℕ) →
+      Inv w given → slice_get w.actors place ≡ Some (Some record { call = call; state = Goes phase }) →
       Turns w (suc place) call phase now one after → IsSound after → Inv after (given ++ one)
   turns_keep w after given one place call phase now i there t ok =
       let d : Doing = record { call = call; state = Goes phase } in
@@ -424,10 +536,14 @@ module _ (sound : StaysSound) where
       (goes_on w given i place d there (w.turns ++ turn ∷ []) state
       (subst IsSound t.6 ok)
       (λ other apart. other_deed other w.turns turn apart)
-      (record { plays = subst (λ ds. Plays (begun call) ds state) (sym own) (steps deed now state here.plays t.2 t.4); quiet = here.quiet })
+      (record {
+        plays = subst (λ ds. Plays (begun call) ds state) (sym own) (steps deed now state here.plays t.2 t.4);
+        quiet = here.quiet;
+      })
       (All-push (HasName w.calls) w.turns turn i.made (inr (call, has_it w given i place d there, refl)))))
 
-  looks_keep : (w after : World) (given one : List Given) (place : ℕ) (call : Started) (wait : Wait) → Inv w given → slice_get w.actors place ≡ Some (Some record { call = call; state = Waits wait }) →
+  looks_keep : (w after : World) (given one : List Given) (place : ℕ) (call : Started) (wait : Wait) → Inv w given →
+      slice_get w.actors place ≡ Some (Some record { call = call; state = Waits wait }) →
       Looks w (suc place) call wait one after → IsSound after → Inv after (given ++ one)
   looks_keep w after given one place call wait i there (inl t) ok =
       let d : Doing = record { call = call; state = Waits wait } in
@@ -440,58 +556,85 @@ module _ (sound : StaysSound) where
       i.made))
   looks_keep w after given one place call wait i there (inr t) ok = stays w after given one t.1 i
 
-  continues_keep : (w after : World) (given one : List Given) (place now : ℕ) (call : Started) (state : State) → Inv w given → slice_get w.actors place ≡ Some (Some record { call = call; state = state }) →
+  continues_keep : (w after : World) (given one : List Given) (place now : ℕ) (call : Started) (state : State) →
+      Inv w given → slice_get w.actors place ≡ Some (Some record { call = call; state = state }) →
       Continues w (suc place) now call state one after → IsSound after → Inv after (given ++ one)
-  continues_keep w after given one place now call (Goes phase) i there c ok = turns_keep w after given one place call phase now i there c ok
-  continues_keep w after given one place now call (Waits wait) i there c ok = looks_keep w after given one place call wait i there c ok
+  continues_keep w after given one place now call (Goes phase) i there c ok =
+      turns_keep w after given one place call phase now i there c ok
+  continues_keep w after given one place now call (Waits wait) i there c ok =
+      looks_keep w after given one place call wait i there c ok
   continues_keep w after given one place now call (Over ending) i there c ok = stays w after given one c i
 
-  steps_keep : (w after : World) (given one : List Given) (place now : ℕ) (o : Option (Option Doing)) → Inv w given → slice_get w.actors place ≡ o → StepsAt w (suc place) now o one after → IsSound after → Inv after (given ++ one)
+  steps_keep : (w after : World) (given one : List Given) (place now : ℕ) (o : Option (Option Doing)) → Inv w given →
+      slice_get w.actors place ≡ o → StepsAt w (suc place) now o one after → IsSound after → Inv after (given ++ one)
   steps_keep w after given one place now None i there s ok = stays w after given one s i
   steps_keep w after given one place now (Some None) i there s ok = stays w after given one s i
-  steps_keep w after given one place now (Some (Some d)) i there s ok = continues_keep w after given one place now d.call d.state i there s ok
+  steps_keep w after given one place now (Some (Some d)) i there s ok =
+      continues_keep w after given one place now d.call d.state i there s ok
 
-  starts_keep : (w after : World) (given one : List Given) (place : ℕ) (cred : Cred) (asked : SystemCall) (o : Option (Option Doing)) → Inv w given → slice_get w.actors place ≡ o →
+  starts_keep : (w after : World) (given one : List Given) (place : ℕ) (cred : Cred) (asked : SystemCall)
+      (o : Option (Option Doing)) → Inv w given → slice_get w.actors place ≡ o →
       StartsAt w (suc place) cred asked o one after → IsSound after → Inv after (given ++ one)
   starts_keep w after given one place cred asked None i there s ok = stays w after given one s i
   starts_keep w after given one place cred asked (Some (Some d)) i there s ok = stays w after given one s i
   starts_keep w after given one place cred asked (Some None) i there s ok =
       let call = starting w (suc place) cred asked in
-      subst (λ gs. Inv after (given ++ gs)) (sym s.0) (subst (λ v. Inv v (given ++ given_in call (begun call))) (sym s.1) (starts w given i place there call refl (subst IsSound s.1 ok)))
+      subst (λ gs. Inv after (given ++ gs)) (sym s.0)
+      (subst (λ v. Inv v (given ++ given_in call (begun call))) (sym s.1)
+      (starts w given i place there call refl (subst IsSound s.1 ok)))
 
-  preset_keeps : (w after : World) (given : List Given) (made : Bool) → Inv w given → Presets w made after → IsSound after → Inv after given
+  preset_keeps : (w after : World) (given : List Given) (made : Bool) → Inv w given → Presets w made after →
+      IsSound after → Inv after given
   preset_keeps w after given made i (inr p) ok = subst (λ v. Inv v given) (sym p.2) i
   preset_keeps w after given made i (inl p) ok =
-      let calls_apart : (c : Started) → Contains w.calls c → is_same c.who preset_who ≡ false = λ c has. not_same c.who preset_who (λ e. let b = i.before c has in let bad : Actor (suc b.0) b.1 ≡ Actor 0 0 = sym b.2 ∙ e in cc) in
+      let calls_apart : (c : Started) → Contains w.calls c → is_same c.who preset_who ≡ false = λ c has.
+      not_same c.who preset_who
+      (λ e. let b = i.before c has in let bad : Actor (suc b.0) b.1 ≡ Actor 0 0 = sym b.2 ∙ e in cc) in
       let first = w.turns ++ turn_of preset_who preset_begin ∷ [] in
       let second = first ++ turn_of preset_who preset_install ∷ [] in
-      let same : (c : Started) → Contains w.calls c → deeds_of c.who (with_preset_turns w.turns) ≡ deeds_of c.who w.turns = λ c has.
+      let same : (c : Started) → Contains w.calls c →
+      deeds_of c.who (with_preset_turns w.turns) ≡ deeds_of c.who w.turns = λ c has.
       other_deed c.who second (turn_of preset_who preset_settle) (calls_apart c has)
-      ∙ (other_deed c.who first (turn_of preset_who preset_install) (calls_apart c has) ∙ other_deed c.who w.turns (turn_of preset_who preset_begin) (calls_apart c has)) in
+      ∙ (other_deed c.who first (turn_of preset_who preset_install) (calls_apart c has)
+      ∙ other_deed c.who w.turns (turn_of preset_who preset_begin) (calls_apart c has)) in
       subst (λ v. Inv v given) (sym p.2) record {
         sound = subst IsSound p.2 ok;
         fates = λ c has.
             let f = i.fates c has in
-            record { state = f.state; plays = subst (λ ds. Plays (begun c) ds f.state) (sym (same c has)) f.plays; answered = f.answered; stands = f.stands };
+            record {
+              state = f.state;
+              plays = subst (λ ds. Plays (begun c) ds f.state) (sym (same c has)) f.plays;
+              answered = f.answered;
+              stands = f.stands;
+            };
         before = i.before;
         apart = i.apart;
         named = i.named;
         made = All-push (HasName w.calls) second (turn_of preset_who preset_settle)
-            (All-push (HasName w.calls) first (turn_of preset_who preset_install) (All-push (HasName w.calls) w.turns (turn_of preset_who preset_begin) i.made (inl refl)) (inl refl)) (inl refl);
+            (All-push (HasName w.calls) first (turn_of preset_who preset_install)
+            (All-push (HasName w.calls) w.turns (turn_of preset_who preset_begin) i.made (inl refl)) (inl refl))
+            (inl refl);
         known = i.known;
         doing = i.doing;
       }
 
-  makes_keeps : (w after : World) (x : Happening) (given one : List Given) → Inv w given → Makes w x one after → Inv after (given ++ one)
-  makes_keeps w after Preset given one i m = subst (λ gs. Inv after (given ++ gs)) (sym m.0) (subst (Inv after) (sym (append-nil given)) (preset_keeps w after given m.1.0 i m.1.1 (sound w after Preset one i.sound m)))
+  makes_keeps : (w after : World) (x : Happening) (given one : List Given) → Inv w given → Makes w x one after →
+      Inv after (given ++ one)
+  makes_keeps w after Preset given one i m = subst (λ gs. Inv after (given ++ gs)) (sym m.0)
+      (subst (Inv after) (sym (append-nil given))
+      (preset_keeps w after given m.1.0 i m.1.1 (sound w after Preset one i.sound m)))
   makes_keeps w after (Start actor cred asked) given one i (inl worn) = stays w after given one worn.1 i
   makes_keeps w after (Start zero cred asked) given one i (inr young) = stays w after given one young.1 i
-  makes_keeps w after (Start (suc place) cred asked) given one i (inr young) = starts_keep w after given one place cred asked (slice_get w.actors place) i refl young.1 (sound w after (Start (suc place) cred asked) one i.sound (inr young))
+  makes_keeps w after (Start (suc place) cred asked) given one i (inr young) =
+      starts_keep w after given one place cred asked (slice_get w.actors place) i refl young.1
+      (sound w after (Start (suc place) cred asked) one i.sound (inr young))
   makes_keeps w after (Step actor now) given one i (inl worn) = stays w after given one worn.1 i
   makes_keeps w after (Step zero now) given one i (inr young) = stays w after given one young.1 i
-  makes_keeps w after (Step (suc place) now) given one i (inr young) = steps_keep w after given one place now (slice_get w.actors place) i refl young.1 (sound w after (Step (suc place) now) one i.sound (inr young))
+  makes_keeps w after (Step (suc place) now) given one i (inr young) = steps_keep w after given one place now
+      (slice_get w.actors place) i refl young.1 (sound w after (Step (suc place) now) one i.sound (inr young))
 
-  leads_keeps : (w after : World) (xs : List Happening) (given more : List Given) → Inv w given → Leads w xs more after → Inv after (given ++ more)
+  leads_keeps : (w after : World) (xs : List Happening) (given more : List Given) → Inv w given →
+      Leads w xs more after → Inv after (given ++ more)
   leads_keeps w after [] given more i s = stays w after given more s i
   leads_keeps w after (x ∷ xs) given more i s =
       subst (λ gs. Inv after (given ++ gs)) (sym s.5) (subst (Inv after) (append_assoc given s.1 s.2)
@@ -499,7 +642,8 @@ module _ (sound : StaysSound) where
 
   -- ---- the turns of presets
 
-  no_preset_turn : (w : World) (given : List Given) (place : ℕ) (d : Doing) (deed : Deed) → Inv w given → slice_get w.actors place ≡ Some (Some d) → OwnIfPreset (turn_of d.call.who deed)
+  no_preset_turn : (w : World) (given : List Given) (place : ℕ) (d : Doing) (deed : Deed) → Inv w given →
+      slice_get w.actors place ≡ Some (Some d) → OwnIfPreset (turn_of d.call.who deed)
   no_preset_turn w given place d deed i there e =
       let name = its_name w given i place d there in
       let bad : Actor (suc place) name.0 ≡ preset_who = sym name.1 ∙ e in
@@ -508,27 +652,38 @@ module _ (sound : StaysSound) where
   same_turns : (w after : World) → after.turns ≡ w.turns → All OwnIfPreset w.turns → All OwnIfPreset after.turns
   same_turns w after e own = subst (All OwnIfPreset) (sym e) own
 
-  continues_own : (w after : World) (given one : List Given) (place now : ℕ) (d : Doing) (state : State) → state ≡ d.state → Inv w given → slice_get w.actors place ≡ Some (Some d) →
+  continues_own : (w after : World) (given one : List Given) (place now : ℕ) (d : Doing) (state : State) →
+      state ≡ d.state → Inv w given → slice_get w.actors place ≡ Some (Some d) →
       Continues w (suc place) now d.call state one after → All OwnIfPreset w.turns → All OwnIfPreset after.turns
   continues_own w after given one place now d (Goes phase) is i there t own =
       subst (All OwnIfPreset) (sym (ap (λ (v : World). v.turns) t.6))
       (All-push OwnIfPreset w.turns (turn_of d.call.who t.0) own (no_preset_turn w given place d t.0 i there))
-  continues_own w after given one place now d (Waits wait) is i there (inl t) own = same_turns w after (ap (λ (v : World). v.turns) t.2) own
-  continues_own w after given one place now d (Waits wait) is i there (inr t) own = same_turns w after (ap (λ (v : World). v.turns) t.1.1) own
-  continues_own w after given one place now d (Over ending) is i there c own = same_turns w after (ap (λ (v : World). v.turns) c.1) own
+  continues_own w after given one place now d (Waits wait) is i there (inl t) own =
+      same_turns w after (ap (λ (v : World). v.turns) t.2) own
+  continues_own w after given one place now d (Waits wait) is i there (inr t) own =
+      same_turns w after (ap (λ (v : World). v.turns) t.1.1) own
+  continues_own w after given one place now d (Over ending) is i there c own =
+      same_turns w after (ap (λ (v : World). v.turns) c.1) own
 
-  steps_own : (w after : World) (given one : List Given) (place now : ℕ) (o : Option (Option Doing)) → Inv w given → slice_get w.actors place ≡ o → StepsAt w (suc place) now o one after →
+  steps_own : (w after : World) (given one : List Given) (place now : ℕ) (o : Option (Option Doing)) → Inv w given →
+      slice_get w.actors place ≡ o → StepsAt w (suc place) now o one after →
       All OwnIfPreset w.turns → All OwnIfPreset after.turns
   steps_own w after given one place now None i there s own = same_turns w after (ap (λ (v : World). v.turns) s.1) own
-  steps_own w after given one place now (Some None) i there s own = same_turns w after (ap (λ (v : World). v.turns) s.1) own
-  steps_own w after given one place now (Some (Some d)) i there s own = continues_own w after given one place now d d.state refl i there s own
+  steps_own w after given one place now (Some None) i there s own =
+      same_turns w after (ap (λ (v : World). v.turns) s.1) own
+  steps_own w after given one place now (Some (Some d)) i there s own =
+      continues_own w after given one place now d d.state refl i there s own
 
-  starts_own : (w after : World) (one : List Given) (actor : ℕ) (cred : Cred) (asked : SystemCall) (o : Option (Option Doing)) → StartsAt w actor cred asked o one after → All OwnIfPreset w.turns → All OwnIfPreset after.turns
+  starts_own : (w after : World) (one : List Given) (actor : ℕ) (cred : Cred) (asked : SystemCall)
+      (o : Option (Option Doing)) → StartsAt w actor cred asked o one after → All OwnIfPreset w.turns →
+      All OwnIfPreset after.turns
   starts_own w after one actor cred asked None s own = same_turns w after (ap (λ (v : World). v.turns) s.1) own
   starts_own w after one actor cred asked (Some None) s own = same_turns w after (ap (λ (v : World). v.turns) s.1) own
-  starts_own w after one actor cred asked (Some (Some d)) s own = same_turns w after (ap (λ (v : World). v.turns) s.1) own
+  starts_own w after one actor cred asked (Some (Some d)) s own =
+      same_turns w after (ap (λ (v : World). v.turns) s.1) own
 
-  preset_own : (w after : World) (made : Bool) → Presets w made after → All OwnIfPreset w.turns → All OwnIfPreset after.turns
+  preset_own : (w after : World) (made : Bool) → Presets w made after → All OwnIfPreset w.turns →
+      All OwnIfPreset after.turns
   preset_own w after made (inr p) own = same_turns w after (ap (λ (v : World). v.turns) p.2) own
   preset_own w after made (inl p) own =
       let first = w.turns ++ turn_of preset_who preset_begin ∷ [] in
@@ -536,20 +691,29 @@ module _ (sound : StaysSound) where
       subst (All OwnIfPreset) (sym (ap (λ (v : World). v.turns) p.2))
       (All-push OwnIfPreset second (turn_of preset_who preset_settle)
       (All-push OwnIfPreset first (turn_of preset_who preset_install)
-      (All-push OwnIfPreset w.turns (turn_of preset_who preset_begin) own (λ e. (e, inl refl))) (λ e. (e, inr (inl refl)))) (λ e. (e, inr (inr refl))))
+      (All-push OwnIfPreset w.turns (turn_of preset_who preset_begin) own (λ e. (e, inl refl)))
+      (λ e. (e, inr (inl refl)))) (λ e. (e, inr (inr refl))))
 
-  makes_own : (w after : World) (x : Happening) (given one : List Given) → Inv w given → Makes w x one after → All OwnIfPreset w.turns → All OwnIfPreset after.turns
+  makes_own : (w after : World) (x : Happening) (given one : List Given) → Inv w given → Makes w x one after →
+      All OwnIfPreset w.turns → All OwnIfPreset after.turns
   makes_own w after Preset given one i m own = preset_own w after m.1.0 m.1.1 own
-  makes_own w after (Start actor cred asked) given one i (inl worn) own = same_turns w after (ap (λ (v : World). v.turns) worn.1.1) own
-  makes_own w after (Start actor cred asked) given one i (inr young) own = starts_own w after one actor cred asked _ young.1 own
-  makes_own w after (Step actor now) given one i (inl worn) own = same_turns w after (ap (λ (v : World). v.turns) worn.1.1) own
-  makes_own w after (Step zero now) given one i (inr young) own = same_turns w after (ap (λ (v : World). v.turns) young.1.1) own
-  makes_own w after (Step (suc place) now) given one i (inr young) own = steps_own w after given one place now (slice_get w.actors place) i refl young.1 own
+  makes_own w after (Start actor cred asked) given one i (inl worn) own =
+      same_turns w after (ap (λ (v : World). v.turns) worn.1.1) own
+  makes_own w after (Start actor cred asked) given one i (inr young) own =
+      starts_own w after one actor cred asked _ young.1 own
+  makes_own w after (Step actor now) given one i (inl worn) own =
+      same_turns w after (ap (λ (v : World). v.turns) worn.1.1) own
+  makes_own w after (Step zero now) given one i (inr young) own =
+      same_turns w after (ap (λ (v : World). v.turns) young.1.1) own
+  makes_own w after (Step (suc place) now) given one i (inr young) own =
+      steps_own w after given one place now (slice_get w.actors place) i refl young.1 own
 
-  leads_own : (w after : World) (xs : List Happening) (given more : List Given) → Inv w given → Leads w xs more after → All OwnIfPreset w.turns → All OwnIfPreset after.turns
+  leads_own : (w after : World) (xs : List Happening) (given more : List Given) → Inv w given → Leads w xs more after →
+      All OwnIfPreset w.turns → All OwnIfPreset after.turns
   leads_own w after [] given more i s own = same_turns w after (ap (λ (v : World). v.turns) s.1) own
   leads_own w after (x ∷ xs) given more i s own =
-      leads_own s.0 after xs (given ++ s.1) s.2 (makes_keeps w s.0 x given s.1 i s.3) s.4 (makes_own w s.0 x given s.1 i s.3 own)
+      leads_own s.0 after xs (given ++ s.1) s.2 (makes_keeps w s.0 x given s.1 i s.3) s.4
+      (makes_own w s.0 x given s.1 i s.3 own)
 
   nothing_in : {X : Type 0} (x : X) → Contains [] x → ⊥
   nothing_in x has = omega (arith, has.1)

@@ -1,5 +1,6 @@
 -- Each event, preset and list leads to at most one world.
-use Rattle.std.proofs.Common.{◌≡◌, ℕ, inl, inr, Bool, List, [], ◌∷◌, ◌++◌, Option, None, Some, refl, sym, ap, subst, ◌∙◌, arith}
+use Rattle.std.proofs.Common.{◌≡◌, ℕ, inl, inr, Bool, List, [], ◌∷◌, ◌++◌, Option, None, Some, refl, sym, ap, subst}
+use Rattle.std.proofs.Common.{◌∙◌, arith}
 use Rattle.sysv_model.specs.declared.cred.Cred.{Cred}
 use Rattle.sysv_model.specs.Turn.{Deed}
 use Rattle.sysv_objects.specs.OneDeed.{NoTwoDeedsAreLegal}
@@ -7,10 +8,11 @@ use Rattle.sysv_steps.specs.Call.{SystemCall}
 use Rattle.sysv_steps.specs.State.{Phase, Wait, Ending, State, Goes, Waits, Over}
 use Rattle.sysv_steps.specs.Next.{next}
 use Rattle.sysv_core.specs.declared.event.Answer.{Answer}
-use Rattle.sysv_core.specs.declared.event.Outcome.{Outcome}
+use Rattle.sysv_steps.specs.declared.outcome.Outcome.{Outcome}
 use Rattle.sysv_core.specs.declared.event.Stepped.{Stepped}
 use Rattle.sysv_core.specs.declared.event.Stepped.TheVariants as stepped
-use Rattle.sysv_core.specs.World.{World, Started, Doing, Given, Happening, Preset, Start, Step, actor_at, given_in, in_state, with_turn, Turns, Looks, Continues, StartsAt, StepsAt, Presets, Makes}
+use Rattle.sysv_core.specs.World.{World, Started, Doing, Given, Happening, Preset, Start, Step, actor_at, given_in}
+use Rattle.sysv_core.specs.World.{in_state, with_turn, Turns, Looks, Continues, StartsAt, StepsAt, Presets, Makes}
 use Rattle.sysv_core.specs.Run.{Leads}
 use Rattle.sysv_core.specs.Answered.{TellsEnding}
 use Rattle.sysv_core.specs.Kinds.{kind_of, gives_back}
@@ -26,7 +28,8 @@ Same r s a b = (r ≡ s) × (a ≡ b)
 both_are : {X Y : Type 0} (r s f : X) (a b g : Y) → (r ≡ f) × (a ≡ g) → (s ≡ f) × (b ≡ g) → (r ≡ s) × (a ≡ b)
 both_are r s f a b g h k = (h.0 ∙ sym k.0, h.1 ∙ sym k.1)
 
-pub presets_once : (w : World) (made did : Bool) (a b : World) → Presets w made a → Presets w did b → (made ≡ did) × (a ≡ b)
+pub presets_once : (w : World) (made did : Bool) (a b : World) → Presets w made a → Presets w did b →
+    (made ≡ did) × (a ≡ b)
 presets_once w made did a b (inl h) (inl k) = (h.1 ∙ sym k.1, h.2 ∙ sym k.2)
 presets_once w made did a b (inl h) (inr k) = absurd (k.0 h.0)
 presets_once w made did a b (inr h) (inl k) = absurd (h.0 k.0)
@@ -36,7 +39,8 @@ one_state : (s t : State) → Some s ≡ Some t → s ≡ t
 one_state s t e = cc
 
 module _ (one : NoTwoDeedsAreLegal) (stays : StaysSound) where
-  turns_once : (w : World) (actor : ℕ) (call : Started) (phase : Phase) (now : ℕ) (r s : List Given) (a b : World) → IsSound w → Turns w actor call phase now r a → Turns w actor call phase now s b → Same r s a b
+  turns_once : (w : World) (actor : ℕ) (call : Started) (phase : Phase) (now : ℕ) (r s : List Given) (a b : World) →
+      IsSound w → Turns w actor call phase now r a → Turns w actor call phase now s b → Same r s a b
   turns_once w actor call phase now r s a b ok h k =
       let deeds : h.0 ≡ k.0 = one w.generation w.blocks w.turns h.0 k.0 ok.legal (h.2 ∙ sym k.2) h.3 k.3 in
       let states : h.1 ≡ k.1 = one_state h.1 k.1 (sym h.4 ∙ (ap (next phase) deeds ∙ k.4)) in
@@ -45,40 +49,49 @@ module _ (one : NoTwoDeedsAreLegal) (stays : StaysSound) where
         h.6 ∙ (ap (λ d. world d h.1) deeds ∙ (ap (world k.0) states ∙ sym k.6)),
       )
 
-  looks_once : (w : World) (actor : ℕ) (call : Started) (wait : Wait) (r s : List Given) (a b : World) → Looks w actor call wait r a → Looks w actor call wait s b → Same r s a b
+  looks_once : (w : World) (actor : ℕ) (call : Started) (wait : Wait) (r s : List Given) (a b : World) →
+      Looks w actor call wait r a → Looks w actor call wait s b → Same r s a b
   looks_once w actor call wait r s a b (inl h) (inl k) = (h.1 ∙ sym k.1, h.2 ∙ sym k.2)
   looks_once w actor call wait r s a b (inl h) (inr k) = let x = h.0 in let y = k.0 in absurd (omega arith)
   looks_once w actor call wait r s a b (inr h) (inl k) = let x = h.0 in let y = k.0 in absurd (omega arith)
   looks_once w actor call wait r s a b (inr h) (inr k) = both_are r s [] a b w h.1 k.1
 
-  continues_once : (w : World) (actor now : ℕ) (call : Started) (state : State) (r s : List Given) (a b : World) → IsSound w → Continues w actor now call state r a → Continues w actor now call state s b → Same r s a b
+  continues_once : (w : World) (actor now : ℕ) (call : Started) (state : State) (r s : List Given) (a b : World) →
+      IsSound w → Continues w actor now call state r a → Continues w actor now call state s b → Same r s a b
   continues_once w actor now call (Goes phase) r s a b ok h k = turns_once w actor call phase now r s a b ok h k
   continues_once w actor now call (Waits wait) r s a b ok h k = looks_once w actor call wait r s a b h k
   continues_once w actor now call (Over ending) r s a b ok h k = both_are r s [] a b w h k
 
-  starts_once : (w : World) (actor : ℕ) (cred : Cred) (asked : SystemCall) (o : Option (Option Doing)) (r s : List Given) (a b : World) →
+  starts_once : (w : World) (actor : ℕ) (cred : Cred) (asked : SystemCall) (o : Option (Option Doing))
+      (r s : List Given) (a b : World) →
       StartsAt w actor cred asked o r a → StartsAt w actor cred asked o s b → Same r s a b
   starts_once w actor cred asked None r s a b h k = both_are r s [] a b w h k
   starts_once w actor cred asked (Some None) r s a b h k = both_are r s _ a b _ h k
   starts_once w actor cred asked (Some (Some doing)) r s a b h k = both_are r s [] a b w h k
 
-  steps_at_once : (w : World) (actor now : ℕ) (o : Option (Option Doing)) (r s : List Given) (a b : World) → IsSound w → StepsAt w actor now o r a → StepsAt w actor now o s b → Same r s a b
+  steps_at_once : (w : World) (actor now : ℕ) (o : Option (Option Doing)) (r s : List Given) (a b : World) → IsSound w →
+      StepsAt w actor now o r a → StepsAt w actor now o s b → Same r s a b
   steps_at_once w actor now None r s a b ok h k = both_are r s [] a b w h k
   steps_at_once w actor now (Some None) r s a b ok h k = both_are r s [] a b w h k
-  steps_at_once w actor now (Some (Some doing)) r s a b ok h k = continues_once w actor now doing.call doing.state r s a b ok h k
+  steps_at_once w actor now (Some (Some doing)) r s a b ok h k =
+      continues_once w actor now doing.call doing.state r s a b ok h k
 
-  makes_once : (w : World) (x : Happening) (r s : List Given) (a b : World) → IsSound w → Makes w x r a → Makes w x s b → Same r s a b
+  makes_once : (w : World) (x : Happening) (r s : List Given) (a b : World) → IsSound w → Makes w x r a →
+      Makes w x s b → Same r s a b
   makes_once w Preset r s a b ok h k = (h.0 ∙ sym k.0, (presets_once w h.1.0 k.1.0 a b h.1.1 k.1.1).1)
   makes_once w (Start actor cred asked) r s a b ok (inl h) (inl k) = both_are r s [] a b w h.1 k.1
   makes_once w (Start actor cred asked) r s a b ok (inl h) (inr k) = let x = h.0 in let y = k.0 in absurd (omega arith)
   makes_once w (Start actor cred asked) r s a b ok (inr h) (inl k) = let x = h.0 in let y = k.0 in absurd (omega arith)
-  makes_once w (Start actor cred asked) r s a b ok (inr h) (inr k) = starts_once w actor cred asked (actor_at w.actors actor) r s a b h.1 k.1
+  makes_once w (Start actor cred asked) r s a b ok (inr h) (inr k) =
+      starts_once w actor cred asked (actor_at w.actors actor) r s a b h.1 k.1
   makes_once w (Step actor now) r s a b ok (inl h) (inl k) = both_are r s [] a b w h.1 k.1
   makes_once w (Step actor now) r s a b ok (inl h) (inr k) = let x = h.0 in let y = k.0 in absurd (omega arith)
   makes_once w (Step actor now) r s a b ok (inr h) (inl k) = let x = h.0 in let y = k.0 in absurd (omega arith)
-  makes_once w (Step actor now) r s a b ok (inr h) (inr k) = steps_at_once w actor now (actor_at w.actors actor) r s a b ok h.1 k.1
+  makes_once w (Step actor now) r s a b ok (inr h) (inr k) =
+      steps_at_once w actor now (actor_at w.actors actor) r s a b ok h.1 k.1
 
-  leads_once : (list : List Happening) (w after other : World) (given told : List Given) → IsSound w → Leads w list given after → Leads w list told other → (given ≡ told) × (after ≡ other)
+  leads_once : (list : List Happening) (w after other : World) (given told : List Given) → IsSound w →
+      Leads w list given after → Leads w list told other → (given ≡ told) × (after ≡ other)
   leads_once [] w after other given told ok h k = both_are given told [] after other w h k
   leads_once (x ∷ list) w after other given told ok h k =
       let here = makes_once w x h.1 k.1 h.0 k.0 ok h.3 k.3 in
@@ -92,7 +105,8 @@ one_caller : (who : Who) (a b : ℕ) → IsToCaller who a → IsToCaller who b �
 one_caller (Actor actor start) a b h k = h ∙ sym k
 one_caller (Seat n) a b h k = absurd h
 
-one_ending : (r : Bool) (e : Ending) (x y : Outcome) (m n : Option (List ℕ)) → TellsEnding r e x m → TellsEnding r e y n → (x ≡ y) × (m ≡ n)
+one_ending : (r : Bool) (e : Ending) (x y : Outcome) (m n : Option (List ℕ)) → TellsEnding r e x m →
+    TellsEnding r e y n → (x ≡ y) × (m ≡ n)
 one_ending r e x y m n h k = (h.0 ∙ sym k.0, h.1 ∙ sym k.1)
 
 same_answer : (a b : Answer) → a.actor ≡ b.actor → a.result ≡ b.result → a.body ≡ b.body → a ≡ b
@@ -102,7 +116,8 @@ same_answer a b e f g =
 
 one_answer : (g : Given) (a b : Answer) → Tells g a → Tells g b → a ≡ b
 one_answer g a b h k =
-    let e = one_ending (gives_back (Some (kind_of g.call.asked))) g.ending a.result b.result a.body b.body h.ending k.ending in
+    let e =
+    one_ending (gives_back (Some (kind_of g.call.asked))) g.ending a.result b.result a.body b.body h.ending k.ending in
     same_answer a b (one_caller g.call.who a.actor b.actor h.caller k.caller) e.0 e.1
 
 one_given : (f g : Given) → f ∷ [] ≡ g ∷ [] → f ≡ g

@@ -1,6 +1,7 @@
 -- What belongs to a call among all turns, endings and actors, and that one more item of another
 -- call leaves it as it was.
-use Rattle.std.proofs.Common.{◌≡◌, ◌≢◌, ℕ, zero, suc, ◌==◌, ◌&&◌, ◌⊎◌, inl, inr, Bool, true, false, cond, List, [], ◌∷◌, ◌++◌, Option, None, Some, refl, sym, ap, subst, ◌∙◌, arith, map, slice_get, slice_set}
+use Rattle.std.proofs.Common.{◌≡◌, ◌≢◌, ℕ, zero, suc, ◌==◌, ◌&&◌, ◌⊎◌, inl, inr, Bool, true, false, cond, List, [], ◌∷◌}
+use Rattle.std.proofs.Common.{◌++◌, Option, None, Some, refl, sym, ap, subst, ◌∙◌, arith, map, slice_get, slice_set}
 use Rattle.std.specs.List.{filter}
 use Rattle.std.proofs.lemmas.List.{append-nil, map-append}
 use Rattle.std.proofs.lemmas.List.Elements.{filter-append}
@@ -52,41 +53,54 @@ same_or_not c d false e = inr e
 -- ---- turns
 
 deeds_more : (who : Who) (turns : List Turn) (t : Turn) →
-    deeds_of who (turns ++ t ∷ []) ≡ deeds_of who turns ++ map (λ (x : Turn). x.deed) (cond (is_same who t.who) (t ∷ []) [])
+    deeds_of who (turns ++ t ∷ [])
+    ≡ deeds_of who turns ++ map (λ (x : Turn). x.deed) (cond (is_same who t.who) (t ∷ []) [])
 deeds_more who turns t =
     ap (map (λ (x : Turn). x.deed)) (filter-append (λ (x : Turn). is_same who x.who) turns (t ∷ []))
-    ∙ map-append (λ (x : Turn). x.deed) (filter (λ (x : Turn). is_same who x.who) turns) (cond (is_same who t.who) (t ∷ []) [])
+    ∙ map-append (λ (x : Turn). x.deed) (filter (λ (x : Turn). is_same who x.who) turns)
+    (cond (is_same who t.who) (t ∷ []) [])
 
-pub own_deed : (who : Who) (turns : List Turn) (t : Turn) → is_same who t.who ≡ true → deeds_of who (turns ++ t ∷ []) ≡ deeds_of who turns ++ t.deed ∷ []
-own_deed who turns t e = deeds_more who turns t ∙ ap (λ b. deeds_of who turns ++ map (λ (x : Turn). x.deed) (cond b (t ∷ []) [])) e
+pub own_deed : (who : Who) (turns : List Turn) (t : Turn) → is_same who t.who ≡ true →
+    deeds_of who (turns ++ t ∷ []) ≡ deeds_of who turns ++ t.deed ∷ []
+own_deed who turns t e =
+    deeds_more who turns t ∙ ap (λ b. deeds_of who turns ++ map (λ (x : Turn). x.deed) (cond b (t ∷ []) [])) e
 
-pub other_deed : (who : Who) (turns : List Turn) (t : Turn) → is_same who t.who ≡ false → deeds_of who (turns ++ t ∷ []) ≡ deeds_of who turns
-other_deed who turns t e = deeds_more who turns t ∙ (ap (λ b. deeds_of who turns ++ map (λ (x : Turn). x.deed) (cond b (t ∷ []) [])) e ∙ append-nil (deeds_of who turns))
+pub other_deed : (who : Who) (turns : List Turn) (t : Turn) → is_same who t.who ≡ false →
+    deeds_of who (turns ++ t ∷ []) ≡ deeds_of who turns
+other_deed who turns t e = deeds_more who turns t
+    ∙ (ap (λ b. deeds_of who turns ++ map (λ (x : Turn). x.deed) (cond b (t ∷ []) [])) e
+    ∙ append-nil (deeds_of who turns))
 
 -- ---- endings
 
 endings_more : (who : Who) (given : List Given) (g : Given) →
-    endings_of who (given ++ g ∷ []) ≡ endings_of who given ++ map (λ (x : Given). x.ending) (cond (is_same who g.call.who) (g ∷ []) [])
+    endings_of who (given ++ g ∷ [])
+    ≡ endings_of who given ++ map (λ (x : Given). x.ending) (cond (is_same who g.call.who) (g ∷ []) [])
 endings_more who given g =
     ap (map (λ (x : Given). x.ending)) (filter-append (λ (x : Given). is_same who x.call.who) given (g ∷ []))
-    ∙ map-append (λ (x : Given). x.ending) (filter (λ (x : Given). is_same who x.call.who) given) (cond (is_same who g.call.who) (g ∷ []) [])
+    ∙ map-append (λ (x : Given). x.ending) (filter (λ (x : Given). is_same who x.call.who) given)
+    (cond (is_same who g.call.who) (g ∷ []) [])
 
-pub other_endings : (who : Who) (given : List Given) (call : Started) (state : State) → is_same who call.who ≡ false → endings_of who (given ++ given_in call state) ≡ endings_of who given
+pub other_endings : (who : Who) (given : List Given) (call : Started) (state : State) → is_same who call.who ≡ false →
+    endings_of who (given ++ given_in call state) ≡ endings_of who given
 other_endings who given call (Goes phase) e = ap (endings_of who) (append-nil given)
 other_endings who given call (Waits wait) e = ap (endings_of who) (append-nil given)
 other_endings who given call (Over ending) e =
     let g : Given = record { call = call; ending = ending } in
     endings_more who given g
-    ∙ (ap (λ b. endings_of who given ++ map (λ (x : Given). x.ending) (cond b (g ∷ []) [])) e ∙ append-nil (endings_of who given))
+    ∙ (ap (λ b. endings_of who given ++ map (λ (x : Given). x.ending) (cond b (g ∷ []) [])) e
+    ∙ append-nil (endings_of who given))
 
 -- A call without an ending has that of its state afterwards.
-pub own_endings : (given : List Given) (call : Started) (state : State) → is_same call.who call.who ≡ true → endings_of call.who given ≡ [] → endings_of call.who (given ++ given_in call state) ≡ ended state
+pub own_endings : (given : List Given) (call : Started) (state : State) → is_same call.who call.who ≡ true →
+    endings_of call.who given ≡ [] → endings_of call.who (given ++ given_in call state) ≡ ended state
 own_endings given call (Goes phase) same none = ap (endings_of call.who) (append-nil given) ∙ none
 own_endings given call (Waits wait) same none = ap (endings_of call.who) (append-nil given) ∙ none
 own_endings given call (Over ending) same none =
     let g : Given = record { call = call; ending = ending } in
     endings_more call.who given g
-    ∙ (ap (λ b. endings_of call.who given ++ map (λ (x : Given). x.ending) (cond b (g ∷ []) [])) same ∙ ap (λ es. es ++ ending ∷ []) none)
+    ∙ (ap (λ b. endings_of call.who given ++ map (λ (x : Given). x.ending) (cond b (g ∷ []) [])) same
+    ∙ ap (λ es. es ++ ending ∷ []) none)
 
 -- ---- actors
 
@@ -102,39 +116,50 @@ in_its_state call (Over ending) = tt
 
 not_in : (who other : Who) (o : Option Doing) → is_same other who ≡ false → IsIn who o → stands_in other (Some o) ≡ None
 not_in who other None e i = refl
-not_in who other (Some d) e i = ap (λ b. cond b (Some d.state) None) (subst (λ name. is_same other name ≡ false) (sym i) e)
+not_in who other (Some d) e i =
+    ap (λ b. cond b (Some d.state) None) (subst (λ name. is_same other name ≡ false) (sym i) e)
 
-own_in : (call : Started) (state : State) → is_same call.who call.who ≡ true → stands_in call.who (Some (doing_in call state)) ≡ standing state
+own_in : (call : Started) (state : State) → is_same call.who call.who ≡ true →
+    stands_in call.who (Some (doing_in call state)) ≡ standing state
 own_in call (Goes phase) same = ap (λ b. cond b (Some (Goes phase)) None) same
 own_in call (Waits wait) same = ap (λ b. cond b (Some (Waits wait)) None) same
 own_in call (Over ending) same = refl
 
-pub at_actor : (who : Who) (place start : ℕ) (actors : List (Option Doing)) → who ≡ Actor (suc place) start → standing_of who actors ≡ stands_in who (slice_get actors place)
+pub at_actor : (who : Who) (place start : ℕ) (actors : List (Option Doing)) → who ≡ Actor (suc place) start →
+    standing_of who actors ≡ stands_in who (slice_get actors place)
 at_actor (Actor zero s) place start actors e = absurd cc
-at_actor (Actor (suc p) s) place start actors e = let same : p ≡ place = cc in ap (λ n. stands_in (Actor (suc p) s) (slice_get actors n)) same
+at_actor (Actor (suc p) s) place start actors e =
+    let same : p ≡ place = cc in ap (λ n. stands_in (Actor (suc p) s) (slice_get actors n)) same
 at_actor (Seat n) place start actors e = absurd cc
 
-pub own_standing : (actors : List (Option Doing)) (place start : ℕ) (was : Option Doing) (call : Started) (state : State) → call.who ≡ Actor (suc place) start → slice_get actors place ≡ Some was →
+pub own_standing : (actors : List (Option Doing)) (place start : ℕ) (was : Option Doing) (call : Started)
+    (state : State) → call.who ≡ Actor (suc place) start → slice_get actors place ≡ Some was →
     standing_of call.who (slice_set actors place (doing_in call state)) ≡ standing state
 own_standing actors place start was call state who there =
     at_actor call.who place start (slice_set actors place (doing_in call state)) who
-    ∙ (ap (stands_in call.who) (get_set_same actors place (doing_in call state) was there) ∙ own_in call state (same_itself place start call.who who))
+    ∙ (ap (stands_in call.who) (get_set_same actors place (doing_in call state) was there)
+    ∙ own_in call state (same_itself place start call.who who))
 
-elsewhere : (actors : List (Option Doing)) (place : ℕ) (was : Option Doing) (call : Started) (state : State) (p s : ℕ) → is_same (Actor (suc p) s) call.who ≡ false →
+elsewhere : (actors : List (Option Doing)) (place : ℕ) (was : Option Doing) (call : Started) (state : State) (p s : ℕ) →
+    is_same (Actor (suc p) s) call.who ≡ false →
     slice_get actors place ≡ Some was → IsIn call.who was →
     standing_of (Actor (suc p) s) (slice_set actors place (doing_in call state)) ≡ standing_of (Actor (suc p) s) actors
 elsewhere actors place was call state p s apart there i = elim (same_place place p) [
   | inl same ↦
-      subst (λ n. stands_in (Actor (suc p) s) (slice_get (slice_set actors place (doing_in call state)) n) ≡ stands_in (Actor (suc p) s) (slice_get actors n)) same
+      subst (λ n.
+      stands_in (Actor (suc p) s) (slice_get (slice_set actors place (doing_in call state)) n)
+      ≡ stands_in (Actor (suc p) s) (slice_get actors n)) same
       (ap (stands_in (Actor (suc p) s)) (get_set_same actors place (doing_in call state) was there)
       ∙ (not_in call.who (Actor (suc p) s) (doing_in call state) apart (in_its_state call state)
       ∙ sym (ap (stands_in (Actor (suc p) s)) there ∙ not_in call.who (Actor (suc p) s) was apart i)))
   | inr other ↦ ap (stands_in (Actor (suc p) s)) (get_set_other actors place p (doing_in call state) other)
 ]
 
-pub other_standing : (who : Who) (actors : List (Option Doing)) (place : ℕ) (was : Option Doing) (call : Started) (state : State) → is_same who call.who ≡ false →
+pub other_standing : (who : Who) (actors : List (Option Doing)) (place : ℕ) (was : Option Doing) (call : Started)
+    (state : State) → is_same who call.who ≡ false →
     slice_get actors place ≡ Some was → IsIn call.who was →
     standing_of who (slice_set actors place (doing_in call state)) ≡ standing_of who actors
 other_standing (Actor zero s) actors place was call state apart there i = refl
-other_standing (Actor (suc p) s) actors place was call state apart there i = elsewhere actors place was call state p s apart there i
+other_standing (Actor (suc p) s) actors place was call state apart there i =
+    elsewhere actors place was call state p s apart there i
 other_standing (Seat n) actors place was call state apart there i = refl

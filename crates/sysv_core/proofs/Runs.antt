@@ -1,5 +1,6 @@
 -- A list that leads to a world is extended by one more happening.
-use Rattle.std.proofs.Common.{◌≡◌, ◌≤◌, ◌⊎◌, inl, ℕ, ◌+◌, cond, zero-add, Bool, List, [], ◌∷◌, ◌++◌, refl, sym, ap, subst, ◌∙◌, append_assoc, map}
+use Rattle.std.proofs.Common.{◌≡◌, ◌≤◌, ◌⊎◌, inl, ℕ, ◌+◌, cond, zero-add, Bool, List, [], ◌∷◌, ◌++◌, refl, sym, ap}
+use Rattle.std.proofs.Common.{subst, ◌∙◌, append_assoc, map}
 use Rattle.std.proofs.lemmas.List.{append-nil, map-append}
 use Rattle.std.proofs.lemmas.List.Sums.{sum_by-append}
 use Rattle.sysv_model.specs.declared.limits.TheConstants.{WORN}
@@ -24,16 +25,19 @@ leads_more w (y ∷ xs) x given more mid after l g =
     let rest = leads_more l.0 xs x l.2 more mid after l.4 g in
     (l.0, l.1, l.2 ++ more, l.3, rest, ap (λ gs. gs ++ more) l.5 ∙ append_assoc l.1 l.2 more)
 
-pub stands_preset : (o : Opening) (es : List Happening) (given : List Given) (old new : Seen) (made : Bool) → StandsFor o es given old → PresetsSeen old made new → StandsFor o (es ++ Preset ∷ []) given new
+pub stands_preset : (o : Opening) (es : List Happening) (given : List Given) (old new : Seen) (made : Bool) →
+    StandsFor o es given old → PresetsSeen old made new → StandsFor o (es ++ Preset ∷ []) given new
 stands_preset o es given old new made s goes =
     let g = goes s.world s.sight in
     record {
       world = g.0;
-      led = subst (λ gs. Leads (opening o) (es ++ Preset ∷ []) gs g.0) (append-nil given) (leads_more (opening o) es Preset given [] s.world g.0 s.led (refl, (made, g.1)));
+      led = subst (λ gs. Leads (opening o) (es ++ Preset ∷ []) gs g.0) (append-nil given)
+          (leads_more (opening o) es Preset given [] s.world g.0 s.led (refl, (made, g.1)));
       sight = g.2;
     }
 
-pub stands_step : (old new : Seen) (event : Event) (result : Stepped) → StepsSeen old event result new → StandsWithEvent old event result new
+pub stands_step : (old new : Seen) (event : Event) (result : Stepped) → StepsSeen old event result new →
+    StandsWithEvent old event result new
 stands_step old new event result goes = λ o es given s.
     let g = goes s.world s.sight in (
       g.1.0,
@@ -56,7 +60,8 @@ worn_step seen event worn = λ w s.
     (w, ([], worn_makes w event old, (old, refl)), s)
 
 -- The messages that one more answer returns.
-pub messages_more : (answers : List Answer) (a : Answer) → messages_in (answers ++ a ∷ []) ≡ messages_in answers + messages_given (stepped.Answer a)
+pub messages_more : (answers : List Answer) (a : Answer) →
+    messages_in (answers ++ a ∷ []) ≡ messages_in answers + messages_given (stepped.Answer a)
 messages_more answers a =
     let one : Answer → ℕ = λ x. cond (is_got x.result) 1 0 in
     sum_by-append one answers (a ∷ []) ∙ ap (λ n. messages_in answers + n) (zero-add _)
@@ -71,11 +76,13 @@ under_way start = record {
   goes = λ o es given s. (
     [],
     tt,
-    subst (λ gs. StandsFor o (es ++ []) gs start) (sym (append-nil given)) (subst (λ xs. StandsFor o xs given start) (sym (append-nil es)) s),
+    subst (λ gs. StandsFor o (es ++ []) gs start) (sym (append-nil given))
+        (subst (λ xs. StandsFor o xs given start) (sym (append-nil es)) s),
   );
 }
 
-one_told : (given : List Given) (answers : List Answer) (g : Given) (a : Answer) → TellAll given answers → Tells g a → TellAll (given ++ g ∷ []) (answers ++ a ∷ [])
+one_told : (given : List Given) (answers : List Answer) (g : Given) (a : Answer) → TellAll given answers → Tells g a →
+    TellAll (given ++ g ∷ []) (answers ++ a ∷ [])
 one_told [] [] g a all one = (one, tt)
 one_told [] (b ∷ answers) g a all one = absurd all
 one_told (h ∷ given) [] g a all one = absurd all
@@ -87,15 +94,21 @@ answers_in (stepped.Answer answer) = answer ∷ []
 answers_in stepped.Nothing = []
 answers_in stepped.Worn = []
 
-more_told : (w : World) (given more : List Given) (answers : List Answer) (result : Stepped) → TellAll given answers → Gives w more result → TellAll (given ++ more) (answers ++ answers_in result)
+more_told : (w : World) (given more : List Given) (answers : List Answer) (result : Stepped) → TellAll given answers →
+    Gives w more result → TellAll (given ++ more) (answers ++ answers_in result)
 more_told w given more answers (stepped.Answer a) all g =
     subst (λ xs. TellAll (given ++ xs) (answers ++ a ∷ [])) (sym g.1.1) (one_told given answers g.1.0 a all g.1.2)
 more_told w given more answers stepped.Nothing all g =
-    subst (λ xs. TellAll (given ++ xs) (answers ++ [])) (sym g.1) (subst (λ xs. TellAll xs (answers ++ [])) (sym (append-nil given)) (subst (TellAll given) (sym (append-nil answers)) all))
+    subst (λ xs. TellAll (given ++ xs) (answers ++ [])) (sym g.1)
+    (subst (λ xs. TellAll xs (answers ++ [])) (sym (append-nil given))
+    (subst (TellAll given) (sym (append-nil answers)) all))
 more_told w given more answers stepped.Worn all g =
-    subst (λ xs. TellAll (given ++ xs) (answers ++ [])) (sym g.1) (subst (λ xs. TellAll xs (answers ++ [])) (sym (append-nil given)) (subst (TellAll given) (sym (append-nil answers)) all))
+    subst (λ xs. TellAll (given ++ xs) (answers ++ [])) (sym g.1)
+    (subst (λ xs. TellAll xs (answers ++ [])) (sym (append-nil given))
+    (subst (TellAll given) (sym (append-nil answers)) all))
 
-pub goes_on : (start now new : Seen) (done : List Event) (answers : List Answer) (event : Event) (result : Stepped) → UnderWay start now done answers → StandsWithEvent now event result new →
+pub goes_on : (start now new : Seen) (done : List Event) (answers : List Answer) (event : Event) (result : Stepped) →
+    UnderWay start now done answers → StandsWithEvent now event result new →
     UnderWay start new (done ++ event ∷ []) (answers ++ answers_in result)
 goes_on start now new done answers event result u step = record {
   goes = λ o es given s.
@@ -104,12 +117,16 @@ goes_on start now new done answers event result u step = record {
         one.0 ++ two.0,
         more_told one.2.world one.0 two.0 answers result one.1 two.1,
         subst (λ gs. StandsFor o (es ++ map happening_of (done ++ event ∷ [])) gs new) (append_assoc given one.0 two.0)
-            (subst (λ xs. StandsFor o xs ((given ++ one.0) ++ two.0) new) (append_assoc es (map happening_of done) (happening_of event ∷ []) ∙ ap (λ xs. es ++ xs) (sym (map-append happening_of done (event ∷ [])))) two.2),
+            (subst (λ xs. StandsFor o xs ((given ++ one.0) ++ two.0) new)
+            (append_assoc es (map happening_of done) (happening_of event ∷ [])
+            ∙ ap (λ xs. es ++ xs) (sym (map-append happening_of done (event ∷ [])))) two.2),
       );
 }
 
-pub runs_on : (start new : Seen) (events done left : List Event) (answers : List Answer) → UnderWay start new done answers → events ≡ done ++ left → (left ≡ []) ⊎ (WORN ≤ new.steps) →
-    (o : Opening) (es : List Happening) (given : List Given) → StandsFor o es given start → RunsOn o es given events answers new
+pub runs_on : (start new : Seen) (events done left : List Event) (answers : List Answer) →
+    UnderWay start new done answers → events ≡ done ++ left → (left ≡ []) ⊎ (WORN ≤ new.steps) →
+    (o : Opening) (es : List Happening) (given : List Given) → StandsFor o es given start →
+    RunsOn o es given events answers new
 runs_on start new events done left answers u split worn o es given s =
     let g = u.goes o es given s in
     record { done = done; left = left; more = g.0; split = split; worn = worn; told = g.1; stands = g.2 }

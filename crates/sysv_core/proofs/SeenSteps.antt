@@ -1,5 +1,7 @@
 -- One happening in a world of the definitions, from what the world of the code is seen as.
-use Rattle.std.proofs.Common.{◌≡◌, ℕ, zero, suc, ◌+◌, ◌<◌, ◌⊎◌, inl, inr, Bool, false, List, [], ◌∷◌, ◌++◌, Option, None, Some, refl, sym, ap, subst, ◌∙◌, arith, add-zero, length, map, slice_get, slice_set, option_map}
+use Rattle.std.proofs.Common.{◌≡◌, ℕ, zero, suc, ◌+◌, ◌<◌, ◌⊎◌, inl, inr, Bool, false, List, [], ◌∷◌, ◌++◌, Option}
+use Rattle.std.proofs.Common.{None, Some, refl, sym, ap, subst, ◌∙◌, arith, add-zero, length, map, slice_get, slice_set}
+use Rattle.std.proofs.Common.{option_map}
 use Rattle.std.proofs.lemmas.List.{length-map}
 use Rattle.std.proofs.lemmas.Option.{slice_get-map, slice_get_past}
 use Rattle.sysv_model.specs.declared.cred.Cred.{Cred}
@@ -16,19 +18,21 @@ use Rattle.sysv_objects.specs.StandsFor.{StandsFor as ObjectsStandFor}
 use Rattle.sysv_steps.specs.State.{Phase, Wait, State, Goes, Waits, Over}
 use Rattle.sysv_steps.specs.Resume.{awaited, resume}
 use Rattle.sysv_steps.specs.Begin.{begin}
+use Rattle.sysv_steps.specs.declared.call.Call.{Call}
 use Rattle.sysv_core.specs.declared.doing.Led.{Led}
 use Rattle.sysv_core.specs.declared.doing.Led.TheVariants as led
-use Rattle.sysv_core.specs.declared.event.Call.{Call as Coded}
 use Rattle.sysv_core.specs.declared.event.Event.{Event}
 use Rattle.sysv_core.specs.declared.event.Event.TheVariants.{Start, Step}
 use Rattle.sysv_core.specs.declared.event.Standing.{Standing as StandingKept}
 use Rattle.sysv_core.specs.declared.event.Standing.TheVariants as standing
 use Rattle.sysv_core.specs.declared.event.Stepped.{Stepped}
 use Rattle.sysv_core.specs.declared.event.Stepped.TheVariants as stepped
-use Rattle.sysv_core.specs.World.{World, Started, Doing, Given, Start as Begun, Step as Stepping, Preset, actor_at, doing_in, given_in, in_state, with_call, starting, begun, value_of, Continues, StartsAt, StepsAt, Presets, with_preset}
+use Rattle.sysv_core.specs.World.{World, Started, Doing, Given, Start as Begun, Step as Stepping, Preset, actor_at}
+use Rattle.sysv_core.specs.World.{doing_in, given_in, in_state, with_call, starting, begun, value_of, Continues}
+use Rattle.sysv_core.specs.World.{StartsAt, StepsAt, Presets, with_preset}
 use Rattle.sysv_core.specs.Kinds.{kind_of, phase_kind, wait_kind, gives_back, IsOf}
 use Rattle.sysv_core.specs.Sound.{IsToCaller, StaysSound}
-use Rattle.sysv_core.specs.Asked.{asked_of}
+use Rattle.sysv_steps.specs.Asked.{asked_of}
 use Rattle.sysv_core.specs.Standing.{stands_at}
 use Rattle.sysv_core.specs.Held.{text_in}
 use Rattle.sysv_core.specs.Kept.{kept_led, counted_led, told_by}
@@ -45,14 +49,16 @@ idle_in None e = absurd cc
 idle_in (Some None) e = refl
 idle_in (Some (Some d)) e = absurd cc
 
-busy_in : (o : Option (Option Doing)) (s : State) → option_map state_in o ≡ Some (Some s) → (d : Doing) × (o ≡ Some (Some d)) × (d.state ≡ s)
+busy_in : (o : Option (Option Doing)) (s : State) → option_map state_in o ≡ Some (Some s) →
+    (d : Doing) × (o ≡ Some (Some d)) × (d.state ≡ s)
 busy_in None s e = absurd cc
 busy_in (Some None) s e = absurd cc
 busy_in (Some (Some d)) s e = (d, refl, cc)
 
 -- ---- what a start or a step leads to
 
-state_led : (call : Started) (b : Bool) (state : State) (l : Led) → LeadsTo b state l → state_in (doing_in call state) ≡ kept_led l
+state_led : (call : Started) (b : Bool) (state : State) (l : Led) → LeadsTo b state l →
+    state_in (doing_in call state) ≡ kept_led l
 state_led call b (Goes phase) (led.To doing) h = ap Some h
 state_led call b (Waits wait) (led.To doing) h = ap Some h
 state_led call b (Over ending) (led.To doing) h = not_over doing.standing (text_in doing.body) h
@@ -66,13 +72,15 @@ state_led call b (Waits wait) (led.Over ended) h = absurd h
 state_led call b state (led.Stays doing) h = absurd h
 
 -- The result of a start or a step is reported.
-tells_led : (w : World) (call : Started) (actor : ℕ) (state : State) (l : Led) → w.steps < WORN → IsToCaller call.who actor → LeadsTo (gives_back (Some (kind_of call.asked))) state l →
+tells_led : (w : World) (call : Started) (actor : ℕ) (state : State) (l : Led) → w.steps < WORN →
+    IsToCaller call.who actor → LeadsTo (gives_back (Some (kind_of call.asked))) state l →
     Gives w (given_in call state) (told_by actor l)
 tells_led w call actor (Goes phase) (led.To doing) young own h = (young, refl)
 tells_led w call actor (Waits wait) (led.To doing) young own h = (young, refl)
 tells_led w call actor (Over ending) (led.To doing) young own h = not_over doing.standing (text_in doing.body) h
   where
-    not_over : (k : StandingKept) (text : List ℕ) → Over ending ≡ stands_at k text → Gives w (given_in call (Over ending)) (told_by actor (led.To doing))
+    not_over : (k : StandingKept) (text : List ℕ) → Over ending ≡ stands_at k text →
+        Gives w (given_in call (Over ending)) (told_by actor (led.To doing))
     not_over (standing.At phase) text e = absurd cc
     not_over (standing.Waits wait) text e = absurd cc
 tells_led w call actor (Over ending) (led.Over ended) young own h =
@@ -91,11 +99,13 @@ counts_led b state (led.Stays doing) n h = absurd h
 abbrev pub Moves : World → Event → Stepped → Seen → Type 0
 Moves w event result new = (after : World) × Steps w event result after × IsSeenAs after new
 
-pub moves_as : (w : World) (event : Event) (r told : Stepped) (new kept : Seen) → told ≡ r → kept ≡ new → Moves w event r new → Moves w event told kept
+pub moves_as : (w : World) (event : Event) (r told : Stepped) (new kept : Seen) → told ≡ r → kept ≡ new →
+    Moves w event r new → Moves w event told kept
 moves_as w event r told new kept e f m = subst (λ x. Moves w event x kept) (sym e) (subst (Moves w event r) (sym f) m)
 
 -- No world of the definitions depends on the tally.
-pub tallied : (w : World) (event : Event) (r : Stepped) (new : Seen) (t : Tallied) → Moves w event r new → Moves w event r (record new { tally = t })
+pub tallied : (w : World) (event : Event) (r : Stepped) (new : Seen) (t : Tallied) → Moves w event r new →
+    Moves w event r (record new { tally = t })
 tallied w event r new t m =
     let s = m.2 in
     (m.0, m.1, record { objects = s.objects; states = s.states; sound = s.sound; steps = s.steps; blocks = s.blocks })
@@ -107,7 +117,8 @@ module _ (w : World) (seen : Seen) (s : IsSeenAs w seen) (sound : StaysSound) wh
   idle_at : (place : ℕ) → slice_get seen.states place ≡ Some None → slice_get w.actors place ≡ Some None
   idle_at place e = idle_in (slice_get w.actors place) (kept_at place ∙ e)
 
-  busy_at : (place : ℕ) (p : State) → slice_get seen.states place ≡ Some (Some p) → (d : Doing) × (slice_get w.actors place ≡ Some (Some d)) × (d.state ≡ p)
+  busy_at : (place : ℕ) (p : State) → slice_get seen.states place ≡ Some (Some p) →
+      (d : Doing) × (slice_get w.actors place ≡ Some (Some d)) × (d.state ≡ p)
   busy_at place p e = busy_in (slice_get w.actors place) p (kept_at place ∙ e)
 
   as_many : length w.actors ≡ length seen.states
@@ -128,105 +139,187 @@ module _ (w : World) (seen : Seen) (s : IsSeenAs w seen) (sound : StaysSound) wh
 
   -- ---- an event that is not possible
 
-  pub start_absent : (actor : ℕ) (cred : Cred) (call : Coded) → seen.steps < WORN → (actor ≡ 0) ⊎ (length seen.states < actor) → Moves w (Start actor cred call) stepped.Nothing seen
+  pub start_absent : (actor : ℕ) (cred : Cred) (call : Call (List ℕ) (List ℕ)) → seen.steps < WORN →
+      (actor ≡ 0) ⊎ (length seen.states < actor) → Moves w (Start actor cred call) stepped.Nothing seen
   start_absent actor cred call h none =
-      let young = young_too h in
-      (w, ([], inr (young, subst (λ o. StartsAt w actor cred (asked_of call) o [] w) (sym (absent actor none)) (refl, refl)), (young, refl)), s)
+      let young = young_too h in (
+        w,
+        (
+          [],
+          inr (young, subst (λ o. StartsAt w actor cred (asked_of call) o [] w) (sym (absent actor none)) (refl, refl)),
+          (young, refl),
+        ),
+        s,
+      )
 
-  pub start_busy : (actor place : ℕ) (cred : Cred) (call : Coded) (p : State) → seen.steps < WORN → actor ≡ place + 1 → slice_get seen.states place ≡ Some (Some p) → Moves w (Start actor cred call) stepped.Nothing seen
+  pub start_busy : (actor place : ℕ) (cred : Cred) (call : Call (List ℕ) (List ℕ)) (p : State) → seen.steps < WORN →
+      actor ≡ place + 1 → slice_get seen.states place ≡ Some (Some p) →
+      Moves w (Start actor cred call) stepped.Nothing seen
   start_busy actor place cred call p h e there =
       let young = young_too h in
-      let d = busy_at place p there in
-      (w, ([], inr (young, subst (λ o. StartsAt w actor cred (asked_of call) o [] w) (sym (at actor place e ∙ d.1)) (refl, refl)), (young, refl)), s)
+      let d = busy_at place p there in (
+        w,
+        (
+          [],
+          inr (
+            young,
+            subst (λ o. StartsAt w actor cred (asked_of call) o [] w) (sym (at actor place e ∙ d.1)) (refl, refl),
+          ),
+          (young, refl),
+        ),
+        s,
+      )
 
-  pub step_absent : (actor now : ℕ) → seen.steps < WORN → (actor ≡ 0) ⊎ (length seen.states < actor) → Moves w (Step actor now) stepped.Nothing seen
+  pub step_absent : (actor now : ℕ) → seen.steps < WORN → (actor ≡ 0) ⊎ (length seen.states < actor) →
+      Moves w (Step actor now) stepped.Nothing seen
   step_absent actor now h none =
-      let young = young_too h in
-      (w, ([], inr (young, subst (λ o. StepsAt w actor now o [] w) (sym (absent actor none)) (refl, refl)), (young, refl)), s)
+      let young = young_too h in (
+        w,
+        (
+          [],
+          inr (young, subst (λ o. StepsAt w actor now o [] w) (sym (absent actor none)) (refl, refl)),
+          (young, refl),
+        ),
+        s,
+      )
 
-  pub step_idle : (actor place now : ℕ) → seen.steps < WORN → actor ≡ place + 1 → slice_get seen.states place ≡ Some None → Moves w (Step actor now) stepped.Nothing seen
+  pub step_idle : (actor place now : ℕ) → seen.steps < WORN → actor ≡ place + 1 →
+      slice_get seen.states place ≡ Some None → Moves w (Step actor now) stepped.Nothing seen
   step_idle actor place now h e there =
-      let young = young_too h in
-      (w, ([], inr (young, subst (λ o. StepsAt w actor now o [] w) (sym (at actor place e ∙ idle_at place there)) (refl, refl)), (young, refl)), s)
+      let young = young_too h in (
+        w,
+        (
+          [],
+          inr (
+            young,
+            subst (λ o. StepsAt w actor now o [] w) (sym (at actor place e ∙ idle_at place there)) (refl, refl),
+          ),
+          (young, refl),
+        ),
+        s,
+      )
 
   -- ---- the start of a call
 
-  set_states : (place : ℕ) (o : Option Doing) (p : Option State) → state_in o ≡ p → map state_in (slice_set w.actors place o) ≡ slice_set seen.states place p
-  set_states place o p e = map-slice_set state_in w.actors place o ∙ (ap (λ ps. slice_set ps place (state_in o)) s.states ∙ ap (slice_set seen.states place) e)
+  set_states : (place : ℕ) (o : Option Doing) (p : Option State) → state_in o ≡ p →
+      map state_in (slice_set w.actors place o) ≡ slice_set seen.states place p
+  set_states place o p e = map-slice_set state_in w.actors place o
+      ∙ (ap (λ ps. slice_set ps place (state_in o)) s.states ∙ ap (slice_set seen.states place) e)
 
-  start_here : (n place : ℕ) (cred : Cred) (call : Coded) (count : ℕ) (l : Led) → seen.steps < WORN → n ≡ place → slice_get seen.states place ≡ Some None →
-      LeadsTo (gives_back (Some (kind_of (asked_of call)))) (begin cred (asked_of call) count) l → count ≡ released (pool_history w.turns) →
-      Moves w (Start (suc n) cred call) (told_by (suc n) l) (record seen { states = slice_set seen.states place (kept_led l); steps = seen.steps + 1 })
+  start_here : (n place : ℕ) (cred : Cred) (call : Call (List ℕ) (List ℕ)) (count : ℕ) (l : Led) → seen.steps < WORN →
+      n ≡ place → slice_get seen.states place ≡ Some None →
+      LeadsTo (gives_back (Some (kind_of (asked_of call)))) (begin cred (asked_of call) count) l →
+      count ≡ released (pool_history w.turns) →
+      Moves w (Start (suc n) cred call) (told_by (suc n) l)
+      (record seen { states = slice_set seen.states place (kept_led l); steps = seen.steps + 1 })
   start_here n place cred call count l h same there leads is =
       let young = young_too h in
       let asked = asked_of call in
       let started = starting w (suc n) cred asked in
       let state = begun started in
-      let to : LeadsTo (gives_back (Some (kind_of asked))) state l = subst (λ r. LeadsTo (gives_back (Some (kind_of asked))) (begin cred asked r) l) is leads in
+      let to : LeadsTo (gives_back (Some (kind_of asked))) state l =
+      subst (λ r. LeadsTo (gives_back (Some (kind_of asked))) (begin cred asked r) l) is leads in
       let idle : slice_get w.actors n ≡ Some None = ap (slice_get w.actors) same ∙ idle_at place there in
       let after : World = in_state (with_call w started) (suc n) started state in
-      let made = inr (young, subst (λ o. StartsAt w (suc n) cred asked o (given_in started state) after) (sym idle) (refl, refl)) in (
+      let made = inr (
+        young,
+        subst (λ o. StartsAt w (suc n) cred asked o (given_in started state) after) (sym idle) (refl, refl),
+      ) in (
         after,
         (given_in started state, made, tells_led w started (suc n) state l young refl to),
         record {
           objects = s.objects;
-          states = set_states n (doing_in started state) (kept_led l) (state_led started (gives_back (Some (kind_of asked))) state l to) ∙ ap (λ k. slice_set seen.states k (kept_led l)) same;
+          states = set_states n (doing_in started state) (kept_led l)
+              (state_led started (gives_back (Some (kind_of asked))) state l to)
+              ∙ ap (λ k. slice_set seen.states k (kept_led l)) same;
           sound = sound w after (Begun (suc n) cred asked) (given_in started state) s.sound made;
           steps = ap (λ k. k + 1) s.steps;
           blocks = s.blocks;
         },
       )
 
-  pub start_idle : (actor place : ℕ) (cred : Cred) (call : Coded) (count : ℕ) (l : Led) → seen.steps < WORN → actor ≡ place + 1 → slice_get seen.states place ≡ Some None →
-      LeadsTo (gives_back (Some (kind_of (asked_of call)))) (begin cred (asked_of call) count) l → count ≡ released (pool_history w.turns) →
-      Moves w (Start actor cred call) (told_by actor l) (record seen { states = slice_set seen.states place (kept_led l); steps = seen.steps + 1 })
+  pub start_idle : (actor place : ℕ) (cred : Cred) (call : Call (List ℕ) (List ℕ)) (count : ℕ) (l : Led) →
+      seen.steps < WORN → actor ≡ place + 1 → slice_get seen.states place ≡ Some None →
+      LeadsTo (gives_back (Some (kind_of (asked_of call)))) (begin cred (asked_of call) count) l →
+      count ≡ released (pool_history w.turns) →
+      Moves w (Start actor cred call) (told_by actor l)
+      (record seen { states = slice_set seen.states place (kept_led l); steps = seen.steps + 1 })
   start_idle zero place cred call count l h e there leads is = absurd (omega arith)
-  start_idle (suc n) place cred call count l h e there leads is = start_here n place cred call count l h (omega arith) there leads is
+  start_idle (suc n) place cred call count l h e there leads is =
+      start_here n place cred call count l h (omega arith) there leads is
 
   -- ---- a step of a call
 
   -- The world continues as the call does.
-  goes : (n place now : ℕ) (l : Led) (objects : Objects) (d : Doing) (turns : List Turn) (state : State) → w.steps < WORN → n ≡ place → slice_get w.actors n ≡ Some (Some d) → IsToCaller d.call.who (suc n) →
-      ObjectsStandFor w.generation turns objects → objects.pool.size ≡ seen.objects.pool.size → LeadsTo (gives_back (Some (kind_of d.call.asked))) state l →
+  goes : (n place now : ℕ) (l : Led) (objects : Objects) (d : Doing) (turns : List Turn) (state : State) →
+      w.steps < WORN → n ≡ place → slice_get w.actors n ≡ Some (Some d) → IsToCaller d.call.who (suc n) →
+      ObjectsStandFor w.generation turns objects → objects.pool.size ≡ seen.objects.pool.size →
+      LeadsTo (gives_back (Some (kind_of d.call.asked))) state l →
       let after : World = in_state (record w { turns = turns }) (suc n) d.call state in
       Continues w (suc n) now d.call d.state (given_in d.call state) after →
-      Moves w (Step (suc n) now) (told_by (suc n) l) (record { objects = objects; states = slice_set seen.states place (kept_led l); steps = seen.steps + counted_led l; tally = seen.tally })
+      Moves w (Step (suc n) now) (told_by (suc n) l) (record {
+        objects = objects;
+        states = slice_set seen.states place (kept_led l);
+        steps = seen.steps + counted_led l;
+        tally = seen.tally;
+      })
   goes n place now l objects d turns state young same busy own stands size to continues =
       let after : World = in_state (record w { turns = turns }) (suc n) d.call state in
-      let made = inr (young, subst (λ o. StepsAt w (suc n) now o (given_in d.call state) after) (sym busy) continues) in (
+      let made =
+      inr (young, subst (λ o. StepsAt w (suc n) now o (given_in d.call state) after) (sym busy) continues) in (
         after,
         (given_in d.call state, made, tells_led w d.call (suc n) state l young own to),
         record {
           objects = stands;
-          states = set_states n (doing_in d.call state) (kept_led l) (state_led d.call (gives_back (Some (kind_of d.call.asked))) state l to) ∙ ap (λ k. slice_set seen.states k (kept_led l)) same;
+          states = set_states n (doing_in d.call state) (kept_led l)
+              (state_led d.call (gives_back (Some (kind_of d.call.asked))) state l to)
+              ∙ ap (λ k. slice_set seen.states k (kept_led l)) same;
           sound = sound w after (Stepping (suc n) now) (given_in d.call state) s.sound made;
           steps = ap (λ k. k + 1) s.steps ∙ counts_led _ state l seen.steps to;
           blocks = s.blocks ∙ sym size;
         },
       )
 
-  turn_here : (n place now : ℕ) (p : Phase) (l : Led) (objects : Objects) (d : Doing) → w.steps < WORN → n ≡ place → slice_get w.actors n ≡ Some (Some d) → d.state ≡ Goes p → TurnLeads seen.objects p now l objects →
-      Moves w (Step (suc n) now) (told_by (suc n) l) (record { objects = objects; states = slice_set seen.states place (kept_led l); steps = seen.steps + counted_led l; tally = seen.tally })
+  turn_here : (n place now : ℕ) (p : Phase) (l : Led) (objects : Objects) (d : Doing) → w.steps < WORN → n ≡ place →
+      slice_get w.actors n ≡ Some (Some d) → d.state ≡ Goes p → TurnLeads seen.objects p now l objects →
+      Moves w (Step (suc n) now) (told_by (suc n) l) (record {
+        objects = objects;
+        states = slice_set seen.states place (kept_led l);
+        steps = seen.steps + counted_led l;
+        tally = seen.tally;
+      })
   turn_here n place now p l objects d young same busy is turn =
       let own = s.sound.own n d busy in
       let kind : phase_kind p ≡ Some (kind_of d.call.asked) = subst (IsOf (kind_of d.call.asked)) is own.0 in
-      let to : LeadsTo (gives_back (Some (kind_of d.call.asked))) turn.state l = subst (λ k. LeadsTo (gives_back k) turn.state l) kind turn.leads in
-      let legal = subst (λ n. IsLegalDeed w.generation n w.turns turn.deed) (sym s.blocks) (turn.turn.legal w.generation w.turns s.objects) in
+      let to : LeadsTo (gives_back (Some (kind_of d.call.asked))) turn.state l =
+      subst (λ k. LeadsTo (gives_back k) turn.state l) kind turn.leads in
+      let legal = subst (λ n. IsLegalDeed w.generation n w.turns turn.deed) (sym s.blocks)
+      (turn.turn.legal w.generation w.turns s.objects) in
       let turns = w.turns ++ record { who = d.call.who; deed = turn.deed } ∷ [] in
       let after : World = in_state (record w { turns = turns }) (suc n) d.call turn.state in
-      goes n place now l objects d turns turn.state young same busy own.1 (turn.turn.stands w.generation w.turns d.call.who s.objects) turn.turn.size to
-      (subst (λ st. Continues w (suc n) now d.call st (given_in d.call turn.state) after) (sym is) (turn.deed, turn.state, turn.asked, legal, turn.goes, refl, refl))
+      goes n place now l objects d turns turn.state young same busy own.1
+      (turn.turn.stands w.generation w.turns d.call.who s.objects) turn.turn.size to
+      (subst (λ st. Continues w (suc n) now d.call st (given_in d.call turn.state) after) (sym is)
+      (turn.deed, turn.state, turn.asked, legal, turn.goes, refl, refl))
 
   -- The actor still waits.
-  stays_here : (n place now : ℕ) (wait : Wait) (l : Led) (d : Doing) → w.steps < WORN → slice_get w.actors n ≡ Some (Some d) → d.state ≡ Waits wait → slice_get seen.states place ≡ Some (Some (Waits wait)) →
+  stays_here : (n place now : ℕ) (wait : Wait) (l : Led) (d : Doing) → w.steps < WORN →
+      slice_get w.actors n ≡ Some (Some d) → d.state ≡ Waits wait →
+      slice_get seen.states place ≡ Some (Some (Waits wait)) →
       Continues w (suc n) now d.call d.state [] w → Stays (Waits wait) l →
-      Moves w (Step (suc n) now) (told_by (suc n) l) (record { objects = seen.objects; states = slice_set seen.states place (kept_led l); steps = seen.steps + counted_led l; tally = seen.tally })
+      Moves w (Step (suc n) now) (told_by (suc n) l) (record {
+        objects = seen.objects;
+        states = slice_set seen.states place (kept_led l);
+        steps = seen.steps + counted_led l;
+        tally = seen.tally;
+      })
   stays_here n place now wait (led.Stays doing) d young busy is there continues stays = (
     w,
     ([], inr (young, subst (λ o. StepsAt w (suc n) now o [] w) (sym busy) continues), (young, refl)),
     record {
       objects = s.objects;
-      states = s.states ∙ sym (slice_set-same seen.states place (kept_led (led.Stays doing)) (there ∙ ap (λ x. Some (Some x)) stays));
+      states = s.states
+          ∙ sym (slice_set-same seen.states place (kept_led (led.Stays doing)) (there ∙ ap (λ x. Some (Some x)) stays));
       sound = s.sound;
       steps = s.steps ∙ sym (add-zero seen.steps);
       blocks = s.blocks;
@@ -235,45 +328,90 @@ module _ (w : World) (seen : Seen) (s : IsSeenAs w seen) (sound : StaysSound) wh
   stays_here n place now wait (led.To doing) d young busy is there continues stays = absurd stays
   stays_here n place now wait (led.Over ended) d young busy is there continues stays = absurd stays
 
-  look_here : (n place now : ℕ) (wait : Wait) (l : Led) (d : Doing) → w.steps < WORN → n ≡ place → slice_get w.actors n ≡ Some (Some d) → d.state ≡ Waits wait → slice_get seen.states place ≡ Some (Some (Waits wait)) →
+  look_here : (n place now : ℕ) (wait : Wait) (l : Led) (d : Doing) → w.steps < WORN → n ≡ place →
+      slice_get w.actors n ≡ Some (Some d) → d.state ≡ Waits wait →
+      slice_get seen.states place ≡ Some (Some (Waits wait)) →
       LookLeads seen.objects wait l →
-      Moves w (Step (suc n) now) (told_by (suc n) l) (record { objects = seen.objects; states = slice_set seen.states place (kept_led l); steps = seen.steps + counted_led l; tally = seen.tally })
+      Moves w (Step (suc n) now) (told_by (suc n) l) (record {
+        objects = seen.objects;
+        states = slice_set seen.states place (kept_led l);
+        steps = seen.steps + counted_led l;
+        tally = seen.tally;
+      })
   look_here n place now wait l d young same busy is there look = elim (look w.generation w.turns s.objects) [
     | inl reached ↦
         let own = s.sound.own n d busy in
         let kind : wait_kind wait ≡ Some (kind_of d.call.asked) = subst (IsOf (kind_of d.call.asked)) is own.0 in
         let state = Goes (resume wait (value_of w.turns (awaited wait))) in
         let after : World = in_state (record w { turns = w.turns }) (suc n) d.call state in
-        goes n place now l seen.objects d w.turns state young same busy own.1 s.objects refl (subst (λ k. LeadsTo (gives_back k) state l) kind reached.1)
-        (subst (λ st. Continues w (suc n) now d.call st (given_in d.call state) after) (sym is) (inl (reached.0, refl, refl)))
-    | inr below ↦ stays_here n place now wait l d young busy is there (subst (λ st. Continues w (suc n) now d.call st [] w) (sym is) (inr (below.0, (refl, refl)))) below.1
+        goes n place now l seen.objects d w.turns state young same busy own.1 s.objects refl
+        (subst (λ k. LeadsTo (gives_back k) state l) kind reached.1)
+        (subst (λ st. Continues w (suc n) now d.call st (given_in d.call state) after) (sym is)
+        (inl (reached.0, refl, refl)))
+    | inr below ↦ stays_here n place now wait l d young busy is there
+        (subst (λ st. Continues w (suc n) now d.call st [] w) (sym is) (inr (below.0, (refl, refl)))) below.1
   ]
 
-  step_here : (n place now : ℕ) (state : State) (l : Led) (objects : Objects) → seen.steps < WORN → n ≡ place → slice_get seen.states place ≡ Some (Some state) → StepLeads seen.objects state now l objects →
-      Moves w (Step (suc n) now) (told_by (suc n) l) (record { objects = objects; states = slice_set seen.states place (kept_led l); steps = seen.steps + counted_led l; tally = seen.tally })
+  step_here : (n place now : ℕ) (state : State) (l : Led) (objects : Objects) → seen.steps < WORN → n ≡ place →
+      slice_get seen.states place ≡ Some (Some state) → StepLeads seen.objects state now l objects →
+      Moves w (Step (suc n) now) (told_by (suc n) l) (record {
+        objects = objects;
+        states = slice_set seen.states place (kept_led l);
+        steps = seen.steps + counted_led l;
+        tally = seen.tally;
+      })
   step_here n place now (Goes p) l objects h same there step =
       let found = busy_at place (Goes p) there in
       turn_here n place now p l objects found.0 (young_too h) same (ap (slice_get w.actors) same ∙ found.1) found.2 step
   step_here n place now (Waits wait) l objects h same there step =
       let found = busy_at place (Waits wait) there in
-      subst (λ o. Moves w (Step (suc n) now) (told_by (suc n) l) (record { objects = o; states = slice_set seen.states place (kept_led l); steps = seen.steps + counted_led l; tally = seen.tally })) (sym step.1)
-      (look_here n place now wait l found.0 (young_too h) same (ap (slice_get w.actors) same ∙ found.1) found.2 there step.0)
+      subst (λ o.
+      Moves w (Step (suc n) now) (told_by (suc n) l) (record {
+        objects = o;
+        states = slice_set seen.states place (kept_led l);
+        steps = seen.steps + counted_led l;
+        tally = seen.tally;
+      })) (sym step.1)
+      (look_here n place now wait l found.0 (young_too h) same (ap (slice_get w.actors) same ∙ found.1) found.2 there
+      step.0)
   step_here n place now (Over ending) l objects h same there step = absurd step
 
-  pub step_busy : (actor place now : ℕ) (state : State) (l : Led) (objects : Objects) → seen.steps < WORN → actor ≡ place + 1 → slice_get seen.states place ≡ Some (Some state) → StepLeads seen.objects state now l objects →
-      Moves w (Step actor now) (told_by actor l) (record { objects = objects; states = slice_set seen.states place (kept_led l); steps = seen.steps + counted_led l; tally = seen.tally })
+  pub step_busy : (actor place now : ℕ) (state : State) (l : Led) (objects : Objects) → seen.steps < WORN →
+      actor ≡ place + 1 → slice_get seen.states place ≡ Some (Some state) → StepLeads seen.objects state now l objects →
+      Moves w (Step actor now) (told_by actor l) (record {
+        objects = objects;
+        states = slice_set seen.states place (kept_led l);
+        steps = seen.steps + counted_led l;
+        tally = seen.tally;
+      })
   step_busy zero place now state l objects h e there step = absurd (omega arith)
-  step_busy (suc n) place now state l objects h e there step = step_here n place now state l objects h (omega arith) there step
+  step_busy (suc n) place now state l objects h e there step =
+      step_here n place now state l objects h (omega arith) there step
 
   -- ---- a preset
 
-  module _ (more : (generation blocks : ℕ) (turns : List Turn) (who : Who) (deed : Deed) → AreLegal generation blocks turns → IsLegalDeed generation blocks turns deed → AreLegal generation blocks (turns ++ record { who = who; deed = deed } ∷ [])) (unused : UnusedSlots) where
-    pub preset_unused : (made : Bool) (objects : Objects) → IsUnused w.generation (registry_history w.turns) 0 → MakesPreset seen.objects made objects → (after : World) × Presets w made after × IsSeenAs after (record seen { objects = objects })
+  module _
+      (more : (generation blocks : ℕ) (turns : List Turn) (who : Who) (deed : Deed) → AreLegal generation blocks turns →
+      IsLegalDeed generation blocks turns deed →
+      AreLegal generation blocks (turns ++ record { who = who; deed = deed } ∷ [])) (unused : UnusedSlots) where
+    pub preset_unused : (made : Bool) (objects : Objects) → IsUnused w.generation (registry_history w.turns) 0 →
+        MakesPreset seen.objects made objects →
+        (after : World) × Presets w made after × IsSeenAs after (record seen { objects = objects })
     preset_unused made objects u makes =
         let m = makes w.generation w.turns s.objects u (vacant_there more unused w s.sound u) in
         let after = with_preset w in
-        let p : Presets w made after = inl (u, m.made, refl) in
-        (after, p, record { objects = m.stands; states = s.states; sound = sound w after Preset [] s.sound (refl, (made, p)); steps = s.steps; blocks = s.blocks ∙ sym m.size })
+        let p : Presets w made after = inl (u, m.made, refl) in (
+          after,
+          p,
+          record {
+            objects = m.stands;
+            states = s.states;
+            sound = sound w after Preset [] s.sound (refl, (made, p));
+            steps = s.steps;
+            blocks = s.blocks ∙ sym m.size;
+          },
+        )
 
-    pub preset_used : ¬ IsUnused w.generation (registry_history w.turns) 0 → (after : World) × Presets w false after × IsSeenAs after seen
+    pub preset_used : ¬ IsUnused w.generation (registry_history w.turns) 0 →
+        (after : World) × Presets w false after × IsSeenAs after seen
     preset_used used = (w, inr (used, refl, refl), s)

@@ -1,5 +1,6 @@
 -- What the answer law admits and refuses at the send of the worked run.
-use Rattle.std.proofs.Common.{◌≡◌, ℕ, zero, suc, pos, true, inl, inr, List, [], ◌∷◌, None, Some, refl, sym, ap, subst, arith}
+use Rattle.std.proofs.Common.{◌≡◌, ℕ, zero, suc, pos, true, inl, inr, List, [], ◌∷◌, None, Some, refl, sym, ap, subst}
+use Rattle.std.proofs.Common.{arith}
 use Rattle.std.specs.List.{All, Contains}
 use Rattle.sysv_model.specs.declared.errno.Errno.TheVariants.{EAGAIN}
 use Rattle.sysv_model.specs.Message.{Message}
@@ -13,13 +14,23 @@ use Rattle.sysv_core.specs.World.{Started, begun, preset_who, preset_cred, prese
 use Rattle.sysv_core.specs.AnswerLaw.{AreInTheirCalls, IsMade, ended, standing}
 use Rattle.sysv_core.specs.WorkedRun.{hello, the_calls, look_for}
 use Rattle.sysv_core.proofs.Sounding.{none_busy}
-use Rattle.sysv_core.specs.WorkedAnswers.{the_send, the_end, still_reserving, looking, looked_by, look_fits, gets_a_block, accepts, WorkedAnswers}
+use Rattle.sysv_core.specs.WorkedAnswers.{the_send, the_end, still_reserving, looking, looked_by, look_fits}
+use Rattle.sysv_core.specs.WorkedAnswers.{gets_a_block, accepts, WorkedAnswers}
 
 abbrev placing : State
-placing = Goes (AtPlace record { cred = the_send.cred; id = pos 0; mtype = pos 5; text = hello; nowait = true; released = 0; seen = true } 1)
+placing = Goes (AtPlace record {
+  cred = the_send.cred;
+  id = pos 0;
+  mtype = pos 5;
+  text = hello;
+  nowait = true;
+  released = 0;
+  seen = true;
+} 1)
 
 its_play : Plays (begun the_send) (look_fits ∷ gets_a_block ∷ accepts 0 ∷ []) (Over Zero)
-its_play = steps (accepts 0) 0 (Over Zero) (steps gets_a_block 0 placing (steps look_fits 0 still_reserving begins refl refl) refl refl) refl refl
+its_play = steps (accepts 0) 0 (Over Zero)
+    (steps gets_a_block 0 placing (steps look_fits 0 still_reserving begins refl refl) refl refl) refl refl
 
 no_answer : (state : State) → [] ≡ ended state → None ≡ standing state → ⊥
 no_answer (Goes phase) e f = cc
@@ -48,8 +59,10 @@ none_of_three place (call, (suc zero, low, is), name) = let e = ap (λ (c : Star
 none_of_three place (call, (suc (suc zero), low, is), name) = let e = ap (λ (c : Started). c.who) is in cc
 none_of_three place (call, (suc (suc (suc zero)), low, is), name) = let e = ap (λ (c : Started). c.who) is in cc
 none_of_three place (call, (suc (suc (suc (suc zero))), low, is), name) = let e = ap (λ (c : Started). c.who) is in cc
-none_of_three place (call, (suc (suc (suc (suc (suc zero)))), low, is), name) = let e = ap (λ (c : Started). c.who) is in cc
-none_of_three place (call, (suc (suc (suc (suc (suc (suc zero))))), low, is), name) = let e = ap (λ (c : Started). c.who) is in cc
+none_of_three place (call, (suc (suc (suc (suc (suc zero)))), low, is), name) =
+    let e = ap (λ (c : Started). c.who) is in cc
+none_of_three place (call, (suc (suc (suc (suc (suc (suc zero))))), low, is), name) =
+    let e = ap (λ (c : Started). c.who) is in cc
 none_of_three place (call, (suc (suc (suc (suc (suc (suc (suc k)))))), low, is), name) = omega (arith, low)
 
 nobody : (deed : Deed) → ¬ IsMade the_calls (record { who = Actor 3 0; deed = deed })
@@ -64,10 +77,12 @@ none_of_preset (call, (suc (suc zero), low, is), name) = let e = ap (λ (c : Sta
 none_of_preset (call, (suc (suc (suc zero)), low, is), name) = let e = ap (λ (c : Started). c.who) is in cc
 none_of_preset (call, (suc (suc (suc (suc zero))), low, is), name) = let e = ap (λ (c : Started). c.who) is in cc
 none_of_preset (call, (suc (suc (suc (suc (suc zero)))), low, is), name) = let e = ap (λ (c : Started). c.who) is in cc
-none_of_preset (call, (suc (suc (suc (suc (suc (suc zero))))), low, is), name) = let e = ap (λ (c : Started). c.who) is in cc
+none_of_preset (call, (suc (suc (suc (suc (suc (suc zero))))), low, is), name) =
+    let e = ap (λ (c : Started). c.who) is in cc
 none_of_preset (call, (suc (suc (suc (suc (suc (suc (suc k)))))), low, is), name) = omega (arith, low)
 
-three_of_preset : All (λ (deed : Deed). IsMade [] (record { who = preset_who; deed = deed })) (preset_begin ∷ preset_install ∷ preset_settle ∷ [])
+three_of_preset : All (λ (deed : Deed). IsMade [] (record { who = preset_who; deed = deed }))
+    (preset_begin ∷ preset_install ∷ preset_settle ∷ [])
 three_of_preset zero d low = inl (refl, inl refl)
 three_of_preset (suc zero) d low = inl (refl, inr (inl refl))
 three_of_preset (suc (suc zero)) d low = inl (refl, inr (inr refl))
@@ -79,7 +94,8 @@ no_look (inl (who, inr (inl is))) = cc
 no_look (inl (who, inr (inr is))) = cc
 no_look (inr by) = none_of_preset by
 
-no_removal : (messages : List Message) → ¬ IsMade the_calls (record { who = preset_who; deed = AtSlot 0 (Remove (pos 0) preset_cred) (Discarded messages) })
+no_removal : (messages : List Message) →
+    ¬ IsMade the_calls (record { who = preset_who; deed = AtSlot 0 (Remove (pos 0) preset_cred) (Discarded messages) })
 no_removal messages (inl (who, inl is)) = cc
 no_removal messages (inl (who, inr (inl is))) = cc
 no_removal messages (inl (who, inr (inr is))) = cc
@@ -119,8 +135,15 @@ worked_answers asked right = record {
       cc;
   answered_twice = λ f. two_answers Zero Zero f.state f.answered;
   goes_on = λ f. over_and_going Zero still_reserving f.state f.answered f.stands;
-  looks = record { state = still_reserving; plays = steps look_fits 0 still_reserving begins refl refl; answered = refl; stands = refl };
-  looks_otherwise = λ f. other_size ((asked the_send.cred the_send.asked 0 (deeds_of the_send.who (looking 6).turns) f.state f.plays) 0 look_fits (omega arith));
+  looks = record {
+    state = still_reserving;
+    plays = steps look_fits 0 still_reserving begins refl refl;
+    answered = refl;
+    stands = refl;
+  };
+  looks_otherwise = λ f.
+      other_size ((asked the_send.cred the_send.asked 0 (deeds_of the_send.who (looking 6).turns) f.state f.plays) 0
+      look_fits (omega arith));
   its_own = in_its_own;
   not_started = not_started_there;
   of_another = of_another_there;

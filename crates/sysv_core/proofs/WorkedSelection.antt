@@ -1,5 +1,6 @@
 -- The replies worked by hand are the legal ones.
-use Rattle.std.proofs.Common.{◌≡◌, ◌≢◌, ℕ, ℤ, pos, zero, suc, ◌<◌, ◌≤◌, ◌<ℤ◌, ◌≤ℤ◌, ◌^◌, inl, inr, false, List, [], ◌∷◌, Some, refl, arith, slice_get}
+use Rattle.std.proofs.Common.{◌≡◌, ◌≢◌, ℕ, ℤ, pos, zero, suc, ◌<◌, ◌≤◌, ◌<ℤ◌, ◌≤ℤ◌, ◌^◌, inl, inr, false, List, [], ◌∷◌}
+use Rattle.std.proofs.Common.{Some, refl, arith, slice_get}
 use Rattle.std.proofs.lemmas.Int.{ints}
 use Rattle.sysv_model.specs.declared.selector.Selector.TheVariants.{Any, Exactly, Except, UpTo}
 use Rattle.sysv_model.specs.Live.{live}
@@ -52,7 +53,8 @@ second_named : (bound : ℕ) → pos 2 ≤ℤ pos bound → IsNamed (UpTo bound)
 second_named bound within = ((omega arith, within), (omega arith, lowest, foremost))
 
 first_not_named : (bound : ℕ) → ¬ IsNamed (UpTo bound) the_types 0
-first_not_named bound named = let higher : ¬ (pos 2 <ℤ pos 5) = named.1.1 1 (omega arith) in higher (omega (arith, ints))
+first_not_named bound named =
+    let higher : ¬ (pos 2 <ℤ pos 5) = named.1.1 1 (omega arith) in higher (omega (arith, ints))
 
 -- A type that is requested exactly.
 five_named : IsNamed (Exactly (pos 5)) the_types 0
@@ -93,7 +95,8 @@ but_three_named : IsNamed (Except (pos 3)) the_types 0
 but_three_named = first_differs (pos 3) (λ same. omega (arith, ints, same))
 
 -- The message of the excluded type is not taken, nor a later one.
-never_excepted : (place : ℕ) → IsNamed (Except (pos 5)) the_types place → slice_get (hello_message ∷ empty_message ∷ []) place ≡ Some hello_message → ⊥
+never_excepted : (place : ℕ) → IsNamed (Except (pos 5)) the_types place →
+    slice_get (hello_message ∷ empty_message ∷ []) place ≡ Some hello_message → ⊥
 never_excepted zero named there = named.0.1 refl
 never_excepted (suc zero) named there =
     let same : Some empty_message ≡ Some hello_message = there in
@@ -101,7 +104,8 @@ never_excepted (suc zero) named there =
     not_again first
 never_excepted (suc (suc place)) named there = let within = named.0.0 in omega arith
 
-never_later : (place : ℕ) → IsNamed (Except (pos 3)) the_types place → slice_get (hello_message ∷ empty_message ∷ []) place ≡ Some empty_message → ⊥
+never_later : (place : ℕ) → IsNamed (Except (pos 3)) the_types place →
+    slice_get (hello_message ∷ empty_message ∷ []) place ≡ Some empty_message → ⊥
 never_later zero named there =
     let same : Some hello_message ≡ Some empty_message = there in
     let first : hello_message ≡ empty_message = cc in
@@ -114,7 +118,8 @@ first_named : IsNamed Any the_types 0
 first_named = ((omega arith, tt), λ earlier below q. omega arith)
 
 -- No bound names the first message.
-never_earliest : (bound place : ℕ) → IsNamed (UpTo bound) the_types place → slice_get (hello_message ∷ empty_message ∷ []) place ≡ Some hello_message → ⊥
+never_earliest : (bound place : ℕ) → IsNamed (UpTo bound) the_types place →
+    slice_get (hello_message ∷ empty_message ∷ []) place ≡ Some hello_message → ⊥
 never_earliest bound zero named there = first_not_named bound named
 never_earliest bound (suc zero) named there =
     let same : Some empty_message ≡ Some hello_message = there in

@@ -5,13 +5,15 @@
 -- that was started, and requests what the arguments of that call name, or is one of the three turns
 -- of a preset (POSIX.1-2017, msgsnd and msgrcv, RETURN VALUE and ERRORS; the steps are this
 -- project's profile).
-use Rattle.std.specs.Prelude.{◌≡◌, ◌⊎◌, ℕ, suc, List, [], ◌∷◌, Option, Some, None, Contains, filter, map, slice_get, if◌then◌else◌}
+use Rattle.std.specs.Prelude.{◌≡◌, ◌⊎◌, ℕ, suc, List, [], ◌∷◌, Option, Some, None, Contains, filter, map, slice_get}
+use Rattle.std.specs.Prelude.{if◌then◌else◌}
 use Rattle.sysv_model.specs.History.{Who, Actor, Seat}
 use Rattle.sysv_model.specs.Turn.{Turn, is_same, deeds_of}
 use Rattle.sysv_steps.specs.State.{Ending, State, Goes, Waits, Over}
 use Rattle.sysv_steps.specs.Played.{Plays}
 use Rattle.sysv_steps.specs.AsksFor.{AllAskFor}
-use Rattle.sysv_core.specs.World.{World, Started, Doing, Given, actor_at, begun, preset_who, preset_begin, preset_install, preset_settle}
+use Rattle.sysv_core.specs.World.{World, Started, Doing, Given, actor_at, begun, preset_who, preset_begin}
+use Rattle.sysv_core.specs.World.{preset_install, preset_settle}
 
 -- The endings of the calls of this name, in order.
 abbrev pub endings_of : Who → List Given → List Ending

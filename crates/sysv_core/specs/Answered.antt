@@ -1,8 +1,8 @@
 -- How the code reports the ending of a call (this project's profile): the outcome, and for a
 -- receive the body that it brought, with the bytes of the message or empty.
 use Rattle.std.specs.Prelude.{◌≡◌, Bool, ℕ, List, [], length, Option, Some, None, if◌then◌else◌}
-use Rattle.sysv_core.specs.declared.event.Outcome.{Outcome}
-use Rattle.sysv_core.specs.declared.event.Outcome.TheVariants as outcome
+use Rattle.sysv_steps.specs.declared.outcome.Outcome.{Outcome}
+use Rattle.sysv_steps.specs.declared.outcome.Outcome.TheVariants as outcome
 use Rattle.sysv_steps.specs.State.{Ending, Id, Zero, Got, Told, Refused}
 
 -- The outcome of an ending.

@@ -102,12 +102,14 @@ StandsWithPreset old new = (o : Opening) (list : List Happening) (given : List G
 -- For every list for which the world stood, it now stands for that list and the event, and the
 -- result of the event is that of the run.
 abbrev pub StandsWithEvent : Seen → Event → Stepped → Seen → Type 0
-StandsWithEvent old event result new = (o : Opening) (list : List Happening) (given : List Given) (s : StandsFor o list given old) →
+StandsWithEvent old event result new =
+    (o : Opening) (list : List Happening) (given : List Given) (s : StandsFor o list given old) →
     (more : List Given) × Gives s.world more result × StandsFor o (list ++ happening_of event ∷ []) (given ++ more) new
 
 -- The world continues from that list by the events, all of them or up to the first that finds it
 -- worn out at step number 2^62. The answers are those of the endings on the way, in order.
-pub record RunsOn (o : Opening) (list : List Happening) (given : List Given) (events : List Event) (answers : List Answer) (new : Seen) : Type 0 where
+pub record RunsOn (o : Opening) (list : List Happening) (given : List Given) (events : List Event)
+    (answers : List Answer) (new : Seen) : Type 0 where
   pub done : List Event
   pub left : List Event
   pub more : List Given

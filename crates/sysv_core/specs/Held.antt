@@ -19,9 +19,11 @@ pub record IsHeldBy (state : State) (body : Option (List ℕ)) : Type 0 where
   -- The body of a send under way is not too long.
   pub short : kind_at state ≡ Some Sends → length (text_in body) ≤ MESSAGE_BYTES
   -- Before its place a send holds the number of blocks that its body needs.
-  pub blocks : (send : Sending) (blocks : ℕ) → state ≡ Goes (AtPlace send blocks) → blocks ≡ blocks_for (length send.text)
+  pub blocks : (send : Sending) (blocks : ℕ) → state ≡ Goes (AtPlace send blocks) →
+      blocks ≡ blocks_for (length send.text)
   -- If a send releases its chain and then waits, that wait is one of a send.
-  pub afterwards : (blocks : ℕ) (wait : Wait) → state ≡ Goes (AtSendGiveback blocks (WaitsOn wait)) → wait_kind wait ≡ Some Sends
+  pub afterwards : (blocks : ℕ) (wait : Wait) → state ≡ Goes (AtSendGiveback blocks (WaitsOn wait)) →
+      wait_kind wait ≡ Some Sends
 
 -- The same, for a position as the code keeps it.
 abbrev pub IsHeld : StandingKept → Option (List ℕ) → Type 0

@@ -3,7 +3,10 @@
 -- step and each wait belongs to calls of one kind.
 use Rattle.std.specs.Prelude.{◌≡◌, Bool, true, false, Option, Some, None, ⊤}
 use Rattle.sysv_steps.specs.Call.{SystemCall, Msgget, Msgsnd, Msgrcv, MsgctlStat, MsgctlSet, MsgctlRmid}
-use Rattle.sysv_steps.specs.State.{Wait, OnSettled, OnFreed, OnReleased, OnArrived, IsRefused, WaitsOn, Phase, AtBegin, AtInstall, AtSettle, AtProbe, AtUnmake, AtLook, AtReserve, AtPlace, AtSendGiveback, AtTake, AtReceiveGiveback, AtStat, AtSet, AtSetGiveback, AtRemove, AtForget, AtRemoveGiveback, State, Goes, Waits, Over}
+use Rattle.sysv_steps.specs.State.{Wait, OnSettled, OnFreed, OnReleased, OnArrived, IsRefused, WaitsOn, Phase, AtBegin}
+use Rattle.sysv_steps.specs.State.{AtInstall, AtSettle, AtProbe, AtUnmake, AtLook, AtReserve, AtPlace, AtSendGiveback}
+use Rattle.sysv_steps.specs.State.{AtTake, AtReceiveGiveback, AtStat, AtSet, AtSetGiveback, AtRemove, AtForget}
+use Rattle.sysv_steps.specs.State.{AtRemoveGiveback, State, Goes, Waits, Over}
 
 -- The kinds: a send, a receive, and a call without a body.
 pub data Kind : Type 0 where

@@ -24,16 +24,21 @@ IsOfQueue id asked = ⊥
 
 -- The deed removes the queue of this identifier.
 abbrev pub IsRemoval : ℤ → Deed → Type 0
-IsRemoval id deed = (cred : Cred) × (messages : List Message) × (deed ≡ AtSlot (slot_of_id id) (Remove id cred) (Discarded messages))
+IsRemoval id deed =
+    (cred : Cred) × (messages : List Message) × (deed ≡ AtSlot (slot_of_id id) (Remove id cred) (Discarded messages))
 
 -- What such a call finds after the removal, and how it ends if it is over, by its deeds before the
 -- removal and after it.
 pub record IsToldSo (before after : List Deed) (endings : List Ending) : Type 0 where
   pub gone : All (λ (deed : Deed). is_at_slot deed ≡ true → found_gone deed ≡ true) after
-  pub removed : some is_at_slot before → some is_at_slot after → All (λ (ending : Ending). ending ≡ Refused EIDRM) endings
-  pub absent : list_any is_at_slot before ≡ false → some is_at_slot after → All (λ (ending : Ending). ending ≡ Refused EINVAL) endings
+  pub removed : some is_at_slot before → some is_at_slot after →
+      All (λ (ending : Ending). ending ≡ Refused EIDRM) endings
+  pub absent : list_any is_at_slot before ≡ false → some is_at_slot after →
+      All (λ (ending : Ending). ending ≡ Refused EINVAL) endings
 
 -- This holds of each removal in the world and of each send and receive under its identifier.
 abbrev pub AreToldOfRemovals : World → List Given → Type 0
-AreToldOfRemovals w given = (id : ℤ) (before after : List Turn) (t : Turn) (call : Started) → w.turns ≡ before ++ t ∷ after → IsRemoval id t.deed →
-    Contains w.calls call → IsOfQueue id call.asked → IsToldSo (deeds_of call.who before) (deeds_of call.who after) (endings_of call.who given)
+AreToldOfRemovals w given = (id : ℤ) (before after : List Turn) (t : Turn) (call : Started) →
+    w.turns ≡ before ++ t ∷ after → IsRemoval id t.deed →
+    Contains w.calls call → IsOfQueue id call.asked →
+    IsToldSo (deeds_of call.who before) (deeds_of call.who after) (endings_of call.who given)

@@ -44,7 +44,8 @@ Stays state (led.Over ended) = ⊥
 -- still waits.
 abbrev pub LookLeads : Objects → Wait → Led → Type 0
 LookLeads objects wait result = (generation : ℕ) (turns : List Turn) → StandsFor generation turns objects →
-    ((goal_of wait ≤ value_of turns (awaited wait)) × LeadsTo (gives_back (wait_kind wait)) (Goes (resume wait (value_of turns (awaited wait)))) result)
+    ((goal_of wait ≤ value_of turns (awaited wait))
+    × LeadsTo (gives_back (wait_kind wait)) (Goes (resume wait (value_of turns (awaited wait)))) result)
     ⊎ ((value_of turns (awaited wait) < goal_of wait) × Stays (Waits wait) result)
 
 -- One step of a call in this state.

@@ -25,7 +25,6 @@ pub mod Kinds
 pub mod Conserved
 pub mod Sound
 pub mod Answered
-pub mod Asked
 pub mod Tallying
 pub mod Seen
 pub mod Standing

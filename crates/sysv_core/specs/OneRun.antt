@@ -16,7 +16,8 @@ OneStep = (w after other : World) (event : Event) (result given : Stepped) → I
 
 -- A preset leads from a world to at most one world, with one result.
 abbrev pub OnePreset : Type 0
-OnePreset = (w after other : World) (made did : Bool) → Presets w made after → Presets w did other → (made ≡ did) × (after ≡ other)
+OnePreset = (w after other : World) (made did : Bool) → Presets w made after → Presets w did other →
+    (made ≡ did) × (after ≡ other)
 
 -- A list of happenings leads from a sound world to at most one world, with one list of endings.
 abbrev pub OneRun : Type 0

@@ -26,7 +26,8 @@ use Rattle.sysv_keys.specs.declared.registry.KeyRow.{KeyRow}
 use Rattle.sysv_keys.specs.Identifier.{slot_of_id}
 use Rattle.sysv_keys.specs.Rows.{IsRow}
 use Rattle.sysv_steps.specs.Call.{SystemCall, Msgget, Msgsnd, Msgrcv, MsgctlSet, MsgctlRmid}
-use Rattle.sysv_steps.specs.State.{Wait, OnSettled, OnFreed, OnReleased, OnArrived, AtSetGiveback, AtForget, AtRemoveGiveback, State, Goes, Waits}
+use Rattle.sysv_steps.specs.State.{Wait, OnSettled, OnFreed, OnReleased, OnArrived, AtSetGiveback, AtForget}
+use Rattle.sysv_steps.specs.State.{AtRemoveGiveback, State, Goes, Waits}
 use Rattle.sysv_steps.specs.Resume.{awaited, goal_of}
 use Rattle.sysv_core.specs.World.{World, Doing, value_of}
 use Rattle.sysv_core.specs.Tending.{IsTended}
@@ -83,9 +84,12 @@ IsToBeWoken w id cred = IsOpenTo (slot_history (slot_of_id id) w.turns) id cred 
 -- The reason for which a call with these credentials and arguments waits. No other call is in such
 -- a wait.
 abbrev pub HasReason : World → Cred → SystemCall → Wait → Type 0
-HasReason w cred (Msgrcv id size mtype flags) (OnArrived goal receive) = HasNothingToTake (slot_history (slot_of_id id) w.turns) id cred (selector_for mtype flags)
-HasReason w cred (Msgsnd id mtype flags text) (OnFreed goal send) = HasNoRoom (slot_history (slot_of_id id) w.turns) id cred (length text)
-HasReason w cred (Msgsnd id mtype flags text) (OnReleased goal send) = HasTooFewBlocks w (length text) × IsToBeWoken w id cred
+HasReason w cred (Msgrcv id size mtype flags) (OnArrived goal receive) =
+    HasNothingToTake (slot_history (slot_of_id id) w.turns) id cred (selector_for mtype flags)
+HasReason w cred (Msgsnd id mtype flags text) (OnFreed goal send) =
+    HasNoRoom (slot_history (slot_of_id id) w.turns) id cred (length text)
+HasReason w cred (Msgsnd id mtype flags text) (OnReleased goal send) =
+    HasTooFewBlocks w (length text) × IsToBeWoken w id cred
 HasReason w cred (Msgget key flags) (OnSettled goal get) = IsBeingChanged w key
 HasReason w cred asked wait = ⊥
 
@@ -97,4 +101,5 @@ pub record IsParked (w : World) (place : ℕ) (d : Doing) (wait : Wait) : Type 0
 
 -- Each call that waits below its goal has its reason.
 abbrev pub AreParkedRightly : World → Type 0
-AreParkedRightly w = (place : ℕ) (d : Doing) (wait : Wait) → IsParked w place d wait → HasReason w d.call.cred d.call.asked wait
+AreParkedRightly w =
+    (place : ℕ) (d : Doing) (wait : Wait) → IsParked w place d wait → HasReason w d.call.cred d.call.asked wait

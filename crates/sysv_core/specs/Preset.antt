@@ -10,7 +10,8 @@ use Rattle.sysv_objects.specs.StandsFor.{StandsFor}
 use Rattle.sysv_core.specs.World.{with_preset_turns}
 
 -- The preset queue was made by its three turns.
-pub record PresetMade (generation : ℕ) (turns : List Turn) (old : Objects) (result : Bool) (new : Objects) : Type 0 where
+pub record PresetMade (generation : ℕ) (turns : List Turn) (old : Objects) (result : Bool)
+    (new : Objects) : Type 0 where
   pub made : result ≡ true
   pub stands : StandsFor generation (with_preset_turns turns) new
   pub size : new.pool.size ≡ old.pool.size
@@ -19,5 +20,6 @@ pub record PresetMade (generation : ℕ) (turns : List Turn) (old : Objects) (re
 -- For every list of turns for which the objects stood, if slot 0 was unused and without a live
 -- queue.
 abbrev pub MakesPreset : Objects → Bool → Objects → Type 0
-MakesPreset old result new = (generation : ℕ) (turns : List Turn) → StandsFor generation turns old → IsUnused generation (registry_history turns) 0 →
+MakesPreset old result new = (generation : ℕ) (turns : List Turn) → StandsFor generation turns old →
+    IsUnused generation (registry_history turns) 0 →
     live (slot_history 0 turns) ≡ None → PresetMade generation turns old result new

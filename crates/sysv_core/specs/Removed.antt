@@ -19,5 +19,6 @@ IsInItsSlot deed = Unit {0}
 pub record AreRemovedForGood (turns : List Turn) : Type 0 where
   pub at_home : All (λ (t : Turn). IsInItsSlot t.deed) turns
   pub once : (slot : ℕ) (id : ℤ) → IsInstalledOnce id (slot_history slot turns)
-  pub gone : (slot : ℕ) (id : ℤ) (before after : History) (e : Entry) → slot_history slot turns ≡ before ++ e ∷ after → removes id e.call e.reply ≡ true →
+  pub gone : (slot : ℕ) (id : ℤ) (before after : History) (e : Entry) → slot_history slot turns ≡ before ++ e ∷ after →
+      removes id e.call e.reply ≡ true →
       IsGoneSince id after (slot_history slot turns)

@@ -6,4 +6,5 @@ use Rattle.sysv_core.specs.World.{World, Happening, Given, Makes}
 -- A list of happenings leads from one world to another, with these endings in order.
 abbrev pub Leads : World → List Happening → List Given → World → Type 0
 Leads w [] given after = (given ≡ []) × (after ≡ w)
-Leads w (x ∷ xs) given after = (mid : World) × (one : List Given) × (rest : List Given) × Makes w x one mid × Leads mid xs rest after × (given ≡ one ++ rest)
+Leads w (x ∷ xs) given after = (mid : World) × (one : List Given) × (rest : List Given) × Makes w x one mid
+    × Leads mid xs rest after × (given ≡ one ++ rest)

@@ -13,7 +13,7 @@ use Rattle.sysv_core.specs.declared.event.Stepped.{Stepped}
 use Rattle.sysv_core.specs.declared.event.Stepped.TheVariants as stepped
 use Rattle.sysv_core.specs.World.{World, Opening, Doing, Given, Happening, Start, Step, Makes, Presets, opening}
 use Rattle.sysv_core.specs.Run.{Leads}
-use Rattle.sysv_core.specs.Asked.{asked_of}
+use Rattle.sysv_steps.specs.Asked.{asked_of}
 use Rattle.sysv_core.specs.Answered.{TellsEnding}
 use Rattle.sysv_core.specs.Kinds.{kind_of, gives_back}
 use Rattle.sysv_core.specs.Sound.{IsToCaller, IsSound}
@@ -80,7 +80,8 @@ PresetsSeen old made new = (w : World) → IsSeenAs w old → (after : World) ×
 
 -- What an event makes of each world as which the code's world is seen.
 abbrev pub StepsSeen : Seen → Event → Stepped → Seen → Type 0
-StepsSeen old event result new = (w : World) → IsSeenAs w old → (after : World) × Steps w event result after × IsSeenAs after new
+StepsSeen old event result new =
+    (w : World) → IsSeenAs w old → (after : World) × Steps w event result after × IsSeenAs after new
 
 -- The list leads from this opening, with these endings, to a world as which the code's world is
 -- seen.
@@ -92,4 +93,5 @@ pub record StandsFor (o : Opening) (list : List Happening) (given : List Given) 
 -- This is the number of blocks with which the world was opened, for every list of happenings for
 -- which it stands.
 abbrev pub AreAllFree : Seen → ℕ → Type 0
-AreAllFree seen blocks = (o : Opening) (list : List Happening) (given : List Given) → StandsFor o list given seen → blocks ≡ o.blocks
+AreAllFree seen blocks =
+    (o : Opening) (list : List Happening) (given : List Given) → StandsFor o list given seen → blocks ≡ o.blocks

@@ -11,7 +11,8 @@ use Rattle.sysv_core.specs.Seen.{Steps}
 
 -- Each event leads from a sound world to a sound world, with a result.
 abbrev pub SomeStep : Type 0
-SomeStep = (w : World) (event : Event) → IsSound w → (result : Stepped) × (after : World) × Steps w event result after × IsSound after
+SomeStep = (w : World) (event : Event) → IsSound w →
+    (result : Stepped) × (after : World) × Steps w event result after × IsSound after
 
 -- Each preset leads from a sound world to a sound world, with a result.
 abbrev pub SomePreset : Type 0
@@ -19,4 +20,5 @@ SomePreset = (w : World) → IsSound w → (made : Bool) × (after : World) × P
 
 -- Each list of happenings leads from each opening to a world, with a list of endings.
 abbrev pub SomeRun : Type 0
-SomeRun = (o : Opening) (list : List Happening) → (given : List Given) × (after : World) × Leads (opening o) list given after
+SomeRun =
+    (o : Opening) (list : List Happening) → (given : List Given) × (after : World) × Leads (opening o) list given after

@@ -24,7 +24,8 @@ IsToCaller (Seat number) other = ⊥
 -- Each actor that is in a call is in one of its own, in a state of such a call. Before the place of
 -- a body it holds the number of blocks that the body needs.
 abbrev pub AreOwn : List (Option Doing) → Type 0
-AreOwn actors = (place : ℕ) (d : Doing) → slice_get actors place ≡ Some (Some d) → IsOf (kind_of d.call.asked) d.state × IsToCaller d.call.who (suc place) × HasItsBlocks d.state
+AreOwn actors = (place : ℕ) (d : Doing) → slice_get actors place ≡ Some (Some d) →
+    IsOf (kind_of d.call.asked) d.state × IsToCaller d.call.who (suc place) × HasItsBlocks d.state
 
 -- The registry made an identifier of this slot.
 pub record IsMadeIn (turns : List Turn) (slot : ℕ) : Type 0 where
@@ -39,7 +40,8 @@ pub record IsSound (w : World) : Type 0 where
   pub own : AreOwn w.actors
   -- An identifier of the slot was made if an actor is before an install in that slot, or if a queue
   -- is live in it.
-  pub installs : (place : ℕ) (d : Doing) (get : Getting) (id : ℤ) → slice_get w.actors place ≡ Some (Some d) → d.state ≡ Goes (AtInstall get id) → IsMadeIn w.turns (slot_of_id id)
+  pub installs : (place : ℕ) (d : Doing) (get : Getting) (id : ℤ) → slice_get w.actors place ≡ Some (Some d) →
+      d.state ≡ Goes (AtInstall get id) → IsMadeIn w.turns (slot_of_id id)
   pub lives : (slot : ℕ) (a : Attributes) → live (slot_history slot w.turns) ≡ Some a → IsMadeIn w.turns slot
   pub blocks : AreConserved w.blocks w.turns w.actors
 

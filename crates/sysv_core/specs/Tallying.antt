@@ -2,8 +2,8 @@
 -- as written, and none as lost.
 use Rattle.std.specs.Prelude.{ℕ, Bool, true, false, List, cond, count_by}
 use Rattle.sysv_queue.specs.Tally.{Tallied}
-use Rattle.sysv_core.specs.declared.event.Outcome.{Outcome}
-use Rattle.sysv_core.specs.declared.event.Outcome.TheVariants as outcome
+use Rattle.sysv_steps.specs.declared.outcome.Outcome.{Outcome}
+use Rattle.sysv_steps.specs.declared.outcome.Outcome.TheVariants as outcome
 use Rattle.sysv_core.specs.declared.event.Answer.{Answer}
 use Rattle.sysv_core.specs.declared.event.Stepped.{Stepped}
 use Rattle.sysv_core.specs.declared.event.Stepped.TheVariants as stepped

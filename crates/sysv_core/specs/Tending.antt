@@ -20,4 +20,5 @@ pub record IsTended (w : World) (id : ℤ) : Type 0 where
 
 -- This holds of each row that is not settled or whose queue is not live.
 abbrev pub AreTended : World → Type 0
-AreTended w = (row : KeyRow) → IsRow (registry_history w.turns) row → (row.live ≡ false) ⊎ ¬ IsLive (slot_history (slot_of_id row.id) w.turns) row.id → IsTended w row.id
+AreTended w = (row : KeyRow) → IsRow (registry_history w.turns) row →
+    (row.live ≡ false) ⊎ ¬ IsLive (slot_history (slot_of_id row.id) w.turns) row.id → IsTended w row.id

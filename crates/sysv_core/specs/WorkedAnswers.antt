@@ -8,9 +8,11 @@ use Rattle.sysv_model.specs.Pool.{Reserve, Reserved}
 use Rattle.sysv_model.specs.Turn.{Deed, AtSlot, AtPool}
 use Rattle.sysv_steps.specs.State.{AtReserve, Zero, Refused, State, Goes, Over}
 use Rattle.sysv_steps.specs.Played.{Plays}
-use Rattle.sysv_core.specs.World.{World, Started, opening, with_actor, begun, preset_who, preset_cred, preset_begin, preset_install, preset_settle, with_preset_turns}
+use Rattle.sysv_core.specs.World.{World, Started, opening, with_actor, begun, preset_who, preset_cred, preset_begin}
+use Rattle.sysv_core.specs.World.{preset_install, preset_settle, with_preset_turns}
 use Rattle.sysv_core.specs.AnswerLaw.{Fate, AreInTheirCalls, IsMade}
-use Rattle.sysv_core.specs.WorkedRun.{hello, send_hello, place_hello, look_for, one_calls, one_ends, the_calls, the_turns, the_answers, of_16}
+use Rattle.sysv_core.specs.WorkedRun.{hello, send_hello, place_hello, look_for, one_calls, one_ends, the_calls}
+use Rattle.sysv_core.specs.WorkedRun.{the_turns, the_answers, of_16}
 
 -- The call.
 abbrev pub the_send : Started
@@ -18,15 +20,32 @@ the_send = one_calls 2 send_hello
 
 -- The world after the run: every actor is idle.
 abbrev pub the_end : World
-the_end = record { turns = the_turns; calls = the_calls; actors = (opening of_16).actors; steps = 19; blocks = 128; generation = 0 }
+the_end = record {
+  turns = the_turns;
+  calls = the_calls;
+  actors = (opening of_16).actors;
+  steps = 19;
+  blocks = 128;
+  generation = 0;
+}
 
 -- The state of the call after its look.
 abbrev pub still_reserving : State
-still_reserving = Goes (AtReserve record { cred = the_send.cred; id = pos 0; mtype = pos 5; text = hello; nowait = true; released = 0; seen = true })
+still_reserving = Goes (AtReserve record {
+  cred = the_send.cred;
+  id = pos 0;
+  mtype = pos 5;
+  text = hello;
+  nowait = true;
+  released = 0;
+  seen = true;
+})
 
 -- The same world, but actor 1 is still in that call, in that state.
 abbrev pub going_on : World
-going_on = record the_end { actors = with_actor (opening of_16).actors 1 (Some record { call = the_send; state = still_reserving }) }
+going_on = record the_end {
+  actors = with_actor (opening of_16).actors 1 (Some record { call = the_send; state = still_reserving });
+}
 
 -- A world in which the send is under way after one look for this number of bytes.
 abbrev pub looking : ℕ → World
@@ -41,7 +60,9 @@ looking size = record {
 
 -- The world after a look for 5 bytes, but the actor of this number is in that call.
 abbrev pub looked_by : ℕ → World
-looked_by actor = record (looking 5) { actors = with_actor (opening of_16).actors actor (Some record { call = the_send; state = still_reserving }) }
+looked_by actor = record (looking 5) {
+  actors = with_actor (opening of_16).actors actor (Some record { call = the_send; state = still_reserving });
+}
 
 -- The look of the send; its reservation and its place follow.
 abbrev pub look_fits : Deed
@@ -76,6 +97,9 @@ pub record WorkedAnswers : Type 0 where
   -- A turn that no call made is refused.
   pub by_nobody : (deed : Deed) → ¬ IsMade the_calls (record { who = Actor 3 0; deed = deed })
   -- A preset makes its three turns, and no others: no look, and no removal of its queue.
-  pub by_preset : All (λ (deed : Deed). IsMade [] (record { who = preset_who; deed = deed })) (preset_begin ∷ preset_install ∷ preset_settle ∷ [])
+  pub by_preset : All (λ (deed : Deed). IsMade [] (record { who = preset_who; deed = deed }))
+      (preset_begin ∷ preset_install ∷ preset_settle ∷ [])
   pub by_no_preset : ¬ IsMade the_calls (record { who = preset_who; deed = look_fits })
-  pub removed_by_no_preset : (messages : List Message) → ¬ IsMade the_calls (record { who = preset_who; deed = AtSlot 0 (Remove (pos 0) preset_cred) (Discarded messages) })
+  pub removed_by_no_preset : (messages : List Message) →
+      ¬ IsMade the_calls
+      (record { who = preset_who; deed = AtSlot 0 (Remove (pos 0) preset_cred) (Discarded messages) })

@@ -14,14 +14,16 @@ use Rattle.sysv_model.specs.declared.flags.TheConstants.Flags.{IPC_NOWAIT}
 use Rattle.sysv_model.specs.declared.selector.Selector.TheVariants.{Any}
 use Rattle.sysv_model.specs.Message.{Message}
 use Rattle.sysv_model.specs.declared.limits.TheConstants.{IPC_PRIVATE}
-use Rattle.sysv_model.specs.History.{Actor, Call, Install, Look, Place, Take, Reply, Installed, Gone, Full, Fits, Accepted, NoMatch, Taken, Entry, History}
+use Rattle.sysv_model.specs.History.{Actor, Call, Install, Look, Place, Take, Reply, Installed, Gone, Full, Fits}
+use Rattle.sysv_model.specs.History.{Accepted, NoMatch, Taken, Entry, History}
 use Rattle.sysv_model.specs.Pool.{PoolCall, Reserve, Release, PoolReply, Reserved, Released}
 use Rattle.sysv_model.specs.Turn.{AtSlot, AtPool, Turn}
 use Rattle.sysv_queue.specs.LegalReply.{IsLegalReply}
 use Rattle.sysv_steps.specs.Call.{SystemCall, Msgsnd, Msgrcv}
 use Rattle.sysv_steps.specs.State.{Ending, Zero, Got, Refused}
 use Rattle.sysv_steps.specs.Begin.{is_refused}
-use Rattle.sysv_core.specs.World.{World, Opening, Started, Given, Happening, Preset, Start, Step, opening, preset_cred, preset_flags, with_preset_turns}
+use Rattle.sysv_core.specs.World.{World, Opening, Started, Given, Happening, Preset, Start, Step, opening, preset_cred}
+use Rattle.sysv_core.specs.World.{preset_flags, with_preset_turns}
 use Rattle.sysv_core.specs.Run.{Leads}
 
 abbrev pub sender : Cred
@@ -185,7 +187,8 @@ of_16 = record { actors = 16; blocks = 128; first = 0; generation = 0 }
 -- The happenings lead from the opening world to a world with these calls and turns, with these
 -- endings.
 abbrev pub WorkedRun : Type 0
-WorkedRun = (w : World) × Leads (opening of_16) the_happenings the_answers w × (w.calls ≡ the_calls) × (w.turns ≡ the_turns)
+WorkedRun =
+    (w : World) × Leads (opening of_16) the_happenings the_answers w × (w.calls ≡ the_calls) × (w.turns ≡ the_turns)
 
 -- The slot's history after this number of turns of the run at the slot.
 abbrev pub after_turns : ℕ → History
@@ -233,8 +236,10 @@ pub record FillsExactly (first second : List ℕ) : Type 0 where
   pub first_fits : IsLegalReply (after_turns 1) (send_of first) (Accepted 0)
   pub second_looks : IsLegalReply (with_first first) (look_for 8192) Fits
   pub second_fits : IsLegalReply (with_first first) (send_of second) (Accepted 1)
-  pub byte_is_too_much : (text : List ℕ) → length text ≡ 1 → IsLegalReply (with_both first second) (send_of text) (Full 0)
-  pub byte_is_not_placed : (text : List ℕ) (number : ℕ) → length text ≡ 1 → ¬ IsLegalReply (with_both first second) (send_of text) (Accepted number)
+  pub byte_is_too_much : (text : List ℕ) → length text ≡ 1 →
+      IsLegalReply (with_both first second) (send_of text) (Full 0)
+  pub byte_is_not_placed : (text : List ℕ) (number : ℕ) → length text ≡ 1 →
+      ¬ IsLegalReply (with_both first second) (send_of text) (Accepted number)
   pub nothing_fits : IsLegalReply (with_both first second) (send_of []) (Accepted 2)
 
 abbrev pub ExactFit : Type 0

@@ -2,7 +2,8 @@
 -- the number of counted events so far; and the worlds to which a happening leads. A happening is a
 -- preset, the start of an actor's call, or one step of it: one turn at one object, which has a
 -- legal reply, or a look at the count for which the call waits (this project's profile).
-use Rattle.std.specs.Prelude.{◌≡◌, ℕ, zero, suc, pos, ◌+◌, ◌<◌, ◌≤◌, ◌⊎◌, Bool, true, false, List, [], ◌∷◌, ◌++◌, Option, Some, None, replicate, slice_get, slice_set}
+use Rattle.std.specs.Prelude.{◌≡◌, ℕ, zero, suc, pos, ◌+◌, ◌<◌, ◌≤◌, ◌⊎◌, Bool, true, false, List, [], ◌∷◌, ◌++◌}
+use Rattle.std.specs.Prelude.{Option, Some, None, replicate, slice_get, slice_set}
 use Rattle.sysv_model.specs.declared.flags.Flags.{Flags}
 use Rattle.sysv_model.specs.declared.cred.Cred.{Cred}
 use Rattle.sysv_model.specs.declared.flags.TheConstants.Flags.{USER_READ, USER_WRITE}
@@ -10,7 +11,8 @@ use Rattle.sysv_model.specs.declared.limits.TheConstants.{IPC_PRIVATE, WORN}
 use Rattle.sysv_model.specs.History.{Who, Actor, Install, Installed, arrived, freed}
 use Rattle.sysv_model.specs.Registry.{Begin, Settle, Made, Changed, settled}
 use Rattle.sysv_model.specs.Pool.{released}
-use Rattle.sysv_model.specs.Turn.{Deed, AtSlot, AtRegistry, asked_by, Turn, slot_history, registry_history, pool_history}
+use Rattle.sysv_model.specs.Turn.{Deed, AtSlot, AtRegistry, asked_by, Turn, slot_history, registry_history}
+use Rattle.sysv_model.specs.Turn.{pool_history}
 use Rattle.sysv_keys.specs.Rows.{IsUnused}
 use Rattle.sysv_objects.specs.LegalDeed.{IsLegalDeed}
 use Rattle.sysv_steps.specs.Call.{SystemCall}
@@ -52,7 +54,14 @@ pub record World : Type 0 where
 
 -- The world in which nothing has happened.
 abbrev pub opening : Opening → World
-opening o = record { turns = []; calls = []; actors = replicate o.actors None; steps = o.first; blocks = o.blocks; generation = o.generation }
+opening o = record {
+  turns = [];
+  calls = [];
+  actors = replicate o.actors None;
+  steps = o.first;
+  blocks = o.blocks;
+  generation = o.generation;
+}
 
 -- A call that is over, and how it ended.
 pub record Given : Type 0 where
@@ -103,7 +112,8 @@ StaysWith w given after = (given ≡ []) × (after ≡ w)
 
 -- The call that the actor starts now.
 abbrev pub starting : World → ℕ → Cred → SystemCall → Started
-starting w actor cred asked = record { who = Actor actor w.steps; cred = cred; asked = asked; released = released (pool_history w.turns) }
+starting w actor cred asked =
+    record { who = Actor actor w.steps; cred = cred; asked = asked; released = released (pool_history w.turns) }
 
 -- The state of the call at its start.
 abbrev pub begun : Started → State
@@ -111,7 +121,8 @@ begun call = begin call.cred call.asked call.released
 
 -- The world after the start of this call, with its ending if it is over at once.
 abbrev pub Begins : World → ℕ → Started → List Given → World → Type 0
-Begins w actor call given after = (given ≡ given_in call (begun call)) × (after ≡ in_state (with_call w call) actor call (begun call))
+Begins w actor call given after =
+    (given ≡ given_in call (begun call)) × (after ≡ in_state (with_call w call) actor call (begun call))
 
 -- ---- a step of a call
 
@@ -119,7 +130,8 @@ Begins w actor call given after = (given ≡ given_in call (begun call)) × (aft
 -- next state in the step table.
 abbrev pub Turns : World → ℕ → Started → Phase → ℕ → List Given → World → Type 0
 Turns w actor call phase now given after =
-    (deed : Deed) × (state : State) × (asked_by deed ≡ asks phase now) × IsLegalDeed w.generation w.blocks w.turns deed × (next phase deed ≡ Some state)
+    (deed : Deed) × (state : State) × (asked_by deed ≡ asks phase now) × IsLegalDeed w.generation w.blocks w.turns deed
+    × (next phase deed ≡ Some state)
     × (given ≡ given_in call state) × (after ≡ in_state (with_turn w call.who deed) actor call state)
 
 -- The value of a count after these turns.
@@ -191,7 +203,9 @@ preset_settle = AtRegistry (Settle (pos 0)) (Changed true)
 -- These turns, and then the three of a preset.
 abbrev pub with_preset_turns : List Turn → List Turn
 with_preset_turns turns =
-    ((turns ++ record { who = preset_who; deed = preset_begin } ∷ []) ++ record { who = preset_who; deed = preset_install } ∷ []) ++ record { who = preset_who; deed = preset_settle } ∷ []
+    ((turns ++ record { who = preset_who; deed = preset_begin } ∷ [])
+    ++ record { who = preset_who; deed = preset_install } ∷ [])
+    ++ record { who = preset_who; deed = preset_settle } ∷ []
 
 -- The world after a preset that made the queue.
 abbrev pub with_preset : World → World

@@ -4,9 +4,10 @@ ghost use Rattle.std.specs.Prelude.{◌≡◌, is_some};
 ghost use Rattle.sysv_core.specs.Held.{IsHeld};
 ghost use Rattle.sysv_core.specs.Tallying.{is_got};
 
-use crate::event::{Outcome, Standing};
+use crate::event::Standing;
 use sysv_model::Body;
 use sysv_queue::Delivery;
+use sysv_steps::Outcome;
 
 /// A call under way: the step before which it is or the wait that it is in, and the body of a send
 /// or a receive.

@@ -16,7 +16,7 @@ use sysv_steps::Phase;
 
 /// Ends the call at its position and returns the blocks that it holds. A message that a receive has
 /// taken is lost.
-pub fn chain_in(doing: Doing) -> Chain
+pub(crate) fn chain_in(doing: Doing) -> Chain
     ensures { result.blocks ≡ held (stands_at doing.standing (text_in doing.body)) }
 {
     let Doing {

@@ -10,17 +10,18 @@
 //! ```
 #![tactic(auto)]
 
+mod actor_steps;
 mod doing;
-mod driver;
 mod event;
 mod giveback;
 mod laws;
 mod preset;
 mod world;
 
-pub use event::{Answer, Call, Event, Outcome, Standing, Stepped};
+pub use event::{Answer, Event, Standing, Stepped};
 pub use laws::{
     each_world_is_sound, every_run_obeys, exact_fit, no_wrong_reply, one_run, one_step, some_run,
     some_step, worked_answers, worked_run, worked_selection, worked_waits,
 };
+pub use sysv_steps::{Call, Outcome};
 pub use world::{OpenRefused, World};

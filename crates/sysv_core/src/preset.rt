@@ -26,7 +26,7 @@ const PRESET: Cred = Cred {
 
 /// Makes the preset queue, if slot 0 is unused, by the three turns that a get of a private key
 /// would make. Returns whether the queue was made.
-pub fn preset_queue(objects: &mut Objects) -> bool
+pub(crate) fn preset_queue(objects: &mut Objects) -> bool
     ensures { MakesPreset objects.old result objects.new }
 {
     unused_slots();

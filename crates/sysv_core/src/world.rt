@@ -1,3 +1,5 @@
+//! A world of queues and actors: its opening, its events and its end.
+
 ghost use Rattle.std.specs.Prelude.{ℕ, List, false, IsTrue, ◌≡◌, ◌≢◌, ◌+◌, ◌-◌, ◌^◌, ◌<◌, ◌≤◌, ◌⊎◌, ◌↔◌, ◌++◌, ◌∷◌, [], length, IfOk, IfErr, IfSome, MatchResult, Err, MatchOption, Some, None, slice_set, slice_get, replicate};
 ghost use Rattle.sysv_model.specs.declared.limits.TheConstants.{MAX_ACTORS as most_actors, MIN_BLOCKS as least_blocks, MAX_BLOCKS as most_blocks, WORN as worn};
 ghost use Rattle.sysv_keys.specs.declared.identifier.TheConstants.{GENERATION_LAST as last_generation};
@@ -9,9 +11,9 @@ ghost use Rattle.sysv_queue.specs.Tally.{taken_in};
 ghost use Rattle.sysv_core.specs.Standing.{state_at, StandsNowhere, StandsThere};
 ghost use Rattle.sysv_core.specs.declared.event.Event.TheVariants.{Start, Step};
 
+use crate::actor_steps::{advance, begin, counted};
 use crate::doing::{Doing, Ended, Led};
-use crate::driver::{advance, begin, counted};
-use crate::event::{Answer, Call, Event, Standing, Stepped};
+use crate::event::{Answer, Event, Standing, Stepped};
 use crate::giveback::{chain_in, end_all};
 use crate::laws::{each_world_is_sound, every_run_obeys};
 use crate::preset::preset_queue;
@@ -21,6 +23,7 @@ use sysv_keys::{GENERATION_LAST, unused_slots};
 use sysv_model::{Body, Cred, MAX_ACTORS, MAX_BLOCKS, MIN_BLOCKS, WORN};
 use sysv_objects::{Objects, legal_turns};
 use sysv_queue::Tally;
+use sysv_steps::Call;
 use thiserror::Error;
 
 /// The reason why a world cannot be opened.

@@ -8,8 +8,10 @@ use Rattle.sysv_model.specs.Message.{Message}
 use Rattle.sysv_queue.specs.Replies.{remove_reply}
 use Rattle.sysv_pool.specs.Chain.{Chained}
 use Rattle.sysv_pool.specs.Replies.{release_reply}
-use Rattle.sysv_steps.specs.State.{Sending, Receiving, Wait, OnSettled, OnFreed, OnReleased, OnArrived, Afterwards, IsRefused, WaitsOn, State, Over, Zero}
-use Rattle.sysv_steps.specs.Next.{after_settle, after_unmake, waits_or, goes_on, is_full, after_place, after_take, after_remove, after_forget, after_giveback}
+use Rattle.sysv_steps.specs.State.{Sending, Receiving, Wait, OnSettled, OnFreed, OnReleased, OnArrived, Afterwards}
+use Rattle.sysv_steps.specs.State.{IsRefused, WaitsOn, State, Over, Zero}
+use Rattle.sysv_steps.specs.Next.{after_settle, after_unmake, waits_or, goes_on, is_full, after_place, after_take}
+use Rattle.sysv_steps.specs.Next.{after_remove, after_forget, after_giveback}
 use Rattle.sysv_queue.specs.declared.slot.TakeRefused.{TakeRefused}
 use Rattle.sysv_queue.specs.declared.slot.TakeRefused.TheVariants as refused
 use Rattle.sysv_queue.specs.Replies.{untaken_reply}
@@ -26,7 +28,8 @@ settle_gets id done s e = lands Gets _ s e tt
 pub unmake_gets : (done : Bool) (s : State) → after_unmake (Changed done) ≡ Some s → Gets s
 unmake_gets done s e = lands Gets _ s e tt
 
-waits_sends : (nowait : Bool) (wait : Wait) (why : Errno) → SendsAfterwards (WaitsOn wait) → SendsAfterwards (waits_or nowait wait why)
+waits_sends : (nowait : Bool) (wait : Wait) (why : Errno) → SendsAfterwards (WaitsOn wait) →
+    SendsAfterwards (waits_or nowait wait why)
 waits_sends true wait why k = tt
 waits_sends false wait why k = k
 
@@ -40,7 +43,8 @@ goes_sends (WaitsOn (OnArrived goal receive)) k = absurd k
 full_sends : (send : Sending) (freed : ℕ) → IsShort send → SendsAfterwards (is_full send freed)
 full_sends send freed short = waits_sends send.nowait _ _ short
 
-pub place_sends : (send : Sending) (blocks : ℕ) (reply : Reply) (s : State) → IsShort send → after_place send blocks reply ≡ Some s → Sends s
+pub place_sends : (send : Sending) (blocks : ℕ) (reply : Reply) (s : State) → IsShort send →
+    after_place send blocks reply ≡ Some s → Sends s
 place_sends send blocks Gone s short e = lands Sends _ s e tt
 place_sends send blocks Denied s short e = lands Sends _ s e tt
 place_sends send blocks (Full freed) s short e = lands Sends _ s e (full_sends send freed short)
@@ -51,21 +55,26 @@ waits_give_nothing : (nowait : Bool) (wait : Wait) (why : Errno) → GivesNothin
 waits_give_nothing true wait why = tt
 waits_give_nothing false wait why = tt
 
-pub untaken_gives_nothing : (receive : Receiving) (why : TakeRefused) (s : State) → after_take receive (untaken_reply why) ≡ Some s → GivesNothing s
+pub untaken_gives_nothing : (receive : Receiving) (why : TakeRefused) (s : State) →
+    after_take receive (untaken_reply why) ≡ Some s → GivesNothing s
 untaken_gives_nothing receive refused.Gone s e = lands GivesNothing _ s e tt
 untaken_gives_nothing receive refused.Denied s e = lands GivesNothing _ s e tt
-untaken_gives_nothing receive (refused.NoMatch arrived) s e = lands GivesNothing _ s e (waits_give_nothing receive.nowait _ _)
+untaken_gives_nothing receive (refused.NoMatch arrived) s e =
+    lands GivesNothing _ s e (waits_give_nothing receive.nowait _ _)
 untaken_gives_nothing receive refused.TooLong s e = lands GivesNothing _ s e tt
 
-pub given_sends : (a : Afterwards) (done : Result ⊤ Chained) (s : State) → SendsAfterwards a → after_giveback (goes_on a) (release_reply done) ≡ Some s → Sends s
+pub given_sends : (a : Afterwards) (done : Result ⊤ Chained) (s : State) → SendsAfterwards a →
+    after_giveback (goes_on a) (release_reply done) ≡ Some s → Sends s
 given_sends a (Ok done) s k e = lands Sends _ s e (goes_sends a k)
 given_sends a (Err chain) s k e = lands Sends _ s e (goes_sends a k)
 
-pub given_zero : (P : State → Type 0) (done : Result ⊤ Chained) (s : State) → P (Over Zero) → after_giveback (Over Zero) (release_reply done) ≡ Some s → P s
+pub given_zero : (P : State → Type 0) (done : Result ⊤ Chained) (s : State) → P (Over Zero) →
+    after_giveback (Over Zero) (release_reply done) ≡ Some s → P s
 given_zero P (Ok done) s k e = lands P _ s e k
 given_zero P (Err chain) s k e = lands P _ s e k
 
-pub remove_removes : {X : Type 0} (id : ℤ) (messages : List Message) (done : Result X Errno) (s : State) → after_remove id (remove_reply messages done) ≡ Some s → Removes s
+pub remove_removes : {X : Type 0} (id : ℤ) (messages : List Message) (done : Result X Errno) (s : State) →
+    after_remove id (remove_reply messages done) ≡ Some s → Removes s
 remove_removes id messages (Ok done) s e = lands Removes _ s e tt
 remove_removes id messages (Err why) s e = lands Removes _ s e tt
 

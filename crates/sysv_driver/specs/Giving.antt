@@ -34,7 +34,8 @@ HasWhatItGives s deeds = ⊤
 
 -- One step of a receive, after which the receive still has the message that it returns, or has just
 -- taken it.
-abbrev pub StepsGiving : {P : Type 0} → (P → Deed → P → Type 0) → (P → Ask → P → Type 0) → (ℕ → Type 0) → PhaseKept → List ℕ → P → ℕ → StateKept → List ℕ → P → ℕ → Type 0
+abbrev pub StepsGiving : {P : Type 0} → (P → Deed → P → Type 0) → (P → Ask → P → Type 0) → (ℕ → Type 0) → PhaseKept →
+    List ℕ → P → ℕ → StateKept → List ℕ → P → ℕ → Type 0
 StepsGiving takes misses may there text before kept stands out after keeps =
     ((step : Steps takes misses may (phase_of there text) before kept (state_of stands out) after keeps)
     × ((deeds : List Deed) → HasWhatItGives (state.Goes there) deeds → HasWhatItGives stands (deeds ++ step.deed ∷ [])))
@@ -58,7 +59,8 @@ nothing_is_sized (state.Over e) text none = tt
 nothing_is_sized (state.Waits w) text none = tt
 
 -- A state without a message meets the rule that its message was taken.
-pub nothing_to_have : (s : StateKept) (out : List ℕ) (deeds : List Deed) → GivesNothing (state_of s out) → HasWhatItGives s deeds
+pub nothing_to_have : (s : StateKept) (out : List ℕ) (deeds : List Deed) → GivesNothing (state_of s out) →
+    HasWhatItGives s deeds
 nothing_to_have (state.Goes (phase.ReceiveGiveback chain delivery)) out deeds none = absurd none
 nothing_to_have (state.Over (ending.Got delivery)) out deeds none = absurd none
 nothing_to_have (state.Goes p) out deeds none = tt

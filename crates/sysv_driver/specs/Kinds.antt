@@ -6,7 +6,10 @@ use Rattle.sysv_steps.specs.declared.ending.Ending.TheVariants as ending
 use Rattle.sysv_steps.specs.declared.state.Phase.TheVariants as phase
 use Rattle.sysv_steps.specs.declared.state.State.{State as StateKept}
 use Rattle.sysv_steps.specs.declared.state.State.TheVariants as state
-use Rattle.sysv_steps.specs.State.{Sending, OnSettled, OnFreed, OnReleased, OnArrived, Afterwards, IsRefused, WaitsOn, AtBegin, AtInstall, AtSettle, AtProbe, AtUnmake, AtLook, AtReserve, AtPlace, AtSendGiveback, AtTake, AtReceiveGiveback, AtStat, AtSet, AtSetGiveback, AtRemove, AtForget, AtRemoveGiveback, Id, Zero, Got, Told, Refused, State, Goes, Waits, Over}
+use Rattle.sysv_steps.specs.State.{Sending, OnSettled, OnFreed, OnReleased, OnArrived, Afterwards, IsRefused, WaitsOn}
+use Rattle.sysv_steps.specs.State.{AtBegin, AtInstall, AtSettle, AtProbe, AtUnmake, AtLook, AtReserve, AtPlace}
+use Rattle.sysv_steps.specs.State.{AtSendGiveback, AtTake, AtReceiveGiveback, AtStat, AtSet, AtSetGiveback, AtRemove}
+use Rattle.sysv_steps.specs.State.{AtForget, AtRemoveGiveback, Id, Zero, Got, Told, Refused, State, Goes, Waits, Over}
 
 -- The states of a msgget.
 abbrev pub Gets : State → Type 0
@@ -56,7 +59,8 @@ Receives state = ⊥
 -- The bytes that a receive returns have the length that its delivery states, and are not longer
 -- than a message can be.
 abbrev pub IsSized : StateKept → List ℕ → Type 0
-IsSized (state.Goes (phase.ReceiveGiveback chain delivery)) out = (delivery.len ≡ length out) × (length out ≤ MESSAGE_BYTES)
+IsSized (state.Goes (phase.ReceiveGiveback chain delivery)) out =
+    (delivery.len ≡ length out) × (length out ≤ MESSAGE_BYTES)
 IsSized (state.Over (ending.Got delivery)) out = (delivery.len ≡ length out) × (length out ≤ MESSAGE_BYTES)
 IsSized s out = ⊤
 

@@ -9,7 +9,9 @@ use Rattle.sysv_model.specs.Registry.{Forget, Changed}
 use Rattle.sysv_model.specs.Turn.{Ask, Deed, AtRegistry, AtPool, OfRegistry, OfPool, asked_by}
 use Rattle.sysv_pool.specs.Chain.{Chained}
 use Rattle.sysv_pool.specs.Replies.{release_reply}
-use Rattle.sysv_steps.specs.State.{IsRefused, Phase, AtInstall, AtUnmake, AtPlace, AtSendGiveback, AtTake, AtReceiveGiveback, AtSet, AtSetGiveback, AtForget, AtRemoveGiveback, Zero, Got, Refused, State, Goes, Over}
+use Rattle.sysv_steps.specs.State.{IsRefused, Phase, AtInstall, AtUnmake, AtPlace, AtSendGiveback, AtTake}
+use Rattle.sysv_steps.specs.State.{AtReceiveGiveback, AtSet, AtSetGiveback, AtForget, AtRemoveGiveback, Zero, Got}
+use Rattle.sysv_steps.specs.State.{Refused, State, Goes, Over}
 use Rattle.sysv_steps.specs.Asks.{asks}
 use Rattle.sysv_steps.specs.Next.{goes_on, gives_back, next}
 
@@ -63,7 +65,8 @@ module _ {P : Type 0} (takes : P → Deed → P → Type 0) (misses : P → Ask 
 
   -- One step of a call: a turn at the object of the step. If the step uses the time, that is one
   -- that the clock may return.
-  pub record Steps (may : ℕ → Type 0) (phase : Phase) (before : P) (kept : ℕ) (state : State) (after : P) (keeps : ℕ) : Type 0 where
+  pub record Steps (may : ℕ → Type 0) (phase : Phase) (before : P) (kept : ℕ) (state : State) (after : P)
+      (keeps : ℕ) : Type 0 where
     pub deed : Deed
     pub now : ℕ
     pub moment : is_stamped phase ≡ true → may now
@@ -74,17 +77,21 @@ module _ {P : Type 0} (takes : P → Deed → P → Type 0) (misses : P → Ask 
   -- The identifier is forgotten, or the gate of the registry is worn out too and no turn is made.
   abbrev pub Forgets : ℤ → P → ℕ → List Deed → P → ℕ → Type 0
   Forgets id before kept deeds after keeps =
-      ((done : Bool) × (deeds ≡ AtRegistry (Forget id) (Changed done) ∷ []) × Makes before kept (AtRegistry (Forget id) (Changed done)) after keeps)
+      ((done : Bool) × (deeds ≡ AtRegistry (Forget id) (Changed done) ∷ [])
+      × Makes before kept (AtRegistry (Forget id) (Changed done)) after keeps)
       ⊎ ((deeds ≡ []) × misses before (OfRegistry (Forget id)) after × (keeps ≡ kept))
 
   -- What a call does after it found the gate of a step worn out. If a queue could not be installed,
   -- its identifier is forgotten.
   abbrev pub TurnsBack : Phase → P → ℕ → List Deed → State → P → ℕ → Type 0
-  TurnsBack (AtInstall get id) before kept deeds state after keeps = (state ≡ Over (Refused EOVERFLOW)) × Forgets id before kept deeds after keeps
-  TurnsBack phase before kept deeds state after keeps = (state ≡ when_worn phase) × (deeds ≡ []) × (after ≡ before) × (keeps ≡ kept + kept_when_worn phase)
+  TurnsBack (AtInstall get id) before kept deeds state after keeps =
+      (state ≡ Over (Refused EOVERFLOW)) × Forgets id before kept deeds after keeps
+  TurnsBack phase before kept deeds state after keeps =
+      (state ≡ when_worn phase) × (deeds ≡ []) × (after ≡ before) × (keeps ≡ kept + kept_when_worn phase)
 
   -- A step of a call at a worn-out gate, with the turns that it made at other gates.
-  pub record FindsNoTurn (may : ℕ → Type 0) (phase : Phase) (before : P) (kept : ℕ) (state : State) (after : P) (keeps : ℕ) : Type 0 where
+  pub record FindsNoTurn (may : ℕ → Type 0) (phase : Phase) (before : P) (kept : ℕ) (state : State) (after : P)
+      (keeps : ℕ) : Type 0 where
     pub deeds : List Deed
     pub now : ℕ
     pub moment : is_stamped phase ≡ true → may now
@@ -94,14 +101,16 @@ module _ {P : Type 0} (takes : P → Deed → P → Type 0) (misses : P → Ask 
 
   -- One step of a call, whether or not its gate is worn out.
   abbrev pub StepsOn : (ℕ → Type 0) → Phase → P → ℕ → State → P → ℕ → Type 0
-  StepsOn may phase before kept state after keeps = Steps may phase before kept state after keeps ⊎ FindsNoTurn may phase before kept state after keeps
+  StepsOn may phase before kept state after keeps =
+      Steps may phase before kept state after keeps ⊎ FindsNoTurn may phase before kept state after keeps
 
   -- ---- parts of a step
 
   -- The registry was requested to forget the identifier, or its gate is worn out.
   abbrev pub AsksToForget : ℤ → P → P → Type 0
   AsksToForget id before after =
-      ((done : Bool) × takes before (AtRegistry (Forget id) (Changed done)) after) ⊎ misses before (OfRegistry (Forget id)) after
+      ((done : Bool) × takes before (AtRegistry (Forget id) (Changed done)) after)
+      ⊎ misses before (OfRegistry (Forget id)) after
 
   -- The chain was released at the pool, or it is kept because the pool refused it or because the
   -- gate of the pool is worn out.
@@ -113,6 +122,21 @@ module _ {P : Type 0} (takes : P → Deed → P → Type 0) (misses : P → Ask 
   -- ---- a step at another clock
 
   -- A step that does not use the time is a step with any clock.
-  pub lifts : (may : ℕ → Type 0) (phase : Phase) (before : P) (kept : ℕ) (state : State) (after : P) (keeps : ℕ) → StepsOn no_moment phase before kept state after keeps → StepsOn may phase before kept state after keeps
-  lifts may phase before kept state after keeps (inl s) = inl (record { deed = s.deed; now = s.now; moment = λ e. absurd (s.moment e); asked = s.asked; goes = s.goes; makes = s.makes })
-  lifts may phase before kept state after keeps (inr w) = inr (record { deeds = w.deeds; now = w.now; moment = λ e. absurd (w.moment e); there = w.there; worn = w.worn; back = w.back })
+  pub lifts : (may : ℕ → Type 0) (phase : Phase) (before : P) (kept : ℕ) (state : State) (after : P) (keeps : ℕ) →
+      StepsOn no_moment phase before kept state after keeps → StepsOn may phase before kept state after keeps
+  lifts may phase before kept state after keeps (inl s) = inl (record {
+    deed = s.deed;
+    now = s.now;
+    moment = λ e. absurd (s.moment e);
+    asked = s.asked;
+    goes = s.goes;
+    makes = s.makes;
+  })
+  lifts may phase before kept state after keeps (inr w) = inr (record {
+    deeds = w.deeds;
+    now = w.now;
+    moment = λ e. absurd (w.moment e);
+    there = w.there;
+    worn = w.worn;
+    back = w.back;
+  })

@@ -14,10 +14,15 @@ use Rattle.sysv_objects.specs.RegistryTurns.{registry_call, registry_reply}
 use Rattle.sysv_objects.specs.Turns.{Takes}
 
 module _ {P : Type 0} (takes : P → Deed → P → Type 0) (before after : P) where
-  pub slot_told : (call : SlotCall) (r : ObjectReply) (s reply : SlotReply) → r ≡ told.Slot s → s ≡ reply → Takes takes before (called.Slot call) r after →
-      (slot : Slot) × takes before (AtSlot (slot_asked call) (slot_call call) (slot_reply slot reply)) after × FitsSlotCall slot call reply
-  slot_told call r s reply one two so = subst (λ x. Takes takes before (called.Slot call) x after) (one ∙ ap told.Slot two) so
+  pub slot_told : (call : SlotCall) (r : ObjectReply) (s reply : SlotReply) → r ≡ told.Slot s → s ≡ reply →
+      Takes takes before (called.Slot call) r after →
+      (slot : Slot) × takes before (AtSlot (slot_asked call) (slot_call call) (slot_reply slot reply)) after
+      × FitsSlotCall slot call reply
+  slot_told call r s reply one two so =
+      subst (λ x. Takes takes before (called.Slot call) x after) (one ∙ ap told.Slot two) so
 
-  pub registry_told : (call : RegistryCall) (r : ObjectReply) (s reply : RegistryReply) → r ≡ told.Registry s → s ≡ reply → Takes takes before (called.Registry call) r after →
+  pub registry_told : (call : RegistryCall) (r : ObjectReply) (s reply : RegistryReply) → r ≡ told.Registry s →
+      s ≡ reply → Takes takes before (called.Registry call) r after →
       takes before (AtRegistry (registry_call call) (registry_reply reply)) after
-  registry_told call r s reply one two so = (subst (λ x. Takes takes before (called.Registry call) x after) (one ∙ ap told.Registry two) so).0
+  registry_told call r s reply one two so =
+      (subst (λ x. Takes takes before (called.Registry call) x after) (one ∙ ap told.Registry two) so).0

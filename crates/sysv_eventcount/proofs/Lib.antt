@@ -1,3 +1,3 @@
-pub mod Keeping
-pub mod Learning
-pub mod Agreeing
+pub mod StepKeepsRule
+pub mod LearnedBefore
+pub mod LawsFromRule

@@ -42,7 +42,8 @@ split_off h = record h { own = []; allowance = h.allowance / 64 }
 
 -- The seat after another seat was joined into it.
 abbrev pub after_join : Holding → Holding → Holding
-after_join h other = record h { seen = max h.seen other.seen; own = h.own ++ other.own; allowance = h.allowance + other.allowance }
+after_join h other =
+    record h { seen = max h.seen other.seen; own = h.own ++ other.own; allowance = h.allowance + other.allowance }
 
 -- What a seat learns from the value n. The value is at least what the seat has seen, and at least
 -- the first value plus the number of its own additions. No two of these additions found the same

@@ -16,4 +16,5 @@ NoNumberInTwoSeats =
 -- The word is at least every value that any seat has seen.
 abbrev pub NoValueIsInvented : Type 0
 NoValueIsInvented =
-    (first n : ℕ) (views : List View) → IsKept first n views → (i : ℕ) (v : View) → get_elem? views i ≡ some v → v.seen ≤ n
+    (first n : ℕ) (views : List View) → IsKept first n views → (i : ℕ) (v : View) → get_elem? views i ≡ some v →
+    v.seen ≤ n

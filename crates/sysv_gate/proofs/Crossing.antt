@@ -45,23 +45,30 @@ pub snapshot_sync : (T : RattleType) → IsSync (snapshot.the_row T)
 snapshot_sync T = record { shared = λ d b o κ q. part_keyless (snapshot.the_row T) (snapshot_send T) q d b o }
 
 done_send : (C R : RattleType) → IsSend (done.the_row C R)
-done_send C R = declared_send (done.the_type C R) (as_row_send (snapshot.the_field C) (snapshot_send C), (as_row_send (snapshot.the_field R) (snapshot_send R), tt))
+done_send C R = declared_send (done.the_type C R)
+    (as_row_send (snapshot.the_field C) (snapshot_send C), (as_row_send (snapshot.the_field R) (snapshot_send R), tt))
 
 beside_send : (C R : RattleType) → IsSend (beside.the_row C R)
-beside_send C R = view_send (beside_inside.the_row C R) _ _ _ _ (declared_send (beside_inside.the_type C R) (as_row_send (option.the_field (done.the_row C R)) (crossing.the_field_send (done.the_row C R) (done_send C R)), (search sendable, tt)))
+beside_send C R = view_send (beside_inside.the_row C R) _ _ _ _ (declared_send (beside_inside.the_type C R) (
+  as_row_send (option.the_field (done.the_row C R)) (crossing.the_field_send (done.the_row C R) (done_send C R)),
+  (search sendable, tt),
+))
 
 place_send : (O C R : RattleType) → IsSend O → IsSend (place.the_row O C R)
-place_send O C R s = declared_send (place.the_type O C R) (as_row_send (row_field O) s, (as_row_send (beside.the_field C R) (beside_send C R), tt))
+place_send O C R s = declared_send (place.the_type O C R)
+    (as_row_send (row_field O) s, (as_row_send (beside.the_field C R) (beside_send C R), tt))
 
 pub spot_send : (O C R : RattleType) → IsSend O → IsSend (option.the_row (place.the_row O C R))
 spot_send O C R s = crossing.the_send (place.the_row O C R) (place_send O C R s)
 
 key_sync : (O : RattleType) → IsSync (key.the_row O)
-key_sync O = declared_sync (key.the_type O) (as_row_sync (snapshot.the_field O) (snapshot_sync O), (as_row_sync u64-field (search sendable), tt))
+key_sync O = declared_sync (key.the_type O)
+    (as_row_sync (snapshot.the_field O) (snapshot_sync O), (as_row_sync u64-field (search sendable), tt))
 
 inside_send : (O C R : RattleType) (g : Ghosts O.Denot C.Denot R.Denot) → IsSend O → IsSend (inside.the_row O C R g)
 inside_send O C R g s = declared_send (inside.the_type O C R g) (
-  as_row_send (token.the_field (option.the_row (place.the_row O C R)) (sight.the_row O C R)) (tokens.the_send (option.the_row (place.the_row O C R)) (sight.the_row O C R) (spot_send O C R s)),
+  as_row_send (token.the_field (option.the_row (place.the_row O C R)) (sight.the_row O C R))
+      (tokens.the_send (option.the_row (place.the_row O C R)) (sight.the_row O C R) (spot_send O C R s)),
   (as_row_send (snapshot.the_field (key.the_row O)) (snapshot_send (key.the_row O)), tt),
 )
 
@@ -69,20 +76,40 @@ pub seat_send : (O C R : RattleType) (g : Ghosts O.Denot C.Denot R.Denot) → Is
 seat_send O C R g s = view_send (inside.the_row O C R g) _ _ _ _ (inside_send O C R g s)
 
 pub hall_key_sync : (O : RattleType) → IsSync (hall_key.the_row O)
-hall_key_sync O = declared_sync (hall_key.the_type O) (as_row_sync (snapshot.the_field (vec.the_row O heap.the_row global.ghosts)) (snapshot_sync (vec.the_row O heap.the_row global.ghosts)), (as_row_sync u64-field (search sendable), tt))
+hall_key_sync O = declared_sync (hall_key.the_type O) (
+  as_row_sync (snapshot.the_field (vec.the_row O heap.the_row global.ghosts))
+      (snapshot_sync (vec.the_row O heap.the_row global.ghosts)),
+  (as_row_sync u64-field (search sendable), tt),
+)
 
 pub door_sync : (O C R : RattleType) (g : Ghosts O.Denot C.Denot R.Denot) → IsSync (door.the_row O C R g)
 door_sync O C R g = view_sync (door_inside.the_row O C R g) _ _ _ _
     (declared_sync (door_inside.the_type O C R g) (
       as_row_sync usize-field (search sendable),
-      (as_row_sync usize-field (search sendable), (as_row_sync (snapshot.the_field O) (snapshot_sync O), (as_row_sync turns.the_field turn_bells.the_field_sync, (as_row_sync bell.the_field bells.the_field_sync, (as_row_sync bell.the_field bells.the_field_sync, (as_row_sync bell.the_field bells.the_field_sync, tt)))))),
+      (
+        as_row_sync usize-field (search sendable),
+        (
+          as_row_sync (snapshot.the_field O) (snapshot_sync O),
+          (
+            as_row_sync turns.the_field turn_bells.the_field_sync,
+            (
+              as_row_sync bell.the_field bells.the_field_sync,
+              (as_row_sync bell.the_field bells.the_field_sync, (as_row_sync bell.the_field bells.the_field_sync, tt)),
+            ),
+          ),
+        ),
+      ),
     ))
 
 pub gate_sync : (O C R : RattleType) (g : Ghosts O.Denot C.Denot R.Denot) → IsSend O → IsSync (gate.the_row O C R g)
 gate_sync O C R g s = view_sync (within.the_row O C R g) _ _ _ _
     (declared_sync (within.the_type O C R g) (
-      tables.the_sync (option.the_row (place.the_row O C R)) (sight.the_row O C R) (hall_key.the_row O) (hall_rule.the_row O) heap.the_row
-          (record { holds = λ k. InOrder (Moves g.meaning g.counted) g.counted k.openings.value.items k.first; first = λ k. outset k.openings.value.items k.first }) _ (spot_send O C R s) heaps.the_send heaps.the_sync frees,
+      tables.the_sync (option.the_row (place.the_row O C R)) (sight.the_row O C R) (hall_key.the_row O)
+          (hall_rule.the_row O) heap.the_row
+          (record {
+            holds = λ k. InOrder (Moves g.meaning g.counted) g.counted k.openings.value.items k.first;
+            first = λ k. outset k.openings.value.items k.first;
+          }) _ (spot_send O C R s) heaps.the_send heaps.the_sync frees,
       (key_sync O, (as_row_sync (door.the_field O C R g) (door_sync O C R g), tt)),
     ))
 

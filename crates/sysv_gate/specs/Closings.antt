@@ -24,7 +24,8 @@ module _ {O C R : Type 0} where
   -- The rule has a state with these turns in which some seat holds the ticket that comes next.
   abbrev pub ATurnIsDue : (O → C → R → O → Type 0) → Gateway O → List (Turn O C R) → Type 0
   ATurnIsDue moves gate log =
-      (drawn : ℕ) × (homes : Homes O C R) × (views : List (View O C R)) × IsKept moves gate.opening gate.first log drawn homes views
+      (drawn : ℕ) × (homes : Homes O C R) × (views : List (View O C R))
+      × IsKept moves gate.opening gate.first log drawn homes views
       × ((i : ℕ) × (v : View O C R) × (get_elem? views i ≡ some v) × (1 ≤ times (gate.first + length log) v.tickets))
 
   -- There is one legal history of all turns. It begins with all that the seat had seen, and of the

@@ -30,7 +30,8 @@ pub record Doorway (O : Type 0) : Type 0 where
 
 -- The door is a place of the table, and has the object that was there first.
 abbrev pub IsDoorOf : {O : Type 0} → TableId → List O → Doorway O → Type 0
-IsDoorOf table openings door = (get_elem? openings door.place ≡ some door.opening) × (80 * door.place + 80 ≤ table.words)
+IsDoorOf table openings door =
+    (get_elem? openings door.place ≡ some door.opening) × (80 * door.place + 80 ≤ table.words)
 
 module _ {O C R : Type 0} where
   -- The pass is one of the table, and knows the object that was first at the place. It holds no
@@ -38,8 +39,10 @@ module _ {O C R : Type 0} where
   -- seen at the place.
   abbrev pub IsAt : TableId → Doorway O → Seat (Spot O C R) (Sight O C R) → Type 0
   IsAt table door token =
-      (token.table_id ≡ table) × (door.place < length token.me.0.views) × ((me_at door.place token.me).0.opening ≡ Some door.opening)
-      × Carries door.place token.me × IsPrefixOf (view_at door.place token.me.0).seen (turns_at door.place token.me.0.seen)
+      (token.table_id ≡ table) × (door.place < length token.me.0.views)
+      × ((me_at door.place token.me).0.opening ≡ Some door.opening)
+      × Carries door.place token.me
+      × IsPrefixOf (view_at door.place token.me.0).seen (turns_at door.place token.me.0.seen)
 
   -- Only what the pass has at the place has changed, and the pass has seen no less of the order. If
   -- it knew exactly its own turns in what it had seen, it still does.
@@ -55,7 +58,8 @@ module _ {O C R : Type 0} where
 
   -- It is the same pass after steps at the place.
   abbrev pub IsSame : ℕ → Seat (Spot O C R) (Sight O C R) → Seat (Spot O C R) (Sight O C R) → Type 0
-  IsSame place before after = (after.table_id ≡ before.table_id) × (after.id ≡ before.id) × Only place before.me after.me
+  IsSame place before after =
+      (after.table_id ≡ before.table_id) × (after.id ≡ before.id) × Only place before.me after.me
 
   -- The order that the pass has seen has grown, and ends with a turn at the place, made under the
   -- pass's number. The turns there that are in it are exactly those that the pass has seen there.
@@ -81,7 +85,8 @@ module _ {O C R : Type 0} where
 
   -- A call was made in a turn of the pass's own: the pass has seen turns of others, and then this
   -- turn.
-  pub record HasCalled (moves : O → C → R → O → Type 0) (counted : O → ℕ × ℕ) (opening : O) (m : Mine O C R) (call : C) (reply : R) (m' : Mine O C R) : Type 0 where
+  pub record HasCalled (moves : O → C → R → O → Type 0) (counted : O → ℕ × ℕ) (opening : O) (m : Mine O C R) (call : C)
+      (reply : R) (m' : Mine O C R) : Type 0 where
     pub others : List (Turn O C R)
     pub object : O
     pub is : m' ≡ (
@@ -96,21 +101,26 @@ module _ {O C R : Type 0} where
     )
     pub legal : IsLegal moves opening m'.0.seen
     pub own : HasItsOwn m'.0.numbers m'.0.own m'.0.seen
-    pub counts : (count : Count) → of_count count m.0.read ≤ of_count count (counted (after_all opening (m.0.seen ++ others)))
+    pub counts : (count : Count) →
+        of_count count m.0.read ≤ of_count count (counted (after_all opening (m.0.seen ++ others)))
     pub fresh : m.0.worn ≡ false
 
   -- A try was refused, and the call is handed back. Either the pass was not marked before and has
   -- seen more, or it has found the tickets worn out.
   abbrev pub HasTried : (O → C → R → O → Type 0) → O → Mine O C R → C → TryRefused C → Mine O C R → Type 0
-  HasTried moves opening m call (Busy c) m' = (c ≡ call) × SawMore m.0 m' × IsLegal moves opening m'.0.seen × HasItsOwn m'.0.numbers m'.0.own m'.0.seen × (m.0.worn ≡ false)
+  HasTried moves opening m call (Busy c) m' = (c ≡ call) × SawMore m.0 m' × IsLegal moves opening m'.0.seen
+      × HasItsOwn m'.0.numbers m'.0.own m'.0.seen × (m.0.worn ≡ false)
   HasTried moves opening m call (Worn c) m' = (c ≡ call) × HasWorn m m'
 
   -- What a pass has that was split off: what its origin has seen, a number of its own, and no turn.
   abbrev pub IsNewcomer : Sight O C R → Passing O C R → Type 0
   IsNewcomer sight m =
-      (number : ℕ) × (m ≡ (at_each (named number) (newcomer sight), [])) × ((place k : ℕ) → place < length sight.views → made_at (number ∷ []) (view_at place sight).seen k ≡ 0)
+      (number : ℕ) × (m ≡ (at_each (named number) (newcomer sight), []))
+      × ((place k : ℕ) → place < length sight.views → made_at (number ∷ []) (view_at place sight).seen k ≡ 0)
       × ((place k : ℕ) → place < length sight.views → made_at (number ∷ []) (turns_at place sight.seen) k ≡ 0)
 
   -- At each place the pass knows the object that was there first, and is at rest.
   abbrev pub KnowsAll : List O → Sight O C R → Type 0
-  KnowsAll openings sight = (length sight.views ≡ length openings) × ((place : ℕ) (o : O) → get_elem? openings place ≡ some o → ((view_at place sight).opening ≡ Some o) × Idling (view_at place sight))
+  KnowsAll openings sight = (length sight.views ≡ length openings)
+      × ((place : ℕ) (o : O) → get_elem? openings place ≡ some o →
+      ((view_at place sight).opening ≡ Some o) × Idling (view_at place sight))

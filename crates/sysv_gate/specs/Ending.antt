@@ -9,7 +9,8 @@ use Rattle.sysv_gate.specs.Closings.{held_object}
 -- The words and the slot of the place show which ticket was served, which was next, and which
 -- object is there. If every drawn ticket was served, the object is returned in `object` and nothing
 -- in `rest`. If not, `object` is `None`.
-pub record IsReadAt {O C R : Type 0} (first : ℕ) (words : List ℕ) (slots : List (Spot O C R)) (place : ℕ) (c : Closing O) : Type 0 where
+pub record IsReadAt {O C R : Type 0} (first : ℕ) (words : List ℕ) (slots : List (Spot O C R)) (place : ℕ)
+    (c : Closing O) : Type 0 where
   pub served : ℕ
   pub next : ℕ
   pub spot : Spot O C R

@@ -31,7 +31,16 @@ pub record Holding (O C R : Type 0) : Type 0 where
 module _ {O C R : Type 0} where
   -- The first seat, which has seen nothing yet.
   abbrev pub opened : Gateway O → Holding O C R
-  opened gate = record { gate = gate; number = 0; numbers = 0 ∷ []; seen = []; own = []; worn = false; read = (0, 0); alone = true }
+  opened gate = record {
+    gate = gate;
+    number = 0;
+    numbers = 0 ∷ [];
+    seen = [];
+    own = [];
+    worn = false;
+    read = (0, 0);
+    alone = true;
+  }
 
   -- The seat after it found that the tickets have reached 2^62.
   abbrev pub marked : Holding O C R → Holding O C R
@@ -44,7 +53,8 @@ module _ {O C R : Type 0} where
   -- What the seat learns from the value of a count: it is at least what the seat has read of that
   -- count before, and at least the count of the object after all turns that the seat has seen.
   abbrev pub Learns : (O → ℕ × ℕ) → Count → Holding O C R → ℕ → Type 0
-  Learns counted count h n = (of_count count h.read ≤ n) × (of_count count (counted (after_all h.gate.opening h.seen)) ≤ n)
+  Learns counted count h n =
+      (of_count count h.read ≤ n) × (of_count count (counted (after_all h.gate.opening h.seen)) ≤ n)
 
   -- The seat after it has seen more turns of others.
   abbrev pub saw : List (Turn O C R) → Holding O C R → Holding O C R
@@ -62,13 +72,15 @@ module _ {O C R : Type 0} where
   -- and this reply. Of the seat's own turns it has exactly those that the seat knows of, each once,
   -- and the new turn is the last. The counts of the object before the call are at least what the
   -- seat had read of them.
-  pub record Answers (moves : O → C → R → O → Type 0) (counted : O → ℕ × ℕ) (before : Holding O C R) (call : C) (reply : R) (after : Holding O C R) : Type 0 where
+  pub record Answers (moves : O → C → R → O → Type 0) (counted : O → ℕ × ℕ) (before : Holding O C R) (call : C)
+      (reply : R) (after : Holding O C R) : Type 0 where
     pub others : List (Turn O C R)
     pub object : O
     pub made : after ≡ made call reply object (saw others before)
     pub legal : IsLegal moves after.gate.opening after.seen
     pub own : HasItsOwn after.numbers after.own after.seen
-    pub counts : (count : Count) → of_count count before.read ≤ of_count count (counted (after_all before.gate.opening (before.seen ++ others)))
+    pub counts : (count : Count) →
+        of_count count before.read ≤ of_count count (counted (after_all before.gate.opening (before.seen ++ others)))
 
   -- What is true of every seat: the history that it has seen is legal, and of the seat's own turns
   -- it has exactly those that the seat knows of, each once.
@@ -96,7 +108,14 @@ module _ {O C R : Type 0} where
     pub seen : List (Turn O C R)
     pub begins_one : IsPrefixOf one.seen seen
     pub begins_two : IsPrefixOf two.seen seen
-    pub joined : after ≡ record one { seen = seen; own = one.own ++ two.own; numbers = one.numbers ++ two.numbers; worn = one.worn || two.worn; read = larger one.read two.read; alone = false }
+    pub joined : after ≡ record one {
+      seen = seen;
+      own = one.own ++ two.own;
+      numbers = one.numbers ++ two.numbers;
+      worn = one.worn || two.worn;
+      read = larger one.read two.read;
+      alone = false;
+    }
     pub legal : IsLegal moves one.gate.opening seen
     pub own : HasItsOwn after.numbers after.own seen
 

@@ -2,7 +2,8 @@
 -- from 80 p on and slot p. A pass has a view of each place, and has seen a prefix of the one order
 -- of all turns. At each place the rule of a gate holds for the turns of the order that were made
 -- there. This project's profile.
-use Rattle.std.specs.Prelude.{◌≡◌, ◌⊎◌, ℕ, ◌*◌, ◌^◌, ◌<◌, List, [], ◌∷◌, map, take, drop, length, slice_index_or, sum_by}
+use Rattle.std.specs.Prelude.{◌≡◌, ◌⊎◌, ℕ, ◌*◌, ◌^◌, ◌<◌, List, [], ◌∷◌, map, take, drop, length, slice_index_or}
+use Rattle.std.specs.Prelude.{sum_by}
 use mathlib.Core.Option.{none, some}
 use lib.ListN.{get_elem?}
 use Rattle.atomic_table.specs.Table.{State, Me}
@@ -28,13 +29,18 @@ module _ {O C R : Type 0} where
 
   -- The state that a gate with only this place would have.
   abbrev pub state_at : ℕ → State (Spot O C R) (Sight O C R) → State (Spot O C R) (View O C R)
-  state_at place s = record { words = block place s.words; homes = slice_index_or s.homes place none ∷ []; views = map (view_at place) s.views }
+  state_at place s = record {
+    words = block place s.words;
+    homes = slice_index_or s.homes place none ∷ [];
+    views = map (view_at place) s.views;
+  }
 
   -- All turns in the order that the pass has seen are at its places. At each place, the pass's own
   -- turns are exactly those of the order that were made under its numbers.
   pub record OwnsInOrder (sight : Sight O C R) : Type 0 where
     pub below : AreBelow (length sight.views) sight.seen
-    pub own : (place p : ℕ) → place < length sight.views → times p (view_at place sight).own ≡ made_at (view_at place sight).numbers (turns_at place sight.seen) p
+    pub own : (place p : ℕ) → place < length sight.views →
+        times p (view_at place sight).own ≡ made_at (view_at place sight).numbers (turns_at place sight.seen) p
 
   -- A pass has a view of each place, or it was joined into another and has no view. A pass without
   -- a share of the table has no view.
@@ -44,17 +50,22 @@ module _ {O C R : Type 0} where
 
   -- The shares of all passes together are the whole table.
   abbrev pub AreTheWhole : List (Sight O C R) → Type 0
-  AreTheWhole sights = (depth : ℕ) → ((id : ℕ) (v : Sight O C R) → get_elem? sights id ≡ some v → AreWithin depth v.shares) → sum_by (λ v. parts depth v.shares) sights ≡ 2 ^ depth
+  AreTheWhole sights =
+      (depth : ℕ) → ((id : ℕ) (v : Sight O C R) → get_elem? sights id ≡ some v → AreWithin depth v.shares) →
+      sum_by (λ v. parts depth v.shares) sights ≡ 2 ^ depth
 
   -- There is one order of all turns. Each pass has seen a prefix of it, and at each place the rule
   -- of a gate holds for the turns that were made there. The shares of all passes together are the
   -- whole table.
-  pub record Kept (moves : O → C → R → O → Type 0) (counted : O → ℕ × ℕ) (openings : List O) (first : ℕ) (order : List (Placed O C R)) (s : State (Spot O C R) (Sight O C R)) : Type 0 where
+  pub record Kept (moves : O → C → R → O → Type 0) (counted : O → ℕ × ℕ) (openings : List O) (first : ℕ)
+      (order : List (Placed O C R)) (s : State (Spot O C R) (Sight O C R)) : Type 0 where
     pub words : length s.words ≡ 80 * length openings
     pub homes : length s.homes ≡ length openings
     pub below : AreBelow (length openings) order
-    pub each : (place : ℕ) (o : O) → get_elem? openings place ≡ some o → GatedBy moves counted o first (turns_at place order) (state_at place s)
-    pub seen : (id : ℕ) (v : Sight O C R) → get_elem? s.views id ≡ some v → IsPrefixOf v.seen order × IsPrefixOf v.also order
+    pub each : (place : ℕ) (o : O) → get_elem? openings place ≡ some o →
+        GatedBy moves counted o first (turns_at place order) (state_at place s)
+    pub seen : (id : ℕ) (v : Sight O C R) → get_elem? s.views id ≡ some v →
+        IsPrefixOf v.seen order × IsPrefixOf v.also order
     pub full : (id : ℕ) (v : Sight O C R) → get_elem? s.views id ≡ some v → IsFull openings v
     pub shared : AreTheWhole s.views
 

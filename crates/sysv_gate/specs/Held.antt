@@ -43,7 +43,8 @@ module _ {O C R : Type 0} where
   -- The view of the place is at rest, and the turns seen there begin the place's part of the order
   -- that was seen.
   abbrev pub RestsThere : (O → C → R → O → Type 0) → ℕ → O → ℕ → Sight O C R → Type 0
-  RestsThere moves place o start sight = RestsAt moves o start (view_at place sight) × IsPrefixOf (view_at place sight).seen (turns_at place sight.seen)
+  RestsThere moves place o start sight =
+      RestsAt moves o start (view_at place sight) × IsPrefixOf (view_at place sight).seen (turns_at place sight.seen)
 
   -- What contracts see of a stored seat.
   abbrev pub held : Inside O C R → Holding O C R

@@ -7,7 +7,8 @@ use Rattle.sysv_lists.specs.Numbers.{times, NoneTwice}
 
 -- Each of the two counts stays or rises by one.
 abbrev pub RiseByOneAtMost : ℕ × ℕ → ℕ × ℕ → Type 0
-RiseByOneAtMost before after = (before.0 ≤ after.0) × (after.0 ≤ before.0 + 1) × (before.1 ≤ after.1) × (after.1 ≤ before.1 + 1)
+RiseByOneAtMost before after =
+    (before.0 ≤ after.0) × (after.0 ≤ before.0 + 1) × (before.1 ≤ after.1) × (after.1 ≤ before.1 + 1)
 
 -- Both counts are at most the limit.
 abbrev pub AreUpTo : ℕ → ℕ × ℕ → Type 0
@@ -20,7 +21,8 @@ AreBelow limit counts = (counts.0 < limit) × (counts.1 < limit)
 -- One call of an object: the object's meaning allows the reply and the object after it, and each of
 -- the two counts stays or rises by one.
 abbrev pub Moves : {O C R : Type 0} → (O → C → R → O → Type 0) → (O → ℕ × ℕ) → O → C → R → O → Type 0
-Moves meaning counted before call reply after = meaning before call reply after × RiseByOneAtMost (counted before) (counted after)
+Moves meaning counted before call reply after =
+    meaning before call reply after × RiseByOneAtMost (counted before) (counted after)
 
 module _ {O C R : Type 0} where
   -- The object after all turns.
@@ -36,7 +38,8 @@ module _ {O C R : Type 0} where
 
   -- The call is accepted by the first object, and by each object to which legal turns lead from it.
   abbrev pub IsAccepted : (O → C → R → O → Type 0) → (O → C → Type 0) → O → C → Type 0
-  IsAccepted moves accepts opening call = (log : List (Turn O C R)) → IsLegal moves opening log → accepts (after_all opening log) call
+  IsAccepted moves accepts opening call =
+      (log : List (Turn O C R)) → IsLegal moves opening log → accepts (after_all opening log) call
 
   -- The number of times that the maker of the turn at the place p of the history is among the
   -- numbers; 0 if there is no such turn.

@@ -17,7 +17,8 @@ module _ {O C R : Type 0} (moves : O → C → R → O → Type 0) where
   -- A fact about any two seats of a gate, in every state.
   abbrev pub OfTwoSeats : (View O C R → View O C R → Type 0) → Type 0
   OfTwoSeats fact =
-      (opening : O) (first : ℕ) (log : List (Turn O C R)) (drawn : ℕ) (homes : Homes O C R) (views : List (View O C R)) → IsKept moves opening first log drawn homes views
+      (opening : O) (first : ℕ) (log : List (Turn O C R)) (drawn : ℕ) (homes : Homes O C R) (views : List (View O C R))
+      → IsKept moves opening first log drawn homes views
       → (i k : ℕ) (v w : View O C R) → ¬ (k ≡ i) → get_elem? views i ≡ some v → get_elem? views k ≡ some w → fact v w
 
   -- If one seat is in its turn, another is not.
@@ -35,7 +36,8 @@ module _ {O C R : Type 0} (moves : O → C → R → O → Type 0) where
   -- A seat is marked as worn only if the tickets have reached 2^62.
   abbrev pub MarkedOnlyWhenWorn : Type 0
   MarkedOnlyWhenWorn =
-      (opening : O) (first : ℕ) (log : List (Turn O C R)) (drawn : ℕ) (homes : Homes O C R) (views : List (View O C R)) → IsKept moves opening first log drawn homes views
+      (opening : O) (first : ℕ) (log : List (Turn O C R)) (drawn : ℕ) (homes : Homes O C R) (views : List (View O C R))
+      → IsKept moves opening first log drawn homes views
       → (i : ℕ) (v : View O C R) → get_elem? views i ≡ some v → v.worn ≡ true → drawn ≡ 2 ^ 62
 
   -- If no seat is in its turn, there is a legal history of all turns, and the words of the two
@@ -44,4 +46,5 @@ module _ {O C R : Type 0} (moves : O → C → R → O → Type 0) where
   CountsOutsideATurn counted =
       (opening : O) (first : ℕ) (s : State (Spot O C R) (View O C R)) → Gated moves counted opening first s
       → ((i : ℕ) (v : View O C R) → get_elem? s.views i ≡ some v → v.in_turn ≡ false)
-      → (log : List (Turn O C R)) × IsLegal moves opening log × (slice_index s.words 16 ≡ first + length log) × ((count : Count) → slice_index s.words (word_of count) ≡ of_count count (counted (after_all opening log)))
+      → (log : List (Turn O C R)) × IsLegal moves opening log × (slice_index s.words 16 ≡ first + length log)
+      × ((count : Count) → slice_index s.words (word_of count) ≡ of_count count (counted (after_all opening log)))

@@ -13,17 +13,22 @@ use Rattle.sysv_gate.specs.Doors.{Doorway}
 -- The words of a new place: its tickets begin at `first`, and the counts are those of the object.
 abbrev pub IsLaid : {O : Type 0} → (O → ℕ × ℕ) → ℕ → O → List ℕ → Type 0
 IsLaid counted first o words =
-    (slice_index words 16 ≡ first) × (slice_index words 32 ≡ first) × (slice_index words 48 ≡ (counted o).0) × (slice_index words 64 ≡ (counted o).1)
+    (slice_index words 16 ≡ first) × (slice_index words 32 ≡ first) × (slice_index words 48 ≡ (counted o).0)
+    × (slice_index words 64 ≡ (counted o).1)
 
 -- The words of the first `count` places.
 abbrev pub AreLaidUpTo : {O : Type 0} → (O → ℕ × ℕ) → ℕ → List O → ℕ → List ℕ → Type 0
 AreLaidUpTo {O} counted first objects count words =
-    (length words ≡ 80 * count) × ((place : ℕ) (o : O) → place < count → get_elem? objects place ≡ some o → IsLaid counted first o (block place words))
+    (length words ≡ 80 * count)
+    × ((place : ℕ) (o : O) → place < count → get_elem? objects place ≡ some o →
+    IsLaid counted first o (block place words))
 
 -- The doors of the first `count` places, each with its object.
 abbrev pub AreDoorsUpTo : {O : Type 0} → List O → ℕ → List (Doorway O) → Type 0
 AreDoorsUpTo {O} objects count doors =
-    (length doors ≡ count) × ((place : ℕ) (o : O) → place < count → get_elem? objects place ≡ some o → get_elem? doors place ≡ some (record { place = place; opening = o }))
+    (length doors ≡ count)
+    × ((place : ℕ) (o : O) → place < count → get_elem? objects place ≡ some o →
+    get_elem? doors place ≡ some (record { place = place; opening = o }))
 
 -- Each object is in its slot.
 abbrev pub all_put : {O C R : Type 0} → List O → List (Spot O C R)
@@ -48,4 +53,5 @@ module _ {O C R : Type 0} where
 
   -- The table has one place, and the table and its first pass are new.
   abbrev pub IsLaidOut : O → ℕ → TableId → HallKey O → Doorway O → Seat (Spot O C R) (Sight O C R) → Type 0
-  IsLaidOut o first id key door token = IsOneDoor o first id key door × (token.table_id ≡ id) × (token.me ≡ (outset (o ∷ []) first, []))
+  IsLaidOut o first id key door token =
+      IsOneDoor o first id key door × (token.table_id ≡ id) × (token.me ≡ (outset (o ∷ []) first, []))

@@ -1,6 +1,7 @@
 -- What the steps on a table with several places do to a pass, and what the pass learns from them.
 -- This project's profile.
-use Rattle.std.specs.Prelude.{◌≡◌, ℕ, suc, ◌+◌, ◌*◌, ◌<◌, true, List, [], ◌∷◌, ◌++◌, map, length, slice_set, Option, Some, None}
+use Rattle.std.specs.Prelude.{◌≡◌, ℕ, suc, ◌+◌, ◌*◌, ◌<◌, true, List, [], ◌∷◌, ◌++◌, map, length, slice_set, Option}
+use Rattle.std.specs.Prelude.{Some, None}
 use mathlib.Core.Option.{none}
 use Rattle.atomic_table.specs.Table.{step}
 use Rattle.sysv_gate.specs.declared.view.View.{View}
@@ -20,7 +21,8 @@ module _ {O C R : Type 0} where
   -- A step at this place, from which the pass learns `told`. Nothing changes at another place. The
   -- pass sees the order as it is then, which begins with all that it had seen; these turns at the
   -- place are appended. Afterwards the pass knows exactly its own turns in what it has seen.
-  pub record StepsAt (place : ℕ) (added : List (Turn O C R)) (told : Mine O C R → Type 0) (m m' : Passing O C R) : Type 0 where
+  pub record StepsAt (place : ℕ) (added : List (Turn O C R)) (told : Mine O C R → Type 0)
+      (m m' : Passing O C R) : Type 0 where
     pub order : List (Placed O C R)
     pub longer : IsPrefixOf m.0.seen order
     pub seen : m'.0.seen ≡ order ++ placed place added
@@ -34,12 +36,15 @@ module _ {O C R : Type 0} where
     pub there : told (me_at place m')
 
   -- The step of a gate, at the place whose word it is.
-  abbrev pub AtAPlace : (Mine O C R → List (Turn O C R)) → (At O C R → Mine O C R → ℕ → Mine O C R → Type 0) → At O C R → Passing O C R → ℕ → Passing O C R → Type 0
+  abbrev pub AtAPlace : (Mine O C R → List (Turn O C R)) → (At O C R → Mine O C R → ℕ → Mine O C R → Type 0) →
+      At O C R → Passing O C R → ℕ → Passing O C R → Type 0
   AtAPlace added play st m n m' =
-      (place word : ℕ) → st.word ≡ 80 * place + word → word < 80 → StepsAt place (added (me_at place m)) (play (step 1 word st.first st.second none) (me_at place m) n) m m'
+      (place word : ℕ) → st.word ≡ 80 * place + word → word < 80 →
+      StepsAt place (added (me_at place m)) (play (step 1 word st.first st.second none) (me_at place m) n) m m'
 
   -- A step that adds no turn.
-  abbrev pub AddsNone : (At O C R → Mine O C R → ℕ → Mine O C R → Type 0) → At O C R → Passing O C R → ℕ → Passing O C R → Type 0
+  abbrev pub AddsNone : (At O C R → Mine O C R → ℕ → Mine O C R → Type 0) → At O C R → Passing O C R → ℕ →
+      Passing O C R → Type 0
   AddsNone play = AtAPlace (λ m. []) play
 
   -- The turn that the slot records as served last.
@@ -63,7 +68,8 @@ module _ {O C R : Type 0} where
 
   -- What a split makes: a pass with the other half.
   abbrev pub newcomer : Sight O C R → Sight O C R
-  newcomer sight = record { views = map gate.newcomer sight.views; seen = sight.seen; also = []; shares = half sight.shares }
+  newcomer sight =
+      record { views = map gate.newcomer sight.views; seen = sight.seen; also = []; shares = half sight.shares }
 
   -- The views of two passes, joined place by place.
   abbrev pub both_views : List (View O C R) → List (View O C R) → List (View O C R)
@@ -73,7 +79,12 @@ module _ {O C R : Type 0} where
 
   -- What a pass knows after another was joined into it.
   abbrev pub both_of : Sight O C R → Sight O C R → Sight O C R
-  both_of one two = record { views = both_views one.views two.views; seen = one.seen; also = two.seen; shares = one.shares ++ two.shares }
+  both_of one two = record {
+    views = both_views one.views two.views;
+    seen = one.seen;
+    also = two.seen;
+    shares = one.shares ++ two.shares;
+  }
 
   -- What is left of a pass that was joined into another.
   abbrev pub spent : Sight O C R
@@ -88,7 +99,8 @@ module _ {O C R : Type 0} where
   -- under it.
   abbrev pub Names : At O C R → Passing O C R → ℕ → Passing O C R → Type 0
   Names st m n m' =
-      (number : ℕ) × (m' ≡ (at_each (gate.named number) m.0, m.1)) × ((place k : ℕ) → place < length m.0.views → made_at (number ∷ []) (view_at place m.0).seen k ≡ 0)
+      (number : ℕ) × (m' ≡ (at_each (gate.named number) m.0, m.1))
+      × ((place k : ℕ) → place < length m.0.views → made_at (number ∷ []) (view_at place m.0).seen k ≡ 0)
       × ((place k : ℕ) → place < length m.0.views → made_at (number ∷ []) (turns_at place m.0.seen) k ≡ 0)
 
   -- What a pass learns from a look after a join.
@@ -97,5 +109,7 @@ module _ {O C R : Type 0} where
     pub one : IsPrefixOf m.0.seen order
     pub two : IsPrefixOf m.0.also order
     pub is : m' ≡ (record m.0 { views = merged_from 0 order m.0.views; seen = order; also = [] }, m.1)
-    pub there : (place : ℕ) → place < length m.0.views → (opening : O) → (view_at place m.0).opening ≡ Some opening → Gathers moves opening (me_at place m) (gate.merged (turns_at place order) (view_at place m.0), (me_at place m).1)
+    pub there : (place : ℕ) → place < length m.0.views → (opening : O) → (view_at place m.0).opening ≡ Some opening →
+        Gathers moves opening (me_at place m)
+        (gate.merged (turns_at place order) (view_at place m.0), (me_at place m).1)
     pub owns : OwnsInOrder m'.0

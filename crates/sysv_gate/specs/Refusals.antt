@@ -14,6 +14,7 @@ HandsBack first object (BadStart o) = (o ≡ object) × (2 ^ 62 < first)
 
 -- The call is handed back. After `Busy` the seat may have seen more, and has made no turn; it was
 -- not marked before. After `Worn` the seat is marked.
-abbrev pub Refuses : {O C R : Type 0} → (O → C → R → O → Type 0) → Holding O C R → C → TryRefused C → Holding O C R → Type 0
+abbrev pub Refuses : {O C R : Type 0} → (O → C → R → O → Type 0) → Holding O C R → C → TryRefused C → Holding O C R →
+    Type 0
 Refuses moves before call (Busy c) after = (c ≡ call) × SeesMore moves before after × (before.worn ≡ false)
 Refuses moves before call (Worn c) after = (c ≡ call) × (after ≡ marked before)

@@ -3,7 +3,8 @@
 -- next. Words 48 and 64 announce the object's two counts, and the slot of the place has the object.
 -- The words are 128 bytes apart, so that no two share a cache line. The log is the history of all
 -- turns there. This project's profile.
-use Rattle.std.specs.Prelude.{◌≡◌, ℕ, ◌+◌, ◌^◌, ◌≤◌, true, false, List, [], ◌∷◌, length, slice_index, sum_by, Option, Some}
+use Rattle.std.specs.Prelude.{◌≡◌, ℕ, ◌+◌, ◌^◌, ◌≤◌, true, false, List, [], ◌∷◌, length, slice_index, sum_by, Option}
+use Rattle.std.specs.Prelude.{Some}
 use mathlib.Core.Option.{some}
 use mathlib.Core.Option as maybe
 use lib.ListN.{get_elem?}
@@ -57,37 +58,46 @@ module _ {O C R : Type 0} where
   -- may take that of its own place in the list; and each turn was made under a number of some view.
   -- If no view is in its turn, the object after the log is in the table. A view that is alone is
   -- the only one, and has seen the whole log.
-  pub record IsKept (moves : O → C → R → O → Type 0) (opening : O) (first : ℕ) (log : List (Turn O C R)) (drawn : ℕ) (homes : Homes O C R) (views : List (View O C R)) : Type 0 where
+  pub record IsKept (moves : O → C → R → O → Type 0) (opening : O) (first : ℕ) (log : List (Turn O C R)) (drawn : ℕ)
+      (homes : Homes O C R) (views : List (View O C R)) : Type 0 where
     pub legal : IsLegal moves opening log
     pub tickets : (x : ℕ) → sum_by (λ v. times x v.tickets) views ≡ once_between (first + length log) drawn x
     pub order : first + length log ≤ drawn
     pub limit : drawn ≤ 2 ^ 62
     pub apart : (x : ℕ) → bearers x views ≤ 1
     pub unused : (x : ℕ) → length views ≤ x → bearers x views ≡ 0
-    pub nameless : (i : ℕ) (v : View O C R) → get_elem? views i ≡ some v → (o : O) → v.opening ≡ Some o → v.numbers ≡ [] → bearers i views ≡ 0
+    pub nameless : (i : ℕ) (v : View O C R) → get_elem? views i ≡ some v → (o : O) → v.opening ≡ Some o →
+        v.numbers ≡ [] → bearers i views ≡ 0
     pub known : (x : ℕ) → bearers x views ≡ 0 → (p : ℕ) → made_at (x ∷ []) log p ≡ 0
     pub each : (i : ℕ) (v : View O C R) → get_elem? views i ≡ some v → Fits opening first log drawn v
-    pub home : ((i : ℕ) (v : View O C R) → get_elem? views i ≡ some v → v.in_turn ≡ false) → IsHome (after_all opening log) homes
-    pub alone : (i : ℕ) (v : View O C R) → get_elem? views i ≡ some v → v.alone ≡ true → (length views ≡ 1) × (v.seen ≡ log)
+    pub home : ((i : ℕ) (v : View O C R) → get_elem? views i ≡ some v → v.in_turn ≡ false) →
+        IsHome (after_all opening log) homes
+    pub alone : (i : ℕ) (v : View O C R) → get_elem? views i ≡ some v → v.alone ≡ true →
+        (length views ≡ 1) × (v.seen ≡ log)
 
   -- One count is announced: its word has the count after the log, plus what the seat in its turn
   -- has already added. A seat that is not in its turn has added nothing, and no seat has read more
   -- than the word has.
   pub record IsAnnounced (count : Count) (after_log word : ℕ) (views : List (View O C R)) : Type 0 where
     pub value : word ≡ after_log + sum_by (λ v. of_count count v.announced) views
-    pub quiet : (i : ℕ) (v : View O C R) → get_elem? views i ≡ some v → v.in_turn ≡ false → of_count count v.announced ≡ 0
+    pub quiet : (i : ℕ) (v : View O C R) → get_elem? views i ≡ some v → v.in_turn ≡ false →
+        of_count count v.announced ≡ 0
     pub read : (i : ℕ) (v : View O C R) → get_elem? views i ≡ some v → of_count count v.read ≤ word
 
   -- Both counts are announced.
   abbrev pub AreAnnounced : (O → ℕ × ℕ) → O → List ℕ → List (View O C R) → Type 0
-  AreAnnounced counted object words views = (count : Count) → IsAnnounced count (of_count count (counted object)) (slice_index words (word_of count)) views
+  AreAnnounced counted object words views =
+      (count : Count) → IsAnnounced count (of_count count (counted object)) (slice_index words (word_of count)) views
 
   -- The words, the slot and the views fit the log. The served ticket is the first ticket plus the
   -- number of turns.
-  abbrev pub GatedBy : (O → C → R → O → Type 0) → (O → ℕ × ℕ) → O → ℕ → List (Turn O C R) → State (Spot O C R) (View O C R) → Type 0
+  abbrev pub GatedBy : (O → C → R → O → Type 0) → (O → ℕ × ℕ) → O → ℕ → List (Turn O C R) →
+      State (Spot O C R) (View O C R) → Type 0
   GatedBy moves counted opening first log s =
       (length s.words ≡ 80) × (length s.homes ≡ 1)
-      × (slice_index s.words 16 ≡ first + length log) × IsKept moves opening first log (slice_index s.words 32) s.homes s.views × AreAnnounced counted (after_all opening log) s.words s.views
+      × (slice_index s.words 16 ≡ first + length log)
+      × IsKept moves opening first log (slice_index s.words 32) s.homes s.views
+      × AreAnnounced counted (after_all opening log) s.words s.views
 
   -- There is a log that the words, the slot and the views fit.
   abbrev pub Gated : (O → C → R → O → Type 0) → (O → ℕ × ℕ) → O → ℕ → State (Spot O C R) (View O C R) → Type 0

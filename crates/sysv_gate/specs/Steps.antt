@@ -1,6 +1,7 @@
 -- What the steps on the words do to a view, and what the seat learns from them. This project's
 -- profile.
-use Rattle.std.specs.Prelude.{◌≡◌, ℕ, ◌+◌, ◌^◌, ◌≤◌, ◌||◌, true, false, List, [], ◌∷◌, ◌++◌, length, nat_le, nat_lt, Option, Some, None}
+use Rattle.std.specs.Prelude.{◌≡◌, ℕ, ◌+◌, ◌^◌, ◌≤◌, ◌||◌, true, false, List, [], ◌∷◌, ◌++◌, length, nat_le, nat_lt}
+use Rattle.std.specs.Prelude.{Option, Some, None}
 use Rattle.atomic_table.specs.Table.{Me, Step, rest}
 use Rattle.sysv_gate.specs.declared.view.View.{View}
 use Rattle.sysv_gate.specs.declared.view.Turn.{Turn}
@@ -60,7 +61,16 @@ module _ {O C R : Type 0} where
   -- What a split makes: a seat that has seen and read the same, without turns of its own, and
   -- without a number yet.
   abbrev pub newcomer : View O C R → View O C R
-  newcomer v = record v { number = 0; numbers = []; also = []; own = []; tickets = []; in_turn = false; announced = (0, 0); alone = false }
+  newcomer v = record v {
+    number = 0;
+    numbers = [];
+    also = [];
+    own = [];
+    tickets = [];
+    in_turn = false;
+    announced = (0, 0);
+    alone = false;
+  }
 
   -- The view after a load that assigns the seat its number.
   abbrev pub named : ℕ → View O C R → View O C R
@@ -68,11 +78,32 @@ module _ {O C R : Type 0} where
 
   -- The view after another was joined into it.
   abbrev pub both_of : View O C R → View O C R → View O C R
-  both_of v w = record v { also = w.seen; own = v.own ++ w.own; numbers = v.numbers ++ w.numbers; worn = v.worn || w.worn; read = larger v.read w.read; alone = false }
+  both_of v w = record v {
+    also = w.seen;
+    own = v.own ++ w.own;
+    numbers = v.numbers ++ w.numbers;
+    worn = v.worn || w.worn;
+    read = larger v.read w.read;
+    alone = false;
+  }
 
   -- What is left of a view that was joined into another.
   abbrev pub spent : View O C R
-  spent = record { opening = None; first = 0; number = 0; numbers = []; seen = []; also = []; own = []; tickets = []; in_turn = false; worn = false; read = (0, 0); announced = (0, 0); alone = false }
+  spent = record {
+    opening = None;
+    first = 0;
+    number = 0;
+    numbers = [];
+    seen = [];
+    also = [];
+    own = [];
+    tickets = [];
+    in_turn = false;
+    worn = false;
+    read = (0, 0);
+    announced = (0, 0);
+    alone = false;
+  }
 
   -- The view after the look that follows a join. The look shows a log that begins with what either
   -- had seen.
@@ -100,7 +131,8 @@ module _ {O C R : Type 0} where
 
   -- What a seat knows in its turn, when it holds the object after all that it has seen. It has read
   -- no more of the counts than the object has then, and has announced nothing yet.
-  pub record HasTurn (moves : O → C → R → O → Type 0) (counted : O → ℕ × ℕ) (opening : O) (m : Mine O C R) : Type 0 where
+  pub record HasTurn (moves : O → C → R → O → Type 0) (counted : O → ℕ × ℕ) (opening : O)
+      (m : Mine O C R) : Type 0 where
     pub legal : IsLegal moves opening m.0.seen
     pub read : (count : Count) → of_count count m.0.read ≤ of_count count (counted (after_all opening m.0.seen))
     pub quiet : (count : Count) → of_count count m.0.announced ≡ 0
@@ -118,13 +150,15 @@ module _ {O C R : Type 0} where
     -- A look at the served ticket. If it begins the turn, the seat has the object.
     abbrev pub Turns : At O C R → Mine O C R → ℕ → Mine O C R → Type 0
     Turns st m n m' = (opening : O) → m.0.opening ≡ Some opening
-        → Looks m n m' × IsLegal moves opening m'.0.seen × (m'.0.in_turn ≡ true → HasTurn moves counted opening m') × (m'.0.in_turn ≡ false → m'.1 ≡ m.1)
+        → Looks m n m' × IsLegal moves opening m'.0.seen × (m'.0.in_turn ≡ true → HasTurn moves counted opening m')
+        × (m'.0.in_turn ≡ false → m'.1 ≡ m.1)
 
     -- The compare-exchange that draws the served ticket and begins its turn. If it does not find
     -- the expected ticket, nothing changes.
     abbrev pub Enters : At O C R → Mine O C R → ℕ → Mine O C R → Type 0
     Enters st m n m' = (opening : O) → m.0.opening ≡ Some opening
-        → (n ≡ st.first → (m'.0 ≡ entered n m.0) × HasTurn moves counted opening m' × (m.0.worn ≡ false)) × (¬ (n ≡ st.first) → m' ≡ m)
+        → (n ≡ st.first → (m'.0 ≡ entered n m.0) × HasTurn moves counted opening m' × (m.0.worn ≡ false))
+        × (¬ (n ≡ st.first) → m' ≡ m)
 
   -- The addition that announces a count.
   abbrev pub Announces : At O C R → Mine O C R → ℕ → Mine O C R → Type 0
@@ -134,7 +168,8 @@ module _ {O C R : Type 0} where
   -- count after all that the seat has seen.
   abbrev pub Reads : (O → ℕ × ℕ) → At O C R → Mine O C R → ℕ → Mine O C R → Type 0
   Reads counted st m n m' = (count : Count) → st.word ≡ word_of count → (opening : O) → m.0.opening ≡ Some opening
-      → (m' ≡ (read_to count n m.0, m.1)) × (of_count count m.0.read ≤ n) × (of_count count (counted (after_all opening m.0.seen)) ≤ n)
+      → (m' ≡ (read_to count n m.0, m.1)) × (of_count count m.0.read ≤ n)
+      × (of_count count (counted (after_all opening m.0.seen)) ≤ n)
 
   -- What a seat learns from a look after a join.
   pub record Gathers (moves : O → C → R → O → Type 0) (opening : O) (m m' : Mine O C R) : Type 0 where

@@ -38,7 +38,8 @@ module _ {O C R : Type 0} where
     pub is : m ≡ (record v { seen = log }, [])
 
   -- The seat's turn has begun.
-  pub record TurnCame (moves : O → C → R → O → Type 0) (counted : O → ℕ × ℕ) (opening : O) (v : View O C R) (ticket : ℕ) (m : Mine O C R) : Type 0 where
+  pub record TurnCame (moves : O → C → R → O → Type 0) (counted : O → ℕ × ℕ) (opening : O) (v : View O C R) (ticket : ℕ)
+      (m : Mine O C R) : Type 0 where
     pub log : List (view.Turn O C R)
     pub longer : IsPrefixOf v.seen log
     pub count : ticket ≡ v.first + length log
@@ -47,7 +48,8 @@ module _ {O C R : Type 0} where
 
   -- The seat has looked which ticket is served, and it is n. If that is the seat's own ticket, its
   -- turn has begun. If the seat does not hold it, it waits as before.
-  pub record Looked (moves : O → C → R → O → Type 0) (counted : O → ℕ × ℕ) (opening : O) (m : Mine O C R) (n : ℕ) (m' : Mine O C R) : Type 0 where
+  pub record Looked (moves : O → C → R → O → Type 0) (counted : O → ℕ × ℕ) (opening : O) (m : Mine O C R) (n : ℕ)
+      (m' : Mine O C R) : Type 0 where
     pub log : List (view.Turn O C R)
     pub longer : IsPrefixOf m.0.seen log
     pub count : n ≡ m.0.first + length log
@@ -59,12 +61,15 @@ module _ {O C R : Type 0} where
   -- The result of a try. The turn has begun, or the seat has seen more, or it has found that the
   -- tickets have reached 2^62. In the first two cases it was not marked before.
   abbrev pub Entered : (O → C → R → O → Type 0) → (O → ℕ × ℕ) → O → Mine O C R → Entry → Mine O C R → Type 0
-  Entered moves counted opening m Turn m' = (ticket : ℕ) × TurnCame moves counted opening m.0 ticket m' × (ticket < 2 ^ 62) × (m.0.worn ≡ false)
-  Entered moves counted opening m Busy m' = SawMore m.0 m' × IsLegal moves opening m'.0.seen × HasItsOwn m'.0.numbers m'.0.own m'.0.seen × (m.0.worn ≡ false)
+  Entered moves counted opening m Turn m' =
+      (ticket : ℕ) × TurnCame moves counted opening m.0 ticket m' × (ticket < 2 ^ 62) × (m.0.worn ≡ false)
+  Entered moves counted opening m Busy m' =
+      SawMore m.0 m' × IsLegal moves opening m'.0.seen × HasItsOwn m'.0.numbers m'.0.own m'.0.seen × (m.0.worn ≡ false)
   Entered moves counted opening m Worn m' = HasWorn m m'
 
   -- The turn was made.
-  pub record HasMade (moves : O → C → R → O → Type 0) (opening : O) (v : View O C R) (call : C) (reply : R) (m : Mine O C R) : Type 0 where
+  pub record HasMade (moves : O → C → R → O → Type 0) (opening : O) (v : View O C R) (call : C) (reply : R)
+      (m : Mine O C R) : Type 0 where
     pub object : O
     pub is : m ≡ (ended v call reply object, [])
     pub legal : IsLegal moves opening m.0.seen
@@ -78,16 +83,19 @@ rise Freed rose = cond rose.freed 1 0
 module _ {O C R : Type 0} where
   -- The object was called, and is stored beside the call that it served. The result shows which
   -- counts rose.
-  pub record Applied (moves : O → C → R → O → Type 0) (counted : O → ℕ × ℕ) (object : O) (call : C) (place : Place O C R) (reply : R) (rose : Rose) : Type 0 where
+  pub record Applied (moves : O → C → R → O → Type 0) (counted : O → ℕ × ℕ) (object : O) (call : C)
+      (place : Place O C R) (reply : R) (rose : Rose) : Type 0 where
     pub move : moves object call reply place.object
     pub last : Done C R
     pub beside : place.last ≡ Some last
     pub asked : last.call.value ≡ call
     pub answered : last.reply.value ≡ reply
-    pub rises : (count : Count) → of_count count (counted place.object) ≡ of_count count (counted object) + rise count rose
+    pub rises : (count : Count) →
+        of_count count (counted place.object) ≡ of_count count (counted object) + rise count rose
 
   -- The seat has read the count.
-  pub record HasRead (counted : O → ℕ × ℕ) (opening : O) (count : Count) (m : Mine O C R) (n : ℕ) (m' : Mine O C R) : Type 0 where
+  pub record HasRead (counted : O → ℕ × ℕ) (opening : O) (count : Count) (m : Mine O C R) (n : ℕ)
+      (m' : Mine O C R) : Type 0 where
     pub is : m' ≡ (read_to count n m.0, [])
     pub before : of_count count m.0.read ≤ n
     pub known : of_count count (counted (after_all opening m.0.seen)) ≤ n
@@ -106,7 +114,8 @@ module _ {O C R : Type 0} where
   -- has found that the tickets have reached 2^62.
   abbrev pub HasWaited : (O → ℕ × ℕ) → O → Count → ℕ → Mine O C R → Awaited → Mine O C R → Type 0
   HasWaited counted opening count goal m (Reached n) m' = (goal ≤ n) × HasRead counted opening count m n m'
-  HasWaited counted opening count goal m awaited.Worn m' = (n : ℕ) × (mid : Mine O C R) × (n < goal) × HasRead counted opening count m n mid × HasWorn mid m'
+  HasWaited counted opening count goal m awaited.Worn m' =
+      (n : ℕ) × (mid : Mine O C R) × (n < goal) × HasRead counted opening count m n mid × HasWorn mid m'
 
   -- A wait that may return before it is over. If it does, the count that was read last is below the
   -- goal.

@@ -9,11 +9,15 @@ use Rattle.sysv_gate.specs.Gates.{Holding, marked, read_to, Learns}
 -- it. If it is `Worn`, the count that was read last is below the goal, and the seat has found that
 -- the tickets have reached 2^62.
 abbrev pub Waited : {O C R : Type 0} → (O → ℕ × ℕ) → Count → ℕ → Holding O C R → Awaited → Holding O C R → Type 0
-Waited counted count goal before (Reached n) after = (goal ≤ n) × Learns counted count before n × (after ≡ read_to count n before)
-Waited counted count goal before Worn after = (n : ℕ) × (n < goal) × Learns counted count before n × (after ≡ marked (read_to count n before))
+Waited counted count goal before (Reached n) after =
+    (goal ≤ n) × Learns counted count before n × (after ≡ read_to count n before)
+Waited counted count goal before Worn after =
+    (n : ℕ) × (n < goal) × Learns counted count before n × (after ≡ marked (read_to count n before))
 
 -- The result of a bounded wait is that of an unbounded one, or `None`. If it is `None`, the count
 -- that was read last is below the goal, and at least what the seat knew of it.
-abbrev pub WaitedWithin : {O C R : Type 0} → (O → ℕ × ℕ) → Count → ℕ → Holding O C R → Option Awaited → Holding O C R → Type 0
+abbrev pub WaitedWithin : {O C R : Type 0} → (O → ℕ × ℕ) → Count → ℕ → Holding O C R → Option Awaited → Holding O C R →
+    Type 0
 WaitedWithin counted count goal before (Some a) after = Waited counted count goal before a after
-WaitedWithin counted count goal before None after = (n : ℕ) × (n < goal) × Learns counted count before n × (after ≡ read_to count n before)
+WaitedWithin counted count goal before None after =
+    (n : ℕ) × (n < goal) × Learns counted count before n × (after ≡ read_to count n before)

@@ -45,13 +45,13 @@ impl Bell {
         }
     }
 
-    // Enters, and returns the number of times that the bell was rung so far.
+    /// Enters, and returns the number of times that the bell was rung so far.
     pub(crate) fn enter(&self) -> u64 {
         self.sleepers.fetch_add(1, SeqCst);
         self.rung.load(SeqCst)
     }
 
-    // Sleeps if the bell was rung `rung` times and not since.
+    /// Sleeps if the bell was rung `rung` times and not since.
     pub(crate) fn sleep(&self, rt: &impl Wait, rung: u64, sleep: Sleep) {
         let expected = (rung & LOW_BITS) as u32;
         match sleep {
@@ -63,12 +63,12 @@ impl Bell {
         }
     }
 
-    // Leaves again after an `enter`.
+    /// Leaves again after an `enter`.
     pub(crate) fn leave(&self) {
         self.sleepers.fetch_sub(1, SeqCst);
     }
 
-    // Wakes all threads that sleep. If no thread has entered, this is one load.
+    /// Wakes all threads that sleep. If no thread has entered, this is one load.
     pub(crate) fn ring(&self) {
         if self.sleepers.load(SeqCst) > 0 {
             self.rung.fetch_add(1, SeqCst);
@@ -76,7 +76,7 @@ impl Bell {
         }
     }
 
-    // Wakes one thread that sleeps. Threads that have entered and do not sleep yet look once more.
+    /// Wakes one thread that sleeps. Threads that have entered and do not sleep yet look once more.
     pub(crate) fn ring_for_one(&self) {
         if self.sleepers.load(SeqCst) > 0 {
             self.rung.fetch_add(1, SeqCst);
@@ -102,12 +102,12 @@ impl TurnBells {
         }
     }
 
-    // Returns the bell of the ticket.
+    /// Returns the bell of the ticket.
     pub(crate) fn of(&self, ticket: u64) -> &Bell {
         &self.bells[(ticket % TURN_BELLS as u64) as usize]
     }
 
-    // Wakes all threads that sleep, whatever their tickets are.
+    /// Wakes all threads that sleep, whatever their tickets are.
     pub(crate) fn ring_all(&self) {
         for bell in &self.bells {
             bell.ring();

@@ -14,7 +14,7 @@ pub enum Count {
 }
 
 impl Count {
-    // Returns the word where the count is announced.
+    /// Returns the word where the count is announced.
     pub(crate) fn word(self) -> usize
         ensures { result ≡ word_of self }
     {

@@ -71,7 +71,7 @@ impl<O: Object> Door<O> {
         }
     }
 
-    // Returns the number of this place's word among the words of the table.
+    /// Returns the number of this place's word among the words of the table.
     pub(crate) fn word(&self, word: usize) -> usize
         requires { word < 80 }
         ensures { result ≡ 80 * self.now.place + word }
@@ -79,7 +79,7 @@ impl<O: Object> Door<O> {
         self.base + word
     }
 
-    // Loads the ticket that is drawn next.
+    /// Loads the ticket that is drawn next.
     pub(crate) fn weigh(&self, hall: &Hall<O>, token: &mut HallToken<O>) -> u64
         requires door { IsDoorOf hall.now.shared.table_id hall.now.shared.key.openings.value.items
             self.now }
@@ -91,7 +91,7 @@ impl<O: Object> Door<O> {
         hall.shared.load::<Weighing>(token, self.word(TICKET))
     }
 
-    // Draws `ticket` if it is the next one. Returns the next ticket that was found.
+    /// Draws `ticket` if it is the next one. Returns the next ticket that was found.
     pub(crate) fn draw_next(&self, hall: &Hall<O>, token: &mut HallToken<O>, ticket: u64) -> u64
         requires door { IsDoorOf hall.now.shared.table_id hall.now.shared.key.openings.value.items
             self.now }
@@ -106,8 +106,8 @@ impl<O: Object> Door<O> {
             .compare_exchange::<Drawing>(token, self.word(TICKET), ticket, ticket + 1)
     }
 
-    // Draws `ticket` and begins its turn, if it is the next ticket. It is known to be the served
-    // one. Returns the next ticket that was found.
+    /// Draws `ticket` and begins its turn, if it is the next ticket. It is known to be the served
+    /// one. Returns the next ticket that was found.
     pub(crate) fn enter_next(&self, hall: &Hall<O>, token: &mut HallToken<O>, ticket: u64) -> u64
         requires door { IsDoorOf hall.now.shared.table_id hall.now.shared.key.openings.value.items
             self.now }
@@ -125,7 +125,7 @@ impl<O: Object> Door<O> {
             .compare_exchange::<Entering<O>>(token, self.word(TICKET), ticket, ticket + 1)
     }
 
-    // Loads the ticket that is served. If the pass holds that ticket, its turn begins.
+    /// Loads the ticket that is served. If the pass holds that ticket, its turn begins.
     pub(crate) fn look(&self, hall: &Hall<O>, token: &mut HallToken<O>) -> u64
         requires door { IsDoorOf hall.now.shared.table_id hall.now.shared.key.openings.value.items
             self.now }
@@ -157,7 +157,7 @@ impl<O: Object> Door<O> {
             .load::<Reading<O>>(token, self.word(count.word()))
     }
 
-    // Announces a count in the pass's turn if it has risen.
+    /// Announces a count in the pass's turn if it has risen.
     pub(crate) fn announce(
         &self,
         hall: &Hall<O>,

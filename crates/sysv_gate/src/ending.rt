@@ -14,7 +14,7 @@ use crate::words::{SERVING, TICKET};
 use atomic_table::Closed;
 use std::alloc::Global;
 
-// Returns the object in the slot, if there is one.
+/// Returns the object in the slot, if there is one.
 fn object_in<O, C, R>(spot: Option<Place<O, C, R>>) -> Option<O>
     ensures { result ≡ held_object spot }
 {

@@ -104,7 +104,7 @@ impl<O: Object> Gate<O> {
         self.await_within(rt, seat, Count::Freed, goal)
     }
 
-    // Reads the count.
+    /// Reads the count.
     fn count(&self, seat: &mut Seat<O>, count: Count) -> u64
         requires { seat.old.gate ≡ self.now }
         ensures gate { seat.new.gate ≡ self.now }
@@ -114,7 +114,7 @@ impl<O: Object> Gate<O> {
         self.door.count(&self.hall, &mut seat.token, count)
     }
 
-    // Waits until the count is at least the goal.
+    /// Waits until the count is at least the goal.
     fn await_count(&self, rt: &impl Wait, seat: &mut Seat<O>, count: Count, goal: u64) -> Awaited
         requires { seat.old.gate ≡ self.now }
         ensures gate { seat.new.gate ≡ self.now }
@@ -124,7 +124,7 @@ impl<O: Object> Gate<O> {
             .await_count(rt, &self.hall, &mut seat.token, count, goal)
     }
 
-    // Waits until the count is at least the goal, but sleeps only once, and for a second at most.
+    /// Waits until the count is at least the goal, but sleeps only once, and for a second at most.
     fn await_within(
         &self,
         rt: &impl Wait,

@@ -14,7 +14,7 @@ use atomic_table::{Refused, Table};
 use std::alloc::Global;
 use std::snapshot::Snapshot;
 
-// Makes the words of the places. Returns `None` if memory is refused.
+/// Makes the words of the places. Returns `None` if memory is refused.
 fn words_for<O: Object>(
     alloc: Global,
     objects: &Vec<O, Global>,
@@ -33,7 +33,7 @@ fn words_for<O: Object>(
     Some(words)
 }
 
-// Makes one door per place. Returns `None` if memory is refused.
+/// Makes one door per place. Returns `None` if memory is refused.
 fn doors_for<O: Object>(alloc: Global, objects: &Vec<O, Global>) -> Option<Vec<Door<O>, Global>>
     requires few { 80 * length objects.now.items ≤ 2 ^ 60 }
     requires counts { All (λ o. AreUpTo (2 ^ 61) (O.counted o)) objects.now.items }
@@ -49,7 +49,7 @@ fn doors_for<O: Object>(alloc: Global, objects: &Vec<O, Global>) -> Option<Vec<D
     Some(doors)
 }
 
-// Moves each object into a slot.
+/// Moves each object into a slot.
 fn fill<O: Object>(objects: &mut Vec<O, Global>, spots: &mut Vec<Spot<O>, Global>)
     requires room { (spots.old.items ≡ []) × (length objects.old.items ≤ vec_capacity spots.old) }
     ensures spots { spots.new.items ≡ all_put objects.old.items }
@@ -65,7 +65,7 @@ fn fill<O: Object>(objects: &mut Vec<O, Global>, spots: &mut Vec<Spot<O>, Global
     }
 }
 
-// Returns the object of a slot that was filled.
+/// Returns the object of a slot that was filled.
 fn object_out<O: Object>(spot: Spot<O>) -> O
     requires { (o : O) × (spot ≡ put o None) }
     ensures { spot ≡ put result None }
@@ -76,7 +76,7 @@ fn object_out<O: Object>(spot: Spot<O>) -> O
     object
 }
 
-// Moves each object out of its slot again.
+/// Moves each object out of its slot again.
 fn empty<O: Object>(mut spots: Vec<Spot<O>, Global>, objects: &mut Vec<O, Global>)
     requires spots { (all : List O) × (spots.items ≡ all_put all)
         × (length all ≤ vec_capacity objects.old) }
@@ -122,8 +122,8 @@ pub fn lay_hall<O: Object>(
     }
 }
 
-// Lays the table of a gate, which has one place. Returns it with its first pass and its door. If
-// memory is refused, the object is handed back.
+/// Lays the table of a gate, which has one place. Returns it with its first pass and its door. If
+/// memory is refused, the object is handed back.
 pub(crate) fn lay_one<O: Object>(
     alloc: Global,
     object: O,
@@ -161,8 +161,8 @@ pub(crate) fn lay_one<O: Object>(
     }
 }
 
-// Lays the table of the objects over these words. Returns `None`, with the objects unchanged, if
-// memory is refused.
+/// Lays the table of the objects over these words. Returns `None`, with the objects unchanged, if
+/// memory is refused.
 fn raise<O: Object>(
     alloc: Global,
     words: &Vec<u64, Global>,

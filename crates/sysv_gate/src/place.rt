@@ -41,7 +41,7 @@ impl<C, R> Drop for Beside<C, R> {
 }
 
 impl<C, R> Beside<C, R> {
-    // Returns the state before any call was served.
+    /// Returns the state before any call was served.
     pub(crate) fn none() -> Beside<C, R>
         ensures { result ≡ None }
     {
@@ -51,7 +51,7 @@ impl<C, R> Beside<C, R> {
         }
     }
 
-    // Records that this call was served.
+    /// Records that this call was served.
     pub(crate) fn tell(&mut self, done: Done<C, R>)
         ensures { self.new ≡ Some done }
     {

@@ -38,7 +38,7 @@ pub(crate) struct Rose {
     pub(crate) freed: bool,
 }
 
-// Makes the call, and records beside the object which call was served.
+/// Makes the call, and records beside the object which call was served.
 pub(crate) fn apply<O: Object>(
     place: &mut Place<O, O::Call, O::Reply>,
     call: O::Call,
@@ -63,7 +63,7 @@ pub(crate) fn apply<O: Object>(
     (reply, rose)
 }
 
-// Makes the call at the object in the slot.
+/// Makes the call at the object in the slot.
 pub(crate) fn apply_in<O: Object>(spot: &mut Spot<O>, call: O::Call) -> (O::Reply, Rose)
     requires full { (object : O) × (last : Option (Served O.Call O.Reply))
         × (spot.old ≡ put object last) × AreBelow (2 ^ 63) (O.counted object)
@@ -77,7 +77,7 @@ pub(crate) fn apply_in<O: Object>(spot: &mut Spot<O>, call: O::Call) -> (O::Repl
 }
 
 impl<O: Object> Door<O> {
-    // Draws a ticket. Returns `None` only if the tickets have reached 2^62.
+    /// Draws a ticket. Returns `None` only if the tickets have reached 2^62.
     pub(crate) fn draw(
         &self,
         rt: &impl Wait,
@@ -107,7 +107,7 @@ impl<O: Object> Door<O> {
         unreachable!()
     }
 
-    // Draws the ticket that is served, if no other pass holds it, and so begins the turn.
+    /// Draws the ticket that is served, if no other pass holds it, and so begins the turn.
     pub(crate) fn enter(&self, hall: &Hall<O>, token: &mut HallToken<O>) -> Entry
         requires door { IsDoorOf hall.now.shared.table_id hall.now.shared.key.openings.value.items
             self.now }
@@ -132,7 +132,7 @@ impl<O: Object> Door<O> {
         Entry::Turn
     }
 
-    // Waits until the ticket is served.
+    /// Waits until the ticket is served.
     pub(crate) fn reach(
         &self,
         rt: &impl Wait,
@@ -159,8 +159,8 @@ impl<O: Object> Door<O> {
         unreachable!()
     }
 
-    // Sleeps until the ticket may be served, unless it is served already. Returns the ticket that
-    // it found served.
+    /// Sleeps until the ticket may be served, unless it is served already. Returns the ticket that
+    /// it found served.
     fn doze_until(
         &self,
         rt: &impl Wait,
@@ -189,7 +189,7 @@ impl<O: Object> Door<O> {
         served
     }
 
-    // Looks a number of times whether the ticket is served, and returns the ticket that is.
+    /// Looks a number of times whether the ticket is served, and returns the ticket that is.
     fn spin(&self, hall: &Hall<O>, token: &mut HallToken<O>, ticket: u64) -> u64
         requires door { IsDoorOf hall.now.shared.table_id hall.now.shared.key.openings.value.items
             self.now }
@@ -213,8 +213,8 @@ impl<O: Object> Door<O> {
         served
     }
 
-    // Makes the turn: calls the object in its slot, announces its counts, and enters the turn into
-    // the history.
+    /// Makes the turn: calls the object in its slot, announces its counts, and enters the turn into
+    /// the history.
     pub(crate) fn serve(
         &self,
         hall: &Hall<O>,
@@ -247,8 +247,8 @@ impl<O: Object> Door<O> {
         (reply, rose)
     }
 
-    // Wakes the thread with the next ticket, and the threads that wait for a count that rose: one
-    // of those whose waits for the first count are bounded, and all others.
+    /// Wakes the thread with the next ticket, and the threads that wait for a count that rose: one
+    /// of those whose waits for the first count are bounded, and all others.
     pub(crate) fn wake_after(&self, ticket: u64, rose: Rose)
         requires { ticket < 2 ^ 62 }
     {
@@ -262,14 +262,14 @@ impl<O: Object> Door<O> {
         }
     }
 
-    // Wakes the threads that wait for a count if this was the last ticket.
+    /// Wakes the threads that wait for a count if this was the last ticket.
     pub(crate) fn tell_worn(&self, ticket: u64) {
         if ticket >= LIMIT - 1 {
             self.ring();
         }
     }
 
-    // Wakes the threads that wait for a count.
+    /// Wakes the threads that wait for a count.
     pub(crate) fn ring(&self) {
         self.arrived.ring();
         self.next_arrived.ring();

@@ -18,8 +18,8 @@ use std::sync::Wait;
 pub(crate) const LOOKS: u64 = 256;
 
 impl<O: Object> Door<O> {
-    // Reads the count a number of times, until it is at least the goal. Returns the value that it
-    // read last.
+    /// Reads the count a number of times, until it is at least the goal. Returns the value that it
+    /// read last.
     fn count_to(&self, hall: &Hall<O>, token: &mut HallToken<O>, count: Count, goal: u64) -> u64
         requires door { IsDoorOf hall.now.shared.table_id hall.now.shared.key.openings.value.items
             self.now }
@@ -40,7 +40,7 @@ impl<O: Object> Door<O> {
         value
     }
 
-    // Returns whether the tickets have reached 2^62.
+    /// Returns whether the tickets have reached 2^62.
     fn is_worn(&self, hall: &Hall<O>, token: &mut HallToken<O>) -> bool
         requires door { IsDoorOf hall.now.shared.table_id hall.now.shared.key.openings.value.items
             self.now }
@@ -55,7 +55,7 @@ impl<O: Object> Door<O> {
         self.weigh(hall, token) >= LIMIT
     }
 
-    // Looks whether the wait is over. Returns `None` only if the count is below the goal.
+    /// Looks whether the wait is over. Returns `None` only if the count is below the goal.
     fn judge(
         &self,
         hall: &Hall<O>,
@@ -84,7 +84,7 @@ impl<O: Object> Door<O> {
         None
     }
 
-    // Returns the bell of this kind of sleep for this count.
+    /// Returns the bell of this kind of sleep for this count.
     fn bell(&self, count: Count, sleep: Sleep) -> &Bell {
         match (count, sleep) {
             (Count::Arrived, Sleep::UntilRung) => &self.arrived,
@@ -93,7 +93,7 @@ impl<O: Object> Door<O> {
         }
     }
 
-    // Sleeps until the count may have risen, unless the wait is over already.
+    /// Sleeps until the count may have risen, unless the wait is over already.
     fn doze(
         &self,
         rt: &impl Wait,

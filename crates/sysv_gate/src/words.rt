@@ -21,7 +21,7 @@ pub(crate) const FREED: usize = 64;
 /// use.
 const WORDS: usize = 80;
 
-// Returns the words of a place whose tickets begin at `first`.
+/// Returns the words of a place whose tickets begin at `first`.
 pub(crate) fn words_at(first: u64, counts: (u64, u64)) -> [u64; WORDS]
     ensures tickets { (length result ≡ 80) × (slice_index result 16 ≡ first)
         × (slice_index result 32 ≡ first) }

@@ -11,7 +11,8 @@ no_entry (b ∷ before) after e h = cc
 pub legal_empty : (opening : ℕ) → IsLegalHistory opening []
 legal_empty opening before e after h = absurd (no_entry before after e h)
 
-pub legal_more : (opening : ℕ) (h : RegistryHistory) (e : RegistryEntry) → IsLegalHistory opening h → IsLegalReply opening h e.call e.reply → IsLegalHistory opening (h ++ e ∷ [])
+pub legal_more : (opening : ℕ) (h : RegistryHistory) (e : RegistryEntry) → IsLegalHistory opening h →
+    IsLegalReply opening h e.call e.reply → IsLegalHistory opening (h ++ e ∷ [])
 legal_more opening h e legal last before f after same =
     elim (at_end h before after e f same) [
       | inl w ↦ let front : before ≡ h = w.1 in let entry : f ≡ e = w.2 in
@@ -21,9 +22,11 @@ legal_more opening h e legal last before f after same =
     ]
 
 -- The first part of a legal history is legal.
-pub legal_front : (opening : ℕ) (h rest : RegistryHistory) → IsLegalHistory opening (h ++ rest) → IsLegalHistory opening h
+pub legal_front : (opening : ℕ) (h rest : RegistryHistory) → IsLegalHistory opening (h ++ rest) →
+    IsLegalHistory opening h
 legal_front opening h rest legal before f after same =
     legal before f (after ++ rest) (ap (λ (k : RegistryHistory). k ++ rest) same ∙ append_assoc before (f ∷ after) rest)
 
-pub legal_last : (opening : ℕ) (h : RegistryHistory) (e : RegistryEntry) → IsLegalHistory opening (h ++ e ∷ []) → IsLegalReply opening h e.call e.reply
+pub legal_last : (opening : ℕ) (h : RegistryHistory) (e : RegistryEntry) → IsLegalHistory opening (h ++ e ∷ []) →
+    IsLegalReply opening h e.call e.reply
 legal_last opening h e legal = legal h e [] refl

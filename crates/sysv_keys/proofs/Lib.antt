@@ -10,5 +10,5 @@ pub mod Stands
 pub mod Turns
 pub mod OneLegalReply
 pub mod Index
-pub mod Keeping
+pub mod PlaceWritten
 pub mod Unused

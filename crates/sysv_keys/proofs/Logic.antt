@@ -1,5 +1,6 @@
 -- Tests of identifiers and keys, and combinations of two tests.
-use Rattle.std.proofs.Common.{◌≡◌, ℕ, ℤ, ◌||◌, ◌&&◌, Bool, true, false, not, w32, to_z, of_z, FitsSigned, List, [], ◌∷◌, ◌++◌, pos, refl, sym, ap, ◌∙◌, ◌⊎◌, inl, inr}
+use Rattle.std.proofs.Common.{◌≡◌, ℕ, ℤ, ◌||◌, ◌&&◌, Bool, true, false, not, w32, to_z, of_z, FitsSigned, List, [], ◌∷◌}
+use Rattle.std.proofs.Common.{◌++◌, pos, refl, sym, ap, ◌∙◌, ◌⊎◌, inl, inr}
 use Rattle.std.specs.List.{list_any}
 use Rattle.std.specs.Ordering.{int_eq}
 use Rattle.std.proofs.lemmas.Int.{to_z-of_z}

@@ -1,12 +1,14 @@
 -- Each call has exactly one legal reply after each legal history.
-use Rattle.std.proofs.Common.{◌≡◌, ◌≢◌, ℕ, ℤ, Bool, true, false, [], ◌∷◌, ◌++◌, Option, Some, None, refl, sym, ap, subst, ◌∙◌, ◌⊎◌, inl, inr, arith}
+use Rattle.std.proofs.Common.{◌≡◌, ◌≢◌, ℕ, ℤ, Bool, true, false, [], ◌∷◌, ◌++◌, Option, Some, None, refl, sym, ap}
+use Rattle.std.proofs.Common.{subst, ◌∙◌, ◌⊎◌, inl, inr, arith}
 use Rattle.std.proofs.lemmas.Bool.{cases_lt}
 use Rattle.sysv_model.specs.declared.limits.TheConstants.{IPC_PRIVATE}
 use Rattle.sysv_model.specs.declared.flags.Flags.{Flags}
 use Rattle.sysv_model.specs.declared.flags.TheConstants.Flags.{IPC_CREAT}
 use Rattle.sysv_model.specs.declared.errno.Errno.TheVariants.{ENOENT, ENOSPC}
 use Rattle.sysv_model.specs.HasFlag.{has_flag}
-use Rattle.sysv_model.specs.Registry.{RegistryReply, RegistryEntry, RegistryHistory, Begin, Settle, Forget, Found, Made, Busy, Unbound, Changed, settled}
+use Rattle.sysv_model.specs.Registry.{RegistryReply, RegistryEntry, RegistryHistory, Begin, Settle, Forget, Found, Made}
+use Rattle.sysv_model.specs.Registry.{Busy, Unbound, Changed, settled}
 use Rattle.sysv_keys.specs.declared.identifier.TheConstants.{GENERATION_LAST}
 use Rattle.sysv_keys.specs.declared.registry.KeyRow.{KeyRow}
 use Rattle.sysv_keys.specs.declared.registry.Place.{Place}
@@ -20,7 +22,8 @@ use Rattle.sysv_keys.proofs.Logic.{decided, true_or_false, never_both}
 use Rattle.sysv_keys.proofs.Places.{there_is, first_or_none}
 use Rattle.sysv_keys.proofs.Changes.{a_row, not_bound}
 use Rattle.sysv_keys.proofs.Effects.{over_legal, by_kind}
-use Rattle.sysv_keys.proofs.Stands.{a_place, stands_empty, stands_made, stands_settled, stands_forgotten, stands_quiet, row_there, row_back}
+use Rattle.sysv_keys.proofs.Stands.{a_place, stands_empty, stands_made, stands_settled, stands_forgotten, stands_quiet}
+use Rattle.sysv_keys.proofs.Stands.{row_there, row_back}
 use Rattle.sysv_keys.proofs.Law.{registry_law}
 use Rattle.sysv_keys.proofs.Turns.{not_bound_where, least_is_vacant, none_is_vacant}
 
@@ -31,7 +34,9 @@ seen opening = over_legal opening (λ h. (r : Registry) × StandsFor opening h r
     let r = old.0 in
     let st = old.1 in
     let wide = st.wide in
-    by_kind opening h (λ (t : RegistryEntry). IsLegalReply opening h t.call t.reply → (r : Registry) × StandsFor opening (h ++ t ∷ []) r) (record {
+    by_kind opening h
+    (λ (t : RegistryEntry). IsLegalReply opening h t.call t.reply → (r : Registry) × StandsFor opening (h ++ t ∷ []) r)
+    (record {
       quiet = λ t q legal. (r, stands_quiet opening h r st t legal q);
       made = λ who key flags id slot creates least is legal.
           let there = least.0.there in
@@ -74,7 +79,10 @@ id_or_not id None = inr (λ t. t)
 id_or_not id (Some row) = decided row.id id
 
 open_or_not : (generation : ℕ) (o : Option KeyRow) → IsOpen (a_place generation o) ⊎ ¬ IsOpen (a_place generation o)
-open_or_not generation None = elim (cases_lt GENERATION_LAST generation) [ inl past ↦ inr (λ w. let u = w.1 in absurd (omega arith)) | inr usable ↦ inl (refl, usable) ]
+open_or_not generation None = elim (cases_lt GENERATION_LAST generation) [
+  | inl past ↦ inr (λ w. let u = w.1 in absurd (omega arith))
+  | inr usable ↦ inl (refl, usable)
+]
 open_or_not generation (Some row) = inr (λ w. let t = w.0 in cc)
 
 key_row : (key : ℤ) (o : Option KeyRow) → HasKey key o → (row : KeyRow) × (o ≡ Some row) × (row.key ≡ key)
@@ -91,16 +99,19 @@ id_row id (Some row) t = (row, refl, t)
 
 module _ (opening : ℕ) (h : RegistryHistory) (r : Registry) (st : StandsFor opening h r) where
   -- A begin of a key that has a row.
-  reply_bound : (key : ℤ) (flags : Flags) (row : KeyRow) (live : Bool) → key ≢ IPC_PRIVATE → IsRow h (a_row row.id key live) → (reply : RegistryReply) × IsLegalReply opening h (Begin key flags) reply
+  reply_bound : (key : ℤ) (flags : Flags) (row : KeyRow) (live : Bool) → key ≢ IPC_PRIVATE →
+      IsRow h (a_row row.id key live) → (reply : RegistryReply) × IsLegalReply opening h (Begin key flags) reply
   reply_bound key flags row true shared is = (Found row.id (settled h), (shared, is, refl))
   reply_bound key flags row false shared is = (Busy (settled h), (shared, (row.id, is), refl))
 
   -- A begin that is to make an identifier.
-  reply_creating : (key : ℤ) (flags : Flags) → Creates h key flags → (reply : RegistryReply) × IsLegalReply opening h (Begin key flags) reply
+  reply_creating : (key : ℤ) (flags : Flags) → Creates h key flags →
+      (reply : RegistryReply) × IsLegalReply opening h (Begin key flags) reply
   reply_creating key flags creates = elim (first_or_none IsOpen (λ p. open_or_not p.generation p.row) r.places) [
     | inl w ↦
         let slot = w.0 in
-        let least = least_is_vacant opening h r st slot (record { place = w.1.found; there = w.1.there; is_open = w.1.holds; least = w.1.first }) in
+        let least = least_is_vacant opening h r st slot
+        (record { place = w.1.found; there = w.1.there; is_open = w.1.holds; least = w.1.first }) in
         (Made (id_of slot (generation opening slot h)), (creates, (slot, least, refl)))
     | inr none ↦ (Unbound ENOSPC, (creates, none_is_vacant opening h r st none))
   ]
@@ -111,7 +122,8 @@ module _ (opening : ℕ) (h : RegistryHistory) (r : Registry) (st : StandsFor op
     | inr shared ↦ elim (first_or_none (λ (p : Place). HasKey key p.row) (λ p. key_or_not key p.row) r.places) [
       | inl w ↦
           let at = key_row key w.1.found.row w.1.holds in
-          let is = (row_there opening h r st w.0 at.0 (record { place = w.1.found; there = w.1.there; holds = at.1 })).0 in
+          let is =
+          (row_there opening h r st w.0 at.0 (record { place = w.1.found; there = w.1.there; holds = at.1 })).0 in
           reply_bound key flags at.0 at.0.live shared (subst (λ k. IsRow h (a_row at.0.id k at.0.live)) at.2 is)
       | inr none ↦
           let unbound : ¬ IsBound h key = not_bound_where opening h r st key
@@ -126,8 +138,14 @@ module _ (opening : ℕ) (h : RegistryHistory) (r : Registry) (st : StandsFor op
   reply_settle : (id : ℤ) → (reply : RegistryReply) × IsLegalReply opening h (Settle id) reply
   reply_settle id = elim (first_or_none (λ (p : Place). IsMakingOf id p.row) (λ p. making_or_not id p.row) r.places) [
     | inl w ↦
-        let at = making_row id w.1.found.row w.1.holds in
-        (Changed true, (at.0, (row_there opening h r st w.0 (a_row id at.0 false) (record { place = w.1.found; there = w.1.there; holds = at.1 })).0))
+        let at = making_row id w.1.found.row w.1.holds in (
+          Changed true,
+          (
+            at.0,
+            (row_there opening h r st w.0 (a_row id at.0 false)
+                (record { place = w.1.found; there = w.1.there; holds = at.1 })).0,
+          ),
+        )
     | inr none ↦ (
       Changed false,
       λ key is.
@@ -139,8 +157,14 @@ module _ (opening : ℕ) (h : RegistryHistory) (r : Registry) (st : StandsFor op
   reply_forget : (id : ℤ) → (reply : RegistryReply) × IsLegalReply opening h (Forget id) reply
   reply_forget id = elim (first_or_none (λ (p : Place). HasId id p.row) (λ p. id_or_not id p.row) r.places) [
     | inl w ↦
-        let at = id_row id w.1.found.row w.1.holds in
-        (Changed true, (at.0, (row_there opening h r st w.0 at.0 (record { place = w.1.found; there = w.1.there; holds = at.1 })).0, at.2))
+        let at = id_row id w.1.found.row w.1.holds in (
+          Changed true,
+          (
+            at.0,
+            (row_there opening h r st w.0 at.0 (record { place = w.1.found; there = w.1.there; holds = at.1 })).0,
+            at.2,
+          ),
+        )
     | inr none ↦ (
       Changed false,
       λ row is same.
@@ -150,7 +174,8 @@ module _ (opening : ℕ) (h : RegistryHistory) (r : Registry) (st : StandsFor op
   ]
 
 pub some_reply_is_legal : SomeReplyIsLegal
-some_reply_is_legal opening h (Begin key flags) legal = let at = seen opening h legal in reply_begin opening h at.0 at.1 key flags
+some_reply_is_legal opening h (Begin key flags) legal =
+    let at = seen opening h legal in reply_begin opening h at.0 at.1 key flags
 some_reply_is_legal opening h (Settle id) legal = let at = seen opening h legal in reply_settle opening h at.0 at.1 id
 some_reply_is_legal opening h (Forget id) legal = let at = seen opening h legal in reply_forget opening h at.0 at.1 id
 
@@ -190,8 +215,10 @@ module _ (opening : ℕ) (h : RegistryHistory) (legal : IsLegalHistory opening h
   HasCause reply = (IsBoundReply reply ⊎ IsUnboundReply reply) ⊎ (IsFullReply reply ⊎ IsMadeReply reply)
 
   cause : (reply : RegistryReply) → IsLegalReply opening h (Begin key flags) reply → HasCause reply
-  cause (Found id told) l = inl (inl (record { row = a_row id key true; is = l.1; keyed = refl; shared = l.0; says = ap (Found id) l.2 }))
-  cause (Busy told) l = inl (inl (record { row = a_row l.1.0 key false; is = l.1.1; keyed = refl; shared = l.0; says = ap Busy l.2 }))
+  cause (Found id told) l =
+      inl (inl (record { row = a_row id key true; is = l.1; keyed = refl; shared = l.0; says = ap (Found id) l.2 }))
+  cause (Busy told) l =
+      inl (inl (record { row = a_row l.1.0 key false; is = l.1.1; keyed = refl; shared = l.0; says = ap Busy l.2 }))
   cause (Unbound ENOENT) l = inl (inr (record { shared = l.0; unbound = l.1; unset = l.2; says = refl }))
   cause (Unbound ENOSPC) l = inr (inl (record { creates = l.0; full = l.1; says = refl }))
   cause (Made id) l = inr (inr (record { creates = l.0; slot = l.1.0; least = l.1.1; says = ap Made l.1.2 }))
@@ -205,7 +232,8 @@ module _ (opening : ℕ) (h : RegistryHistory) (legal : IsLegalHistory opening h
 
   two_bound : (a b : RegistryReply) → IsBoundReply a → IsBoundReply b → a ≡ b
   two_bound a b one other =
-      let same : one.row ≡ other.row = (registry_law opening h legal).one_of_key one.row other.row one.is other.is (λ e. one.shared (sym one.keyed ∙ e)) (one.keyed ∙ sym other.keyed) in
+      let same : one.row ≡ other.row = (registry_law opening h legal).one_of_key one.row other.row one.is other.is
+      (λ e. one.shared (sym one.keyed ∙ e)) (one.keyed ∙ sym other.keyed) in
       one.says ∙ (ap (λ (x : KeyRow). bound_reply h x.id x.live) same ∙ sym other.says)
 
   two_made : (a b : RegistryReply) → IsMadeReply a → IsMadeReply b → a ≡ b
@@ -237,10 +265,12 @@ module _ (opening : ℕ) (h : RegistryHistory) (legal : IsLegalHistory opening h
   two_begins a b (inr (inr x)) (inr (inl y)) = absurd (y.full x.slot x.least.0)
   two_begins a b (inr (inr x)) (inr (inr y)) = two_made a b x y
 
-  pub one_begin : (a b : RegistryReply) → IsLegalReply opening h (Begin key flags) a → IsLegalReply opening h (Begin key flags) b → a ≡ b
+  pub one_begin : (a b : RegistryReply) → IsLegalReply opening h (Begin key flags) a →
+      IsLegalReply opening h (Begin key flags) b → a ≡ b
   one_begin a b l m = two_begins a b (cause a l) (cause b m)
 
-one_settle : (opening : ℕ) (h : RegistryHistory) (id : ℤ) (a b : RegistryReply) → IsLegalReply opening h (Settle id) a → IsLegalReply opening h (Settle id) b → a ≡ b
+one_settle : (opening : ℕ) (h : RegistryHistory) (id : ℤ) (a b : RegistryReply) → IsLegalReply opening h (Settle id) a →
+    IsLegalReply opening h (Settle id) b → a ≡ b
 one_settle opening h id (Changed true) (Changed true) l m = refl
 one_settle opening h id (Changed true) (Changed false) l m = absurd (m l.0 l.1)
 one_settle opening h id (Changed false) (Changed true) l m = absurd (l m.0 m.1)
@@ -248,7 +278,8 @@ one_settle opening h id (Changed false) (Changed false) l m = refl
 one_settle opening h id (Changed done) b l m = absurd m
 one_settle opening h id a b l m = absurd l
 
-one_forget : (opening : ℕ) (h : RegistryHistory) (id : ℤ) (a b : RegistryReply) → IsLegalReply opening h (Forget id) a → IsLegalReply opening h (Forget id) b → a ≡ b
+one_forget : (opening : ℕ) (h : RegistryHistory) (id : ℤ) (a b : RegistryReply) → IsLegalReply opening h (Forget id) a →
+    IsLegalReply opening h (Forget id) b → a ≡ b
 one_forget opening h id (Changed true) (Changed true) l m = refl
 one_forget opening h id (Changed true) (Changed false) l m = absurd (m l.0 l.1 l.2)
 one_forget opening h id (Changed false) (Changed true) l m = absurd (l m.0 m.1 m.2)

@@ -1,24 +1,31 @@
 -- Reading and writing a list at a place.
-use Rattle.std.proofs.Common.{◌≡◌, ◌≢◌, ℕ, zero, suc, ◌<◌, List, [], ◌∷◌, Some, set, length, refl, sym, ap, subst, ◌∙◌, ◌⊎◌, inl, inr, arith, get_or-set_same, get_or-set_other}
+use Rattle.std.proofs.Common.{◌≡◌, ◌≢◌, ℕ, zero, suc, ◌<◌, List, [], ◌∷◌, Some, set, length, refl, sym, ap, subst, ◌∙◌}
+use Rattle.std.proofs.Common.{◌⊎◌, inl, inr, arith, get_or-set_same, get_or-set_other}
 use Rattle.std.proofs.Math.ListN.{length-set}
 use Rattle.std.specs.List.{slice_get}
 use Rattle.std.proofs.lemmas.Option.{slice_get-get_or, slice_get_within, get_or_from_slice_get, same_Some}
 
 pub at_set : {X : Type 0} (xs : List X) (i : ℕ) (y : X) → i < length xs → slice_get (set xs i y) i ≡ Some y
-at_set xs i y within = let longer = length-set xs i y in slice_get-get_or (set xs i y) i y (omega arith) ∙ ap Some (get_or-set_same xs i y y within)
+at_set xs i y within =
+    let longer = length-set xs i y in
+    slice_get-get_or (set xs i y) i y (omega arith) ∙ ap Some (get_or-set_same xs i y y within)
 
 -- An element at another place is unchanged.
-pub beside_set : {X : Type 0} (xs : List X) (i j : ℕ) (y x : X) → j ≢ i → slice_get (set xs i y) j ≡ Some x → slice_get xs j ≡ Some x
+pub beside_set : {X : Type 0} (xs : List X) (i j : ℕ) (y x : X) → j ≢ i → slice_get (set xs i y) j ≡ Some x →
+    slice_get xs j ≡ Some x
 beside_set xs i j y x apart there =
     let longer = length-set xs i y in
     let within : j < length xs = let w = slice_get_within (set xs i y) j x there in omega arith in
-    slice_get-get_or xs j x within ∙ ap Some (sym (get_or-set_other xs i j y x apart) ∙ get_or_from_slice_get (set xs i y) j x x there)
+    slice_get-get_or xs j x within
+    ∙ ap Some (sym (get_or-set_other xs i j y x apart) ∙ get_or_from_slice_get (set xs i y) j x x there)
 
-pub beside_set_back : {X : Type 0} (xs : List X) (i j : ℕ) (y x : X) → j ≢ i → slice_get xs j ≡ Some x → slice_get (set xs i y) j ≡ Some x
+pub beside_set_back : {X : Type 0} (xs : List X) (i j : ℕ) (y x : X) → j ≢ i → slice_get xs j ≡ Some x →
+    slice_get (set xs i y) j ≡ Some x
 beside_set_back xs i j y x apart there =
     let longer = length-set xs i y in
     let within : j < length (set xs i y) = let w = slice_get_within xs j x there in omega arith in
-    slice_get-get_or (set xs i y) j x within ∙ ap Some (get_or-set_other xs i j y x apart ∙ get_or_from_slice_get xs j x x there)
+    slice_get-get_or (set xs i y) j x within
+    ∙ ap Some (get_or-set_other xs i j y x apart ∙ get_or_from_slice_get xs j x x there)
 
 -- There is an element at each place below the length.
 pub there_is : {X : Type 0} (xs : List X) (i : ℕ) → i < length xs → (x : X) × (slice_get xs i ≡ Some x)
@@ -39,7 +46,8 @@ pub record IsFirstAt {X : Type 0} (P : X → Type 0) (xs : List X) (i : ℕ) : T
 -- If the property can be decided for each element, there is a first element that has it, or no
 -- element has it.
 module _ {X : Type 0} (P : X → Type 0) (decide : (x : X) → P x ⊎ ¬ P x) where
-  before_rest : (x : X) (xs : List X) → ¬ P x → ((i : ℕ) × IsFirstAt P xs i) ⊎ ((i : ℕ) (y : X) → slice_get xs i ≡ Some y → ¬ P y) →
+  before_rest : (x : X) (xs : List X) → ¬ P x →
+      ((i : ℕ) × IsFirstAt P xs i) ⊎ ((i : ℕ) (y : X) → slice_get xs i ≡ Some y → ¬ P y) →
       ((i : ℕ) × IsFirstAt P (x ∷ xs) i) ⊎ ((i : ℕ) (y : X) → slice_get (x ∷ xs) i ≡ Some y → ¬ P y)
   before_rest x xs refuted (inl w) = inl (
     suc w.0,

@@ -8,7 +8,8 @@ use Rattle.sysv_model.specs.declared.flags.Flags.{Flags}
 use Rattle.sysv_model.specs.declared.flags.TheConstants.Flags.{IPC_CREAT}
 use Rattle.sysv_model.specs.declared.errno.Errno.TheVariants.{ENOENT, ENOSPC}
 use Rattle.sysv_model.specs.HasFlag.{has_flag}
-use Rattle.sysv_model.specs.Registry.{RegistryCall, RegistryReply, RegistryEntry, RegistryHistory, Begin, Settle, Forget, Found, Made, Busy, Unbound, Changed, settled}
+use Rattle.sysv_model.specs.Registry.{RegistryCall, RegistryReply, RegistryEntry, RegistryHistory, Begin, Settle}
+use Rattle.sysv_model.specs.Registry.{Forget, Found, Made, Busy, Unbound, Changed, settled}
 use Rattle.sysv_keys.specs.declared.registry.KeyRow.{KeyRow}
 use Rattle.sysv_keys.specs.Identifier.{id_of}
 use Rattle.sysv_keys.specs.Rows.{IsRow, IsLeastVacant, IsVacant, generation}
@@ -27,11 +28,15 @@ Creates h key flags = (key ≡ IPC_PRIVATE) ⊎ (¬ IsBound h key × (has_flag I
 -- with the identifier of the least vacant slot in its generation. A private key is never found,
 -- busy or ENOENT. Found and Busy have the settled count.
 abbrev pub LegalBegin : ℕ → RegistryHistory → ℤ → Flags → RegistryReply → Type 0
-LegalBegin opening h key flags (Found id told) = (key ≢ IPC_PRIVATE) × IsRow h (record { id = id; key = key; live = true }) × (told ≡ settled h)
-LegalBegin opening h key flags (Busy told) = (key ≢ IPC_PRIVATE) × ((id : ℤ) × IsRow h (record { id = id; key = key; live = false })) × (told ≡ settled h)
-LegalBegin opening h key flags (Unbound ENOENT) = (key ≢ IPC_PRIVATE) × ¬ IsBound h key × (has_flag IPC_CREAT flags ≡ false)
+LegalBegin opening h key flags (Found id told) =
+    (key ≢ IPC_PRIVATE) × IsRow h (record { id = id; key = key; live = true }) × (told ≡ settled h)
+LegalBegin opening h key flags (Busy told) =
+    (key ≢ IPC_PRIVATE) × ((id : ℤ) × IsRow h (record { id = id; key = key; live = false })) × (told ≡ settled h)
+LegalBegin opening h key flags (Unbound ENOENT) =
+    (key ≢ IPC_PRIVATE) × ¬ IsBound h key × (has_flag IPC_CREAT flags ≡ false)
 LegalBegin opening h key flags (Unbound ENOSPC) = Creates h key flags × ((slot : ℕ) → ¬ IsVacant opening h slot)
-LegalBegin opening h key flags (Made id) = Creates h key flags × ((slot : ℕ) × IsLeastVacant opening h slot × (id ≡ id_of slot (generation opening slot h)))
+LegalBegin opening h key flags (Made id) =
+    Creates h key flags × ((slot : ℕ) × IsLeastVacant opening h slot × (id ≡ id_of slot (generation opening slot h)))
 LegalBegin opening h key flags reply = ⊥
 
 -- The replies to settle: true if the identifier has a Making row, otherwise false.
@@ -55,4 +60,5 @@ IsLegalReply opening h (Forget id) reply = LegalForget h id reply
 
 -- Every reply of the history is legal after the entries before it.
 abbrev pub IsLegalHistory : ℕ → RegistryHistory → Type 0
-IsLegalHistory opening h = (before : RegistryHistory) (e : RegistryEntry) (after : RegistryHistory) → h ≡ before ++ e ∷ after → IsLegalReply opening before e.call e.reply
+IsLegalHistory opening h = (before : RegistryHistory) (e : RegistryEntry) (after : RegistryHistory) →
+    h ≡ before ++ e ∷ after → IsLegalReply opening before e.call e.reply

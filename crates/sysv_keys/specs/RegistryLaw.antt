@@ -4,7 +4,8 @@
 -- forgotten identifier is never used again.
 use Rattle.std.specs.Prelude.{◌≡◌, ◌≢◌, ℕ, ℤ, ◌+◌, ◌<◌, ◌≤◌, ◌⊎◌, Bool, true, false, ◌∷◌, ◌++◌, pos, count_by}
 use Rattle.sysv_model.specs.declared.limits.TheConstants.{IPC_PRIVATE}
-use Rattle.sysv_model.specs.Registry.{RegistryCall, RegistryReply, RegistryEntry, RegistryHistory, Settle, Forget, Found, Made, Changed, settled}
+use Rattle.sysv_model.specs.Registry.{RegistryCall, RegistryReply, RegistryEntry, RegistryHistory, Settle, Forget}
+use Rattle.sysv_model.specs.Registry.{Found, Made, Changed, settled}
 use Rattle.sysv_keys.specs.declared.identifier.TheConstants.{GENERATION_LAST}
 use Rattle.sysv_keys.specs.declared.registry.KeyRow.{KeyRow}
 use Rattle.sysv_keys.specs.Identifier.{id_of, slot_of_id}
@@ -34,20 +35,31 @@ pub record RegistryLaw (opening : ℕ) (h : RegistryHistory) : Type 0 where
   -- an identifier that was made is at least 0 and at most 2,147,483,647
   pub whole : (id key : ℤ) → is_made id key h ≡ true → IsIdentifier id
   -- a new identifier is that of the least vacant slot in its generation
-  pub least : (before after : RegistryHistory) (e : RegistryEntry) (id : ℤ) → h ≡ before ++ e ∷ after → e.reply ≡ Made id →
-      IsLeastVacant opening before (slot_of_id id) × (id ≡ id_of (slot_of_id id) (generation opening (slot_of_id id) before))
+  pub least : (before after : RegistryHistory) (e : RegistryEntry) (id : ℤ) → h ≡ before ++ e ∷ after →
+      e.reply ≡ Made id →
+      IsLeastVacant opening before (slot_of_id id)
+      × (id ≡ id_of (slot_of_id id) (generation opening (slot_of_id id) before))
   -- no identifier is made twice
-  pub once : (before middle after : RegistryHistory) (e f : RegistryEntry) (id : ℤ) → h ≡ before ++ e ∷ (middle ++ f ∷ after) → e.reply ≡ Made id → f.reply ≢ Made id
+  pub once : (before middle after : RegistryHistory) (e f : RegistryEntry) (id : ℤ) →
+      h ≡ before ++ e ∷ (middle ++ f ∷ after) → e.reply ≡ Made id → f.reply ≢ Made id
   -- a slot has at most one row, and so has a key that is not private
-  pub one_in_slot : (row twin : KeyRow) → IsRow h row → IsRow h twin → slot_of_id row.id ≡ slot_of_id twin.id → row ≡ twin
-  pub one_of_key : (row twin : KeyRow) → IsRow h row → IsRow h twin → row.key ≢ IPC_PRIVATE → row.key ≡ twin.key → row ≡ twin
+  pub one_in_slot : (row twin : KeyRow) → IsRow h row → IsRow h twin → slot_of_id row.id ≡ slot_of_id twin.id →
+      row ≡ twin
+  pub one_of_key : (row twin : KeyRow) → IsRow h row → IsRow h twin → row.key ≢ IPC_PRIVATE → row.key ≡ twin.key →
+      row ≡ twin
   -- a slot whose generation is past the last is never vacant again
-  pub retired : (before after : RegistryHistory) (slot : ℕ) → h ≡ before ++ after → GENERATION_LAST < generation opening slot before → ¬ IsVacant opening h slot
+  pub retired : (before after : RegistryHistory) (slot : ℕ) → h ≡ before ++ after →
+      GENERATION_LAST < generation opening slot before → ¬ IsVacant opening h slot
   -- the settled count is the number of settles and forgets that returned true
-  pub counted : settled h ≡ count_by (λ (e : RegistryEntry). is_settle e.call e.reply) h + count_by (λ (e : RegistryEntry). is_forget e.call e.reply) h
+  pub counted : settled h
+      ≡ count_by (λ (e : RegistryEntry). is_settle e.call e.reply) h
+      + count_by (λ (e : RegistryEntry). is_forget e.call e.reply) h
   -- an identifier that was settled or forgotten with the result true was made before
   pub known : (before after : RegistryHistory) (e : RegistryEntry) (id : ℤ) → h ≡ before ++ e ∷ after →
-      (settles id e.call e.reply ≡ true) ⊎ (forgets id e.call e.reply ≡ true) → (key : ℤ) × (is_made id key before ≡ true)
+      (settles id e.call e.reply ≡ true) ⊎ (forgets id e.call e.reply ≡ true) →
+      (key : ℤ) × (is_made id key before ≡ true)
   -- an identifier that was forgotten is not made, found, settled or forgotten again
-  pub gone : (before middle after : RegistryHistory) (e f : RegistryEntry) (id : ℤ) → h ≡ before ++ e ∷ (middle ++ f ∷ after) → forgets id e.call e.reply ≡ true →
-      (f.reply ≢ Made id) × ((told : ℕ) → f.reply ≢ Found id told) × (settles id f.call f.reply ≡ false) × (forgets id f.call f.reply ≡ false)
+  pub gone : (before middle after : RegistryHistory) (e f : RegistryEntry) (id : ℤ) →
+      h ≡ before ++ e ∷ (middle ++ f ∷ after) → forgets id e.call e.reply ≡ true →
+      (f.reply ≢ Made id) × ((told : ℕ) → f.reply ≢ Found id told) × (settles id f.call f.reply ≡ false)
+      × (forgets id f.call f.reply ≡ false)

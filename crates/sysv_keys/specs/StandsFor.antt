@@ -39,4 +39,5 @@ pub record MakesTurn (old : Registry) (call : RegistryCall) (reply : RegistryRep
   pub legal : (opening : ℕ) (h : RegistryHistory) → StandsFor opening h old → IsLegalReply opening h call reply
   -- after the call the registry stands for each of those histories with this turn added, whoever
   -- made the turn
-  pub stands : (opening : ℕ) (h : RegistryHistory) (who : Who) → StandsFor opening h old → StandsFor opening (then_turn h who call reply) new
+  pub stands : (opening : ℕ) (h : RegistryHistory) (who : Who) → StandsFor opening h old →
+      StandsFor opening (then_turn h who call reply) new

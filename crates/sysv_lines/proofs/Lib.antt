@@ -1,4 +1,4 @@
-pub mod Naming
+pub mod CallNames
 pub mod LineKinds
-pub mod ReadingCalls
+pub mod CallsReadOnce
 pub mod OneSaying

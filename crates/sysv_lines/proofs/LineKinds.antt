@@ -1,5 +1,7 @@
 -- The kind of a line, by its first two bytes.
-use Rattle.std.proofs.Common.{◌≡◌, ◌≢◌, ◌≤◌, ◌<◌, ℕ, zero, suc, Bool, true, false, List, [], ◌∷◌, ◌++◌, Option, Some, None, MatchOption, length, get_or, cond, nat_eq, codes, inl, inr, sym, ap, subst, ◌∙◌, arith}
+use Rattle.std.proofs.Common.{◌≡◌, ◌≢◌, ◌≤◌, ◌<◌, ℕ, zero, suc, Bool, true, false, List, [], ◌∷◌, ◌++◌, Option, Some}
+use Rattle.std.proofs.Common.{None, MatchOption, length, get_or, cond, nat_eq, codes, inl, inr, sym, ap, subst, ◌∙◌}
+use Rattle.std.proofs.Common.{arith}
 use Rattle.std.specs.Prelude.{Contains}
 use Rattle.std.specs.Char.{digit_value}
 use Rattle.std.specs.Str.Parse.{IsNumeral}
@@ -8,11 +10,13 @@ use Rattle.std.proofs.lemmas.Bool.Decides.{nat_tests}
 use Rattle.sysv_words.specs.Words.{SplitsAt, IsNumber}
 use Rattle.sysv_words.specs.Splitting.{SplitsAt-marked}
 use Rattle.sysv_steps.specs.Call.{SystemCall}
-use Rattle.sysv_lines.specs.Said.{Said, Nothing, MakesPreset, GivesCred, GivesMoment, Starts, StepsOnce, Continues, AllContinue, GivesBlocks}
-use Rattle.sysv_lines.specs.Lines.{IsSkipped, SaysStart, OrderNamed, SaysOrder, TellsAlone, TellsInWords, Tells, Says, order_name}
+use Rattle.sysv_lines.specs.Said.{Said, Nothing, MakesPreset, GivesCred, GivesMoment, Starts, StepsOnce, Continues}
+use Rattle.sysv_lines.specs.Said.{AllContinue, GivesBlocks}
+use Rattle.sysv_lines.specs.Lines.{IsSkipped, SaysStart, OrderNamed, SaysOrder, TellsAlone, TellsInWords, Tells, Says}
+use Rattle.sysv_lines.specs.Lines.{order_name}
 use Rattle.sysv_lines.specs.declared.line.Line.{Line}
 use Rattle.sysv_lines.specs.SaidBy.{said_of}
-use Rattle.sysv_lines.proofs.Naming.{named_order, order_named}
+use Rattle.sysv_lines.proofs.CallNames.{named_order, order_named}
 
 -- The kind of a meaning, as a number.
 abbrev pub kind : Said → ℕ
@@ -30,7 +34,8 @@ kind (Starts who asked true) = 8
 -- The kind of a line, by its first two bytes.
 abbrev pub kind_by : ℕ → ℕ → ℕ
 kind_by a b =
-    cond (nat_eq a 0) 0 (cond (nat_eq a 35) 0 (cond (nat_eq a 112) (cond (nat_eq b 114) 1 9) (cond (nat_eq a 97) (cond (nat_eq b 115) 2 3)
+    cond (nat_eq a 0) 0
+    (cond (nat_eq a 35) 0 (cond (nat_eq a 112) (cond (nat_eq b 114) 1 9) (cond (nat_eq a 97) (cond (nat_eq b 115) 2 3)
     (cond (nat_eq a 110) 4 (cond (nat_eq a 115) 5 (cond (nat_eq a 103) 6 (cond (nat_eq a 43) 7 8)))))))
 
 abbrev pub kind_in : List ℕ → ℕ
@@ -62,7 +67,8 @@ digit_kind a b h =
       below_digits a 43 low (omega arith),
     ) (λ i. 8)
 
-number_kind : (minus : Bool) (a b : ℕ) (word : List ℕ) → nat_eq a 45 ≡ minus → IsNumeral 10 (cond minus word (a ∷ word)) → kind_by a b ≡ 8
+number_kind : (minus : Bool) (a b : ℕ) (word : List ℕ) → nat_eq a 45 ≡ minus →
+    IsNumeral 10 (cond minus word (a ∷ word)) → kind_by a b ≡ 8
 number_kind true a b word e h = let same : a ≡ 45 = grind (arith, nat_tests, e) in starts_number a b same
 number_kind false a b word e h = digit_kind a b h.1.0
 
@@ -81,7 +87,8 @@ skipped_kind : (line : List ℕ) → IsSkipped line → kind_in line ≡ 0
 skipped_kind line (inl e) = ap kind_in e
 skipped_kind line (inr (comment, e)) = ap kind_in e
 
-order_said : (line : List ℕ) (said : Said) (k : ℕ) → 2 ≤ length (order_name said) → kind_in (order_name said) ≡ k → SaysOrder line said → kind_in line ≡ k
+order_said : (line : List ℕ) (said : Said) (k : ℕ) → 2 ≤ length (order_name said) → kind_in (order_name said) ≡ k →
+    SaysOrder line said → kind_in line ≡ k
 order_said line said k long e h = ap kind_in h.split.whole ∙ (order_kind (order_name said) h.rest long ∙ e)
 
 -- A line is of the kind of its meaning.
@@ -136,13 +143,15 @@ words_alone line (StepsOnce who) plain h = absurd (plain (SplitsAt-marked 32 lin
 words_alone line (Continues who) plain h = absurd (plain (SplitsAt-marked 32 line _ h.rest h.split))
 
 -- A line without a space.
-pub one_word : (line : List ℕ) (r : Option Line) → ¬ Contains line 32 → MatchOption r ((said : Said) → ¬ TellsAlone line said) (λ u. TellsAlone line (said_of u)) →
+pub one_word : (line : List ℕ) (r : Option Line) → ¬ Contains line 32 →
+    MatchOption r ((said : Said) → ¬ TellsAlone line said) (λ u. TellsAlone line (said_of u)) →
     MatchOption r ((said : Said) → ¬ TellsInWords line said) (λ u. TellsInWords line (said_of u))
 one_word line None plain none = λ said h. none said (words_alone line said plain h)
 one_word line (Some u) plain says = alone_in_words line (said_of u) says
 
 -- A line of a name and its arguments.
-pub order_in_words : (line name rest : List ℕ) (said : Said) → SplitsAt 32 line name rest → OrderNamed name rest said → TellsInWords line said
+pub order_in_words : (line name rest : List ℕ) (said : Said) → SplitsAt 32 line name rest → OrderNamed name rest said →
+    TellsInWords line said
 order_in_words line name rest (GivesCred who cred) split h = named_order line name rest (GivesCred who cred) split h
 order_in_words line name rest (GivesBlocks blocks) split h = named_order line name rest (GivesBlocks blocks) split h
 order_in_words line name rest (GivesMoment moment) split h = named_order line name rest (GivesMoment moment) split h
@@ -169,18 +178,26 @@ unspaced_all (suc (suc zero), h, e) = omega (arith, e)
 unspaced_all (suc (suc (suc k)), h, e) = omega arith
 
 -- A line that is no name with arguments and starts no call.
-pub nothing_in_words : (line name rest : List ℕ) → SplitsAt 32 line name rest → ((said : Said) → ¬ OrderNamed name rest said) →
+pub nothing_in_words : (line name rest : List ℕ) → SplitsAt 32 line name rest →
+    ((said : Said) → ¬ OrderNamed name rest said) →
     ((who : ℕ) (asked : SystemCall) → ¬ SaysStart line who asked) → (said : Said) → ¬ TellsInWords line said
 nothing_in_words line name rest split orders starts Nothing h = elim h [ ]
 nothing_in_words line name rest split orders starts (Starts who asked false) h = elim h [ ]
-nothing_in_words line name rest split orders starts MakesPreset h = unspaced_preset (subst (λ (l : List ℕ). Contains l 32) h (SplitsAt-marked 32 line name rest split))
-nothing_in_words line name rest split orders starts AllContinue h = unspaced_all (subst (λ (l : List ℕ). Contains l 32) h (SplitsAt-marked 32 line name rest split))
+nothing_in_words line name rest split orders starts MakesPreset h =
+    unspaced_preset (subst (λ (l : List ℕ). Contains l 32) h (SplitsAt-marked 32 line name rest split))
+nothing_in_words line name rest split orders starts AllContinue h =
+    unspaced_all (subst (λ (l : List ℕ). Contains l 32) h (SplitsAt-marked 32 line name rest split))
 nothing_in_words line name rest split orders starts (Starts who asked true) h = starts who asked h
-nothing_in_words line name rest split orders starts (GivesCred who cred) h = orders _ (order_named line name rest (GivesCred who cred) split h)
-nothing_in_words line name rest split orders starts (GivesBlocks blocks) h = orders _ (order_named line name rest (GivesBlocks blocks) split h)
-nothing_in_words line name rest split orders starts (GivesMoment moment) h = orders _ (order_named line name rest (GivesMoment moment) split h)
-nothing_in_words line name rest split orders starts (StepsOnce who) h = orders _ (order_named line name rest (StepsOnce who) split h)
-nothing_in_words line name rest split orders starts (Continues who) h = orders _ (order_named line name rest (Continues who) split h)
+nothing_in_words line name rest split orders starts (GivesCred who cred) h =
+    orders _ (order_named line name rest (GivesCred who cred) split h)
+nothing_in_words line name rest split orders starts (GivesBlocks blocks) h =
+    orders _ (order_named line name rest (GivesBlocks blocks) split h)
+nothing_in_words line name rest split orders starts (GivesMoment moment) h =
+    orders _ (order_named line name rest (GivesMoment moment) split h)
+nothing_in_words line name rest split orders starts (StepsOnce who) h =
+    orders _ (order_named line name rest (StepsOnce who) split h)
+nothing_in_words line name rest split orders starts (Continues who) h =
+    orders _ (order_named line name rest (Continues who) split h)
 
 -- ---- the line as a whole
 
@@ -188,19 +205,25 @@ pub tail_same : (x : ℕ) (line a b : List ℕ) → line ≡ x ∷ a → line �
 tail_same x line a b h k = cc
 
 -- A line whose `+` is not followed by the start of a call has no meaning.
-pub nothing_behind_plus : (line words : List ℕ) → line ≡ 43 ∷ words → ((who : ℕ) (asked : SystemCall) → ¬ SaysStart words who asked) → (said : Said) → ¬ Says line said
+pub nothing_behind_plus : (line words : List ℕ) → line ≡ 43 ∷ words →
+    ((who : ℕ) (asked : SystemCall) → ¬ SaysStart words who asked) → (said : Said) → ¬ Says line said
 nothing_behind_plus line words e none (Starts who asked false) h =
     none who asked (subst (λ (l : List ℕ). SaysStart l who asked) (tail_same 43 line h.1.0 words h.1.1 e) h.1.2)
 nothing_behind_plus line words e none said h = let k = sym (ap kind_in e) ∙ kind_said line said h.1 in omega (arith, k)
 
 -- A line that is not skipped and has no `+` before it.
-kept_line : (line : List ℕ) → 1 ≤ length line → get_or line 0 0 ≢ 35 → get_or line 0 0 ≢ 43 → (¬ IsSkipped line) × ((words : List ℕ) → ¬ (line ≡ 43 ∷ words))
+kept_line : (line : List ℕ) → 1 ≤ length line → get_or line 0 0 ≢ 35 → get_or line 0 0 ≢ 43 →
+    (¬ IsSkipped line) × ((words : List ℕ) → ¬ (line ≡ 43 ∷ words))
 kept_line line long hash plus = (
-  λ skipped. elim skipped [ inl e ↦ let short : length line ≡ 0 = ap length e in omega (arith, long, short) | inr h ↦ hash (ap (λ (l : List ℕ). get_or l 0 0) h.1) ],
+  λ skipped. elim skipped [
+    | inl e ↦ let short : length line ≡ 0 = ap length e in omega (arith, long, short)
+    | inr h ↦ hash (ap (λ (l : List ℕ). get_or l 0 0) h.1)
+  ],
   λ words e. plus (ap (λ (l : List ℕ). get_or l 0 0) e),
 )
 
-pub in_words_only : (line : List ℕ) (said : Said) → ¬ IsSkipped line → ((words : List ℕ) → ¬ (line ≡ 43 ∷ words)) → Tells line said → TellsInWords line said
+pub in_words_only : (line : List ℕ) (said : Said) → ¬ IsSkipped line → ((words : List ℕ) → ¬ (line ≡ 43 ∷ words)) →
+    Tells line said → TellsInWords line said
 in_words_only line Nothing kept plain h = absurd (kept h)
 in_words_only line (Starts who asked false) kept plain h = absurd (plain h.0 h.1)
 in_words_only line MakesPreset kept plain h = h
@@ -212,8 +235,10 @@ in_words_only line (GivesBlocks blocks) kept plain h = h
 in_words_only line (StepsOnce who) kept plain h = h
 in_words_only line (Continues who) kept plain h = h
 
-pub line_in_words : (line : List ℕ) (r : Option Line) → length line ≤ 9000 → 1 ≤ length line → get_or line 0 0 ≢ 35 → get_or line 0 0 ≢ 43 →
+pub line_in_words : (line : List ℕ) (r : Option Line) → length line ≤ 9000 → 1 ≤ length line → get_or line 0 0 ≢ 35 →
+    get_or line 0 0 ≢ 43 →
     MatchOption r ((said : Said) → ¬ TellsInWords line said) (λ u. TellsInWords line (said_of u)) →
     MatchOption r ((said : Said) → ¬ Says line said) (λ u. Says line (said_of u))
-line_in_words line None short long hash plus none = λ said h. let kept = kept_line line long hash plus in none said (in_words_only line said kept.0 kept.1 h.1)
+line_in_words line None short long hash plus none = λ said h.
+    let kept = kept_line line long hash plus in none said (in_words_only line said kept.0 kept.1 h.1)
 line_in_words line (Some u) short long hash plus says = (short, in_words line (said_of u) says)

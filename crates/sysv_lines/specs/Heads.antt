@@ -5,11 +5,14 @@ use Rattle.sysv_model.specs.Errors.{name_of}
 use Rattle.sysv_model.specs.declared.attributes.Perm.{Perm}
 use Rattle.sysv_model.specs.declared.attributes.Stat.{Stat}
 use Rattle.sysv_lines.specs.declared.names.Operation.{Operation}
-use Rattle.sysv_lines.specs.declared.names.Operation.TheVariants.{Get, Send, Receive, Stat as OfStat, Set as OfSet, Remove as OfRemove}
+use Rattle.sysv_lines.specs.declared.names.Operation.TheVariants.{Get, Send, Receive, Stat as OfStat, Set as OfSet}
+use Rattle.sysv_lines.specs.declared.names.Operation.TheVariants.{Remove as OfRemove}
 use Rattle.sysv_lines.specs.declared.names.Step.{Step}
-use Rattle.sysv_lines.specs.declared.names.Step.TheVariants.{Begin, Install, Settle, Probe, Forget, Look, Reserve, Place, Giveback, Take, Stat as AtStat, Set as AtSet, Remove as AtRemove}
-use Rattle.sysv_lines.specs.declared.told.Told.{Told}
-use Rattle.sysv_lines.specs.declared.told.Told.TheVariants.{Id, Zero, Got, Stat as IsStat, Refused}
+use Rattle.sysv_lines.specs.declared.names.Step.TheVariants.{Begin, Install, Settle, Probe, Forget, Look, Reserve}
+use Rattle.sysv_lines.specs.declared.names.Step.TheVariants.{Place, Giveback, Take, Stat as AtStat, Set as AtSet}
+use Rattle.sysv_lines.specs.declared.names.Step.TheVariants.{Remove as AtRemove}
+use Rattle.sysv_steps.specs.declared.outcome.Outcome.{Outcome}
+use Rattle.sysv_steps.specs.declared.outcome.Outcome.TheVariants.{Id, Zero, Got, Stat as IsStat, Refused}
 use Rattle.sysv_lines.specs.declared.head.Head.{Head}
 use Rattle.sysv_lines.specs.declared.head.Head.TheVariants.{Answers, At, Waits, Busy, Idle, Worn, Bad}
 
@@ -45,7 +48,8 @@ mode_text mode = decimal (mode / 64 % 8) ++ decimal (mode / 8 % 8) ++ decimal (m
 -- The owner, the creator and the mode of a queue.
 unfoldable pub perm_text : Perm → List ℕ
 perm_text p =
-    codes "uid " ++ decimal p.uid ++ codes " gid " ++ decimal p.gid ++ codes " cuid " ++ decimal p.cuid ++ codes " cgid " ++ decimal p.cgid
+    codes "uid " ++ decimal p.uid ++ codes " gid " ++ decimal p.gid ++ codes " cuid " ++ decimal p.cuid
+    ++ codes " cgid " ++ decimal p.cgid
     ++ codes " mode " ++ mode_text p.mode
 
 -- The queued bytes and messages, the limit and the process numbers of a queue.
@@ -56,24 +60,28 @@ counts_text s =
 
 -- The times of a queue.
 unfoldable pub times_text : Stat → List ℕ
-times_text s = codes "stime " ++ decimal s.stime ++ codes " rtime " ++ decimal s.rtime ++ codes " ctime " ++ decimal s.ctime
+times_text s =
+    codes "stime " ++ decimal s.stime ++ codes " rtime " ++ decimal s.rtime ++ codes " ctime " ++ decimal s.ctime
 
 -- All attributes of a queue.
 abbrev pub stat_text : Stat → List ℕ
-stat_text s = codes "key " ++ signed_decimal s.key ++ codes " " ++ perm_text s.perm ++ codes " " ++ counts_text s ++ codes " " ++ times_text s
+stat_text s = codes "key " ++ signed_decimal s.key ++ codes " " ++ perm_text s.perm ++ codes " " ++ counts_text s
+    ++ codes " " ++ times_text s
 
--- The result of a call.
-abbrev pub told_text : Told → List ℕ
-told_text (Id id) = codes "= " ++ signed_decimal id
-told_text Zero = codes "= 0"
-told_text (Got len mtype) = codes "= " ++ decimal len ++ codes " type " ++ signed_decimal mtype ++ codes " ="
-told_text (IsStat stat) = codes "= " ++ stat_text stat
-told_text (Refused why) = codes "! " ++ name_of why
+-- The outcome of a call.
+abbrev pub outcome_text : Outcome → List ℕ
+outcome_text (Id id) = codes "= " ++ signed_decimal id
+outcome_text Zero = codes "= 0"
+outcome_text (Got mtype len) = codes "= " ++ decimal len ++ codes " type " ++ signed_decimal mtype ++ codes " ="
+outcome_text (IsStat stat) = codes "= " ++ stat_text stat
+outcome_text (Refused why) = codes "! " ++ name_of why
 
 -- A line, without the bytes of a message.
 abbrev pub head_text : Head → List ℕ
-head_text (Answers actor operation told) = decimal actor ++ codes " " ++ operation_name operation ++ codes " " ++ told_text told
-head_text (At actor operation step) = decimal actor ++ codes " " ++ operation_name operation ++ codes " at " ++ step_name step
+head_text (Answers actor operation outcome) =
+    decimal actor ++ codes " " ++ operation_name operation ++ codes " " ++ outcome_text outcome
+head_text (At actor operation step) =
+    decimal actor ++ codes " " ++ operation_name operation ++ codes " at " ++ step_name step
 head_text (Waits actor operation) = decimal actor ++ codes " " ++ operation_name operation ++ codes " waits"
 head_text (Busy actor) = decimal actor ++ codes " busy"
 head_text (Idle actor) = decimal actor ++ codes " idle"

@@ -11,7 +11,10 @@ use Rattle.sysv_lines.specs.declared.actor.Actor.{Actor}
 use Rattle.sysv_lines.specs.declared.blocks.Blocks.{Blocks}
 use Rattle.sysv_lines.specs.declared.actor.TheConstants.{SCRIPT_ACTORS}
 use Rattle.sysv_lines.specs.declared.line.TheConstants.{LINE_BYTES}
-use Rattle.sysv_lines.specs.Said.{Said, Nothing, MakesPreset, GivesCred, GivesMoment, Starts, StepsOnce, Continues, AllContinue, GivesBlocks}
+use Rattle.sysv_lines.specs.Heads.{operation_name}
+use Rattle.sysv_lines.specs.Names.{operation_of}
+use Rattle.sysv_lines.specs.Said.{Said, Nothing, MakesPreset, GivesCred, GivesMoment, Starts, StepsOnce, Continues}
+use Rattle.sysv_lines.specs.Said.{AllContinue, GivesBlocks}
 
 -- The word is the number of an actor, 1 to 16.
 pub record IsActor (word : List ℕ) (actor : Actor) : Type 0 where
@@ -48,12 +51,7 @@ SaysText body text = (length text ≤ BODY_ROOM) × ((body ≡ 61 ∷ text) ⊎ 
 
 -- The name of a call in a script.
 abbrev pub call_name : SystemCall → List ℕ
-call_name (Msgget key flags) = codes "get"
-call_name (Msgsnd id mtype flags text) = codes "snd"
-call_name (Msgrcv id size mtype flags) = codes "rcv"
-call_name (MsgctlStat id) = codes "stat"
-call_name (MsgctlSet id to) = codes "set"
-call_name (MsgctlRmid id) = codes "rm"
+call_name asked = operation_name (operation_of asked)
 
 -- These permission bits.
 abbrev pub octal : ℕ → Octal
@@ -63,11 +61,14 @@ octal mode = record { 0 = mode }
 -- UID GID MODE QBYTES`, `ID`.
 abbrev pub SaysArguments : List ℕ → SystemCall → Type 0
 SaysArguments words (Msgget key flags) = Pair IsInt32 IsFlagList words (key, flags)
-SaysArguments words (Msgsnd id mtype flags text) = Pair IsInt32 (Pair IsInt64 (Pair IsFlagList SaysText)) words (id, (mtype, (flags, text)))
-SaysArguments words (Msgrcv id size mtype flags) = Pair IsInt32 (Pair IsNat32 (Pair IsInt64 IsFlagList)) words (id, (size, (mtype, flags)))
+SaysArguments words (Msgsnd id mtype flags text) =
+    Pair IsInt32 (Pair IsInt64 (Pair IsFlagList SaysText)) words (id, (mtype, (flags, text)))
+SaysArguments words (Msgrcv id size mtype flags) =
+    Pair IsInt32 (Pair IsNat32 (Pair IsInt64 IsFlagList)) words (id, (size, (mtype, flags)))
 SaysArguments words (MsgctlStat id) = IsInt32 words id
 SaysArguments words (MsgctlSet id to) =
-    Pair IsInt32 (Pair IsNat32 (Pair IsNat32 (Pair IsOctal IsNat32))) words (id, (to.uid, (to.gid, (octal to.mode, to.qbytes))))
+    Pair IsInt32 (Pair IsNat32 (Pair IsNat32 (Pair IsOctal IsNat32))) words
+    (id, (to.uid, (to.gid, (octal to.mode, to.qbytes))))
 SaysArguments words (MsgctlRmid id) = IsInt32 words id
 
 -- The call has this name and these arguments.
@@ -102,7 +103,8 @@ order_name AllContinue = []
 -- The words after the name: `N`, `ACTOR UID GID PID`, `T`, `ACTOR`, `ACTOR`.
 abbrev pub SaysOrderArguments : List ℕ → Said → Type 0
 SaysOrderArguments words (GivesBlocks blocks) = IsBlocks words (of_blocks blocks)
-SaysOrderArguments words (GivesCred who cred) = Pair IsActor (Pair IsNat32 (Pair IsNat32 IsNat32)) words (actor who, (cred.uid, (cred.gid, cred.pid)))
+SaysOrderArguments words (GivesCred who cred) =
+    Pair IsActor (Pair IsNat32 (Pair IsNat32 IsNat32)) words (actor who, (cred.uid, (cred.gid, cred.pid)))
 SaysOrderArguments words (GivesMoment moment) = IsNat64 words moment
 SaysOrderArguments words (StepsOnce who) = IsActor words (actor who)
 SaysOrderArguments words (Continues who) = IsActor words (actor who)

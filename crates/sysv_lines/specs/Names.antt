@@ -3,9 +3,23 @@
 use Rattle.std.specs.Prelude.{ℕ, List, ◌++◌, codes}
 use Rattle.std.specs.Fmt.{decimal}
 use Rattle.sysv_lines.specs.declared.names.Operation.{Operation}
-use Rattle.sysv_lines.specs.declared.names.Operation.TheVariants.{Get, Send, Receive, Stat as OfStat, Set as OfSet, Remove as OfRemove}
+use Rattle.sysv_lines.specs.declared.names.Operation.TheVariants.{Get, Send, Receive, Stat as OfStat, Set as OfSet}
+use Rattle.sysv_lines.specs.declared.names.Operation.TheVariants.{Remove as OfRemove}
 use Rattle.sysv_lines.specs.Heads.{operation_name}
-use Rattle.sysv_steps.specs.State.{Wait, OnSettled, OnFreed, OnReleased, OnArrived, Phase, AtBegin, AtInstall, AtSettle, AtProbe, AtUnmake, AtLook, AtReserve, AtPlace, AtSendGiveback, AtTake, AtReceiveGiveback, AtStat, AtSet, AtSetGiveback, AtRemove, AtForget, AtRemoveGiveback, State, Goes, Waits, Over}
+use Rattle.sysv_steps.specs.Call.{SystemCall, Msgget, Msgsnd, Msgrcv, MsgctlStat, MsgctlSet, MsgctlRmid}
+use Rattle.sysv_steps.specs.State.{Wait, OnSettled, OnFreed, OnReleased, OnArrived, Phase, AtBegin, AtInstall, AtSettle}
+use Rattle.sysv_steps.specs.State.{AtProbe, AtUnmake, AtLook, AtReserve, AtPlace, AtSendGiveback, AtTake}
+use Rattle.sysv_steps.specs.State.{AtReceiveGiveback, AtStat, AtSet, AtSetGiveback, AtRemove, AtForget}
+use Rattle.sysv_steps.specs.State.{AtRemoveGiveback, State, Goes, Waits, Over}
+
+-- The kind of a call, by its arguments.
+abbrev pub operation_of : SystemCall → Operation
+operation_of (Msgget key flags) = Get
+operation_of (Msgsnd id mtype flags text) = Send
+operation_of (Msgrcv id size mtype flags) = Receive
+operation_of (MsgctlStat id) = OfStat
+operation_of (MsgctlSet id to) = OfSet
+operation_of (MsgctlRmid id) = OfRemove
 
 -- The kind of the call that is before this step.
 abbrev pub operation_at : Phase → Operation
@@ -56,6 +70,8 @@ operation_of_wait (OnArrived goal receive) = Receive
 
 -- The line for an actor whose call is in this state.
 abbrev pub standing_text : ℕ → State → List ℕ
-standing_text actor (Goes phase) = decimal actor ++ codes " " ++ operation_name (operation_at phase) ++ codes " at " ++ step_in phase
-standing_text actor (Waits wait) = decimal actor ++ codes " " ++ operation_name (operation_of_wait wait) ++ codes " waits"
+standing_text actor (Goes phase) =
+    decimal actor ++ codes " " ++ operation_name (operation_at phase) ++ codes " at " ++ step_in phase
+standing_text actor (Waits wait) =
+    decimal actor ++ codes " " ++ operation_name (operation_of_wait wait) ++ codes " waits"
 standing_text actor (Over ending) = decimal actor ++ codes " idle"

@@ -6,9 +6,9 @@ ghost use Rattle.sysv_lines.specs.Names.{standing_text};
 ghost use Rattle.sysv_lines.specs.Heads.{head_text};
 
 use crate::names::{Operation, Step};
-use crate::told::Told;
+use crate::printed::Printed;
 use std::fmt;
-use sysv_steps::{Phase, Wait};
+use sysv_steps::{Outcome, Phase, Wait};
 
 /// A line of the output, without the bytes of a message that may follow.
 #[derive(Clone, Copy)]
@@ -17,7 +17,7 @@ pub enum Head {
     Answers {
         actor: u32,
         operation: Operation,
-        told: Told,
+        outcome: Outcome,
     },
     /// A call of the actor is before this step.
     At {
@@ -81,8 +81,8 @@ impl fmt::Display for Head {
             Head::Answers {
                 actor,
                 operation,
-                told,
-            } => write!(f, "{actor} {operation} {told}"),
+                outcome,
+            } => write!(f, "{actor} {operation} {}", Printed(*outcome)),
             Head::At {
                 actor,
                 operation,

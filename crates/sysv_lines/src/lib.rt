@@ -4,18 +4,17 @@
 
 mod actor;
 mod blocks;
+mod call;
 mod head;
 mod laws;
 mod line;
 mod names;
-mod request;
-mod told;
+mod printed;
 
 pub use actor::{Actor, SCRIPT_ACTORS};
 pub use blocks::Blocks;
+pub use call::Text;
 pub use head::Head;
 pub use laws::{each_line_is_decided, numerals_of_lines, one_saying};
 pub use line::{LINE_BYTES, Line, line_of};
 pub use names::{Operation, Step};
-pub use request::{Request, Text};
-pub use told::Told;

@@ -3,12 +3,13 @@ ghost use Rattle.std.specs.Prelude.{ℕ, codes, IfSome, MatchOption};
 ghost use Rattle.sysv_steps.specs.Call.{SystemCall};
 ghost use Rattle.sysv_lines.specs.Said.{Said};
 ghost use Rattle.sysv_lines.specs.Lines.{OrderNamed, SaysStart, TellsAlone, TellsInWords, Says};
-ghost use Rattle.sysv_lines.specs.SaidBy.{IsOfActors, RequestFits, LineFits, call_asked, said_of};
+ghost use Rattle.sysv_lines.specs.SaidBy.{IsOfActors, CallFits, LineFits, call_asked, said_of};
 
 use crate::actor::Actor;
 use crate::blocks::Blocks;
-use crate::request::{Request, request_of};
+use crate::call::{Text, call_of};
 use sysv_model::Cred;
+use sysv_steps::Call;
 use sysv_words::{Reads, first, split_at_mark};
 
 /// The maximum length of a line in bytes, without its LF.
@@ -36,7 +37,7 @@ pub enum Line<'a> {
     /// its first step.
     Start {
         actor: u32,
-        request: Request<'a>,
+        call: Call<Text<'a>, ()>,
         goes: bool,
     },
     /// `step`: an actor makes one step of its call.
@@ -63,10 +64,10 @@ pub fn line_of(line: &[u8]) -> Option<Line<'_>>
     match line {
         [] | [b'#', ..] => Some(Line::Skipped),
         [b'+', words @ ..] => {
-            let (actor, request) = start_of(words)?;
+            let (actor, call) = start_of(words)?;
             Some(Line::Start {
                 actor,
-                request,
+                call,
                 goes: false,
             })
         }
@@ -86,10 +87,10 @@ fn words_of(line: &[u8]) -> Option<Line<'_>>
     if let Some(order) = order_of(name, words) {
         return Some(order);
     }
-    let (actor, request) = start_of(line)?;
+    let (actor, call) = start_of(line)?;
     Some(Line::Start {
         actor,
-        request,
+        call,
         goes: true,
     })
 }
@@ -190,13 +191,13 @@ fn go_of(arguments: &[u8]) -> Option<Line<'_>>
 }
 
 /// Reads an actor and the call that it starts.
-fn start_of(words: &[u8]) -> Option<(u32, Request<'_>)>
+fn start_of(words: &[u8]) -> Option<(u32, Call<Text<'_>, ()>)>
     ensures says { MatchOption result ((who : ℕ) (asked : SystemCall) →
         ¬ SaysStart words.now who asked) (λ start.
         SaysStart words.now start.0 (call_asked start.1)) }
-    ensures fits { IfSome result (λ start. IsOfActors start.0 × RequestFits start.1) }
+    ensures fits { IfSome result (λ start. IsOfActors start.0 × CallFits start.1) }
 {
     let (Actor(actor), words) = first::<Actor>(words)?;
-    let request = request_of(words)?;
-    Some((actor, request))
+    let call = call_of(words)?;
+    Some((actor, call))
 }

@@ -1,11 +1,13 @@
 //! The names of calls and their steps in a script.
 ghost use Rattle.std.specs.Prelude.{◌≡◌, ℕ, List, Some};
 ghost use Rattle.sysv_steps.specs.Seen.{phase_of, wait_of};
-ghost use Rattle.sysv_lines.specs.Names.{operation_at, operation_of_wait, step_in};
+ghost use Rattle.sysv_lines.specs.Names.{operation_at, operation_of, operation_of_wait, step_in};
+ghost use Rattle.sysv_lines.specs.SaidBy.{call_asked};
 ghost use Rattle.sysv_lines.specs.Heads.{operation_name, step_name};
 
+use crate::call::Text;
 use std::fmt;
-use sysv_steps::{Phase, Wait};
+use sysv_steps::{Call, Phase, Wait};
 
 /// The kind of a call.
 #[derive(Clone, Copy)]
@@ -25,6 +27,20 @@ pub enum Operation {
 }
 
 impl Operation {
+    /// Returns the kind of the call that a line starts.
+    pub fn of_call(call: &Call<Text<'_>, ()>) -> Operation
+        ensures { result ≡ operation_of (call_asked call.now) }
+    {
+        match call {
+            Call::Get { .. } => Operation::Get,
+            Call::Send { .. } => Operation::Send,
+            Call::Receive { .. } => Operation::Receive,
+            Call::Stat { .. } => Operation::Stat,
+            Call::Set { .. } => Operation::Set,
+            Call::Remove { .. } => Operation::Remove,
+        }
+    }
+
     /// Returns the kind of the call that is before this step.
     pub fn of_phase(phase: &Phase) -> Operation
         ensures { (text : List ℕ) → result ≡ operation_at (phase_of phase.now text) }

@@ -36,11 +36,13 @@ pub once_between-same : (n x : ℕ) → once_between n n x ≡ 0
 once_between-same n x = grind (arith, nat_tests)
 
 -- One more number at the end.
-pub once_between-next : (from n x : ℕ) → from ≤ n → once_between from (n + 1) x ≡ once_between from n x + cond (n == x) 1 0
+pub once_between-next : (from n x : ℕ) → from ≤ n →
+    once_between from (n + 1) x ≡ once_between from n x + cond (n == x) 1 0
 once_between-next from n x le = grind (arith, nat_tests)
 
 -- One number less at the start.
-pub once_between-drop : (from n x : ℕ) → from < n → once_between from n x ≡ once_between (from + 1) n x + cond (from == x) 1 0
+pub once_between-drop : (from n x : ℕ) → from < n →
+    once_between from n x ≡ once_between (from + 1) n x + cond (from == x) 1 0
 once_between-drop from n x less = grind (arith, nat_tests)
 
 pub once_between-le : (from n x : ℕ) → once_between from n x ≤ 1

@@ -1,5 +1,6 @@
 -- The elements of a list by their place, and properties of each of them.
-use Rattle.std.proofs.Common.{◌≡◌, ◌≢◌, ℕ, zero, suc, ◌<◌, ◌⊎◌, inl, inr, ⊎_elim, List, [], ◌∷◌, ◌++◌, length, set, sym, refl, ap, ◌∙◌, subst, arith}
+use Rattle.std.proofs.Common.{◌≡◌, ◌≢◌, ℕ, zero, suc, ◌<◌, ◌⊎◌, inl, inr, ⊎_elim, List, [], ◌∷◌, ◌++◌, length, set, sym}
+use Rattle.std.proofs.Common.{refl, ap, ◌∙◌, subst, arith}
 use mathlib.Core.Logic.{dite}
 use native.Mathlib.Decide.{ℕ_discrete}
 use mathlib.Core.Option.{some, some-injective, some-ne-none}
@@ -17,7 +18,8 @@ module _ {A : Type 0} where
   there (x ∷ xs) zero less = (x, refl)
   there (x ∷ xs) (suc i) less = there xs i (omega arith)
 
-  pub at_snoc_place : (xs : List A) (b a : A) (k : ℕ) → get_elem? (xs ++ b ∷ []) k ≡ some a → (get_elem? xs k ≡ some a) ⊎ ((k ≡ length xs) × (b ≡ a))
+  pub at_snoc_place : (xs : List A) (b a : A) (k : ℕ) → get_elem? (xs ++ b ∷ []) k ≡ some a →
+      (get_elem? xs k ≡ some a) ⊎ ((k ≡ length xs) × (b ≡ a))
   at_snoc_place [] b a zero at = inr (refl, some-injective b a at)
   at_snoc_place [] b a (suc k) at = absurd (some-ne-none a (sym at))
   at_snoc_place (x ∷ xs) b a zero at = inl at
@@ -29,13 +31,15 @@ module _ {A : Type 0} where
   set_at (x ∷ xs) (suc i) a b at = set_at xs i a b at
 
   -- An element after one was replaced is the new one or was there before.
-  pub at_set : (xs : List A) (i k : ℕ) (b a : A) → get_elem? (set xs i b) k ≡ some a → ((k ≡ i) × (b ≡ a)) ⊎ ((k ≢ i) × (get_elem? xs k ≡ some a))
+  pub at_set : (xs : List A) (i k : ℕ) (b a : A) → get_elem? (set xs i b) k ≡ some a →
+      ((k ≡ i) × (b ≡ a)) ⊎ ((k ≢ i) × (get_elem? xs k ≡ some a))
   at_set [] i k b a at = absurd (some-ne-none a (sym at))
   at_set (x ∷ xs) zero zero b a at = inl (refl, some-injective b a at)
   at_set (x ∷ xs) zero (suc k) b a at = inr ((λ e. omega arith), at)
   at_set (x ∷ xs) (suc i) zero b a at = inr ((λ e. omega arith), at)
   at_set (x ∷ xs) (suc i) (suc k) b a at =
-      ⊎_elim (λ t. inl (ap suc t.0, t.1)) (λ t. let apart = t.0 in inr ((λ e. apart (omega arith)), t.1)) (at_set xs i k b a at)
+      ⊎_elim (λ t. inl (ap suc t.0, t.1)) (λ t. let apart = t.0 in inr ((λ e. apart (omega arith)), t.1))
+      (at_set xs i k b a at)
 
   pub set_else : (xs : List A) (i k : ℕ) (b : A) → k ≢ i → get_elem? (set xs i b) k ≡ get_elem? xs k
   set_else [] i k b apart = refl
@@ -50,8 +54,10 @@ module _ {A : Type 0} where
 
   -- What holds of each element holds after one of them was replaced.
   pub each_set : (P Q : A → Type 0) (xs : List A) (i : ℕ) (b : A) → ((k : ℕ) (a : A) → get_elem? xs k ≡ some a → P a)
-      → ((k : ℕ) (a : A) → k ≢ i → get_elem? xs k ≡ some a → P a → Q a) → Q b → (k : ℕ) (a : A) → get_elem? (set xs i b) k ≡ some a → Q a
-  each_set P Q xs i b all goes here k a at = ⊎_elim (λ t. subst Q t.1 here) (λ t. goes k a t.0 t.1 (all k a t.1)) (at_set xs i k b a at)
+      → ((k : ℕ) (a : A) → k ≢ i → get_elem? xs k ≡ some a → P a → Q a) → Q b → (k : ℕ) (a : A)
+      → get_elem? (set xs i b) k ≡ some a → Q a
+  each_set P Q xs i b all goes here k a at =
+      ⊎_elim (λ t. subst Q t.1 here) (λ t. goes k a t.0 t.1 (all k a t.1)) (at_set xs i k b a at)
 
   -- What holds of each element holds after one was appended.
   pub each_snoc : (P : A → Type 0) (xs : List A) (b : A) → ((k : ℕ) (a : A) → get_elem? xs k ≡ some a → P a) → P b
@@ -59,7 +65,9 @@ module _ {A : Type 0} where
   each_snoc P xs b all here k a at = ⊎_elim (λ t. all k a t) (λ t. subst P t.1 here) (at_snoc_place xs b a k at)
 
   -- What holds of each element after one was replaced held before, if it held of the replaced one.
-  pub each_before : (P : A → Type 0) (xs : List A) (i : ℕ) (a b : A) → get_elem? xs i ≡ some a → ((k : ℕ) (c : A) → get_elem? (set xs i b) k ≡ some c → P c) → P a
+  pub each_before : (P : A → Type 0) (xs : List A) (i : ℕ) (a b : A) → get_elem? xs i ≡ some a
+      → ((k : ℕ) (c : A) → get_elem? (set xs i b) k ≡ some c → P c) → P a
       → (k : ℕ) (c : A) → get_elem? xs k ≡ some c → P c
   each_before P xs i a b at all here k c there =
-      dite (ℕ_discrete k i) (λ e. subst P (sym (one_there xs i k a c e at there)) here) (λ ne. all k c (set_else xs i k b ne ∙ there))
+      dite (ℕ_discrete k i) (λ e. subst P (sym (one_there xs i k a c e at there)) here)
+      (λ ne. all k c (set_else xs i k b ne ∙ there))

@@ -1,5 +1,6 @@
 -- Prefixes of prefixes, of longer lists, and of the same length.
-use Rattle.std.proofs.Common.{◌≡◌, ℕ, ◌+◌, ◌≤◌, List, [], ◌∷◌, ◌++◌, length, take, drop, sym, ap, ◌∙◌, arith, append_assoc, length-append, take-append-drop}
+use Rattle.std.proofs.Common.{◌≡◌, ℕ, ◌+◌, ◌≤◌, List, [], ◌∷◌, ◌++◌, length, take, drop, sym, ap, ◌∙◌, arith}
+use Rattle.std.proofs.Common.{append_assoc, length-append, take-append-drop}
 use Rattle.std.proofs.lemmas.List.{append-nil, nil_from_length}
 use Rattle.sysv_lists.specs.Prefix.{IsPrefixOf}
 
@@ -19,7 +20,8 @@ module _ {A : Type 0} where
   prefix_take count xs = (drop count xs, sym (take-append-drop count xs))
 
   pub prefix_trans : (xs ys zs : List A) → IsPrefixOf xs ys → IsPrefixOf ys zs → IsPrefixOf xs zs
-  prefix_trans xs ys zs short long = (short.0 ++ long.0, long.1 ∙ ap (λ (l : List A). l ++ long.0) short.1 ∙ append_assoc xs short.0 long.0)
+  prefix_trans xs ys zs short long =
+      (short.0 ++ long.0, long.1 ∙ ap (λ (l : List A). l ++ long.0) short.1 ∙ append_assoc xs short.0 long.0)
 
   -- A prefix that is as long as the list is the list.
   pub prefix_whole : (part whole : List A) → IsPrefixOf part whole → length whole ≤ length part → part ≡ whole

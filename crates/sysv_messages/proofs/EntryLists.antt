@@ -1,5 +1,6 @@
 -- Lists read at a place, and lists without the elements of one number.
-use Rattle.std.proofs.Common.{◌≡◌, ◌≢◌, ℕ, zero, suc, ◌+◌, ◌<◌, ◌≤◌, ◌==◌, Bool, true, false, not, List, [], ◌∷◌, Some, length, cond, get_or, refl, sym, ap, subst, ◌∙◌, ◌⊎◌, inl, inr, arith}
+use Rattle.std.proofs.Common.{◌≡◌, ◌≢◌, ℕ, zero, suc, ◌+◌, ◌<◌, ◌≤◌, ◌==◌, Bool, true, false, not, List, [], ◌∷◌, Some}
+use Rattle.std.proofs.Common.{length, cond, get_or, refl, sym, ap, subst, ◌∙◌, ◌⊎◌, inl, inr, arith}
 use Rattle.std.specs.List.{All, AllPairs, AllWithin, Contains, filter, insert, remove, slice_get}
 use Rattle.std.proofs.lemmas.Bool.{cases_order}
 use Rattle.std.proofs.lemmas.Bool.Decides.{Decides-eqb}
@@ -43,10 +44,12 @@ contains_at xs k x there = (k, slice_get_within xs k x there, get_or_from_slice_
 pub at_place : {X : Type 0} (P : X → Type 0) (xs : List X) (k : ℕ) (x : X) → All P xs → slice_get xs k ≡ Some x → P x
 at_place P xs k x all there = subst P (get_or_from_slice_get xs k x x there) (all k x (slice_get_within xs k x there))
 
-pub at_places : {X : Type 0} (R : X → X → Type 0) (xs : List X) (i j : ℕ) (x y : X) → AllPairs R xs → i < j → slice_get xs i ≡ Some x → slice_get xs j ≡ Some y → R x y
+pub at_places : {X : Type 0} (R : X → X → Type 0) (xs : List X) (i j : ℕ) (x y : X) → AllPairs R xs → i < j →
+    slice_get xs i ≡ Some x → slice_get xs j ≡ Some y → R x y
 at_places R xs i j x y all below here there =
     let h = all i j x below (slice_get_within xs j y there) in
-    subst (λ z. R z y) (get_or_from_slice_get xs i x x here) (subst (λ z. R (get_or xs i x) z) (get_or_from_slice_get xs j y x there) h)
+    subst (λ z. R z y) (get_or_from_slice_get xs i x x here)
+    (subst (λ z. R (get_or xs i x) z) (get_or_from_slice_get xs j y x there) h)
 
 pub pairs_head : {X : Type 0} (R : X → X → Type 0) (x : X) (xs : List X) → AllPairs R (x ∷ xs) → All (R x) xs
 pairs_head R x xs all k d within = all 0 (suc k) d (omega arith) (omega arith)
@@ -56,26 +59,36 @@ pairs_tail R x xs all i j d below within = all (suc i) (suc j) d (omega arith) (
 
 -- A pair of places of a list into which an element was inserted, by their positions relative to
 -- that element.
-module _ {X : Type 0} (R : X → X → Type 0) (xs : List X) (at : ℕ) (y : X) (within : at ≤ length xs) (all : AllPairs R xs)
+module _ {X : Type 0} (R : X → X → Type 0) (xs : List X) (at : ℕ) (y : X) (within : at ≤ length xs)
+    (all : AllPairs R xs)
     (below : AllWithin (λ x. R x y) xs 0 at) (above : AllWithin (λ x. R y x) xs at (length xs)) where
   both_below : (i j : ℕ) (d : X) → i < j → j < at → R (get_or (insert xs at y) i d) (get_or (insert xs at y) j d)
   both_below i j d less low =
       let low' : i < at = omega arith in
-      rw (get_or-insert_below xs at y d i low' within, get_or-insert_below xs at y d j low within) (all i j d less (omega arith))
+      rw (get_or-insert_below xs at y d i low' within, get_or-insert_below xs at y d j low within)
+      (all i j d less (omega arith))
 
   first_below : (i : ℕ) (d : X) → i < at → R (get_or (insert xs at y) i d) (get_or (insert xs at y) at d)
-  first_below i d low = rw (get_or-insert_below xs at y d i low within, get_or-insert_at xs at y d within) (below i d (omega arith) low)
+  first_below i d low =
+      rw (get_or-insert_below xs at y d i low within, get_or-insert_at xs at y d within) (below i d (omega arith) low)
 
-  apart : (i j : ℕ) (d : X) → i < at → at ≤ j → j < length xs → R (get_or (insert xs at y) i d) (get_or (insert xs at y) (j + 1) d)
-  apart i j d low high last = rw (get_or-insert_below xs at y d i low within, get_or-insert_above xs at y d j high within) (all i j d (omega arith) last)
+  apart : (i j : ℕ) (d : X) → i < at → at ≤ j → j < length xs →
+      R (get_or (insert xs at y) i d) (get_or (insert xs at y) (j + 1) d)
+  apart i j d low high last =
+      rw (get_or-insert_below xs at y d i low within, get_or-insert_above xs at y d j high within)
+      (all i j d (omega arith) last)
 
-  second_above : (j : ℕ) (d : X) → at ≤ j → j < length xs → R (get_or (insert xs at y) at d) (get_or (insert xs at y) (j + 1) d)
-  second_above j d high last = rw (get_or-insert_at xs at y d within, get_or-insert_above xs at y d j high within) (above j d high last)
+  second_above : (j : ℕ) (d : X) → at ≤ j → j < length xs →
+      R (get_or (insert xs at y) at d) (get_or (insert xs at y) (j + 1) d)
+  second_above j d high last =
+      rw (get_or-insert_at xs at y d within, get_or-insert_above xs at y d j high within) (above j d high last)
 
-  both_above : (i j : ℕ) (d : X) → i < j → at ≤ i → j < length xs → R (get_or (insert xs at y) (i + 1) d) (get_or (insert xs at y) (j + 1) d)
+  both_above : (i j : ℕ) (d : X) → i < j → at ≤ i → j < length xs →
+      R (get_or (insert xs at y) (i + 1) d) (get_or (insert xs at y) (j + 1) d)
   both_above i j d less high last =
       let high' : at ≤ j = omega arith in
-      rw (get_or-insert_above xs at y d i high within, get_or-insert_above xs at y d j high' within) (all i j d less last)
+      rw (get_or-insert_above xs at y d i high within, get_or-insert_above xs at y d j high' within)
+      (all i j d less last)
 
   abbrev Holds : ℕ → ℕ → X → Type 0
   Holds i j d = R (get_or (insert xs at y) i d) (get_or (insert xs at y) j d)
@@ -96,19 +109,23 @@ module _ {X : Type 0} (R : X → X → Type 0) (xs : List X) (at : ℕ) (y : X) 
             (elim (cases_order i at) [
               | inl here ↦ subst (λ n. Holds n (w.0 + 1) d) (sym here) (second_above w.0 d w.2 (omega arith))
               | inr (inl low) ↦ apart i w.0 d low w.2 (omega arith)
-              | inr (inr over) ↦ let v = less_one i over in subst (λ n. Holds n (w.0 + 1) d) (sym v.1) (both_above v.0 w.0 d (omega arith) v.2 (omega arith))
+              | inr (inr over) ↦
+                  let v = less_one i over in
+                  subst (λ n. Holds n (w.0 + 1) d) (sym v.1) (both_above v.0 w.0 d (omega arith) v.2 (omega arith))
             ])
       ]
 
 -- An element of the list that passes a filter is in the filtered list.
-pub contains_filter : {X : Type 0} (p : X → Bool) (xs : List X) (k : ℕ) (x : X) → slice_get xs k ≡ Some x → p x ≡ true → (j : ℕ) × (slice_get (filter p xs) j ≡ Some x)
+pub contains_filter : {X : Type 0} (p : X → Bool) (xs : List X) (k : ℕ) (x : X) → slice_get xs k ≡ Some x → p x ≡ true →
+    (j : ℕ) × (slice_get (filter p xs) j ≡ Some x)
 contains_filter p [] k x there passes = cc
 contains_filter p (y ∷ ys) zero x there passes =
     let t : p y ≡ true = ap p (same_Some y x there) ∙ passes in
     (0, ap (λ t. slice_get (cond t (y ∷ filter p ys) (filter p ys)) 0) t ∙ there)
 contains_filter p (y ∷ ys) (suc k) x there passes = step (p y) (contains_filter p ys k x there passes)
   where
-    step : (t : Bool) → ((j : ℕ) × (slice_get (filter p ys) j ≡ Some x)) → (j : ℕ) × (slice_get (cond t (y ∷ filter p ys) (filter p ys)) j ≡ Some x)
+    step : (t : Bool) → ((j : ℕ) × (slice_get (filter p ys) j ≡ Some x)) →
+        (j : ℕ) × (slice_get (cond t (y ∷ filter p ys) (filter p ys)) j ≡ Some x)
     step true w = (suc w.0, w.1)
     step false w = w
 
@@ -120,26 +137,33 @@ module _ {X : Type 0} (number : X → ℕ) (n : ℕ) where
   pub others_absent : (xs : List X) → All (λ x. number x ≢ n) xs → others xs ≡ xs
   others_absent [] none = refl
   others_absent (x ∷ xs) none =
-      ap (λ t. cond (not t) (x ∷ others xs) (others xs)) (other_number (number x) n (All-head (λ x. number x ≢ n) x xs none))
+      ap (λ t. cond (not t) (x ∷ others xs) (others xs))
+      (other_number (number x) n (All-head (λ x. number x ≢ n) x xs none))
       ∙ ap (λ ys. x ∷ ys) (others_absent xs (All-tail (λ x. number x ≢ n) x xs none))
 
-  pub others_present : (xs : List X) (p : ℕ) (x : X) → slice_get xs p ≡ Some x → number x ≡ n → AllPairs (λ a b. number a ≢ number b) xs → others xs ≡ remove xs p
+  pub others_present : (xs : List X) (p : ℕ) (x : X) → slice_get xs p ≡ Some x → number x ≡ n →
+      AllPairs (λ a b. number a ≢ number b) xs → others xs ≡ remove xs p
   others_present [] p x there is differ = cc
   others_present (y ∷ ys) zero x there is differ =
       let e : number y ≡ n = ap number (same_Some y x there) ∙ is in
       ap (λ t. cond (not t) (y ∷ others ys) (others ys)) (same_number (number y) n e)
-      ∙ others_absent ys (λ k d within same. pairs_head (λ a b. number a ≢ number b) y ys differ k d within (e ∙ sym same))
+      ∙ others_absent ys
+      (λ k d within same. pairs_head (λ a b. number a ≢ number b) y ys differ k d within (e ∙ sym same))
   others_present (y ∷ ys) (suc p) x there is differ =
-      let apart : number y ≢ n = λ same. at_place (λ b. number y ≢ number b) ys p x (pairs_head (λ a b. number a ≢ number b) y ys differ) there (same ∙ sym is) in
+      let apart : number y ≢ n = λ same.
+      at_place (λ b. number y ≢ number b) ys p x (pairs_head (λ a b. number a ≢ number b) y ys differ) there
+      (same ∙ sym is) in
       ap (λ t. cond (not t) (y ∷ others ys) (others ys)) (other_number (number y) n apart)
       ∙ ap (λ zs. y ∷ zs) (others_present ys p x there is (pairs_tail (λ a b. number a ≢ number b) y ys differ))
 
   -- Some element of a list has the number, or none has it.
-  pub found_or_absent : (xs : List X) → ((p : ℕ) × (x : X) × (slice_get xs p ≡ Some x) × (number x ≡ n)) ⊎ All (λ x. number x ≢ n) xs
+  pub found_or_absent : (xs : List X) →
+      ((p : ℕ) × (x : X) × (slice_get xs p ≡ Some x) × (number x ≡ n)) ⊎ All (λ x. number x ≢ n) xs
   found_or_absent [] = inr (λ k d within. absurd (omega arith))
   found_or_absent (x ∷ xs) = step (number x == n) refl (found_or_absent xs)
     where
-      step : (t : Bool) → (number x == n) ≡ t → ((p : ℕ) × (x : X) × (slice_get xs p ≡ Some x) × (number x ≡ n)) ⊎ All (λ x. number x ≢ n) xs
+      step : (t : Bool) → (number x == n) ≡ t
+          → ((p : ℕ) × (x : X) × (slice_get xs p ≡ Some x) × (number x ≡ n)) ⊎ All (λ x. number x ≢ n) xs
           → ((p : ℕ) × (y : X) × (slice_get (x ∷ xs) p ≡ Some y) × (number y ≡ n)) ⊎ All (λ x. number x ≢ n) (x ∷ xs)
       step true e rest = inl (0, x, refl, one_number (number x) n e)
       step false e (inl w) = inl (suc w.0, w.1, w.2, w.3)

@@ -1,11 +1,11 @@
 pub mod EntryLists
 pub mod Removal
 pub mod Changes
-pub mod Halving
+pub mod SortedEntries
 pub mod Selection
 pub mod Lists
 pub mod Seen
-pub mod Putting
+pub mod Added
 pub mod Taken
-pub mod Receiving
+pub mod SelectedMessage
 pub mod Bare

@@ -1,5 +1,6 @@
 -- Lists to which a function is applied, and lists read at a place.
-use Rattle.std.proofs.Common.{◌≡◌, ◌≢◌, ℕ, zero, suc, ◌<◌, ◌==◌, Bool, true, not, List, [], ◌∷◌, Option, None, Some, IsSome, length, map, get_or, refl, sym, ap, subst, ◌∙◌, inl, inr}
+use Rattle.std.proofs.Common.{◌≡◌, ◌≢◌, ℕ, zero, suc, ◌<◌, ◌==◌, Bool, true, not, List, [], ◌∷◌, Option, None, Some}
+use Rattle.std.proofs.Common.{IsSome, length, map, get_or, refl, sym, ap, subst, ◌∙◌, inl, inr}
 use Rattle.std.specs.List.{All, remove, slice_get, slice_index_or}
 use Rattle.std.proofs.lemmas.Bool.Decides.{Decides-eqb}
 use Rattle.std.proofs.lemmas.Bool.{cases_lt}
@@ -24,7 +25,8 @@ map_remove f (x ∷ xs) (suc i) = ap (λ ys. f x ∷ ys) (map_remove f xs i)
 pub at_place : {X : Type 0} (P : X → Type 0) (xs : List X) (k : ℕ) (x : X) → All P xs → slice_get xs k ≡ Some x → P x
 at_place P xs k x all there = subst P (get_or_from_slice_get xs k x x there) (all k x (slice_get_within xs k x there))
 
-pub all_both : {X : Type 0} (P Q R : X → Type 0) (xs : List X) → ((x : X) → P x → Q x → R x) → All P xs → All Q xs → All R xs
+pub all_both : {X : Type 0} (P Q R : X → Type 0) (xs : List X) → ((x : X) → P x → Q x → R x) → All P xs → All Q xs →
+    All R xs
 all_both P Q R xs f p q k d within = f (get_or xs k d) (p k d within) (q k d within)
 
 pub some_is : {X : Type 0} (o : Option X) (x : X) → o ≡ Some x → IsSome o
@@ -37,7 +39,8 @@ pub no_some : {X : Type 0} (o : Option X) → o ≡ None → IsSome o → ⊥
 no_some {X} o none some = let bad : IsSome {T = X} None = subst IsSome none some in absurd cc
 
 -- Only a place of the list has an element.
-pub place_within : {X : Type 0} (xs : List (Option X)) (place : ℕ) (x : X) → slice_index_or xs place None ≡ Some x → place < length xs
+pub place_within : {X : Type 0} (xs : List (Option X)) (place : ℕ) (x : X) → slice_index_or xs place None ≡ Some x →
+    place < length xs
 place_within xs place x there = elim (cases_lt place (length xs)) [
   | inl within ↦ within
   | inr past ↦ absurd (never_none (slice_index_or xs place None) x there (get_or_past xs place None past))

@@ -1,5 +1,6 @@
 -- The entry to be removed is at the place that the binary search finds.
-use Rattle.std.proofs.Common.{◌≡◌, ◌≢◌, ℕ, ◌<◌, ◌≤◌, ◌↔◌, ◌&&◌, ◌||◌, Bool, true, false, not, nat_lt, int_lt, IsTrue, List, Some, get_or, refl, sym, subst, ◌∙◌, inl, inr, arith}
+use Rattle.std.proofs.Common.{◌≡◌, ◌≢◌, ℕ, ◌<◌, ◌≤◌, ◌↔◌, ◌&&◌, ◌||◌, Bool, true, false, not, nat_lt, int_lt, IsTrue}
+use Rattle.std.proofs.Common.{List, Some, get_or, refl, sym, subst, ◌∙◌, inl, inr, arith}
 use Rattle.std.specs.List.{All, AllPairs, slice_get}
 use Rattle.std.specs.List.Sorted.{IsPartitionedBy, IsPartitionPoint}
 use Rattle.std.proofs.lemmas.Bool.{cases_lt, cases_order}
@@ -37,14 +38,17 @@ is_below n e h = grind arith
 
 pub parted_by_number : (xs : List Entry) (n : ℕ) → NumbersRise xs → IsPartitionedBy (below n) xs
 parted_by_number xs n rising i j d order within holds = elim (cases_lt i j) [
-  | inl less ↦ is_below n (get_or xs i d) (let h = rising i j d less within in let k = below_yes n (get_or xs j d) holds in omega arith)
+  | inl less ↦ is_below n (get_or xs i d)
+      (let h = rising i j d less within in let k = below_yes n (get_or xs j d) holds in omega arith)
   | inr over ↦ let same : i ≡ j = omega arith in subst (λ p. below n (get_or xs p d) ≡ true) (sym same) holds
 ]
 
-pub none_of_number : (xs : List Entry) (n at : ℕ) → NumbersRise xs → IsPartitionPoint (λ e. below n e ≡ true) (λ e. below n e ≡ false) xs at →
+pub none_of_number : (xs : List Entry) (n at : ℕ) → NumbersRise xs →
+    IsPartitionPoint (λ e. below n e ≡ true) (λ e. below n e ≡ false) xs at →
     ((e : Entry) → slice_get xs at ≡ Some e → e.number ≢ n) → All (λ (e : Entry). e.number ≢ n) xs
 none_of_number xs n at rising point other k d within same = elim (cases_order k at) [
-  | inl here ↦ other (get_or xs k d) (subst (λ p. slice_get xs p ≡ Some (get_or xs k d)) here (slice_get-get_or xs k d within)) same
+  | inl here ↦ other (get_or xs k d)
+      (subst (λ p. slice_get xs p ≡ Some (get_or xs k d)) here (slice_get-get_or xs k d within)) same
   | inr (inl low) ↦ let h = below_yes n (get_or xs k d) (point.0 k d (omega arith) low) in omega arith
   | inr (inr high) ↦
       let h = below_no n (get_or xs at d) (point.1 at d (omega arith) (omega arith)) in
@@ -68,7 +72,8 @@ before_as_told e a false h = sym (not_true (before e a) (λ holds. never_both fa
 
 pub parted_by_type : (xs : List Entry) (e : Entry) → AllPairs IsBefore xs → IsPartitionedBy (before e) xs
 parted_by_type xs e sorted i j d order within holds = elim (cases_lt i j) [
-  | inl less ↦ is_before e (get_or xs i d) (before_through (get_or xs i d) (get_or xs j d) e (sorted i j d less within) (before_yes e (get_or xs j d) holds))
+  | inl less ↦ is_before e (get_or xs i d)
+      (before_through (get_or xs i d) (get_or xs j d) e (sorted i j d less within) (before_yes e (get_or xs j d) holds))
   | inr over ↦ let same : i ≡ j = omega arith in subst (λ p. before e (get_or xs p d) ≡ true) (sym same) holds
 ]
 
@@ -80,7 +85,8 @@ one_place_by_type xs e at k sorted there point =
     elim (cases_order at k) [
       | inl here ↦ here
       | inr (inl low) ↦
-          let h = is_before e (get_or xs at e) (subst (λ z. IsBefore (get_or xs at e) z) is (sorted at k e low within)) in
+          let h =
+          is_before e (get_or xs at e) (subst (λ z. IsBefore (get_or xs at e) z) is (sorted at k e low within)) in
           absurd (never_both (before e (get_or xs at e)) h (point.1 at e (omega arith) (omega arith)))
       | inr (inr high) ↦
           let h = before_yes e (get_or xs k e) (point.0 k e (omega arith) high) in

@@ -56,7 +56,8 @@ IsKept heads chains e = IsKeptAs (get heads e.place) (chain_at chains e.place) (
 
 -- The messages are stored as these heads, chains and entries: every entry's message is stored,
 -- every head has its entry, each once, and the sums are right.
-pub record IsStore (heads : Slab Head) (chains : List (Option Chained)) (entries : List Entry) (bytes : ℕ) : Type 0 where
+pub record IsStore (heads : Slab Head) (chains : List (Option Chained)) (entries : List Entry)
+    (bytes : ℕ) : Type 0 where
   pub kept : All (IsKept heads chains) entries
   pub known : (key : ℕ) → ContainsKey heads key → Contains (keys_of entries) key
   pub once : AllPairs (λ (a b : ℕ). a ≢ b) (keys_of entries)

@@ -1,3 +1,5 @@
+//! An entry of the index: a queued message's type and place.
+
 ghost use Rattle.std.specs.Prelude.{◌↔◌, IsTrue};
 ghost use Rattle.sysv_messages.specs.Entries.{IsBefore};
 

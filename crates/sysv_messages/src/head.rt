@@ -1,3 +1,5 @@
+//! The head of a stored message.
+
 /// What is kept of a message in addition to its body.
 #[derive(Clone, Copy)]
 pub(crate) struct Head {

@@ -1,3 +1,5 @@
+//! The store of one queue's messages.
+
 ghost use Rattle.std.specs.Prelude.{◌≡◌, ◌+◌, ◌^◌, ◌<◌, ◌≤◌, [], ◌∷◌, ◌++◌, IfOk, IfErr, OnErr, length};
 ghost use Rattle.std.specs.List.{All};
 ghost use Rattle.sysv_model.specs.declared.limits.TheConstants.{QUEUE_MESSAGES, MESSAGE_BYTES as most_bytes};

@@ -1,3 +1,5 @@
+//! A message that was taken from the store.
+
 ghost use Rattle.std.specs.Prelude.{◌≡◌, ◌≤◌, length};
 ghost use Rattle.sysv_model.specs.declared.limits.TheConstants.{MESSAGE_BYTES as most_bytes};
 ghost use Rattle.sysv_messages.specs.Texts.{chain_of};

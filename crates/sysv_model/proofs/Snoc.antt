@@ -5,12 +5,15 @@ use Rattle.std.proofs.lemmas.List.{append-nil}
 
 -- A property that is kept when one more element is added holds of each list that begins with a list
 -- that has it.
-pub from_front : {X : Type 0} (P : List X → Type 0) → ((xs : List X) (x : X) → P xs → P (xs ++ x ∷ [])) → (front back : List X) → P front → P (front ++ back)
+pub from_front : {X : Type 0} (P : List X → Type 0) → ((xs : List X) (x : X) → P xs → P (xs ++ x ∷ [])) →
+    (front back : List X) → P front → P (front ++ back)
 from_front P step front [] p = subst P (sym (append-nil front)) p
-from_front P step front (x ∷ back) p = subst P (append_assoc front (x ∷ []) back) (from_front P step (front ++ x ∷ []) back (step front x p))
+from_front P step front (x ∷ back) p =
+    subst P (append_assoc front (x ∷ []) back) (from_front P step (front ++ x ∷ []) back (step front x p))
 
 -- A property of the empty list that is kept when one more element is added holds of every list.
-pub from_end : {X : Type 0} (P : List X → Type 0) → P [] → ((xs : List X) (x : X) → P xs → P (xs ++ x ∷ [])) → (xs : List X) → P xs
+pub from_end : {X : Type 0} (P : List X → Type 0) → P [] → ((xs : List X) (x : X) → P xs → P (xs ++ x ∷ [])) →
+    (xs : List X) → P xs
 from_end P empty step xs = from_front P step [] xs empty
 
 no_room : {X : Type 0} (xs ys : List X) (x : X) → [] ≡ xs ++ x ∷ ys → ⊥

@@ -1,7 +1,8 @@
 -- The errors of this profile, with the names of POSIX.1-2017, errno.h, and this profile's numbers.
 use Rattle.std.specs.Prelude.{ℕ, List, codes}
 use Rattle.sysv_model.specs.declared.errno.Errno.{Errno}
-use Rattle.sysv_model.specs.declared.errno.Errno.TheVariants.{EPERM, ENOENT, E2BIG, EAGAIN, EACCES, EEXIST, EINVAL, ENOSPC, ENOMSG, EIDRM, EOVERFLOW}
+use Rattle.sysv_model.specs.declared.errno.Errno.TheVariants.{EPERM, ENOENT, E2BIG, EAGAIN, EACCES, EEXIST, EINVAL}
+use Rattle.sysv_model.specs.declared.errno.Errno.TheVariants.{ENOSPC, ENOMSG, EIDRM, EOVERFLOW}
 
 -- The number of an error.
 abbrev pub number_of : Errno → ℕ

@@ -6,7 +6,8 @@ use Rattle.sysv_model.specs.declared.cred.Cred.{Cred}
 use Rattle.sysv_model.specs.declared.attributes.Attributes.{Attributes}
 use Rattle.sysv_model.specs.declared.attributes.SetTo.{SetTo}
 use Rattle.sysv_model.specs.declared.limits.TheConstants.{QBYTES_AT_CREATION}
-use Rattle.sysv_model.specs.History.{Call, Install, Place, Take, Set, Remove, Reply, Installed, Accepted, Taken, Done, Discarded, Entry, History}
+use Rattle.sysv_model.specs.History.{Call, Install, Place, Take, Set, Remove, Reply, Installed, Accepted, Taken, Done}
+use Rattle.sysv_model.specs.History.{Discarded, Entry, History}
 
 -- The permission bits of a mode: its low nine bits.
 abbrev pub low_nine : ℕ → ℕ

@@ -18,4 +18,5 @@ selector_of_type mtype flags = if has_flag MSG_EXCEPT flags then Except mtype el
 -- The selector of a type argument and flags.
 abbrev pub selector_for : ℤ → Flags → Selector
 selector_for mtype flags =
-    if int_eq mtype (pos 0) then Any else if int_lt (pos 0) mtype then selector_of_type mtype flags else UpTo (nat_abs mtype)
+    if int_eq mtype (pos 0) then Any else if int_lt (pos 0) mtype then selector_of_type mtype flags else UpTo
+    (nat_abs mtype)

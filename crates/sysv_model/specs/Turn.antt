@@ -33,7 +33,8 @@ pub record Turn : Type 0 where
 -- What a turn adds to the history of a slot: its entry if it is a turn at this slot, otherwise
 -- nothing.
 abbrev pub slot_entry : ℕ → Who → Deed → List Entry
-slot_entry slot who (AtSlot at call reply) = if at == slot then record { who = who; call = call; reply = reply } ∷ [] else []
+slot_entry slot who (AtSlot at call reply) =
+    if at == slot then record { who = who; call = call; reply = reply } ∷ [] else []
 slot_entry slot who (AtRegistry call reply) = []
 slot_entry slot who (AtPool call reply) = []
 

@@ -1,3 +1,5 @@
+//! The attributes of a queue, as calls set and return them.
+
 /// The owner, creator and mode of a queue, `struct ipc_perm` (POSIX.1-2017, `sys/ipc.h`).
 #[derive(Clone, Copy, PartialEq, Eq, Debug)]
 pub struct Perm {

@@ -1,3 +1,5 @@
+//! The body of a message.
+
 ghost use Rattle.std.specs.Prelude.{◌≡◌, ◌+◌, ◌<◌, ◌≤◌, [], ◌++◌, length, take, slice_get, Some, IfOk, true, false, if◌then◌else◌};
 ghost use Rattle.sysv_model.specs.declared.limits.TheConstants.{BLOCK_BYTES, BODY_ROOM};
 ghost use Rattle.sysv_model.specs.Blocks.{block_of};

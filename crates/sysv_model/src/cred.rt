@@ -1,3 +1,5 @@
+//! The credentials of a caller.
+
 /// The credentials of a caller: effective user, effective group and process (POSIX.1-2017, 2.7 XSI
 /// Interprocess Communication).
 ///

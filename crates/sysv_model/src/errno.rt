@@ -1,3 +1,5 @@
+//! The errors of all calls.
+
 ghost use Rattle.std.specs.Prelude.{◌≡◌, Some};
 ghost use Rattle.sysv_model.specs.Errors.{number_of, name_of};
 

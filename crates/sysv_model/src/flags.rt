@@ -1,3 +1,5 @@
+//! The flags of all calls.
+
 ghost use Rattle.std.specs.Prelude.{◌≡◌, ◌==◌, ⊤, ◌∷◌, [], codes};
 ghost use Rattle.std.specs.Int.RustNames.{bit_and, bit_or};
 

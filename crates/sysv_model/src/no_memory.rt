@@ -1,3 +1,5 @@
+//! The error of a failed allocation.
+
 use thiserror::Error;
 
 /// The error of a call whose allocation failed.

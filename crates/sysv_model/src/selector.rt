@@ -1,3 +1,5 @@
+//! Selectors of messages.
+
 ghost use Rattle.std.specs.Prelude.{◌≡◌};
 ghost use Rattle.sysv_model.specs.Selector.{selector_for};
 

@@ -1,5 +1,6 @@
 -- A turn at a slot, at the registry or at the pool is a turn at the objects.
-use Rattle.std.proofs.Common.{◌≡◌, ℕ, ◌+◌, ◌≤◌, cond, None, Ok, Err, List, [], ◌∷◌, ◌++◌, Some, inl, inr, refl, sym, ap, subst, ◌∙◌, arith, slice_get, slice_set, length-set}
+use Rattle.std.proofs.Common.{◌≡◌, ℕ, ◌+◌, ◌≤◌, cond, None, Ok, Err, List, [], ◌∷◌, ◌++◌, Some, inl, inr, refl, sym, ap}
+use Rattle.std.proofs.Common.{subst, ◌∙◌, arith, slice_get, slice_set, length-set}
 use Rattle.sysv_model.specs.History.{Who, Actor, Call, Reply, Entry}
 use Rattle.sysv_model.specs.Registry.{RegistryCall, RegistryReply}
 use Rattle.sysv_model.specs.Pool.{PoolEntry, frees as is_release, released}
@@ -21,11 +22,14 @@ use Rattle.sysv_objects.specs.LegalDeed.{IsLegalDeed}
 use Rattle.sysv_objects.specs.Objects.{Objects, raises, pool_raises}
 use Rattle.sysv_objects.specs.StandsFor.{StandsFor, Stand, MakesTurn}
 use Rattle.sysv_objects.proofs.Lists.{get_set}
-use Rattle.sysv_objects.proofs.Histories.{turn_of, at_its_slot, at_another, registry_more, not_at_registry, not_at_slot, slot_not_at_pool, registry_not_at_pool, pool_not_at_slot, pool_not_at_registry, pool_more, arrives, frees}
+use Rattle.sysv_objects.proofs.Histories.{turn_of, at_its_slot, at_another, registry_more, not_at_registry, not_at_slot}
+use Rattle.sysv_objects.proofs.Histories.{slot_not_at_pool, registry_not_at_pool, pool_not_at_slot}
+use Rattle.sysv_objects.proofs.Histories.{pool_not_at_registry, pool_more, arrives, frees}
 
 -- The objects with another slot at this number, with another registry, and with another pool.
 abbrev pub with_slot : Objects → ℕ → Slot → Objects
-with_slot objects number slot = record { slots = slice_set objects.slots number slot; registry = objects.registry; pool = objects.pool }
+with_slot objects number slot =
+    record { slots = slice_set objects.slots number slot; registry = objects.registry; pool = objects.pool }
 
 abbrev pub with_registry : Objects → Registry → Objects
 with_registry objects registry = record { slots = objects.slots; registry = registry; pool = objects.pool }
@@ -39,8 +43,10 @@ stand_on old new deed st turn = (st.0, st.1 ++ turn_of (Actor 0 0) deed ∷ [], 
 
 -- ---- at a slot
 
-module _ (old : Objects) (number : ℕ) (was new : Slot) (call : Call) (reply : Reply) (there : slice_get old.slots number ≡ Some was) (turn : SlotMakesTurn was call reply new) where
-  legal_there : (generation : ℕ) (turns : List Turn) → StandsFor generation turns old → IsLegalDeed generation old.pool.size turns (AtSlot number call reply)
+module _ (old : Objects) (number : ℕ) (was new : Slot) (call : Call) (reply : Reply)
+    (there : slice_get old.slots number ≡ Some was) (turn : SlotMakesTurn was call reply new) where
+  legal_there : (generation : ℕ) (turns : List Turn) → StandsFor generation turns old →
+      IsLegalDeed generation old.pool.size turns (AtSlot number call reply)
   legal_there generation turns st = subst (λ s. Legal s call reply) (sym (st.slots number was there).seen) turn.legal
 
   stands_there : (generation : ℕ) (turns : List Turn) (who : Who) → StandsFor generation turns old →
@@ -51,10 +57,13 @@ module _ (old : Objects) (number : ℕ) (was new : Slot) (call : Call) (reply : 
       | inl same ↦
           subst (SlotStandsFor _) same.1
           (subst (λ n. SlotStandsFor (slot_history n (turns ++ turn_of who (AtSlot number call reply) ∷ [])) new) same.0
-          (subst (λ h. SlotStandsFor h new) (sym (at_its_slot number turns who call reply)) (turn.stands (slot_history number turns) who (st.slots number was there))))
-      | inr apart ↦ subst (λ h. SlotStandsFor h slot) (sym (at_another at number turns who call reply apart.0)) (st.slots at slot apart.1)
+          (subst (λ h. SlotStandsFor h new) (sym (at_its_slot number turns who call reply))
+          (turn.stands (slot_history number turns) who (st.slots number was there))))
+      | inr apart ↦ subst (λ h. SlotStandsFor h slot) (sym (at_another at number turns who call reply apart.0))
+          (st.slots at slot apart.1)
     ];
-    registry = subst (λ h. RegistryStandsFor generation h old.registry) (sym (not_at_registry turns who number call reply)) st.registry;
+    registry = subst (λ h. RegistryStandsFor generation h old.registry)
+        (sym (not_at_registry turns who number call reply)) st.registry;
     pool = subst (λ h. PoolStandsFor h old.pool) (sym (slot_not_at_pool turns who number call reply)) st.pool;
   }
 
@@ -80,7 +89,8 @@ module _ (old : Objects) (number : ℕ) (was new : Slot) (call : Call) (reply : 
         | inl same ↦
             let was_up = up.0 number was there in
             let rise = rises_there st in
-            subst (λ (s : Slot). (s.arrived ≤ bound + raises call) × (s.freed ≤ bound + raises call)) same.1 (omega (arith, was_up.0, rise.0), omega (arith, was_up.1, rise.1))
+            subst (λ (s : Slot). (s.arrived ≤ bound + raises call) × (s.freed ≤ bound + raises call)) same.1
+            (omega (arith, was_up.0, rise.0), omega (arith, was_up.1, rise.1))
         | inr apart ↦ let still = up.0 at slot apart.1 in (omega (arith, still.0), omega (arith, still.1))
       ],
       omega (arith, up.1),
@@ -89,27 +99,36 @@ module _ (old : Objects) (number : ℕ) (was new : Slot) (call : Call) (reply : 
 
 -- ---- at the registry
 
-pub at_registry : (old : Objects) (new : Registry) (call : RegistryCall) (reply : RegistryReply) → RegistryMakesTurn old.registry call reply new →
+pub at_registry : (old : Objects) (new : Registry) (call : RegistryCall) (reply : RegistryReply) →
+    RegistryMakesTurn old.registry call reply new →
     MakesTurn old (AtRegistry call reply) (with_registry old new)
 at_registry old new call reply turn = record {
   legal = λ generation turns st. turn.legal generation (registry_history turns) st.registry;
   stands = λ generation turns who st. record {
     many = st.many;
-    slots = λ at slot here. subst (λ h. SlotStandsFor h slot) (sym (not_at_slot at turns who call reply)) (st.slots at slot here);
-    registry = subst (λ h. RegistryStandsFor generation h new) (sym (at_the_registry turns who)) (turn.stands generation (registry_history turns) who st.registry);
+    slots = λ at slot here.
+        subst (λ h. SlotStandsFor h slot) (sym (not_at_slot at turns who call reply)) (st.slots at slot here);
+    registry = subst (λ h. RegistryStandsFor generation h new) (sym (at_the_registry turns who))
+        (turn.stands generation (registry_history turns) who st.registry);
     pool = subst (λ h. PoolStandsFor h old.pool) (sym (registry_not_at_pool turns who call reply)) st.pool;
   };
   size = refl;
-  counts = λ bound up. (λ at slot here. let still = up.0 at slot here in (omega (arith, still.0), omega (arith, still.1)), omega (arith, up.1));
+  counts = λ bound up. (
+    λ at slot here. let still = up.0 at slot here in (omega (arith, still.0), omega (arith, still.1)),
+    omega (arith, up.1),
+  );
 }
   where
-    at_the_registry : (turns : List Turn) (who : Who) → registry_history (turns ++ turn_of who (AtRegistry call reply) ∷ []) ≡ registry_history turns ++ record { who = who; call = call; reply = reply } ∷ []
+    at_the_registry : (turns : List Turn) (who : Who) →
+        registry_history (turns ++ turn_of who (AtRegistry call reply) ∷ [])
+        ≡ registry_history turns ++ record { who = who; call = call; reply = reply } ∷ []
     at_the_registry turns who = registry_more turns (turn_of who (AtRegistry call reply))
 
 -- ---- at the pool
 
 -- Only a release raises the released count.
-releases : (call : Asked) (reply : Told) → FitsPoolCall call reply → cond (is_release (pool_reply reply)) 1 0 ≤ pool_raises (pool_call call)
+releases : (call : Asked) (reply : Told) → FitsPoolCall call reply →
+    cond (is_release (pool_reply reply)) 1 0 ≤ pool_raises (pool_call call)
 releases (asked.Reserve size) (told.Reserved None) fits = omega arith
 releases (asked.Reserve size) (told.Reserved (Some chain)) fits = omega arith
 releases (asked.Reserve size) (told.Released done) fits = absurd fits
@@ -117,7 +136,8 @@ releases (asked.Release chain) (told.Released (Ok done)) fits = omega arith
 releases (asked.Release chain) (told.Released (Err back)) fits = omega arith
 releases (asked.Release chain) (told.Reserved some) fits = absurd fits
 
-released_rises : (old : Objects) (new : Pool) (call : Asked) (reply : Told) → PoolMoves old.pool call reply new → Stand old → new.released ≤ old.pool.released + pool_raises (pool_call call)
+released_rises : (old : Objects) (new : Pool) (call : Asked) (reply : Told) → PoolMoves old.pool call reply new →
+    Stand old → new.released ≤ old.pool.released + pool_raises (pool_call call)
 released_rises old new call reply moves st =
     let h = pool_history st.1 in
     let e : PoolEntry = record { who = Actor 0 0; call = pool_call call; reply = pool_reply reply } in
@@ -127,7 +147,8 @@ released_rises old new call reply moves st =
     let more = sum_by-append (λ (t : PoolEntry). cond (is_release t.reply) 1 0) h (e ∷ []) in
     omega (arith, was, is, more, releases call reply moves.fits)
 
-pub at_pool : (old : Objects) (new : Pool) (call : Asked) (reply : Told) → PoolMoves old.pool call reply new → Stand old → MakesTurn old (AtPool (pool_call call) (pool_reply reply)) (with_pool old new)
+pub at_pool : (old : Objects) (new : Pool) (call : Asked) (reply : Told) → PoolMoves old.pool call reply new →
+    Stand old → MakesTurn old (AtPool (pool_call call) (pool_reply reply)) (with_pool old new)
 at_pool old new asks told moves stand =
     let call = pool_call asks in
     let reply = pool_reply told in
@@ -136,10 +157,16 @@ at_pool old new asks told moves stand =
       legal = λ generation turns st. subst (λ p. LegalAtPool p call reply) (sym st.pool.seen) moves.turn.legal;
       stands = λ generation turns who st. record {
         many = st.many;
-        slots = λ at slot here. subst (λ h. SlotStandsFor h slot) (sym (pool_not_at_slot at turns who call reply)) (st.slots at slot here);
-        registry = subst (λ h. RegistryStandsFor generation h old.registry) (sym (pool_not_at_registry turns who call reply)) st.registry;
-        pool = subst (λ h. PoolStandsFor h new) (sym (pool_more turns (turn_of who (AtPool call reply)))) (moves.turn.stands (pool_history turns) who st.pool);
+        slots = λ at slot here.
+            subst (λ h. SlotStandsFor h slot) (sym (pool_not_at_slot at turns who call reply)) (st.slots at slot here);
+        registry = subst (λ h. RegistryStandsFor generation h old.registry)
+            (sym (pool_not_at_registry turns who call reply)) st.registry;
+        pool = subst (λ h. PoolStandsFor h new) (sym (pool_more turns (turn_of who (AtPool call reply))))
+            (moves.turn.stands (pool_history turns) who st.pool);
       };
       size = moves.size;
-      counts = λ bound up. (λ at slot here. let still = up.0 at slot here in (omega (arith, still.0), omega (arith, still.1)), omega (arith, up.1, rise));
+      counts = λ bound up. (
+        λ at slot here. let still = up.0 at slot here in (omega (arith, still.0), omega (arith, still.1)),
+        omega (arith, up.1, rise),
+      );
     }

@@ -10,7 +10,8 @@ use Rattle.sysv_keys.specs.LegalReply.{IsLegalReply as IsLegalRegistryReply, IsL
 -- opened and the pool was opened with this number of blocks.
 abbrev pub IsLegalDeed : (generation blocks : ℕ) → List Turn → Deed → Type 0
 IsLegalDeed generation blocks turns (AtSlot slot call reply) = IsLegalReply (slot_history slot turns) call reply
-IsLegalDeed generation blocks turns (AtRegistry call reply) = IsLegalRegistryReply generation (registry_history turns) call reply
+IsLegalDeed generation blocks turns (AtRegistry call reply) =
+    IsLegalRegistryReply generation (registry_history turns) call reply
 IsLegalDeed generation blocks turns (AtPool call reply) = IsLegalPoolReply blocks (pool_history turns) call reply
 
 -- The history of each object is legal.

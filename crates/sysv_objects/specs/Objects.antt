@@ -21,7 +21,8 @@ pub record Objects : Type 0 where
 -- No count of a slot is above the bound, nor is the released count.
 abbrev pub CountsUpTo : ℕ → Objects → Type 0
 CountsUpTo bound objects =
-    ((number : ℕ) (slot : Slot) → slice_get objects.slots number ≡ Some slot → (slot.arrived ≤ bound) × (slot.freed ≤ bound)) × (objects.pool.released ≤ bound)
+    ((number : ℕ) (slot : Slot) → slice_get objects.slots number ≡ Some slot →
+    (slot.arrived ≤ bound) × (slot.freed ≤ bound)) × (objects.pool.released ≤ bound)
 
 -- The most by which a call raises a count of a slot: one for a place, a take, a set and a removal,
 -- otherwise none.
@@ -46,7 +47,8 @@ raises_by (AtPool call reply) = pool_raises call
 -- The objects that the request does not go to are unchanged.
 abbrev pub OthersStay : ObjectCall → Objects → Objects → Type 0
 OthersStay (asked.Slot call) old new =
-    ((number : ℕ) → number ≢ slot_asked call → slice_get new.slots number ≡ slice_get old.slots number) × (new.registry ≡ old.registry) × (new.pool ≡ old.pool)
+    ((number : ℕ) → number ≢ slot_asked call → slice_get new.slots number ≡ slice_get old.slots number)
+    × (new.registry ≡ old.registry) × (new.pool ≡ old.pool)
 OthersStay (asked.Registry call) old new = (new.slots ≡ old.slots) × (new.pool ≡ old.pool)
 OthersStay (asked.Pool call) old new = (new.slots ≡ old.slots) × (new.registry ≡ old.registry)
 

@@ -11,5 +11,6 @@ SomeDeedIsLegal = (generation blocks : ℕ) (turns : List Turn) (ask : Ask) → 
 
 -- Two legal deeds with the same request after the same legal turns are equal.
 abbrev pub NoTwoDeedsAreLegal : Type 0
-NoTwoDeedsAreLegal = (generation blocks : ℕ) (turns : List Turn) (a b : Deed) → AreLegal generation blocks turns → asked_by a ≡ asked_by b →
+NoTwoDeedsAreLegal = (generation blocks : ℕ) (turns : List Turn) (a b : Deed) → AreLegal generation blocks turns →
+    asked_by a ≡ asked_by b →
     IsLegalDeed generation blocks turns a → IsLegalDeed generation blocks turns b → a ≡ b

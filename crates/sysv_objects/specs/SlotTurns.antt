@@ -1,9 +1,11 @@
 -- A turn at a slot: how the code's requests and replies appear in the slot's history (this
 -- profile's).
 use Rattle.std.specs.Prelude.{◌≡◌, ◌<◌, ℕ, false, Ok, Err, [], ⊤}
-use Rattle.sysv_model.specs.History.{Call, Install, Probe, Look, Place, Take, ReadStat, Set, Remove, ReadRow, Reply, Installed, Shown}
+use Rattle.sysv_model.specs.History.{Call, Install, Probe, Look, Place, Take, ReadStat, Set, Remove, ReadRow, Reply}
+use Rattle.sysv_model.specs.History.{Installed, Shown}
 use Rattle.sysv_pool.specs.Chain.{Chained}
-use Rattle.sysv_queue.specs.Replies.{probe_reply, stat_reply, look_reply, place_reply, take_reply, set_reply, remove_reply}
+use Rattle.sysv_queue.specs.Replies.{probe_reply, stat_reply, look_reply, place_reply, take_reply, set_reply}
+use Rattle.sysv_queue.specs.Replies.{remove_reply}
 use Rattle.sysv_queue.specs.Blocks.{blocks_of}
 use Rattle.sysv_queue.specs.Slot.{Slot}
 use Rattle.sysv_queue.specs.StandsFor.{MakesTurn}

@@ -14,7 +14,8 @@ use Rattle.sysv_objects.specs.Objects.{Objects, CountsUpTo, raises_by}
 -- slots had this generation when the registry was opened.
 pub record StandsFor (generation : ℕ) (turns : List Turn) (objects : Objects) : Type 0 where
   pub many : length objects.slots ≡ SLOTS
-  pub slots : (number : ℕ) (slot : Slot) → slice_get objects.slots number ≡ Some slot → SlotStandsFor (slot_history number turns) slot
+  pub slots : (number : ℕ) (slot : Slot) → slice_get objects.slots number ≡ Some slot →
+      SlotStandsFor (slot_history number turns) slot
   pub registry : RegistryStandsFor generation (registry_history turns) objects.registry
   pub pool : PoolStandsFor (pool_history turns) objects.pool
 
@@ -29,7 +30,8 @@ Stand objects = (generation : ℕ) × (turns : List Turn) × StandsFor generatio
 -- The deed is a turn that takes the objects from the old state to the new one.
 pub record MakesTurn (old : Objects) (deed : Deed) (new : Objects) : Type 0 where
   -- the reply is legal after each list of turns that the objects stood for
-  pub legal : (generation : ℕ) (turns : List Turn) → StandsFor generation turns old → IsLegalDeed generation old.pool.size turns deed
+  pub legal : (generation : ℕ) (turns : List Turn) → StandsFor generation turns old →
+      IsLegalDeed generation old.pool.size turns deed
   -- after the call the objects stand for each of those lists with this turn added, whoever made the
   -- turn
   pub stands : (generation : ℕ) (turns : List Turn) (who : Who) → StandsFor generation turns old →

@@ -9,7 +9,8 @@ use Rattle.sysv_objects.specs.declared.object.ObjectCall.TheVariants as asked
 use Rattle.sysv_objects.specs.declared.object.ObjectReply.{ObjectReply}
 use Rattle.sysv_objects.specs.declared.object.ObjectReply.TheVariants as told
 use Rattle.sysv_pool.specs.Chain.{Chained}
-use Rattle.sysv_objects.specs.SlotTurns.{IsThere, MayRaise, chain_handed, slot_asked, slot_call, slot_reply, FitsSlotCall, LeavesSlot}
+use Rattle.sysv_objects.specs.SlotTurns.{IsThere, MayRaise, chain_handed, slot_asked, slot_call, slot_reply}
+use Rattle.sysv_objects.specs.SlotTurns.{FitsSlotCall, LeavesSlot}
 use Rattle.sysv_objects.specs.RegistryTurns.{registry_call, registry_reply, FitsRegistryCall, LeavesRegistry}
 use Rattle.sysv_objects.specs.PoolTurns.{MayRelease, pool_call, pool_reply, FitsPoolCall, LeavesPool}
 
@@ -49,7 +50,10 @@ LeavesObject (told.Pool reply) = LeavesPool reply
 -- reply of a slot depends on the slot before the turn, whose messages a removal discards.
 abbrev pub Takes : {P : Type 0} → (P → Deed → P → Type 0) → P → ObjectCall → ObjectReply → P → Type 0
 Takes takes before (asked.Slot call) (told.Slot reply) after =
-    (slot : Slot) × takes before (AtSlot (slot_asked call) (slot_call call) (slot_reply slot reply)) after × FitsSlotCall slot call reply
-Takes takes before (asked.Registry call) (told.Registry reply) after = takes before (AtRegistry (registry_call call) (registry_reply reply)) after × FitsRegistryCall call reply
-Takes takes before (asked.Pool call) (told.Pool reply) after = takes before (AtPool (pool_call call) (pool_reply reply)) after × FitsPoolCall call reply
+    (slot : Slot) × takes before (AtSlot (slot_asked call) (slot_call call) (slot_reply slot reply)) after
+    × FitsSlotCall slot call reply
+Takes takes before (asked.Registry call) (told.Registry reply) after =
+    takes before (AtRegistry (registry_call call) (registry_reply reply)) after × FitsRegistryCall call reply
+Takes takes before (asked.Pool call) (told.Pool reply) after =
+    takes before (AtPool (pool_call call) (pool_reply reply)) after × FitsPoolCall call reply
 Takes takes before call reply after = ⊥

@@ -56,13 +56,15 @@ pub record SeesMore (before after : Member) : Type 0 where
 pub record MakesTurn (before : Member) (deed : Deed) (after : Member) : Type 0 where
   pub others : List Numbered
   pub apart : AreOfOthers before.numbers others
-  pub goes_on : after ≡ record before { order = (before.order ++ others) ++ record { by = before.number; deed = deed } ∷ [] }
+  pub goes_on : after
+      ≡ record before { order = (before.order ++ others) ++ record { by = before.number; deed = deed } ∷ [] }
 
 -- The pass has made turns with these deeds, in order, and has seen turns of others before, between
 -- and after them.
 pub data Does (before : Member) : List Deed → Member → Type 0 where
   starts : Does before [] before
-  sees : {deeds : List Deed} {mid : Member} (after : Member) → Does before deeds mid → SeesMore mid after → Does before deeds after
+  sees : {deeds : List Deed} {mid : Member} (after : Member) → Does before deeds mid → SeesMore mid after →
+      Does before deeds after
   makes : {deeds : List Deed} {mid : Member} (deed : Deed) (after : Member) →
       Does before deeds mid → MakesTurn mid deed after → Does before (deeds ++ deed ∷ []) after
 
@@ -71,7 +73,8 @@ pub data Does (before : Member) : List Deed → Member → Type 0 where
 pub record Splits (before kept new : Member) : Type 0 where
   pub apart : AreOfOthers (new.number ∷ []) before.order
   pub parent : kept ≡ record before { shares = map suc before.shares }
-  pub child : new ≡ record { number = new.number; numbers = new.number ∷ []; shares = map suc before.shares; order = before.order }
+  pub child : new
+      ≡ record { number = new.number; numbers = new.number ∷ []; shares = map suc before.shares; order = before.order }
 
 -- Another pass was joined into this one, which now has the numbers and the shares of both. Its
 -- order begins with what either had seen. The turns in this order under their numbers are just
@@ -82,7 +85,12 @@ pub record Joins (one two after : Member) : Type 0 where
   pub begins_two : IsPrefixOf two.order order
   pub own_one : (x : ℕ) → 1 ≤ times x one.numbers → under x order ≡ under x one.order
   pub own_two : (x : ℕ) → 1 ≤ times x two.numbers → under x order ≡ under x two.order
-  pub joined : after ≡ record { number = one.number; numbers = one.numbers ++ two.numbers; shares = one.shares ++ two.shares; order = order }
+  pub joined : after ≡ record {
+    number = one.number;
+    numbers = one.numbers ++ two.numbers;
+    shares = one.shares ++ two.shares;
+    order = order;
+  }
 
 -- The service was closed with this pass, and this is the order of all turns. The order begins with
 -- what the pass had seen, and the pass has no number twice. If the pass has the whole service, then

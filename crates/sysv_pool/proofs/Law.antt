@@ -8,4 +8,9 @@ use Rattle.sysv_pool.proofs.Sums.{within}
 pub pool_law : (size : ℕ) (h : PoolHistory) → IsLegalHistory size h → PoolLaw size h
 pool_law size h legal =
     let w = within size h legal in
-    record { legal = legal; within = omega (arith, w.paid, w.owed); owed = w.owed; conserved = omega (arith, w.paid, w.owed) }
+    record {
+      legal = legal;
+      within = omega (arith, w.paid, w.owed);
+      owed = w.owed;
+      conserved = omega (arith, w.paid, w.owed);
+    }

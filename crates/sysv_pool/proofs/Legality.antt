@@ -12,7 +12,8 @@ module _ (size : ℕ) where
   pub legal_empty : IsLegalHistory size []
   legal_empty before e after h = absurd (no_entry before after e h)
 
-  pub legal_more : (h : PoolHistory) (e : PoolEntry) → IsLegalHistory size h → IsLegalReply size h e.call e.reply → IsLegalHistory size (h ++ e ∷ [])
+  pub legal_more : (h : PoolHistory) (e : PoolEntry) → IsLegalHistory size h → IsLegalReply size h e.call e.reply →
+      IsLegalHistory size (h ++ e ∷ [])
   legal_more h e legal last before f after same =
       elim (at_end h before after e f same) [
         | inl w ↦ let front : before ≡ h = w.1 in let entry : f ≡ e = w.2 in
@@ -23,7 +24,9 @@ module _ (size : ℕ) where
 
   pub legal_front : (h : PoolHistory) (e : PoolEntry) → IsLegalHistory size (h ++ e ∷ []) → IsLegalHistory size h
   legal_front h e legal before f after same =
-      legal before f (after ++ e ∷ []) (ap (λ (k : PoolHistory). k ++ e ∷ []) same ∙ append_assoc before (f ∷ after) (e ∷ []))
+      legal before f (after ++ e ∷ [])
+      (ap (λ (k : PoolHistory). k ++ e ∷ []) same ∙ append_assoc before (f ∷ after) (e ∷ []))
 
-  pub legal_last : (h : PoolHistory) (e : PoolEntry) → IsLegalHistory size (h ++ e ∷ []) → IsLegalReply size h e.call e.reply
+  pub legal_last : (h : PoolHistory) (e : PoolEntry) → IsLegalHistory size (h ++ e ∷ []) →
+      IsLegalReply size h e.call e.reply
   legal_last h e legal = legal h e [] refl

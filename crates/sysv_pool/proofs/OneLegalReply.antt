@@ -1,7 +1,8 @@
 -- Each call has exactly one legal reply, because there are enough blocks or there are not.
 use Rattle.std.proofs.Common.{◌≡◌, ◌+◌, inl, inr, refl, sym, ap, ◌∙◌, arith}
 use Rattle.sysv_lists.proofs.Orders.{at_most}
-use Rattle.sysv_model.specs.Pool.{blocks_for, PoolCall, Reserve, Release, PoolReply, Reserved, TooFew, Released, Foreign}
+use Rattle.sysv_model.specs.Pool.{blocks_for, PoolCall, Reserve, Release, PoolReply, Reserved, TooFew, Released}
+use Rattle.sysv_model.specs.Pool.{Foreign}
 use Rattle.sysv_pool.specs.State.{State, state_of}
 use Rattle.sysv_pool.specs.LegalReply.{Legal}
 use Rattle.sysv_pool.specs.OneReply.{SomeReplyIsLegal, NoTwoRepliesAreLegal}

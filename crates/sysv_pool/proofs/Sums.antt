@@ -1,7 +1,8 @@
 -- The sums over a history with one more turn, and their bounds after every legal history.
 use Rattle.std.proofs.Common.{◌≡◌, ℕ, ◌+◌, ◌-◌, ◌≤◌, [], ◌∷◌, ◌++◌, cond, arith}
 use Rattle.std.proofs.lemmas.List.Sums.{sum_by_push}
-use Rattle.sysv_model.specs.Pool.{PoolCall, Reserve, Release, PoolReply, Reserved, TooFew, Released, Foreign, PoolEntry, PoolHistory, released, frees}
+use Rattle.sysv_model.specs.Pool.{PoolCall, Reserve, Release, PoolReply, Reserved, TooFew, Released, Foreign, PoolEntry}
+use Rattle.sysv_model.specs.Pool.{PoolHistory, released, frees}
 use Rattle.sysv_pool.specs.State.{reserved, returned, reserved_by, returned_by}
 use Rattle.sysv_pool.specs.LegalReply.{Legal, IsLegalHistory}
 use Rattle.sysv_model.proofs.Snoc.{from_end}
@@ -24,8 +25,10 @@ pub record Within (size : ℕ) (h : PoolHistory) : Type 0 where
 -- One more legal reply keeps them within it.
 step : (size taken back : ℕ) (count : ℕ) (call : PoolCall) (reply : PoolReply) → taken ≤ size + back → back ≤ taken →
     Legal (record { size = size; free = (size + back) - taken; released = count }) call reply →
-    (taken + reserved_by reply ≤ size + (back + returned_by call reply)) × (back + returned_by call reply ≤ taken + reserved_by reply)
-step size taken back count (Reserve n) (Reserved blocks) paid owed legal = (omega (arith, legal.0, legal.1), omega arith)
+    (taken + reserved_by reply ≤ size + (back + returned_by call reply))
+    × (back + returned_by call reply ≤ taken + reserved_by reply)
+step size taken back count (Reserve n) (Reserved blocks) paid owed legal =
+    (omega (arith, legal.0, legal.1), omega arith)
 step size taken back count (Reserve n) TooFew paid owed legal = (omega arith, omega arith)
 step size taken back count (Reserve n) Released paid owed legal = absurd legal
 step size taken back count (Reserve n) Foreign paid owed legal = absurd legal
@@ -39,7 +42,8 @@ within size = from_end (λ (h : PoolHistory). IsLegalHistory size h → Within s
     (λ _. record { paid = omega arith; owed = omega arith })
     (λ h e before legal.
     let was = before (legal_front size h e legal) in
-    let s = step size (reserved h) (returned h) (released h) e.call e.reply was.paid was.owed (legal_last size h e legal) in
+    let s =
+    step size (reserved h) (returned h) (released h) e.call e.reply was.paid was.owed (legal_last size h e legal) in
     record {
       paid = rw (reserved-more h e, returned-more h e) s.0;
       owed = rw (reserved-more h e, returned-more h e) s.1;

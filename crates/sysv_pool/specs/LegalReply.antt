@@ -1,7 +1,8 @@
 -- The legal replies of a pool with this state (this profile's). A reply that is not listed is never
 -- legal.
 use Rattle.std.specs.Prelude.{◌≡◌, ℕ, ◌+◌, ◌<◌, ◌≤◌, ◌∷◌, ◌++◌}
-use Rattle.sysv_model.specs.Pool.{blocks_for, PoolCall, Reserve, Release, PoolReply, Reserved, TooFew, Released, Foreign, PoolEntry, PoolHistory}
+use Rattle.sysv_model.specs.Pool.{blocks_for, PoolCall, Reserve, Release, PoolReply, Reserved, TooFew, Released}
+use Rattle.sysv_model.specs.Pool.{Foreign, PoolEntry, PoolHistory}
 use Rattle.sysv_pool.specs.State.{State, state_of}
 
 -- The replies to reserve: TooFew if and only if fewer blocks are free than the body needs,
@@ -29,4 +30,5 @@ IsLegalReply size h call reply = Legal (state_of size h) call reply
 
 -- Every reply of the history is legal after the entries before it.
 abbrev pub IsLegalHistory : ℕ → PoolHistory → Type 0
-IsLegalHistory size h = (before : PoolHistory) (e : PoolEntry) (after : PoolHistory) → h ≡ before ++ e ∷ after → IsLegalReply size before e.call e.reply
+IsLegalHistory size h = (before : PoolHistory) (e : PoolEntry) (after : PoolHistory) → h ≡ before ++ e ∷ after →
+    IsLegalReply size before e.call e.reply

@@ -9,4 +9,5 @@ SomeReplyIsLegal = (size : ℕ) (h : PoolHistory) (call : PoolCall) → (reply :
 
 -- Two legal replies to the same call after the same history are equal.
 abbrev pub NoTwoRepliesAreLegal : Type 0
-NoTwoRepliesAreLegal = (size : ℕ) (h : PoolHistory) (call : PoolCall) (a b : PoolReply) → IsLegalReply size h call a → IsLegalReply size h call b → a ≡ b
+NoTwoRepliesAreLegal = (size : ℕ) (h : PoolHistory) (call : PoolCall) (a b : PoolReply) → IsLegalReply size h call a →
+    IsLegalReply size h call b → a ≡ b

@@ -1,3 +1,5 @@
+//! Linked blocks of 64 bytes.
+
 ghost use Rattle.std.specs.Prelude.{◌≡◌, ◌≢◌, ℕ, List, [], ◌∷◌, ◌++◌, ◌+◌, ◌-◌, ◌*◌, ◌≤◌, IsTrue, ◌↔◌, length, take, drop, IfOk};
 ghost use Rattle.std.specs.List.{concat};
 ghost use Rattle.sysv_model.specs.declared.limits.TheConstants.{BLOCK_BYTES as block_bytes, BODY_ROOM as body_room};

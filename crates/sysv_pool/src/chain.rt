@@ -1,3 +1,5 @@
+//! Chains of a pool's blocks, with message bodies in them.
+
 ghost use Rattle.std.specs.Prelude.{◌≡◌, ◌+◌, ◌≤◌, [], ◌++◌, length, take};
 ghost use Rattle.sysv_model.specs.declared.limits.TheConstants.{BODY_ROOM as body_room};
 ghost use Rattle.sysv_model.specs.Pool.{blocks_for};

@@ -1,3 +1,5 @@
+//! The pool of blocks.
+
 ghost use Rattle.std.specs.Prelude.{◌≡◌, ◌+◌, ◌-◌, ◌^◌, ◌<◌, ◌≤◌, ◌⊎◌, ◌↔◌, [], IfOk, IfSome, Err, MatchOption, MatchResult};
 ghost use Rattle.sysv_model.specs.declared.limits.TheConstants.{MESSAGE_BYTES as most_bytes, MIN_BLOCKS as least_blocks, MAX_BLOCKS as most_blocks};
 ghost use Rattle.sysv_model.specs.Pool.{blocks_for, Reserve, Release};

@@ -22,7 +22,18 @@ block_send = knot.send-Block (search sendable) (λ h s. options.the_send _ (Box-
 pub block_sync : IsSync block.the_row
 block_sync = knot.sync-Block (search sendable) (λ h s. options.the_sync _ (Box-sync h s))
 
-pub ruleset crossing = (sendable, crosses, options.the_send, options.the_field_send, options.the_sync, options.the_field_sync, declared_send, declared_sync, as_row_send, as_row_sync)
+pub ruleset crossing = (
+  sendable,
+  crosses,
+  options.the_send,
+  options.the_field_send,
+  options.the_sync,
+  options.the_field_sync,
+  declared_send,
+  declared_sync,
+  as_row_send,
+  as_row_sync,
+)
 
 pub chain_send : IsSend chain.the_row
 chain_send = search (crossing, block_send) depth 20

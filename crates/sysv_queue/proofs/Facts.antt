@@ -1,5 +1,7 @@
 -- What holds of every legal history. The lemmas about one more turn use it.
-use Rattle.std.proofs.Common.{◌≡◌, ℕ, zero, suc, ℤ, ◌+◌, ◌<◌, ◌≤◌, inl, inr, append_assoc, Bool, true, false, cond, List, [], ◌∷◌, ◌++◌, Option, None, Some, refl, sym, ap, subst, ◌∙◌, arith, slice_get, remove, add-zero}
+use Rattle.std.proofs.Common.{◌≡◌, ℕ, zero, suc, ℤ, ◌+◌, ◌<◌, ◌≤◌, inl, inr, append_assoc, Bool, true, false, cond}
+use Rattle.std.proofs.Common.{List, [], ◌∷◌, ◌++◌, Option, None, Some, refl, sym, ap, subst, ◌∙◌, arith, slice_get}
+use Rattle.std.proofs.Common.{remove, add-zero}
 use Rattle.std.specs.Ordering.{int_eq}
 use Rattle.std.specs.List.{AllByRecursion}
 use Rattle.std.proofs.lemmas.List.{append-nil}
@@ -7,15 +9,21 @@ use Rattle.sysv_model.specs.declared.cred.Cred.{Cred}
 use Rattle.sysv_model.specs.declared.attributes.Attributes.{Attributes}
 use Rattle.sysv_model.specs.Message.{Message}
 use Rattle.sysv_model.specs.declared.selector.Selector.{Selector}
-use Rattle.sysv_model.specs.History.{Who, Call, Install, Place, Take, Remove, Reply, Installed, Accepted, Taken, Done, Discarded, Entry, History, then_turn, arrived}
+use Rattle.sysv_model.specs.History.{Who, Call, Install, Place, Take, Remove, Reply, Installed, Accepted, Taken, Done}
+use Rattle.sysv_model.specs.History.{Discarded, Entry, History, then_turn, arrived}
 use Rattle.sysv_model.specs.Live.{live, HasId, IsLive, sent_to, received_from, changed_to}
 use Rattle.sysv_model.specs.Waiting.{accepted, delivered, discarded, waiting, held, has_number}
 use Rattle.sysv_queue.specs.Slot.{slot_of}
 use Rattle.sysv_queue.specs.LegalReply.{IsLegalReply, IsLegalHistory}
 use Rattle.sysv_model.proofs.Snoc.{from_end}
 use Rattle.sysv_queue.proofs.Legality.{legal_front, legal_last}
-use Rattle.sysv_queue.proofs.Filters.{Rises, AreBelow, weaker, pushed, filtered, rises_push, rises_filter, below_append, waiting_from, is_new, waiting-accepted, waiting_less, waiting_swapped, none_left, filter-remove}
-use Rattle.sysv_queue.proofs.Turns.{Kind, Quiet, Makes, Accepts, Takes, Changes, Discards, IsStill, accepted-more, delivered-more, discarded-more, live-more, arrived-more, arrived_grows, accepted-still, delivered-still, discarded-still, waiting-still, still_install, still_set, kind_of}
+use Rattle.sysv_queue.proofs.Filters.{Rises, AreBelow, weaker, pushed, filtered, rises_push, rises_filter, below_append}
+use Rattle.sysv_queue.proofs.Filters.{waiting_from, is_new, waiting-accepted, waiting_less, waiting_swapped, none_left}
+use Rattle.sysv_queue.proofs.Filters.{filter-remove}
+use Rattle.sysv_queue.proofs.Turns.{Kind, Quiet, Makes, Accepts, Takes, Changes, Discards, IsStill, accepted-more}
+use Rattle.sysv_queue.proofs.Turns.{delivered-more, discarded-more, live-more, arrived-more, arrived_grows}
+use Rattle.sysv_queue.proofs.Turns.{accepted-still, delivered-still, discarded-still, waiting-still, still_install}
+use Rattle.sysv_queue.proofs.Turns.{still_set, kind_of}
 use Rattle.sysv_queue.proofs.Ids.{same_id, other_id, one_id, decided, waiting_on-id, keeps_id}
 
 pub record Facts (h : History) : Type 0 where
@@ -29,9 +37,11 @@ pub record Facts (h : History) : Type 0 where
   pub others : (id : ℤ) → ¬ IsLive h id → waiting id h ≡ []
 
 pub facts_empty : Facts []
-facts_empty = record { low = λ id. tt; rises = λ id. tt; gone_low = λ id. tt; lost_low = λ id. tt; others = λ id f. refl }
+facts_empty =
+    record { low = λ id. tt; rises = λ id. tt; gone_low = λ id. tt; lost_low = λ id. tt; others = λ id f. refl }
 
-pub at_place : {X : Type 0} (P : X → Type 0) (xs : List X) (place : ℕ) (x : X) → AllByRecursion P xs → slice_get xs place ≡ Some x → P x
+pub at_place : {X : Type 0} (P : X → Type 0) (xs : List X) (place : ℕ) (x : X) → AllByRecursion P xs →
+    slice_get xs place ≡ Some x → P x
 at_place P [] place x a e = absurd cc
 at_place P (y ∷ xs) zero x a e = let same : y ≡ x = cc in subst P same a.0
 at_place P (y ∷ xs) (suc place) x a e = at_place P xs place x a.1 e
@@ -45,39 +55,52 @@ waiting_low h id f = filtered _ (λ (x : Message). x.number < arrived h) (accept
 
 -- Nothing that was delivered or discarded has the arrived count as its number.
 pub none_gone : (h : History) (id : ℤ) → Facts h → has_number (arrived h) (delivered id h ++ discarded id h) ≡ false
-none_gone h id f = is_new (arrived h) (delivered id h ++ discarded id h) (below_append (arrived h) (delivered id h) (discarded id h) (f.gone_low id) (f.lost_low id))
+none_gone h id f = is_new (arrived h) (delivered id h ++ discarded id h)
+    (below_append (arrived h) (delivered id h) (discarded id h) (f.gone_low id) (f.lost_low id))
 
 pub waiting_rises : (h : History) (id : ℤ) → Facts h → Rises (waiting id h)
 waiting_rises h id f = rises_filter _ (accepted id h) (f.rises id)
 
 module _ (h : History) (who : Who) (f : Facts h) where
-  still_facts : (call : Call) (reply : Reply) → IsStill call reply → ((id : ℤ) → ¬ IsLive (then_turn h who call reply) id → waiting id h ≡ []) → Facts (then_turn h who call reply)
+  still_facts : (call : Call) (reply : Reply) → IsStill call reply →
+      ((id : ℤ) → ¬ IsLive (then_turn h who call reply) id → waiting id h ≡ []) → Facts (then_turn h who call reply)
   still_facts call reply s others =
       let e : Entry = record { who = who; call = call; reply = reply } in
       let k : History = h ++ e ∷ [] in
       let grows : arrived h ≤ arrived k = arrived_grows h e in
       record {
-        low = λ id. subst (AreBelow (arrived k)) (sym (accepted-still h e s id)) (later (arrived h) (arrived k) (accepted id h) grows (f.low id));
+        low = λ id.
+            subst (AreBelow (arrived k)) (sym (accepted-still h e s id))
+            (later (arrived h) (arrived k) (accepted id h) grows (f.low id));
         rises = λ id. subst Rises (sym (accepted-still h e s id)) (f.rises id);
-        gone_low = λ id. subst (AreBelow (arrived k)) (sym (delivered-still h e s id)) (later (arrived h) (arrived k) (delivered id h) grows (f.gone_low id));
-        lost_low = λ id. subst (AreBelow (arrived k)) (sym (discarded-still h e s id)) (later (arrived h) (arrived k) (discarded id h) grows (f.lost_low id));
+        gone_low = λ id.
+            subst (AreBelow (arrived k)) (sym (delivered-still h e s id))
+            (later (arrived h) (arrived k) (delivered id h) grows (f.gone_low id));
+        lost_low = λ id.
+            subst (AreBelow (arrived k)) (sym (discarded-still h e s id))
+            (later (arrived h) (arrived k) (discarded id h) grows (f.lost_low id));
         others = λ id g. waiting-still h e s id ∙ others id g;
       }
 
-  made_facts : (id key : ℤ) (cred : Cred) (mode now : ℕ) → live h ≡ None → Facts (then_turn h who (Install id key cred mode now) (Installed true))
+  made_facts : (id key : ℤ) (cred : Cred) (mode now : ℕ) → live h ≡ None →
+      Facts (then_turn h who (Install id key cred mode now) (Installed true))
   made_facts id key cred mode now vacant =
       still_facts (Install id key cred mode now) (Installed true) (still_install id key cred mode now true)
       (λ i g. f.others i (λ lives. subst (λ l. HasId l i) vacant lives))
 
-low_with : (b : Bool) (n : ℕ) (xs : List Message) (m : Message) → AreBelow n xs → m.number ≡ n → AreBelow (n + 1) (xs ++ cond b (m ∷ []) [])
-low_with true n xs m a e = pushed (λ (x : Message). x.number < n + 1) xs m (later n (n + 1) xs (omega arith) a) (omega (arith, e))
+low_with : (b : Bool) (n : ℕ) (xs : List Message) (m : Message) → AreBelow n xs → m.number ≡ n →
+    AreBelow (n + 1) (xs ++ cond b (m ∷ []) [])
+low_with true n xs m a e =
+    pushed (λ (x : Message). x.number < n + 1) xs m (later n (n + 1) xs (omega arith) a) (omega (arith, e))
 low_with false n xs m a e = subst (λ ys. AreBelow (n + 1) ys) (sym (append-nil xs)) (later n (n + 1) xs (omega arith) a)
 
-rises_with : (b : Bool) (xs : List Message) (m : Message) → Rises xs → AreBelow m.number xs → Rises (xs ++ cond b (m ∷ []) [])
+rises_with : (b : Bool) (xs : List Message) (m : Message) → Rises xs → AreBelow m.number xs →
+    Rises (xs ++ cond b (m ∷ []) [])
 rises_with true xs m r a = rises_push xs m r a
 rises_with false xs m r a = subst Rises (sym (append-nil xs)) r
 
-below_with : (b : Bool) (n : ℕ) (xs : List Message) (m : Message) → AreBelow n xs → m.number < n → AreBelow n (xs ++ cond b (m ∷ []) [])
+below_with : (b : Bool) (n : ℕ) (xs : List Message) (m : Message) → AreBelow n xs → m.number < n →
+    AreBelow n (xs ++ cond b (m ∷ []) [])
 below_with true n xs m a l = pushed (λ (x : Message). x.number < n) xs m a l
 below_with false n xs m a l = subst (λ ys. AreBelow n ys) (sym (append-nil xs)) a
 
@@ -85,7 +108,8 @@ pub none_with : (b : Bool) (xs : List Message) (m : Message) → b ≡ false →
 none_with b xs m e = ap (λ t. xs ++ cond t (m ∷ []) []) e ∙ append-nil xs
 
 -- A turn that accepts a message.
-module _ (h : History) (who : Who) (f : Facts h) (at : ℤ) (cred : Cred) (mtype : ℤ) (bytes : List ℕ) (now number : ℕ) (live_at : HasId (live h) at) (numbered : number ≡ arrived h) where
+module _ (h : History) (who : Who) (f : Facts h) (at : ℤ) (cred : Cred) (mtype : ℤ) (bytes : List ℕ) (now number : ℕ)
+    (live_at : HasId (live h) at) (numbered : number ≡ arrived h) where
   abbrev pub sent_message : Message
   sent_message = record { number = number; sender = cred.pid; mtype = mtype; bytes = bytes }
 
@@ -102,10 +126,12 @@ module _ (h : History) (who : Who) (f : Facts h) (at : ℤ) (cred : Cred) (mtype
   low_number id = subst (λ n. AreBelow n (accepted id h)) (sym numbered) (f.low id)
 
   pub accepted-sent : accepted at (h ++ sent_turn ∷ []) ≡ accepted at h ++ sent_message ∷ []
-  accepted-sent = accepted-more at h sent_turn ∙ ap (λ t. accepted at h ++ cond t (sent_message ∷ []) []) (same_id at at refl)
+  accepted-sent =
+      accepted-more at h sent_turn ∙ ap (λ t. accepted at h ++ cond t (sent_message ∷ []) []) (same_id at at refl)
 
   pub accepted_else : (id : ℤ) → ¬ (at ≡ id) → accepted id (h ++ sent_turn ∷ []) ≡ accepted id h
-  accepted_else id other = accepted-more id h sent_turn ∙ none_with (int_eq at id) (accepted id h) sent_message (other_id at id other)
+  accepted_else id other =
+      accepted-more id h sent_turn ∙ none_with (int_eq at id) (accepted id h) sent_message (other_id at id other)
 
   pub waiting_else : (id : ℤ) → ¬ (at ≡ id) → waiting id (h ++ sent_turn ∷ []) ≡ waiting id h
   waiting_else id other =
@@ -120,7 +146,8 @@ module _ (h : History) (who : Who) (f : Facts h) (at : ℤ) (cred : Cred) (mtype
       let gone : List Message = delivered at h ++ discarded at h in
       let new : has_number number gone ≡ false = ap (λ n. has_number n gone) numbered ∙ none_gone h at f in
       ap (λ ms. waiting_from ms (delivered at (h ++ e ∷ []) ++ discarded at (h ++ e ∷ []))) accepted-sent
-      ∙ (ap (λ ms. waiting_from (accepted at h ++ sent_message ∷ []) (ms ++ discarded at (h ++ e ∷ []))) (delivered-sent at)
+      ∙ (ap (λ ms. waiting_from (accepted at h ++ sent_message ∷ []) (ms ++ discarded at (h ++ e ∷ [])))
+      (delivered-sent at)
       ∙ (ap (λ ms. waiting_from (accepted at h ++ sent_message ∷ []) (delivered at h ++ ms)) (discarded-sent at)
       ∙ waiting-accepted (accepted at h) gone sent_message new))
 
@@ -133,19 +160,28 @@ module _ (h : History) (who : Who) (f : Facts h) (at : ℤ) (cred : Cred) (mtype
       let k : History = h ++ e ∷ [] in
       record {
         low = λ id. subst (λ n. AreBelow n (accepted id k)) (sym arrived-sent)
-            (subst (λ ms. AreBelow (arrived h + 1) ms) (sym (accepted-more id h e)) (low_with (int_eq at id) (arrived h) (accepted id h) sent_message (f.low id) numbered));
-        rises = λ id. subst Rises (sym (accepted-more id h e)) (rises_with (int_eq at id) (accepted id h) sent_message (f.rises id) (low_number id));
+            (subst (λ ms. AreBelow (arrived h + 1) ms) (sym (accepted-more id h e))
+            (low_with (int_eq at id) (arrived h) (accepted id h) sent_message (f.low id) numbered));
+        rises = λ id.
+            subst Rises (sym (accepted-more id h e))
+            (rises_with (int_eq at id) (accepted id h) sent_message (f.rises id) (low_number id));
         gone_low = λ id. subst (λ n. AreBelow n (delivered id k)) (sym arrived-sent)
-            (subst (λ ms. AreBelow (arrived h + 1) ms) (sym (delivered-sent id)) (later (arrived h) (arrived h + 1) (delivered id h) (omega arith) (f.gone_low id)));
+            (subst (λ ms. AreBelow (arrived h + 1) ms) (sym (delivered-sent id))
+            (later (arrived h) (arrived h + 1) (delivered id h) (omega arith) (f.gone_low id)));
         lost_low = λ id. subst (λ n. AreBelow n (discarded id k)) (sym arrived-sent)
-            (subst (λ ms. AreBelow (arrived h + 1) ms) (sym (discarded-sent id)) (later (arrived h) (arrived h + 1) (discarded id h) (omega arith) (f.lost_low id)));
+            (subst (λ ms. AreBelow (arrived h + 1) ms) (sym (discarded-sent id))
+            (later (arrived h) (arrived h + 1) (discarded id h) (omega arith) (f.lost_low id)));
         others = λ id g.
-            let still_live : HasId (live h) id → HasId (live k) id = λ l. subst (λ q. HasId q id) (sym (live-more h e)) (keeps_id (sent_to cred now) (λ a. refl) (live h) id l) in
-            waiting_else id (λ same. g (still_live (subst (λ i. HasId (live h) i) same live_at))) ∙ f.others id (λ l. g (still_live l));
+            let still_live : HasId (live h) id → HasId (live k) id = λ l.
+            subst (λ q. HasId q id) (sym (live-more h e)) (keeps_id (sent_to cred now) (λ a. refl) (live h) id l) in
+            waiting_else id (λ same. g (still_live (subst (λ i. HasId (live h) i) same live_at)))
+            ∙ f.others id (λ l. g (still_live l));
       }
 
 -- A turn that delivers the message at a place.
-module _ (h : History) (who : Who) (f : Facts h) (at : ℤ) (cred : Cred) (selector : Selector) (size : ℕ) (noerror : Bool) (now : ℕ) (m : Message) (place : ℕ) (live_at : HasId (live h) at) (there : slice_get (held h) place ≡ Some m) where
+module _ (h : History) (who : Who) (f : Facts h) (at : ℤ) (cred : Cred) (selector : Selector) (size : ℕ)
+    (noerror : Bool) (now : ℕ) (m : Message) (place : ℕ) (live_at : HasId (live h) at)
+    (there : slice_get (held h) place ≡ Some m) where
   abbrev pub taken_turn : Entry
   taken_turn = record { who = who; call = Take at cred selector size noerror now; reply = Taken m }
 
@@ -168,7 +204,8 @@ module _ (h : History) (who : Who) (f : Facts h) (at : ℤ) (cred : Cred) (selec
   delivered-taken = delivered-more at h taken_turn ∙ ap (λ t. delivered at h ++ cond t (m ∷ []) []) (same_id at at refl)
 
   pub delivered_else : (id : ℤ) → ¬ (at ≡ id) → delivered id (h ++ taken_turn ∷ []) ≡ delivered id h
-  delivered_else id other = delivered-more id h taken_turn ∙ none_with (int_eq at id) (delivered id h) m (other_id at id other)
+  delivered_else id other =
+      delivered-more id h taken_turn ∙ none_with (int_eq at id) (delivered id h) m (other_id at id other)
 
   pub untouched : (id : ℤ) → ¬ (at ≡ id) → waiting id (h ++ taken_turn ∷ []) ≡ waiting id h
   untouched id other =
@@ -182,21 +219,31 @@ module _ (h : History) (who : Who) (f : Facts h) (at : ℤ) (cred : Cred) (selec
       let e = taken_turn in
       let k : History = h ++ e ∷ [] in
       record {
-        low = λ id. subst (λ n. AreBelow n (accepted id k)) (sym arrived-taken) (subst (λ ms. AreBelow (arrived h) ms) (sym (accepted-taken id)) (f.low id));
+        low = λ id.
+            subst (λ n. AreBelow n (accepted id k)) (sym arrived-taken)
+            (subst (λ ms. AreBelow (arrived h) ms) (sym (accepted-taken id)) (f.low id));
         rises = λ id. subst Rises (sym (accepted-taken id)) (f.rises id);
         gone_low = λ id. subst (λ n. AreBelow n (delivered id k)) (sym arrived-taken)
-            (subst (λ ms. AreBelow (arrived h) ms) (sym (delivered-more id h e)) (below_with (int_eq at id) (arrived h) (delivered id h) m (f.gone_low id) taken_low));
-        lost_low = λ id. subst (λ n. AreBelow n (discarded id k)) (sym arrived-taken) (subst (λ ms. AreBelow (arrived h) ms) (sym (discarded-taken id)) (f.lost_low id));
+            (subst (λ ms. AreBelow (arrived h) ms) (sym (delivered-more id h e))
+            (below_with (int_eq at id) (arrived h) (delivered id h) m (f.gone_low id) taken_low));
+        lost_low = λ id.
+            subst (λ n. AreBelow n (discarded id k)) (sym arrived-taken)
+            (subst (λ ms. AreBelow (arrived h) ms) (sym (discarded-taken id)) (f.lost_low id));
         others = λ id g.
-            let still_live : HasId (live h) id → HasId (live k) id = λ l. subst (λ q. HasId q id) (sym (live-more h e)) (keeps_id (received_from cred now) (λ a. refl) (live h) id l) in
-            untouched id (λ same. g (still_live (subst (λ i. HasId (live h) i) same live_at))) ∙ f.others id (λ l. g (still_live l));
+            let still_live : HasId (live h) id → HasId (live k) id = λ l.
+            subst (λ q. HasId q id) (sym (live-more h e))
+            (keeps_id (received_from cred now) (λ a. refl) (live h) id l) in
+            untouched id (λ same. g (still_live (subst (λ i. HasId (live h) i) same live_at)))
+            ∙ f.others id (λ l. g (still_live l));
       }
 
   pub waiting-taken : waiting at (h ++ taken_turn ∷ []) ≡ remove (waiting at h) place
   waiting-taken =
       let e = taken_turn in
-      let gone_after : delivered at (h ++ e ∷ []) ++ discarded at (h ++ e ∷ []) ≡ (delivered at h ++ m ∷ []) ++ discarded at h =
-      ap (λ ms. delivered at (h ++ e ∷ []) ++ ms) (discarded-taken at) ∙ ap (λ ms. ms ++ discarded at h) delivered-taken in
+      let gone_after : delivered at (h ++ e ∷ []) ++ discarded at (h ++ e ∷ [])
+      ≡ (delivered at h ++ m ∷ []) ++ discarded at h =
+      ap (λ ms. delivered at (h ++ e ∷ []) ++ ms) (discarded-taken at)
+      ∙ ap (λ ms. ms ++ discarded at h) delivered-taken in
       ap (λ ms. waiting_from ms (delivered at (h ++ e ∷ []) ++ discarded at (h ++ e ∷ []))) (accepted-taken at)
       ∙ (ap (waiting_from (accepted at h)) gone_after
       ∙ (waiting_swapped (accepted at h) (delivered at h) (m ∷ []) (discarded at h)
@@ -204,7 +251,8 @@ module _ (h : History) (who : Who) (f : Facts h) (at : ℤ) (cred : Cred) (selec
       ∙ filter-remove (waiting at h) place m (waiting_rises h at f) there_at)))
 
 -- A turn that discards all queued messages.
-module _ (h : History) (who : Who) (f : Facts h) (at : ℤ) (cred : Cred) (messages : List Message) (live_at : HasId (live h) at) (whole : messages ≡ held h) where
+module _ (h : History) (who : Who) (f : Facts h) (at : ℤ) (cred : Cred) (messages : List Message)
+    (live_at : HasId (live h) at) (whole : messages ≡ held h) where
   abbrev pub removed_turn : Entry
   removed_turn = record { who = who; call = Remove at cred; reply = Discarded messages }
 
@@ -217,10 +265,12 @@ module _ (h : History) (who : Who) (f : Facts h) (at : ℤ) (cred : Cred) (messa
   pub discarded-removed : discarded at (h ++ removed_turn ∷ []) ≡ discarded at h ++ waiting at h
   discarded-removed =
       discarded-more at h removed_turn
-      ∙ (ap (λ t. discarded at h ++ cond t messages []) (same_id at at refl) ∙ ap (λ ms. discarded at h ++ ms) (whole ∙ waiting_on-id (live h) at h live_at))
+      ∙ (ap (λ t. discarded at h ++ cond t messages []) (same_id at at refl)
+      ∙ ap (λ ms. discarded at h ++ ms) (whole ∙ waiting_on-id (live h) at h live_at))
 
   pub discarded_else : (id : ℤ) → ¬ (at ≡ id) → discarded id (h ++ removed_turn ∷ []) ≡ discarded id h
-  discarded_else id other = discarded-more id h removed_turn ∙ (ap (λ t. discarded id h ++ cond t messages []) (other_id at id other) ∙ append-nil _)
+  discarded_else id other = discarded-more id h removed_turn
+      ∙ (ap (λ t. discarded id h ++ cond t messages []) (other_id at id other) ∙ append-nil _)
 
   pub left_else : (id : ℤ) → ¬ (at ≡ id) → waiting id (h ++ removed_turn ∷ []) ≡ waiting id h
   left_else id other =
@@ -242,7 +292,8 @@ module _ (h : History) (who : Who) (f : Facts h) (at : ℤ) (cred : Cred) (messa
   lost_with : (id : ℤ) → AreBelow (arrived h) (discarded id (h ++ removed_turn ∷ []))
   lost_with id = elim (decided at id) [
     | inl same ↦ subst (λ i. AreBelow (arrived h) (discarded i (h ++ removed_turn ∷ []))) same
-        (subst (AreBelow (arrived h)) (sym discarded-removed) (below_append (arrived h) (discarded at h) (waiting at h) (f.lost_low at) (waiting_low h at f)))
+        (subst (AreBelow (arrived h)) (sym discarded-removed)
+        (below_append (arrived h) (discarded at h) (waiting at h) (f.lost_low at) (waiting_low h at f)))
     | inr other ↦ subst (AreBelow (arrived h)) (sym (discarded_else id other)) (f.lost_low id)
   ]
 
@@ -252,9 +303,13 @@ module _ (h : History) (who : Who) (f : Facts h) (at : ℤ) (cred : Cred) (messa
       let k : History = h ++ e ∷ [] in
       let grows : arrived h ≤ arrived k = arrived_grows h e in
       record {
-        low = λ id. subst (AreBelow (arrived k)) (sym (accepted-removed id)) (later (arrived h) (arrived k) (accepted id h) grows (f.low id));
+        low = λ id.
+            subst (AreBelow (arrived k)) (sym (accepted-removed id))
+            (later (arrived h) (arrived k) (accepted id h) grows (f.low id));
         rises = λ id. subst Rises (sym (accepted-removed id)) (f.rises id);
-        gone_low = λ id. subst (AreBelow (arrived k)) (sym (delivered-removed id)) (later (arrived h) (arrived k) (delivered id h) grows (f.gone_low id));
+        gone_low = λ id.
+            subst (AreBelow (arrived k)) (sym (delivered-removed id))
+            (later (arrived h) (arrived k) (delivered id h) grows (f.gone_low id));
         lost_low = λ id. later (arrived h) (arrived k) (discarded id k) grows (lost_with id);
         others = λ id g. elim (decided at id) [
           | inl same ↦ subst (λ i. waiting i k ≡ []) same none_waits
@@ -262,16 +317,28 @@ module _ (h : History) (who : Who) (f : Facts h) (at : ℤ) (cred : Cred) (messa
         ];
       }
 
-kind_facts : (h : History) (who : Who) (call : Call) (reply : Reply) → Kind call reply → Facts h → IsLegalReply h call reply → Facts (then_turn h who call reply)
+kind_facts : (h : History) (who : Who) (call : Call) (reply : Reply) → Kind call reply → Facts h →
+    IsLegalReply h call reply → Facts (then_turn h who call reply)
 kind_facts h who call reply (Quiet q) f l =
-    still_facts h who f call reply q.still (λ id g. f.others id (λ lives. g (subst (λ (a : Option Attributes). HasId a id) (sym (live-more h (record { who = who; call = call; reply = reply }) ∙ q.live (live h))) lives)))
+    still_facts h who f call reply q.still (λ id g.
+    f.others id (λ lives.
+    g (subst (λ (a : Option Attributes). HasId a id)
+    (sym (live-more h (record { who = who; call = call; reply = reply }) ∙ q.live (live h))) lives)))
 kind_facts h who call reply (Makes id key cred mode now) f l = made_facts h who f id key cred mode now l
 kind_facts h who call reply (Changes id cred to now) f l =
-    still_facts h who f call reply (still_set id cred to now Done) (λ i g. f.others i (λ lives. g (subst (λ (a : Option Attributes). HasId a i) (sym (live-more h (record { who = who; call = call; reply = reply }))) (keeps_id (changed_to to now) (λ a. refl) (live h) i lives))))
+    still_facts h who f call reply (still_set id cred to now Done) (λ i g.
+    f.others i (λ lives.
+    g (subst (λ (a : Option Attributes). HasId a i)
+    (sym (live-more h (record { who = who; call = call; reply = reply })))
+    (keeps_id (changed_to to now) (λ a. refl) (live h) i lives))))
 kind_facts h who call reply (Discards id cred messages) f l = removed_facts h who f id cred messages l.0 l.2
-kind_facts h who call reply (Accepts id cred mtype bytes now number) f l = sent_facts h who f id cred mtype bytes now number l.0 l.3
-kind_facts h who call reply (Takes id cred selector size noerror now m) f l = taken_facts h who f id cred selector size noerror now m l.2.0 l.0 l.2.2
+kind_facts h who call reply (Accepts id cred mtype bytes now number) f l =
+    sent_facts h who f id cred mtype bytes now number l.0 l.3
+kind_facts h who call reply (Takes id cred selector size noerror now m) f l =
+    taken_facts h who f id cred selector size noerror now m l.2.0 l.0 l.2.2
 
 pub facts : (h : History) → IsLegalHistory h → Facts h
 facts = from_end (λ (h : History). IsLegalHistory h → Facts h) (λ _. facts_empty)
-    (λ h e before legal. kind_facts h e.who e.call e.reply (kind_of (slot_of h) e.call e.reply (legal_last h e legal)) (before (legal_front h e legal)) (legal_last h e legal))
+    (λ h e before legal.
+    kind_facts h e.who e.call e.reply (kind_of (slot_of h) e.call e.reply (legal_last h e legal))
+    (before (legal_front h e legal)) (legal_last h e legal))

@@ -1,5 +1,6 @@
 -- Identifiers: when two are equal, and what a live identifier implies.
-use Rattle.std.proofs.Common.{◌≡◌, ℤ, Bool, true, false, Option, None, Some, refl, sym, ap, ◌∙◌, option_map, ◌⊎◌, inl, inr}
+use Rattle.std.proofs.Common.{◌≡◌, ℤ, Bool, true, false, Option, None, Some, refl, sym, ap, ◌∙◌, option_map, ◌⊎◌, inl}
+use Rattle.std.proofs.Common.{inr}
 use Rattle.std.specs.Ordering.{int_eq}
 use Rattle.std.proofs.lemmas.Bool.Decides.{Decides-int_eq}
 use Rattle.sysv_model.specs.declared.attributes.Attributes.{Attributes}
@@ -27,12 +28,14 @@ waiting_on-id None id h live = absurd live
 waiting_on-id (Some q) id h live = ap (λ i. waiting i h) live
 
 -- A change that keeps the identifier keeps it live.
-pub keeps_id : (f : Attributes → Attributes) → ((a : Attributes) → (f a).id ≡ a.id) → (l : Option Attributes) (id : ℤ) → HasId l id → HasId (option_map f l) id
+pub keeps_id : (f : Attributes → Attributes) → ((a : Attributes) → (f a).id ≡ a.id) → (l : Option Attributes) (id : ℤ) →
+    HasId l id → HasId (option_map f l) id
 keeps_id f same None id live = live
 keeps_id f same (Some q) id live = same q ∙ live
 
 -- Such a change makes no other identifier live.
-pub gives_no_id : (f : Attributes → Attributes) → ((a : Attributes) → (f a).id ≡ a.id) → (l : Option Attributes) (id : ℤ) → HasId (option_map f l) id → HasId l id
+pub gives_no_id : (f : Attributes → Attributes) → ((a : Attributes) → (f a).id ≡ a.id) → (l : Option Attributes)
+    (id : ℤ) → HasId (option_map f l) id → HasId l id
 gives_no_id f same None id live = live
 gives_no_id f same (Some q) id live = sym (same q) ∙ live
 

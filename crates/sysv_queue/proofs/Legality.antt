@@ -11,7 +11,8 @@ no_entry (b ∷ before) after e h = cc
 pub legal_empty : IsLegalHistory []
 legal_empty before e after h = absurd (no_entry before after e h)
 
-pub legal_more : (h : History) (e : Entry) → IsLegalHistory h → IsLegalReply h e.call e.reply → IsLegalHistory (h ++ e ∷ [])
+pub legal_more : (h : History) (e : Entry) → IsLegalHistory h → IsLegalReply h e.call e.reply →
+    IsLegalHistory (h ++ e ∷ [])
 legal_more h e legal last before f after same =
     elim (at_end h before after e f same) [
       | inl w ↦ let front : before ≡ h = w.1 in let entry : f ≡ e = w.2 in

@@ -6,12 +6,12 @@ pub mod Facts
 pub mod Stands
 pub mod Removal
 pub mod Rules
-pub mod Naming
+pub mod NamedMessage
 pub mod Order
 pub mod Distinct
 pub mod Conserved
 pub mod OneOwner
-pub mod Accepting
+pub mod AcceptedNumber
 pub mod InOrder
 pub mod Final
 pub mod Law
@@ -21,7 +21,7 @@ pub mod ForGood
 pub mod WorkedRemoval
 pub mod Control
 pub mod Shows
-pub mod Numbering
+pub mod NumbersStayBelow
 pub mod Receives
 pub mod Crossing
 pub mod BlocksKept

@@ -1,6 +1,7 @@
 -- Each call has exactly one legal reply, because permission is granted or not, and a selector names
 -- one place or none.
-use Rattle.std.proofs.Common.{◌≡◌, ◌≢◌, ℕ, ℤ, ◌+◌, ◌⊎◌, inl, inr, Bool, true, false, List, Option, None, Some, IsSome, refl, sym, ap, subst, ◌∙◌, arith, length, option_map, bit_and}
+use Rattle.std.proofs.Common.{◌≡◌, ◌≢◌, ℕ, ℤ, ◌+◌, ◌⊎◌, inl, inr, Bool, true, false, List, Option, None, Some, IsSome}
+use Rattle.std.proofs.Common.{refl, sym, ap, subst, ◌∙◌, arith, length, option_map, bit_and}
 use Rattle.std.proofs.lemmas.Bool.{cases_eq}
 use Rattle.sysv_lists.proofs.Orders.{at_most}
 use Rattle.sysv_model.specs.declared.cred.Cred.{Cred}
@@ -11,7 +12,9 @@ use Rattle.sysv_model.specs.declared.attributes.SetTo.{SetTo}
 use Rattle.sysv_model.specs.declared.limits.TheConstants.{MAX_QBYTES}
 use Rattle.sysv_model.specs.Message.{Message}
 use Rattle.sysv_model.specs.declared.selector.Selector.{Selector}
-use Rattle.sysv_model.specs.History.{Call, Install, Probe, Look, Place, Take, ReadStat, Set, Remove, ReadRow, Reply, Installed, Gone, Denied, Granted, Full, Fits, Accepted, NoMatch, TooLong, Taken, Told, Done, Discarded, Refused, Shown}
+use Rattle.sysv_model.specs.History.{Call, Install, Probe, Look, Place, Take, ReadStat, Set, Remove, ReadRow, Reply}
+use Rattle.sysv_model.specs.History.{Installed, Gone, Denied, Granted, Full, Fits, Accepted, NoMatch, TooLong, Taken}
+use Rattle.sysv_model.specs.History.{Told, Done, Discarded, Refused, Shown}
 use Rattle.sysv_model.specs.Live.{HasId}
 use Rattle.sysv_rules.specs.declared.permission.Want.{Want}
 use Rattle.sysv_rules.specs.declared.permission.Want.TheVariants.{Read, Write}
@@ -19,33 +22,41 @@ use Rattle.sysv_queue.specs.Slot.{Slot, slot_of}
 use Rattle.sysv_queue.specs.Fits.{Fits as FitsOn, bytes_of}
 use Rattle.sysv_queue.specs.Granted.{IsGranted, MayAsAsked, MayControl, MayLimit}
 use Rattle.sysv_queue.specs.Shown.{stat_of, row_of}
-use Rattle.sysv_queue.specs.LegalReply.{Legal, LegalInstall, LegalProbe, LegalStat, LegalRow, LegalLook, LegalPlace, LegalTake, LegalSet, LegalRemove, HasRoom, Names, IsGivable}
+use Rattle.sysv_queue.specs.LegalReply.{Legal, LegalInstall, LegalProbe, LegalStat, LegalRow, LegalLook, LegalPlace}
+use Rattle.sysv_queue.specs.LegalReply.{LegalTake, LegalSet, LegalRemove, HasRoom, Names, IsGivable}
 use Rattle.sysv_queue.specs.Named.{types_of}
 use Rattle.sysv_queue.specs.OneReply.{SomeReplyIsLegal, NoTwoRepliesAreLegal}
 use Rattle.sysv_queue.proofs.Ids.{is_live}
 use Rattle.sysv_queue.proofs.Rules.{PermittedOrNot, NamedOrNone, OneNamed}
-use Rattle.sysv_queue.proofs.Naming.{named_message, none_named, never_given, one_message_named}
+use Rattle.sysv_queue.proofs.NamedMessage.{named_message, none_named, never_given, one_message_named}
 
-room_at : (qbytes : ℕ) (messages : List Message) (size : ℕ) → FitsOn qbytes messages size ⊎ ¬ FitsOn qbytes messages size
+room_at : (qbytes : ℕ) (messages : List Message) (size : ℕ) →
+    FitsOn qbytes messages size ⊎ ¬ FitsOn qbytes messages size
 room_at qbytes messages size = elim (at_most (bytes_of messages + size) qbytes) [
-  | inl bytes ↦ elim (at_most 256 (length messages)) [ inl many ↦ inr (λ h. omega (arith, h.1)) | inr few ↦ inl (bytes, few) ]
+  | inl bytes ↦
+      elim (at_most 256 (length messages)) [ inl many ↦ inr (λ h. omega (arith, h.1)) | inr few ↦ inl (bytes, few) ]
   | inr over ↦ inr (λ h. omega (arith, h.0))
 ]
 
 has_room : (l : Option Attributes) (messages : List Message) (arrived freed size : ℕ) →
-    HasRoom (record { live = l; messages = messages; arrived = arrived; freed = freed }) size ⊎ ¬ HasRoom (record { live = l; messages = messages; arrived = arrived; freed = freed }) size
+    HasRoom (record { live = l; messages = messages; arrived = arrived; freed = freed }) size
+    ⊎ ¬ HasRoom (record { live = l; messages = messages; arrived = arrived; freed = freed }) size
 has_room None messages arrived freed size = inr (λ room. room)
 has_room (Some a) messages arrived freed size = room_at a.qbytes messages size
 
 can_give : (size : ℕ) (noerror : Bool) (m : Message) → IsGivable size noerror m ⊎ ¬ IsGivable size noerror m
 can_give size true m = inl (inr refl)
-can_give size false m = elim (at_most (length m.bytes) size) [ inl short ↦ inl (inl short) | inr long ↦ inr (never_given size false m long refl) ]
+can_give size false m = elim (at_most (length m.bytes) size) [
+  | inl short ↦ inl (inl short)
+  | inr long ↦ inr (never_given size false m long refl)
+]
 
 the_live : (l : Option Attributes) (id : ℤ) → HasId l id → (a : Attributes) × (l ≡ Some a)
 the_live None id lives = absurd lives
 the_live (Some a) id lives = (a, refl)
 
-some_install : (l : Option Attributes) (messages : List Message) (arrived freed : ℕ) → (reply : Reply) × LegalInstall (record { live = l; messages = messages; arrived = arrived; freed = freed }) reply
+some_install : (l : Option Attributes) (messages : List Message) (arrived freed : ℕ) →
+    (reply : Reply) × LegalInstall (record { live = l; messages = messages; arrived = arrived; freed = freed }) reply
 some_install None messages arrived freed = (Installed true, refl)
 some_install (Some a) messages arrived freed = (Installed false, refl)
 
@@ -58,7 +69,8 @@ controls cred (Some a) = elim (cases_eq cred.uid 0) [
     | inl owner ↦ inl (inr (inl owner))
     | inr no_owner ↦ elim (cases_eq cred.uid a.perm.cuid) [
       | inl creator ↦ inl (inr (inr creator))
-      | inr no_creator ↦ inr (λ h. elim h [ inl e ↦ other e | inr w ↦ elim w [ inl e ↦ no_owner e | inr e ↦ no_creator e ] ])
+      | inr no_creator ↦
+          inr (λ h. elim h [ inl e ↦ other e | inr w ↦ elim w [ inl e ↦ no_owner e | inr e ↦ no_creator e ] ])
     ]
   ]
 ]
@@ -103,28 +115,36 @@ module _ (permitted : PermittedOrNot) (named_or_none : NamedOrNone) where
   granted want cred (Some a) = permitted cred a.perm want
 
   -- The permission that the flags request is granted or not.
-  wanted : (want : Want) (bits : ℕ) (cred : Cred) (l : Option Attributes) → (bits ≢ 0 → IsGranted want cred l) ⊎ ¬ (bits ≢ 0 → IsGranted want cred l)
+  wanted : (want : Want) (bits : ℕ) (cred : Cred) (l : Option Attributes) →
+      (bits ≢ 0 → IsGranted want cred l) ⊎ ¬ (bits ≢ 0 → IsGranted want cred l)
   wanted want bits cred l = elim (granted want cred l) [
     | inl may ↦ inl (λ asks. may)
-    | inr not ↦ elim (cases_eq bits 0) [ inl none ↦ inl (λ asks. absurd (asks none)) | inr asks ↦ inr (λ f. not (f asks)) ]
+    | inr not ↦
+        elim (cases_eq bits 0) [ inl none ↦ inl (λ asks. absurd (asks none)) | inr asks ↦ inr (λ f. not (f asks)) ]
   ]
 
   asked : (flags : Flags) (cred : Cred) (l : Option Attributes) → MayAsAsked flags cred l ⊎ ¬ MayAsAsked flags cred l
   asked flags cred l = elim (wanted Read (bit_and flags.0 0o444) cred l) [
-    | inl read ↦ elim (wanted Write (bit_and flags.0 0o222) cred l) [ inl write ↦ inl (read, write) | inr not ↦ inr (λ w. not w.1) ]
+    | inl read ↦ elim (wanted Write (bit_and flags.0 0o222) cred l) [
+      | inl write ↦ inl (read, write)
+      | inr not ↦ inr (λ w. not w.1)
+    ]
     | inr not ↦ inr (λ w. not w.0)
   ]
 
   some_probe : (s : Slot) (id : ℤ) (cred : Cred) (flags : Flags) → (reply : Reply) × LegalProbe s id cred flags reply
   some_probe s id cred flags = elim (is_live s.live id) [
-    | inl lives ↦ elim (asked flags cred s.live) [ inl may ↦ (Granted, (lives, may)) | inr not ↦ (Denied, (lives, not)) ]
+    | inl lives ↦
+        elim (asked flags cred s.live) [ inl may ↦ (Granted, (lives, may)) | inr not ↦ (Denied, (lives, not)) ]
     | inr gone ↦ (Gone, gone)
   ]
 
   some_stat : (s : Slot) (id : ℤ) (cred : Cred) → (reply : Reply) × LegalStat s id cred reply
   some_stat s id cred = elim (is_live s.live id) [
     | inl lives ↦ elim (granted Read cred s.live) [
-      | inl may ↦ let at = the_live s.live id lives in (Told (stat_of s.messages at.0), (lives, may, ap (option_map (stat_of s.messages)) at.1))
+      | inl may ↦
+          let at = the_live s.live id lives in
+          (Told (stat_of s.messages at.0), (lives, may, ap (option_map (stat_of s.messages)) at.1))
       | inr not ↦ (Refused EACCES, (lives, not))
     ]
     | inr gone ↦ (Refused EINVAL, gone)
@@ -133,7 +153,10 @@ module _ (permitted : PermittedOrNot) (named_or_none : NamedOrNone) where
   some_look : (s : Slot) (id : ℤ) (cred : Cred) (size : ℕ) → (reply : Reply) × LegalLook s id cred size reply
   some_look s id cred size = elim (is_live s.live id) [
     | inl lives ↦ elim (granted Write cred s.live) [
-      | inl may ↦ elim (has_room s.live s.messages s.arrived s.freed size) [ inl room ↦ (Fits, (lives, may, room)) | inr none ↦ (Full s.freed, (lives, may, none, refl)) ]
+      | inl may ↦ elim (has_room s.live s.messages s.arrived s.freed size) [
+        | inl room ↦ (Fits, (lives, may, room))
+        | inr none ↦ (Full s.freed, (lives, may, none, refl))
+      ]
       | inr not ↦ (Denied, (lives, not))
     ]
     | inr gone ↦ (Gone, gone)
@@ -142,23 +165,31 @@ module _ (permitted : PermittedOrNot) (named_or_none : NamedOrNone) where
   some_place : (s : Slot) (id : ℤ) (cred : Cred) (size : ℕ) → (reply : Reply) × LegalPlace s id cred size reply
   some_place s id cred size = elim (is_live s.live id) [
     | inl lives ↦ elim (granted Write cred s.live) [
-      | inl may ↦ elim (has_room s.live s.messages s.arrived s.freed size) [ inl room ↦ (Accepted s.arrived, (lives, may, room, refl)) | inr none ↦ (Full s.freed, (lives, may, none, refl)) ]
+      | inl may ↦ elim (has_room s.live s.messages s.arrived s.freed size) [
+        | inl room ↦ (Accepted s.arrived, (lives, may, room, refl))
+        | inr none ↦ (Full s.freed, (lives, may, none, refl))
+      ]
       | inr not ↦ (Denied, (lives, not))
     ]
     | inr gone ↦ (Gone, gone)
   ]
 
-  named_taken : (s : Slot) (id : ℤ) (cred : Cred) (selector : Selector) (size : ℕ) (noerror : Bool) (m : Message) → HasId s.live id → IsGranted Read cred s.live → Names s selector m → (reply : Reply) × LegalTake s id cred selector size noerror reply
+  named_taken : (s : Slot) (id : ℤ) (cred : Cred) (selector : Selector) (size : ℕ) (noerror : Bool) (m : Message) →
+      HasId s.live id → IsGranted Read cred s.live → Names s selector m →
+      (reply : Reply) × LegalTake s id cred selector size noerror reply
   named_taken s id cred selector size noerror m lives may named = elim (can_give size noerror m) [
     | inl can ↦ (Taken m, (lives, may, named, can))
     | inr not ↦ (TooLong, (lives, may, (m, named, not)))
   ]
 
-  some_take : (s : Slot) (id : ℤ) (cred : Cred) (selector : Selector) (size : ℕ) (noerror : Bool) → (reply : Reply) × LegalTake s id cred selector size noerror reply
+  some_take : (s : Slot) (id : ℤ) (cred : Cred) (selector : Selector) (size : ℕ) (noerror : Bool) →
+      (reply : Reply) × LegalTake s id cred selector size noerror reply
   some_take s id cred selector size noerror = elim (is_live s.live id) [
     | inl lives ↦ elim (granted Read cred s.live) [
       | inl may ↦ elim (named_or_none selector (types_of s.messages)) [
-        | inl at ↦ let named = named_message s selector at.0 at.1 in named_taken s id cred selector size noerror named.0 lives may named.1
+        | inl at ↦
+            let named = named_message s selector at.0 at.1 in
+            named_taken s id cred selector size noerror named.0 lives may named.1
         | inr none ↦ (NoMatch s.arrived, (lives, may, none_named selector s.messages none, refl))
       ]
       | inr not ↦ (Denied, (lives, not))
@@ -195,7 +226,8 @@ one_install s (Installed true) b la lb = absurd lb
 one_install s (Installed false) b la lb = absurd lb
 one_install s a b la lb = absurd la
 
-one_probe : (s : Slot) (id : ℤ) (cred : Cred) (flags : Flags) (a b : Reply) → LegalProbe s id cred flags a → LegalProbe s id cred flags b → a ≡ b
+one_probe : (s : Slot) (id : ℤ) (cred : Cred) (flags : Flags) (a b : Reply) → LegalProbe s id cred flags a →
+    LegalProbe s id cred flags b → a ≡ b
 one_probe s id cred flags Gone Gone la lb = refl
 one_probe s id cred flags Gone Denied la lb = absurd (la lb.0)
 one_probe s id cred flags Gone Granted la lb = absurd (la lb.0)
@@ -226,21 +258,25 @@ one_stat s id cred (Told stat) b la lb = absurd lb
 one_stat s id cred a b la lb = absurd la
 
 -- The causes of EINVAL, of EPERM and of success exclude each other.
-set_invalid : (s : Slot) (id : ℤ) (cred : Cred) (to : SetTo) → LegalSet s id cred to (Refused EINVAL) → LegalSet s id cred to (Refused EPERM) → ⊥
+set_invalid : (s : Slot) (id : ℤ) (cred : Cred) (to : SetTo) → LegalSet s id cred to (Refused EINVAL) →
+    LegalSet s id cred to (Refused EPERM) → ⊥
 set_invalid s id cred to (inl gone) (inl w) = gone w.0
 set_invalid s id cred to (inl gone) (inr w) = gone w.0
 set_invalid s id cred to (inr w) (inl v) = v.1 w.1
 set_invalid s id cred to (inr w) (inr v) = w.2 v.2
 
-set_invalid_done : (s : Slot) (id : ℤ) (cred : Cred) (to : SetTo) → LegalSet s id cred to (Refused EINVAL) → LegalSet s id cred to Done → ⊥
+set_invalid_done : (s : Slot) (id : ℤ) (cred : Cred) (to : SetTo) → LegalSet s id cred to (Refused EINVAL) →
+    LegalSet s id cred to Done → ⊥
 set_invalid_done s id cred to (inl gone) l = gone l.0
 set_invalid_done s id cred to (inr w) l = w.2 l.2
 
-set_denied_done : (s : Slot) (id : ℤ) (cred : Cred) (to : SetTo) → LegalSet s id cred to (Refused EPERM) → LegalSet s id cred to Done → ⊥
+set_denied_done : (s : Slot) (id : ℤ) (cred : Cred) (to : SetTo) → LegalSet s id cred to (Refused EPERM) →
+    LegalSet s id cred to Done → ⊥
 set_denied_done s id cred to (inl w) l = w.1 l.1
 set_denied_done s id cred to (inr w) l = w.3 l.3
 
-one_set : (s : Slot) (id : ℤ) (cred : Cred) (to : SetTo) (a b : Reply) → LegalSet s id cred to a → LegalSet s id cred to b → a ≡ b
+one_set : (s : Slot) (id : ℤ) (cred : Cred) (to : SetTo) (a b : Reply) → LegalSet s id cred to a →
+    LegalSet s id cred to b → a ≡ b
 one_set s id cred to (Refused EINVAL) (Refused EINVAL) la lb = refl
 one_set s id cred to (Refused EINVAL) (Refused EPERM) la lb = absurd (set_invalid s id cred to la lb)
 one_set s id cred to (Refused EINVAL) Done la lb = absurd (set_invalid_done s id cred to la lb)
@@ -275,70 +311,80 @@ one_row s (Shown row) (Shown other) la lb = ap Shown (la ∙ sym lb)
 one_row s (Shown row) b la lb = absurd lb
 one_row s a b la lb = absurd la
 
-look_full : (s : Slot) (id : ℤ) (cred : Cred) (size freed : ℕ) (b : Reply) → LegalLook s id cred size (Full freed) → LegalLook s id cred size b → Full freed ≡ b
+look_full : (s : Slot) (id : ℤ) (cred : Cred) (size freed : ℕ) (b : Reply) → LegalLook s id cred size (Full freed) →
+    LegalLook s id cred size b → Full freed ≡ b
 look_full s id cred size freed Gone la lb = absurd (lb la.0)
 look_full s id cred size freed Denied la lb = absurd (lb.1 la.1)
 look_full s id cred size freed (Full other) la lb = ap Full (la.3 ∙ sym lb.3)
 look_full s id cred size freed Fits la lb = absurd (la.2 lb.2)
 look_full s id cred size freed b la lb = absurd lb
 
-look_fits : (s : Slot) (id : ℤ) (cred : Cred) (size : ℕ) (b : Reply) → LegalLook s id cred size Fits → LegalLook s id cred size b → Fits ≡ b
+look_fits : (s : Slot) (id : ℤ) (cred : Cred) (size : ℕ) (b : Reply) → LegalLook s id cred size Fits →
+    LegalLook s id cred size b → Fits ≡ b
 look_fits s id cred size Gone la lb = absurd (lb la.0)
 look_fits s id cred size Denied la lb = absurd (lb.1 la.1)
 look_fits s id cred size (Full other) la lb = absurd (lb.2 la.2)
 look_fits s id cred size Fits la lb = refl
 look_fits s id cred size b la lb = absurd lb
 
-look_denied : (s : Slot) (id : ℤ) (cred : Cred) (size : ℕ) (b : Reply) → LegalLook s id cred size Denied → LegalLook s id cred size b → Denied ≡ b
+look_denied : (s : Slot) (id : ℤ) (cred : Cred) (size : ℕ) (b : Reply) → LegalLook s id cred size Denied →
+    LegalLook s id cred size b → Denied ≡ b
 look_denied s id cred size Gone la lb = absurd (lb la.0)
 look_denied s id cred size Denied la lb = refl
 look_denied s id cred size (Full other) la lb = absurd (la.1 lb.1)
 look_denied s id cred size Fits la lb = absurd (la.1 lb.1)
 look_denied s id cred size b la lb = absurd lb
 
-look_gone : (s : Slot) (id : ℤ) (cred : Cred) (size : ℕ) (b : Reply) → LegalLook s id cred size Gone → LegalLook s id cred size b → Gone ≡ b
+look_gone : (s : Slot) (id : ℤ) (cred : Cred) (size : ℕ) (b : Reply) → LegalLook s id cred size Gone →
+    LegalLook s id cred size b → Gone ≡ b
 look_gone s id cred size Gone la lb = refl
 look_gone s id cred size Denied la lb = absurd (la lb.0)
 look_gone s id cred size (Full other) la lb = absurd (la lb.0)
 look_gone s id cred size Fits la lb = absurd (la lb.0)
 look_gone s id cred size b la lb = absurd lb
 
-one_look : (s : Slot) (id : ℤ) (cred : Cred) (size : ℕ) (a b : Reply) → LegalLook s id cred size a → LegalLook s id cred size b → a ≡ b
+one_look : (s : Slot) (id : ℤ) (cred : Cred) (size : ℕ) (a b : Reply) → LegalLook s id cred size a →
+    LegalLook s id cred size b → a ≡ b
 one_look s id cred size Gone b la lb = look_gone s id cred size b la lb
 one_look s id cred size Denied b la lb = look_denied s id cred size b la lb
 one_look s id cred size (Full freed) b la lb = look_full s id cred size freed b la lb
 one_look s id cred size Fits b la lb = look_fits s id cred size b la lb
 one_look s id cred size a b la lb = absurd la
 
-place_full : (s : Slot) (id : ℤ) (cred : Cred) (size freed : ℕ) (b : Reply) → LegalPlace s id cred size (Full freed) → LegalPlace s id cred size b → Full freed ≡ b
+place_full : (s : Slot) (id : ℤ) (cred : Cred) (size freed : ℕ) (b : Reply) → LegalPlace s id cred size (Full freed) →
+    LegalPlace s id cred size b → Full freed ≡ b
 place_full s id cred size freed Gone la lb = absurd (lb la.0)
 place_full s id cred size freed Denied la lb = absurd (lb.1 la.1)
 place_full s id cred size freed (Full other) la lb = ap Full (la.3 ∙ sym lb.3)
 place_full s id cred size freed (Accepted number) la lb = absurd (la.2 lb.2)
 place_full s id cred size freed b la lb = absurd lb
 
-place_accepted : (s : Slot) (id : ℤ) (cred : Cred) (size number : ℕ) (b : Reply) → LegalPlace s id cred size (Accepted number) → LegalPlace s id cred size b → Accepted number ≡ b
+place_accepted : (s : Slot) (id : ℤ) (cred : Cred) (size number : ℕ) (b : Reply) →
+    LegalPlace s id cred size (Accepted number) → LegalPlace s id cred size b → Accepted number ≡ b
 place_accepted s id cred size number Gone la lb = absurd (lb la.0)
 place_accepted s id cred size number Denied la lb = absurd (lb.1 la.1)
 place_accepted s id cred size number (Full other) la lb = absurd (lb.2 la.2)
 place_accepted s id cred size number (Accepted other) la lb = ap Accepted (la.3 ∙ sym lb.3)
 place_accepted s id cred size number b la lb = absurd lb
 
-place_denied : (s : Slot) (id : ℤ) (cred : Cred) (size : ℕ) (b : Reply) → LegalPlace s id cred size Denied → LegalPlace s id cred size b → Denied ≡ b
+place_denied : (s : Slot) (id : ℤ) (cred : Cred) (size : ℕ) (b : Reply) → LegalPlace s id cred size Denied →
+    LegalPlace s id cred size b → Denied ≡ b
 place_denied s id cred size Gone la lb = absurd (lb la.0)
 place_denied s id cred size Denied la lb = refl
 place_denied s id cred size (Full other) la lb = absurd (la.1 lb.1)
 place_denied s id cred size (Accepted number) la lb = absurd (la.1 lb.1)
 place_denied s id cred size b la lb = absurd lb
 
-place_gone : (s : Slot) (id : ℤ) (cred : Cred) (size : ℕ) (b : Reply) → LegalPlace s id cred size Gone → LegalPlace s id cred size b → Gone ≡ b
+place_gone : (s : Slot) (id : ℤ) (cred : Cred) (size : ℕ) (b : Reply) → LegalPlace s id cred size Gone →
+    LegalPlace s id cred size b → Gone ≡ b
 place_gone s id cred size Gone la lb = refl
 place_gone s id cred size Denied la lb = absurd (la lb.0)
 place_gone s id cred size (Full other) la lb = absurd (la lb.0)
 place_gone s id cred size (Accepted number) la lb = absurd (la lb.0)
 place_gone s id cred size b la lb = absurd lb
 
-one_place : (s : Slot) (id : ℤ) (cred : Cred) (size : ℕ) (a b : Reply) → LegalPlace s id cred size a → LegalPlace s id cred size b → a ≡ b
+one_place : (s : Slot) (id : ℤ) (cred : Cred) (size : ℕ) (a b : Reply) → LegalPlace s id cred size a →
+    LegalPlace s id cred size b → a ≡ b
 one_place s id cred size Gone b la lb = place_gone s id cred size b la lb
 one_place s id cred size Denied b la lb = place_denied s id cred size b la lb
 one_place s id cred size (Full freed) b la lb = place_full s id cred size freed b la lb
@@ -346,7 +392,9 @@ one_place s id cred size (Accepted number) b la lb = place_accepted s id cred si
 one_place s id cred size a b la lb = absurd la
 
 module _ (one_named : OneNamed) where
-  take_none : (s : Slot) (id : ℤ) (cred : Cred) (selector : Selector) (size : ℕ) (noerror : Bool) (arrived : ℕ) (b : Reply) → LegalTake s id cred selector size noerror (NoMatch arrived) → LegalTake s id cred selector size noerror b → NoMatch arrived ≡ b
+  take_none : (s : Slot) (id : ℤ) (cred : Cred) (selector : Selector) (size : ℕ) (noerror : Bool) (arrived : ℕ)
+      (b : Reply) → LegalTake s id cred selector size noerror (NoMatch arrived) →
+      LegalTake s id cred selector size noerror b → NoMatch arrived ≡ b
   take_none s id cred selector size noerror arrived Gone la lb = absurd (lb la.0)
   take_none s id cred selector size noerror arrived Denied la lb = absurd (lb.1 la.1)
   take_none s id cred selector size noerror arrived (NoMatch other) la lb = ap NoMatch (la.3 ∙ sym lb.3)
@@ -354,23 +402,30 @@ module _ (one_named : OneNamed) where
   take_none s id cred selector size noerror arrived (Taken m) la lb = absurd (la.2 lb.2.0 lb.2.1)
   take_none s id cred selector size noerror arrived b la lb = absurd lb
 
-  take_long : (s : Slot) (id : ℤ) (cred : Cred) (selector : Selector) (size : ℕ) (noerror : Bool) (b : Reply) → LegalTake s id cred selector size noerror TooLong → LegalTake s id cred selector size noerror b → TooLong ≡ b
+  take_long : (s : Slot) (id : ℤ) (cred : Cred) (selector : Selector) (size : ℕ) (noerror : Bool) (b : Reply) →
+      LegalTake s id cred selector size noerror TooLong → LegalTake s id cred selector size noerror b → TooLong ≡ b
   take_long s id cred selector size noerror Gone la lb = absurd (lb la.0)
   take_long s id cred selector size noerror Denied la lb = absurd (lb.1 la.1)
   take_long s id cred selector size noerror (NoMatch other) la lb = absurd (lb.2 la.2.1.0 la.2.1.1)
   take_long s id cred selector size noerror TooLong la lb = refl
-  take_long s id cred selector size noerror (Taken m) la lb = absurd (la.2.2 (subst (IsGivable size noerror) (one_message_named one_named s selector m la.2.0 lb.2 la.2.1) lb.3))
+  take_long s id cred selector size noerror (Taken m) la lb = absurd (la.2.2 (subst (IsGivable size noerror)
+      (one_message_named one_named s selector m la.2.0 lb.2 la.2.1) lb.3))
   take_long s id cred selector size noerror b la lb = absurd lb
 
-  take_taken : (s : Slot) (id : ℤ) (cred : Cred) (selector : Selector) (size : ℕ) (noerror : Bool) (m : Message) (b : Reply) → LegalTake s id cred selector size noerror (Taken m) → LegalTake s id cred selector size noerror b → Taken m ≡ b
+  take_taken : (s : Slot) (id : ℤ) (cred : Cred) (selector : Selector) (size : ℕ) (noerror : Bool) (m : Message)
+      (b : Reply) → LegalTake s id cred selector size noerror (Taken m) → LegalTake s id cred selector size noerror b →
+      Taken m ≡ b
   take_taken s id cred selector size noerror m Gone la lb = absurd (lb la.0)
   take_taken s id cred selector size noerror m Denied la lb = absurd (lb.1 la.1)
   take_taken s id cred selector size noerror m (NoMatch other) la lb = absurd (lb.2 la.2.0 la.2.1)
-  take_taken s id cred selector size noerror m TooLong la lb = absurd (lb.2.2 (subst (IsGivable size noerror) (one_message_named one_named s selector m lb.2.0 la.2 lb.2.1) la.3))
-  take_taken s id cred selector size noerror m (Taken n) la lb = ap Taken (one_message_named one_named s selector m n la.2 lb.2)
+  take_taken s id cred selector size noerror m TooLong la lb = absurd (lb.2.2 (subst (IsGivable size noerror)
+      (one_message_named one_named s selector m lb.2.0 la.2 lb.2.1) la.3))
+  take_taken s id cred selector size noerror m (Taken n) la lb =
+      ap Taken (one_message_named one_named s selector m n la.2 lb.2)
   take_taken s id cred selector size noerror m b la lb = absurd lb
 
-  take_denied : (s : Slot) (id : ℤ) (cred : Cred) (selector : Selector) (size : ℕ) (noerror : Bool) (b : Reply) → LegalTake s id cred selector size noerror Denied → LegalTake s id cred selector size noerror b → Denied ≡ b
+  take_denied : (s : Slot) (id : ℤ) (cred : Cred) (selector : Selector) (size : ℕ) (noerror : Bool) (b : Reply) →
+      LegalTake s id cred selector size noerror Denied → LegalTake s id cred selector size noerror b → Denied ≡ b
   take_denied s id cred selector size noerror Gone la lb = absurd (lb la.0)
   take_denied s id cred selector size noerror Denied la lb = refl
   take_denied s id cred selector size noerror (NoMatch other) la lb = absurd (la.1 lb.1)
@@ -378,7 +433,8 @@ module _ (one_named : OneNamed) where
   take_denied s id cred selector size noerror (Taken m) la lb = absurd (la.1 lb.1)
   take_denied s id cred selector size noerror b la lb = absurd lb
 
-  take_gone : (s : Slot) (id : ℤ) (cred : Cred) (selector : Selector) (size : ℕ) (noerror : Bool) (b : Reply) → LegalTake s id cred selector size noerror Gone → LegalTake s id cred selector size noerror b → Gone ≡ b
+  take_gone : (s : Slot) (id : ℤ) (cred : Cred) (selector : Selector) (size : ℕ) (noerror : Bool) (b : Reply) →
+      LegalTake s id cred selector size noerror Gone → LegalTake s id cred selector size noerror b → Gone ≡ b
   take_gone s id cred selector size noerror Gone la lb = refl
   take_gone s id cred selector size noerror Denied la lb = absurd (la lb.0)
   take_gone s id cred selector size noerror (NoMatch other) la lb = absurd (la lb.0)
@@ -386,10 +442,12 @@ module _ (one_named : OneNamed) where
   take_gone s id cred selector size noerror (Taken m) la lb = absurd (la lb.0)
   take_gone s id cred selector size noerror b la lb = absurd lb
 
-  one_take : (s : Slot) (id : ℤ) (cred : Cred) (selector : Selector) (size : ℕ) (noerror : Bool) (a b : Reply) → LegalTake s id cred selector size noerror a → LegalTake s id cred selector size noerror b → a ≡ b
+  one_take : (s : Slot) (id : ℤ) (cred : Cred) (selector : Selector) (size : ℕ) (noerror : Bool) (a b : Reply) →
+      LegalTake s id cred selector size noerror a → LegalTake s id cred selector size noerror b → a ≡ b
   one_take s id cred selector size noerror Gone b la lb = take_gone s id cred selector size noerror b la lb
   one_take s id cred selector size noerror Denied b la lb = take_denied s id cred selector size noerror b la lb
-  one_take s id cred selector size noerror (NoMatch arrived) b la lb = take_none s id cred selector size noerror arrived b la lb
+  one_take s id cred selector size noerror (NoMatch arrived) b la lb =
+      take_none s id cred selector size noerror arrived b la lb
   one_take s id cred selector size noerror TooLong b la lb = take_long s id cred selector size noerror b la lb
   one_take s id cred selector size noerror (Taken m) b la lb = take_taken s id cred selector size noerror m b la lb
   one_take s id cred selector size noerror a b la lb = absurd la

@@ -1,5 +1,6 @@
 -- Messages in the order of acceptance, and which of two is before the other.
-use Rattle.std.proofs.Common.{◌≡◌, ◌≢◌, ℕ, zero, suc, ℤ, ◌<◌, ◌⊎◌, inl, inr, Bool, true, false, cond, List, [], ◌∷◌, ◌++◌, Some, refl, ap, subst, ◌∙◌, arith, slice_get, append_assoc}
+use Rattle.std.proofs.Common.{◌≡◌, ◌≢◌, ℕ, zero, suc, ℤ, ◌<◌, ◌⊎◌, inl, inr, Bool, true, false, cond, List, [], ◌∷◌}
+use Rattle.std.proofs.Common.{◌++◌, Some, refl, ap, subst, ◌∙◌, arith, slice_get, append_assoc}
 use Rattle.std.specs.List.{AllByRecursion, AllPairs, Contains}
 use Rattle.std.proofs.lemmas.Grind.{flat_map-append}
 use Rattle.std.proofs.lemmas.List.Concat.{flat_map-cons}
@@ -16,16 +17,19 @@ use Rattle.sysv_queue.proofs.Filters.{Rises, above_first}
 below_later : (xs : List Message) → Rises xs → AllPairs (λ (m n : Message). m.number < n.number) xs
 below_later [] r = λ i j d l k. absurd (omega arith)
 below_later (x ∷ xs) r =
-    AllPairs-cons (λ (m n : Message). m.number < n.number) x xs (All-from_recursion (λ (n : Message). x.number < n.number) xs r.0) (below_later xs r.1)
+    AllPairs-cons (λ (m n : Message). m.number < n.number) x xs
+    (All-from_recursion (λ (n : Message). x.number < n.number) xs r.0) (below_later xs r.1)
 
 -- Rising numbers are different.
 pub apart_where_rising : (xs : List Message) → Rises xs → AllPairs (λ (m n : Message). m.number ≢ n.number) xs
 apart_where_rising xs r = λ i j d l k e. let below = below_later xs r i j d l k in omega arith
 
 -- If numbers rise, the lower number is at the earlier place.
-pub earlier_place : (xs : List Message) (i j : ℕ) (m n : Message) → Rises xs → slice_get xs i ≡ Some m → slice_get xs j ≡ Some n → m.number < n.number → i < j
+pub earlier_place : (xs : List Message) (i j : ℕ) (m n : Message) → Rises xs → slice_get xs i ≡ Some m →
+    slice_get xs j ≡ Some n → m.number < n.number → i < j
 earlier_place [] i j m n r a b less = absurd cc
-earlier_place (x ∷ xs) zero zero m n r a b less = let same : m ≡ n = cc in let number = ap (λ (y : Message). y.number) same in absurd (omega arith)
+earlier_place (x ∷ xs) zero zero m n r a b less =
+    let same : m ≡ n = cc in let number = ap (λ (y : Message). y.number) same in absurd (omega arith)
 earlier_place (x ∷ xs) zero (suc j) m n r a b less = omega arith
 earlier_place (x ∷ xs) (suc i) zero m n r a b less =
     let same : x ≡ n = cc in
@@ -47,7 +51,8 @@ pub nothing_in : (m : Message) → Contains [] m → ⊥
 nothing_in m h = omega (arith, h.1)
 
 -- What is in a list with one more message was in the list before, or is that message.
-pub old_or_new : (t : Bool) (xs : List Message) (x m : Message) → Contains (xs ++ cond t (x ∷ []) []) m → Contains xs m ⊎ ((t ≡ true) × (x ≡ m))
+pub old_or_new : (t : Bool) (xs : List Message) (x m : Message) → Contains (xs ++ cond t (x ∷ []) []) m →
+    Contains xs m ⊎ ((t ≡ true) × (x ≡ m))
 old_or_new true xs x m h = elim (Contains-push_cases xs x m h) [ inl old ↦ inl old | inr new ↦ inr (refl, new) ]
 old_or_new false xs x m h = inl (subst (λ ms. Contains ms m) (append-nil xs) h)
 
@@ -66,7 +71,9 @@ stands_more xs ys m n (front, between, back, e) = (
   front,
   between,
   back ++ ys,
-  ap (λ zs. zs ++ ys) e ∙ (append_assoc front (m ∷ (between ++ n ∷ back)) ys ∙ ap (λ zs. front ++ m ∷ zs) (append_assoc between (n ∷ back) ys)),
+  ap (λ zs. zs ++ ys) e
+      ∙ (append_assoc front (m ∷ (between ++ n ∷ back)) ys
+      ∙ ap (λ zs. front ++ m ∷ zs) (append_assoc between (n ∷ back) ys)),
 )
 
 -- An element that is appended is after all others.
@@ -76,8 +83,10 @@ stands_last xs m n has =
     (at.0, at.1, [], ap (λ zs. zs ++ n ∷ []) at.2 ∙ append_assoc at.0 (m ∷ at.1) (n ∷ []))
 
 -- Accepted messages are in the order of the turns that accepted them.
-pub accepted_around : (id : ℤ) (before middle after : History) (e f : Entry) (m n : Message) → accepted_by id e.call e.reply ≡ m ∷ [] → accepted_by id f.call f.reply ≡ n ∷ [] →
-    accepted id (before ++ e ∷ (middle ++ f ∷ after)) ≡ accepted id before ++ m ∷ (accepted id middle ++ n ∷ accepted id after)
+pub accepted_around : (id : ℤ) (before middle after : History) (e f : Entry) (m n : Message) →
+    accepted_by id e.call e.reply ≡ m ∷ [] → accepted_by id f.call f.reply ≡ n ∷ [] →
+    accepted id (before ++ e ∷ (middle ++ f ∷ after))
+    ≡ accepted id before ++ m ∷ (accepted id middle ++ n ∷ accepted id after)
 accepted_around id before middle after e f m n one two =
     let by : Entry → List Message = λ (t : Entry). accepted_by id t.call t.reply in
     flat_map-append by before (e ∷ (middle ++ f ∷ after))

@@ -6,7 +6,8 @@ use Rattle.sysv_model.specs.Live.{live}
 use Rattle.sysv_queue.specs.Granted.{MayRead, MayWrite, MayControl}
 use Rattle.sysv_queue.specs.Named.{IsNamed}
 use Rattle.sysv_queue.specs.LegalReply.{IsLegalHistory}
-use Rattle.sysv_queue.specs.WorkedRemoval.{owner, stranger, user_zero, first_message, second_message, the_turns, after_turns, WorkedRemoval, OtherReplies, NoWrongReply}
+use Rattle.sysv_queue.specs.WorkedRemoval.{owner, stranger, user_zero, first_message, second_message, the_turns}
+use Rattle.sysv_queue.specs.WorkedRemoval.{after_turns, WorkedRemoval, OtherReplies, NoWrongReply}
 use Rattle.sysv_queue.proofs.Legality.{legal_empty, legal_more}
 
 may_write : MayWrite owner (live (after_turns 1))
@@ -39,7 +40,8 @@ legal_3 : IsLegalHistory (after_turns 3)
 legal_3 = legal_more (after_turns 2) _ legal_2 (refl, may_write, (omega arith, omega arith), refl)
 
 legal_4 : IsLegalHistory (after_turns 4)
-legal_4 = legal_more (after_turns 3) _ legal_3 (refl, may_read, (0, first_is_named first_message (second_message ∷ []), refl), inl (omega arith))
+legal_4 = legal_more (after_turns 3) _ legal_3
+    (refl, may_read, (0, first_is_named first_message (second_message ∷ []), refl), inl (omega arith))
 
 legal_5 : IsLegalHistory (after_turns 5)
 legal_5 = legal_more (after_turns 4) _ legal_4 (refl, may_control, refl)
@@ -73,7 +75,8 @@ other_replies = record {
   stranger_sets = inl (refl, stranger_may_not);
   above_the_most = inr (refl, may_control, λ within. omega arith);
   above_the_most_by_zero = inr (refl, zero_may, λ within. omega arith);
-  raise = inr (refl, may_control, omega arith, λ limit. elim limit [ inl no_raise ↦ omega arith | inr zero ↦ omega arith ]);
+  raise =
+      inr (refl, may_control, omega arith, λ limit. elim limit [ inl no_raise ↦ omega arith | inr zero ↦ omega arith ]);
   raise_by_zero = (refl, zero_may, omega arith, inr refl);
   same_limit = (refl, may_control, omega arith, inl (omega arith));
   stranger_removes = (refl, stranger_may_not);

@@ -3,7 +3,8 @@
 -- messages queued after the turn.
 use Rattle.std.specs.Prelude.{◌≡◌, ℕ, ◌+◌, length}
 use Rattle.sysv_model.specs.Pool.{blocks_for}
-use Rattle.sysv_model.specs.History.{Who, Call, Place, Take, Remove, Reply, Accepted, Taken, Discarded, History, then_turn}
+use Rattle.sysv_model.specs.History.{Who, Call, Place, Take, Remove, Reply, Accepted, Taken, Discarded, History}
+use Rattle.sysv_model.specs.History.{then_turn}
 use Rattle.sysv_model.specs.Waiting.{held}
 use Rattle.sysv_queue.specs.Slot.{Slot}
 use Rattle.sysv_queue.specs.LegalReply.{IsLegalReply, IsLegalHistory}
@@ -23,10 +24,12 @@ blocks_off call reply = 0
 
 -- Blocks are kept at each legal turn after a legal history.
 abbrev pub TurnKeepsBlocks : Type 0
-TurnKeepsBlocks = (h : History) (who : Who) (call : Call) (reply : Reply) → IsLegalHistory h → IsLegalReply h call reply →
+TurnKeepsBlocks =
+    (h : History) (who : Who) (call : Call) (reply : Reply) → IsLegalHistory h → IsLegalReply h call reply →
     blocks_of (held (then_turn h who call reply)) + blocks_off call reply ≡ blocks_of (held h) + blocks_put call reply
 
 -- Blocks are kept at each turn of a slot that stands for a history.
 abbrev pub SlotKeepsBlocks : Type 0
-SlotKeepsBlocks = (h : History) (who : Who) (old new : Slot) (call : Call) (reply : Reply) → StandsFor h old → MakesTurn old call reply new →
+SlotKeepsBlocks = (h : History) (who : Who) (old new : Slot) (call : Call) (reply : Reply) → StandsFor h old →
+    MakesTurn old call reply new →
     blocks_of new.messages + blocks_off call reply ≡ blocks_of old.messages + blocks_put call reply

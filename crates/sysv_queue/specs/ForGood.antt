@@ -8,7 +8,8 @@
 use Rattle.std.specs.Prelude.{◌≡◌, ◌≤◌, ℤ, true, false, [], ◌∷◌, ◌++◌, All, ⊤}
 use Rattle.sysv_model.specs.declared.errno.Errno.TheVariants.{EINVAL}
 use Rattle.sysv_model.specs.declared.limits.TheConstants.{MAX_QBYTES}
-use Rattle.sysv_model.specs.History.{Call, Probe, Look, Place, Take, ReadStat, Set, Remove, Reply, Gone, Refused, Entry, History}
+use Rattle.sysv_model.specs.History.{Call, Probe, Look, Place, Take, ReadStat, Set, Remove, Reply, Gone, Refused, Entry}
+use Rattle.sysv_model.specs.History.{History}
 use Rattle.sysv_model.specs.Live.{IsLive}
 use Rattle.sysv_model.specs.Waiting.{accepted, delivered, waiting}
 use Rattle.sysv_queue.specs.LegalReply.{IsLegalReply, IsLegalHistory}
@@ -39,25 +40,30 @@ IsWithinMost call = ⊤
 
 -- A call whose identifier is not live is told that it is not.
 abbrev pub ToldNotLive : Type 0
-ToldNotLive = (h : History) (id : ℤ) (call : Call) (reply : Reply) → NamesId id call → IsLegalReply h call reply → ¬ IsLive h id → reply ≡ not_live_reply call
+ToldNotLive = (h : History) (id : ℤ) (call : Call) (reply : Reply) → NamesId id call → IsLegalReply h call reply →
+    ¬ IsLive h id → reply ≡ not_live_reply call
 
 -- If a call has any other reply, its identifier is live.
 abbrev pub FoundLive : Type 0
-FoundLive = (h : History) (id : ℤ) (call : Call) (reply : Reply) → NamesId id call → IsLegalReply h call reply → ¬ (reply ≡ not_live_reply call) → IsLive h id
+FoundLive = (h : History) (id : ℤ) (call : Call) (reply : Reply) → NamesId id call → IsLegalReply h call reply →
+    ¬ (reply ≡ not_live_reply call) → IsLive h id
 
 -- If a call is told that its identifier is not live, it is not live. A set of a limit above the
 -- maximum is excepted.
 abbrev pub FoundNotLive : Type 0
-FoundNotLive = (h : History) (id : ℤ) (call : Call) → NamesId id call → IsWithinMost call → IsLegalReply h call (not_live_reply call) → ¬ IsLive h id
+FoundNotLive = (h : History) (id : ℤ) (call : Call) → NamesId id call → IsWithinMost call →
+    IsLegalReply h call (not_live_reply call) → ¬ IsLive h id
 
 -- An identifier that was installed and not removed since is live.
 abbrev pub LivesTillRemoved : Type 0
 LivesTillRemoved = (h : History) (id : ℤ) → IsLegalHistory h → (before since : History) (e : Entry) →
-    h ≡ before ++ e ∷ since → installs id e.call e.reply ≡ true → All (λ (t : Entry). removes id t.call t.reply ≡ false) since → IsLive h id
+    h ≡ before ++ e ∷ since → installs id e.call e.reply ≡ true →
+    All (λ (t : Entry). removes id t.call t.reply ≡ false) since → IsLive h id
 
 -- No two turns install the identifier.
 abbrev pub IsInstalledOnce : ℤ → History → Type 0
-IsInstalledOnce id h = (before middle after : History) (e f : Entry) → h ≡ before ++ e ∷ (middle ++ f ∷ after) → installs id e.call e.reply ≡ true → installs id f.call f.reply ≡ false
+IsInstalledOnce id h = (before middle after : History) (e f : Entry) → h ≡ before ++ e ∷ (middle ++ f ∷ after) →
+    installs id e.call e.reply ≡ true → installs id f.call f.reply ≡ false
 
 -- What holds of an identifier after its removal, for the turns since then and the whole history.
 pub record IsGoneSince (id : ℤ) (after h : History) : Type 0 where
@@ -69,5 +75,6 @@ pub record IsGoneSince (id : ℤ) (after h : History) : Type 0 where
 
 -- An identifier that is installed once is gone for good after its removal.
 abbrev pub RemovedForGood : Type 0
-RemovedForGood = (h : History) (id : ℤ) → IsLegalHistory h → IsInstalledOnce id h → (before after : History) (e : Entry) →
+RemovedForGood =
+    (h : History) (id : ℤ) → IsLegalHistory h → IsInstalledOnce id h → (before after : History) (e : Entry) →
     h ≡ before ++ e ∷ after → removes id e.call e.reply ≡ true → IsGoneSince id after h

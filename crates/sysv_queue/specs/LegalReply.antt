@@ -2,7 +2,8 @@
 -- msgctl, each ERRORS; the order of the causes is this profile's). The causes of a call's replies
 -- have one order, and a reply is legal if and only if its cause is the first that applies. A reply
 -- that is not listed is never legal.
-use Rattle.std.specs.Prelude.{◌≡◌, ℕ, ℤ, ◌≤◌, ◌⊎◌, Bool, true, false, ◌∷◌, ◌++◌, length, None, Some, MatchOption, IsSome, option_map, slice_get}
+use Rattle.std.specs.Prelude.{◌≡◌, ℕ, ℤ, ◌≤◌, ◌⊎◌, Bool, true, false, ◌∷◌, ◌++◌, length, None, Some, MatchOption}
+use Rattle.std.specs.Prelude.{IsSome, option_map, slice_get}
 use Rattle.sysv_model.specs.declared.cred.Cred.{Cred}
 use Rattle.sysv_model.specs.declared.errno.Errno.TheVariants.{EPERM, EACCES, EINVAL}
 use Rattle.sysv_model.specs.declared.flags.Flags.{Flags}
@@ -10,7 +11,9 @@ use Rattle.sysv_model.specs.declared.attributes.SetTo.{SetTo}
 use Rattle.sysv_model.specs.declared.limits.TheConstants.{MAX_QBYTES}
 use Rattle.sysv_model.specs.Message.{Message}
 use Rattle.sysv_model.specs.declared.selector.Selector.{Selector}
-use Rattle.sysv_model.specs.History.{Call, Install, Probe, Look, Place, Take, ReadStat, Set, Remove, ReadRow, Reply, Installed, Gone, Denied, Granted, Full, Fits, Accepted, NoMatch, TooLong, Taken, Told, Done, Discarded, Refused, Shown, Entry, History}
+use Rattle.sysv_model.specs.History.{Call, Install, Probe, Look, Place, Take, ReadStat, Set, Remove, ReadRow, Reply}
+use Rattle.sysv_model.specs.History.{Installed, Gone, Denied, Granted, Full, Fits, Accepted, NoMatch, TooLong, Taken}
+use Rattle.sysv_model.specs.History.{Told, Done, Discarded, Refused, Shown, Entry, History}
 use Rattle.sysv_model.specs.Live.{HasId}
 use Rattle.sysv_queue.specs.Slot.{Slot, slot_of}
 use Rattle.sysv_queue.specs.Fits.{Fits as FitsOn}
@@ -51,7 +54,8 @@ abbrev pub LegalPlace : Slot → ℤ → Cred → ℕ → Reply → Type 0
 LegalPlace s id cred size Gone = ¬ HasId s.live id
 LegalPlace s id cred size Denied = HasId s.live id × ¬ MayWrite cred s.live
 LegalPlace s id cred size (Full freed) = HasId s.live id × MayWrite cred s.live × ¬ HasRoom s size × (freed ≡ s.freed)
-LegalPlace s id cred size (Accepted number) = HasId s.live id × MayWrite cred s.live × HasRoom s size × (number ≡ s.arrived)
+LegalPlace s id cred size (Accepted number) =
+    HasId s.live id × MayWrite cred s.live × HasRoom s size × (number ≡ s.arrived)
 LegalPlace s id cred size reply = ⊥
 
 -- The selector names a place, and this message is there.
@@ -81,17 +85,21 @@ LegalTake s id cred selector size noerror reply = ⊥
 abbrev pub LegalStat : Slot → ℤ → Cred → Reply → Type 0
 LegalStat s id cred (Refused EINVAL) = ¬ HasId s.live id
 LegalStat s id cred (Refused EACCES) = HasId s.live id × ¬ MayRead cred s.live
-LegalStat s id cred (Told stat) = HasId s.live id × MayRead cred s.live × (option_map (stat_of s.messages) s.live ≡ Some stat)
+LegalStat s id cred (Told stat) =
+    HasId s.live id × MayRead cred s.live × (option_map (stat_of s.messages) s.live ≡ Some stat)
 LegalStat s id cred reply = ⊥
 
 -- The replies to set: EINVAL if the identifier is not live, EPERM if the caller may not change the
 -- queue, EINVAL if the limit is above the maximum, EPERM if it is above the present limit and the
 -- caller is not user 0, otherwise Done.
 abbrev pub LegalSet : Slot → ℤ → Cred → SetTo → Reply → Type 0
-LegalSet s id cred to (Refused EINVAL) = ¬ HasId s.live id ⊎ (HasId s.live id × MayControl cred s.live × ¬ (to.qbytes ≤ MAX_QBYTES))
+LegalSet s id cred to (Refused EINVAL) =
+    ¬ HasId s.live id ⊎ (HasId s.live id × MayControl cred s.live × ¬ (to.qbytes ≤ MAX_QBYTES))
 LegalSet s id cred to (Refused EPERM) =
-    (HasId s.live id × ¬ MayControl cred s.live) ⊎ (HasId s.live id × MayControl cred s.live × (to.qbytes ≤ MAX_QBYTES) × ¬ MayLimit cred to s.live)
-LegalSet s id cred to Done = HasId s.live id × MayControl cred s.live × (to.qbytes ≤ MAX_QBYTES) × MayLimit cred to s.live
+    (HasId s.live id × ¬ MayControl cred s.live)
+    ⊎ (HasId s.live id × MayControl cred s.live × (to.qbytes ≤ MAX_QBYTES) × ¬ MayLimit cred to s.live)
+LegalSet s id cred to Done =
+    HasId s.live id × MayControl cred s.live × (to.qbytes ≤ MAX_QBYTES) × MayLimit cred to s.live
 LegalSet s id cred to reply = ⊥
 
 -- The replies to remove: EINVAL if the identifier is not live, EPERM if the caller may not remove
@@ -125,4 +133,5 @@ IsLegalReply h call reply = Legal (slot_of h) call reply
 
 -- Every reply of the history is legal after the entries before it.
 abbrev pub IsLegalHistory : History → Type 0
-IsLegalHistory h = (before : History) (e : Entry) (after : History) → h ≡ before ++ e ∷ after → IsLegalReply before e.call e.reply
+IsLegalHistory h =
+    (before : History) (e : Entry) (after : History) → h ≡ before ++ e ∷ after → IsLegalReply before e.call e.reply

@@ -3,12 +3,14 @@
 -- discarded once, or still queued. Each receive takes the very message that its selector names.
 -- Messages of one type leave in the order of acceptance. After a removal nothing is accepted or
 -- delivered under the identifier before it is installed again.
-use Rattle.std.specs.Prelude.{◌≡◌, ◌≢◌, ℕ, ℤ, Bool, true, false, List, [], ◌∷◌, ◌++◌, Some, slice_get, All, AllPairs, Contains, IsPermutation}
+use Rattle.std.specs.Prelude.{◌≡◌, ◌≢◌, ℕ, ℤ, Bool, true, false, List, [], ◌∷◌, ◌++◌, Some, slice_get, All, AllPairs}
+use Rattle.std.specs.Prelude.{Contains, IsPermutation}
 use Rattle.std.specs.Ordering.{int_eq}
 use Rattle.sysv_model.specs.Message.{Message}
 use Rattle.sysv_model.specs.declared.cred.Cred.{Cred}
 use Rattle.sysv_model.specs.declared.selector.Selector.{Selector}
-use Rattle.sysv_model.specs.History.{Who, Call, Install, Take, Remove, Reply, Installed, Taken, Discarded, Entry, History}
+use Rattle.sysv_model.specs.History.{Who, Call, Install, Take, Remove, Reply, Installed, Taken, Discarded, Entry}
+use Rattle.sysv_model.specs.History.{History}
 use Rattle.sysv_model.specs.Live.{IsLive}
 use Rattle.sysv_model.specs.Waiting.{accepted, delivered, discarded, waiting, accepted_by, delivered_by}
 use Rattle.sysv_queue.specs.Named.{IsNamed}
@@ -31,13 +33,15 @@ Accepts id e m = accepted_by id e.call e.reply ≡ m ∷ []
 -- Selection: a receive that took a message took the one at the place that its selector names among
 -- the messages queued under its identifier.
 abbrev pub TakesNamed : History → Type 0
-TakesNamed h = (before after : History) (who : Who) (id : ℤ) (cred : Cred) (selector : Selector) (size : ℕ) (noerror : Bool) (now : ℕ) (m : Message) →
+TakesNamed h = (before after : History) (who : Who) (id : ℤ) (cred : Cred) (selector : Selector) (size : ℕ)
+    (noerror : Bool) (now : ℕ) (m : Message) →
     h ≡ before ++ record { who = who; call = Take id cred selector size noerror now; reply = Taken m } ∷ after →
     (place : ℕ) × IsNamed selector (waiting id before) place × (slice_get (waiting id before) place ≡ Some m)
 
 -- m is before n in the list.
 abbrev pub StandsBefore : List Message → Message → Message → Type 0
-StandsBefore messages m n = (front : List Message) × (between : List Message) × (back : List Message) × (messages ≡ front ++ m ∷ (between ++ n ∷ back))
+StandsBefore messages m n = (front : List Message) × (between : List Message) × (back : List Message)
+    × (messages ≡ front ++ m ∷ (between ++ n ∷ back))
 
 -- Order within a type. Let one message be accepted before another of its type under one identifier,
 -- with no removal in between. If the later message was delivered, then the earlier one was
@@ -64,7 +68,8 @@ pub record QueueLaw (h : History) : Type 0 where
   pub conserved : (id : ℤ) → IsPermutation (accepted id h) (delivered id h ++ (discarded id h ++ waiting id h))
   -- no two accepted messages have the same number, under one identifier or two
   pub numbered : (id : ℤ) → AllPairs (λ (m n : Message). m.number ≢ n.number) (accepted id h)
-  pub apart : (id other : ℤ) (m n : Message) → Contains (accepted id h) m → Contains (accepted other h) n → m.number ≡ n.number → id ≡ other
+  pub apart : (id other : ℤ) (m n : Message) → Contains (accepted id h) m → Contains (accepted other h) n →
+      m.number ≡ n.number → id ≡ other
   -- no number is delivered twice, discarded twice, or both delivered and discarded
   pub once : (id : ℤ) → AllPairs (λ (m n : Message). m.number ≢ n.number) (delivered id h ++ discarded id h)
   -- what was delivered or discarded had been accepted under its identifier

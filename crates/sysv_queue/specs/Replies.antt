@@ -1,7 +1,8 @@
 -- The results of the slot's calls, as replies in its history (this profile's).
 use Rattle.std.specs.Prelude.{ℕ, List, Result, Ok, Err, ⊤}
 use Rattle.sysv_model.specs.Message.{Message}
-use Rattle.sysv_model.specs.History.{Reply, Gone, Denied, Granted, Full, Fits, Accepted, NoMatch, TooLong, Taken, Told, Done, Discarded, Refused}
+use Rattle.sysv_model.specs.History.{Reply, Gone, Denied, Granted, Full, Fits, Accepted, NoMatch, TooLong, Taken, Told}
+use Rattle.sysv_model.specs.History.{Done, Discarded, Refused}
 use Rattle.sysv_model.specs.declared.attributes.Stat.{Stat}
 use Rattle.sysv_model.specs.declared.errno.Errno.{Errno}
 use Rattle.sysv_queue.specs.declared.slot.Probe.{Probe}

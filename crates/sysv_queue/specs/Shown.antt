@@ -24,4 +24,11 @@ stat_of messages a = record {
 
 -- The row of a queue with these messages and attributes.
 abbrev pub row_of : List Message → Attributes → Row
-row_of messages a = record { id = a.id; key = a.key; uid = a.perm.uid; mode = a.perm.mode; cbytes = bytes_of messages; qnum = length messages }
+row_of messages a = record {
+  id = a.id;
+  key = a.key;
+  uid = a.perm.uid;
+  mode = a.perm.mode;
+  cbytes = bytes_of messages;
+  qnum = length messages;
+}

@@ -10,9 +10,11 @@ use Rattle.sysv_queue.specs.LegalReply.{IsLegalReply, IsLegalHistory}
 
 -- NoMatch stays right while the arrived count is the same, at whatever times the receive is made.
 abbrev pub NoMatchStays : Type 0
-NoMatchStays = (h more : History) (id : ℤ) (cred : Cred) (selector : Selector) (size : ℕ) (noerror : Bool) (first again count : ℕ) →
+NoMatchStays = (h more : History) (id : ℤ) (cred : Cred) (selector : Selector) (size : ℕ) (noerror : Bool)
+    (first again count : ℕ) →
     IsLegalHistory (h ++ more) → arrived (h ++ more) ≡ arrived h →
-    IsLegalReply h (Take id cred selector size noerror first) (NoMatch count) → IsLegalReply (h ++ more) (Take id cred selector size noerror again) (NoMatch count)
+    IsLegalReply h (Take id cred selector size noerror first) (NoMatch count) →
+    IsLegalReply (h ++ more) (Take id cred selector size noerror again) (NoMatch count)
 
 -- The Full of a look stays right while the freed count is the same.
 abbrev pub FullStays : Type 0
@@ -25,7 +27,8 @@ FullStays = (h more : History) (id : ℤ) (cred : Cred) (size count : ℕ) →
 abbrev pub FullStaysForLook : Type 0
 FullStaysForLook = (h more : History) (id : ℤ) (cred : Cred) (mtype : ℤ) (bytes : List ℕ) (now count : ℕ) →
     IsLegalHistory (h ++ more) → freed (h ++ more) ≡ freed h →
-    IsLegalReply h (Place id cred mtype bytes now) (Full count) → IsLegalReply (h ++ more) (Look id cred (length bytes)) (Full count)
+    IsLegalReply h (Place id cred mtype bytes now) (Full count) →
+    IsLegalReply (h ++ more) (Look id cred (length bytes)) (Full count)
 
 -- Neither count falls as a history goes on.
 abbrev pub CountsNeverFall : Type 0

@@ -11,7 +11,8 @@ use Rattle.sysv_model.specs.declared.cred.Cred.{Cred}
 use Rattle.sysv_model.specs.declared.errno.Errno.TheVariants.{EPERM, EINVAL}
 use Rattle.sysv_model.specs.declared.selector.Selector.TheVariants.{Any}
 use Rattle.sysv_model.specs.Message.{Message}
-use Rattle.sysv_model.specs.History.{Actor, Call, Install, Place, Take, Set, Remove, Reply, Installed, Gone, Accepted, NoMatch, Taken, Done, Discarded, Refused, Entry, History, arrived, freed}
+use Rattle.sysv_model.specs.History.{Actor, Call, Install, Place, Take, Set, Remove, Reply, Installed, Gone, Accepted}
+use Rattle.sysv_model.specs.History.{NoMatch, Taken, Done, Discarded, Refused, Entry, History, arrived, freed}
 use Rattle.sysv_model.specs.Waiting.{accepted, delivered, discarded, waiting, held}
 use Rattle.sysv_queue.specs.LegalReply.{IsLegalReply, IsLegalHistory}
 
@@ -116,7 +117,8 @@ pub record NoWrongReply : Type 0 where
   -- a removal that leaves a message out, one that also discards a delivered message, and one that
   -- is refused to the owner
   pub message_left_out : ¬ IsLegalReply (after_turns 4) (removes_as owner) (Discarded [])
-  pub delivered_too : ¬ IsLegalReply (after_turns 4) (removes_as owner) (Discarded (first_message ∷ second_message ∷ []))
+  pub delivered_too : ¬ IsLegalReply (after_turns 4) (removes_as owner)
+      (Discarded (first_message ∷ second_message ∷ []))
   pub owner_refused : ¬ IsLegalReply (after_turns 4) (removes_as owner) (Refused EPERM)
   -- EPERM in place of EINVAL and the reverse, a raise that is granted to the owner, and one that is
   -- refused to user 0

@@ -1,3 +1,5 @@
+//! The receipt of a message that was taken.
+
 ghost use Rattle.std.specs.Prelude.{◌≡◌, ◌+◌, ◌-◌, ◌^◌, ◌<◌};
 ghost use Rattle.sysv_queue.specs.Tally.{taken_in};
 

@@ -1,3 +1,5 @@
+//! The blocks that a removal returns.
+
 ghost use Rattle.std.specs.Prelude.{◌≡◌, []};
 
 use std::marker::Model;

@@ -1,3 +1,5 @@
+//! The slot of a queue, and the calls at it.
+
 ghost use Rattle.std.specs.Prelude.{true, false, ◌≡◌, ◌+◌, ◌^◌, ◌<◌, ◌≤◌, ◌↔◌, [], ◌∷◌, ◌++◌, length, IfOk, IfErr, OnOk, OnErr, Some, IsTrue, MatchOption, option_map};
 ghost use Rattle.sysv_model.specs.declared.limits.TheConstants.{QUEUE_MESSAGES, MESSAGE_BYTES as most_bytes};
 ghost use Rattle.sysv_model.specs.History.{Install, Place, Take, ReadStat, ReadRow, Set, Remove, Installed, Shown};
@@ -320,6 +322,14 @@ impl QueueSlot {
         self.live = live;
         self.arrived += 1;
         self.freed += 1;
+    }
+
+    /// Returns the number of queued messages, at most 256 (specific to this profile). It requires no
+    /// permission.
+    pub fn qnum(&self) -> u32
+        ensures { result ≡ length self.now.messages }
+    {
+        self.messages.len() as u32
     }
 
     /// Returns the live queue's row in the list of queues, or `None` if no queue is live (specific

@@ -1,3 +1,5 @@
+//! A message that was taken from its queue.
+
 ghost use Rattle.std.specs.Prelude.{◌≡◌, ◌≤◌, length};
 ghost use Rattle.sysv_model.specs.declared.limits.TheConstants.{MESSAGE_BYTES as most_bytes};
 ghost use Rattle.sysv_queue.specs.Blocks.{chain_of};

@@ -1,3 +1,5 @@
+//! The counts of messages that were taken, written and lost.
+
 ghost use Rattle.std.specs.Prelude.{◌≡◌, ◌+◌, ◌-◌, ◌^◌, ◌<◌};
 ghost use Rattle.sysv_queue.specs.Tally.{taken_in};
 

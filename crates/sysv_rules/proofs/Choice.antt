@@ -1,5 +1,6 @@
 -- A selector names a place of a list, or no type of the list qualifies.
-use Rattle.std.proofs.Common.{◌≡◌, ℕ, zero, suc, ◌<◌, ◌≤◌, ◌<ℤ◌, ◌≤ℤ◌, ℤ, pos, Bool, true, false, List, [], ◌∷◌, length, ◌⊎◌, inl, inr, refl, sym, ◌∙◌, arith}
+use Rattle.std.proofs.Common.{◌≡◌, ℕ, zero, suc, ◌<◌, ◌≤◌, ◌<ℤ◌, ◌≤ℤ◌, ℤ, pos, Bool, true, false, List, [], ◌∷◌, length}
+use Rattle.std.proofs.Common.{◌⊎◌, inl, inr, refl, sym, ◌∙◌, arith}
 use Rattle.std.proofs.lemmas.Int.{by_lt_z, ints}
 use Rattle.std.specs.Ordering.{int_eq}
 use Rattle.std.proofs.lemmas.Bool.Decides.{Decides-int_eq}
@@ -19,18 +20,23 @@ above b t h k = omega (arith, ints)
 pub qualifies_or_not : (sel : Selector) (mtype : ℤ) → Qualifies sel mtype ⊎ ¬ Qualifies sel mtype
 qualifies_or_not Any mtype = inl tt
 qualifies_or_not (Exactly asked) mtype = by_test (int_eq mtype asked) mtype asked refl
-qualifies_or_not (Except refused) mtype = elim (by_test (int_eq mtype refused) mtype refused refl) [ inl same ↦ inr (λ other. other same) | inr other ↦ inl other ]
+qualifies_or_not (Except refused) mtype = elim (by_test (int_eq mtype refused) mtype refused refl) [
+  | inl same ↦ inr (λ other. other same)
+  | inr other ↦ inl other
+]
 qualifies_or_not (UpTo bound) mtype =
     by_lt_z (pos bound) mtype (λ lower. inr (above bound mtype lower)) (λ within. inl within)
 
 abbrev NoneBelow : Selector → List ℤ → ℕ → Type 0
 NoneBelow sel types n = (place : ℕ) → place < n → ¬ QualifiesAt sel types place
 
-none_at : (sel : Selector) (types : List ℤ) (n : ℕ) → NoneBelow sel types n → ¬ QualifiesAt sel types n → NoneBelow sel types (suc n)
+none_at : (sel : Selector) (types : List ℤ) (n : ℕ) → NoneBelow sel types n → ¬ QualifiesAt sel types n →
+    NoneBelow sel types (suc n)
 none_at sel types n none not_here place below here = grind arith
 
 -- One of the first n places is the first that qualifies, or none of them qualifies.
-pub first_or_none : (sel : Selector) (types : List ℤ) (n : ℕ) → n ≤ length types → ((place : ℕ) × IsFirst sel types place) ⊎ NoneBelow sel types n
+pub first_or_none : (sel : Selector) (types : List ℤ) (n : ℕ) → n ≤ length types →
+    ((place : ℕ) × IsFirst sel types place) ⊎ NoneBelow sel types n
 first_or_none sel types zero h = inr (λ place below. absurd (omega arith))
 first_or_none sel types (suc n) h =
     elim (first_or_none sel types n (omega arith)) [
@@ -63,11 +69,13 @@ lower_other a b c h k l = h (omega (arith, ints, l))
 least_one : (types : List ℤ) → LeastBelow types 1 0
 least_one types = (omega arith, (λ other below. grind (arith, never_lower)), (λ earlier below. absurd (omega arith)))
 
-least_keeps : (types : List ℤ) (n place : ℕ) → LeastBelow types n place → type_at types place ≤ℤ type_at types n → LeastBelow types (suc n) place
+least_keeps : (types : List ℤ) (n place : ℕ) → LeastBelow types n place → type_at types place ≤ℤ type_at types n →
+    LeastBelow types (suc n) place
 least_keeps types n place (within, none, first) h =
     (omega arith, (λ other below. grind (arith, lower_not)), first)
 
-least_takes : (types : List ℤ) (n place : ℕ) → LeastBelow types n place → type_at types n <ℤ type_at types place → LeastBelow types (suc n) n
+least_takes : (types : List ℤ) (n place : ℕ) → LeastBelow types n place → type_at types n <ℤ type_at types place →
+    LeastBelow types (suc n) n
 least_takes types n place (within, none, first) h = (
   omega arith,
   (λ other below. grind (arith, never_lower, lower_of)),
@@ -93,16 +101,27 @@ up_to : (bound : ℕ) (types : List ℤ) (n place : ℕ) → length types ≡ su
 up_to bound types n place long (within, none, first) =
     elim (qualifies_or_not (UpTo bound) (type_at types place)) [
       | inl here ↦ inl (place, ((omega arith, here), (omega arith, (λ other below. none other (omega arith)), first)))
-      | inr not_here ↦ inr (λ other q. bound_of (type_at types place) (type_at types other) bound not_here (none other (omega (arith, q.0))) q.1)
+      | inr not_here ↦ inr (λ other q.
+          bound_of (type_at types place) (type_at types other) bound not_here (none other (omega (arith, q.0))) q.1)
     ]
 
-pub named_or_none : (sel : Selector) (types : List ℤ) → ((place : ℕ) × IsNamed sel types place) ⊎ NoneQualifies sel types
+pub named_or_none : (sel : Selector) (types : List ℤ) →
+    ((place : ℕ) × IsNamed sel types place) ⊎ NoneQualifies sel types
 named_or_none Any types =
-    elim (first_or_none Any types (length types) (omega arith)) [ inl w ↦ inl w | inr none ↦ inr (none_qualifies Any types none) ]
+    elim (first_or_none Any types (length types) (omega arith)) [
+      | inl w ↦ inl w
+      | inr none ↦ inr (none_qualifies Any types none)
+    ]
 named_or_none (Exactly asked) types =
-    elim (first_or_none (Exactly asked) types (length types) (omega arith)) [ inl w ↦ inl w | inr none ↦ inr (none_qualifies (Exactly asked) types none) ]
+    elim (first_or_none (Exactly asked) types (length types) (omega arith)) [
+      | inl w ↦ inl w
+      | inr none ↦ inr (none_qualifies (Exactly asked) types none)
+    ]
 named_or_none (Except refused) types =
-    elim (first_or_none (Except refused) types (length types) (omega arith)) [ inl w ↦ inl w | inr none ↦ inr (none_qualifies (Except refused) types none) ]
+    elim (first_or_none (Except refused) types (length types) (omega arith)) [
+      | inl w ↦ inl w
+      | inr none ↦ inr (none_qualifies (Except refused) types none)
+    ]
 named_or_none (UpTo bound) [] = inr (λ place q. absurd (omega (arith, q.0)))
 named_or_none (UpTo bound) (t ∷ ts) =
     let w = some_least (t ∷ ts) (length ts) in up_to bound (t ∷ ts) (length ts) w.0 refl w.1

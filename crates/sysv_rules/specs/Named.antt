@@ -9,7 +9,8 @@ use Rattle.sysv_rules.specs.Qualifies.{QualifiesAt, type_at}
 
 -- The place qualifies, and no earlier place does.
 abbrev pub IsFirst : Selector → List ℤ → ℕ → Type 0
-IsFirst sel types place = QualifiesAt sel types place × ((earlier : ℕ) → earlier < place → ¬ QualifiesAt sel types earlier)
+IsFirst sel types place =
+    QualifiesAt sel types place × ((earlier : ℕ) → earlier < place → ¬ QualifiesAt sel types earlier)
 
 -- The first place of the lowest type: no place has a lower type, and no earlier place has the same
 -- type.

@@ -1,3 +1,5 @@
+//! The permission rule: which callers may use and control a queue.
+
 ghost use Rattle.std.specs.Prelude.{◌↔◌, IsTrue};
 ghost use Rattle.sysv_rules.specs.Permission.{IsPermitted, MayControl};
 

@@ -1,3 +1,5 @@
+//! The selection rule: which queued message a selector names.
+
 ghost use Rattle.std.specs.Prelude.{◌≡◌, ◌↔◌, ℕ, [], IsTrue, IsNone, Some, MatchOption};
 ghost use Rattle.sysv_rules.specs.Qualifies.{Qualifies, NoneQualifies};
 ghost use Rattle.sysv_rules.specs.Named.{IsNamed, IsFirst, IsLeast};

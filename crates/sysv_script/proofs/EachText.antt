@@ -1,5 +1,6 @@
 -- A text prints something as a whole: each of its lines does something or is bad.
-use Rattle.std.proofs.Common.{◌≡◌, ◌+◌, ◌-◌, ◌≤◌, ◌<◌, ◌⊎◌, ℕ, zero, suc, inl, inr, Bool, true, false, List, [], ◌∷◌, ◌++◌, Option, Some, None, length, get_or, refl, ap, ◌∙◌, arith}
+use Rattle.std.proofs.Common.{◌≡◌, ◌+◌, ◌-◌, ◌≤◌, ◌<◌, ◌⊎◌, ℕ, zero, suc, inl, inr, Bool, true, false, List, [], ◌∷◌}
+use Rattle.std.proofs.Common.{◌++◌, Option, Some, None, length, get_or, refl, ap, ◌∙◌, arith}
 use Rattle.std.proofs.Common.{subst, if◌then◌else◌}
 use Rattle.std.proofs.lemmas.List.{length-set}
 use Rattle.sysv_lists.proofs.Orders.{at_most}
@@ -18,9 +19,14 @@ use Rattle.sysv_script.specs.Faults.{bad_line_text}
 use Rattle.sysv_lines.specs.Heads.{head_text}
 use Rattle.sysv_lines.specs.declared.head.Head.TheVariants as head
 use Rattle.sysv_lines.specs.Lines.{Says}
-use Rattle.sysv_lines.specs.Said.{Said, Nothing, MakesPreset, GivesCred, GivesMoment, Starts, StepsOnce, Continues, AllContinue, GivesBlocks}
-use Rattle.sysv_script.specs.Scene.{Scene, opening_scene, opening_world, begun_scene, first_cred, in_world, cred_at, with_cred, Advances, GoesOn, call_for, most_steps, CallRuns, StartRuns, StepsRun, OneRuns, AllRun, LineRuns, operation_of, under_way, printed}
-use Rattle.sysv_script.specs.ScriptText.{BeginsWith, LineDoes, IsBad, Ending, Whole, BadLine, TooMany, Prints, Ends, Exceeds, Fails, Goes}
+use Rattle.sysv_lines.specs.Said.{Said, Nothing, MakesPreset, GivesCred, GivesMoment, Starts, StepsOnce, Continues}
+use Rattle.sysv_lines.specs.Said.{AllContinue, GivesBlocks}
+use Rattle.sysv_script.specs.Scene.{Scene, opening_scene, opening_world, begun_scene, first_cred, in_world, cred_at}
+use Rattle.sysv_script.specs.Scene.{with_cred, Advances, GoesOn, call_for, most_steps, CallRuns, StartRuns, StepsRun}
+use Rattle.sysv_script.specs.Scene.{OneRuns, AllRun, LineRuns, under_way, printed}
+use Rattle.sysv_lines.specs.Names.{operation_of}
+use Rattle.sysv_script.specs.ScriptText.{BeginsWith, LineDoes, IsBad, Ending, Whole, BadLine, TooMany, Prints, Ends}
+use Rattle.sysv_script.specs.ScriptText.{Exceeds, Fails, Goes}
 use Rattle.sysv_script.specs.EachText.{EachTextPrints}
 use Rattle.sysv_script.specs.CredHeld.{cred_held}
 use Rattle.sysv_script.proofs.Opening.{opening_sound}
@@ -57,10 +63,17 @@ record LineDone (s : Scene) (line : List ℕ) : Type 0 where
   manned : IsManned after
 
 -- A preset makes the queue, or comes too late.
-presets_or_not : (s : Scene) (line : List ℕ) (made : Bool) (after : World) → Presets s.world made after → IsSound after → IsManned s → Says line MakesPreset → LineDone s line ⊎ IsBad s line
+presets_or_not : (s : Scene) (line : List ℕ) (made : Bool) (after : World) → Presets s.world made after →
+    IsSound after → IsManned s → Says line MakesPreset → LineDone s line ⊎ IsBad s line
 presets_or_not s line true after p there manned says =
-    inl (record { out = []; after = in_world (begun_scene s) after; does = (MakesPreset, says, (p, refl, refl)); manned = (manned.0, there) })
-presets_or_not s line false after p there manned says = inr (inr (MakesPreset, [], in_world (begun_scene s) after, says, (p, refl, refl)))
+    inl (record {
+      out = [];
+      after = in_world (begun_scene s) after;
+      does = (MakesPreset, says, (p, refl, refl));
+      manned = (manned.0, there);
+    })
+presets_or_not s line false after p there manned says =
+    inr (inr (MakesPreset, [], in_world (begun_scene s) after, says, (p, refl, refl)))
 
 -- The text prints something as a whole.
 abbrev PrintsWhole : Scene → ℕ → List ℕ → Type 0
@@ -68,11 +81,16 @@ PrintsWhole s n text = (out : List ℕ) × (ending : Ending) × Prints s n text 
 
 -- If the first line of a text does something and the rest prints something as a whole, so does the
 -- text.
-goes_first : (s : Scene) (n : ℕ) (text : List ℕ) (first : FirstLine text) → n ≤ 1000000 → (does : LineDone s first.line) → PrintsWhole does.after (n + 1) first.rest → PrintsWhole s n text
-goes_first s n text first few does more =
-    (does.out ++ more.0, more.1, Goes s n text first.line first.rest does.out does.after more.0 more.1 few first.begins does.does more.2)
+goes_first : (s : Scene) (n : ℕ) (text : List ℕ) (first : FirstLine text) → n ≤ 1000000 →
+    (does : LineDone s first.line) → PrintsWhole does.after (n + 1) first.rest → PrintsWhole s n text
+goes_first s n text first few does more = (
+  does.out ++ more.0,
+  more.1,
+  Goes s n text first.line first.rest does.out does.after more.0 more.1 few first.begins does.does more.2,
+)
 
-module _ (split : OneSplit) (decided : EachLineIsDecided) (some : SomeStep) (preset : SomePreset) (opens : OpensSound) where
+module _ (split : OneSplit) (decided : EachLineIsDecided) (some : SomeStep) (preset : SomePreset)
+    (opens : OpensSound) where
   -- The scene afterwards has the credentials of the scene before, and a sound world.
   abbrev IsKept : Scene → Scene → Type 0
   IsKept s after = (after.creds ≡ s.creds) × IsSound after.world
@@ -81,13 +99,15 @@ module _ (split : OneSplit) (decided : EachLineIsDecided) (some : SomeStep) (pre
   manned_after s after manned kept = (ap length kept.0 ∙ manned.0, kept.1)
 
   -- An event leaves such a scene.
-  advances : (s : Scene) (event : Event) → IsSound s.world → (given : Stepped) × (after : Scene) × Advances s event given after × IsKept s after
+  advances : (s : Scene) (event : Event) → IsSound s.world →
+      (given : Stepped) × (after : Scene) × Advances s event given after × IsKept s after
   advances s event sound =
       let step = some s.world event sound in
       (step.0, in_world s step.1, (step.2, refl), (refl, step.3))
 
   -- A call continues for at most `n` steps.
-  goes_on : (n : ℕ) (s : Scene) (actor : ℕ) (first : Stepped) → IsSound s.world → (given : Stepped) × (after : Scene) × GoesOn n s actor first given after × IsKept s after
+  goes_on : (n : ℕ) (s : Scene) (actor : ℕ) (first : Stepped) → IsSound s.world →
+      (given : Stepped) × (after : Scene) × GoesOn n s actor first given after × IsKept s after
   goes_on zero s actor stepped.Nothing sound = (stepped.Nothing, s, (refl, refl), (refl, sound))
   goes_on zero s actor (stepped.Answer answer) sound = (stepped.Answer answer, s, (refl, refl), (refl, sound))
   goes_on zero s actor stepped.Worn sound = (stepped.Worn, s, (refl, refl), (refl, sound))
@@ -99,7 +119,8 @@ module _ (split : OneSplit) (decided : EachLineIsDecided) (some : SomeStep) (pre
   goes_on (suc n) s actor stepped.Worn sound = (stepped.Worn, s, (refl, refl), (refl, sound))
 
   -- A call of an actor that has credentials runs.
-  call_runs : (s : Scene) (actor : ℕ) (asked : SystemCall) (goes : Bool) (cred : Cred) → IsSound s.world → cred_at s.creds actor ≡ Some cred →
+  call_runs : (s : Scene) (actor : ℕ) (asked : SystemCall) (goes : Bool) (cred : Cred) → IsSound s.world →
+      cred_at s.creds actor ≡ Some cred →
       (given : Stepped) × (after : Scene) × CallRuns s actor asked goes given after × IsKept s after
   call_runs s actor asked goes cred sound held =
       let start = advances s (Start actor cred (call_for asked)) sound in
@@ -111,21 +132,25 @@ module _ (split : OneSplit) (decided : EachLineIsDecided) (some : SomeStep) (pre
   Done Runs s = (out : List ℕ) × (after : Scene) × Runs s out after × IsKept s after
 
   -- A line starts a call, or finds the actor in one.
-  start_runs : (s : Scene) (actor : ℕ) (asked : SystemCall) (goes : Bool) (o : Option Operation) → IsManned s → 1 ≤ actor → actor ≤ 16 → Done (λ m out after. StartRuns m actor asked goes o out after) s
-  start_runs s actor asked goes (Some operation) manned least most = (head_text (head.Busy actor) ++ 10 ∷ [], s, (refl, refl), (refl, manned.1))
+  start_runs : (s : Scene) (actor : ℕ) (asked : SystemCall) (goes : Bool) (o : Option Operation) → IsManned s →
+      1 ≤ actor → actor ≤ 16 → Done (λ m out after. StartRuns m actor asked goes o out after) s
+  start_runs s actor asked goes (Some operation) manned least most =
+      (head_text (head.Busy actor) ++ 10 ∷ [], s, (refl, refl), (refl, manned.1))
   start_runs s actor asked goes None manned least most =
       let cred : Cred = get_or s.creds (actor - 1) (first_cred 0) in
       let held = cred_held s.creds actor (first_cred 0) least (omega (arith, most, manned.0)) in
       let run = call_runs s actor asked goes cred manned.1 held in
       (printed run.1.world actor (operation_of asked) run.0, run.1, (run.0, run.2, refl), run.3)
 
-  steps_run : (n : ℕ) (s : Scene) (actor : ℕ) (o : Option Operation) → IsSound s.world → Done (λ m out after. StepsRun n m actor o out after) s
+  steps_run : (n : ℕ) (s : Scene) (actor : ℕ) (o : Option Operation) → IsSound s.world →
+      Done (λ m out after. StepsRun n m actor o out after) s
   steps_run n s actor None sound = (head_text (head.Idle actor) ++ 10 ∷ [], s, (refl, refl), (refl, sound))
   steps_run n s actor (Some operation) sound =
       let run = goes_on n s actor stepped.Nothing sound in
       (printed run.1.world actor operation run.0, run.1, (run.0, run.2, refl), run.3)
 
-  one_runs : (s : Scene) (actor : ℕ) (o : Option Operation) → IsSound s.world → Done (λ m out after. OneRuns m actor o out after) s
+  one_runs : (s : Scene) (actor : ℕ) (o : Option Operation) → IsSound s.world →
+      Done (λ m out after. OneRuns m actor o out after) s
   one_runs s actor None sound = ([], s, (refl, refl), (refl, sound))
   one_runs s actor (Some operation) sound = steps_run 16 s actor (Some operation) sound
 
@@ -136,11 +161,14 @@ module _ (split : OneSplit) (decided : EachLineIsDecided) (some : SomeStep) (pre
       let more = all_run actors one.1 one.3.1 in
       (one.0 ++ more.0, more.1, (one.1, one.0, more.0, one.2, more.2, refl), (more.3.0 ∙ one.3.0, more.3.1))
 
-  line_done : (s : Scene) (line : List ℕ) (said : Said) (out : List ℕ) (after : Scene) → IsManned s → Says line said → LineRuns s said true out after → IsKept s after → LineDone s line ⊎ IsBad s line
-  line_done s line said out after manned says runs kept = inl (record { out = out; after = after; does = (said, says, runs); manned = manned_after s after manned kept })
+  line_done : (s : Scene) (line : List ℕ) (said : Said) (out : List ℕ) (after : Scene) → IsManned s → Says line said →
+      LineRuns s said true out after → IsKept s after → LineDone s line ⊎ IsBad s line
+  line_done s line said out after manned says runs kept =
+      inl (record { out = out; after = after; does = (said, says, runs); manned = manned_after s after manned kept })
 
   -- The size of the pool is set, or comes too late.
-  pool_goes : (s : Scene) (line : List ℕ) (blocks : ℕ) (fresh : Bool) → fresh ≡ s.fresh → IsManned s → Says line (GivesBlocks blocks) → LineDone s line ⊎ IsBad s line
+  pool_goes : (s : Scene) (line : List ℕ) (blocks : ℕ) (fresh : Bool) → fresh ≡ s.fresh → IsManned s →
+      Says line (GivesBlocks blocks) → LineDone s line ⊎ IsBad s line
   pool_goes s line blocks true e manned says =
       let after = in_world (begun_scene s) (opening_world blocks) in
       inl (record {
@@ -155,8 +183,10 @@ module _ (split : OneSplit) (decided : EachLineIsDecided) (some : SomeStep) (pre
 
   -- A line with a meaning does it, or is a preset or a size of the pool that comes too late.
   line_goes : (s : Scene) (line : List ℕ) (said : Said) → IsManned s → Says line said → LineDone s line ⊎ IsBad s line
-  line_goes s line Nothing manned says = inl (record { out = []; after = s; does = (Nothing, says, (refl, refl, refl)); manned = manned })
-  line_goes s line MakesPreset manned says = let made = preset s.world manned.1 in presets_or_not s line made.0 made.1 made.2 made.3 manned says
+  line_goes s line Nothing manned says =
+      inl (record { out = []; after = s; does = (Nothing, says, (refl, refl, refl)); manned = manned })
+  line_goes s line MakesPreset manned says =
+      let made = preset s.world manned.1 in presets_or_not s line made.0 made.1 made.2 made.3 manned says
   line_goes s line (GivesBlocks blocks) manned says = pool_goes s line blocks s.fresh (λ i. s.fresh) manned says
   line_goes s line (GivesCred actor cred) manned says =
       inl (record {
@@ -166,12 +196,19 @@ module _ (split : OneSplit) (decided : EachLineIsDecided) (some : SomeStep) (pre
         manned = (length-set s.creds (actor - 1) cred ∙ manned.0, manned.1);
       })
   line_goes s line (GivesMoment moment) manned says =
-      inl (record { out = []; after = record s { moment = moment; fresh = false }; does = (GivesMoment moment, says, (refl, refl, refl)); manned = manned })
+      inl (record {
+        out = [];
+        after = record s { moment = moment; fresh = false };
+        does = (GivesMoment moment, says, (refl, refl, refl));
+        manned = manned;
+      })
   line_goes s line (Starts actor asked true) manned says =
-      let run = start_runs (begun_scene s) actor asked true (under_way (actor_at s.world.actors actor)) manned says.1.one.least says.1.one.most in
+      let run = start_runs (begun_scene s) actor asked true (under_way (actor_at s.world.actors actor)) manned
+      says.1.one.least says.1.one.most in
       line_done s line (Starts actor asked true) run.0 run.1 manned says (refl, run.2) run.3
   line_goes s line (Starts actor asked false) manned says =
-      let run = start_runs (begun_scene s) actor asked false (under_way (actor_at s.world.actors actor)) manned says.1.2.one.least says.1.2.one.most in
+      let run = start_runs (begun_scene s) actor asked false (under_way (actor_at s.world.actors actor)) manned
+      says.1.2.one.least says.1.2.one.most in
       line_done s line (Starts actor asked false) run.0 run.1 manned says (refl, run.2) run.3
   line_goes s line (StepsOnce actor) manned says =
       let run = steps_run 1 (begun_scene s) actor (under_way (actor_at s.world.actors actor)) manned.1 in
@@ -203,9 +240,11 @@ module _ (split : OneSplit) (decided : EachLineIsDecided) (some : SomeStep) (pre
         let shorter = first.shorter in
         elim (does_or_bad s first.line manned) [
           | inr bad ↦ (bad_line_text n, BadLine n, Fails s n (x ∷ xs) first.line first.rest few first.begins bad)
-          | inl does ↦ goes_first s n (x ∷ xs) first few does (prints_bounded bound (n + 1) does.after first.rest (omega (arith, short, shorter)) does.manned)
+          | inl does ↦ goes_first s n (x ∷ xs) first few does
+              (prints_bounded bound (n + 1) does.after first.rest (omega (arith, short, shorter)) does.manned)
         ]
   ]
 
   pub each_text_prints : EachTextPrints
-  each_text_prints text = prints_bounded (length text) 1 opening_scene text (omega arith) (refl, opening_sound opens 1024)
+  each_text_prints text =
+      prints_bounded (length text) 1 opening_scene text (omega arith) (refl, opening_sound opens 1024)

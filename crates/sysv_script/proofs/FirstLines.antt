@@ -1,5 +1,6 @@
 -- The end of the first line of a text whose front contains no LF.
-use Rattle.std.proofs.Common.{◌≡◌, ◌+◌, ◌<◌, ℕ, List, ◌++◌, length, take, drop, get_or, sym, ◌∙◌, subst, arith, length-drop, inl, inr}
+use Rattle.std.proofs.Common.{◌≡◌, ◌+◌, ◌<◌, ℕ, List, ◌++◌, length, take, drop, get_or, sym, ◌∙◌, subst, arith}
+use Rattle.std.proofs.Common.{length-drop, inl, inr}
 use Rattle.std.proofs.Math.Seq.{take-add}
 use Rattle.std.proofs.lemmas.List.{take-append-drop, get_or-drop}
 use Rattle.std.proofs.lemmas.List.Elements.{Contains-append_cases}
@@ -14,7 +15,8 @@ pub HasNoEnd-parts : (text : List ℕ) (seen : ℕ) → HasNoEnd (take seen text
 HasNoEnd-parts text seen p q =
     subst HasNoEnd (take-append-drop seen text) (HasNoEnd-append (take seen text) (drop seen text) p q)
 
-pub IsFirstLine-behind : (text : List ℕ) (seen more : ℕ) → HasNoEnd (take seen text) → IsFirstLine more (drop seen text) → IsFirstLine (seen + more) text
+pub IsFirstLine-behind : (text : List ℕ) (seen more : ℕ) → HasNoEnd (take seen text) →
+    IsFirstLine more (drop seen text) → IsFirstLine (seen + more) text
 IsFirstLine-behind text seen more p first =
     let rest = drop seen text in
     let inside : more < length rest = slice_get_within rest more 10 first.ends in
@@ -23,7 +25,8 @@ IsFirstLine-behind text seen more p first =
     sym (get_or_from_slice_get rest more 10 10 first.ends) ∙ get_or-drop seen text more 10 in
     record {
       ends = slice_get_read text (length text) (seen + more) 10 refl fits here;
-      one_line = subst HasNoEnd (sym (take-add seen more text)) (HasNoEnd-append (take seen text) (take more rest) p first.one_line);
+      one_line = subst HasNoEnd (sym (take-add seen more text))
+          (HasNoEnd-append (take seen text) (take more rest) p first.one_line);
     }
 
 -- A text with a first line contains an LF.

@@ -8,7 +8,8 @@ use Rattle.sysv_script.specs.declared.stage.Stage.{Stage}
 
 -- A stage in which only the spare bodies have changed is seen as before.
 pub kept : (s : Scene) (old new : Stage) → new ≡ record old { spares = new.spares } → IsSceneOf s old → IsSceneOf s new
-kept s old new e seen = subst (IsSceneOf s) (sym e) (record { world = seen.world; creds = seen.creds; moment = seen.moment; fresh = seen.fresh })
+kept s old new e seen = subst (IsSceneOf s) (sym e)
+    (record { world = seen.world; creds = seen.creds; moment = seen.moment; fresh = seen.fresh })
 
 pub on_ok : {P Q : Type 0} (r : Result ⊤ NoMemory) → OnOk r P → (P → Q) → OnOk r Q
 on_ok (Ok done) p f = f p
@@ -24,5 +25,6 @@ Ok-once y x e = cc
 -- What a call promises of its `Ok` also holds after `map_err`.
 pub IfOk-mapped : {T E D : Type 0} (P : T → Type 0) (Q : E → Type 0) (r : Result T E) (mapped : Result T D) (x : T) →
     IfOk r P → MatchResult r (λ y. mapped ≡ Ok y) Q → is_ok mapped ≡ is_ok r → mapped ≡ Ok x → P x
-IfOk-mapped {D = D} P Q (Ok y) mapped x p same variant is = let inner : y ≡ x = Ok-once {D = D} y x (sym same ∙ is) in subst P inner p
+IfOk-mapped {D = D} P Q (Ok y) mapped x p same variant is =
+    let inner : y ≡ x = Ok-once {D = D} y x (sym same ∙ is) in subst P inner p
 IfOk-mapped P Q (Err e) mapped x p same variant is = let never : true ≡ false = sym (ap is_ok is) ∙ variant in absurd cc

@@ -1,5 +1,6 @@
 -- The position of the actor's call that the stage's world reports is that in the scene.
-use Rattle.std.proofs.Common.{◌≡◌, ℕ, zero, suc, List, [], ◌∷◌, ◌++◌, Option, Some, None, option_map, map, slice_get, refl, sym, ap, subst, ◌∙◌}
+use Rattle.std.proofs.Common.{◌≡◌, ℕ, zero, suc, List, [], ◌∷◌, ◌++◌, Option, Some, None, option_map, map, slice_get}
+use Rattle.std.proofs.Common.{refl, sym, ap, subst, ◌∙◌}
 use Rattle.std.proofs.lemmas.Option.{slice_get-map}
 use Rattle.sysv_core.specs.declared.event.Standing.{Standing as StandingKept}
 use Rattle.sysv_steps.specs.State.{State}
@@ -13,29 +14,38 @@ use Rattle.sysv_lines.specs.declared.head.Head.TheVariants as head
 use Rattle.sysv_lines.specs.declared.names.Operation.{Operation}
 use Rattle.sysv_script.specs.Scene.{operation_in, under_way, standing_line}
 
-seen_at : (actors : List (Option Doing)) (states : List (Option State)) (actor : ℕ) → map state_in actors ≡ states → state_at states actor ≡ option_map state_in (actor_at actors actor)
+seen_at : (actors : List (Option Doing)) (states : List (Option State)) (actor : ℕ) → map state_in actors ≡ states →
+    state_at states actor ≡ option_map state_in (actor_at actors actor)
 seen_at actors states zero e = refl
 seen_at actors states (suc place) e = ap (λ ss. slice_get ss place) (sym e) ∙ slice_get-map state_in actors place
 
 -- What the world reports is the state of the actor's call in each world as which it is seen.
-pub told_there : (w : World) (seen : Seen) (actor : ℕ) (told : StandingKept) → IsSeenAs w seen → StandsThere (state_at seen.states actor) told → StandsThere (option_map state_in (actor_at w.actors actor)) told
-told_there w seen actor told sight stands = subst (λ o. StandsThere o told) (seen_at w.actors seen.states actor sight.states) stands
+pub told_there : (w : World) (seen : Seen) (actor : ℕ) (told : StandingKept) → IsSeenAs w seen →
+    StandsThere (state_at seen.states actor) told → StandsThere (option_map state_in (actor_at w.actors actor)) told
+told_there w seen actor told sight stands =
+    subst (λ o. StandsThere o told) (seen_at w.actors seen.states actor sight.states) stands
 
-pub told_nowhere : (w : World) (seen : Seen) (actor : ℕ) → IsSeenAs w seen → StandsNowhere (state_at seen.states actor) → StandsNowhere (option_map state_in (actor_at w.actors actor))
+pub told_nowhere : (w : World) (seen : Seen) (actor : ℕ) → IsSeenAs w seen →
+    StandsNowhere (state_at seen.states actor) → StandsNowhere (option_map state_in (actor_at w.actors actor))
 told_nowhere w seen actor sight stands = subst StandsNowhere (seen_at w.actors seen.states actor sight.states) stands
 
-pub idle_line : (actor : ℕ) (o : Option (Option Doing)) → StandsNowhere (option_map state_in o) → head_text (head.Idle actor) ++ 10 ∷ [] ≡ standing_line actor o
+pub idle_line : (actor : ℕ) (o : Option (Option Doing)) → StandsNowhere (option_map state_in o) →
+    head_text (head.Idle actor) ++ 10 ∷ [] ≡ standing_line actor o
 idle_line actor None stands = refl
 idle_line actor (Some None) stands = refl
 idle_line actor (Some (Some d)) stands = absurd stands
 
-pub going_line : (actor : ℕ) (o : Option (Option Doing)) (told : StandingKept) (line : Head) → StandsThere (option_map state_in o) told →
-    ((text : List ℕ) → head_text line ≡ standing_text actor (stands_at told text)) → head_text line ++ 10 ∷ [] ≡ standing_line actor o
+pub going_line : (actor : ℕ) (o : Option (Option Doing)) (told : StandingKept) (line : Head) →
+    StandsThere (option_map state_in o) told →
+    ((text : List ℕ) → head_text line ≡ standing_text actor (stands_at told text)) →
+    head_text line ++ 10 ∷ [] ≡ standing_line actor o
 going_line actor None told line stands says = absurd stands
 going_line actor (Some None) told line stands says = absurd stands
-going_line actor (Some (Some d)) told line stands says = ap (λ t. t ++ 10 ∷ []) (says stands.0 ∙ sym (ap (standing_text actor) stands.1))
+going_line actor (Some (Some d)) told line stands says =
+    ap (λ t. t ++ 10 ∷ []) (says stands.0 ∙ sym (ap (standing_text actor) stands.1))
 
-pub going_way : (o : Option (Option Doing)) (told : StandingKept) (operation : Operation) → StandsThere (option_map state_in o) told →
+pub going_way : (o : Option (Option Doing)) (told : StandingKept) (operation : Operation) →
+    StandsThere (option_map state_in o) told →
     ((text : List ℕ) → operation_in (stands_at told text) ≡ Some operation) → Some operation ≡ under_way o
 going_way None told operation stands says = absurd stands
 going_way (Some None) told operation stands says = absurd stands

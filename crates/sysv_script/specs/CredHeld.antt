@@ -5,7 +5,8 @@ use Rattle.std.proofs.lemmas.Option.{slice_get-get_or}
 use Rattle.sysv_model.specs.declared.cred.Cred.{Cred}
 use Rattle.sysv_script.specs.Scene.{cred_at}
 
-pub cred_held : (creds : List Cred) (actor : ℕ) (d : Cred) → 1 ≤ actor → actor ≤ length creds → cred_at creds actor ≡ Some (get_or creds (actor - 1) d)
+pub cred_held : (creds : List Cred) (actor : ℕ) (d : Cred) → 1 ≤ actor → actor ≤ length creds →
+    cred_at creds actor ≡ Some (get_or creds (actor - 1) d)
 cred_held creds zero d least most = absurd (omega (arith, least))
 cred_held creds (suc place) d least most =
     let same : suc place - 1 ≡ place = omega arith in

@@ -84,7 +84,8 @@ Grows old new = (bytes : List ℕ) × Appends old new bytes
 -- If the fault is that of a bad line, its number is 1 to 1,000,000, and the last line that the
 -- writer took states it.
 abbrev pub TellsBadLine : ScriptFault → Option (List ℕ) → Option (List ℕ) → Type 0
-TellsBadLine (Line n) old new = (1 ≤ n) × (n ≤ SCRIPT_LINES) × ((answers : List ℕ) × Appends old new (answers ++ bad_line_text n))
+TellsBadLine (Line n) old new =
+    (1 ≤ n) × (n ≤ SCRIPT_LINES) × ((answers : List ℕ) × Appends old new (answers ++ bad_line_text n))
 TellsBadLine NoMemory old new = ⊤
 TellsBadLine Read old new = ⊤
 TellsBadLine Write old new = ⊤

@@ -1,6 +1,7 @@
 -- Where a line of a script is among the bytes that were read (this project's script language: lines
 -- end with LF, and the last line may lack it; a line has at most 9,000 bytes).
-use Rattle.std.specs.Prelude.{◌≡◌, ◌<◌, ◌⊎◌, ℕ, List, [], Option, Some, None, length, take, slice_get, true, false, Contains}
+use Rattle.std.specs.Prelude.{◌≡◌, ◌<◌, ◌⊎◌, ℕ, List, [], Option, Some, None, length, take, slice_get, true, false}
+use Rattle.std.specs.Prelude.{Contains}
 use Rattle.std.specs.Io.KnownBytes.{IsAtEnd}
 use Rattle.sysv_lines.specs.declared.line.TheConstants.{LINE_BYTES}
 use Rattle.sysv_script.specs.declared.lines.Found.{Found}
@@ -24,7 +25,8 @@ pub record IsLastLine (len : ℕ) (text : List ℕ) (left : Option (List ℕ)) :
 
 -- The found line is the next one of the pending bytes and those that the reader has left.
 abbrev pub IsNextLine : Found → List ℕ → Option (List ℕ) → Type 0
-IsNextLine found waiting left = (found.is_last ≡ false → IsFirstLine found.len waiting) × (found.is_last ≡ true → IsLastLine found.len waiting left)
+IsNextLine found waiting left =
+    (found.is_last ≡ false → IsFirstLine found.len waiting) × (found.is_last ≡ true → IsLastLine found.len waiting left)
 
 -- No line is left.
 abbrev pub HasNoLine : List ℕ → Option (List ℕ) → Type 0

@@ -11,5 +11,7 @@ use Rattle.sysv_script.specs.Sofar.{PrintsSofar}
 pub record OneText : Type 0 where
   -- The opening scene is such a scene.
   pub sound : IsSound opening_scene.world
-  pub once : (s : Scene) (n : ℕ) (text out other : List ℕ) (ending end : Ending) → IsSound s.world → Prints s n text out ending → Prints s n text other end → (out ≡ other) × (ending ≡ end)
-  pub sofar : (s : Scene) (n : ℕ) (text out left other : List ℕ) (there : Scene) (end : Ending) → IsSound s.world → PrintsSofar s n text out left there → Prints s n text other end → IsPrefixOf out other
+  pub once : (s : Scene) (n : ℕ) (text out other : List ℕ) (ending end : Ending) → IsSound s.world →
+      Prints s n text out ending → Prints s n text other end → (out ≡ other) × (ending ≡ end)
+  pub sofar : (s : Scene) (n : ℕ) (text out left other : List ℕ) (there : Scene) (end : Ending) → IsSound s.world →
+      PrintsSofar s n text out left there → Prints s n text other end → IsPrefixOf out other

@@ -3,29 +3,26 @@
 -- or steps of calls under way. A call continues until it is over or waits, with at most 16 steps at
 -- a line; a step of a call whose count has not reached its goal changes nothing. Each line that
 -- starts or continues a call prints one line for it: its result, or its state after that.
-use Rattle.std.specs.Prelude.{◌≡◌, ℕ, zero, suc, ◌+◌, ◌-◌, Bool, true, false, List, [], ◌∷◌, ◌++◌, Option, Some, None, map, slice_get, slice_set, unwrap_or, if◌then◌else◌}
+use Rattle.std.specs.Prelude.{◌≡◌, ℕ, zero, suc, ◌+◌, ◌-◌, Bool, true, false, List, [], ◌∷◌, ◌++◌, Option, Some, None}
+use Rattle.std.specs.Prelude.{map, slice_get, slice_set, unwrap_or, if◌then◌else◌}
 use Rattle.std.specs.List.{range_with_len}
 use Rattle.sysv_model.specs.declared.cred.Cred.{Cred}
 use Rattle.sysv_steps.specs.Call.{SystemCall, Msgget, Msgsnd, Msgrcv, MsgctlStat, MsgctlSet, MsgctlRmid}
 use Rattle.sysv_steps.specs.State.{State, Goes, Waits, Over}
-use Rattle.sysv_core.specs.declared.event.Call.{Call}
-use Rattle.sysv_core.specs.declared.event.Call.TheVariants as call
+use Rattle.sysv_steps.specs.declared.call.Call.{Call}
+use Rattle.sysv_steps.specs.declared.call.Call.TheVariants as call
 use Rattle.sysv_core.specs.declared.event.Event.{Event}
 use Rattle.sysv_core.specs.declared.event.Event.TheVariants.{Start, Step}
-use Rattle.sysv_core.specs.declared.event.Outcome.{Outcome}
-use Rattle.sysv_core.specs.declared.event.Outcome.TheVariants as outcome
 use Rattle.sysv_core.specs.declared.event.Stepped.{Stepped}
 use Rattle.sysv_core.specs.declared.event.Stepped.TheVariants as stepped
 use Rattle.sysv_core.specs.World.{World, Doing, actor_at, opening, Presets}
 use Rattle.sysv_core.specs.Seen.{Steps}
-use Rattle.sysv_lines.specs.Said.{Said, Nothing, MakesPreset, GivesCred, GivesMoment, Starts, StepsOnce, Continues, AllContinue, GivesBlocks}
+use Rattle.sysv_lines.specs.Said.{Said, Nothing, MakesPreset, GivesCred, GivesMoment, Starts, StepsOnce, Continues}
+use Rattle.sysv_lines.specs.Said.{AllContinue, GivesBlocks}
 use Rattle.sysv_lines.specs.declared.names.Operation.{Operation}
-use Rattle.sysv_lines.specs.declared.names.Operation.TheVariants.{Get, Send, Receive, Stat as OfStat, Set as OfSet, Remove as OfRemove}
-use Rattle.sysv_lines.specs.declared.told.Told.{Told}
-use Rattle.sysv_lines.specs.declared.told.Told.TheVariants as told
 use Rattle.sysv_lines.specs.declared.head.Head.TheVariants as head
 use Rattle.sysv_lines.specs.Heads.{head_text}
-use Rattle.sysv_lines.specs.Names.{operation_at, operation_of_wait, standing_text}
+use Rattle.sysv_lines.specs.Names.{operation_at, operation_of, operation_of_wait, standing_text}
 use Rattle.sysv_lines.specs.declared.actor.TheConstants.{SCRIPT_ACTORS}
 use Rattle.sysv_script.specs.declared.stage.TheConstants.{SCRIPT_BLOCKS, MAX_STEPS}
 
@@ -47,7 +44,12 @@ opening_world blocks = opening record { actors = SCRIPT_ACTORS; blocks = blocks;
 
 -- The scene of such a world, with the first credentials of the actors 1 to 16.
 abbrev pub opening_scene : Scene
-opening_scene = record { world = opening_world SCRIPT_BLOCKS; creds = map first_cred (range_with_len 1 SCRIPT_ACTORS); moment = 0; fresh = true }
+opening_scene = record {
+  world = opening_world SCRIPT_BLOCKS;
+  creds = map first_cred (range_with_len 1 SCRIPT_ACTORS);
+  moment = 0;
+  fresh = true;
+}
 
 -- The credentials of an actor, if there is such an actor. Actors count from 1.
 abbrev pub cred_at : List Cred → ℕ → Option Cred
@@ -61,15 +63,6 @@ with_cred creds actor cred = slice_set creds (actor - 1) cred
 -- The scene with another world.
 abbrev pub in_world : Scene → World → Scene
 in_world s world = record s { world = world }
-
--- The kind of a call, by its arguments.
-abbrev pub operation_of : SystemCall → Operation
-operation_of (Msgget key flags) = Get
-operation_of (Msgsnd id mtype flags text) = Send
-operation_of (Msgrcv id size mtype flags) = Receive
-operation_of (MsgctlStat id) = OfStat
-operation_of (MsgctlSet id to) = OfSet
-operation_of (MsgctlRmid id) = OfRemove
 
 -- The kind of a call under way, by its state.
 abbrev pub operation_in : State → Option Operation
@@ -91,12 +84,13 @@ Advances s event given after = Steps s.world event given after.world × (after �
 -- is over.
 abbrev pub GoesOn : ℕ → Scene → ℕ → Stepped → Stepped → Scene → Type 0
 GoesOn zero s actor stepped.Nothing given after = (given ≡ stepped.Nothing) × (after ≡ s)
-GoesOn (suc n) s actor stepped.Nothing given after = (mid : Scene) × (next : Stepped) × Advances s (Step actor s.moment) next mid × GoesOn n mid actor next given after
+GoesOn (suc n) s actor stepped.Nothing given after =
+    (mid : Scene) × (next : Stepped) × Advances s (Step actor s.moment) next mid × GoesOn n mid actor next given after
 GoesOn n s actor (stepped.Answer answer) given after = (given ≡ stepped.Answer answer) × (after ≡ s)
 GoesOn n s actor stepped.Worn given after = (given ≡ stepped.Worn) × (after ≡ s)
 
 -- The call as an event of the world starts it. A receive brings an empty body.
-abbrev pub call_for : SystemCall → Call
+abbrev pub call_for : SystemCall → Call (List ℕ) (List ℕ)
 call_for (Msgget key flags) = call.Get key flags
 call_for (Msgsnd id mtype flags text) = call.Send id mtype flags text
 call_for (Msgrcv id size mtype flags) = call.Receive id size mtype flags []
@@ -105,8 +99,9 @@ call_for (MsgctlSet id to) = call.Set id to
 call_for (MsgctlRmid id) = call.Remove id
 
 -- A call is started with the present credentials of the actor.
-abbrev pub StartsAs : Scene → ℕ → Call → Stepped → Scene → Type 0
-StartsAs s actor call given after = (cred : Cred) × (cred_at s.creds actor ≡ Some cred) × Advances s (Start actor cred call) given after
+abbrev pub StartsAs : Scene → ℕ → Call (List ℕ) (List ℕ) → Stepped → Scene → Type 0
+StartsAs s actor call given after =
+    (cred : Cred) × (cred_at s.creds actor ≡ Some cred) × Advances s (Start actor cred call) given after
 
 -- The maximum number of steps at the line that starts a call: none if the call is only started.
 abbrev pub most_steps : Bool → ℕ
@@ -116,15 +111,8 @@ most_steps false = 0
 -- The call from its start to its last result at this line.
 abbrev pub CallRuns : Scene → ℕ → SystemCall → Bool → Stepped → Scene → Type 0
 CallRuns s actor asked goes given after =
-    (mid : Scene) × (first : Stepped) × StartsAs s actor (call_for asked) first mid × GoesOn (most_steps goes) mid actor first given after
-
--- How an outcome is printed.
-abbrev pub told_of : Outcome → Told
-told_of (outcome.Id id) = told.Id id
-told_of outcome.Zero = told.Zero
-told_of (outcome.Got mtype len) = told.Got len mtype
-told_of (outcome.Stat stat) = told.Stat stat
-told_of (outcome.Refused why) = told.Refused why
+    (mid : Scene) × (first : Stepped) × StartsAs s actor (call_for asked) first mid
+    × GoesOn (most_steps goes) mid actor first given after
 
 -- The line that is printed if the call of the actor has no result yet: its state.
 abbrev pub standing_line : ℕ → Option (Option Doing) → List ℕ
@@ -135,7 +123,8 @@ standing_line actor None = head_text (head.Idle actor) ++ 10 ∷ []
 -- The line that is printed after the steps of an actor's call: its result, with the bytes of a
 -- message unchanged, or its state.
 abbrev pub printed : World → ℕ → Operation → Stepped → List ℕ
-printed w actor operation (stepped.Answer answer) = head_text (head.Answers answer.actor operation (told_of answer.result)) ++ (unwrap_or answer.body [] ++ 10 ∷ [])
+printed w actor operation (stepped.Answer answer) =
+    head_text (head.Answers answer.actor operation answer.result) ++ (unwrap_or answer.body [] ++ 10 ∷ [])
 printed w actor operation stepped.Worn = head_text (head.Worn actor) ++ 10 ∷ []
 printed w actor operation stepped.Nothing = standing_line actor (actor_at w.actors actor)
 
@@ -143,13 +132,15 @@ printed w actor operation stepped.Nothing = standing_line actor (actor_at w.acto
 -- other one.
 abbrev pub StartRuns : Scene → ℕ → SystemCall → Bool → Option Operation → List ℕ → Scene → Type 0
 StartRuns s actor asked goes (Some operation) out after = (out ≡ head_text (head.Busy actor) ++ 10 ∷ []) × (after ≡ s)
-StartRuns s actor asked goes None out after = (given : Stepped) × CallRuns s actor asked goes given after × (out ≡ printed after.world actor (operation_of asked) given)
+StartRuns s actor asked goes None out after = (given : Stepped) × CallRuns s actor asked goes given after
+    × (out ≡ printed after.world actor (operation_of asked) given)
 
 -- A line that continues the call of this kind by at most this number of steps. If no call is under
 -- way, the line states that.
 abbrev pub StepsRun : ℕ → Scene → ℕ → Option Operation → List ℕ → Scene → Type 0
 StepsRun n s actor None out after = (out ≡ head_text (head.Idle actor) ++ 10 ∷ []) × (after ≡ s)
-StepsRun n s actor (Some operation) out after = (given : Stepped) × GoesOn n s actor stepped.Nothing given after × (out ≡ printed after.world actor operation given)
+StepsRun n s actor (Some operation) out after =
+    (given : Stepped) × GoesOn n s actor stepped.Nothing given after × (out ≡ printed after.world actor operation given)
 
 -- The call of this actor, if one is under way, continues.
 abbrev pub OneRuns : Scene → ℕ → Option Operation → List ℕ → Scene → Type 0
@@ -160,7 +151,9 @@ OneRuns s actor (Some operation) out after = StepsRun MAX_STEPS s actor (Some op
 abbrev pub AllRun : List ℕ → Scene → List ℕ → Scene → Type 0
 AllRun [] s out after = (out ≡ []) × (after ≡ s)
 AllRun (actor ∷ actors) s out after =
-    (mid : Scene) × (one : List ℕ) × (rest : List ℕ) × OneRuns s actor (under_way (actor_at s.world.actors actor)) one mid × AllRun actors mid rest after × (out ≡ one ++ rest)
+    (mid : Scene) × (one : List ℕ) × (rest : List ℕ)
+    × OneRuns s actor (under_way (actor_at s.world.actors actor)) one mid × AllRun actors mid rest after
+    × (out ≡ one ++ rest)
 
 -- The scene after a line that is not skipped.
 abbrev pub begun_scene : Scene → Scene
@@ -168,19 +161,26 @@ begun_scene s = record s { fresh = false }
 
 -- The size of the pool is set before every other line that is not skipped.
 abbrev pub PoolGiven : Scene → ℕ → Bool → Scene → Type 0
-PoolGiven s blocks understood after = (understood ≡ s.fresh) × (after ≡ (if s.fresh then in_world (begun_scene s) (opening_world blocks) else s))
+PoolGiven s blocks understood after =
+    (understood ≡ s.fresh) × (after ≡ (if s.fresh then in_world (begun_scene s) (opening_world blocks) else s))
 
 -- What a line does and prints, if it is not the first to size the pool. The line is bad if it is a
 -- preset that comes too late, or the size of the pool.
 abbrev pub LineActs : Scene → Said → Bool → List ℕ → Scene → Type 0
 LineActs s Nothing understood out after = (understood ≡ true) × (out ≡ []) × (after ≡ s)
 LineActs s (GivesBlocks blocks) understood out after = (understood ≡ false) × (out ≡ []) × (after ≡ s)
-LineActs s MakesPreset understood out after = Presets s.world understood after.world × (out ≡ []) × (after ≡ in_world s after.world)
-LineActs s (GivesCred actor cred) understood out after = (understood ≡ true) × (out ≡ []) × (after ≡ record s { creds = with_cred s.creds actor cred })
-LineActs s (GivesMoment moment) understood out after = (understood ≡ true) × (out ≡ []) × (after ≡ record s { moment = moment })
-LineActs s (Starts actor asked goes) understood out after = (understood ≡ true) × StartRuns s actor asked goes (under_way (actor_at s.world.actors actor)) out after
-LineActs s (StepsOnce actor) understood out after = (understood ≡ true) × StepsRun 1 s actor (under_way (actor_at s.world.actors actor)) out after
-LineActs s (Continues actor) understood out after = (understood ≡ true) × StepsRun MAX_STEPS s actor (under_way (actor_at s.world.actors actor)) out after
+LineActs s MakesPreset understood out after =
+    Presets s.world understood after.world × (out ≡ []) × (after ≡ in_world s after.world)
+LineActs s (GivesCred actor cred) understood out after =
+    (understood ≡ true) × (out ≡ []) × (after ≡ record s { creds = with_cred s.creds actor cred })
+LineActs s (GivesMoment moment) understood out after =
+    (understood ≡ true) × (out ≡ []) × (after ≡ record s { moment = moment })
+LineActs s (Starts actor asked goes) understood out after =
+    (understood ≡ true) × StartRuns s actor asked goes (under_way (actor_at s.world.actors actor)) out after
+LineActs s (StepsOnce actor) understood out after =
+    (understood ≡ true) × StepsRun 1 s actor (under_way (actor_at s.world.actors actor)) out after
+LineActs s (Continues actor) understood out after =
+    (understood ≡ true) × StepsRun MAX_STEPS s actor (under_way (actor_at s.world.actors actor)) out after
 LineActs s AllContinue understood out after = (understood ≡ true) × AllRun (range_with_len 1 SCRIPT_ACTORS) s out after
 
 -- What a line does and prints.

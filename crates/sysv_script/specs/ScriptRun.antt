@@ -15,6 +15,8 @@ pub record EachScriptIsARun : Type 0 where
   -- A script begins on the world of a run.
   pub opens : IsOfRun opening_scene.world
   -- A line leads from the world of a run to the world of a run, also if the line is bad.
-  pub line : (s : Scene) (said : Said) (understood : Bool) (out : List ℕ) (after : Scene) → LineRuns s said understood out after → IsOfRun s.world → IsOfRun after.world
+  pub line : (s : Scene) (said : Said) (understood : Bool) (out : List ℕ) (after : Scene) →
+      LineRuns s said understood out after → IsOfRun s.world → IsOfRun after.world
   -- So does each text, up to each of its lines.
-  pub text : (s : Scene) (n : ℕ) (text out left : List ℕ) (there : Scene) → PrintsSofar s n text out left there → IsOfRun s.world → IsOfRun there.world
+  pub text : (s : Scene) (n : ℕ) (text out left : List ℕ) (there : Scene) → PrintsSofar s n text out left there →
+      IsOfRun s.world → IsOfRun there.world

@@ -31,33 +31,39 @@ LineEnds s line true out after = LineDoes s line out after
 LineEnds s line false out after = IsBad s line × (out ≡ [])
 
 -- The run from a scene over a text, now before the line of this number.
-pub record RunsOn (s : Scene) (text : List ℕ) (old : Option (List ℕ)) (n : ℕ) (now : Stage) (waiting : List ℕ) (left new : Option (List ℕ)) (composed : List ℕ) : Type 0 where
+pub record RunsOn (s : Scene) (text : List ℕ) (old : Option (List ℕ)) (n : ℕ) (now : Stage) (waiting : List ℕ)
+    (left new : Option (List ℕ)) (composed : List ℕ) : Type 0 where
   pub mid : Scene
   pub rest : List ℕ
   pub handed : List ℕ
   pub sight : IsSceneOf mid now
   pub text_is : IsText waiting left rest
   pub grown : Appends old new handed
-  pub prints : (more : List ℕ) (halt : Halt) → Runs mid n rest more halt → Runs s 1 text ((handed ++ composed) ++ more) halt
+  pub prints : (more : List ℕ) (halt : Halt) → Runs mid n rest more halt →
+      Runs s 1 text ((handed ++ composed) ++ more) halt
 
 -- All that the text prints was written or is composed.
 abbrev pub LeavesAll : Scene → List ℕ → Ending → Option (List ℕ) → Option (List ℕ) → List ℕ → Type 0
 LeavesAll s text ending old new composed =
-    (out : List ℕ) × Prints s 1 text out ending × ((handed : List ℕ) × Appends old new handed × (out ≡ handed ++ composed))
+    (out : List ℕ) × Prints s 1 text out ending
+    × ((handed : List ℕ) × Appends old new handed × (out ≡ handed ++ composed))
 
 -- What was written, followed by what is composed, is a prefix of what the text has printed so far.
 abbrev pub LeavesPrefix : Scene → List ℕ → Option (List ℕ) → Option (List ℕ) → List ℕ → Type 0
 LeavesPrefix s text old new composed =
-    (out : List ℕ) × (rest : List ℕ) × (there : Scene) × PrintsSofar s 1 text out rest there × ((handed : List ℕ) × Appends old new handed × IsPrefixOf (handed ++ composed) out)
+    (out : List ℕ) × (rest : List ℕ) × (there : Scene) × PrintsSofar s 1 text out rest there
+    × ((handed : List ℕ) × Appends old new handed × IsPrefixOf (handed ++ composed) out)
 
 -- All that the text has printed before a line was written or is composed. Of the text from that line
 -- on, only a part of one line was read.
 abbrev pub LeavesRead : Scene → List ℕ → Option (List ℕ) → Option (List ℕ) → List ℕ → Option (List ℕ) → Type 0
 LeavesRead s text old new composed left =
-    (out : List ℕ) × (rest : List ℕ) × (there : Scene) × PrintsSofar s 1 text out rest there × IsUnended left rest × ((handed : List ℕ) × Appends old new handed × (out ≡ handed ++ composed))
+    (out : List ℕ) × (rest : List ℕ) × (there : Scene) × PrintsSofar s 1 text out rest there × IsUnended left rest
+    × ((handed : List ℕ) × Appends old new handed × (out ≡ handed ++ composed))
 
 -- What was written and is composed after this fault, with what the reader has left.
-abbrev pub LeavesAtFault : ScriptFault → Scene → List ℕ → Option (List ℕ) → Option (List ℕ) → List ℕ → Option (List ℕ) → Type 0
+abbrev pub LeavesAtFault : ScriptFault → Scene → List ℕ → Option (List ℕ) → Option (List ℕ) → List ℕ → Option (List ℕ) →
+    Type 0
 LeavesAtFault (Line n) s text old new composed left = LeavesAll s text (BadLine n) old new composed
 LeavesAtFault Bound s text old new composed left = LeavesAll s text TooMany old new composed
 LeavesAtFault NoMemory s text old new composed left = LeavesPrefix s text old new composed
@@ -65,12 +71,14 @@ LeavesAtFault Read s text old new composed left = LeavesRead s text old new comp
 LeavesAtFault Write s text old new composed left = LeavesPrefix s text old new composed
 
 -- What was written and is composed after this result of a run, with what the reader has left.
-abbrev pub Leaves : Result ⊤ ScriptFault → Scene → List ℕ → Option (List ℕ) → Option (List ℕ) → List ℕ → Option (List ℕ) → Type 0
+abbrev pub Leaves : Result ⊤ ScriptFault → Scene → List ℕ → Option (List ℕ) → Option (List ℕ) → List ℕ →
+    Option (List ℕ) → Type 0
 Leaves (Ok done) s text old new composed left = LeavesAll s text Whole old new composed
 Leaves (Err fault) s text old new composed left = LeavesAtFault fault s text old new composed left
 
 -- After one more line, the run is before the line that follows, or at its end.
-abbrev pub RunsNext : Result Bool ScriptFault → Scene → List ℕ → Option (List ℕ) → ℕ → Stage → List ℕ → Option (List ℕ) → Option (List ℕ) → List ℕ → Type 0
+abbrev pub RunsNext : Result Bool ScriptFault → Scene → List ℕ → Option (List ℕ) → ℕ → Stage → List ℕ →
+    Option (List ℕ) → Option (List ℕ) → List ℕ → Type 0
 RunsNext (Ok true) s text old n now waiting left new composed = RunsOn s text old (n + 1) now waiting left new composed
 RunsNext (Ok false) s text old n now waiting left new composed = LeavesAll s text Whole old new composed
 RunsNext (Err fault) s text old n now waiting left new composed = LeavesAtFault fault s text old new composed left

@@ -17,7 +17,8 @@ pub data Ending : Type 0 where
 
 -- The first line of a text, which ends with LF or is the whole text, and what follows it.
 abbrev pub BeginsWith : List ℕ → List ℕ → List ℕ → Type 0
-BeginsWith text line rest = SplitsAt 10 text line rest ⊎ (HasNoEnd text × (0 < length text) × (line ≡ text) × (rest ≡ []))
+BeginsWith text line rest =
+    SplitsAt 10 text line rest ⊎ (HasNoEnd text × (0 < length text) × (line ≡ text) × (rest ≡ []))
 
 -- A line with a meaning does it, and prints this.
 abbrev pub LineDoes : Scene → List ℕ → List ℕ → Scene → Type 0
@@ -25,15 +26,18 @@ LineDoes s line out after = (said : Said) × Says line said × LineRuns s said t
 
 -- A line is bad if it has no meaning, or one that cannot be done.
 abbrev pub IsBad : Scene → List ℕ → Type 0
-IsBad s line = ((said : Said) → ¬ Says line said) ⊎ ((said : Said) × (out : List ℕ) × (after : Scene) × Says line said × LineRuns s said false out after)
+IsBad s line = ((said : Said) → ¬ Says line said)
+    ⊎ ((said : Said) × (out : List ℕ) × (after : Scene) × Says line said × LineRuns s said false out after)
 
 -- From this scene, and from the line of this number on, the text prints this and ends in this way.
 pub data Prints : Scene → ℕ → List ℕ → List ℕ → Ending → Type 0 where
   Ends : (s : Scene) (n : ℕ) → Prints s n [] [] Whole
   Exceeds : (s : Scene) (n : ℕ) (text : List ℕ) → SCRIPT_LINES < n → 0 < length text → Prints s n text [] TooMany
-  Fails : (s : Scene) (n : ℕ) (text line rest : List ℕ) → n ≤ SCRIPT_LINES → BeginsWith text line rest → IsBad s line → Prints s n text (bad_line_text n) (BadLine n)
+  Fails : (s : Scene) (n : ℕ) (text line rest : List ℕ) → n ≤ SCRIPT_LINES → BeginsWith text line rest → IsBad s line →
+      Prints s n text (bad_line_text n) (BadLine n)
   Goes : (s : Scene) (n : ℕ) (text line rest out : List ℕ) (after : Scene) (more : List ℕ) (ending : Ending) →
-      n ≤ SCRIPT_LINES → BeginsWith text line rest → LineDoes s line out after → Prints after (n + 1) rest more ending → Prints s n text (out ++ more) ending
+      n ≤ SCRIPT_LINES → BeginsWith text line rest → LineDoes s line out after → Prints after (n + 1) rest more ending →
+      Prints s n text (out ++ more) ending
 
 -- What a script prints: its text on the opening scene, from line 1 on.
 abbrev pub ScriptPrints : List ℕ → List ℕ → Ending → Type 0

@@ -10,9 +10,11 @@ use Rattle.sysv_script.specs.declared.fault.TheConstants.{SCRIPT_LINES}
 pub data PrintsSofar : Scene → ℕ → List ℕ → List ℕ → List ℕ → Scene → Type 0 where
   Here : (s : Scene) (n : ℕ) (text : List ℕ) → PrintsSofar s n text [] text s
   Past : (s : Scene) (n : ℕ) (text line rest out : List ℕ) (after : Scene) (more left : List ℕ) (there : Scene) →
-      n ≤ SCRIPT_LINES → BeginsWith text line rest → LineDoes s line out after → PrintsSofar after (n + 1) rest more left there → PrintsSofar s n text (out ++ more) left there
+      n ≤ SCRIPT_LINES → BeginsWith text line rest → LineDoes s line out after →
+      PrintsSofar after (n + 1) rest more left there → PrintsSofar s n text (out ++ more) left there
 
 -- Of this rest of a text, the reader has returned only a part of one line: all but the bytes that
 -- it has left.
 abbrev pub IsUnended : Option (List ℕ) → List ℕ → Type 0
-IsUnended left rest = (part : List ℕ) × (behind : List ℕ) × HasNoEnd part × (left ≡ Some behind) × (rest ≡ part ++ behind)
+IsUnended left rest =
+    (part : List ℕ) × (behind : List ℕ) × HasNoEnd part × (left ≡ Some behind) × (rest ≡ part ++ behind)

@@ -15,13 +15,15 @@ WritesAll text ending old new = (out : List ℕ) × ScriptPrints text out ending
 
 -- The writer took a prefix of all that the script prints.
 abbrev pub WritesPrefix : List ℕ → Option (List ℕ) → Option (List ℕ) → Type 0
-WritesPrefix text old new = (ending : Ending) × (out : List ℕ) × ScriptPrints text out ending × AppendsPrefix old new out
+WritesPrefix text old new =
+    (ending : Ending) × (out : List ℕ) × ScriptPrints text out ending × AppendsPrefix old new out
 
 -- The writer took all that the script prints before one of its lines. Of the text from that line
 -- on, the reader returned only a part of one line.
 abbrev pub WritesRead : List ℕ → Option (List ℕ) → Option (List ℕ) → Option (List ℕ) → Type 0
 WritesRead text old new left =
-    (out : List ℕ) × (rest : List ℕ) × (there : Scene) × PrintsSofar opening_scene 1 text out rest there × IsUnended left rest × Appends old new out
+    (out : List ℕ) × (rest : List ℕ) × (there : Scene) × PrintsSofar opening_scene 1 text out rest there
+    × IsUnended left rest × Appends old new out
 
 -- What the writer took, if the run of the text ended with this fault, with what the reader has left.
 abbrev pub WritesAtFault : ScriptFault → List ℕ → Option (List ℕ) → Option (List ℕ) → Option (List ℕ) → Type 0

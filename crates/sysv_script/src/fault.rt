@@ -3,7 +3,7 @@
 use thiserror::Error;
 
 /// The maximum number of lines of a script.
-pub const SCRIPT_LINES: u32 = 1_000_000;
+pub(crate) const SCRIPT_LINES: u32 = 1_000_000;
 
 /// The reason why a script ends before its end.
 #[derive(Clone, Copy, PartialEq, Eq, Debug, Error)]

@@ -15,7 +15,7 @@ use sysv_model::{NoMemory, Watched};
 
 /// The capacity of the input in bytes: one line of the maximum length and its LF. So of a line
 /// without an end, at most this many bytes are read.
-pub const INPUT_ROOM: usize = LINE_BYTES + 1;
+pub(crate) const INPUT_ROOM: usize = LINE_BYTES + 1;
 
 /// The pending bytes of a script: they were read, and belong to lines that have not been run.
 ///

@@ -20,11 +20,11 @@ mod output;
 mod script;
 mod stage;
 
-pub use fault::{SCRIPT_LINES, ScriptFault};
-pub use input::{INPUT_ROOM, Input};
+pub use fault::ScriptFault;
+pub use input::Input;
 pub use laws::{each_script_is_a_run, each_text_prints, one_text};
 pub use lines::{Found, next_line, read_on};
 pub use numerals::{numerals_of_stages, numerals_of_streams};
-pub use output::{MOST_COMPOSED, Output};
+pub use output::Output;
 pub use script::run_script;
 pub use stage::Stage;

@@ -23,7 +23,7 @@ const OUTPUT_ROOM: usize = 65536;
 const LONGEST: usize = 8400;
 
 /// The maximum number of composed bytes before a line is run: one more line then fits.
-pub const MOST_COMPOSED: usize = OUTPUT_ROOM - LONGEST;
+pub(crate) const MOST_COMPOSED: usize = OUTPUT_ROOM - LONGEST;
 
 /// Lines that are composed and not yet written.
 #[derive(Drop)]

@@ -1,3 +1,5 @@
+//! The world of a script, with what its lines refer to.
+
 ghost use Rattle.std.specs.Prelude.{false, ◌≡◌, ◌+◌, ◌<◌, ◌++◌, List, ℕ, replicate, map, IfOk, IsOk, OnOk, OnErr, [], ◌∷◌, ◌≤◌, length, Some};
 ghost use Rattle.std.specs.List.{range_with_len};
 ghost use Rattle.sysv_lists.specs.Prefix.{IsPrefixOf};
@@ -6,15 +8,15 @@ ghost use Rattle.sysv_lines.specs.Heads.{head_text};
 ghost use Rattle.sysv_script.specs.Scene.{Scene, opening_scene, Advances, LineRuns, LineActs, PoolGiven, StartRuns, StartsAs, call_for, GoesOn, StepsRun, OneRuns, AllRun, printed, standing_line};
 ghost use Rattle.sysv_core.specs.World.{actor_at};
 ghost use Rattle.sysv_lines.specs.declared.actor.TheConstants.{SCRIPT_ACTORS};
-ghost use Rattle.sysv_script.specs.Scene.{first_cred as script_cred, operation_of as call_operation, told_of as outcome_told, under_way as doing_at, most_steps as steps_at_start};
-ghost use Rattle.sysv_lines.specs.SaidBy.{FitsBody, RequestFits, LineFits, IsOfActors, IsPoolSize, text_bytes, call_asked, said_of};
+ghost use Rattle.sysv_script.specs.Scene.{first_cred as script_cred, under_way as doing_at, most_steps as steps_at_start};
+ghost use Rattle.sysv_lines.specs.SaidBy.{CallFits, FitsBody, LineFits, IsOfActors, IsPoolSize, text_bytes, call_asked, said_of};
 ghost use Rattle.sysv_script.specs.Staged.{IsSceneOf};
 
 use crate::output::Output;
 use std::alloc::Global;
 use std::mem;
-use sysv_core::{Answer, Call, Event, Outcome, Standing, Stepped, World};
-use sysv_lines::{Head, Line, Operation, Request, SCRIPT_ACTORS, Text, Told};
+use sysv_core::{Answer, Call, Event, Standing, Stepped, World};
+use sysv_lines::{Head, Line, Operation, SCRIPT_ACTORS, Text};
 use sysv_model::{BLOCK_BYTES, Body, Cred, NoMemory};
 
 /// The number of blocks of a script's world.
@@ -138,11 +140,7 @@ impl Stage {
             Line::Skipped => {}
             Line::Cred { actor, cred } => self.creds[actor as usize - 1] = cred,
             Line::Moment(moment) => self.moment = moment,
-            Line::Start {
-                actor,
-                request,
-                goes,
-            } => self.start(alloc, actor, request, goes, output)?,
+            Line::Start { actor, call, goes } => self.start(alloc, actor, call, goes, output)?,
             Line::Step { actor } => self.take_on(actor, 1, output)?,
             Line::Go { actor } => self.take_on(actor, MAX_STEPS, output)?,
             Line::All => self.take_all_on(output)?,
@@ -156,15 +154,15 @@ impl Stage {
         &mut self,
         alloc: Global,
         actor: u32,
-        request: Request<'_>,
+        call: Call<Text<'_>, ()>,
         goes: bool,
         output: &mut Output,
     ) -> Result<(), NoMemory>
         requires actor { IsOfActors actor }
-        requires fits { RequestFits request }
+        requires fits { CallFits call }
         ensures runs { OnOk result ((s : Scene) → IsSceneOf s self.old → (after : Scene)
             × (out : List ℕ)
-            × StartRuns s actor (call_asked request.entry) goes
+            × StartRuns s actor (call_asked call.entry) goes
             (doing_at (actor_at s.world.actors actor)) out after
             × IsSceneOf after self.new × (output.new ≡ output.old ++ out)) }
         ensures err { OnErr result (IsPrefixOf output.new output.old) }
@@ -172,8 +170,8 @@ impl Stage {
         if let Some(_operation) = self.under_way(actor) {
             return output.tell(Head::Busy { actor });
         }
-        let operation = operation_of(request);
-        let call = self.call_of(alloc, request)?;
+        let operation = Operation::of_call(&call);
+        let call = self.with_body(alloc, call)?;
         let first = self.begin(actor, call);
         let given = self.go(actor, first, most_steps(goes));
         self.tell(actor, operation, given, output)
@@ -251,22 +249,23 @@ impl Stage {
         }
     }
 
-    /// Returns the call of a request, with a body of its own.
-    fn call_of(&mut self, alloc: Global, request: Request<'_>) -> Result<Call, NoMemory>
-        requires { RequestFits request }
-        ensures call { IfOk result (λ call. call ≡ call_for (call_asked request.entry)) }
+    /// Returns the call with a body: that of a send has the bytes on its line, and that of a receive
+    /// is empty.
+    fn with_body(&mut self, alloc: Global, call: Call<Text<'_>, ()>) -> Result<Call, NoMemory>
+        requires { CallFits call }
+        ensures call { IfOk result (λ given. given ≡ call_for (call_asked call.entry)) }
         ensures kept { self.new ≡ record self.old { spares = self.new.spares } }
     {
-        match request {
-            Request::Get { key, flags } => Ok(Call::Get { key, flags }),
-            Request::Stat { id } => Ok(Call::Stat { id }),
-            Request::Set { id, to } => Ok(Call::Set { id, to }),
-            Request::Remove { id } => Ok(Call::Remove { id }),
-            Request::Send {
+        match call {
+            Call::Get { key, flags } => Ok(Call::Get { key, flags }),
+            Call::Stat { id } => Ok(Call::Stat { id }),
+            Call::Set { id, to } => Ok(Call::Set { id, to }),
+            Call::Remove { id } => Ok(Call::Remove { id }),
+            Call::Send {
                 id,
                 mtype,
                 flags,
-                text,
+                body: text,
             } => {
                 let mut body = self.spare_body(alloc)?;
                 fill(&mut body, text);
@@ -277,11 +276,12 @@ impl Stage {
                     body,
                 })
             }
-            Request::Receive {
+            Call::Receive {
                 id,
                 size,
                 mtype,
                 flags,
+                body: (),
             } => {
                 let body = self.spare_body(alloc)?;
                 Ok(Call::Receive {
@@ -317,7 +317,7 @@ impl Stage {
             (after : Scene) × StartsAs s actor call result after × IsSceneOf after self.new }
     {
         let cred = self.creds[actor as usize - 1];
-        self.step(Event::Start { actor, cred, call })
+        self.world.step(Event::Start { actor, cred, call })
     }
 
     /// Makes at most `steps` steps of a call whose last result was `last`, until the call is over.
@@ -330,20 +330,12 @@ impl Stage {
             match given {
                 Stepped::Nothing => {
                     let now = self.moment;
-                    given = self.step(Event::Step { actor, now });
+                    given = self.world.step(Event::Step { actor, now });
                 }
                 _ => break,
             }
         }
         given
-    }
-
-    /// Makes one event happen in the world.
-    fn step(&mut self, event: Event) -> Stepped
-        ensures { (s : Scene) → IsSceneOf s self.old →
-            (after : Scene) × Advances s event result after × IsSceneOf after self.new }
-    {
-        self.world.step(event)
     }
 
     /// Composes the line of a result, and keeps the body of a send or a receive that is over.
@@ -371,7 +363,7 @@ impl Stage {
                 let head = Head::Answers {
                     actor,
                     operation,
-                    told: told_of(outcome),
+                    outcome,
                 };
                 match body {
                     None => {
@@ -418,7 +410,7 @@ impl Stage {
     }
 }
 
-/// Puts the bytes of a request into an empty body.
+/// Puts the bytes of a text into an empty body.
 fn fill(body: &mut Body, text: Text<'_>)
     requires empty { body.old ≡ [] }
     requires fits { FitsBody text }
@@ -476,31 +468,4 @@ fn most_steps(goes: bool) -> u32
     ensures { result ≡ steps_at_start goes }
 {
     if goes { MAX_STEPS } else { 0 }
-}
-
-/// Returns the kind of the call of a request.
-fn operation_of(request: Request<'_>) -> Operation
-    ensures { result ≡ call_operation (call_asked request.entry) }
-{
-    match request {
-        Request::Get { .. } => Operation::Get,
-        Request::Send { .. } => Operation::Send,
-        Request::Receive { .. } => Operation::Receive,
-        Request::Stat { .. } => Operation::Stat,
-        Request::Set { .. } => Operation::Set,
-        Request::Remove { .. } => Operation::Remove,
-    }
-}
-
-/// Returns how a script prints an outcome.
-fn told_of(outcome: Outcome) -> Told
-    ensures { result ≡ outcome_told outcome }
-{
-    match outcome {
-        Outcome::Id(id) => Told::Id(id),
-        Outcome::Zero => Told::Zero,
-        Outcome::Got { mtype, len } => Told::Got { len, mtype },
-        Outcome::Stat(stat) => Told::Stat(stat),
-        Outcome::Refused(why) => Told::Refused(why),
-    }
 }

@@ -29,20 +29,26 @@ cap_moves s x r = omega arith
 -- ---- one list
 
 -- The sums of a list with one more element at its end.
-pushed : (f : Sums → ℕ) (xs : List Sums) (x : Sums) → capped (capped (sum_by f xs) + f x) ≡ capped (sum_by f (xs ++ x ∷ []))
+pushed : (f : Sums → ℕ) (xs : List Sums) (x : Sums) →
+    capped (capped (sum_by f xs) + f x) ≡ capped (sum_by f (xs ++ x ∷ []))
 pushed f xs x = cap_one (sum_by f xs) (f x) ∙ ap capped (sym (sum_by_push f xs x))
 
 pub added_last : (xs : List Sums) (x : Sums) → added (all_added xs) x ≡ all_added (xs ++ x ∷ [])
 added_last xs x =
-    sums_are (added (all_added xs) x) (all_added (xs ++ x ∷ [])) (pushed (λ s. s.sessions) xs x) (pushed (λ s. s.taken) xs x) (pushed (λ s. s.written) xs x) (pushed (λ s. s.lost) xs x)
+    sums_are (added (all_added xs) x) (all_added (xs ++ x ∷ [])) (pushed (λ s. s.sessions) xs x)
+    (pushed (λ s. s.taken) xs x) (pushed (λ s. s.written) xs x) (pushed (λ s. s.lost) xs x)
 
 -- One field of the sums: if `s` is the sum of `xs`, and `rest` has the sum of `ys`, then `s` and
 -- `rest` together have the sum of `xs` and `ys`.
-joined : (f : Sums → ℕ) (xs rest ys : List Sums) (s : Sums) → f s ≡ capped (sum_by f xs) → capped (sum_by f rest) ≡ capped (sum_by f ys) → capped (sum_by f (s ∷ rest)) ≡ capped (sum_by f (xs ++ ys))
+joined : (f : Sums → ℕ) (xs rest ys : List Sums) (s : Sums) → f s ≡ capped (sum_by f xs) →
+    capped (sum_by f rest) ≡ capped (sum_by f ys) → capped (sum_by f (s ∷ rest)) ≡ capped (sum_by f (xs ++ ys))
 joined f xs rest ys s is same =
-    ap capped (sum_by-cons f s rest) ∙ (ap (λ n. capped (n + sum_by f rest)) is ∙ (cap_both (sum_by f xs) (sum_by f rest) (sum_by f ys) same ∙ ap capped (sym (sum_by-append f xs ys))))
+    ap capped (sum_by-cons f s rest)
+    ∙ (ap (λ n. capped (n + sum_by f rest)) is
+    ∙ (cap_both (sum_by f xs) (sum_by f rest) (sum_by f ys) same ∙ ap capped (sym (sum_by-append f xs ys))))
 
-pub added_first : (xs rest ys : List Sums) (s : Sums) → s ≡ all_added xs → all_added rest ≡ all_added ys → all_added (s ∷ rest) ≡ all_added (xs ++ ys)
+pub added_first : (xs rest ys : List Sums) (s : Sums) → s ≡ all_added xs → all_added rest ≡ all_added ys →
+    all_added (s ∷ rest) ≡ all_added (xs ++ ys)
 added_first xs rest ys s is same =
     sums_are (all_added (s ∷ rest)) (all_added (xs ++ ys))
     (joined (λ s. s.sessions) xs rest ys s (ap (λ (s : Sums). s.sessions) is) (ap (λ (s : Sums). s.sessions) same))
@@ -66,26 +72,34 @@ pub record Adding (all : List Sums) (s : Sums) (rest : List Sums) : Type 0 where
 cap_le : (n : ℕ) → capped n ≤ 2 ^ 64 - 1
 cap_le n = omega arith
 
-moved : (f : Sums → ℕ) (s x : Sums) (rest : List Sums) → capped (capped (f s + f x) + capped (sum_by f rest)) ≡ capped (f s + capped (sum_by f (rest ++ x ∷ [])))
-moved f s x rest = cap_moves (f s) (f x) (sum_by f rest) ∙ ap (λ n. capped (f s + capped n)) (sym (sum_by_push f rest x))
+moved : (f : Sums → ℕ) (s x : Sums) (rest : List Sums) →
+    capped (capped (f s + f x) + capped (sum_by f rest)) ≡ capped (f s + capped (sum_by f (rest ++ x ∷ [])))
+moved f s x rest =
+    cap_moves (f s) (f x) (sum_by f rest) ∙ ap (λ n. capped (f s + capped n)) (sym (sum_by_push f rest x))
 
-pub adding_one : (all rest rest' : List Sums) (s x s' : Sums) → Adding all s rest → rest ≡ rest' ++ x ∷ [] → s' ≡ added s x → Adding all s' rest'
+pub adding_one : (all rest rest' : List Sums) (s x s' : Sums) → Adding all s rest → rest ≡ rest' ++ x ∷ [] →
+    s' ≡ added s x → Adding all s' rest'
 adding_one all rest rest' s x s' adding is more =
     let shifted : added (added s x) (all_added rest') ≡ added s (all_added (rest' ++ x ∷ [])) =
-    sums_are (added (added s x) (all_added rest')) (added s (all_added (rest' ++ x ∷ []))) (moved (λ s. s.sessions) s x rest') (moved (λ s. s.taken) s x rest') (moved (λ s. s.written) s x rest') (moved (λ s. s.lost) s x rest') in
+    sums_are (added (added s x) (all_added rest')) (added s (all_added (rest' ++ x ∷ [])))
+    (moved (λ s. s.sessions) s x rest') (moved (λ s. s.taken) s x rest') (moved (λ s. s.written) s x rest')
+    (moved (λ s. s.lost) s x rest') in
     record {
-      adds = ap (λ t. added t (all_added rest')) more ∙ (shifted ∙ (ap (λ l. added s (all_added l)) (sym is) ∙ adding.adds));
+      adds = ap (λ t. added t (all_added rest')) more
+          ∙ (shifted ∙ (ap (λ l. added s (all_added l)) (sym is) ∙ adding.adds));
       small = rw more (record { sessions = cap_le _; taken = cap_le _; written = cap_le _; lost = cap_le _ });
     }
 
 -- ---- sums of sessions
 
-pub told_last : (xs : List (Option Served)) (t : Option Served) → added (sums_of xs) (one_session (tally_of t)) ≡ sums_of (xs ++ t ∷ [])
+pub told_last : (xs : List (Option Served)) (t : Option Served) →
+    added (sums_of xs) (one_session (tally_of t)) ≡ sums_of (xs ++ t ∷ [])
 told_last xs t =
     let one : Option Served → Sums = λ t. one_session (tally_of t) in
     added_last (map one xs) (one t) ∙ ap all_added (sym (map-append one xs (t ∷ [])))
 
-pub told_first : (xs ys : List (Option Served)) (s : Sums) (rest : List Sums) → s ≡ sums_of xs → all_added rest ≡ sums_of ys → all_added (s ∷ rest) ≡ sums_of (xs ++ ys)
+pub told_first : (xs ys : List (Option Served)) (s : Sums) (rest : List Sums) → s ≡ sums_of xs →
+    all_added rest ≡ sums_of ys → all_added (s ∷ rest) ≡ sums_of (xs ++ ys)
 told_first xs ys s rest is same =
     let one : Option Served → Sums = λ t. one_session (tally_of t) in
     added_first (map one xs) rest (map one ys) s is same ∙ ap all_added (sym (map-append one xs ys))
@@ -99,13 +113,15 @@ both {a} {b} {c} {d} p q = ap (λ n. n + c) p ∙ ap (λ n. b + n) q
 -- The number of messages taken by these sessions is the number written plus the number lost.
 all_taken : (told : List (Option Served)) →
     sum_by (λ (s : Sums). s.taken) (map (λ t. one_session (tally_of t)) told)
-    ≡ sum_by (λ (s : Sums). s.written) (map (λ t. one_session (tally_of t)) told) + sum_by (λ (s : Sums). s.lost) (map (λ t. one_session (tally_of t)) told)
+    ≡ sum_by (λ (s : Sums). s.written) (map (λ t. one_session (tally_of t)) told)
+    + sum_by (λ (s : Sums). s.lost) (map (λ t. one_session (tally_of t)) told)
 all_taken [] = refl
 all_taken (t ∷ told) =
     let one : Sums = one_session (tally_of t) in
     let more : List Sums = map (λ t. one_session (tally_of t)) told in
     sum_by-cons (λ (s : Sums). s.taken) one more
-    ∙ (sums_up (tally_of t).written (tally_of t).lost _ (sum_by (λ (s : Sums). s.written) more) (sum_by (λ (s : Sums). s.lost) more) (all_taken told)
+    ∙ (sums_up (tally_of t).written (tally_of t).lost _ (sum_by (λ (s : Sums). s.written) more)
+    (sum_by (λ (s : Sums). s.lost) more) (all_taken told)
     ∙ sym (both (sum_by-cons (λ (s : Sums). s.written) one more) (sum_by-cons (λ (s : Sums). s.lost) one more)))
 
 cap_balance : (t w l : ℕ) → t ≡ w + l → capped t < 2 ^ 64 - 1 → capped t ≡ capped w + capped l

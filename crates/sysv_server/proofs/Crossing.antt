@@ -22,13 +22,21 @@ use Rattle.sysv_service.specs.contracts.service.Service as service
 use Rattle.sysv_service.specs.declared.caller.Caller.{Ghosts as CallerGhosts}
 use Rattle.sysv_driver.specs.declared.clock.Clock.{Ghosts}
 
-kernel_send : (l : NamedLft) (C R K : RattleType) (clock : Ghosts C.Denot) (caller : CallerGhosts K.Denot) → IsSync C → IsSync R → IsSend K →
+kernel_send : (l : NamedLft) (C R K : RattleType) (clock : Ghosts C.Denot) (caller : CallerGhosts K.Denot) → IsSync C →
+    IsSync R → IsSend K →
     IsSend (kernel.the_row l C R K clock caller)
 kernel_send l C R K clock caller sc sr sk =
-    let served : IsSend (as_row (shr_ref_field l service.the_row tt)) = search (crossing, service_sync, shr_send) depth 20 in
+    let served : IsSend (as_row (shr_ref_field l service.the_row tt)) =
+    search (crossing, service_sync, shr_send) depth 20 in
     declared_send (kernel.the_type l C R K clock caller) (
       as_row_send (row_field (ShrRef l.mir l.lft R)) (shr_send l.mir l.lft R sr),
-      (served, (as_row_send (row_field (ShrRef l.mir l.lft C)) (shr_send l.mir l.lft C sc), (pass_send, (as_row_send (row_field K) sk, tt)))),
+      (
+        served,
+        (
+          as_row_send (row_field (ShrRef l.mir l.lft C)) (shr_send l.mir l.lft C sc),
+          (pass_send, (as_row_send (row_field K) sk, tt)),
+        ),
+      ),
     )
 
 body_send : IsSend body.the_row
@@ -38,4 +46,7 @@ texts_send : IsSend texts.the_row
 texts_send = search (crossing, body_send) depth 30
 
 pub worker_send : (l : NamedLft) (R : RattleType) → IsSync R → IsSend (worker.the_row l R)
-worker_send l R y = declared_send (worker.the_type l R) (kernel_send l zero.the_row R peer.the_row clock.ghosts caller.ghosts zero_sync y peers.the_send, (sum.the_send, (options.the_send _ texts_send, tt)))
+worker_send l R y = declared_send (worker.the_type l R) (
+  kernel_send l zero.the_row R peer.the_row clock.ghosts caller.ghosts zero_sync y peers.the_send,
+  (sum.the_send, (options.the_send _ texts_send, tt)),
+)

@@ -37,7 +37,8 @@ module _ (law : EachSessionMakesCalls zero_moment ⊤) where
     works : Works start (made ++ calls) new
     talks : FoldsTo TalksIn (trail old made) told (trail new (made ++ calls))
 
-  in_sessions : (start old : Pass) (told : List (Option Served)) (new : Pass) (made : List Called) → Works start made old → FoldsTo Talks old told new → InSessions start old told new made
+  in_sessions : (start old : Pass) (told : List (Option Served)) (new : Pass) (made : List Called) →
+      Works start made old → FoldsTo Talks old told new → InSessions start old told new made
   in_sessions start old [] new made works is = record {
     calls = [];
     rests = tt;
@@ -64,7 +65,8 @@ module _ (law : EachSessionMakesCalls zero_moment ⊤) where
         talks = (
           trail folds.0 (made ++ one.0),
           (talks.0, talks.1, talks.2, talks.3, one.2),
-          subst (λ calls. FoldsTo TalksIn (trail folds.0 (made ++ one.0)) told (trail new calls)) (append_assoc made one.0 more.calls) more.talks,
+          subst (λ calls. FoldsTo TalksIn (trail folds.0 (made ++ one.0)) told (trail new calls))
+              (append_assoc made one.0 more.calls) more.talks,
         );
       }
 
@@ -97,18 +99,22 @@ module _ (law : EachSessionMakesCalls zero_moment ⊤) where
         removals = stop.0;
         are_removals = stop.2;
         counted = stop.3;
-        served = obeys 0 blocks 0 gates (first_passes shifts) (last_passes shifts) stopped.before stopped.after done.each stop.0 closed opened hires done.works stop.1 unmarked fits counted;
+        served = obeys 0 blocks 0 gates (first_passes shifts) (last_passes shifts) stopped.before stopped.after
+            done.each stop.0 closed opened hires done.works stop.1 unmarked fits counted;
       }
 
   pub each_whole : EveryHiringLeavesThePoolWhole → EveryStopRemoves → EachLifeLeavesThePoolWhole
   each_whole home stops blocks gates shifts removed stopped closed counted opened fits hires unmarked =
       let done = in_shifts shifts in
       let stop = stops _ stopped.removed stopped.worn stopped.before stopped.after stopped.stops in
-      let rest : All Resting (all_of done.each ++ stop.0) = All-from_recursion Resting (all_of done.each ++ stop.0) (both (all_of done.each) stop.0 done.rests (removals_rest stop.0 stop.2)) in
-      home 0 blocks 0 gates (first_passes shifts) (last_passes shifts) stopped.before stopped.after done.each stop.0 closed opened hires done.works stop.1 unmarked fits counted rest
+      let rest : All Resting (all_of done.each ++ stop.0) = All-from_recursion Resting (all_of done.each ++ stop.0)
+      (both (all_of done.each) stop.0 done.rests (removals_rest stop.0 stop.2)) in
+      home 0 blocks 0 gates (first_passes shifts) (last_passes shifts) stopped.before stopped.after done.each stop.0
+      closed opened hires done.works stop.1 unmarked fits counted rest
 
   pub each_none_held : NoHiringLeavesAGateHeld → EveryStopRemoves → NoLifeLeavesAGateHeld
   each_none_held none stops gates shifts removed stopped closed counted hires =
       let done = in_shifts shifts in
       let stop = stops _ stopped.removed stopped.worn stopped.before stopped.after stopped.stops in
-      none gates (first_passes shifts) (last_passes shifts) stopped.before stopped.after done.each stop.0 closed hires done.works stop.1 counted
+      none gates (first_passes shifts) (last_passes shifts) stopped.before stopped.after done.each stop.0 closed hires
+      done.works stop.1 counted

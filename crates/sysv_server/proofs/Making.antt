@@ -33,31 +33,39 @@ both [] ys one two = two
 both (x ∷ xs) ys one two = (one.0, both xs ys one.1 two)
 
 -- One call more.
-one_call : (may : ℕ → Type 0) → EachRunIsAtAnyMoment may → (cred : Cred) (asked : SystemCall) (released : ℕ) (start mid : Pass) (made : List Called) (deeds : List Deed) (state : State) (new : Pass) →
-    Ran may (begin cred asked released) mid deeds state new → Works start made mid → Works start (made ++ call_of mid cred asked released deeds state ∷ []) new
+one_call : (may : ℕ → Type 0) → EachRunIsAtAnyMoment may →
+    (cred : Cred) (asked : SystemCall) (released : ℕ) (start mid : Pass) (made : List Called) (deeds : List Deed)
+    (state : State) (new : Pass) →
+    Ran may (begin cred asked released) mid deeds state new → Works start made mid →
+    Works start (made ++ call_of mid cred asked released deeds state ∷ []) new
 one_call may any cred asked released start mid made deeds state new ran works =
     working.calls cred asked released deeds state new works (any (begin cred asked released) mid deeds state new ran).0
 
-module _ (may : ℕ → Type 0) (may_leave : Type 0) (any : EachRunIsAtAnyMoment may) (unstamped : EachRunIsAtAnyMoment no_moment) (version : Version) (cred : Cred) where
+module _ (may : ℕ → Type 0) (may_leave : Type 0) (any : EachRunIsAtAnyMoment may)
+    (unstamped : EachRunIsAtAnyMoment no_moment) (version : Version) (cred : Cred) where
   -- The calls that a request makes, whatever calls were made before.
   record Makes (ask : Ask) (text : List ℕ) (old : Pass) (outcome : Outcome) (given : List ℕ) (new : Pass) : Type 0 where
     calls : List Called
     rests : AllByRecursion Resting calls
     works : (start : Pass) (made : List Called) → Works start made old → Works start (made ++ calls) new
-    asks : (made : List Called) → requests.Asks MakesCall ReadsBeside ShowsBeside may may_leave version cred ask text (trail old made) outcome given (trail new (made ++ calls))
+    asks : (made : List Called) →
+        requests.Asks MakesCall ReadsBeside ShowsBeside may may_leave version cred ask text (trail old made) outcome
+        given (trail new (made ++ calls))
 
   -- Only this call.
   abbrev only : Pass → SystemCall → ℕ → List Deed → State → List Called
   only pass asked released deeds state = call_of pass cred asked released deeds state ∷ []
 
-  makes : (ask : Ask) (text : List ℕ) (old : Pass) (outcome : Outcome) (given : List ℕ) (new : Pass) → Asks may may_leave version cred ask text old outcome given new → Makes ask text old outcome given new
+  makes : (ask : Ask) (text : List ℕ) (old : Pass) (outcome : Outcome) (given : List ℕ) (new : Pass) →
+      Asks may may_leave version cred ask text old outcome given new → Makes ask text old outcome given new
   makes (Hello other) text old outcome given new asked = absurd asked
   makes (Get key flags) text old outcome given new asked =
       let did = asked.0 in
       record {
         calls = only old (Msgget key flags) 0 did.2.0 (Over did.1);
         rests = (tt, tt);
-        works = λ start made. one_call may any cred (Msgget key flags) 0 start old made did.2.0 (Over did.1) new did.2.1;
+        works = λ start made.
+            one_call may any cred (Msgget key flags) 0 start old made did.2.0 (Over did.1) new did.2.1;
         asks = λ made. ((did.0, did.1, (did.2.0, did.2.1, refl), did.3, did.4), asked.1);
       }
   makes (Snd id mtype flags) text old outcome given new asked =
@@ -67,14 +75,29 @@ module _ (may : ℕ → Type 0) (may_leave : Type 0) (any : EachRunIsAtAnyMoment
         | inl did ↦ record {
           calls = only sends.1 call sends.0 did.2.0 (Over did.1);
           rests = (tt, tt);
-          works = λ start made works. one_call may any cred call sends.0 start sends.1 made did.2.0 (Over did.1) new did.2.1 (working.reads_count Released sends.0 sends.1 works sends.2.0 sends.2.1);
-          asks = λ made. ((sends.0, trail sends.1 made, (sends.2, refl), inl (did.0, did.1, (did.2.0, did.2.1, refl), did.3, did.4)), asked.1);
+          works = λ start made works.
+              one_call may any cred call sends.0 start sends.1 made did.2.0 (Over did.1) new did.2.1
+              (working.reads_count Released sends.0 sends.1 works sends.2.0 sends.2.1);
+          asks = λ made. (
+            (sends.0, trail sends.1 made, (sends.2, refl), inl (did.0, did.1, (did.2.0, did.2.1, refl), did.3, did.4)),
+            asked.1,
+          );
         }
         | inr left ↦ record {
           calls = only sends.1 call sends.0 left.0.2.0 (Waits left.0.1);
           rests = (tt, tt);
-          works = λ start made works. one_call may any cred call sends.0 start sends.1 made left.0.2.0 (Waits left.0.1) new left.0.2.1 (working.reads_count Released sends.0 sends.1 works sends.2.0 sends.2.1);
-          asks = λ made. ((sends.0, trail sends.1 made, (sends.2, refl), inr ((left.0.0, left.0.1, (left.0.2.0, left.0.2.1, refl)), left.1)), asked.1);
+          works = λ start made works.
+              one_call may any cred call sends.0 start sends.1 made left.0.2.0 (Waits left.0.1) new left.0.2.1
+              (working.reads_count Released sends.0 sends.1 works sends.2.0 sends.2.1);
+          asks = λ made. (
+            (
+              sends.0,
+              trail sends.1 made,
+              (sends.2, refl),
+              inr ((left.0.0, left.0.1, (left.0.2.0, left.0.2.1, refl)), left.1),
+            ),
+            asked.1,
+          );
         }
       ]
   makes (Rcv id size mtype flags) text old outcome given new asked =
@@ -98,7 +121,8 @@ module _ (may : ℕ → Type 0) (may_leave : Type 0) (any : EachRunIsAtAnyMoment
       record {
         calls = only old (MsgctlStat id) 0 did.2.0 (Over did.1);
         rests = (tt, tt);
-        works = λ start made. one_call no_moment unstamped cred (MsgctlStat id) 0 start old made did.2.0 (Over did.1) new did.2.1;
+        works = λ start made.
+            one_call no_moment unstamped cred (MsgctlStat id) 0 start old made did.2.0 (Over did.1) new did.2.1;
         asks = λ made. ((did.0, did.1, (did.2.0, did.2.1, refl), did.3, did.4), asked.1);
       }
   makes (Set id to) text old outcome given new asked =
@@ -114,49 +138,62 @@ module _ (may : ℕ → Type 0) (may_leave : Type 0) (any : EachRunIsAtAnyMoment
       record {
         calls = only old (MsgctlRmid id) 0 did.2.0 (Over did.1);
         rests = (tt, tt);
-        works = λ start made. one_call no_moment unstamped cred (MsgctlRmid id) 0 start old made did.2.0 (Over did.1) new did.2.1;
+        works = λ start made.
+            one_call no_moment unstamped cred (MsgctlRmid id) 0 start old made did.2.0 (Over did.1) new did.2.1;
         asks = λ made. ((did.0, did.1, (did.2.0, did.2.1, refl), did.3, did.4), asked.1);
       }
   makes (Row slot) text old outcome given new asked = record {
     calls = [];
     rests = tt;
-    works = λ start made works. subst (λ calls. Works start calls new) (sym (append-nil made)) (working.asks_row slot asked.0.0 new works asked.0.1);
+    works = λ start made works.
+        subst (λ calls. Works start calls new) (sym (append-nil made))
+        (working.asks_row slot asked.0.0 new works asked.0.1);
     asks = λ made. ((asked.0.0, (asked.0.1, append-nil made), asked.0.2), asked.1);
   }
 
-module _ (may : ℕ → Type 0) (may_leave : Type 0) (any : EachRunIsAtAnyMoment may) (unstamped : EachRunIsAtAnyMoment no_moment) where
+module _ (may : ℕ → Type 0) (may_leave : Type 0) (any : EachRunIsAtAnyMoment may)
+    (unstamped : EachRunIsAtAnyMoment no_moment) where
   -- The calls that the requests of a session make.
   record Led (cred : Cred) (old : Pass) (calls : List Call) (new : Pass) : Type 0 where
     calls_made : List Called
     rests : AllByRecursion Resting calls_made
     works : (start : Pass) (made : List Called) → Works start made old → Works start (made ++ calls_made) new
-    leads : (made : List Called) → Leads (makes_with may may_leave) cred (trail old made) calls (trail new (made ++ calls_made))
+    leads : (made : List Called) →
+        Leads (makes_with may may_leave) cred (trail old made) calls (trail new (made ++ calls_made))
 
-  led : (cred : Cred) (old : Pass) (calls : List Call) (new : Pass) → Leads (asks_with may may_leave) cred old calls new → Led cred old calls new
+  led : (cred : Cred) (old : Pass) (calls : List Call) (new : Pass) →
+      Leads (asks_with may may_leave) cred old calls new → Led cred old calls new
   led cred old [] new is = record {
     calls_made = [];
     rests = tt;
-    works = λ start made works. subst (Works start (made ++ [])) (sym is) (subst (λ calls. Works start calls old) (sym (append-nil made)) works);
+    works = λ start made works.
+        subst (Works start (made ++ [])) (sym is)
+        (subst (λ calls. Works start calls old) (sym (append-nil made)) works);
     leads = λ made. ap (λ (p : Pass). trail p (made ++ [])) is ∙ ap (trail old) (append-nil made);
   }
   led cred old (call ∷ calls) new leads =
-      let one = makes may may_leave any unstamped call.request.version cred call.request.ask call.text old call.outcome call.given leads.0 leads.1 in
+      let one = makes may may_leave any unstamped call.request.version cred call.request.ask call.text old call.outcome
+      call.given leads.0 leads.1 in
       let more = led cred leads.0 calls new leads.2 in
       record {
         calls_made = one.calls ++ more.calls_made;
         rests = both one.calls more.calls_made one.rests more.rests;
-        works = λ start made works. subst (λ calls. Works start calls new) (append_assoc made one.calls more.calls_made) (more.works start (made ++ one.calls) (one.works start made works));
+        works = λ start made works.
+            subst (λ calls. Works start calls new) (append_assoc made one.calls more.calls_made)
+            (more.works start (made ++ one.calls) (one.works start made works));
         leads = λ made. (
           trail leads.0 (made ++ one.calls),
           one.asks made,
-          subst (λ all. Leads (makes_with may may_leave) cred (trail leads.0 (made ++ one.calls)) calls (trail new all)) (append_assoc made one.calls more.calls_made) (more.leads (made ++ one.calls)),
+          subst (λ all. Leads (makes_with may may_leave) cred (trail leads.0 (made ++ one.calls)) calls (trail new all))
+              (append_assoc made one.calls more.calls_made) (more.leads (made ++ one.calls)),
         );
       }
 
   pub each_session : EachSessionMakesCalls may may_leave
   each_session start old new made served left rest taken more works (inl stays) = (
     [],
-    subst (Works start (made ++ [])) (sym stays.kernel) (subst (λ calls. Works start calls old) (sym (append-nil made)) works),
+    subst (Works start (made ++ [])) (sym stays.kernel)
+        (subst (λ calls. Works start calls old) (sym (append-nil made)) works),
     inl (record {
       kernel = ap (λ (p : Pass). trail p (made ++ [])) stays.kernel ∙ ap (trail old) (append-nil made);
       ends = stays.ends;

@@ -7,7 +7,8 @@ use Rattle.sysv_session.specs.Session.{Serves}
 use Rattle.sysv_service.specs.Ran.{Pass}
 use Rattle.sysv_server.specs.Asked.{asks_with}
 
-module _ {K S C L : Type 0} (service : K → S) (clock : K → C) (pass : K → Pass) (caller : K → L) (may : C → ℕ → Type 0) (may_leave : L → Type 0) where
+module _ {K S C L : Type 0} (service : K → S) (clock : K → C) (pass : K → Pass) (caller : K → L) (may : C → ℕ → Type 0)
+    (may_leave : L → Type 0) where
   -- The service, the clock and the caller are unchanged, and the pass changes as the calls of the
   -- service mean.
   abbrev pub ByPass : Meaning K
@@ -27,9 +28,11 @@ module _ {K S C L : Type 0} (service : K → S) (clock : K → C) (pass : K → 
       subst (λ k. Leads (asks_with (may (clock old)) (may_leave k)) cred (pass h.0) calls (pass new)) h.1.2 at_clock in
       (rest.0 ∙ h.1.0, rest.1 ∙ h.1.1, rest.2 ∙ h.1.2, (pass h.0, h.1.3, onward))
 
-  pub serves : (slots : ℕ) (served : Served) (old new : K) (left rest taken more : Option (List ℕ)) → Serves ByPass slots served old new left rest taken more →
+  pub serves : (slots : ℕ) (served : Served) (old new : K) (left rest taken more : Option (List ℕ)) →
+      Serves ByPass slots served old new left rest taken more →
       (service new ≡ service old) × (clock new ≡ clock old) × (caller new ≡ caller old)
-      × Serves (asks_with (may (clock old)) (may_leave (caller old))) slots served (pass old) (pass new) left rest taken more
+      × Serves (asks_with (may (clock old)) (may_leave (caller old))) slots served (pass old) (pass new) left rest taken
+      more
   serves slots served old new left rest taken more h =
       elim h [
         | inl stays ↦ (

@@ -36,7 +36,8 @@ abbrev pub Sends : (ℕ → Type 0) → Type 0 → Version → Cred → ℤ → 
 Sends = requests.Sends ComesFrom ReadsReleased TellsRow
 
 -- A `msgrcv` with the pass.
-abbrev pub Receives : (ℕ → Type 0) → Type 0 → Version → Cred → ℤ → ℕ → ℤ → Flags → Pass → Outcome → List ℕ → Pass → Type 0
+abbrev pub Receives : (ℕ → Type 0) → Type 0 → Version → Cred → ℤ → ℕ → ℤ → Flags → Pass → Outcome → List ℕ → Pass →
+    Type 0
 Receives = requests.Receives ComesFrom ReadsReleased TellsRow
 
 -- A `msgctl` with `IPC_STAT`, with the pass.
@@ -66,6 +67,7 @@ asks_with may may_leave old cred request text outcome given new =
 
 -- What a session over a service did to its pass. The reply to its hello states the number of slots
 -- of the registry, if it is of version 2.
-abbrev pub ServesPass : (ℕ → Type 0) → Type 0 → Served → (old new : Pass) → (left rest taken more : Option (List ℕ)) → Type 0
+abbrev pub ServesPass : (ℕ → Type 0) → Type 0 → Served → (old new : Pass) → (left rest taken more : Option (List ℕ)) →
+    Type 0
 ServesPass may may_leave served old new left rest taken more =
     Serves (asks_with may may_leave) SLOTS served old new left rest taken more

@@ -29,7 +29,8 @@ tally_of (Some served) = served.tally
 
 -- One more session was run, and its tally was added to the sums.
 abbrev pub Handles : Pass → Sums → Pass → Sums → Type 0
-Handles before sums after more = (told : Option Served) × Talks before told after × (more ≡ added sums (one_session (tally_of told)))
+Handles before sums after more =
+    (told : Option Served) × Talks before told after × (more ≡ added sums (one_session (tally_of told)))
 
 -- The sums of sessions with these reports.
 abbrev pub sums_of : List (Option Served) → Sums

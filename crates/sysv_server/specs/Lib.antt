@@ -2,7 +2,6 @@
 pub mod Replies
 pub mod Requests
 pub mod Asked
-pub mod Handles
 pub mod Made
 pub mod Added
 pub mod Handled

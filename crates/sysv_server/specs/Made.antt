@@ -32,7 +32,8 @@ trail pass made = record { pass = pass; made = made }
 
 -- The call was made with the pass, and is added to the calls made with it.
 abbrev pub MakesCall : Going Trail
-MakesCall may cred asked released before state after = (deeds : List Deed) × Ran may (begin cred asked released) before.pass deeds state after.pass
+MakesCall may cred asked released before state after =
+    (deeds : List Deed) × Ran may (begin cred asked released) before.pass deeds state after.pass
     × (after.made ≡ before.made ++ call_of before.pass cred asked released deeds state ∷ [])
 
 -- The released count was read, which is no call.
@@ -46,10 +47,12 @@ ShowsBeside slot before answer after = TellsRow slot before.pass answer after.pa
 -- Request by request: the outcome, and the call that was made.
 abbrev pub makes_with : (ℕ → Type 0) → Type 0 → Meaning Trail
 makes_with may may_leave old cred request text outcome given new =
-    requests.Asks MakesCall ReadsBeside ShowsBeside may may_leave request.version cred request.ask text old outcome given new
+    requests.Asks MakesCall ReadsBeside ShowsBeside may may_leave request.version cred request.ask text old outcome
+    given new
 
 -- What a session over a service did to its pass, and the calls that it made of the service.
-abbrev pub ServesTrail : (ℕ → Type 0) → Type 0 → Served → (old new : Trail) → (left rest taken more : Option (List ℕ)) → Type 0
+abbrev pub ServesTrail : (ℕ → Type 0) → Type 0 → Served → (old new : Trail) → (left rest taken more : Option (List ℕ)) →
+    Type 0
 ServesTrail may may_leave served old new left rest taken more =
     Serves (makes_with may may_leave) SLOTS served old new left rest taken more
 
@@ -57,7 +60,9 @@ ServesTrail may may_leave served old new left rest taken more =
 -- with the calls that were made from a start up to the session, they are all that the pass made
 -- from that start. Each of the calls is over or was left at a wait.
 abbrev pub EachSessionMakesCalls : (ℕ → Type 0) → Type 0 → Type 0
-EachSessionMakesCalls may may_leave = (start old new : Pass) (made : List Called) (served : Served) (left rest taken more : Option (List ℕ)) →
+EachSessionMakesCalls may may_leave =
+    (start old new : Pass) (made : List Called) (served : Served) (left rest taken more : Option (List ℕ)) →
     Works start made old → ServesPass may may_leave served old new left rest taken more →
-    (calls : List Called) × Works start (made ++ calls) new × ServesTrail may may_leave served (trail old made) (trail new (made ++ calls)) left rest taken more ×
+    (calls : List Called) × Works start (made ++ calls) new
+    × ServesTrail may may_leave served (trail old made) (trail new (made ++ calls)) left rest taken more ×
     AllByRecursion (λ (call : Called). Rests call.state) calls

@@ -59,17 +59,25 @@ pub record Lived (blocks : ℕ) (gates : Gates) (shifts : List Shift) (removed :
 -- their passes, took them back and made a stop, and the gates were closed with it. If that pass is
 -- unmarked, then all of it is one run.
 abbrev pub EachLifeIsOneRun : Type 0
-EachLifeIsOneRun = (blocks : ℕ) (gates : Gates) (shifts : List Shift) (removed : Result ℕ Errno) (stopped : Stopped gates removed) (closed : Closed) →
-    (counted : IsCounted stopped.after.seats stopped.after.held closed) → AreOpen 0 blocks 0 gates → AreOf gates stopped.after.seats →
-    Hires (first_pass gates) (first_passes shifts) (last_passes shifts) stopped.before → IsUnmarked stopped.after.seats → IsOneRun blocks shifts stopped.removed counted.all.order
+EachLifeIsOneRun = (blocks : ℕ) (gates : Gates) (shifts : List Shift) (removed : Result ℕ Errno)
+    (stopped : Stopped gates removed) (closed : Closed) →
+    (counted : IsCounted stopped.after.seats stopped.after.held closed) → AreOpen 0 blocks 0 gates →
+    AreOf gates stopped.after.seats →
+    Hires (first_pass gates) (first_passes shifts) (last_passes shifts) stopped.before →
+    IsUnmarked stopped.after.seats → IsOneRun blocks shifts stopped.removed counted.all.order
 
 -- No gate is held after the close of such gates, also if one was found worn out.
 abbrev pub NoLifeLeavesAGateHeld : Type 0
-NoLifeLeavesAGateHeld = (gates : Gates) (shifts : List Shift) (removed : Result ℕ Errno) (stopped : Stopped gates removed) (closed : Closed) →
-    IsCounted stopped.after.seats stopped.after.held closed → Hires (first_pass gates) (first_passes shifts) (last_passes shifts) stopped.before → closed.held ≡ 0
+NoLifeLeavesAGateHeld = (gates : Gates) (shifts : List Shift) (removed : Result ℕ Errno)
+    (stopped : Stopped gates removed) (closed : Closed) →
+    IsCounted stopped.after.seats stopped.after.held closed →
+    Hires (first_pass gates) (first_passes shifts) (last_passes shifts) stopped.before → closed.held ≡ 0
 
 -- The pool has all its blocks too, if the pass with which they were closed is unmarked.
 abbrev pub EachLifeLeavesThePoolWhole : Type 0
-EachLifeLeavesThePoolWhole = (blocks : ℕ) (gates : Gates) (shifts : List Shift) (removed : Result ℕ Errno) (stopped : Stopped gates removed) (closed : Closed) →
-    IsCounted stopped.after.seats stopped.after.held closed → AreOpen 0 blocks 0 gates → AreOf gates stopped.after.seats →
-    Hires (first_pass gates) (first_passes shifts) (last_passes shifts) stopped.before → IsUnmarked stopped.after.seats → IsWholeAgain blocks closed
+EachLifeLeavesThePoolWhole = (blocks : ℕ) (gates : Gates) (shifts : List Shift) (removed : Result ℕ Errno)
+    (stopped : Stopped gates removed) (closed : Closed) →
+    IsCounted stopped.after.seats stopped.after.held closed → AreOpen 0 blocks 0 gates →
+    AreOf gates stopped.after.seats →
+    Hires (first_pass gates) (first_passes shifts) (last_passes shifts) stopped.before →
+    IsUnmarked stopped.after.seats → IsWholeAgain blocks closed

@@ -30,23 +30,27 @@ Going K = (ℕ → Type 0) → Cred → SystemCall → ℕ → K → State → K
 
 -- The definitions hold for any meaning of a call, of reading the released count, and of requesting
 -- the row of a slot.
-module _ {K : Type 0} (Comes : Going K) (ReadsReleased : ℕ → K → K → Type 0) (TellsRow : ℕ → K → Result (Option Line) Errno → K → Type 0) where
+module _ {K : Type 0} (Comes : Going K) (ReadsReleased : ℕ → K → K → Type 0)
+    (TellsRow : ℕ → K → Result (Option Line) Errno → K → Type 0) where
   -- The call ended this way.
   abbrev pub Ends : (ℕ → Type 0) → Cred → SystemCall → ℕ → K → Ending → K → Type 0
   Ends may cred asked released before ending after = Comes may cred asked released before (Over ending) after
 
   -- The caller may have left, and the call was left at a wait.
   abbrev pub IsLeft : Type 0 → (ℕ → Type 0) → Cred → SystemCall → ℕ → K → K → Type 0
-  IsLeft may_leave may cred asked released before after = may_leave × (wait : Wait) × Comes may cred asked released before (Waits wait) after
+  IsLeft may_leave may cred asked released before after =
+      may_leave × (wait : Wait) × Comes may cred asked released before (Waits wait) after
 
   -- A `msgget` ended, and the outcome is the reply with its result.
   abbrev pub Gets : (ℕ → Type 0) → Version → Cred → ℤ → Flags → K → Outcome → K → Type 0
   Gets may version cred key flags before outcome after = (answer : Result ℤ Errno) × (ending : Ending)
-      × Ends may cred (Msgget key flags) 0 before ending after × TellsId ending answer × (outcome ≡ id_reply version answer)
+      × Ends may cred (Msgget key flags) 0 before ending after × TellsId ending answer
+      × (outcome ≡ id_reply version answer)
 
   -- A `msgsnd` of the body ended, and the outcome is the reply with its result.
   abbrev pub SendIsOver : (ℕ → Type 0) → Version → Cred → ℤ → ℤ → Flags → List ℕ → ℕ → K → Outcome → K → Type 0
-  SendIsOver may version cred id mtype flags text released mid outcome after = (answer : Result ⊤ Errno) × (ending : Ending)
+  SendIsOver may version cred id mtype flags text released mid outcome after =
+      (answer : Result ⊤ Errno) × (ending : Ending)
       × Ends may cred (Msgsnd id mtype flags text) released mid ending after × TellsZero ending answer
       × (outcome ≡ done_reply version op.Snd content.Snd answer)
 
@@ -66,13 +70,15 @@ module _ {K : Type 0} (Comes : Going K) (ReadsReleased : ℕ → K → K → Typ
   -- A `msgrcv` ended, and the outcome is its message, whose body is `given`, or the reply with its
   -- error.
   abbrev pub ReceiveIsOver : (ℕ → Type 0) → Version → Cred → ℤ → ℕ → ℤ → Flags → K → Outcome → List ℕ → K → Type 0
-  ReceiveIsOver may version cred id size mtype flags before outcome given after = (answer : Result Given Errno) × (ending : Ending)
+  ReceiveIsOver may version cred id size mtype flags before outcome given after =
+      (answer : Result Given Errno) × (ending : Ending)
       × Ends may cred (Msgrcv id size mtype flags) 0 before ending after × TellsGot ending answer given
       × (outcome ≡ given_reply version answer)
 
   -- The caller left a `msgrcv` while it waited. There is no body, and the outcome is the reply of
   -- `IPC_NOWAIT`.
-  abbrev pub ReceiveIsLeft : (ℕ → Type 0) → Type 0 → Version → Cred → ℤ → ℕ → ℤ → Flags → K → Outcome → List ℕ → K → Type 0
+  abbrev pub ReceiveIsLeft : (ℕ → Type 0) → Type 0 → Version → Cred → ℤ → ℕ → ℤ → Flags → K → Outcome → List ℕ → K →
+      Type 0
   ReceiveIsLeft may may_leave version cred id size mtype flags before outcome given after =
       IsLeft may_leave may cred (Msgrcv id size mtype flags) 0 before after
       × (given ≡ []) × (outcome ≡ reply version op.Rcv (content.Refused ENOMSG))
@@ -87,12 +93,14 @@ module _ {K : Type 0} (Comes : Going K) (ReadsReleased : ℕ → K → K → Typ
   -- no time.
   abbrev pub Stats : Version → Cred → ℤ → K → Outcome → K → Type 0
   Stats version cred id before outcome after = (answer : Result Attributes Errno) × (ending : Ending)
-      × Ends no_moment cred (MsgctlStat id) 0 before ending after × TellsStat ending answer × (outcome ≡ stat_reply version answer)
+      × Ends no_moment cred (MsgctlStat id) 0 before ending after × TellsStat ending answer
+      × (outcome ≡ stat_reply version answer)
 
   -- A `msgctl` with `IPC_SET` ended, and the outcome is the reply with its result.
   abbrev pub Sets : (ℕ → Type 0) → Version → Cred → ℤ → SetTo → K → Outcome → K → Type 0
   Sets may version cred id to before outcome after = (answer : Result ⊤ Errno) × (ending : Ending)
-      × Ends may cred (MsgctlSet id to) 0 before ending after × TellsZero ending answer × (outcome ≡ done_reply version op.Set content.Set answer)
+      × Ends may cred (MsgctlSet id to) 0 before ending after × TellsZero ending answer
+      × (outcome ≡ done_reply version op.Set content.Set answer)
 
   -- A `msgctl` with `IPC_RMID` ended, and the outcome is the reply with its result. Its steps have
   -- no time.
@@ -111,10 +119,17 @@ module _ {K : Type 0} (Comes : Going K) (ReadsReleased : ℕ → K → K → Typ
   -- a receive that wait may be left if the caller may leave. A hello is no request to a kernel.
   abbrev pub Asks : (ℕ → Type 0) → Type 0 → Version → Cred → Ask → List ℕ → K → Outcome → List ℕ → K → Type 0
   Asks may may_leave version cred (Hello other) text before outcome given after = ⊥
-  Asks may may_leave version cred (Get key flags) text before outcome given after = Gets may version cred key flags before outcome after × (given ≡ [])
-  Asks may may_leave version cred (Snd id mtype flags) text before outcome given after = Sends may may_leave version cred id mtype flags text before outcome after × (given ≡ [])
-  Asks may may_leave version cred (Rcv id size mtype flags) text before outcome given after = Receives may may_leave version cred id size mtype flags before outcome given after
-  Asks may may_leave version cred (Stat id) text before outcome given after = Stats version cred id before outcome after × (given ≡ [])
-  Asks may may_leave version cred (Set id to) text before outcome given after = Sets may version cred id to before outcome after × (given ≡ [])
-  Asks may may_leave version cred (Rm id) text before outcome given after = Removes version cred id before outcome after × (given ≡ [])
-  Asks may may_leave version cred (Row slot) text before outcome given after = Shows version slot before outcome after × (given ≡ [])
+  Asks may may_leave version cred (Get key flags) text before outcome given after =
+      Gets may version cred key flags before outcome after × (given ≡ [])
+  Asks may may_leave version cred (Snd id mtype flags) text before outcome given after =
+      Sends may may_leave version cred id mtype flags text before outcome after × (given ≡ [])
+  Asks may may_leave version cred (Rcv id size mtype flags) text before outcome given after =
+      Receives may may_leave version cred id size mtype flags before outcome given after
+  Asks may may_leave version cred (Stat id) text before outcome given after =
+      Stats version cred id before outcome after × (given ≡ [])
+  Asks may may_leave version cred (Set id to) text before outcome given after =
+      Sets may version cred id to before outcome after × (given ≡ [])
+  Asks may may_leave version cred (Rm id) text before outcome given after =
+      Removes version cred id before outcome after × (given ≡ [])
+  Asks may may_leave version cred (Row slot) text before outcome given after =
+      Shows version slot before outcome after × (given ≡ [])

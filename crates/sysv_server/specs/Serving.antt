@@ -31,7 +31,8 @@ pub record Worked (gates : Gates) (count : ℕ) (shifts : List Shift) (all : Sum
 
 module _ {S T : Type 0} where
   -- The workers did this, and there was one session for each connection that the source returned.
-  pub record WorkedAll (gives : S → Option T → S → Type 0) (gates : Gates) (workers : ℕ) (source : S) (sums : Sums) (source' : S) : Type 0 where
+  pub record WorkedAll (gives : S → Option T → S → Type 0) (gates : Gates) (workers : ℕ) (source : S) (sums : Sums)
+      (source' : S) : Type 0 where
     pub shifts : List Shift
     pub worked : Worked gates workers shifts sums
     pub given : List T
@@ -40,13 +41,15 @@ module _ {S T : Type 0} where
 
   -- The workers did this between these passes: they began with passes that were split off from the
   -- pass `old`, and the passes that they left were joined back into it.
-  pub record WorkedFrom (gives : S → Option T → S → Type 0) (gates : Gates) (workers : ℕ) (old : Pass) (source : S) (sums : Sums) (new : Pass) (source' : S) : Type 0 where
+  pub record WorkedFrom (gives : S → Option T → S → Type 0) (gates : Gates) (workers : ℕ) (old : Pass) (source : S)
+      (sums : Sums) (new : Pass) (source' : S) : Type 0 where
     pub all : WorkedAll gives gates workers source sums source'
     pub hires : Hires old (first_passes all.shifts) (last_passes all.shifts) new
 
   -- The workers did this at gates that were opened for it with this number of blocks, and that were
   -- stopped and closed after it.
-  pub record ServesAll (gives : S → Option T → S → Type 0) (blocks workers : ℕ) (source : S) (sums : Sums) (source' : S) : Type 0 where
+  pub record ServesAll (gives : S → Option T → S → Type 0) (blocks workers : ℕ) (source : S) (sums : Sums)
+      (source' : S) : Type 0 where
     pub gates : Gates
     pub opened : AreOpen 0 blocks 0 gates
     pub all : WorkedAll gives gates workers source sums source'
@@ -64,7 +67,8 @@ pub record ServesOn (blocks workers most : ℕ) (sums : Sums) : Type 0 where
   pub lived : Lived blocks gates shifts removed
 
 -- A server served the connections of a source, and then removed the queues that were left.
-pub record EndsAll {S T : Type 0} (gives : S → Option T → S → Type 0) (blocks workers : ℕ) (source : S) (ended : Ended) (source' : S) : Type 0 where
+pub record EndsAll {S T : Type 0} (gives : S → Option T → S → Type 0) (blocks workers : ℕ) (source : S) (ended : Ended)
+    (source' : S) : Type 0 where
   pub served : ServesAll gives blocks workers source ended.sums source'
   pub stopped : Stopped served.gates ended.removed
   pub told : ended.removed ≡ served.removed

@@ -48,8 +48,6 @@ impl<'a, C: Clock, R: Wait> ServiceKernel<'a, C, R, Stays> {
 }
 
 impl<'a, C: Clock, R: Wait, K: Caller + Copy> ServiceKernel<'a, C, R, K> {
-    ghost use Rattle.sysv_server.specs.Handles.{KeepsHandles};
-
     /// Creates a kernel that calls `service` with `pass`, for a caller that may leave.
     ///
     /// A call that the caller leaves while it waits takes no message and sends none. Its reply,
@@ -108,7 +106,9 @@ impl<'a, C: Clock, R: Wait, K: Caller + Copy> ServiceKernel<'a, C, R, K> {
             Takes input course → Follows course result }
         ensures memory { result.«end» ≡ End.NoMemory → (reader.new ≡ reader.old)
             × (writer.new ≡ writer.old) }
-        ensures handles { KeepsHandles self.old self.new }
+        ensures service { self.new.service ≡ self.old.service }
+        ensures clock { self.new.clock ≡ self.old.clock }
+        ensures caller { self.new.caller ≡ self.old.caller }
     {
         serve(alloc, reader, writer, self)
     }
@@ -129,7 +129,9 @@ impl<'a, C: Clock, R: Wait, K: Caller + Copy> ServiceKernel<'a, C, R, K> {
         ensures only { (input : List ℕ) (course : Course) → I.remaining reader.old ≡ Some input →
             Takes input course → Follows course result }
         ensures memory { result.«end» ≢ End.NoMemory }
-        ensures handles { KeepsHandles self.old self.new }
+        ensures service { self.new.service ≡ self.old.service }
+        ensures clock { self.new.clock ≡ self.old.clock }
+        ensures caller { self.new.caller ≡ self.old.caller }
     {
         serve_with(texts, reader, writer, self)
     }
@@ -154,7 +156,9 @@ impl<'a, C: Clock, R: Wait, K: Caller + Copy> ServiceKernel<'a, C, R, K> {
         ensures gets { Gets (C.may self.old.clock.now) version cred key flags self.old.pass result
             self.new.pass }
         ensures answer { MayAnswer version (Ask.Get key flags) result [] }
-        ensures handles { KeepsHandles self.old self.new }
+        ensures service { self.new.service ≡ self.old.service }
+        ensures clock { self.new.clock ≡ self.old.clock }
+        ensures caller { self.new.caller ≡ self.old.caller }
     {
         let told = self
             .service
@@ -180,7 +184,9 @@ impl<'a, C: Clock, R: Wait, K: Caller + Copy> ServiceKernel<'a, C, R, K> {
             (K.may_leave self.old.caller) version cred id mtype flags text.now self.old.pass result
             self.new.pass }
         ensures answer { MayAnswer version (Ask.Snd id mtype flags) result [] }
-        ensures handles { KeepsHandles self.old self.new }
+        ensures service { self.new.service ≡ self.old.service }
+        ensures clock { self.new.clock ≡ self.old.clock }
+        ensures caller { self.new.caller ≡ self.old.caller }
     {
         let (pass, caller) = (&mut self.pass, &self.caller);
         let told = self.service.msgsnd_for(
@@ -211,7 +217,9 @@ impl<'a, C: Clock, R: Wait, K: Caller + Copy> ServiceKernel<'a, C, R, K> {
             (K.may_leave self.old.caller) version cred id size mtype flags self.old.pass result
             given.new self.new.pass }
         ensures answer { MayAnswer version (Ask.Rcv id size mtype flags) result given.new }
-        ensures handles { KeepsHandles self.old self.new }
+        ensures service { self.new.service ≡ self.old.service }
+        ensures clock { self.new.clock ≡ self.old.clock }
+        ensures caller { self.new.caller ≡ self.old.caller }
     {
         let (pass, caller) = (&mut self.pass, &self.caller);
         let told = self.service.msgrcv_for(
@@ -230,7 +238,9 @@ impl<'a, C: Clock, R: Wait, K: Caller + Copy> ServiceKernel<'a, C, R, K> {
     fn stat(&mut self, version: Version, cred: Cred, id: i32) -> Outcome
         ensures stats { Stats version cred id self.old.pass result self.new.pass }
         ensures answer { MayAnswer version (Ask.Stat id) result [] }
-        ensures handles { KeepsHandles self.old self.new }
+        ensures service { self.new.service ≡ self.old.service }
+        ensures clock { self.new.clock ≡ self.old.clock }
+        ensures caller { self.new.caller ≡ self.old.caller }
     {
         let told = self.service.msgctl_stat(self.rt, &mut self.pass, cred, id);
         match told {
@@ -244,7 +254,9 @@ impl<'a, C: Clock, R: Wait, K: Caller + Copy> ServiceKernel<'a, C, R, K> {
         ensures sets { Sets (C.may self.old.clock.now) version cred id to self.old.pass result
             self.new.pass }
         ensures answer { MayAnswer version (Ask.Set id to) result [] }
-        ensures handles { KeepsHandles self.old self.new }
+        ensures service { self.new.service ≡ self.old.service }
+        ensures clock { self.new.clock ≡ self.old.clock }
+        ensures caller { self.new.caller ≡ self.old.caller }
     {
         let told = self
             .service
@@ -259,7 +271,9 @@ impl<'a, C: Clock, R: Wait, K: Caller + Copy> ServiceKernel<'a, C, R, K> {
     fn remove(&mut self, version: Version, cred: Cred, id: i32) -> Outcome
         ensures removes { Removes version cred id self.old.pass result self.new.pass }
         ensures answer { MayAnswer version (Ask.Rm id) result [] }
-        ensures handles { KeepsHandles self.old self.new }
+        ensures service { self.new.service ≡ self.old.service }
+        ensures clock { self.new.clock ≡ self.old.clock }
+        ensures caller { self.new.caller ≡ self.old.caller }
     {
         let told = self.service.msgctl_rmid(self.rt, &mut self.pass, cred, id);
         match told {
@@ -272,7 +286,9 @@ impl<'a, C: Clock, R: Wait, K: Caller + Copy> ServiceKernel<'a, C, R, K> {
     fn row(&mut self, version: Version, slot: u32) -> Outcome
         ensures shows { Shows version slot self.old.pass result self.new.pass }
         ensures answer { MayAnswer version (Ask.Row slot) result [] }
-        ensures handles { KeepsHandles self.old self.new }
+        ensures service { self.new.service ≡ self.old.service }
+        ensures clock { self.new.clock ≡ self.old.clock }
+        ensures caller { self.new.caller ≡ self.old.caller }
     {
         let told = self.service.list_row(self.rt, &mut self.pass, slot);
         match told {

@@ -8,44 +8,55 @@ use denote.Param.SendFields.{FieldsHave, declared_send, declared_sync, as_row_se
 use Rattle.std.proofs.Crossing.{crosses}
 use Rattle.std.proofs.option.Option.TheSendSync as options
 use Rattle.sysv_queue.proofs.Crossing.{block_send, block_sync, chain_send, queue_send, queue_sync}
-use Rattle.sysv_shared.specs.contracts.slot.GatedSlot as gated_slot
-use Rattle.sysv_shared.specs.contracts.pool.GatedPool as gated_pool
-use Rattle.sysv_shared.proofs.registry.GatedRegistry.TheSendSync as registries
+use Rattle.sysv_keys.proofs.registry.Registry.TheSendSync as registries
+use Rattle.sysv_pool.specs.contracts.pool.Pool as pool
 use Rattle.sysv_shared.specs.contracts.kinds.Gated as gated
+use Rattle.sysv_shared.specs.contracts.object.SharedObject as shared
 use Rattle.sysv_shared.specs.contracts.seats.Seats as seats
 use Rattle.sysv_shared.specs.contracts.gates.Gates as gates
 use Rattle.sysv_service.specs.contracts.pass.Pass as pass
 use Rattle.sysv_service.specs.contracts.service.Service as service
 use Rattle.sysv_bank.proofs.Crossing.{bank_seat_send, bank_sync}
 
-pub ruleset crossing = (sendable, crosses, options.the_send, options.the_field_send, options.the_sync, options.the_field_sync, declared_send, declared_sync, as_row_send, as_row_sync)
+pub ruleset crossing = (
+  sendable,
+  crosses,
+  options.the_send,
+  options.the_field_send,
+  options.the_sync,
+  options.the_field_sync,
+  declared_send,
+  declared_sync,
+  as_row_send,
+  as_row_sync,
+)
 
-pub pool_send : IsSend gated_pool.the_row
+pool_send : IsSend pool.the_row
 pool_send = search (crossing, block_send) depth 30
 
-pub slot_send : IsSend gated_slot.the_row
-slot_send = search (crossing, queue_send) depth 30
-
-pub slot_sync : IsSync gated_slot.the_row
-slot_sync = search (crossing, queue_sync) depth 30
-
-pool_sync : IsSync gated_pool.the_row
+pool_sync : IsSync pool.the_row
 pool_sync = search (crossing, block_sync) depth 30
 
 gated_send : IsSend gated.the_row
-gated_send = search (crossing, slot_send, registries.the_send, pool_send) depth 30
+gated_send = search (crossing, queue_send, registries.the_send, pool_send) depth 30
 
 gated_sync : IsSync gated.the_row
-gated_sync = search (crossing, slot_sync, registries.the_sync, pool_sync) depth 30
+gated_sync = search (crossing, queue_sync, registries.the_sync, pool_sync) depth 30
+
+shared_send : IsSend shared.the_row
+shared_send = search (crossing, gated_send) depth 30
+
+shared_sync : IsSync shared.the_row
+shared_sync = search (crossing, gated_sync) depth 30
 
 seats_send : IsSend seats.the_row
-seats_send = search (crossing, bank_seat_send, gated_send) depth 30
+seats_send = search (crossing, bank_seat_send, shared_send) depth 30
 
 pub pass_send : IsSend pass.the_row
 pass_send = search (crossing, seats_send, chain_send) depth 30
 
 gates_sync : IsSync gates.the_row
-gates_sync = search (crossing, bank_sync, gated_send, gated_sync, slot_sync) depth 30
+gates_sync = search (crossing, bank_sync, shared_send, shared_sync, queue_sync) depth 30
 
 pub service_sync : IsSync service.the_row
 service_sync = search (crossing, gates_sync) depth 30

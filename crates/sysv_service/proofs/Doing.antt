@@ -39,32 +39,42 @@ module _ (before after : Seats) where
 -- ---- a step whose gate is worn out
 
 module _ (start : Member) (done : List Deed) (before after : Pass) (so : Does start done before.seats.member) where
-  forgets_does : (id : ℤ) (deeds : List Deed) → Forgets id before deeds after → Does start (done ++ deeds) after.seats.member
+  forgets_does : (id : ℤ) (deeds : List Deed) → Forgets id before deeds after →
+      Does start (done ++ deeds) after.seats.member
   forgets_does id deeds (inl f) =
       let deed : Deed = AtRegistry (Forget id) (Changed f.0) in
-      subst (λ ds. Does start (done ++ ds) after.seats.member) (sym f.1) (makes deed after.seats.member so (turn_is_made before.seats after.seats deed f.2.turn))
+      subst (λ ds. Does start (done ++ ds) after.seats.member) (sym f.1)
+      (makes deed after.seats.member so (turn_is_made before.seats after.seats deed f.2.turn))
   forgets_does id deeds (inr f) =
-      let seen : Does start done after.seats.member = sees after.seats.member so (worn_is_seen before.seats after.seats (OfRegistry (Forget id)) f.1) in
-      subst (λ ds. Does start (done ++ ds) after.seats.member) (sym f.0) (subst (λ ds. Does start ds after.seats.member) (sym (append-nil done)) seen)
+      let seen : Does start done after.seats.member =
+      sees after.seats.member so (worn_is_seen before.seats after.seats (OfRegistry (Forget id)) f.1) in
+      subst (λ ds. Does start (done ++ ds) after.seats.member) (sym f.0)
+      (subst (λ ds. Does start ds after.seats.member) (sym (append-nil done)) seen)
 
-  nothing_does : (deeds : List Deed) → deeds ≡ [] → after.seats ≡ before.seats → Does start (done ++ deeds) after.seats.member
+  nothing_does : (deeds : List Deed) → deeds ≡ [] → after.seats ≡ before.seats →
+      Does start (done ++ deeds) after.seats.member
   nothing_does deeds none same =
       let still : Does start done after.seats.member = subst (λ (s : Seats). Does start done s.member) (sym same) so in
-      subst (λ ds. Does start (done ++ ds) after.seats.member) (sym none) (subst (λ ds. Does start ds after.seats.member) (sym (append-nil done)) still)
+      subst (λ ds. Does start (done ++ ds) after.seats.member) (sym none)
+      (subst (λ ds. Does start ds after.seats.member) (sym (append-nil done)) still)
 
-  back_does : (phase : Phase) (deeds : List Deed) (state : State) → TurnsBack phase before deeds state after → Does start (done ++ deeds) after.seats.member
+  back_does : (phase : Phase) (deeds : List Deed) (state : State) → TurnsBack phase before deeds state after →
+      Does start (done ++ deeds) after.seats.member
   back_does (AtInstall get id) deeds state back = forgets_does id deeds back.1
   back_does phase deeds state back = nothing_does deeds back.1 back.2
 
 -- ---- a call
 
 module _ (may : ℕ → Type 0) (from : State) (old : Pass) where
-  pub does : (deeds : List Deed) (state : State) (new : Pass) → Ran may from old deeds state new → Does old.seats.member deeds new.seats.member
+  pub does : (deeds : List Deed) (state : State) (new : Pass) → Ran may from old deeds state new →
+      Does old.seats.member deeds new.seats.member
   does _ _ _ begins = starts
   does _ _ _ (steps {deeds} {phase} {mid} state new ran step) =
-      makes step.deed new.seats.member (does deeds (Goes phase) mid ran) (turn_is_made mid.seats new.seats step.deed step.makes.turn)
+      makes step.deed new.seats.member (does deeds (Goes phase) mid ran)
+      (turn_is_made mid.seats new.seats step.deed step.makes.turn)
   does _ _ _ (turns_back {deeds} {phase} {mid} state new ran step) =
-      let seen = sees step.there.member (does deeds (Goes phase) mid ran) (worn_is_seen mid.seats step.there (asks phase step.now) step.worn) in
+      let seen = sees step.there.member (does deeds (Goes phase) mid ran)
+      (worn_is_seen mid.seats step.there (asks phase step.now) step.worn) in
       back_does old.seats.member deeds (record mid { seats = step.there }) new seen phase step.deeds state step.back
   does _ _ _ (reads {deeds} {state} {mid} count value new ran r same) =
       sees new.seats.member (does deeds state mid ran) (read_is_seen mid.seats new.seats count value r)

@@ -23,11 +23,15 @@ use Rattle.sysv_service.proofs.Playing.{plays}
 -- ---- a call of any clock
 
 module _ (may : ℕ → Type 0) where
-  abbrev step_at : (phase : Phase) (before : Pass) (state : State) (after : Pass) → Steps may phase before state after → Steps any_moment phase before state after
-  step_at phase before state after s = record { deed = s.deed; now = s.now; moment = λ e. tt; asked = s.asked; goes = s.goes; makes = s.makes }
+  abbrev step_at : (phase : Phase) (before : Pass) (state : State) (after : Pass) → Steps may phase before state after →
+      Steps any_moment phase before state after
+  step_at phase before state after s =
+      record { deed = s.deed; now = s.now; moment = λ e. tt; asked = s.asked; goes = s.goes; makes = s.makes }
 
-  abbrev back_at : (phase : Phase) (before : Pass) (state : State) (after : Pass) → FindsNoTurn may phase before state after → FindsNoTurn any_moment phase before state after
-  back_at phase before state after s = record { deeds = s.deeds; now = s.now; moment = λ e. tt; there = s.there; worn = s.worn; back = s.back }
+  abbrev back_at : (phase : Phase) (before : Pass) (state : State) (after : Pass) →
+      FindsNoTurn may phase before state after → FindsNoTurn any_moment phase before state after
+  back_at phase before state after s =
+      record { deeds = s.deeds; now = s.now; moment = λ e. tt; there = s.there; worn = s.worn; back = s.back }
 
   pub at_any : EachRunIsAtAnyMoment may
   at_any from old _ _ _ begins = (begins, λ found. tt)
@@ -55,20 +59,27 @@ member pass = pass.seats.member
 abbrev members : List Pass → List Member
 members passes = map member passes
 
-row_in_crew : (slot : ℕ) (one : Pass) (rest : List Member) (made : List Called) (result : Result (Option Row) Errno) (after : Pass) →
+row_in_crew : (slot : ℕ) (one : Pass) (rest : List Member) (made : List Called) (result : Result (Option Row) Errno)
+    (after : Pass) →
     IsCrew (one.seats.member ∷ rest) made → TellsRow slot one result after → IsCrew (after.seats.member ∷ rest) made
-row_in_crew slot one rest made (Ok row) after so told = crew.reads slot (Shown row) after.seats.member so (turn_is_made one.seats after.seats (AtSlot slot ReadRow (Shown row)) told.1.turn)
-row_in_crew slot one rest made (Err why) after so (inl none) = subst (λ (p : Pass). IsCrew (p.seats.member ∷ rest) made) (sym none.2) so
-row_in_crew slot one rest made (Err why) after so (inr worn) = crew.goes_on after.seats.member so (worn_is_seen one.seats after.seats (OfSlot slot ReadRow) worn.2)
+row_in_crew slot one rest made (Ok row) after so told = crew.reads slot (Shown row) after.seats.member so
+    (turn_is_made one.seats after.seats (AtSlot slot ReadRow (Shown row)) told.1.turn)
+row_in_crew slot one rest made (Err why) after so (inl none) =
+    subst (λ (p : Pass). IsCrew (p.seats.member ∷ rest) made) (sym none.2) so
+row_in_crew slot one rest made (Err why) after so (inr worn) =
+    crew.goes_on after.seats.member so (worn_is_seen one.seats after.seats (OfSlot slot ReadRow) worn.2)
 
 module _ (generation blocks first : ℕ) (gates : Gates) where
-  pub crew_of : (passes : List Pass) (made : List Called) → Lives generation blocks first gates passes made → IsCrew (members passes) made
+  pub crew_of : (passes : List Pass) (made : List Called) → Lives generation blocks first gates passes made →
+      IsCrew (members passes) made
   crew_of _ _ (life.opens fresh) = crew.opens 0
   crew_of _ _ (life.calls {one} {rest} {made} cred asked released deeds state after lives ran found) =
       crew.calls (call_of one cred asked released deeds state) after.seats.member (crew_of (one ∷ rest) made lives) refl
-      (plays any_moment (begin cred asked released) one deeds state after ran found) (does any_moment (begin cred asked released) one deeds state after ran)
+      (plays any_moment (begin cred asked released) one deeds state after ran found)
+      (does any_moment (begin cred asked released) one deeds state after ran)
   crew_of _ _ (life.reads_count {one} {rest} {made} count value after lives r same) =
-      crew.goes_on after.seats.member (crew_of (one ∷ rest) made lives) (read_is_seen one.seats after.seats count value r)
+      crew.goes_on after.seats.member (crew_of (one ∷ rest) made lives)
+      (read_is_seen one.seats after.seats count value r)
   crew_of _ _ (life.asks_row {one} {rest} {made} slot result after lives told) =
       row_in_crew slot one (members rest) made result after (crew_of (one ∷ rest) made lives) told
   crew_of _ _ (life.splits {one} {rest} {made} kept new lives split held empty) =
@@ -76,13 +87,18 @@ module _ (generation blocks first : ℕ) (gates : Gates) where
   crew_of _ _ (life.joins {one} {two} {rest} {made} after lives joined held) =
       crew.joins after.seats.member (crew_of (one ∷ two ∷ rest) made lives) joined.member
   crew_of _ _ (life.turns_to {one} {made} before rest lives) =
-      let there = subst (λ ms. IsCrew ms made) (map-append member before (one ∷ rest)) (crew_of (before ++ one ∷ rest) made lives) in
-      subst (λ ms. IsCrew (one.seats.member ∷ ms) made) (sym (map-append member before rest)) (crew.turns_to (members before) (members rest) there)
+      let there = subst (λ ms. IsCrew ms made) (map-append member before (one ∷ rest))
+      (crew_of (before ++ one ∷ rest) made lives) in
+      subst (λ ms. IsCrew (one.seats.member ∷ ms) made) (sym (map-append member before rest))
+      (crew.turns_to (members before) (members rest) there)
 
-  pub opened_so : (passes : List Pass) (made : List Called) → Lives generation blocks first gates passes made → AreOpen generation blocks first gates
+  pub opened_so : (passes : List Pass) (made : List Called) → Lives generation blocks first gates passes made →
+      AreOpen generation blocks first gates
   opened_so _ _ (life.opens fresh) = fresh
-  opened_so _ _ (life.calls {one} {rest} {made} cred asked released deeds state after lives ran found) = opened_so (one ∷ rest) made lives
-  opened_so _ _ (life.reads_count {one} {rest} {made} count value after lives r same) = opened_so (one ∷ rest) made lives
+  opened_so _ _ (life.calls {one} {rest} {made} cred asked released deeds state after lives ran found) =
+      opened_so (one ∷ rest) made lives
+  opened_so _ _ (life.reads_count {one} {rest} {made} count value after lives r same) =
+      opened_so (one ∷ rest) made lives
   opened_so _ _ (life.asks_row {one} {rest} {made} slot result after lives told) = opened_so (one ∷ rest) made lives
   opened_so _ _ (life.splits {one} {rest} {made} kept new lives split held empty) = opened_so (one ∷ rest) made lives
   opened_so _ _ (life.joins {one} {two} {rest} {made} after lives joined held) = opened_so (one ∷ two ∷ rest) made lives
@@ -91,4 +107,5 @@ module _ (generation blocks first : ℕ) (gates : Gates) where
 pub every_service : EveryServiceIsARun → EveryServiceObeys
 every_service law generation blocks first gates last calls closed lives fits end =
     let passes = crew_of generation blocks first gates (last ∷ []) calls lives in
-    law generation blocks last.seats.member calls end.all.order passes end.all.member (end.all.legal generation blocks first gates (opened_so generation blocks first gates (last ∷ []) calls lives) fits)
+    law generation blocks last.seats.member calls end.all.order passes end.all.member
+    (end.all.legal generation blocks first gates (opened_so generation blocks first gates (last ∷ []) calls lives) fits)

@@ -9,16 +9,19 @@ module _ (may : ℕ → Type 0) (from : State) (old : Pass) where
   pub comes_first : Comes may from old from old
   comes_first = ([], begins)
 
-  pub comes_step : (phase : Phase) (mid : Pass) (state : State) (new : Pass) → Comes may from old (Goes phase) mid → StepsOn may phase mid state new → Comes may from old state new
+  pub comes_step : (phase : Phase) (mid : Pass) (state : State) (new : Pass) → Comes may from old (Goes phase) mid →
+      StepsOn may phase mid state new → Comes may from old state new
   comes_step phase mid state new ran (inl s) = (ran.0 ++ s.deed ∷ [], steps state new ran.1 s)
   comes_step phase mid state new ran (inr s) = (ran.0 ++ s.deeds, turns_back state new ran.1 s)
 
-  pub comes_wait : (wait : Wait) (mid : Pass) (state : State) (new : Pass) → Comes may from old (Waits wait) mid → EndsWait wait mid state new → Comes may from old state new
+  pub comes_wait : (wait : Wait) (mid : Pass) (state : State) (new : Pass) → Comes may from old (Waits wait) mid →
+      EndsWait wait mid state new → Comes may from old state new
   comes_wait wait mid state new ran (inl e) = elim e.3 [
     | inl on ↦ subst (λ s. Comes may from old s new) (sym on.1) (ran.0, resumes e.0 new ran.1 on.0 e.1 e.2)
     | inr still ↦ subst (λ s. Comes may from old s new) (sym still) (ran.0, reads (awaited wait) e.0 new ran.1 e.1 e.2)
   ]
-  comes_wait wait mid state new ran (inr e) = subst (λ s. Comes may from old s new) (sym e.4) (ran.0, gives_up e.0 new ran.1 e.1 e.2 e.3)
+  comes_wait wait mid state new ran (inr e) =
+      subst (λ s. Comes may from old s new) (sym e.4) (ran.0, gives_up e.0 new ran.1 e.1 e.2 e.3)
 
 -- ---- one step
 

@@ -1,6 +1,7 @@
 -- What a closed service returns. A gate is held if a turn at it did not end: then its object is not
 -- returned. This project's profile.
-use Rattle.std.specs.Prelude.{◌≡◌, ℕ, ◌+◌, ◌^◌, ◌&&◌, nat_lt, nat_le, List, [], ◌∷◌, length, Option, Some, None, if◌then◌else◌}
+use Rattle.std.specs.Prelude.{◌≡◌, ℕ, ◌+◌, ◌^◌, ◌&&◌, nat_lt, nat_le, List, [], ◌∷◌, length, Option, Some, None}
+use Rattle.std.specs.Prelude.{if◌then◌else◌}
 use Rattle.sysv_gate.specs.declared.closing.Closing.{Closing}
 use Rattle.sysv_shared.specs.declared.opening.GatesClosed.{GatesClosed}
 use Rattle.sysv_shared.specs.Seats.{Seats}
@@ -34,7 +35,9 @@ all_held (c ∷ cs) = is_held c.object + all_held cs
 -- its released count is below 2^63. Otherwise the pool is unchanged.
 abbrev pub takes_back : State → ℕ → State
 takes_back pool blocks =
-    if nat_le (pool.free + blocks) pool.size && nat_lt pool.released (2 ^ 63) then record pool { free = pool.free + blocks; released = pool.released + 1 } else pool
+    if nat_le (pool.free + blocks) pool.size
+    && nat_lt pool.released (2 ^ 63) then record pool { free = pool.free + blocks; released = pool.released + 1 } else
+    pool
 
 -- The pool, if it is there, after the chain was returned to it.
 abbrev pub with_chain : Option State → ℕ → Option State

@@ -28,4 +28,5 @@ StepsGiving may there text before kept out after =
 -- The turns of the call so far, with the turn that took what it will return among them, if it has
 -- taken it.
 abbrev pub ComesGiving : (ℕ → Type 0) → State → Pass → StateKept → List ℕ → Pass → Type 0
-ComesGiving may from old kept out new = (deeds : List Deed) × Ran may from old deeds (state_of kept out) new × HasWhatItGives kept deeds
+ComesGiving may from old kept out new =
+    (deeds : List Deed) × Ran may from old deeds (state_of kept out) new × HasWhatItGives kept deeds

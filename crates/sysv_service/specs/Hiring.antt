@@ -47,14 +47,17 @@ all_of each = flat_map (λ calls. calls) each
 -- headline of threads. This holds if the last pass is unmarked, since then no pass found a gate
 -- worn out.
 abbrev pub EveryHiringObeys : Type 0
-EveryHiringObeys = (generation blocks first : ℕ) (gates : Gates) (theirs left : List Pass) (home last : Pass) (each : List (List Called)) (calls : List Called) (closed : Closed) →
-    AreOpen generation blocks first gates → Hires (first_pass gates) theirs left home → Each3 Works theirs each left → Works home calls last →
+EveryHiringObeys = (generation blocks first : ℕ) (gates : Gates) (theirs left : List Pass) (home last : Pass)
+    (each : List (List Called)) (calls : List Called) (closed : Closed) →
+    AreOpen generation blocks first gates → Hires (first_pass gates) theirs left home → Each3 Works theirs each left →
+    Works home calls last →
     IsUnmarked last.seats → AreOf gates last.seats → (end : IsCounted last.seats last.held closed) →
     IsServed generation blocks end.all.order (all_of each ++ calls)
 
 -- A removal of a queue by the superuser, which is over.
 abbrev pub IsRemoval : Called → Type 0
-IsRemoval call = (call.cred ≡ superuser) × ((id : ℤ) × (call.asked ≡ MsgctlRmid id)) × ((ending : Ending) × (call.state ≡ Over ending))
+IsRemoval call = (call.cred ≡ superuser) × ((id : ℤ) × (call.asked ≡ MsgctlRmid id))
+    × ((ending : Ending) × (call.state ≡ Over ending))
 
 -- The number of queues that a call removed which is in this state: one or none.
 abbrev pub removed_at : State → ℕ
@@ -65,4 +68,5 @@ removed_at state = 0
 -- counted.
 abbrev pub EveryStopRemoves : Type 0
 EveryStopRemoves = (slots removed : ℕ) (worn : Bool) (old new : Pass) → Stops old slots removed worn new →
-    (calls : List Called) × Works old calls new × AllByRecursion IsRemoval calls × (sum_by (λ (call : Called). removed_at call.state) calls ≡ removed)
+    (calls : List Called) × Works old calls new × AllByRecursion IsRemoval calls
+    × (sum_by (λ (call : Called). removed_at call.state) calls ≡ removed)

@@ -30,7 +30,8 @@ any_moment now = ⊤
 -- The steps of a call hold too if nothing is stated of its clock. So the calls of a service may
 -- have several clocks.
 abbrev pub EachRunIsAtAnyMoment : (ℕ → Type 0) → Type 0
-EachRunIsAtAnyMoment may = (from : State) (old : Pass) (deeds : List Deed) (state : State) (new : Pass) (ran : Ran may from old deeds state new) →
+EachRunIsAtAnyMoment may = (from : State) (old : Pass) (deeds : List Deed) (state : State) (new : Pass)
+    (ran : Ran may from old deeds state new) →
     (at : Ran any_moment from old deeds state new) × (FindsTurns ran → FindsTurns at)
 
 -- ---- the life
@@ -38,32 +39,50 @@ EachRunIsAtAnyMoment may = (from : State) (old : Pass) (deeds : List Deed) (stat
 -- The call that this pass makes.
 abbrev pub call_of : Pass → Cred → SystemCall → ℕ → List Deed → State → Called
 call_of one cred asked released deeds state =
-    record { by = one.seats.member.number; cred = cred; asked = asked; released = released; deeds = deeds; state = state }
+    record {
+      by = one.seats.member.number;
+      cred = cred;
+      asked = asked;
+      released = released;
+      deeds = deeds;
+      state = state;
+    }
 
 -- These passes exist now, and these calls were made. The first pass in the list does what is done
 -- next.
 pub data Lives (generation blocks first : ℕ) (gates : Gates) : List Pass → List Called → Type 0 where
   -- The service was opened.
-  opens : AreOpen generation blocks first gates → Lives generation blocks first gates (record { seats = all_opened gates; held = 0 } ∷ []) []
+  opens : AreOpen generation blocks first gates →
+      Lives generation blocks first gates (record { seats = all_opened gates; held = 0 } ∷ []) []
   -- The pass made a call, which is over or was left at a wait, and which found no gate worn out.
-  calls : {one : Pass} {rest : List Pass} {made : List Called} (cred : Cred) (asked : SystemCall) (released : ℕ) (deeds : List Deed) (state : State) (after : Pass) →
-      Lives generation blocks first gates (one ∷ rest) made → (ran : Ran any_moment (begin cred asked released) one deeds state after) → FindsTurns ran →
+  calls : {one : Pass} {rest : List Pass} {made : List Called} (cred : Cred) (asked : SystemCall) (released : ℕ)
+      (deeds : List Deed) (state : State) (after : Pass) →
+      Lives generation blocks first gates (one ∷ rest) made →
+      (ran : Ran any_moment (begin cred asked released) one deeds state after) → FindsTurns ran →
       Lives generation blocks first gates (after ∷ rest) (made ++ call_of one cred asked released deeds state ∷ [])
   -- The pass read a count, as each send does before it starts.
   reads_count : {one : Pass} {rest : List Pass} {made : List Called} (count : Count) (value : ℕ) (after : Pass) →
-      Lives generation blocks first gates (one ∷ rest) made → Reads count value one.seats after.seats → after.held ≡ one.held → Lives generation blocks first gates (after ∷ rest) made
+      Lives generation blocks first gates (one ∷ rest) made → Reads count value one.seats after.seats →
+      after.held ≡ one.held → Lives generation blocks first gates (after ∷ rest) made
   -- The pass read the row of a slot, which is no call.
-  asks_row : {one : Pass} {rest : List Pass} {made : List Called} (slot : ℕ) (result : Result (Option Row) Errno) (after : Pass) →
-      Lives generation blocks first gates (one ∷ rest) made → TellsRow slot one result after → Lives generation blocks first gates (after ∷ rest) made
+  asks_row : {one : Pass} {rest : List Pass} {made : List Called} (slot : ℕ) (result : Result (Option Row) Errno)
+      (after : Pass) →
+      Lives generation blocks first gates (one ∷ rest) made → TellsRow slot one result after →
+      Lives generation blocks first gates (after ∷ rest) made
   -- Another pass was split off.
-  splits : {one : Pass} {rest : List Pass} {made : List Called} (kept new : Pass) → Lives generation blocks first gates (one ∷ rest) made →
-      AreSplit one.seats kept.seats new.seats → kept.held ≡ one.held → new.held ≡ 0 → Lives generation blocks first gates (kept ∷ new ∷ rest) made
+  splits : {one : Pass} {rest : List Pass} {made : List Called} (kept new : Pass) →
+      Lives generation blocks first gates (one ∷ rest) made →
+      AreSplit one.seats kept.seats new.seats → kept.held ≡ one.held → new.held ≡ 0 →
+      Lives generation blocks first gates (kept ∷ new ∷ rest) made
   -- The next pass was joined into the first.
-  joins : {one two : Pass} {rest : List Pass} {made : List Called} (after : Pass) → Lives generation blocks first gates (one ∷ two ∷ rest) made →
-      AreJoined one.seats two.seats after.seats → after.held ≡ one.held + two.held → Lives generation blocks first gates (after ∷ rest) made
+  joins : {one two : Pass} {rest : List Pass} {made : List Called} (after : Pass) →
+      Lives generation blocks first gates (one ∷ two ∷ rest) made →
+      AreJoined one.seats two.seats after.seats → after.held ≡ one.held + two.held →
+      Lives generation blocks first gates (after ∷ rest) made
   -- Another pass becomes the first in the list.
   turns_to : {one : Pass} {made : List Called} (before rest : List Pass) →
-      Lives generation blocks first gates (before ++ one ∷ rest) made → Lives generation blocks first gates (one ∷ before ++ rest) made
+      Lives generation blocks first gates (before ++ one ∷ rest) made →
+      Lives generation blocks first gates (one ∷ before ++ rest) made
 
 -- ---- the law
 
@@ -71,6 +90,8 @@ pub data Lives (generation blocks first : ℕ) (gates : Gates) : List Pass → L
 -- the order that was found there, and the order is a run of a world with them, which obeys the
 -- headline of threads.
 abbrev pub EveryServiceObeys : Type 0
-EveryServiceObeys = (generation blocks first : ℕ) (gates : Gates) (last : Pass) (calls : List Called) (closed : Closed) →
-    Lives generation blocks first gates (last ∷ []) calls → AreOf gates last.seats → (end : IsCounted last.seats last.held closed) →
+EveryServiceObeys =
+    (generation blocks first : ℕ) (gates : Gates) (last : Pass) (calls : List Called) (closed : Closed) →
+    Lives generation blocks first gates (last ∷ []) calls → AreOf gates last.seats →
+    (end : IsCounted last.seats last.held closed) →
     IsServed generation blocks end.all.order calls

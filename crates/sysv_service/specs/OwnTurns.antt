@@ -12,7 +12,8 @@ use Rattle.sysv_service.specs.PlayedWorn.{PlaysWorn}
 use Rattle.sysv_service.specs.Ran.{Pass, Ran, FindsTurns}
 
 -- What is known of the turns of one call.
-pub record PlaysItsOwn {may : ℕ → Type 0} {from : State} {old : Pass} {deeds : List Deed} {state : State} {new : Pass} (ran : Ran may from old deeds state new) : Type 0 where
+pub record PlaysItsOwn {may : ℕ → Type 0} {from : State} {old : Pass} {deeds : List Deed} {state : State} {new : Pass}
+    (ran : Ran may from old deeds state new) : Type 0 where
   -- The pass has made exactly the turns of the call, and has seen turns of others between them.
   pub own : Does old.seats.member deeds new.seats.member
   -- The call is played along its turns, with the steps and waits whose gate it found worn out. It
@@ -25,4 +26,5 @@ pub record PlaysItsOwn {may : ℕ → Type 0} {from : State} {old : Pass} {deeds
 
 -- This holds of each call.
 abbrev pub EachPlaysItsOwn : (ℕ → Type 0) → Type 0
-EachPlaysItsOwn may = (from : State) (old : Pass) (deeds : List Deed) (state : State) (new : Pass) (ran : Ran may from old deeds state new) → PlaysItsOwn ran
+EachPlaysItsOwn may = (from : State) (old : Pass) (deeds : List Deed) (state : State) (new : Pass)
+    (ran : Ran may from old deeds state new) → PlaysItsOwn ran

@@ -56,7 +56,8 @@ IsWornAt place deeds seats = AreElsewhere place deeds × IsMarkedAt place seats
 -- worn out too.
 abbrev pub TurnsBackOn : Seats → Phase → List Deed → State → List Deed → Type 0
 TurnsBackOn seats (AtInstall get id) deeds after rest = (after ≡ Over (Refused EOVERFLOW))
-    × (((done : Bool) × (deeds ≡ AtRegistry (Forget id) (Changed done) ∷ rest)) ⊎ ((rest ≡ deeds) × IsWornAt AtTheRegistry deeds seats))
+    × (((done : Bool) × (deeds ≡ AtRegistry (Forget id) (Changed done) ∷ rest))
+    ⊎ ((rest ≡ deeds) × IsWornAt AtTheRegistry deeds seats))
 TurnsBackOn seats phase deeds after rest = (after ≡ when_worn phase) × (rest ≡ deeds)
 
 -- ---- the play
@@ -74,7 +75,8 @@ pub data PlaysWorn (seats : Seats) (to : State) : State → List Deed → Type 0
   waits_enough : {wait : Wait} (value : ℕ) (deeds : List Deed) → goal_of wait ≤ value →
       PlaysWorn seats to (Goes (resume wait value)) deeds → PlaysWorn seats to (Waits wait) deeds
   -- The call finds the gate of the object of its next step worn out.
-  finds_worn : {phase : Phase} (now : ℕ) (after : State) (deeds rest : List Deed) → IsWornAt (place_of (asks phase now)) deeds seats →
+  finds_worn : {phase : Phase} (now : ℕ) (after : State) (deeds rest : List Deed) →
+      IsWornAt (place_of (asks phase now)) deeds seats →
       TurnsBackOn seats phase deeds after rest → PlaysWorn seats to after rest → PlaysWorn seats to (Goes phase) deeds
   -- The call gives its wait up at a worn gate.
   gives_up : {wait : Wait} (deeds : List Deed) → IsWornAt (place_of_count (awaited wait)) deeds seats →

@@ -23,20 +23,25 @@ pub record IsWholeAgain (blocks : ℕ) (closed : Closed) : Type 0 where
 -- No gate is held after the close of a service whose first pass gave a pass to each worker and took
 -- all of them back, also if gates were found worn out.
 abbrev pub NoHiringLeavesAGateHeld : Type 0
-NoHiringLeavesAGateHeld = (gates : Gates) (theirs left : List Pass) (home last : Pass) (each : List (List Called)) (calls : List Called) (closed : Closed) →
-    Hires (first_pass gates) theirs left home → Each3 Works theirs each left → Works home calls last → IsCounted last.seats last.held closed → closed.held ≡ 0
+NoHiringLeavesAGateHeld = (gates : Gates) (theirs left : List Pass) (home last : Pass) (each : List (List Called))
+    (calls : List Called) (closed : Closed) →
+    Hires (first_pass gates) theirs left home → Each3 Works theirs each left → Works home calls last →
+    IsCounted last.seats last.held closed → closed.held ≡ 0
 
 -- All blocks are free too after the close of every service with the one pass that was left, if no
 -- call found a gate worn out.
 abbrev pub EveryPoolIsWhole : Type 0
 EveryPoolIsWhole = (generation blocks first : ℕ) (gates : Gates) (last : Pass) (calls : List Called) (closed : Closed) →
-    Lives generation blocks first gates (last ∷ []) calls → AreOf gates last.seats → IsCounted last.seats last.held closed →
+    Lives generation blocks first gates (last ∷ []) calls → AreOf gates last.seats →
+    IsCounted last.seats last.held closed →
     All (λ (c : Called). Rests c.state) calls → IsWholeAgain blocks closed
 
 -- The same of a service whose first pass gave a pass to each worker and took all of them back, if
 -- the last pass is unmarked.
 abbrev pub EveryHiringLeavesThePoolWhole : Type 0
-EveryHiringLeavesThePoolWhole = (generation blocks first : ℕ) (gates : Gates) (theirs left : List Pass) (home last : Pass) (each : List (List Called)) (calls : List Called) (closed : Closed) →
-    AreOpen generation blocks first gates → Hires (first_pass gates) theirs left home → Each3 Works theirs each left → Works home calls last →
+EveryHiringLeavesThePoolWhole = (generation blocks first : ℕ) (gates : Gates) (theirs left : List Pass)
+    (home last : Pass) (each : List (List Called)) (calls : List Called) (closed : Closed) →
+    AreOpen generation blocks first gates → Hires (first_pass gates) theirs left home → Each3 Works theirs each left →
+    Works home calls last →
     IsUnmarked last.seats → AreOf gates last.seats → IsCounted last.seats last.held closed →
     All (λ (c : Called). Rests c.state) (all_of each ++ calls) → IsWholeAgain blocks closed

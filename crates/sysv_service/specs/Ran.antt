@@ -6,7 +6,8 @@ use Rattle.sysv_model.specs.declared.errno.Errno.TheVariants.{EOVERFLOW}
 use Rattle.sysv_model.specs.Turn.{Deed}
 use Rattle.sysv_steps.specs.State.{Phase, Refused, State, Wait, Goes, Waits, Over}
 use Rattle.sysv_steps.specs.Resume.{Count, awaited, goal_of, resume}
-use Rattle.sysv_driver.specs.Stepping.{Makes as MakesFor, Steps as StepsFor, Forgets as ForgetsFor, TurnsBack as TurnsBackFor, FindsNoTurn as FindsNoTurnFor}
+use Rattle.sysv_driver.specs.Stepping.{Makes as MakesFor, Steps as StepsFor, Forgets as ForgetsFor}
+use Rattle.sysv_driver.specs.Stepping.{TurnsBack as TurnsBackFor, FindsNoTurn as FindsNoTurnFor}
 use Rattle.sysv_shared.specs.Seats.{Seats, MakesTurnAt, FindsWorn}
 use Rattle.sysv_shared.specs.Reading.{Reads, GivesUp}
 
@@ -21,19 +22,23 @@ Makes before deed after = MakesFor MakesTurnAt FindsWorn before.seats before.hel
 
 -- One step of a call: a turn at its object.
 abbrev pub Steps : (ℕ → Type 0) → Phase → Pass → State → Pass → Type 0
-Steps may phase before state after = StepsFor MakesTurnAt FindsWorn may phase before.seats before.held state after.seats after.held
+Steps may phase before state after =
+    StepsFor MakesTurnAt FindsWorn may phase before.seats before.held state after.seats after.held
 
 -- The identifier is forgotten, if the registry's gate is not worn out too.
 abbrev pub Forgets : ℤ → Pass → List Deed → Pass → Type 0
-Forgets id before deeds after = ForgetsFor MakesTurnAt FindsWorn id before.seats before.held deeds after.seats after.held
+Forgets id before deeds after =
+    ForgetsFor MakesTurnAt FindsWorn id before.seats before.held deeds after.seats after.held
 
 -- What a call does after it found the gate of a step worn out.
 abbrev pub TurnsBack : Phase → Pass → List Deed → State → Pass → Type 0
-TurnsBack phase before deeds state after = TurnsBackFor MakesTurnAt FindsWorn phase before.seats before.held deeds state after.seats after.held
+TurnsBack phase before deeds state after =
+    TurnsBackFor MakesTurnAt FindsWorn phase before.seats before.held deeds state after.seats after.held
 
 -- A step of a call whose gate is worn out, with the turns that the call then made.
 abbrev pub FindsNoTurn : (ℕ → Type 0) → Phase → Pass → State → Pass → Type 0
-FindsNoTurn may phase before state after = FindsNoTurnFor MakesTurnAt FindsWorn may phase before.seats before.held state after.seats after.held
+FindsNoTurn may phase before state after =
+    FindsNoTurnFor MakesTurnAt FindsWorn may phase before.seats before.held state after.seats after.held
 
 -- ---- calls
 
@@ -56,16 +61,19 @@ pub data Ran (may : ℕ → Type 0) (from : State) (old : Pass) : List Deed → 
       Ran may from old deeds state new
   -- It read the count for which it waited, and found it at its goal.
   resumes : {deeds : List Deed} {wait : Wait} {mid : Pass} (value : ℕ) (new : Pass) →
-      Ran may from old deeds (Waits wait) mid → goal_of wait ≤ value → Reads (awaited wait) value mid.seats new.seats → new.held ≡ mid.held →
+      Ran may from old deeds (Waits wait) mid → goal_of wait ≤ value → Reads (awaited wait) value mid.seats new.seats →
+      new.held ≡ mid.held →
       Ran may from old deeds (Goes (resume wait value)) new
   -- It read the count for which it waited, found it below its goal, and found the gate of its
   -- object worn out.
   gives_up : {deeds : List Deed} {wait : Wait} {mid : Pass} (value : ℕ) (new : Pass) →
-      Ran may from old deeds (Waits wait) mid → value < goal_of wait → GivesUp (awaited wait) value mid.seats new.seats → new.held ≡ mid.held →
+      Ran may from old deeds (Waits wait) mid → value < goal_of wait →
+      GivesUp (awaited wait) value mid.seats new.seats → new.held ≡ mid.held →
       Ran may from old deeds (Over (Refused EOVERFLOW)) new
 
 -- The call found no gate worn out, whatever other calls of its pass found before.
-abbrev pub FindsTurns : {may : ℕ → Type 0} {from : State} {old : Pass} {deeds : List Deed} {state : State} {new : Pass} → Ran may from old deeds state new → Type 0
+abbrev pub FindsTurns : {may : ℕ → Type 0} {from : State} {old : Pass} {deeds : List Deed} {state : State}
+    {new : Pass} → Ran may from old deeds state new → Type 0
 FindsTurns begins = ⊤
 FindsTurns (steps state new ran step) = FindsTurns ran
 FindsTurns (turns_back state new ran step) = ⊥

@@ -32,19 +32,23 @@ count_found counted count seat = of_count count (counted (after_all seat.gate.op
 -- The last turn at the object that has the count found the count at the goal or above. Of a wait
 -- for blocks nothing is stated.
 abbrev pub IsFoundAt : Count → ℕ → Seats → Type 0
-IsFoundAt (ArrivedOf slot) goal seats = (seat : SlotSeat) → get_elem? seats.slots slot ≡ some seat → goal ≤ count_found slot_counts Arrived seat
-IsFoundAt (FreedOf slot) goal seats = (seat : SlotSeat) → get_elem? seats.slots slot ≡ some seat → goal ≤ count_found slot_counts Freed seat
+IsFoundAt (ArrivedOf slot) goal seats =
+    (seat : SlotSeat) → get_elem? seats.slots slot ≡ some seat → goal ≤ count_found slot_counts Arrived seat
+IsFoundAt (FreedOf slot) goal seats =
+    (seat : SlotSeat) → get_elem? seats.slots slot ≡ some seat → goal ≤ count_found slot_counts Freed seat
 IsFoundAt Settled goal seats = goal ≤ count_found registry_counts Arrived seats.registry
 IsFoundAt Released goal seats = Unit {0}
 
 -- A wait ended with a value of at least its goal, and the call made its next turn.
 abbrev pub EachRetryIsAtItsGoal : (ℕ → Type 0) → Type 0
 EachRetryIsAtItsGoal may = (wait : Wait) (value : ℕ) (waited read : Pass) (state : State) (after : Pass) →
-    goal_of wait ≤ value → Reads (awaited wait) value waited.seats read.seats → Steps may (resume wait value) read state after →
+    goal_of wait ≤ value → Reads (awaited wait) value waited.seats read.seats →
+    Steps may (resume wait value) read state after →
     IsFoundAt (awaited wait) (goal_of wait) after.seats
 
 -- The wait of the call that ended last, if the call has only read counts since.
-abbrev pub resumed : {may : ℕ → Type 0} {from : State} {old : Pass} {deeds : List Deed} {state : State} {new : Pass} → Ran may from old deeds state new → Option Wait
+abbrev pub resumed : {may : ℕ → Type 0} {from : State} {old : Pass} {deeds : List Deed} {state : State} {new : Pass} →
+    Ran may from old deeds state new → Option Wait
 resumed begins = None
 resumed (steps state new ran step) = None
 resumed (turns_back state new ran step) = None
@@ -54,6 +58,8 @@ resumed (gives_up value new ran below read same) = None
 
 -- A call whose wait ended, and which has only read counts since, made its next turn.
 abbrev pub EachRunRetriesAtItsGoal : (ℕ → Type 0) → Type 0
-EachRunRetriesAtItsGoal may = (from : State) (old : Pass) (deeds : List Deed) (phase : Phase) (mid : Pass) (state : State) (new : Pass)
-    (ran : Ran may from old deeds (Goes phase) mid) → Steps may phase mid state new → (wait : Wait) → resumed ran ≡ Some wait →
+EachRunRetriesAtItsGoal may =
+    (from : State) (old : Pass) (deeds : List Deed) (phase : Phase) (mid : Pass) (state : State) (new : Pass)
+    (ran : Ran may from old deeds (Goes phase) mid) → Steps may phase mid state new → (wait : Wait) →
+    resumed ran ≡ Some wait →
     IsFoundAt (awaited wait) (goal_of wait) new.seats

@@ -13,5 +13,7 @@ use Rattle.sysv_service.specs.Ran.{Pass, Ran, FindsTurns}
 
 -- Each call that is over and found no gate worn out has the right result for its turns.
 abbrev pub EachRunAnswersRight : (ℕ → Type 0) → Type 0
-EachRunAnswersRight may = (cred : Cred) (asked : SystemCall) (released : ℕ) (old : Pass) (deeds : List Deed) (ending : Ending) (new : Pass)
-    (ran : Ran may (begin cred asked released) old deeds (Over ending) new) → FindsTurns ran → IsRightAnswer asked deeds ending
+EachRunAnswersRight may =
+    (cred : Cred) (asked : SystemCall) (released : ℕ) (old : Pass) (deeds : List Deed) (ending : Ending) (new : Pass)
+    (ran : Ran may (begin cred asked released) old deeds (Over ending) new) → FindsTurns ran →
+    IsRightAnswer asked deeds ending

@@ -34,13 +34,15 @@ pub data StopsAt (slot : ℕ) (before : Pass) : ℕ → Bool → Pass → Type 0
   is_worn : (after : Pass) → TellsRow slot before (Err EOVERFLOW) after → StopsAt slot before 0 true after
   -- The slot has a queue, and its removal was tried.
   tries : (row : Row) (mid : Pass) (ending : Ending) (after : Pass) → TellsRow slot before (Ok (Some row)) mid →
-      Comes no_moment (begin superuser (MsgctlRmid row.id) 0) mid (Over ending) after → StopsAt slot before (removed_by ending) (is_overflow ending) after
+      Comes no_moment (begin superuser (MsgctlRmid row.id) 0) mid (Over ending) after →
+      StopsAt slot before (removed_by ending) (is_overflow ending) after
 
 -- The slots below a number, one after the other.
 pub data Stops (old : Pass) : ℕ → ℕ → Bool → Pass → Type 0 where
   begins : Stops old 0 0 false old
   goes_on : {slot removed : ℕ} {worn : Bool} {mid : Pass} (here : ℕ) (found : Bool) (new : Pass) →
-      Stops old slot removed worn mid → StopsAt slot mid here found new → Stops old (suc slot) (removed + here) (worn || found) new
+      Stops old slot removed worn mid → StopsAt slot mid here found new →
+      Stops old (suc slot) (removed + here) (worn || found) new
 
 -- What the code returns for one slot, as a number of queues removed.
 abbrev pub count_of : Result Bool Errno → ℕ

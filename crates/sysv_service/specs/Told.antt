@@ -34,7 +34,8 @@ TellsStat ending result = ⊥
 -- The result of a receive: the message's type, its body, which is in `out`, and the length of the
 -- body. After an error `out` is empty.
 abbrev pub TellsGot : Ending → Result Given Errno → List ℕ → Type 0
-TellsGot (Got mtype text) (Ok told) out = (told.mtype ≡ mtype) × (told.len ≡ length out) × (length out ≤ MESSAGE_BYTES) × (out ≡ text)
+TellsGot (Got mtype text) (Ok told) out =
+    (told.mtype ≡ mtype) × (told.len ≡ length out) × (length out ≤ MESSAGE_BYTES) × (out ≡ text)
 TellsGot (Refused why) (Err told) out = (told ≡ why) × (out ≡ [])
 TellsGot ending result out = ⊥
 
@@ -44,4 +45,6 @@ TellsGot ending result out = ⊥
 abbrev pub TellsRow : ℕ → Pass → Result (Option Row) Errno → Pass → Type 0
 TellsRow slot before (Ok row) after = (slot < SLOTS) × Makes before (AtSlot slot ReadRow (Shown row)) after
 TellsRow slot before (Err why) after =
-    ((SLOTS ≤ slot) × (why ≡ EINVAL) × (after ≡ before)) ⊎ ((slot < SLOTS) × (why ≡ EOVERFLOW) × FindsWorn before.seats (OfSlot slot ReadRow) after.seats × (after.held ≡ before.held))
+    ((SLOTS ≤ slot) × (why ≡ EINVAL) × (after ≡ before))
+    ⊎ ((slot < SLOTS) × (why ≡ EOVERFLOW) × FindsWorn before.seats (OfSlot slot ReadRow) after.seats
+    × (after.held ≡ before.held))

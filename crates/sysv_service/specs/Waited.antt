@@ -20,4 +20,5 @@ abbrev pub EndsWait : Wait → Pass → State → Pass → Type 0
 EndsWait wait before state after =
     ((value : ℕ) × Reads (awaited wait) value before.seats after.seats × (after.held ≡ before.held)
     × (((goal_of wait ≤ value) × (state ≡ Goes (resume wait value))) ⊎ (state ≡ Waits wait)))
-    ⊎ ((value : ℕ) × (value < goal_of wait) × GivesUp (awaited wait) value before.seats after.seats × (after.held ≡ before.held) × (state ≡ Over (Refused EOVERFLOW)))
+    ⊎ ((value : ℕ) × (value < goal_of wait) × GivesUp (awaited wait) value before.seats after.seats
+    × (after.held ≡ before.held) × (state ≡ Over (Refused EOVERFLOW)))

@@ -20,8 +20,10 @@ pub data Works (old : Pass) : List Called → Pass → Type 0 where
   -- It has done nothing.
   begins : Works old [] old
   -- It made one more call.
-  calls : {made : List Called} {mid : Pass} (cred : Cred) (asked : SystemCall) (released : ℕ) (deeds : List Deed) (state : State) (new : Pass) →
-      Works old made mid → Ran any_moment (begin cred asked released) mid deeds state new → Works old (made ++ call_of mid cred asked released deeds state ∷ []) new
+  calls : {made : List Called} {mid : Pass} (cred : Cred) (asked : SystemCall) (released : ℕ) (deeds : List Deed)
+      (state : State) (new : Pass) →
+      Works old made mid → Ran any_moment (begin cred asked released) mid deeds state new →
+      Works old (made ++ call_of mid cred asked released deeds state ∷ []) new
   -- It read a count, as each send does before it starts.
   reads_count : {made : List Called} {mid : Pass} (count : Count) (value : ℕ) (new : Pass) →
       Works old made mid → Reads count value mid.seats new.seats → new.held ≡ mid.held → Works old made new

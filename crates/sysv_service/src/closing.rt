@@ -8,8 +8,10 @@ ghost use Rattle.sysv_service.specs.Closing.{IsCounted, waiting_in, is_held, all
 use crate::pass::Pass;
 use crate::service::Service;
 use sysv_gate::Closing;
+use sysv_keys::Registry;
 use sysv_pool::{Chain, Pool};
-use sysv_shared::{GatedPool, GatedRegistry, GatedSlot, GatesClosed};
+use sysv_queue::QueueSlot;
+use sysv_shared::GatesClosed;
 
 /// A pool takes a chain back while its released count is below this value. No run of a service
 /// reaches it.
@@ -59,7 +61,7 @@ impl Service {
 
 /// Returns the number of messages that the slots held and the number of held gates, and returns the
 /// slots' chains to the pool, in the order of the slots, if the pool is there.
-fn end_slots(mut slots: Vec<Closing<GatedSlot>>, pool: &mut Option<Pool>) -> (u64, u32)
+fn end_slots(mut slots: Vec<Closing<QueueSlot>>, pool: &mut Option<Pool>) -> (u64, u32)
     requires { length slots.items ≤ slot_count }
     ensures waiting { result.0 ≡ all_waiting slots.items }
     ensures held { result.1 ≡ all_held slots.items }
@@ -81,7 +83,7 @@ fn end_slots(mut slots: Vec<Closing<GatedSlot>>, pool: &mut Option<Pool>) -> (u6
 
 /// Returns the number of messages that were queued in the slot, and returns its chain to the pool.
 /// Returns `None` if the slot's gate is held.
-fn end_slot(slot: Closing<GatedSlot>, pool: &mut Option<Pool>) -> Option<u32>
+fn end_slot(slot: Closing<QueueSlot>, pool: &mut Option<Pool>) -> Option<u32>
     ensures waiting { IfSome result (λ messages. messages ≡ waiting_in slot.object) }
     ensures held { is_held result ≡ is_held slot.object }
     ensures pool { pool.new ≡ with_slot pool.old slot.object }
@@ -92,26 +94,23 @@ fn end_slot(slot: Closing<GatedSlot>, pool: &mut Option<Pool>) -> Option<u32>
         turns: _,
     } = slot;
     if let Some(rest) = rest {
-        rest.into_slot().end().end();
+        rest.end().end();
     }
-    let slot = object?.into_slot();
-    let messages = match slot.row() {
-        Some(row) => row.qnum,
-        None => 0,
-    };
+    let slot = object?;
+    let messages = slot.qnum();
     put_back(pool, slot.end());
     Some(messages)
 }
 
 /// Returns 1 if the gate of the registry is held, else 0.
-fn end_registry(registry: Closing<GatedRegistry>) -> u32
+fn end_registry(registry: Closing<Registry>) -> u32
     ensures { result ≡ is_held registry.object }
 {
     u32::from(registry.object.is_none())
 }
 
 /// Returns the pool, and 1 if its gate is held, else 0.
-fn end_pool(pool: Closing<GatedPool>) -> (Option<Pool>, u32)
+fn end_pool(pool: Closing<Pool>) -> (Option<Pool>, u32)
     ensures pool { result.0 ≡ pool.object }
     ensures held { result.1 ≡ is_held pool.object }
 {
@@ -121,10 +120,10 @@ fn end_pool(pool: Closing<GatedPool>) -> (Option<Pool>, u32)
         turns: _,
     } = pool;
     if let Some(rest) = rest {
-        rest.into_pool().end();
+        rest.end();
     }
     match object {
-        Some(pool) => (Some(pool.into_pool()), 0),
+        Some(pool) => (Some(pool), 0),
         None => (None, 1),
     }
 }

@@ -1,5 +1,5 @@
 pub mod ListLemmas
-pub mod Talking
+pub mod SessionLemmas
 pub mod Whole
 pub mod LaterLemmas
 pub mod Courses

@@ -1,5 +1,6 @@
 -- One more call at the end.
-use Rattle.std.proofs.Common.{◌≡◌, ℕ, ◌+◌, ◌-◌, ◌≤◌, List, [], ◌∷◌, ◌++◌, length, take, cond, refl, sym, ap, subst, ◌∙◌, arith, append-nil, length-append}
+use Rattle.std.proofs.Common.{◌≡◌, ℕ, ◌+◌, ◌-◌, ◌≤◌, List, [], ◌∷◌, ◌++◌, length, take, cond, refl, sym, ap, subst, ◌∙◌}
+use Rattle.std.proofs.Common.{arith, append-nil, length-append}
 use Rattle.std.proofs.lemmas.List.{map-append, take_at}
 use Rattle.std.proofs.lemmas.List.Concat.{flat_map-append}
 use Rattle.std.proofs.lemmas.List.Folds.{concat-append}
@@ -12,27 +13,36 @@ use Rattle.sysv_session.specs.Input.{asked_spelling}
 use Rattle.sysv_session.specs.Output.{frames_of}
 use Rattle.sysv_wire.specs.Requests.{request_spelling}
 
-pub all_more : {A : Type 0} (P : A → Type 0) (xs : List A) (x : A) → AllByRecursion P xs → P x → AllByRecursion P (xs ++ x ∷ [])
+pub all_more : {A : Type 0} (P : A → Type 0) (xs : List A) (x : A) → AllByRecursion P xs → P x →
+    AllByRecursion P (xs ++ x ∷ [])
 all_more P [] x all one = (one, tt)
 all_more P (y ∷ ys) x all one = (all.0, all_more P ys x all.1 one)
 
-pub leads_more : {K : Type 0} (Means : Meaning K) (cred : Cred) (calls : List Call) (call : Call) (a b c : K) → Leads Means cred a calls b
+pub leads_more : {K : Type 0} (Means : Meaning K) (cred : Cred) (calls : List Call) (call : Call) (a b c : K)
+    → Leads Means cred a calls b
     → Means b cred call.request call.text call.outcome call.given c → Leads Means cred a (calls ++ call ∷ []) c
-leads_more {K} Means cred [] call a b c leads means = (c, subst (λ (k : K). Means k cred call.request call.text call.outcome call.given c) leads means, refl)
-leads_more Means cred (first ∷ calls) call a b c leads means = (leads.0, leads.1, leads_more Means cred calls call leads.0 b c leads.2 means)
+leads_more {K} Means cred [] call a b c leads means =
+    (c, subst (λ (k : K). Means k cred call.request call.text call.outcome call.given c) leads means, refl)
+leads_more Means cred (first ∷ calls) call a b c leads means =
+    (leads.0, leads.1, leads_more Means cred calls call leads.0 b c leads.2 means)
 
-pub asked_more : (calls : List Call) (call : Call) → asked_spelling (calls ++ call ∷ []) ≡ asked_spelling calls ++ request_spelling call.request call.text
+pub asked_more : (calls : List Call) (call : Call) →
+    asked_spelling (calls ++ call ∷ []) ≡ asked_spelling calls ++ request_spelling call.request call.text
 asked_more calls call =
     flat_map-append (λ (c : Call). request_spelling c.request c.text) calls (call ∷ [])
     ∙ ap (λ l. asked_spelling calls ++ l) (append-nil (request_spelling call.request call.text))
 
-pub frames_more : (calls : List Call) (call : Call) → frames_of (calls ++ call ∷ []) ≡ frames_of calls ++ outcome_spelling call.request.version call.outcome call.given ∷ []
-frames_more calls call = map-append (λ (c : Call). outcome_spelling c.request.version c.outcome c.given) calls (call ∷ [])
+pub frames_more : (calls : List Call) (call : Call) →
+    frames_of (calls ++ call ∷ [])
+    ≡ frames_of calls ++ outcome_spelling call.request.version call.outcome call.given ∷ []
+frames_more calls call =
+    map-append (λ (c : Call). outcome_spelling c.request.version c.outcome c.given) calls (call ∷ [])
 
 pub concat_more : (frames : List (List ℕ)) (frame : List ℕ) → concat (frames ++ frame ∷ []) ≡ concat frames ++ frame
 concat_more frames frame = concat-append frames (frame ∷ []) ∙ ap (λ l. concat frames ++ l) (append-nil frame)
 
-pub messages_more : (calls : List Call) (call : Call) → messages_of (calls ++ call ∷ []) ≡ messages_of calls + messages_in call.outcome
+pub messages_more : (calls : List Call) (call : Call) →
+    messages_of (calls ++ call ∷ []) ≡ messages_of calls + messages_in call.outcome
 messages_more calls call = sum_by_push (λ (c : Call). cond (is_message c.outcome) 1 0) calls call
 
 pub few_messages : (calls : List Call) → messages_of calls ≤ length calls
@@ -41,5 +51,7 @@ few_messages calls = count_by-le-length (λ (c : Call). is_message c.outcome) ca
 pub length_more : (calls : List Call) (call : Call) → length (calls ++ call ∷ []) ≡ length calls + 1
 length_more calls call = length-append calls (call ∷ [])
 
-pub all_but_last : (calls : List Call) (call : Call) → take (length (calls ++ call ∷ []) - 1) (calls ++ call ∷ []) ≡ calls
-all_but_last calls call = take_at calls (call ∷ []) _ (let e : length calls ≡ length calls + 1 - 1 = omega arith in e ∙ ap (λ n. n - 1) (sym (length_more calls call)))
+pub all_but_last : (calls : List Call) (call : Call) →
+    take (length (calls ++ call ∷ []) - 1) (calls ++ call ∷ []) ≡ calls
+all_but_last calls call = take_at calls (call ∷ []) _
+    (let e : length calls ≡ length calls + 1 - 1 = omega arith in e ∙ ap (λ n. n - 1) (sym (length_more calls call)))

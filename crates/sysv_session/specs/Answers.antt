@@ -16,7 +16,8 @@ use Rattle.sysv_wire.specs.Requests.{FitsRequest, ask_text, op_of}
 
 -- The request is not a hello, and its body is that of a send or empty.
 abbrev pub IsAsked : Request → List ℕ → Type 0
-IsAsked request text = (op_of request.ask ≢ op.Hello) × FitsRequest request text × (text ≡ ask_text (op_of request.ask) text)
+IsAsked request text =
+    (op_of request.ask ≢ op.Hello) × FitsRequest request text × (text ≡ ask_text (op_of request.ask) text)
 
 -- The same, and the request is of the session's version.
 abbrev pub IsAskedIn : Version → Request → List ℕ → Type 0
@@ -28,7 +29,8 @@ IsAskedIn version request text = (request.version ≡ version) × IsAsked reques
 abbrev pub MayAnswer : Version → Ask → Outcome → List ℕ → Type 0
 MayAnswer version ask (Reply reply) given = (reply.version ≡ version) × (reply.op ≡ op_number (op_of ask))
     × IsAnswer reply.version reply.op reply.result × (gives_text reply.result ≡ false) × (length given ≤ MESSAGE_BYTES)
-MayAnswer version ask (Got delivery) given = (op_of ask ≡ op.Rcv) × (delivery.len ≡ length given) × (length given ≤ MESSAGE_BYTES)
+MayAnswer version ask (Got delivery) given =
+    (op_of ask ≡ op.Rcv) × (delivery.len ≡ length given) × (length given ≤ MESSAGE_BYTES)
 
 -- The reply that carries a message of this type.
 abbrev pub message_reply : Version → ℤ → Answer

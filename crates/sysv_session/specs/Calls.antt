@@ -16,7 +16,8 @@ pub record Call : Type 0 where
 
 -- In a session of this version, the kernel may receive the request, and may return the outcome.
 abbrev pub IsCall : Version → Call → Type 0
-IsCall version call = IsAskedIn version call.request call.text × MayAnswer call.request.version call.request.ask call.outcome call.given
+IsCall version call =
+    IsAskedIn version call.request call.text × MayAnswer call.request.version call.request.ask call.outcome call.given
 
 -- What a kernel's calls mean: a relation between the kernel before, the caller's credentials, the
 -- request with its body, the outcome with its body, and the kernel after.

@@ -1,6 +1,7 @@
 -- What an input requests of a session, considered alone (this project's profile). Either it does
 -- not begin with a hello, or a hello is followed by requests and then by what stops them.
-use Rattle.std.specs.Prelude.{◌≡◌, ◌+◌, ◌⊎◌, ⊤, ℕ, Bool, true, false, List, [], ◌∷◌, ◌++◌, length, Option, None, Some, Result, Ok, Err, if◌then◌else◌}
+use Rattle.std.specs.Prelude.{◌≡◌, ◌+◌, ◌⊎◌, ⊤, ℕ, Bool, true, false, List, [], ◌∷◌, ◌++◌, length, Option, None, Some}
+use Rattle.std.specs.Prelude.{Result, Ok, Err, if◌then◌else◌}
 use Rattle.sysv_model.specs.declared.cred.Cred.{Cred}
 use Rattle.sysv_session.specs.declared.served.End.{End}
 use Rattle.sysv_session.specs.declared.served.End.TheVariants as «end»
@@ -49,7 +50,8 @@ later version (Err fault) = Err fault
 
 -- This is read next in a session of this version, after its hello.
 abbrev pub LaterAt : Version → List ℕ → Result (Option Request) Fault → Type 0
-LaterAt version input answer = (first : Result (Option Request) Fault) × RequestAt input first × (answer ≡ later version first)
+LaterAt version input answer =
+    (first : Result (Option Request) Fault) × RequestAt input first × (answer ≡ later version first)
 
 -- What stops the requests, as what is read: the end of the input, or a fault.
 abbrev pub stop_answer : Option Fault → Result (Option Request) Fault
@@ -81,7 +83,8 @@ Takes input NoRequest = RequestAt input (Ok None)
 Takes input NoHello = (request : Request) × (is_hello request.ask ≡ false) × RequestAt input (Ok (Some request))
 Takes input (BadFirst fault) = RequestAt input (Err fault)
 Takes input (Greeted version cred asked stop) =
-    (rest : List ℕ) × FitsRequest (hello_of version cred) [] × (input ≡ hello_spelling version cred ++ rest) × Asks version rest asked stop
+    (rest : List ℕ) × FitsRequest (hello_of version cred) [] × (input ≡ hello_spelling version cred ++ rest)
+    × Asks version rest asked stop
 
 -- Without a failure of memory or of a stream, a session with this course ends for this reason, with
 -- this number of requests.
@@ -90,7 +93,8 @@ EndsAsTold NoRequest why requests = (why ≡ «end».Ended) × (requests ≡ 0)
 EndsAsTold NoHello why requests = (why ≡ «end».NoHello) × (requests ≡ 0)
 EndsAsTold (BadFirst fault) why requests = (why ≡ «end».Fault fault) × (requests ≡ 0)
 EndsAsTold (Greeted version cred asked None) why requests = (why ≡ «end».Ended) × (requests ≡ 1 + length asked)
-EndsAsTold (Greeted version cred asked (Some fault)) why requests = (why ≡ «end».Fault fault) × (requests ≡ 1 + length asked)
+EndsAsTold (Greeted version cred asked (Some fault)) why requests =
+    (why ≡ «end».Fault fault) × (requests ≡ 1 + length asked)
 
 -- The session ended because memory was refused, because the reader or the writer failed, or because
 -- it had the maximum number of requests.

@@ -34,7 +34,8 @@ IsHello version bytes = (cred : Cred) × FitsRequest (hello_of version cred) [] 
 -- These bytes are a request of another version, which may be a hello.
 abbrev pub IsOfAnother : Version → List ℕ → Type 0
 IsOfAnother version bytes =
-    (request : Request) × (text : List ℕ) × (request.version ≢ version) × FitsRequest request text × (bytes ≡ request_spelling request text)
+    (request : Request) × (text : List ℕ) × (request.version ≢ version) × FitsRequest request text
+    × (bytes ≡ request_spelling request text)
 
 -- Why a request after the hello is refused in a session of this version, by the bytes that were
 -- taken: as any request is refused, or because it is another hello, or because it is of another
@@ -49,7 +50,8 @@ LaterFault version Read taken = RequestFault Read taken
 -- The next request that the kernel receives is read, or there is none at the end of the input, or
 -- there is a fault.
 abbrev pub ReadsAsked : Version → Option (List ℕ) → Option (List ℕ) → Result (Option Request) Fault → List ℕ → Type 0
-ReadsAsked version old new (Ok (Some request)) text = Consumes old new (request_spelling request text) × IsAskedIn version request text
+ReadsAsked version old new (Ok (Some request)) text =
+    Consumes old new (request_spelling request text) × IsAskedIn version request text
 ReadsAsked version old new (Ok None) text = Consumes old new [] × IsAtEnd new
 ReadsAsked version old new (Err fault) text = Faults (LaterFault version) fault old new
 
@@ -57,7 +59,8 @@ ReadsAsked version old new (Err fault) text = Faults (LaterFault version) fault 
 abbrev pub EndsBefore : End → Option (List ℕ) → Option (List ℕ) → Type 0
 EndsBefore «end».Ended old new = Consumes old new [] × IsAtEnd new
 EndsBefore «end».NoMemory old new = new ≡ old
-EndsBefore «end».NoHello old new = (request : Request) × (text : List ℕ) × IsAsked request text × Consumes old new (request_spelling request text)
+EndsBefore «end».NoHello old new =
+    (request : Request) × (text : List ℕ) × IsAsked request text × Consumes old new (request_spelling request text)
 EndsBefore («end».Fault fault) old new = Faults RequestFault fault old new
 EndsBefore «end».Write old new = ⊥
 EndsBefore «end».Bound old new = ⊥
@@ -74,5 +77,6 @@ EndsAfter version «end».Bound old new = new ≡ old
 
 -- The version and the credentials of a hello are read, or there is a reason why there is no hello.
 abbrev pub Greets : Result (Version × Cred) End → Option (List ℕ) → Option (List ℕ) → Type 0
-Greets (Ok caller) old new = FitsRequest (hello_of caller.0 caller.1) [] × Consumes old new (hello_spelling caller.0 caller.1)
+Greets (Ok caller) old new =
+    FitsRequest (hello_of caller.0 caller.1) [] × Consumes old new (hello_spelling caller.0 caller.1)
 Greets (Err why) old new = EndsBefore why old new × (why ≢ «end».NoMemory)

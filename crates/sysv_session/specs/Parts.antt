@@ -25,18 +25,21 @@ IsSilent why left rest taken more many = EndsBefore why left rest × (more ≡ t
 
 -- A hello was read and replied to; or the writer failed at that reply; or no hello was read.
 abbrev pub Opens : ℕ → Result (Version × Cred) End → (left rest taken more : Option (List ℕ)) → ℕ → Type 0
-Opens slots (Ok caller) left rest taken more many = IsGreeted caller.0 caller.1 left rest many × Appends taken more (hello_frame caller.0 slots)
+Opens slots (Ok caller) left rest taken more many =
+    IsGreeted caller.0 caller.1 left rest many × Appends taken more (hello_frame caller.0 slots)
 Opens slots (Err Ended) left rest taken more many = IsSilent Ended left rest taken more many
 Opens slots (Err NoMemory) left rest taken more many = ⊥
 Opens slots (Err NoHello) left rest taken more many = IsSilent NoHello left rest taken more many
 Opens slots (Err (Fault fault)) left rest taken more many = IsSilent (Fault fault) left rest taken more many
 Opens slots (Err Write) left rest taken more many =
-    (version : Version) × (cred : Cred) × IsGreeted version cred left rest many × AppendsPrefix taken more (hello_frame version slots)
+    (version : Version) × (cred : Cred) × IsGreeted version cred left rest many
+    × AppendsPrefix taken more (hello_frame version slots)
 Opens slots (Err Bound) left rest taken more many = ⊥
 
 module _ {K : Type 0} where
   -- What follows a hello that was replied to.
-  pub record Goes (Means : Meaning K) (version : Version) (cred : Cred) (why : End) (old new : K) (left rest taken more : Option (List ℕ)) (tally : Tallied) (many : ℕ) : Type 0 where
+  pub record Goes (Means : Meaning K) (version : Version) (cred : Cred) (why : End) (old new : K)
+      (left rest taken more : Option (List ℕ)) (tally : Tallied) (many : ℕ) : Type 0 where
     pub calls : List Call
     pub are_calls : AllByRecursion (IsCall version) calls
     pub leads : Leads Means cred old calls new

@@ -27,7 +27,8 @@ IsBounded Bound requests = requests ≡ SESSION_REQUESTS
 
 module _ {K : Type 0} where
   -- A session without a hello makes no call and writes nothing.
-  pub record Stays (why : End) (tally : Tallied) (requests : ℕ) (old new : K) (left rest taken more : Option (List ℕ)) : Type 0 where
+  pub record Stays (why : End) (tally : Tallied) (requests : ℕ) (old new : K)
+      (left rest taken more : Option (List ℕ)) : Type 0 where
     pub kernel : new ≡ old
     pub ends : EndsBefore why left rest
     pub writes : more ≡ taken
@@ -37,7 +38,8 @@ module _ {K : Type 0} where
   -- A session with a hello. Its calls of the kernel are one for each request of the hello's version
   -- that was read after the hello, and it writes the frames of the replies to the hello and to
   -- these calls. The reply to the hello states this number of slots, if it is of version 2.
-  pub record Talks (Means : Meaning K) (slots : ℕ) (why : End) (tally : Tallied) (requests : ℕ) (old new : K) (left rest taken more : Option (List ℕ)) : Type 0 where
+  pub record Talks (Means : Meaning K) (slots : ℕ) (why : End) (tally : Tallied) (requests : ℕ) (old new : K)
+      (left rest taken more : Option (List ℕ)) : Type 0 where
     pub version : Version
     pub cred : Cred
     pub known : FitsRequest (hello_of version cred) []
@@ -53,9 +55,11 @@ module _ {K : Type 0} where
     pub bounded : IsBounded why requests
 
   -- A session is without a hello or with one.
-  abbrev pub ServesBy : Meaning K → ℕ → End → Tallied → ℕ → (old new : K) → (left rest taken more : Option (List ℕ)) → Type 0
+  abbrev pub ServesBy : Meaning K → ℕ → End → Tallied → ℕ → (old new : K) → (left rest taken more : Option (List ℕ)) →
+      Type 0
   ServesBy Means slots why tally requests old new left rest taken more =
-      Stays why tally requests old new left rest taken more ⊎ Talks Means slots why tally requests old new left rest taken more
+      Stays why tally requests old new left rest taken more
+      ⊎ Talks Means slots why tally requests old new left rest taken more
 
   -- What a session that reported this did to its kernel, to what its reader had left and to what
   -- its writer had taken.

@@ -24,9 +24,12 @@ one_lost outcome tally = record { written = tally.written; lost = tally.lost + m
 
 -- The outcome was written whole as its frame of this version, and a message in it counted as
 -- written. If the writer failed, a prefix was written, and a message in it counted as lost.
-abbrev pub Answers : Result ⊤ End → Version → Outcome → List ℕ → (old new : Option (List ℕ)) → (before after : Tallied) → Type 0
-Answers (Ok done) version outcome given old new before after = Appends old new (outcome_spelling version outcome given) × (after ≡ one_written outcome before)
-Answers (Err Write) version outcome given old new before after = AppendsPrefix old new (outcome_spelling version outcome given) × (after ≡ one_lost outcome before)
+abbrev pub Answers : Result ⊤ End → Version → Outcome → List ℕ → (old new : Option (List ℕ)) →
+    (before after : Tallied) → Type 0
+Answers (Ok done) version outcome given old new before after =
+    Appends old new (outcome_spelling version outcome given) × (after ≡ one_written outcome before)
+Answers (Err Write) version outcome given old new before after =
+    AppendsPrefix old new (outcome_spelling version outcome given) × (after ≡ one_lost outcome before)
 Answers (Err Ended) version outcome given old new before after = ⊥
 Answers (Err NoMemory) version outcome given old new before after = ⊥
 Answers (Err NoHello) version outcome given old new before after = ⊥
@@ -36,7 +39,9 @@ Answers (Err Bound) version outcome given old new before after = ⊥
 module _ {K : Type 0} where
   -- A request was read and passed to the kernel, and its outcome was written, or the writing broke
   -- off.
-  pub record Takes (Means : Meaning K) (version : Version) (cred : Cred) (result : Result ⊤ End) (old new : K) (left rest : Option (List ℕ)) (taken more : Option (List ℕ)) (before after : Tallied) (few many : ℕ) : Type 0 where
+  pub record Takes (Means : Meaning K) (version : Version) (cred : Cred) (result : Result ⊤ End) (old new : K)
+      (left rest : Option (List ℕ)) (taken more : Option (List ℕ)) (before after : Tallied)
+      (few many : ℕ) : Type 0 where
     pub call : Call
     pub is_call : IsCall version call
     pub means : Means old cred call.request call.text call.outcome call.given new
@@ -45,7 +50,8 @@ module _ {K : Type 0} where
     pub counts : many ≡ few + 1
 
   -- The kernel received nothing and nothing was written.
-  pub record Rests (version : Version) (why : End) (old new : K) (left rest : Option (List ℕ)) (taken more : Option (List ℕ)) (before after : Tallied) (few many : ℕ) : Type 0 where
+  pub record Rests (version : Version) (why : End) (old new : K) (left rest : Option (List ℕ))
+      (taken more : Option (List ℕ)) (before after : Tallied) (few many : ℕ) : Type 0 where
     pub kernel : new ≡ old
     pub ends : EndsAfter version why left rest
     pub writes : more ≡ taken
@@ -53,11 +59,16 @@ module _ {K : Type 0} where
     pub counts : many ≡ few
 
   -- One request was carried out, or the session ended before it.
-  abbrev pub Turns : Meaning K → Version → Cred → Result ⊤ End → (old new : K) → (left rest : Option (List ℕ)) → (taken more : Option (List ℕ)) → (before after : Tallied) → (few many : ℕ) → Type 0
-  Turns Means version cred (Ok done) old new left rest taken more before after few many = Takes Means version cred (Ok done) old new left rest taken more before after few many
-  Turns Means version cred (Err Write) old new left rest taken more before after few many = Takes Means version cred (Err Write) old new left rest taken more before after few many
-  Turns Means version cred (Err Ended) old new left rest taken more before after few many = Rests version Ended old new left rest taken more before after few many
-  Turns Means version cred (Err (Fault fault)) old new left rest taken more before after few many = Rests version (Fault fault) old new left rest taken more before after few many
+  abbrev pub Turns : Meaning K → Version → Cred → Result ⊤ End → (old new : K) → (left rest : Option (List ℕ)) →
+      (taken more : Option (List ℕ)) → (before after : Tallied) → (few many : ℕ) → Type 0
+  Turns Means version cred (Ok done) old new left rest taken more before after few many =
+      Takes Means version cred (Ok done) old new left rest taken more before after few many
+  Turns Means version cred (Err Write) old new left rest taken more before after few many =
+      Takes Means version cred (Err Write) old new left rest taken more before after few many
+  Turns Means version cred (Err Ended) old new left rest taken more before after few many =
+      Rests version Ended old new left rest taken more before after few many
+  Turns Means version cred (Err (Fault fault)) old new left rest taken more before after few many =
+      Rests version (Fault fault) old new left rest taken more before after few many
   Turns Means version cred (Err NoMemory) old new left rest taken more before after few many = ⊥
   Turns Means version cred (Err NoHello) old new left rest taken more before after few many = ⊥
   Turns Means version cred (Err Bound) old new left rest taken more before after few many = ⊥

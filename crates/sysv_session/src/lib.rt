@@ -11,5 +11,5 @@ mod turn;
 
 pub use kernel::{Kernel, Outcome};
 pub use laws::numeral_of_requests;
-pub use served::{End, SESSION_REQUESTS, Served};
+pub use served::{End, Served};
 pub use session::{Texts, serve, serve_watched, serve_with};

@@ -6,7 +6,7 @@ use sysv_queue::Tally;
 use sysv_wire::{Fault, WriteFault};
 
 /// The maximum number of requests in a session, including its hello.
-pub const SESSION_REQUESTS: u32 = 4_294_967_295;
+pub(crate) const SESSION_REQUESTS: u32 = 4_294_967_295;
 
 /// Why a session ended.
 #[derive(Clone, Copy, PartialEq, Eq, Debug)]

@@ -24,11 +24,13 @@ use Rattle.sysv_shared.specs.Seats.{Seats, MakesTurnAt}
 
 -- The last turn of a legal history is allowed by the meaning of the object after the turns before
 -- it.
-pub last_legal : {O C R : Type 0} (moves : O → C → R → O → Type 0) (opening : O) (ts : List (Turn O C R)) (t : Turn O C R) → IsLegal moves opening (ts ++ t ∷ []) → moves (after_all opening ts) t.call t.reply t.after
+pub last_legal : {O C R : Type 0} (moves : O → C → R → O → Type 0) (opening : O) (ts : List (Turn O C R))
+    (t : Turn O C R) → IsLegal moves opening (ts ++ t ∷ []) → moves (after_all opening ts) t.call t.reply t.after
 last_legal moves opening [] t legal = legal.0
 last_legal moves opening (x ∷ ts) t legal = last_legal moves x.after ts t legal.1
 
-module _ {O C R : Type 0} (meaning : O → C → R → O → Type 0) (counted : O → ℕ × ℕ) (before : Holding O C R) (call : C) (reply : R) (after : Holding O C R) (a : Answers (Moves meaning counted) counted before call reply after) where
+module _ {O C R : Type 0} (meaning : O → C → R → O → Type 0) (counted : O → ℕ × ℕ) (before : Holding O C R) (call : C)
+    (reply : R) (after : Holding O C R) (a : Answers (Moves meaning counted) counted before call reply after) where
   -- The object just before the turn.
   abbrev pub object_before : O
   object_before = after_all before.gate.opening (before.seen ++ a.others)
@@ -36,9 +38,11 @@ module _ {O C R : Type 0} (meaning : O → C → R → O → Type 0) (counted : 
   pub turn_meant : meaning object_before call reply a.object
   turn_meant =
       let is : after ≡ made call reply a.object (saw a.others before) = a.made in
-      let legal : IsLegal (Moves meaning counted) (made call reply a.object (saw a.others before)).gate.opening (made call reply a.object (saw a.others before)).seen =
+      let legal : IsLegal (Moves meaning counted) (made call reply a.object (saw a.others before)).gate.opening
+      (made call reply a.object (saw a.others before)).seen =
       subst (λ (h : Holding O C R). IsLegal (Moves meaning counted) h.gate.opening h.seen) is a.legal in
-      (last_legal (Moves meaning counted) before.gate.opening (before.seen ++ a.others) (record { by = before.number; call = call; reply = reply; after = a.object }) legal).0
+      (last_legal (Moves meaning counted) before.gate.opening (before.seen ++ a.others)
+      (record { by = before.number; call = call; reply = reply; after = a.object }) legal).0
 
 pub if_ok : {T E : Type 0} (r : Result T E) (P Q : T → Type 0) → IfOk r P → ((x : T) → P x → Q x) → IfOk r Q
 if_ok (Ok x) P Q is goes = goes x is
@@ -48,8 +52,11 @@ if_ok (Err e) P Q is goes = tt
 
 pub slot_answers : (before : Seats) (call : SlotCall) (reply : SlotReply) (after : Seats) (slot : Slot) →
     ChangesAt (slot_asked call) before.slots after.slots
-    (λ b a. (answered : Answers (Moves SlotMoves slot_counts) slot_counts b call reply a × (b.worn ≡ false)) × (object_before SlotMoves slot_counts b call reply a answered.0 ≡ slot)) →
-    after.registry ≡ before.registry → after.pool ≡ before.pool → MakesTurn before.member (AtSlot (slot_asked call) (slot_call call) (slot_reply slot reply)) after.member →
+    (λ b a.
+    (answered : Answers (Moves SlotMoves slot_counts) slot_counts b call reply a × (b.worn ≡ false))
+    × (object_before SlotMoves slot_counts b call reply a answered.0 ≡ slot)) →
+    after.registry ≡ before.registry → after.pool ≡ before.pool →
+    MakesTurn before.member (AtSlot (slot_asked call) (slot_call call) (slot_reply slot reply)) after.member →
     Takes MakesTurnAt before (asked.Slot call) (told.Slot reply) after
 slot_answers before call reply after slot c registry pool made =
     let b = c.was in
@@ -66,22 +73,28 @@ slot_answers before call reply after slot c registry pool made =
         },
         registry,
         pool,
-        subst (λ s. MakesTurn before.member (AtSlot (slot_asked call) (slot_call call) (slot_reply s reply)) after.member) (sym c.change.1) made,
+        subst (λ s.
+            MakesTurn before.member (AtSlot (slot_asked call) (slot_call call) (slot_reply s reply)) after.member)
+            (sym c.change.1) made,
       ),
       meant.fits,
     )
 
 pub registry_answers : (before : Seats) (call : RegistryCall) (reply : RegistryReply) (after : Seats) →
-    Answers (Moves RegistryMoves registry_counts) registry_counts before.registry call reply after.registry → before.registry.worn ≡ false → after.slots ≡ before.slots → after.pool ≡ before.pool →
-    MakesTurn before.member (AtRegistry (registry_call call) (registry_reply reply)) after.member → Takes MakesTurnAt before (asked.Registry call) (told.Registry reply) after
+    Answers (Moves RegistryMoves registry_counts) registry_counts before.registry call reply after.registry →
+    before.registry.worn ≡ false → after.slots ≡ before.slots → after.pool ≡ before.pool →
+    MakesTurn before.member (AtRegistry (registry_call call) (registry_reply reply)) after.member →
+    Takes MakesTurnAt before (asked.Registry call) (told.Registry reply) after
 registry_answers before call reply after a fresh slots pool made = (
   (record { call = call; reply = reply; answers = a; fresh = fresh; entered = refl }, slots, pool, made),
   (turn_meant RegistryMoves registry_counts before.registry call reply after.registry a).fits,
 )
 
 pub pool_answers : (before : Seats) (call : PoolCall) (reply : PoolReply) (after : Seats) →
-    Answers (Moves PoolMoves pool_counts) pool_counts before.pool call reply after.pool → before.pool.worn ≡ false → after.slots ≡ before.slots → after.registry ≡ before.registry →
-    MakesTurn before.member (AtPool (pool_call call) (pool_reply reply)) after.member → Takes MakesTurnAt before (asked.Pool call) (told.Pool reply) after
+    Answers (Moves PoolMoves pool_counts) pool_counts before.pool call reply after.pool → before.pool.worn ≡ false →
+    after.slots ≡ before.slots → after.registry ≡ before.registry →
+    MakesTurn before.member (AtPool (pool_call call) (pool_reply reply)) after.member →
+    Takes MakesTurnAt before (asked.Pool call) (told.Pool reply) after
 pool_answers before call reply after a fresh slots registry made = (
   (record { call = call; reply = reply; answers = a; fresh = fresh; entered = refl }, slots, registry, made),
   (turn_meant PoolMoves pool_counts before.pool call reply after.pool a).fits,

@@ -3,7 +3,8 @@ use Rattle.std.proofs.Common.{◌≡◌, suc, List, [], ◌∷◌, length, refl,
 use Rattle.sysv_bank.specs.Banks.{Each2}
 
 -- Two lists with a fact of each pair of elements have the same length.
-pub as_long : {A B : Type 0} (fact : A → B → Type 0) (xs : List A) (ys : List B) → Each2 fact xs ys → length xs ≡ length ys
+pub as_long : {A B : Type 0} (fact : A → B → Type 0) (xs : List A) (ys : List B) → Each2 fact xs ys →
+    length xs ≡ length ys
 as_long fact [] [] e = refl
 as_long fact [] (y ∷ ys) e = absurd e
 as_long fact (x ∷ xs) [] e = absurd e

@@ -29,27 +29,37 @@ use Rattle.sysv_shared.specs.SeenHistories.{SeenHistories, OwnTurnsAreLast}
 
 -- ---- the objects stand for what was seen
 
-pub slot_on : (h : History) (slot : Slot) (ts : List (Turn Slot SlotCall SlotReply)) → SlotStandsFor h slot → IsLegal (Moves SlotMoves slot_counts) slot ts → SlotStandsFor (h ++ entries slot_entry slot ts) (after_all slot ts)
+pub slot_on : (h : History) (slot : Slot) (ts : List (Turn Slot SlotCall SlotReply)) → SlotStandsFor h slot →
+    IsLegal (Moves SlotMoves slot_counts) slot ts → SlotStandsFor (h ++ entries slot_entry slot ts) (after_all slot ts)
 slot_on h slot [] st legal = subst (λ x. SlotStandsFor x slot) (sym (append-nil h)) st
 slot_on h slot (t ∷ ts) st legal =
-    subst (λ x. SlotStandsFor x (after_all t.after ts)) (append_assoc h (slot_entry slot t ∷ []) (entries slot_entry t.after ts))
+    subst (λ x. SlotStandsFor x (after_all t.after ts))
+    (append_assoc h (slot_entry slot t ∷ []) (entries slot_entry t.after ts))
     (slot_on (h ++ slot_entry slot t ∷ []) t.after ts (legal.0.0.turn.stands h (Seat t.by) st) legal.1)
 
-pub registry_on : (generation : ℕ) (h : RegistryHistory) (registry : Registry) (ts : List (Turn Registry RegistryCall RegistryReply)) → RegistryStandsFor generation h registry →
-    IsLegal (Moves RegistryMoves registry_counts) registry ts → RegistryStandsFor generation (h ++ entries registry_entry registry ts) (after_all registry ts)
-registry_on generation h registry [] st legal = subst (λ x. RegistryStandsFor generation x registry) (sym (append-nil h)) st
+pub registry_on : (generation : ℕ) (h : RegistryHistory) (registry : Registry)
+    (ts : List (Turn Registry RegistryCall RegistryReply)) → RegistryStandsFor generation h registry →
+    IsLegal (Moves RegistryMoves registry_counts) registry ts →
+    RegistryStandsFor generation (h ++ entries registry_entry registry ts) (after_all registry ts)
+registry_on generation h registry [] st legal =
+    subst (λ x. RegistryStandsFor generation x registry) (sym (append-nil h)) st
 registry_on generation h registry (t ∷ ts) st legal =
-    subst (λ x. RegistryStandsFor generation x (after_all t.after ts)) (append_assoc h (registry_entry registry t ∷ []) (entries registry_entry t.after ts))
-    (registry_on generation (h ++ registry_entry registry t ∷ []) t.after ts (legal.0.0.turn.stands generation h (Seat t.by) st) legal.1)
+    subst (λ x. RegistryStandsFor generation x (after_all t.after ts))
+    (append_assoc h (registry_entry registry t ∷ []) (entries registry_entry t.after ts))
+    (registry_on generation (h ++ registry_entry registry t ∷ []) t.after ts
+    (legal.0.0.turn.stands generation h (Seat t.by) st) legal.1)
 
-pub pool_on : (h : PoolHistory) (pool : State) (ts : List (Turn State PoolCall PoolReply)) → PoolStandsFor h pool → IsLegal (Moves PoolMoves pool_counts) pool ts → PoolStandsFor (h ++ entries pool_entry pool ts) (after_all pool ts)
+pub pool_on : (h : PoolHistory) (pool : State) (ts : List (Turn State PoolCall PoolReply)) → PoolStandsFor h pool →
+    IsLegal (Moves PoolMoves pool_counts) pool ts → PoolStandsFor (h ++ entries pool_entry pool ts) (after_all pool ts)
 pool_on h pool [] st legal = subst (λ x. PoolStandsFor x pool) (sym (append-nil h)) st
 pool_on h pool (t ∷ ts) st legal =
-    subst (λ x. PoolStandsFor x (after_all t.after ts)) (append_assoc h (pool_entry pool t ∷ []) (entries pool_entry t.after ts))
+    subst (λ x. PoolStandsFor x (after_all t.after ts))
+    (append_assoc h (pool_entry pool t ∷ []) (entries pool_entry t.after ts))
     (pool_on (h ++ pool_entry pool t ∷ []) t.after ts (legal.0.0.turn.stands h (Seat t.by) st) legal.1)
 
 -- The pool keeps its size.
-pub pool_sized : (pool : State) (ts : List (Turn State PoolCall PoolReply)) → IsLegal (Moves PoolMoves pool_counts) pool ts → (after_all pool ts).size ≡ pool.size
+pub pool_sized : (pool : State) (ts : List (Turn State PoolCall PoolReply)) →
+    IsLegal (Moves PoolMoves pool_counts) pool ts → (after_all pool ts).size ≡ pool.size
 pool_sized pool [] legal = refl
 pool_sized pool (t ∷ ts) legal = pool_sized t.after ts legal.1 ∙ legal.0.0.size
 
@@ -63,14 +73,16 @@ seen_histories = record {
 -- ---- a turn of the seat's own is the last
 
 module _ {O C R E : Type 0} (entry : O → Turn O C R → E) where
-  two_parts : (o : O) (xs ys : List (Turn O C R)) → entries entry o (xs ++ ys) ≡ entries entry o xs ++ entries entry (after_all o xs) ys
+  two_parts : (o : O) (xs ys : List (Turn O C R)) →
+      entries entry o (xs ++ ys) ≡ entries entry o xs ++ entries entry (after_all o xs) ys
   two_parts o [] ys = refl
   two_parts o (x ∷ xs) ys = ap (λ es. entry o x ∷ es) (two_parts x.after xs ys)
 
   abbrev seen_by : Holding O C R → List E
   seen_by h = entries entry h.gate.opening h.seen
 
-  own_is_last : (moves : O → C → R → O → Type 0) (counted : O → ℕ × ℕ) (e : E) (before after : Holding O C R) → TakesTurn moves counted entry e before after →
+  own_is_last : (moves : O → C → R → O → Type 0) (counted : O → ℕ × ℕ) (e : E) (before after : Holding O C R) →
+      TakesTurn moves counted entry e before after →
       (others : List E) × (seen_by after ≡ (seen_by before ++ others) ++ e ∷ [])
   own_is_last moves counted e before after took =
       let a = took.answers in
@@ -78,8 +90,13 @@ module _ {O C R E : Type 0} (entry : O → Turn O C R → E) where
       let t : Turn O C R = record { by = before.number; call = took.call; reply = took.reply; after = a.object } in
       let others = entries entry (after_all o before.seen) a.others in
       let whole = two_parts o (before.seen ++ a.others) (t ∷ []) in
-      let front = two_parts o before.seen a.others in
-      (others, ap seen_by a.made ∙ (whole ∙ (ap (λ es. es ++ entry (after_all o (before.seen ++ a.others)) t ∷ []) front ∙ ap (λ x. (seen_by before ++ others) ++ x ∷ []) took.entered)))
+      let front = two_parts o before.seen a.others in (
+        others,
+        ap seen_by a.made
+            ∙ (whole
+            ∙ (ap (λ es. es ++ entry (after_all o (before.seen ++ a.others)) t ∷ []) front
+            ∙ ap (λ x. (seen_by before ++ others) ++ x ∷ []) took.entered)),
+      )
 
 pub own_turns_are_last : OwnTurnsAreLast
 own_turns_are_last = record {

@@ -2,7 +2,8 @@
 -- stands for some history.
 use Rattle.std.proofs.Common.{◌≡◌, ◌+◌, ◌≤◌, Bool, true, false, cond, [], ◌∷◌, ◌++◌, ap, arith}
 use Rattle.std.proofs.lemmas.List.Sums.{sum_by-append}
-use Rattle.sysv_model.specs.History.{Actor, Call, Reply, Entry, announces_arrival, announces_room, arrived, freed, then_turn}
+use Rattle.sysv_model.specs.History.{Actor, Call, Reply, Entry, announces_arrival, announces_room, arrived, freed}
+use Rattle.sysv_model.specs.History.{then_turn}
 use Rattle.sysv_model.specs.Registry.{RegistryCall, RegistryReply, RegistryEntry, changes_row, settled}
 use Rattle.sysv_model.specs.Pool.{PoolCall, PoolReply, PoolEntry, frees, released}
 use Rattle.sysv_queue.specs.Slot.{Slot}
@@ -21,7 +22,8 @@ at_most_one false = omega arith
 
 -- ---- a slot
 
-module _ (before after : Slot) (call : Call) (reply : Reply) (stands : SlotStands before) (turn : SlotMakesTurn before call reply after) where
+module _ (before after : Slot) (call : Call) (reply : Reply) (stands : SlotStands before)
+    (turn : SlotMakesTurn before call reply after) where
   abbrev pub slot_stands : SlotStands after
   slot_stands = (then_turn stands.0 (Actor 0 0) call reply, turn.stands stands.0 (Actor 0 0) stands.1)
 
@@ -31,8 +33,10 @@ module _ (before after : Slot) (call : Call) (reply : Reply) (stands : SlotStand
   arrives : (before.arrived ≤ after.arrived) × (after.arrived ≤ before.arrived + 1)
   arrives =
       let was : arrived stands.0 ≡ before.arrived = ap (λ (s : Slot). s.arrived) stands.1.seen in
-      let is : arrived (stands.0 ++ slot_entry ∷ []) ≡ after.arrived = ap (λ (s : Slot). s.arrived) slot_stands.1.seen in
-      let more = sum_by-append (λ (t : Entry). cond (announces_arrival t.call t.reply) 1 0) stands.0 (slot_entry ∷ []) in
+      let is : arrived (stands.0 ++ slot_entry ∷ []) ≡ after.arrived =
+      ap (λ (s : Slot). s.arrived) slot_stands.1.seen in
+      let more =
+      sum_by-append (λ (t : Entry). cond (announces_arrival t.call t.reply) 1 0) stands.0 (slot_entry ∷ []) in
       let one = at_most_one (announces_arrival call reply) in
       (omega (arith, was, is, more), omega (arith, was, is, more, one))
 
@@ -49,9 +53,14 @@ module _ (before after : Slot) (call : Call) (reply : Reply) (stands : SlotStand
 
 -- ---- the registry
 
-module _ (before after : Registry) (call : RegistryCall) (reply : RegistryReply) (stands : RegistryStands before) (turn : RegistryMakesTurn before call reply after) where
+module _ (before after : Registry) (call : RegistryCall) (reply : RegistryReply) (stands : RegistryStands before)
+    (turn : RegistryMakesTurn before call reply after) where
   abbrev pub registry_stands : RegistryStands after
-  registry_stands = (stands.0, stands.1 ++ record { who = Actor 0 0; call = call; reply = reply } ∷ [], turn.stands stands.0 stands.1 (Actor 0 0) stands.2)
+  registry_stands = (
+    stands.0,
+    stands.1 ++ record { who = Actor 0 0; call = call; reply = reply } ∷ [],
+    turn.stands stands.0 stands.1 (Actor 0 0) stands.2,
+  )
 
   settles : (before.settled ≤ after.settled) × (after.settled ≤ before.settled + 1)
   settles =
@@ -67,9 +76,13 @@ module _ (before after : Registry) (call : RegistryCall) (reply : RegistryReply)
 
 -- ---- the pool
 
-module _ (before after : State) (call : PoolCall) (reply : PoolReply) (stands : PoolStands before) (turn : PoolMakesTurn before call reply after) where
+module _ (before after : State) (call : PoolCall) (reply : PoolReply) (stands : PoolStands before)
+    (turn : PoolMakesTurn before call reply after) where
   abbrev pub pool_stands : PoolStands after
-  pool_stands = (stands.0 ++ record { who = Actor 0 0; call = call; reply = reply } ∷ [], turn.stands stands.0 (Actor 0 0) stands.1)
+  pool_stands = (
+    stands.0 ++ record { who = Actor 0 0; call = call; reply = reply } ∷ [],
+    turn.stands stands.0 (Actor 0 0) stands.1,
+  )
 
   releases : (before.released ≤ after.released) × (after.released ≤ before.released + 1)
   releases =

@@ -56,13 +56,15 @@ pool_seat (r ∷ p ∷ ss) = seat_as as_pool p
 
 -- The seats at all objects, with what they have together as one member of a crew.
 abbrev pub seats_at : List (Holding Gated ObjectCall ObjectReply) → Member → Seats
-seats_at seats member = record { slots = slot_seats seats; registry = registry_seat seats; pool = pool_seat seats; member = member }
+seats_at seats member =
+    record { slots = slot_seats seats; registry = registry_seat seats; pool = pool_seat seats; member = member }
 
 -- What contracts see of the gates of a bank.
 abbrev pub gates_seen : List (Gateway Gated) → Gates
 gates_seen [] = no_gates
 gates_seen (r ∷ []) = no_gates
-gates_seen (r ∷ p ∷ ss) = record { slots = map (gate_as as_slot) ss; registry = gate_as as_registry r; pool = gate_as as_pool p }
+gates_seen (r ∷ p ∷ ss) =
+    record { slots = map (gate_as as_slot) ss; registry = gate_as as_registry r; pool = gate_as as_pool p }
 
 -- What contracts see of a pass of the bank.
 abbrev pub seats_seen : GatedPass → Seats

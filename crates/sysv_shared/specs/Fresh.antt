@@ -17,7 +17,8 @@ abbrev pub AreFreshUpTo : ℕ → ℕ → ℕ → List Gated → Type 0
 AreFreshUpTo slots generation blocks [] = ⊥
 AreFreshUpTo slots generation blocks (r ∷ []) = ⊥
 AreFreshUpTo slots generation blocks (r ∷ p ∷ ss) =
-    (IsRegistry r × RegistryStandsFor generation [] (registry_in r)) × (IsPool p × PoolStandsFor [] (pool_in p) × ((pool_in p).size ≡ blocks)) × AreVacantSlots ss × (length ss ≡ slots)
+    (IsRegistry r × RegistryStandsFor generation [] (registry_in r))
+    × (IsPool p × PoolStandsFor [] (pool_in p) × ((pool_in p).size ≡ blocks)) × AreVacantSlots ss × (length ss ≡ slots)
 
 -- The same with all the slots of the profile.
 abbrev pub AreFresh : ℕ → ℕ → List Gated → Type 0

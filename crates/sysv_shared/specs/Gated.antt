@@ -23,11 +23,11 @@ use Rattle.sysv_objects.specs.declared.object.ObjectCall.TheVariants as asked
 use Rattle.sysv_objects.specs.declared.object.ObjectReply.{ObjectReply}
 use Rattle.sysv_objects.specs.declared.object.ObjectReply.TheVariants as told
 use Rattle.sysv_objects.specs.SlotTurns.{slot_asked, SlotMoves}
-use Rattle.sysv_shared.specs.Counts.{slot_counts}
+use Rattle.sysv_shared.specs.Counts.{SlotStands, slot_counts}
 use Rattle.sysv_objects.specs.RegistryTurns.{RegistryMoves}
-use Rattle.sysv_shared.specs.Counts.{registry_counts}
+use Rattle.sysv_shared.specs.Counts.{RegistryStands, registry_counts}
 use Rattle.sysv_objects.specs.PoolTurns.{PoolMoves}
-use Rattle.sysv_shared.specs.Counts.{pool_counts}
+use Rattle.sysv_shared.specs.Counts.{PoolStands, pool_counts}
 use Rattle.sysv_shared.specs.Kinds.{Kind}
 
 -- ---- the kind of an object
@@ -122,6 +122,12 @@ as_pool = record { object = pool_in; call = pool_call_in; reply = pool_reply_in 
 
 -- ---- turns
 
+-- The object stands for some history of its kind.
+abbrev pub Stands : Gated → Type 0
+Stands (gated.Slot slot) = SlotStands slot
+Stands (gated.Registry registry) = RegistryStands registry
+Stands (gated.Pool pool) = PoolStands pool
+
 -- An object accepts the calls of its own kind.
 abbrev pub Accepts : Gated → ObjectCall → Type 0
 Accepts object (asked.Slot call) = IsSlot object
@@ -131,9 +137,12 @@ Accepts object (asked.Pool call) = IsPool object
 -- The call and the reply are of one kind, and an object of that kind makes the turn and stays of
 -- that kind.
 abbrev pub makes : ObjectCall → ObjectReply → Gated → Gated → Type 0
-makes (asked.Slot call) (told.Slot reply) before after = IsSlot before × IsSlot after × SlotMoves (slot_in before) call reply (slot_in after)
-makes (asked.Registry call) (told.Registry reply) before after = IsRegistry before × IsRegistry after × RegistryMoves (registry_in before) call reply (registry_in after)
-makes (asked.Pool call) (told.Pool reply) before after = IsPool before × IsPool after × PoolMoves (pool_in before) call reply (pool_in after)
+makes (asked.Slot call) (told.Slot reply) before after =
+    IsSlot before × IsSlot after × SlotMoves (slot_in before) call reply (slot_in after)
+makes (asked.Registry call) (told.Registry reply) before after =
+    IsRegistry before × IsRegistry after × RegistryMoves (registry_in before) call reply (registry_in after)
+makes (asked.Pool call) (told.Pool reply) before after =
+    IsPool before × IsPool after × PoolMoves (pool_in before) call reply (pool_in after)
 makes call reply before after = ⊥
 
 -- The meaning of the objects' calls.

@@ -13,7 +13,8 @@ use Rattle.sysv_shared.specs.Seats.{Gates, Seats}
 -- All slots of the profile are vacant, and the tickets of their gates begin at `first`.
 abbrev pub AreVacant : ℕ → List (Gateway Slot) → Type 0
 AreVacant first slots =
-    (length slots ≡ SLOTS) × All (SlotStandsFor []) (map (λ (g : Gateway Slot). g.opening) slots) × All (λ (g : Gateway Slot). g.first ≡ first) slots
+    (length slots ≡ SLOTS) × All (SlotStandsFor []) (map (λ (g : Gateway Slot). g.opening) slots)
+    × All (λ (g : Gateway Slot). g.first ≡ first) slots
 
 -- Nothing has happened at the objects: the slots are vacant, the identifiers begin with this
 -- generation, the pool has this number of blocks, and the tickets of all gates begin at `first`.
@@ -24,4 +25,9 @@ pub record AreOpen (generation blocks first : ℕ) (gates : Gates) : Type 0 wher
 
 -- The first seats.
 abbrev pub all_opened : Gates → Seats
-all_opened gates = record { slots = map opened gates.slots; registry = opened gates.registry; pool = opened gates.pool; member = first_with 0 }
+all_opened gates = record {
+  slots = map opened gates.slots;
+  registry = opened gates.registry;
+  pool = opened gates.pool;
+  member = first_with 0;
+}

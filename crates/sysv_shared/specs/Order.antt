@@ -18,7 +18,8 @@ use Rattle.sysv_objects.specs.declared.object.ObjectReply.{ObjectReply}
 use Rattle.sysv_objects.specs.SlotTurns.{slot_call, slot_reply}
 use Rattle.sysv_objects.specs.RegistryTurns.{registry_call, registry_reply}
 use Rattle.sysv_objects.specs.PoolTurns.{pool_call, pool_reply}
-use Rattle.sysv_shared.specs.Gated.{slot_in, slot_call_in, slot_reply_in, registry_call_in, registry_reply_in, pool_call_in, pool_reply_in}
+use Rattle.sysv_shared.specs.Gated.{slot_in, slot_call_in, slot_reply_in, registry_call_in, registry_reply_in}
+use Rattle.sysv_shared.specs.Gated.{pool_call_in, pool_reply_in}
 
 -- A turn at an object of the bank.
 abbrev pub GatedTurn : Type 0
@@ -47,14 +48,18 @@ object_at gates place order = after_all (opening_at gates place) (turns_at place
 
 -- The deed that a turn at the place is in the world, if the object before it was `before`.
 abbrev pub deed_at : ℕ → Gated → GatedTurn → Deed
-deed_at zero before t = AtRegistry (registry_call (registry_call_in t.call)) (registry_reply (registry_reply_in t.reply))
+deed_at zero before t =
+    AtRegistry (registry_call (registry_call_in t.call)) (registry_reply (registry_reply_in t.reply))
 deed_at (suc zero) before t = AtPool (pool_call (pool_call_in t.call)) (pool_reply (pool_reply_in t.reply))
-deed_at (suc (suc slot)) before t = AtSlot slot (slot_call (slot_call_in t.call)) (slot_reply (slot_in before) (slot_reply_in t.reply))
+deed_at (suc (suc slot)) before t =
+    AtSlot slot (slot_call (slot_call_in t.call)) (slot_reply (slot_in before) (slot_reply_in t.reply))
 
 -- The deeds of the turns that come after the earlier ones.
 abbrev pub deeds_after : List (Gateway Gated) → List GatedPlaced → List GatedPlaced → List Numbered
 deeds_after gates earlier [] = []
-deeds_after gates earlier (t ∷ ts) = record { by = t.turn.by; deed = deed_at t.place (object_at gates t.place earlier) t.turn } ∷ deeds_after gates (earlier ++ t ∷ []) ts
+deeds_after gates earlier (t ∷ ts) =
+    record { by = t.turn.by; deed = deed_at t.place (object_at gates t.place earlier) t.turn }
+    ∷ deeds_after gates (earlier ++ t ∷ []) ts
 
 -- The deeds of all turns of the order, each with the number under which it was made.
 abbrev pub deeds_of : List (Gateway Gated) → List GatedPlaced → List Numbered
@@ -64,4 +69,5 @@ deeds_of gates order = deeds_after gates [] order
 
 -- A pass of the bank, as a member of a crew.
 abbrev pub member_of : List (Gateway Gated) → GatedPass → Member
-member_of gates pass = record { number = pass.number; numbers = pass.numbers; shares = pass.shares; order = deeds_of gates pass.order }
+member_of gates pass =
+    record { number = pass.number; numbers = pass.numbers; shares = pass.shares; order = deeds_of gates pass.order }

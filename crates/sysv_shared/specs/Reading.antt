@@ -22,29 +22,38 @@ Finds counted count value before after = (after ≡ read_to count value before) 
 -- object.
 abbrev pub Reads : Count → ℕ → Seats → Seats → Type 0
 Reads (ArrivedOf slot) value before after =
-    ChangesAt slot before.slots after.slots (Finds slot_counts Arrived value) × (after.registry ≡ before.registry) × (after.pool ≡ before.pool) × SeesMore before.member after.member
+    ChangesAt slot before.slots after.slots (Finds slot_counts Arrived value) × (after.registry ≡ before.registry)
+    × (after.pool ≡ before.pool) × SeesMore before.member after.member
 Reads (FreedOf slot) value before after =
-    ChangesAt slot before.slots after.slots (Finds slot_counts Freed value) × (after.registry ≡ before.registry) × (after.pool ≡ before.pool) × SeesMore before.member after.member
+    ChangesAt slot before.slots after.slots (Finds slot_counts Freed value) × (after.registry ≡ before.registry)
+    × (after.pool ≡ before.pool) × SeesMore before.member after.member
 Reads Settled value before after =
-    Finds registry_counts Arrived value before.registry after.registry × (after.slots ≡ before.slots) × (after.pool ≡ before.pool) × SeesMore before.member after.member
+    Finds registry_counts Arrived value before.registry after.registry × (after.slots ≡ before.slots)
+    × (after.pool ≡ before.pool) × SeesMore before.member after.member
 Reads Released value before after =
-    Finds pool_counts Arrived value before.pool after.pool × (after.slots ≡ before.slots) × (after.registry ≡ before.registry) × SeesMore before.member after.member
+    Finds pool_counts Arrived value before.pool after.pool × (after.slots ≡ before.slots)
+    × (after.registry ≡ before.registry) × SeesMore before.member after.member
 
 -- The seat found this value, and that the gate is worn out.
 abbrev pub FindsAndGivesUp : {O C R : Type 0} → (O → ℕ × ℕ) → OfObject → ℕ → Holding O C R → Holding O C R → Type 0
-FindsAndGivesUp counted count value before after = Learns counted count before value × (after ≡ marked (read_to count value before))
+FindsAndGivesUp counted count value before after =
+    Learns counted count before value × (after ≡ marked (read_to count value before))
 
 -- The seat at the object that has the count found this value and that the gate is worn out, and
 -- nothing else was done at any object.
 abbrev pub GivesUp : Count → ℕ → Seats → Seats → Type 0
 GivesUp (ArrivedOf slot) value before after =
-    ChangesAt slot before.slots after.slots (FindsAndGivesUp slot_counts Arrived value) × (after.registry ≡ before.registry) × (after.pool ≡ before.pool) × SeesMore before.member after.member
+    ChangesAt slot before.slots after.slots (FindsAndGivesUp slot_counts Arrived value)
+    × (after.registry ≡ before.registry) × (after.pool ≡ before.pool) × SeesMore before.member after.member
 GivesUp (FreedOf slot) value before after =
-    ChangesAt slot before.slots after.slots (FindsAndGivesUp slot_counts Freed value) × (after.registry ≡ before.registry) × (after.pool ≡ before.pool) × SeesMore before.member after.member
+    ChangesAt slot before.slots after.slots (FindsAndGivesUp slot_counts Freed value)
+    × (after.registry ≡ before.registry) × (after.pool ≡ before.pool) × SeesMore before.member after.member
 GivesUp Settled value before after =
-    FindsAndGivesUp registry_counts Arrived value before.registry after.registry × (after.slots ≡ before.slots) × (after.pool ≡ before.pool) × SeesMore before.member after.member
+    FindsAndGivesUp registry_counts Arrived value before.registry after.registry × (after.slots ≡ before.slots)
+    × (after.pool ≡ before.pool) × SeesMore before.member after.member
 GivesUp Released value before after =
-    FindsAndGivesUp pool_counts Arrived value before.pool after.pool × (after.slots ≡ before.slots) × (after.registry ≡ before.registry) × SeesMore before.member after.member
+    FindsAndGivesUp pool_counts Arrived value before.pool after.pool × (after.slots ≡ before.slots)
+    × (after.registry ≡ before.registry) × SeesMore before.member after.member
 
 -- A wait for the count ends with a value of at least the goal, or is given up at a worn gate: then
 -- the value that was read last is below the goal.

@@ -98,32 +98,43 @@ object_of seat = after_all seat.gate.opening seat.seen
 
 -- A turn of the seat's own was made. The history that the seat has seen has grown by turns of
 -- others, and then by this turn, whose entry is e. The seat was not marked as worn before.
-pub record TakesTurn {O C R E : Type 0} (moves : O → C → R → O → Type 0) (counted : O → ℕ × ℕ) (entry : O → Turn O C R → E) (e : E) (before after : Holding O C R) : Type 0 where
+pub record TakesTurn {O C R E : Type 0} (moves : O → C → R → O → Type 0) (counted : O → ℕ × ℕ)
+    (entry : O → Turn O C R → E) (e : E) (before after : Holding O C R) : Type 0 where
   pub call : C
   pub reply : R
   pub answers : Answers (Moves moves counted) counted before call reply after
   pub fresh : before.worn ≡ false
-  pub entered : entry (after_all before.gate.opening (before.seen ++ answers.others)) (record { by = before.number; call = call; reply = reply; after = answers.object }) ≡ e
+  pub entered : entry (after_all before.gate.opening (before.seen ++ answers.others))
+      (record { by = before.number; call = call; reply = reply; after = answers.object }) ≡ e
 
 -- The turn was made at its object, and nothing was done at any other. It is the last of the order
 -- that was seen.
 abbrev pub MakesTurnAt : Seats → Deed → Seats → Type 0
 MakesTurnAt before (AtSlot slot call reply) after =
-    ChangesAt slot before.slots after.slots (λ b a. TakesTurn SlotMoves slot_counts slot_entry (record { who = Seat b.number; call = call; reply = reply }) b a)
-    × (after.registry ≡ before.registry) × (after.pool ≡ before.pool) × MakesTurn before.member (AtSlot slot call reply) after.member
+    ChangesAt slot before.slots after.slots
+    (λ b a. TakesTurn SlotMoves slot_counts slot_entry (record { who = Seat b.number; call = call; reply = reply }) b a)
+    × (after.registry ≡ before.registry) × (after.pool ≡ before.pool)
+    × MakesTurn before.member (AtSlot slot call reply) after.member
 MakesTurnAt before (AtRegistry call reply) after =
-    TakesTurn RegistryMoves registry_counts registry_entry (record { who = Seat before.registry.number; call = call; reply = reply }) before.registry after.registry
-    × (after.slots ≡ before.slots) × (after.pool ≡ before.pool) × MakesTurn before.member (AtRegistry call reply) after.member
+    TakesTurn RegistryMoves registry_counts registry_entry
+    (record { who = Seat before.registry.number; call = call; reply = reply }) before.registry after.registry
+    × (after.slots ≡ before.slots) × (after.pool ≡ before.pool)
+    × MakesTurn before.member (AtRegistry call reply) after.member
 MakesTurnAt before (AtPool call reply) after =
-    TakesTurn PoolMoves pool_counts pool_entry (record { who = Seat before.pool.number; call = call; reply = reply }) before.pool after.pool
-    × (after.slots ≡ before.slots) × (after.registry ≡ before.registry) × MakesTurn before.member (AtPool call reply) after.member
+    TakesTurn PoolMoves pool_counts pool_entry (record { who = Seat before.pool.number; call = call; reply = reply })
+    before.pool after.pool
+    × (after.slots ≡ before.slots) × (after.registry ≡ before.registry)
+    × MakesTurn before.member (AtPool call reply) after.member
 
 -- The gate of the object that the call is for was found worn out, and nothing was done at any
 -- object.
 abbrev pub FindsWorn : Seats → Ask → Seats → Type 0
 FindsWorn before (OfSlot slot call) after =
-    ChangesAt slot before.slots after.slots (λ b a. a ≡ marked b) × (after.registry ≡ before.registry) × (after.pool ≡ before.pool) × SeesMore before.member after.member
+    ChangesAt slot before.slots after.slots (λ b a. a ≡ marked b) × (after.registry ≡ before.registry)
+    × (after.pool ≡ before.pool) × SeesMore before.member after.member
 FindsWorn before (OfRegistry call) after =
-    (after.registry ≡ marked before.registry) × (after.slots ≡ before.slots) × (after.pool ≡ before.pool) × SeesMore before.member after.member
+    (after.registry ≡ marked before.registry) × (after.slots ≡ before.slots) × (after.pool ≡ before.pool)
+    × SeesMore before.member after.member
 FindsWorn before (OfPool call) after =
-    (after.pool ≡ marked before.pool) × (after.slots ≡ before.slots) × (after.registry ≡ before.registry) × SeesMore before.member after.member
+    (after.pool ≡ marked before.pool) × (after.slots ≡ before.slots) × (after.registry ≡ before.registry)
+    × SeesMore before.member after.member

@@ -44,17 +44,22 @@ pub record AreJoined (one other after : Seats) : Type 0 where
 -- when they were opened.
 abbrev pub LegalIfOpen : Seats → List Numbered → Type 0
 LegalIfOpen seats order =
-    (generation blocks first : ℕ) (gates : Gates) → AreOpen generation blocks first gates → AreOf gates seats → AreLegal generation blocks (turns_of order)
+    (generation blocks first : ℕ) (gates : Gates) → AreOpen generation blocks first gates → AreOf gates seats →
+    AreLegal generation blocks (turns_of order)
 
 -- The gate was closed after these turns.
-abbrev pub ClosesAfter : {O C R E : Type 0} → (O → C → R → O → Type 0) → (O → Turn O C R → E) → List E → Holding O C R → Closing O → Type 0
-ClosesAfter moves entry turns seat c = (closes : Closes moves seat c) × (entries entry seat.gate.opening closes.log ≡ turns)
+abbrev pub ClosesAfter : {O C R E : Type 0} → (O → C → R → O → Type 0) → (O → Turn O C R → E) → List E → Holding O C R →
+    Closing O → Type 0
+ClosesAfter moves entry turns seat c =
+    (closes : Closes moves seat c) × (entries entry seat.gate.opening closes.log ≡ turns)
 
 -- Each gate was closed after the order's part at its object.
 pub record ClosesAfterEach (seats : Seats) (closed : GatesClosed) (order : List Numbered) : Type 0 where
-  pub slots : (slot : ℕ) (seat : SlotSeat) (c : Closing Slot) → get_elem? seats.slots slot ≡ some seat → get_elem? closed.slots.items slot ≡ some c →
+  pub slots : (slot : ℕ) (seat : SlotSeat) (c : Closing Slot) → get_elem? seats.slots slot ≡ some seat →
+      get_elem? closed.slots.items slot ≡ some c →
       ClosesAfter (Moves SlotMoves slot_counts) slot_entry (slot_history slot (turns_of order)) seat c
-  pub registry : ClosesAfter (Moves RegistryMoves registry_counts) registry_entry (registry_history (turns_of order)) seats.registry closed.registry
+  pub registry : ClosesAfter (Moves RegistryMoves registry_counts) registry_entry (registry_history (turns_of order))
+      seats.registry closed.registry
   pub pool : ClosesAfter (Moves PoolMoves pool_counts) pool_entry (pool_history (turns_of order)) seats.pool closed.pool
 
 -- All gates were closed. What those of the slots returned is in the order of the slots' numbers.
@@ -69,4 +74,5 @@ pub record AllClose (seats : Seats) (closed : GatesClosed) : Type 0 where
   pub legal : LegalIfOpen seats order
   pub parts : ClosesAfterEach seats closed order
   -- If the seats have the whole service, no others are left, and each gate has returned its object.
-  pub home : AreWhole seats.member.shares → AllByRecursion IsBack closed.slots.items × IsBack closed.registry × IsBack closed.pool
+  pub home : AreWhole seats.member.shares →
+      AllByRecursion IsBack closed.slots.items × IsBack closed.registry × IsBack closed.pool

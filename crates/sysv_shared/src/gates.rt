@@ -1,11 +1,11 @@
 //! The gates of all objects.
 
-use crate::kinds::Gated;
-use crate::slot::GatedSlot;
+use crate::object::SharedObject;
 use std::alloc::Global;
 use std::marker::Model;
 use sysv_bank::Bank;
 use sysv_gate::Closing;
+use sysv_queue::QueueSlot;
 
 /// The place of the registry in the bank.
 pub(crate) const REGISTRY: usize = 0;
@@ -21,9 +21,9 @@ pub(crate) const FIRST_SLOT: usize = 2;
 /// with seats of its own. A call on an identifier goes to the slot of that identifier, whether a
 /// queue is live under it or not. Each call waits for its turn.
 pub struct Gates {
-    pub(crate) bank: Bank<Gated>,
+    pub(crate) bank: Bank<SharedObject>,
     /// Space for the result of `close`, so that `close` allocates nothing.
-    pub(crate) closings: Vec<Closing<GatedSlot>, Global>,
+    pub(crate) closings: Vec<Closing<QueueSlot>, Global>,
 }
 
 impl Model for Gates {

@@ -1,63 +1,28 @@
-//! The slots, the registry and the pool, as objects of one bank.
+//! The kinds of objects of one bank: the slots, the registry and the pool.
 
-ghost use Rattle.sysv_shared.specs.Gated.{GatedMoves, gated_counts, Accepts};
+use sysv_keys::Registry;
+use sysv_pool::Pool;
+use sysv_queue::QueueSlot;
 
-use crate::pool::GatedPool;
-use crate::registry::GatedRegistry;
-use crate::slot::GatedSlot;
-use sysv_gate::Object;
-use sysv_objects::{ObjectCall, ObjectReply};
-
-/// An object behind a gate, of one of three kinds. It stays of its kind, and accepts only the calls
-/// of its kind.
+/// An object of one of three kinds.
 pub enum Gated {
     /// A slot of a queue.
-    Slot(GatedSlot),
+    Slot(QueueSlot),
     /// The registry of keys and identifiers.
-    Registry(GatedRegistry),
+    Registry(Registry),
     /// The pool of blocks.
-    Pool(GatedPool),
+    Pool(Pool),
 }
 
-impl Object for Gated {
-    type Call = ObjectCall;
-
-    type Reply = ObjectReply;
-
-    ghost meaning = { GatedMoves };
-
-    ghost counted = { gated_counts };
-
-    ghost accepts = { Accepts };
-
-    fn apply(&mut self, call: ObjectCall) -> ObjectReply {
+impl Gated {
+    /// Frees the object.
+    pub(crate) fn end(self) {
         match self {
             Gated::Slot(slot) => {
-                let ObjectCall::Slot(call) = call else {
-                    unreachable!()
-                };
-                ObjectReply::Slot(slot.apply(call))
+                slot.end().end();
             }
-            Gated::Registry(registry) => {
-                let ObjectCall::Registry(call) = call else {
-                    unreachable!()
-                };
-                ObjectReply::Registry(registry.apply(call))
-            }
-            Gated::Pool(pool) => {
-                let ObjectCall::Pool(call) = call else {
-                    unreachable!()
-                };
-                ObjectReply::Pool(pool.apply(call))
-            }
-        }
-    }
-
-    fn counts(&self) -> (u64, u64) {
-        match self {
-            Gated::Slot(slot) => slot.counts(),
-            Gated::Registry(registry) => registry.counts(),
-            Gated::Pool(pool) => pool.counts(),
+            Gated::Registry(_registry) => {}
+            Gated::Pool(pool) => pool.end(),
         }
     }
 }

@@ -7,13 +7,11 @@ mod gates;
 mod kinds;
 mod laws;
 mod making;
+mod object;
 mod opening;
-mod pool;
-mod registry;
 mod seats;
 mod shared_count;
 mod sharing;
-mod slot;
 
 pub use gates::Gates;
 pub use laws::{
@@ -21,8 +19,5 @@ pub use laws::{
 };
 pub use making::AtGates;
 pub use opening::{GatesClosed, OpenRefused};
-pub use pool::GatedPool;
-pub use registry::GatedRegistry;
 pub use seats::Seats;
 pub use shared_count::SharedCount;
-pub use slot::GatedSlot;

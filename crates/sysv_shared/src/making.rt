@@ -46,7 +46,7 @@ impl Gates {
     }
 }
 
-// Returns the place in the bank of the object that is called.
+/// Returns the place in the bank of the object that is called.
 fn place_of(call: &ObjectCall) -> usize
     requires { IsOfSomeSlot call.now }
     ensures place { result ≡ the_place_of call.now }

@@ -9,10 +9,8 @@ ghost use Rattle.sysv_shared.specs.Seats.{AreOf};
 
 use crate::gates::{FIRST_SLOT, Gates};
 use crate::kinds::Gated;
-use crate::pool::GatedPool;
-use crate::registry::GatedRegistry;
+use crate::object::SharedObject;
 use crate::seats::Seats;
-use crate::slot::GatedSlot;
 use std::alloc::Global;
 use sysv_bank::Bank;
 use sysv_gate::{Closing, OpenRefused as GateRefused};
@@ -37,11 +35,11 @@ pub enum OpenRefused {
 /// What the gates return when they are closed. The slots are in the order of their numbers.
 pub struct GatesClosed {
     /// What the gates of the slots returned, in the order of the slots' numbers.
-    pub slots: Vec<Closing<GatedSlot>>,
+    pub slots: Vec<Closing<QueueSlot>>,
     /// What the gate of the registry returned.
-    pub registry: Closing<GatedRegistry>,
+    pub registry: Closing<Registry>,
     /// What the gate of the pool returned.
-    pub pool: Closing<GatedPool>,
+    pub pool: Closing<Pool>,
 }
 
 impl Gates {
@@ -92,9 +90,9 @@ impl Gates {
     }
 }
 
-// Makes the objects: a registry without rows, whose slots have this generation, a pool of this
-// number of blocks, and the vacant slots. Returns `None` if memory is refused.
-fn fresh_objects(alloc: Global, blocks: u32, generation: u32) -> Option<Vec<Gated>>
+/// Makes the objects: a registry without rows, whose slots have this generation, a pool of this
+/// number of blocks, and the vacant slots. Returns `None` if memory is refused.
+fn fresh_objects(alloc: Global, blocks: u32, generation: u32) -> Option<Vec<SharedObject>>
     requires blocks { (least_blocks ≤ blocks) × (blocks ≤ most_blocks) }
     requires generation { generation ≤ GENERATION_LAST }
     ensures { IfSome result (λ objects. AreFresh generation blocks objects.items) }
@@ -106,37 +104,26 @@ fn fresh_objects(alloc: Global, blocks: u32, generation: u32) -> Option<Vec<Gate
         objects.destroy_empty();
         return None;
     };
-    objects.push_reserved(Gated::Registry(GatedRegistry::of(registry)));
+    objects.push_reserved(SharedObject::of(Gated::Registry(registry)));
     let Ok(pool) = Pool::open(alloc, blocks) else {
         end_all(objects);
         return None;
     };
-    objects.push_reserved(Gated::Pool(GatedPool::of(pool)));
+    objects.push_reserved(SharedObject::of(Gated::Pool(pool)));
     for _ in 0..SLOTS {
         let Ok(slot) = QueueSlot::open(alloc) else {
             end_all(objects);
             return None;
         };
-        objects.push_reserved(Gated::Slot(GatedSlot::of(slot)));
+        objects.push_reserved(SharedObject::of(Gated::Slot(slot)));
     }
     Some(objects)
 }
 
-// Frees the objects.
-fn end_all(mut objects: Vec<Gated>) {
+/// Frees the objects.
+fn end_all(mut objects: Vec<SharedObject>) {
     while let Some(object) = objects.pop() {
-        end_object(object);
+        object.into_kind().end();
     }
     objects.destroy_empty();
-}
-
-// Frees the object.
-pub(crate) fn end_object(object: Gated) {
-    match object {
-        Gated::Slot(slot) => {
-            slot.into_slot().end().end();
-        }
-        Gated::Registry(_registry) => {}
-        Gated::Pool(pool) => pool.into_pool().end(),
-    }
 }

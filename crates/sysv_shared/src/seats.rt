@@ -1,13 +1,13 @@
 //! A seat at each gate.
 
-use crate::kinds::Gated;
+use crate::object::SharedObject;
 use std::marker::Model;
 use sysv_bank::BankSeat;
 
 /// The right of one thread to take turns at each slot, at the registry and at the pool. Seats work
 /// only with the gates that they came from. They may move to another thread.
 pub struct Seats {
-    pub(crate) seat: BankSeat<Gated>,
+    pub(crate) seat: BankSeat<SharedObject>,
 }
 
 impl Model for Seats {

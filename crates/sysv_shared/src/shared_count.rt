@@ -22,7 +22,7 @@ pub enum SharedCount {
 }
 
 impl SharedCount {
-    // Returns the place in the bank of the object that has the count.
+    /// Returns the place in the bank of the object that has the count.
     pub(crate) fn place(self) -> usize
         ensures place { result ≡ place_with self }
         ensures within { result < SLOTS + 2 }
@@ -35,7 +35,7 @@ impl SharedCount {
         }
     }
 
-    // Returns which of the two counts of that object it is.
+    /// Returns which of the two counts of that object it is.
     pub(crate) fn there(self) -> Count
         ensures { result ≡ count_there self }
     {
@@ -47,7 +47,7 @@ impl SharedCount {
         }
     }
 
-    // Returns whether each thread whose wait for the count ends wakes the next one.
+    /// Returns whether each thread whose wait for the count ends wakes the next one.
     pub(crate) fn is_passed_on(self) -> bool {
         matches!(self, SharedCount::Settled | SharedCount::Released)
     }

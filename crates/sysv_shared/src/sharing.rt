@@ -9,15 +9,15 @@ ghost use Rattle.sysv_shared.specs.Sharing.{AreSplit, AreJoined, AllClose};
 
 use crate::gates::Gates;
 use crate::kinds::Gated;
-use crate::opening::{GatesClosed, end_object};
-use crate::pool::GatedPool;
-use crate::registry::GatedRegistry;
+use crate::object::SharedObject;
+use crate::opening::GatesClosed;
 use crate::seats::Seats;
-use crate::slot::GatedSlot;
 use std::alloc::Global;
 use sysv_gate::Closing;
-use sysv_keys::SLOTS;
+use sysv_keys::{Registry, SLOTS};
 use sysv_model::NoMemory;
+use sysv_pool::Pool;
+use sysv_queue::QueueSlot;
 
 impl Gates {
     /// Returns new seats, which may move to another thread. Each has seen what the seat at the same
@@ -99,8 +99,8 @@ impl Gates {
     }
 }
 
-// Returns what the closed gate of a slot holds, as a slot.
-fn slot_closing(closing: Closing<Gated>) -> Closing<GatedSlot>
+/// Returns what the closed gate of a slot holds, as a slot.
+fn slot_closing(closing: Closing<SharedObject>) -> Closing<QueueSlot>
     ensures { IfSome closing.object IsSlot → IsClosingAs as_slot closing result }
 {
     let Closing {
@@ -115,8 +115,8 @@ fn slot_closing(closing: Closing<Gated>) -> Closing<GatedSlot>
     }
 }
 
-// Returns what the closed gate of the registry holds, as a registry.
-fn registry_closing(closing: Closing<Gated>) -> Closing<GatedRegistry>
+/// Returns what the closed gate of the registry holds, as a registry.
+fn registry_closing(closing: Closing<SharedObject>) -> Closing<Registry>
     ensures { IfSome closing.object IsRegistry → IsClosingAs as_registry closing result }
 {
     let Closing {
@@ -131,8 +131,8 @@ fn registry_closing(closing: Closing<Gated>) -> Closing<GatedRegistry>
     }
 }
 
-// Returns what the closed gate of the pool holds, as a pool.
-fn pool_closing(closing: Closing<Gated>) -> Closing<GatedPool>
+/// Returns what the closed gate of the pool holds, as a pool.
+fn pool_closing(closing: Closing<SharedObject>) -> Closing<Pool>
     ensures { IfSome closing.object IsPool → IsClosingAs as_pool closing result }
 {
     let Closing {
@@ -147,44 +147,41 @@ fn pool_closing(closing: Closing<Gated>) -> Closing<GatedPool>
     }
 }
 
-// Returns the slot if the object is one. Any other object is freed.
-fn slot_of(object: Option<Gated>) -> Option<GatedSlot>
+/// Returns the slot if the object is one. Any other object is freed.
+fn slot_of(object: Option<SharedObject>) -> Option<QueueSlot>
     ensures { IfSome object IsSlot → result ≡ option_map slot_in object }
 {
-    match object {
-        Some(Gated::Slot(slot)) => Some(slot),
-        Some(other) => {
-            end_object(other);
+    match object?.into_kind() {
+        Gated::Slot(slot) => Some(slot),
+        other => {
+            other.end();
             None
         }
-        None => None,
     }
 }
 
-// Returns the registry if the object is one. Any other object is freed.
-fn registry_of(object: Option<Gated>) -> Option<GatedRegistry>
+/// Returns the registry if the object is one. Any other object is freed.
+fn registry_of(object: Option<SharedObject>) -> Option<Registry>
     ensures { IfSome object IsRegistry → result ≡ option_map registry_in object }
 {
-    match object {
-        Some(Gated::Registry(registry)) => Some(registry),
-        Some(other) => {
-            end_object(other);
+    match object?.into_kind() {
+        Gated::Registry(registry) => Some(registry),
+        other => {
+            other.end();
             None
         }
-        None => None,
     }
 }
 
-// Returns the pool if the object is one. Any other object is freed.
-fn pool_of(object: Option<Gated>) -> Option<GatedPool>
+/// Returns the pool if the object is one. Any other object is freed.
+fn pool_of(object: Option<SharedObject>) -> Option<Pool>
     ensures { IfSome object IsPool → result ≡ option_map pool_in object }
 {
-    match object {
-        Some(Gated::Pool(pool)) => Some(pool),
-        Some(other) => {
-            end_object(other);
+    match object?.into_kind() {
+        Gated::Pool(pool) => Some(pool),
+        other => {
+            other.end();
             None
         }
-        None => None,
     }
 }

@@ -1,6 +1,7 @@
 -- A call has at most one effect. Each state leaves the call one more effect, or none. A step with an
 -- effect leads to a state that leaves none, and no step leads back from there.
-use Rattle.std.proofs.Common.{◌≡◌, ℕ, ◌+◌, ◌≤◌, Bool, true, false, List, [], ◌∷◌, ◌++◌, Option, None, Some, cond, ap, ◌∙◌, arith, length}
+use Rattle.std.proofs.Common.{◌≡◌, ℕ, ◌+◌, ◌≤◌, Bool, true, false, List, [], ◌∷◌, ◌++◌, Option, None, Some, cond, ap}
+use Rattle.std.proofs.Common.{◌∙◌, arith, length}
 use Rattle.std.specs.List.{count_by, flat_map}
 use Rattle.std.proofs.lemmas.List.{append-nil, length-append}
 use Rattle.std.proofs.lemmas.Grind.{flat_map-append}
@@ -11,7 +12,10 @@ use Rattle.sysv_model.specs.Registry.{RegistryCall, RegistryReply, Changed}
 use Rattle.sysv_model.specs.Pool.{PoolCall, PoolReply, Released}
 use Rattle.sysv_model.specs.Turn.{Deed, AtSlot, AtRegistry, AtPool}
 use Rattle.sysv_steps.specs.Call.{SystemCall}
-use Rattle.sysv_steps.specs.State.{Wait, OnSettled, OnFreed, OnReleased, OnArrived, Phase, AtBegin, AtInstall, AtSettle, AtProbe, AtUnmake, AtLook, AtReserve, AtPlace, AtSendGiveback, AtTake, AtReceiveGiveback, AtStat, AtSet, AtSetGiveback, AtRemove, AtForget, AtRemoveGiveback, State, Goes, Waits, Over}
+use Rattle.sysv_steps.specs.State.{Wait, OnSettled, OnFreed, OnReleased, OnArrived, Phase, AtBegin, AtInstall, AtSettle}
+use Rattle.sysv_steps.specs.State.{AtProbe, AtUnmake, AtLook, AtReserve, AtPlace, AtSendGiveback, AtTake}
+use Rattle.sysv_steps.specs.State.{AtReceiveGiveback, AtStat, AtSet, AtSetGiveback, AtRemove, AtForget}
+use Rattle.sysv_steps.specs.State.{AtRemoveGiveback, State, Goes, Waits, Over}
 use Rattle.sysv_steps.specs.Begin.{begin}
 use Rattle.sysv_steps.specs.Next.{next, next_of_slot, next_of_registry, next_of_pool}
 use Rattle.sysv_steps.specs.Resume.{resume}
@@ -55,7 +59,8 @@ left_of (Some state) = left state
 
 -- ---- one deed
 
-at_slot : (phase : Phase) (slot : ℕ) (call : Call) (reply : Reply) (after : State) → next_of_slot phase reply ≡ Some after → effect (AtSlot slot call reply) + left after ≤ left (Goes phase)
+at_slot : (phase : Phase) (slot : ℕ) (call : Call) (reply : Reply) (after : State) →
+    next_of_slot phase reply ≡ Some after → effect (AtSlot slot call reply) + left after ≤ left (Goes phase)
 at_slot (AtInstall get id) slot call (Installed true) after n = omega (arith, ap left_of n, one_at_most after)
 at_slot (AtInstall get id) slot call (Installed false) after n = omega (arith, ap left_of n, one_at_most after)
 at_slot (AtInstall get id) slot call reply after n = omega (arith, ap left_of n, one_at_most after)
@@ -75,7 +80,8 @@ at_slot (AtRemove cred id) slot call Gone after n = omega (arith, ap left_of n, 
 at_slot (AtRemove cred id) slot call reply after n = omega (arith, ap left_of n, one_at_most after)
 at_slot phase slot call reply after n = absurd cc
 
-at_registry : (phase : Phase) (call : RegistryCall) (reply : RegistryReply) (after : State) → next_of_registry phase reply ≡ Some after → effect (AtRegistry call reply) + left after ≤ left (Goes phase)
+at_registry : (phase : Phase) (call : RegistryCall) (reply : RegistryReply) (after : State) →
+    next_of_registry phase reply ≡ Some after → effect (AtRegistry call reply) + left after ≤ left (Goes phase)
 at_registry (AtBegin get) call (Changed done) after n = omega (arith, ap left_of n, one_at_most after)
 at_registry (AtBegin get) call reply after n = omega (arith, ap left_of n, one_at_most after)
 at_registry (AtSettle id) call (Changed done) after n = omega (arith, ap left_of n, one_at_most after)
@@ -86,7 +92,8 @@ at_registry (AtForget id blocks) call (Changed done) after n = omega (arith, ap 
 at_registry (AtForget id blocks) call reply after n = omega (arith, ap left_of n, one_at_most after)
 at_registry phase call reply after n = absurd cc
 
-at_pool : (phase : Phase) (call : PoolCall) (reply : PoolReply) (after : State) → next_of_pool phase reply ≡ Some after → effect (AtPool call reply) + left after ≤ left (Goes phase)
+at_pool : (phase : Phase) (call : PoolCall) (reply : PoolReply) (after : State) →
+    next_of_pool phase reply ≡ Some after → effect (AtPool call reply) + left after ≤ left (Goes phase)
 at_pool (AtReserve send) call Released after n = omega (arith, ap left_of n, one_at_most after)
 at_pool (AtReserve send) call reply after n = omega (arith, ap left_of n, one_at_most after)
 at_pool (AtSendGiveback blocks afterwards) call Released after n = omega (arith, ap left_of n, one_at_most after)
@@ -99,7 +106,8 @@ at_pool (AtRemoveGiveback blocks) call Released after n = omega (arith, ap left_
 at_pool (AtRemoveGiveback blocks) call reply after n = omega (arith, ap left_of n, one_at_most after)
 at_pool phase call reply after n = absurd cc
 
-one_step : (phase : Phase) (deed : Deed) (after : State) → next phase deed ≡ Some after → effect deed + left after ≤ left (Goes phase)
+one_step : (phase : Phase) (deed : Deed) (after : State) → next phase deed ≡ Some after →
+    effect deed + left after ≤ left (Goes phase)
 one_step phase (AtSlot slot call reply) after n = at_slot phase slot call reply after n
 one_step phase (AtRegistry call reply) after n = at_registry phase call reply after n
 one_step phase (AtPool call reply) after n = at_pool phase call reply after n
@@ -112,21 +120,36 @@ one_wait (OnArrived goal receive) value = omega arith
 
 -- ---- all of them
 
-counted : (p : Deed → Bool) (deeds : List Deed) (deed : Deed) → count_by p (deeds ++ deed ∷ []) ≡ count_by p deeds + cond {A = ℕ} (p deed) 1 0
+counted : (p : Deed → Bool) (deeds : List Deed) (deed : Deed) →
+    count_by p (deeds ++ deed ∷ []) ≡ count_by p deeds + cond {A = ℕ} (p deed) 1 0
 counted p deeds deed = omega (arith, sum_by-append (λ (d : Deed). cond {A = ℕ} (p d) 1 0) deeds (deed ∷ []))
 
-gathered : {A : Type 0} (f : Deed → List A) (deeds : List Deed) (deed : Deed) → length (flat_map f (deeds ++ deed ∷ [])) ≡ length (flat_map f deeds) + length (f deed)
+gathered : {A : Type 0} (f : Deed → List A) (deeds : List Deed) (deed : Deed) →
+    length (flat_map f (deeds ++ deed ∷ [])) ≡ length (flat_map f deeds) + length (f deed)
 gathered f deeds deed =
-    ap length (flat_map-append f deeds (deed ∷ []) ∙ ap (λ l. flat_map f deeds ++ l) (append-nil (f deed))) ∙ length-append (flat_map f deeds) (f deed)
+    ap length (flat_map-append f deeds (deed ∷ []) ∙ ap (λ l. flat_map f deeds ++ l) (append-nil (f deed)))
+    ∙ length-append (flat_map f deeds) (f deed)
 
 one_more : (deeds : List Deed) (deed : Deed) → effects (deeds ++ deed ∷ []) ≡ effects deeds + effect deed
 one_more deeds deed =
-    omega (arith, gathered made_by deeds deed, counted was_accepted deeds deed, gathered taken_by deeds deed, counted was_changed deeds deed, counted was_removed deeds deed)
+    omega (
+      arith,
+      gathered made_by deeds deed,
+      counted was_accepted deeds deed,
+      gathered taken_by deeds deed,
+      counted was_changed deeds deed,
+      counted was_removed deeds deed,
+    )
 
-along : (from : State) (deeds : List Deed) (state : State) → Plays from deeds state → effects deeds + left state ≤ left from
+along : (from : State) (deeds : List Deed) (state : State) → Plays from deeds state →
+    effects deeds + left state ≤ left from
 along from _ _ begins = omega arith
-along from _ _ (steps {deeds} {phase} deed now after p asked n) = omega (arith, one_more deeds deed, one_step phase deed after n, along from deeds (Goes phase) p)
-along from _ _ (resumes {deeds} {wait} value p least) = omega (arith, one_wait wait value, along from deeds (Waits wait) p)
+along from _ _ (steps {deeds} {phase} deed now after p asked n) =
+    omega (arith, one_more deeds deed, one_step phase deed after n, along from deeds (Goes phase) p)
+along from _ _ (resumes {deeds} {wait} value p least) =
+    omega (arith, one_wait wait value, along from deeds (Waits wait) p)
 
-pub one_effect : (cred : Cred) (asked : SystemCall) (released : ℕ) (deeds : List Deed) (state : State) → Plays (begin cred asked released) deeds state → effects deeds ≤ 1
-one_effect cred asked released deeds state p = omega (arith, along (begin cred asked released) deeds state p, one_at_most (begin cred asked released))
+pub one_effect : (cred : Cred) (asked : SystemCall) (released : ℕ) (deeds : List Deed) (state : State) →
+    Plays (begin cred asked released) deeds state → effects deeds ≤ 1
+one_effect cred asked released deeds state p =
+    omega (arith, along (begin cred asked released) deeds state p, one_at_most (begin cred asked released))

@@ -1,6 +1,7 @@
 -- Two plays of the same deeds lead to the same state, except for the released count that a send has
 -- read, and for a wait that one of them has ended. So they end alike.
-use Rattle.std.proofs.Common.{◌≡◌, ℕ, ◌+◌, Bool, true, false, List, [], ◌∷◌, ◌++◌, Option, Some, None, cond, refl, sym, ap, ◌∙◌}
+use Rattle.std.proofs.Common.{◌≡◌, ℕ, ◌+◌, Bool, true, false, List, [], ◌∷◌, ◌++◌, Option, Some, None, cond, refl, sym}
+use Rattle.std.proofs.Common.{ap, ◌∙◌}
 use Rattle.sysv_model.specs.declared.cred.Cred.{Cred}
 use Rattle.sysv_model.specs.declared.errno.Errno.{Errno}
 use Rattle.sysv_model.specs.declared.errno.Errno.TheVariants.{EAGAIN, EINVAL}
@@ -9,9 +10,12 @@ use Rattle.sysv_model.specs.Registry.{RegistryReply}
 use Rattle.sysv_model.specs.Pool.{PoolReply, TooFew, Released, Foreign}
 use Rattle.sysv_model.specs.Turn.{Deed, AtSlot, AtRegistry, AtPool}
 use Rattle.sysv_steps.specs.Call.{SystemCall, Msgget, Msgsnd, Msgrcv, MsgctlStat, MsgctlSet, MsgctlRmid}
-use Rattle.sysv_steps.specs.State.{Sending, Wait, OnSettled, OnFreed, OnReleased, OnArrived, Afterwards, IsRefused, WaitsOn, Phase, AtBegin, AtLook, AtReserve, AtPlace, AtSendGiveback, Ending, Refused, State, Goes, Waits, Over}
+use Rattle.sysv_steps.specs.State.{Sending, Wait, OnSettled, OnFreed, OnReleased, OnArrived, Afterwards, IsRefused}
+use Rattle.sysv_steps.specs.State.{WaitsOn, Phase, AtBegin, AtLook, AtReserve, AtPlace, AtSendGiveback, Ending, Refused}
+use Rattle.sysv_steps.specs.State.{State, Goes, Waits, Over}
 use Rattle.sysv_steps.specs.Begin.{is_refused, first, begin}
-use Rattle.sysv_steps.specs.Next.{next, next_of_slot, next_of_registry, next_of_pool, after_look, after_reserve, after_place, after_giveback, waits_or, goes_on, is_full}
+use Rattle.sysv_steps.specs.Next.{next, next_of_slot, next_of_registry, next_of_pool, after_look, after_reserve}
+use Rattle.sysv_steps.specs.Next.{after_place, after_giveback, waits_or, goes_on, is_full}
 use Rattle.sysv_steps.specs.Resume.{resume}
 use Rattle.sysv_steps.specs.Played.{Plays, begins, steps, resumes}
 
@@ -49,53 +53,67 @@ core_of (Some state) = Some (core state)
 
 -- ---- the table on it
 
-waits_alike : (nowait : Bool) (one other : Wait) (why : Errno) → core (Waits one) ≡ core (Waits other) → core (goes_on (waits_or nowait one why)) ≡ core (goes_on (waits_or nowait other why))
+waits_alike : (nowait : Bool) (one other : Wait) (why : Errno) → core (Waits one) ≡ core (Waits other) →
+    core (goes_on (waits_or nowait one why)) ≡ core (goes_on (waits_or nowait other why))
 waits_alike true one other why e = refl
 waits_alike false one other why e = e
 
-after_alike : (nowait : Bool) (one other : Wait) (why : Errno) → bare_wait one ≡ bare_wait other → bare_after (waits_or nowait one why) ≡ bare_after (waits_or nowait other why)
+after_alike : (nowait : Bool) (one other : Wait) (why : Errno) → bare_wait one ≡ bare_wait other →
+    bare_after (waits_or nowait one why) ≡ bare_after (waits_or nowait other why)
 after_alike true one other why e = refl
 after_alike false one other why e = ap WaitsOn e
 
-full_core : (send : Sending) (freed : ℕ) → core_of (Some (goes_on (is_full (bare send) freed))) ≡ core_of (Some (goes_on (is_full send freed)))
+full_core : (send : Sending) (freed : ℕ) →
+    core_of (Some (goes_on (is_full (bare send) freed))) ≡ core_of (Some (goes_on (is_full send freed)))
 full_core send freed =
-    ap Some (waits_alike send.nowait (OnFreed (freed + 1) (record (bare send) { seen = true })) (OnFreed (freed + 1) (record send { seen = true })) EAGAIN refl)
+    ap Some
+    (waits_alike send.nowait (OnFreed (freed + 1) (record (bare send) { seen = true }))
+    (OnFreed (freed + 1) (record send { seen = true })) EAGAIN refl)
 
 look_core : (send : Sending) (reply : Reply) → core_of (after_look (bare send) reply) ≡ core_of (after_look send reply)
 look_core send (Full freed) = full_core send freed
 look_core send Fits = refl
 look_core send reply = refl
 
-place_core : (send : Sending) (blocks : ℕ) (reply : Reply) → core_of (after_place (bare send) blocks reply) ≡ core_of (after_place send blocks reply)
+place_core : (send : Sending) (blocks : ℕ) (reply : Reply) →
+    core_of (after_place (bare send) blocks reply) ≡ core_of (after_place send blocks reply)
 place_core send blocks (Full freed) =
     ap (λ (a : Afterwards). Some (Goes (AtSendGiveback blocks a)))
-    (after_alike send.nowait (OnFreed (freed + 1) (record (bare send) { seen = true })) (OnFreed (freed + 1) (record send { seen = true })) EAGAIN refl)
+    (after_alike send.nowait (OnFreed (freed + 1) (record (bare send) { seen = true }))
+    (OnFreed (freed + 1) (record send { seen = true })) EAGAIN refl)
 place_core send blocks reply = refl
 
-reserve_core : (send : Sending) (reply : PoolReply) → core_of (after_reserve (bare send) reply) ≡ core_of (after_reserve send reply)
-reserve_core send TooFew = ap Some (waits_alike send.nowait (OnReleased 1 (bare send)) (OnReleased (send.released + 1) send) EAGAIN refl)
+reserve_core : (send : Sending) (reply : PoolReply) →
+    core_of (after_reserve (bare send) reply) ≡ core_of (after_reserve send reply)
+reserve_core send TooFew =
+    ap Some (waits_alike send.nowait (OnReleased 1 (bare send)) (OnReleased (send.released + 1) send) EAGAIN refl)
 reserve_core send reply = refl
 
 waits_core : (wait : Wait) → core (goes_on (bare_after (WaitsOn wait))) ≡ core (goes_on (WaitsOn wait))
 waits_core (OnSettled goal get) = refl
 waits_core wait = refl
 
-giveback_core : (afterwards : Afterwards) (reply : PoolReply) → core_of (after_giveback (goes_on (bare_after afterwards)) reply) ≡ core_of (after_giveback (goes_on afterwards) reply)
+giveback_core : (afterwards : Afterwards) (reply : PoolReply) →
+    core_of (after_giveback (goes_on (bare_after afterwards)) reply)
+    ≡ core_of (after_giveback (goes_on afterwards) reply)
 giveback_core (IsRefused why) reply = refl
 giveback_core (WaitsOn wait) Released = ap Some (waits_core wait)
 giveback_core (WaitsOn wait) Foreign = ap Some (waits_core wait)
 giveback_core (WaitsOn wait) reply = refl
 
-of_slot : (phase : Phase) (reply : Reply) → core_of (next_of_slot (bare_phase phase) reply) ≡ core_of (next_of_slot phase reply)
+of_slot : (phase : Phase) (reply : Reply) →
+    core_of (next_of_slot (bare_phase phase) reply) ≡ core_of (next_of_slot phase reply)
 of_slot (AtLook send) reply = look_core send reply
 of_slot (AtPlace send blocks) reply = place_core send blocks reply
 of_slot phase reply = refl
 
-of_registry : (phase : Phase) (reply : RegistryReply) → core_of (next_of_registry (bare_phase phase) reply) ≡ core_of (next_of_registry phase reply)
+of_registry : (phase : Phase) (reply : RegistryReply) →
+    core_of (next_of_registry (bare_phase phase) reply) ≡ core_of (next_of_registry phase reply)
 of_registry (AtBegin get) reply = refl
 of_registry phase reply = refl
 
-of_pool : (phase : Phase) (reply : PoolReply) → core_of (next_of_pool (bare_phase phase) reply) ≡ core_of (next_of_pool phase reply)
+of_pool : (phase : Phase) (reply : PoolReply) →
+    core_of (next_of_pool (bare_phase phase) reply) ≡ core_of (next_of_pool phase reply)
 of_pool (AtReserve send) reply = reserve_core send reply
 of_pool (AtSendGiveback blocks afterwards) reply = giveback_core afterwards reply
 of_pool phase reply = refl
@@ -121,21 +139,25 @@ abbrev along : Option State → List Deed → Option State
 along state [] = state
 along state (deed ∷ deeds) = along (one_more state deed) deeds
 
-along_more : (state : Option State) (deeds : List Deed) (deed : Deed) → along state (deeds ++ deed ∷ []) ≡ one_more (along state deeds) deed
+along_more : (state : Option State) (deeds : List Deed) (deed : Deed) →
+    along state (deeds ++ deed ∷ []) ≡ one_more (along state deeds) deed
 along_more state [] deed = refl
 along_more state (d ∷ deeds) deed = along_more (one_more state d) deeds deed
 
-leads : (from : State) (deeds : List Deed) (state : State) → Plays from deeds state → along (Some (core from)) deeds ≡ Some (core state)
+leads : (from : State) (deeds : List Deed) (state : State) → Plays from deeds state →
+    along (Some (core from)) deeds ≡ Some (core state)
 leads from _ _ begins = refl
 leads from _ _ (steps {deeds} {phase} deed now after p asked n) =
     along_more (Some (core from)) deeds deed
     ∙ (ap (λ s. one_more s deed) (leads from deeds (Goes phase) p) ∙ (of_deed phase deed ∙ ap core_of n))
-leads from _ _ (resumes {deeds} {wait} value p least) = leads from deeds (Waits wait) p ∙ ap (λ ph. Some (Goes ph)) (resumed wait value)
+leads from _ _ (resumes {deeds} {wait} value p least) =
+    leads from deeds (Waits wait) p ∙ ap (λ ph. Some (Goes ph)) (resumed wait value)
 
 -- ---- one beginning, and one end
 
 begun_alike : (cred : Cred) (asked : SystemCall) (released later : ℕ) (refused : Bool) →
-    core (cond refused (Over (Refused EINVAL)) (Goes (first cred asked released))) ≡ core (cond refused (Over (Refused EINVAL)) (Goes (first cred asked later)))
+    core (cond refused (Over (Refused EINVAL)) (Goes (first cred asked released)))
+    ≡ core (cond refused (Over (Refused EINVAL)) (Goes (first cred asked later)))
 begun_alike cred asked released later true = refl
 begun_alike cred (Msgget key flags) released later false = refl
 begun_alike cred (Msgsnd id mtype flags text) released later false = refl

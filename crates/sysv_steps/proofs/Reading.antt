@@ -8,9 +8,16 @@ use Rattle.sysv_model.specs.Registry.{RegistryReply, Changed}
 use Rattle.sysv_model.specs.Pool.{PoolReply, Reserved, TooFew, Released, Foreign}
 use Rattle.sysv_model.specs.Turn.{Deed, AtSlot, AtRegistry, AtPool}
 use Rattle.sysv_steps.specs.Call.{SystemCall, Msgget, Msgsnd, Msgrcv, MsgctlStat, MsgctlSet, MsgctlRmid}
-use Rattle.sysv_steps.specs.State.{Getting, Sending, Receiving, Wait, OnSettled, OnFreed, OnReleased, OnArrived, Afterwards, IsRefused, WaitsOn, Phase, AtBegin, AtInstall, AtSettle, AtProbe, AtUnmake, AtLook, AtReserve, AtPlace, AtSendGiveback, AtTake, AtReceiveGiveback, AtStat, AtSet, AtSetGiveback, AtRemove, AtForget, AtRemoveGiveback, Ending, Zero, Got, Refused, State, Goes, Waits, Over}
+use Rattle.sysv_steps.specs.State.{Getting, Sending, Receiving, Wait, OnSettled, OnFreed, OnReleased, OnArrived}
+use Rattle.sysv_steps.specs.State.{Afterwards, IsRefused, WaitsOn, Phase, AtBegin, AtInstall, AtSettle, AtProbe}
+use Rattle.sysv_steps.specs.State.{AtUnmake, AtLook, AtReserve, AtPlace, AtSendGiveback, AtTake, AtReceiveGiveback}
+use Rattle.sysv_steps.specs.State.{AtStat, AtSet, AtSetGiveback, AtRemove, AtForget, AtRemoveGiveback, Ending, Zero}
+use Rattle.sysv_steps.specs.State.{Got, Refused, State, Goes, Waits, Over}
 use Rattle.sysv_steps.specs.Begin.{is_refused, first, begin}
-use Rattle.sysv_steps.specs.Next.{next, next_of_slot, next_of_registry, next_of_pool, after_begin, after_install, after_settle, after_unmake, after_probe, waits_or, goes_on, is_full, after_look, after_reserve, after_place, after_take, after_stat, after_set, after_remove, after_forget, after_giveback}
+use Rattle.sysv_steps.specs.Next.{next, next_of_slot, next_of_registry, next_of_pool, after_begin, after_install}
+use Rattle.sysv_steps.specs.Next.{after_settle, after_unmake, after_probe, waits_or, goes_on, is_full, after_look}
+use Rattle.sysv_steps.specs.Next.{after_reserve, after_place, after_take, after_stat, after_set, after_remove}
+use Rattle.sysv_steps.specs.Next.{after_forget, after_giveback}
 use Rattle.sysv_steps.specs.Resume.{resume}
 use Rattle.sysv_steps.specs.Played.{Plays, begins, steps, resumes}
 use Rattle.sysv_steps.specs.ReadLast.{read_then, read_last}
@@ -45,7 +52,8 @@ goes_so : (read : ℕ) (afterwards : Afterwards) → KnowsAfter read afterwards 
 goes_so read (IsRefused why) h = tt
 goes_so read (WaitsOn wait) h = h
 
-waits_so : (read : ℕ) (nowait : Bool) (wait : Wait) (why : Errno) → KnowsWait read wait → KnowsAfter read (waits_or nowait wait why)
+waits_so : (read : ℕ) (nowait : Bool) (wait : Wait) (why : Errno) → KnowsWait read wait →
+    KnowsAfter read (waits_or nowait wait why)
 waits_so read true wait why h = tt
 waits_so read false wait why h = h
 
@@ -69,7 +77,8 @@ unmake_row : (read : ℕ) (reply : RegistryReply) → KnowsIf read (after_unmake
 unmake_row read (Changed done) = tt
 unmake_row read reply = tt
 
-probe_row : (read : ℕ) (get : Getting) (id : ℤ) (settled : ℕ) (reply : Reply) → KnowsIf read (after_probe get id settled reply)
+probe_row : (read : ℕ) (get : Getting) (id : ℤ) (settled : ℕ) (reply : Reply) →
+    KnowsIf read (after_probe get id settled reply)
 probe_row read get id settled Gone = tt
 probe_row read get id settled reply = tt
 
@@ -78,14 +87,16 @@ look_row read send (Full freed) h = goes_so read (is_full send freed) (full_row 
 look_row read send Fits h = h
 look_row read send reply h = tt
 
-reserve_row : (read : ℕ) (send : Sending) (reply : PoolReply) → send.released ≡ read → KnowsIf read (after_reserve send reply)
+reserve_row : (read : ℕ) (send : Sending) (reply : PoolReply) → send.released ≡ read →
+    KnowsIf read (after_reserve send reply)
 reserve_row read send (Reserved blocks) h = h
 reserve_row read send TooFew h =
     let wait = OnReleased (send.released + 1) send in
     goes_so read (waits_or send.nowait wait EAGAIN) (waits_so read send.nowait wait EAGAIN (h, cc))
 reserve_row read send reply h = tt
 
-place_row : (read : ℕ) (send : Sending) (blocks : ℕ) (reply : Reply) → send.released ≡ read → KnowsIf read (after_place send blocks reply)
+place_row : (read : ℕ) (send : Sending) (blocks : ℕ) (reply : Reply) → send.released ≡ read →
+    KnowsIf read (after_place send blocks reply)
 place_row read send blocks (Full freed) h = full_row read send freed h
 place_row read send blocks reply h = tt
 
@@ -111,7 +122,8 @@ forget_row : (read : ℕ) (blocks : ℕ) (reply : RegistryReply) → KnowsIf rea
 forget_row read blocks (Changed done) = tt
 forget_row read blocks reply = tt
 
-giveback_row : (read : ℕ) (afterwards : Afterwards) (reply : PoolReply) → KnowsAfter read afterwards → KnowsIf read (after_giveback (goes_on afterwards) reply)
+giveback_row : (read : ℕ) (afterwards : Afterwards) (reply : PoolReply) → KnowsAfter read afterwards →
+    KnowsIf read (after_giveback (goes_on afterwards) reply)
 giveback_row read afterwards Released h = goes_so read afterwards h
 giveback_row read afterwards Foreign h = goes_so read afterwards h
 giveback_row read afterwards reply h = tt
@@ -140,7 +152,8 @@ at_registry read (AtUnmake id) reply = unmake_row read reply
 at_registry read (AtForget id blocks) reply = forget_row read blocks reply
 at_registry read phase reply = tt
 
-at_pool : (read : ℕ) (phase : Phase) (reply : PoolReply) → Knows read (Goes phase) → KnowsIf read (next_of_pool phase reply)
+at_pool : (read : ℕ) (phase : Phase) (reply : PoolReply) → Knows read (Goes phase) →
+    KnowsIf read (next_of_pool phase reply)
 at_pool read (AtReserve send) reply h = reserve_row read send reply h
 at_pool read (AtSendGiveback blocks afterwards) reply h = giveback_row read afterwards reply h
 at_pool read (AtReceiveGiveback blocks mtype text) reply h = last_giveback_row read (Got mtype text) reply
@@ -155,7 +168,8 @@ one_row read phase (AtPool call reply) h = at_pool read phase reply h
 
 -- ---- along a play
 
-started : (cred : Cred) (asked : SystemCall) (released : ℕ) (b : Bool) → Knows released (cond b (Over (Refused EINVAL)) (Goes (first cred asked released)))
+started : (cred : Cred) (asked : SystemCall) (released : ℕ) (b : Bool) →
+    Knows released (cond b (Over (Refused EINVAL)) (Goes (first cred asked released)))
 started cred asked released true = tt
 started cred (Msgget key flags) released false = tt
 started cred (Msgsnd id mtype flags text) released false = refl
@@ -164,20 +178,26 @@ started cred (MsgctlStat id) released false = tt
 started cred (MsgctlSet id to) released false = tt
 started cred (MsgctlRmid id) released false = tt
 
-resumed : (read : ℕ) (wait : Wait) (value : ℕ) → KnowsWait read wait → Knows (read_then wait value read) (Goes (resume wait value))
+resumed : (read : ℕ) (wait : Wait) (value : ℕ) → KnowsWait read wait →
+    Knows (read_then wait value read) (Goes (resume wait value))
 resumed read (OnSettled goal get) value h = tt
 resumed read (OnFreed goal send) value h = h
 resumed read (OnReleased goal send) value h = refl
 resumed read (OnArrived goal receive) value h = tt
 
-along : (cred : Cred) (asked : SystemCall) (released : ℕ) (deeds : List Deed) (state : State) (play : Plays (begin cred asked released) deeds state) → Knows (read_last released (begin cred asked released) deeds state play) state
+along : (cred : Cred) (asked : SystemCall) (released : ℕ) (deeds : List Deed) (state : State)
+    (play : Plays (begin cred asked released) deeds state) →
+    Knows (read_last released (begin cred asked released) deeds state play) state
 along cred asked released _ _ begins = started cred asked released (is_refused asked)
 along cred asked released _ _ (steps {deeds} {phase} deed now after p is n) =
     let read = read_last released (begin cred asked released) deeds (Goes phase) p in
     subst (KnowsIf read) n (one_row read phase deed (along cred asked released deeds (Goes phase) p))
 along cred asked released _ _ (resumes {deeds} {wait} value p least) =
-    resumed (read_last released (begin cred asked released) deeds (Waits wait) p) wait value (along cred asked released deeds (Waits wait) p)
+    resumed (read_last released (begin cred asked released) deeds (Waits wait) p) wait value
+    (along cred asked released deeds (Waits wait) p)
 
-pub each_read : (cred : Cred) (asked : SystemCall) (released : ℕ) (deeds : List Deed) (goal : ℕ) (send : Sending) (play : Plays (begin cred asked released) deeds (Waits (OnReleased goal send))) →
+pub each_read : (cred : Cred) (asked : SystemCall) (released : ℕ) (deeds : List Deed) (goal : ℕ) (send : Sending)
+    (play : Plays (begin cred asked released) deeds (Waits (OnReleased goal send))) →
     goal ≡ read_last released (begin cred asked released) deeds (Waits (OnReleased goal send)) play + 1
-each_read cred asked released deeds goal send play = (along cred asked released deeds (Waits (OnReleased goal send)) play).1
+each_read cred asked released deeds goal send play =
+    (along cred asked released deeds (Waits (OnReleased goal send)) play).1

@@ -1,7 +1,8 @@
 -- A receive that plays to its end has a right result. While it is under way, it has taken no
 -- message, its identifier was not found gone, and it remembers whether the identifier was found
 -- live; one that does not wait has met no want of a message.
-use Rattle.std.proofs.Common.{◌≡◌, ℕ, ℤ, ◌+◌, ◌≤◌, inl, inr, Bool, true, false, List, [], ◌∷◌, ◌++◌, Some, cond, refl, sym, ap, subst, ◌∙◌, arith, take, length}
+use Rattle.std.proofs.Common.{◌≡◌, ℕ, ℤ, ◌+◌, ◌≤◌, inl, inr, Bool, true, false, List, [], ◌∷◌, ◌++◌, Some, cond, refl}
+use Rattle.std.proofs.Common.{sym, ap, subst, ◌∙◌, arith, take, length}
 use Rattle.std.specs.List.{list_any, flat_map}
 use Rattle.std.proofs.lemmas.Grind.{flat_map-append}
 use Rattle.sysv_model.specs.declared.cred.Cred.{Cred}
@@ -14,12 +15,14 @@ use Rattle.sysv_model.specs.History.{Call, Reply, Gone, Denied, NoMatch, TooLong
 use Rattle.sysv_model.specs.Pool.{PoolCall, PoolReply, Released, Foreign, blocks_for}
 use Rattle.sysv_model.specs.Turn.{Deed, AtSlot, AtPool}
 use Rattle.sysv_steps.specs.Call.{Msgrcv}
-use Rattle.sysv_steps.specs.State.{Receiving, Wait, OnArrived, Phase, AtTake, AtReceiveGiveback, Ending, Got, Refused, State, Goes, Waits, Over}
+use Rattle.sysv_steps.specs.State.{Receiving, Wait, OnArrived, Phase, AtTake, AtReceiveGiveback, Ending, Got, Refused}
+use Rattle.sysv_steps.specs.State.{State, Goes, Waits, Over}
 use Rattle.sysv_steps.specs.Begin.{is_refused, first, begin}
 use Rattle.sysv_steps.specs.Next.{next, next_of_slot, gone, waits_or, goes_on}
 use Rattle.sysv_steps.specs.Resume.{resume}
 use Rattle.sysv_steps.specs.Played.{Plays, begins, steps, resumes}
-use Rattle.sysv_steps.specs.Answers.{was_denied, was_too_long, found_none, found_gone, found_live, taken_by, IsRightReceive}
+use Rattle.sysv_steps.specs.Answers.{was_denied, was_too_long, found_none, found_gone, found_live, taken_by}
+use Rattle.sysv_steps.specs.Answers.{IsRightReceive}
 use Rattle.sysv_steps.proofs.Among.{apart, kept, found, gave}
 
 never : {m : Message} → [] ≡ m ∷ [] → ⊥
@@ -28,11 +31,14 @@ never e = cc
 only : (m n : Message) → m ∷ [] ≡ n ∷ [] → m ≡ n
 only m n e = cc
 
-same_got : (size : ℕ) (m n : Message) (mtype : ℤ) (text : List ℕ) → m ≡ n → mtype ≡ n.mtype → text ≡ take size n.bytes → Got m.mtype (take size m.bytes) ≡ Got mtype text
+same_got : (size : ℕ) (m n : Message) (mtype : ℤ) (text : List ℕ) → m ≡ n → mtype ≡ n.mtype → text ≡ take size n.bytes →
+    Got m.mtype (take size m.bytes) ≡ Got mtype text
 same_got size m n mtype text e a b = cc
 
-taken_with : (deeds : List Deed) (deed : Deed) (ms : List Message) → flat_map taken_by deeds ≡ [] → flat_map taken_by (deed ∷ []) ≡ ms → flat_map taken_by (deeds ++ deed ∷ []) ≡ ms
-taken_with deeds deed ms e m = flat_map-append taken_by deeds (deed ∷ []) ∙ (ap (λ (l : List Message). l ++ flat_map taken_by (deed ∷ [])) e ∙ m)
+taken_with : (deeds : List Deed) (deed : Deed) (ms : List Message) → flat_map taken_by deeds ≡ [] →
+    flat_map taken_by (deed ∷ []) ≡ ms → flat_map taken_by (deeds ++ deed ∷ []) ≡ ms
+taken_with deeds deed ms e m =
+    flat_map-append taken_by deeds (deed ∷ []) ∙ (ap (λ (l : List Message). l ++ flat_map taken_by (deed ∷ [])) e ∙ m)
 
 module _ (id : ℤ) (size : ℕ) (mtype : ℤ) (flags : Flags) where
   abbrev IsRight : List Deed → Ending → Type 0
@@ -69,10 +75,21 @@ module _ (id : ℤ) (size : ℕ) (mtype : ℤ) (flags : Flags) where
     only = inr (inr (inr (inr (inr (inl refl)))));
   }
 
-  started : (cred : Cred) (released : ℕ) (b : Bool) → is_refused (Msgrcv id size mtype flags) ≡ b → ReceiveAt [] (cond b (Over (Refused EINVAL)) (Goes (first cred (Msgrcv id size mtype flags) released)))
+  started : (cred : Cred) (released : ℕ) (b : Bool) → is_refused (Msgrcv id size mtype flags) ≡ b →
+      ReceiveAt [] (cond b (Over (Refused EINVAL)) (Goes (first cred (Msgrcv id size mtype flags) released)))
   started cred released true r = refused_at_once r
   started cred released false r =
-      record { allowed = r; nowait = refl; wanted = refl; taken = refl; none = λ n. refl; long = refl; denied = refl; gone = refl; live = refl }
+      record {
+        allowed = r;
+        nowait = refl;
+        wanted = refl;
+        taken = refl;
+        none = λ n. refl;
+        long = refl;
+        denied = refl;
+        gone = refl;
+        live = refl;
+      }
 
   module _ (receive : Receiving) (deeds : List Deed) (u : UnderWay receive deeds) (slot : ℕ) (call : Call) where
     abbrev with : Reply → List Deed
@@ -81,9 +98,12 @@ module _ (id : ℤ) (size : ℕ) (mtype : ℤ) (flags : Flags) where
     gone_right : (seen : Bool) → list_any found_live deeds ≡ seen → IsRight (with Gone) (Refused (gone seen))
     gone_right true l =
         let m : flat_map taken_by (with Gone) ≡ [] = taken_with deeds (AtSlot slot call Gone) [] u.taken refl in
-        let n : list_any found_none (with Gone) ≡ list_any found_none deeds = kept found_none deeds (AtSlot slot call Gone) refl in
-        let z : list_any was_too_long (with Gone) ≡ false = kept was_too_long deeds (AtSlot slot call Gone) refl ∙ u.long in
-        let d : list_any was_denied (with Gone) ≡ false = kept was_denied deeds (AtSlot slot call Gone) refl ∙ u.denied in
+        let n : list_any found_none (with Gone) ≡ list_any found_none deeds =
+        kept found_none deeds (AtSlot slot call Gone) refl in
+        let z : list_any was_too_long (with Gone) ≡ false =
+        kept was_too_long deeds (AtSlot slot call Gone) refl ∙ u.long in
+        let d : list_any was_denied (with Gone) ≡ false =
+        kept was_denied deeds (AtSlot slot call Gone) refl ∙ u.denied in
         let g : list_any found_gone (with Gone) ≡ true = found found_gone deeds (AtSlot slot call Gone) refl in
         let k : list_any found_live (with Gone) ≡ true = kept found_live deeds (AtSlot slot call Gone) refl ∙ l in
         record {
@@ -98,9 +118,12 @@ module _ (id : ℤ) (size : ℕ) (mtype : ℤ) (flags : Flags) where
         }
     gone_right false l =
         let m : flat_map taken_by (with Gone) ≡ [] = taken_with deeds (AtSlot slot call Gone) [] u.taken refl in
-        let n : list_any found_none (with Gone) ≡ list_any found_none deeds = kept found_none deeds (AtSlot slot call Gone) refl in
-        let z : list_any was_too_long (with Gone) ≡ false = kept was_too_long deeds (AtSlot slot call Gone) refl ∙ u.long in
-        let d : list_any was_denied (with Gone) ≡ false = kept was_denied deeds (AtSlot slot call Gone) refl ∙ u.denied in
+        let n : list_any found_none (with Gone) ≡ list_any found_none deeds =
+        kept found_none deeds (AtSlot slot call Gone) refl in
+        let z : list_any was_too_long (with Gone) ≡ false =
+        kept was_too_long deeds (AtSlot slot call Gone) refl ∙ u.long in
+        let d : list_any was_denied (with Gone) ≡ false =
+        kept was_denied deeds (AtSlot slot call Gone) refl ∙ u.denied in
         let g : list_any found_gone (with Gone) ≡ true = found found_gone deeds (AtSlot slot call Gone) refl in
         let k : list_any found_live (with Gone) ≡ false = kept found_live deeds (AtSlot slot call Gone) refl ∙ l in
         record {
@@ -117,10 +140,13 @@ module _ (id : ℤ) (size : ℕ) (mtype : ℤ) (flags : Flags) where
     denied_right : IsRight (with Denied) (Refused EACCES)
     denied_right =
         let m : flat_map taken_by (with Denied) ≡ [] = taken_with deeds (AtSlot slot call Denied) [] u.taken refl in
-        let n : list_any found_none (with Denied) ≡ list_any found_none deeds = kept found_none deeds (AtSlot slot call Denied) refl in
-        let z : list_any was_too_long (with Denied) ≡ false = kept was_too_long deeds (AtSlot slot call Denied) refl ∙ u.long in
+        let n : list_any found_none (with Denied) ≡ list_any found_none deeds =
+        kept found_none deeds (AtSlot slot call Denied) refl in
+        let z : list_any was_too_long (with Denied) ≡ false =
+        kept was_too_long deeds (AtSlot slot call Denied) refl ∙ u.long in
         let d : list_any was_denied (with Denied) ≡ true = found was_denied deeds (AtSlot slot call Denied) refl in
-        let g : list_any found_gone (with Denied) ≡ false = kept found_gone deeds (AtSlot slot call Denied) refl ∙ u.gone in
+        let g : list_any found_gone (with Denied) ≡ false =
+        kept found_gone deeds (AtSlot slot call Denied) refl ∙ u.gone in
         record {
           got = λ mtype text. (λ e. cc, λ t. absurd (never (sym m ∙ t.1)));
           once = omega (arith, ap length m);
@@ -134,11 +160,16 @@ module _ (id : ℤ) (size : ℕ) (mtype : ℤ) (flags : Flags) where
 
     none_right : (arrived : ℕ) → receive.nowait ≡ true → IsRight (with (NoMatch arrived)) (Refused ENOMSG)
     none_right arrived nowait =
-        let m : flat_map taken_by (with (NoMatch arrived)) ≡ [] = taken_with deeds (AtSlot slot call (NoMatch arrived)) [] u.taken refl in
-        let n : list_any found_none (with (NoMatch arrived)) ≡ true = found found_none deeds (AtSlot slot call (NoMatch arrived)) refl in
-        let z : list_any was_too_long (with (NoMatch arrived)) ≡ false = kept was_too_long deeds (AtSlot slot call (NoMatch arrived)) refl ∙ u.long in
-        let d : list_any was_denied (with (NoMatch arrived)) ≡ false = kept was_denied deeds (AtSlot slot call (NoMatch arrived)) refl ∙ u.denied in
-        let g : list_any found_gone (with (NoMatch arrived)) ≡ false = kept found_gone deeds (AtSlot slot call (NoMatch arrived)) refl ∙ u.gone in
+        let m : flat_map taken_by (with (NoMatch arrived)) ≡ [] =
+        taken_with deeds (AtSlot slot call (NoMatch arrived)) [] u.taken refl in
+        let n : list_any found_none (with (NoMatch arrived)) ≡ true =
+        found found_none deeds (AtSlot slot call (NoMatch arrived)) refl in
+        let z : list_any was_too_long (with (NoMatch arrived)) ≡ false =
+        kept was_too_long deeds (AtSlot slot call (NoMatch arrived)) refl ∙ u.long in
+        let d : list_any was_denied (with (NoMatch arrived)) ≡ false =
+        kept was_denied deeds (AtSlot slot call (NoMatch arrived)) refl ∙ u.denied in
+        let g : list_any found_gone (with (NoMatch arrived)) ≡ false =
+        kept found_gone deeds (AtSlot slot call (NoMatch arrived)) refl ∙ u.gone in
         record {
           got = λ mtype text. (λ e. cc, λ t. absurd (never (sym m ∙ t.1)));
           once = omega (arith, ap length m);
@@ -150,7 +181,8 @@ module _ (id : ℤ) (size : ℕ) (mtype : ℤ) (flags : Flags) where
           only = inr (inl refl);
         }
 
-    none_waits : (arrived : ℕ) → receive.nowait ≡ false → UnderWay (record receive { seen = true }) (with (NoMatch arrived))
+    none_waits : (arrived : ℕ) → receive.nowait ≡ false →
+        UnderWay (record receive { seen = true }) (with (NoMatch arrived))
     none_waits arrived nowait = record {
       allowed = u.allowed;
       nowait = u.nowait;
@@ -163,17 +195,23 @@ module _ (id : ℤ) (size : ℕ) (mtype : ℤ) (flags : Flags) where
       live = found found_live deeds (AtSlot slot call (NoMatch arrived)) refl;
     }
 
-    none_goes : (arrived : ℕ) (b : Bool) → receive.nowait ≡ b → ReceiveAt (with (NoMatch arrived)) (goes_on (waits_or b (OnArrived (arrived + 1) (record receive { seen = true })) ENOMSG))
+    none_goes : (arrived : ℕ) (b : Bool) → receive.nowait ≡ b →
+        ReceiveAt (with (NoMatch arrived))
+        (goes_on (waits_or b (OnArrived (arrived + 1) (record receive { seen = true })) ENOMSG))
     none_goes arrived true n = none_right arrived n
     none_goes arrived false n = none_waits arrived n
 
     long_right : IsRight (with TooLong) (Refused E2BIG)
     long_right =
         let m : flat_map taken_by (with TooLong) ≡ [] = taken_with deeds (AtSlot slot call TooLong) [] u.taken refl in
-        let n : list_any found_none (with TooLong) ≡ list_any found_none deeds = kept found_none deeds (AtSlot slot call TooLong) refl in
-        let z : list_any was_too_long (with TooLong) ≡ true = found was_too_long deeds (AtSlot slot call TooLong) refl in
-        let d : list_any was_denied (with TooLong) ≡ false = kept was_denied deeds (AtSlot slot call TooLong) refl ∙ u.denied in
-        let g : list_any found_gone (with TooLong) ≡ false = kept found_gone deeds (AtSlot slot call TooLong) refl ∙ u.gone in
+        let n : list_any found_none (with TooLong) ≡ list_any found_none deeds =
+        kept found_none deeds (AtSlot slot call TooLong) refl in
+        let z : list_any was_too_long (with TooLong) ≡ true =
+        found was_too_long deeds (AtSlot slot call TooLong) refl in
+        let d : list_any was_denied (with TooLong) ≡ false =
+        kept was_denied deeds (AtSlot slot call TooLong) refl ∙ u.denied in
+        let g : list_any found_gone (with TooLong) ≡ false =
+        kept found_gone deeds (AtSlot slot call TooLong) refl ∙ u.gone in
         record {
           got = λ mtype text. (λ e. cc, λ t. absurd (never (sym m ∙ t.1)));
           once = omega (arith, ap length m);
@@ -187,13 +225,19 @@ module _ (id : ℤ) (size : ℕ) (mtype : ℤ) (flags : Flags) where
 
     taken_right : (m : Message) → IsRight (with (Taken m)) (Got m.mtype (take size m.bytes))
     taken_right m =
-        let l : flat_map taken_by (with (Taken m)) ≡ m ∷ [] = taken_with deeds (AtSlot slot call (Taken m)) (m ∷ []) u.taken refl in
-        let n : list_any found_none (with (Taken m)) ≡ list_any found_none deeds = kept found_none deeds (AtSlot slot call (Taken m)) refl in
-        let z : list_any was_too_long (with (Taken m)) ≡ false = kept was_too_long deeds (AtSlot slot call (Taken m)) refl ∙ u.long in
-        let d : list_any was_denied (with (Taken m)) ≡ false = kept was_denied deeds (AtSlot slot call (Taken m)) refl ∙ u.denied in
-        let g : list_any found_gone (with (Taken m)) ≡ false = kept found_gone deeds (AtSlot slot call (Taken m)) refl ∙ u.gone in
+        let l : flat_map taken_by (with (Taken m)) ≡ m ∷ [] =
+        taken_with deeds (AtSlot slot call (Taken m)) (m ∷ []) u.taken refl in
+        let n : list_any found_none (with (Taken m)) ≡ list_any found_none deeds =
+        kept found_none deeds (AtSlot slot call (Taken m)) refl in
+        let z : list_any was_too_long (with (Taken m)) ≡ false =
+        kept was_too_long deeds (AtSlot slot call (Taken m)) refl ∙ u.long in
+        let d : list_any was_denied (with (Taken m)) ≡ false =
+        kept was_denied deeds (AtSlot slot call (Taken m)) refl ∙ u.denied in
+        let g : list_any found_gone (with (Taken m)) ≡ false =
+        kept found_gone deeds (AtSlot slot call (Taken m)) refl ∙ u.gone in
         record {
-          got = λ mtype text. (λ e. (m, l, cc, cc), λ t. same_got size m t.0 mtype text (only m t.0 (sym l ∙ t.1)) t.2 t.3);
+          got = λ mtype text.
+              (λ e. (m, l, cc, cc), λ t. same_got size m t.0 mtype text (only m t.0 (sym l ∙ t.1)) t.2 t.3);
           once = omega (arith, ap length l);
           none = (λ e. cc, λ t. apart _ t.1 (n ∙ u.none (u.nowait ∙ t.0)));
           long = (λ e. cc, λ t. apart _ t z);
@@ -204,19 +248,29 @@ module _ (id : ℤ) (size : ℕ) (mtype : ℤ) (flags : Flags) where
         }
 
     -- One more deed at a take.
-    take_step : (reply : Reply) (after : State) → next (AtTake receive) (AtSlot slot call reply) ≡ Some after → ReceiveAt (with reply) after
-    take_step Gone after n = let e : Over (Refused (gone receive.seen)) ≡ after = cc in subst (ReceiveAt (with Gone)) e (gone_right receive.seen u.live)
-    take_step Denied after n = let e : Over (Refused EACCES) ≡ after = cc in subst (ReceiveAt (with Denied)) e denied_right
+    take_step : (reply : Reply) (after : State) → next (AtTake receive) (AtSlot slot call reply) ≡ Some after →
+        ReceiveAt (with reply) after
+    take_step Gone after n =
+        let e : Over (Refused (gone receive.seen)) ≡ after = cc in
+        subst (ReceiveAt (with Gone)) e (gone_right receive.seen u.live)
+    take_step Denied after n =
+        let e : Over (Refused EACCES) ≡ after = cc in subst (ReceiveAt (with Denied)) e denied_right
     take_step (NoMatch arrived) after n =
-        let e : goes_on (waits_or receive.nowait (OnArrived (arrived + 1) (record receive { seen = true })) ENOMSG) ≡ after = cc in
+        let e : goes_on (waits_or receive.nowait (OnArrived (arrived + 1) (record receive { seen = true })) ENOMSG)
+        ≡ after = cc in
         subst (ReceiveAt (with (NoMatch arrived))) e (none_goes arrived receive.nowait refl)
-    take_step TooLong after n = let e : Over (Refused E2BIG) ≡ after = cc in subst (ReceiveAt (with TooLong)) e long_right
+    take_step TooLong after n =
+        let e : Over (Refused E2BIG) ≡ after = cc in subst (ReceiveAt (with TooLong)) e long_right
     take_step (Taken m) after n =
-        let e : Goes (AtReceiveGiveback (blocks_for (length m.bytes)) m.mtype (take receive.size m.bytes)) ≡ after = cc in
-        subst (ReceiveAt (with (Taken m))) (ap (λ (k : ℕ). Goes (AtReceiveGiveback (blocks_for (length m.bytes)) m.mtype (take k m.bytes))) (sym u.wanted) ∙ e) (taken_right m)
+        let e : Goes (AtReceiveGiveback (blocks_for (length m.bytes)) m.mtype (take receive.size m.bytes)) ≡ after =
+        cc in
+        subst (ReceiveAt (with (Taken m)))
+        (ap (λ (k : ℕ). Goes (AtReceiveGiveback (blocks_for (length m.bytes)) m.mtype (take k m.bytes))) (sym u.wanted)
+        ∙ e) (taken_right m)
     take_step reply after n = absurd cc
 
-  right_still : (deeds : List Deed) (deed : Deed) (ending : Ending) (call : PoolCall) (reply : PoolReply) → deed ≡ AtPool call reply → IsRight deeds ending → IsRight (deeds ++ deed ∷ []) ending
+  right_still : (deeds : List Deed) (deed : Deed) (ending : Ending) (call : PoolCall) (reply : PoolReply) →
+      deed ≡ AtPool call reply → IsRight deeds ending → IsRight (deeds ++ deed ∷ []) ending
   right_still deeds deed ending call reply is r =
       let t = gave taken_by deeds deed (ap taken_by is) in
       let n = kept found_none deeds deed (ap found_none is) in
@@ -241,38 +295,52 @@ module _ (id : ℤ) (size : ℕ) (mtype : ℤ) (flags : Flags) where
         only = r.only;
       }
 
-  giveback_step : (deeds : List Deed) (blocks : ℕ) (type : ℤ) (text : List ℕ) (call : PoolCall) (reply : PoolReply) (after : State) → IsRight deeds (Got type text) →
-      next (AtReceiveGiveback blocks type text) (AtPool call reply) ≡ Some after → ReceiveAt (deeds ++ AtPool call reply ∷ []) after
+  giveback_step : (deeds : List Deed) (blocks : ℕ) (type : ℤ) (text : List ℕ) (call : PoolCall) (reply : PoolReply)
+      (after : State) → IsRight deeds (Got type text) →
+      next (AtReceiveGiveback blocks type text) (AtPool call reply) ≡ Some after →
+      ReceiveAt (deeds ++ AtPool call reply ∷ []) after
   giveback_step deeds blocks type text call Released after r n =
       let e : Over (Got type text) ≡ after = cc in
-      subst (ReceiveAt (deeds ++ AtPool call Released ∷ [])) e (right_still deeds (AtPool call Released) (Got type text) call Released refl r)
+      subst (ReceiveAt (deeds ++ AtPool call Released ∷ [])) e
+      (right_still deeds (AtPool call Released) (Got type text) call Released refl r)
   giveback_step deeds blocks type text call Foreign after r n =
       let e : Over (Got type text) ≡ after = cc in
-      subst (ReceiveAt (deeds ++ AtPool call Foreign ∷ [])) e (right_still deeds (AtPool call Foreign) (Got type text) call Foreign refl r)
+      subst (ReceiveAt (deeds ++ AtPool call Foreign ∷ [])) e
+      (right_still deeds (AtPool call Foreign) (Got type text) call Foreign refl r)
   giveback_step deeds blocks type text call reply after r n = absurd cc
 
-  one_step : (deeds : List Deed) (phase : Phase) (deed : Deed) (after : State) → ReceiveAt deeds (Goes phase) → next phase deed ≡ Some after → ReceiveAt (deeds ++ deed ∷ []) after
-  one_step deeds (AtTake receive) (AtSlot slot call reply) after at n = take_step receive deeds at slot call reply after n
-  one_step deeds (AtReceiveGiveback blocks type text) (AtPool call reply) after at n = giveback_step deeds blocks type text call reply after at n
+  one_step : (deeds : List Deed) (phase : Phase) (deed : Deed) (after : State) → ReceiveAt deeds (Goes phase) →
+      next phase deed ≡ Some after → ReceiveAt (deeds ++ deed ∷ []) after
+  one_step deeds (AtTake receive) (AtSlot slot call reply) after at n =
+      take_step receive deeds at slot call reply after n
+  one_step deeds (AtReceiveGiveback blocks type text) (AtPool call reply) after at n =
+      giveback_step deeds blocks type text call reply after at n
   one_step deeds (AtTake receive) deed after at n = absurd cc
   one_step deeds (AtReceiveGiveback blocks type text) deed after at n = absurd cc
   one_step deeds phase deed after at n = absurd at
 
-  one_wait : (deeds : List Deed) (wait : Wait) (value : ℕ) → ReceiveAt deeds (Waits wait) → ReceiveAt deeds (Goes (resume wait value))
+  one_wait : (deeds : List Deed) (wait : Wait) (value : ℕ) → ReceiveAt deeds (Waits wait) →
+      ReceiveAt deeds (Goes (resume wait value))
   one_wait deeds (OnArrived goal receive) value at = at
   one_wait deeds wait value at = absurd at
 
-  pub receive_at : (cred : Cred) (released : ℕ) (deeds : List Deed) (state : State) → Plays (begin cred (Msgrcv id size mtype flags) released) deeds state → ReceiveAt deeds state
+  pub receive_at : (cred : Cred) (released : ℕ) (deeds : List Deed) (state : State) →
+      Plays (begin cred (Msgrcv id size mtype flags) released) deeds state → ReceiveAt deeds state
   receive_at cred released _ _ begins = started cred released (is_refused (Msgrcv id size mtype flags)) refl
-  receive_at cred released _ _ (steps {deeds} {phase} deed now after p asked n) = one_step deeds phase deed after (receive_at cred released deeds (Goes phase) p) n
-  receive_at cred released _ _ (resumes {deeds} {wait} value p least) = one_wait deeds wait value (receive_at cred released deeds (Waits wait) p)
+  receive_at cred released _ _ (steps {deeds} {phase} deed now after p asked n) =
+      one_step deeds phase deed after (receive_at cred released deeds (Goes phase) p) n
+  receive_at cred released _ _ (resumes {deeds} {wait} value p least) =
+      one_wait deeds wait value (receive_at cred released deeds (Waits wait) p)
 
-  none_gone : (deeds : List Deed) (phase : Phase) (reply : Reply) (after : State) → ReceiveAt deeds (Goes phase) → next_of_slot phase reply ≡ Some after → list_any found_gone deeds ≡ false
+  none_gone : (deeds : List Deed) (phase : Phase) (reply : Reply) (after : State) → ReceiveAt deeds (Goes phase) →
+      next_of_slot phase reply ≡ Some after → list_any found_gone deeds ≡ false
   none_gone deeds (AtTake receive) reply after at n = at.gone
   none_gone deeds (AtReceiveGiveback blocks type text) reply after at n = absurd cc
   none_gone deeds phase reply after at n = absurd at
 
   -- A receive that comes to a slot has not found its identifier gone before.
-  pub receive_goes_on : (cred : Cred) (released : ℕ) (deeds : List Deed) (phase : Phase) (reply : Reply) (after : State) → Plays (begin cred (Msgrcv id size mtype flags) released) deeds (Goes phase) →
+  pub receive_goes_on : (cred : Cred) (released : ℕ) (deeds : List Deed) (phase : Phase) (reply : Reply)
+      (after : State) → Plays (begin cred (Msgrcv id size mtype flags) released) deeds (Goes phase) →
       next_of_slot phase reply ≡ Some after → list_any found_gone deeds ≡ false
-  receive_goes_on cred released deeds phase reply after p n = none_gone deeds phase reply after (receive_at cred released deeds (Goes phase) p) n
+  receive_goes_on cred released deeds phase reply after p n =
+      none_gone deeds phase reply after (receive_at cred released deeds (Goes phase) p) n

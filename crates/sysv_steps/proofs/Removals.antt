@@ -1,6 +1,7 @@
 -- A send or a receive that found its identifier gone comes to no slot after that, and had not found
 -- it gone before.
-use Rattle.std.proofs.Common.{◌≡◌, ℕ, ◌⊎◌, inl, inr, ◌||◌, Bool, true, false, List, [], ◌∷◌, ◌++◌, Some, refl, sym, ap, ◌∙◌, append_assoc}
+use Rattle.std.proofs.Common.{◌≡◌, ℕ, ◌⊎◌, inl, inr, ◌||◌, Bool, true, false, List, [], ◌∷◌, ◌++◌, Some, refl, sym, ap}
+use Rattle.std.proofs.Common.{◌∙◌, append_assoc}
 use Rattle.std.specs.List.{list_any}
 use Rattle.std.proofs.lemmas.List.Folds.{list_any-append}
 use Rattle.sysv_model.specs.declared.cred.Cred.{Cred}
@@ -20,18 +21,23 @@ use Rattle.sysv_steps.proofs.Receives.{receive_at, receive_goes_on}
 
 -- ---- lists
 
-nothing_gone : {B : Type 0} (before after : List Deed) (deed : Deed) → found_gone deed ≡ true → list_any found_gone (before ++ deed ∷ after) ≡ false → B
+nothing_gone : {B : Type 0} (before after : List Deed) (deed : Deed) → found_gone deed ≡ true →
+    list_any found_gone (before ++ deed ∷ after) ≡ false → B
 nothing_gone [] after deed t f = apart (found_gone deed) t (neither (found_gone deed) (list_any found_gone after) f).0
-nothing_gone (d ∷ before) after deed t f = nothing_gone before after deed t (neither (found_gone d) (list_any found_gone (before ++ deed ∷ after)) f).1
+nothing_gone (d ∷ before) after deed t f =
+    nothing_gone before after deed t (neither (found_gone d) (list_any found_gone (before ++ deed ∷ after)) f).1
 
 at_a_slot : (deed : Deed) → found_gone deed ≡ true → is_at_slot deed ≡ true
 at_a_slot (AtSlot slot call reply) e = refl
 at_a_slot (AtRegistry call reply) e = absurd cc
 at_a_slot (AtPool call reply) e = absurd cc
 
-no_slot_gone : {B : Type 0} (before after : List Deed) (deed : Deed) → found_gone deed ≡ true → list_any is_at_slot (before ++ deed ∷ after) ≡ false → B
-no_slot_gone [] after deed t f = apart (is_at_slot deed) (at_a_slot deed t) (neither (is_at_slot deed) (list_any is_at_slot after) f).0
-no_slot_gone (d ∷ before) after deed t f = no_slot_gone before after deed t (neither (is_at_slot d) (list_any is_at_slot (before ++ deed ∷ after)) f).1
+no_slot_gone : {B : Type 0} (before after : List Deed) (deed : Deed) → found_gone deed ≡ true →
+    list_any is_at_slot (before ++ deed ∷ after) ≡ false → B
+no_slot_gone [] after deed t f =
+    apart (is_at_slot deed) (at_a_slot deed t) (neither (is_at_slot deed) (list_any is_at_slot after) f).0
+no_slot_gone (d ∷ before) after deed t f =
+    no_slot_gone before after deed t (neither (is_at_slot d) (list_any is_at_slot (before ++ deed ∷ after)) f).1
 
 record AreLast (front rest before after : List Deed) : Type 0 where
   same : before ≡ front
@@ -39,16 +45,21 @@ record AreLast (front rest before after : List Deed) : Type 0 where
 
 -- If no deed before this one found the identifier gone, and no deed after it is at a slot, it is
 -- the deed that found it gone.
-only_last : (front rest before after : List Deed) (last deed : Deed) → front ++ last ∷ rest ≡ before ++ deed ∷ after → found_gone deed ≡ true → list_any found_gone front ≡ false → list_any is_at_slot rest ≡ false →
+only_last : (front rest before after : List Deed) (last deed : Deed) → front ++ last ∷ rest ≡ before ++ deed ∷ after →
+    found_gone deed ≡ true → list_any found_gone front ≡ false → list_any is_at_slot rest ≡ false →
     AreLast front rest before after
 only_last [] rest [] after last deed e t f q = let h : rest ≡ after = cc in record { same = refl; others = sym h }
 only_last [] rest (d ∷ before) after last deed e t f q =
-    let h : rest ≡ before ++ deed ∷ after = cc in no_slot_gone before after deed t (sym (ap (list_any is_at_slot) h) ∙ q)
-only_last (x ∷ front) rest [] after last deed e t f q = let h : x ≡ deed = cc in apart (found_gone x) (ap found_gone h ∙ t) (neither (found_gone x) (list_any found_gone front) f).0
+    let h : rest ≡ before ++ deed ∷ after = cc in
+    no_slot_gone before after deed t (sym (ap (list_any is_at_slot) h) ∙ q)
+only_last (x ∷ front) rest [] after last deed e t f q =
+    let h : x ≡ deed = cc in
+    apart (found_gone x) (ap found_gone h ∙ t) (neither (found_gone x) (list_any found_gone front) f).0
 only_last (x ∷ front) rest (d ∷ before) after last deed e t f q =
     let h : front ++ last ∷ rest ≡ before ++ deed ∷ after = cc in
     let h0 : d ≡ x = cc in
-    let more = only_last front rest before after last deed h t (neither (found_gone x) (list_any found_gone front) f).1 q in
+    let more =
+    only_last front rest before after last deed h t (neither (found_gone x) (list_any found_gone front) f).1 q in
     record { same = ap (λ (y : Deed). y ∷ before) h0 ∙ ap (λ (ys : List Deed). x ∷ ys) more.same; others = more.others }
 
 live_there : (deed : Deed) → found_gone deed ≡ false → found_live deed ≡ is_at_slot deed
@@ -58,11 +69,13 @@ live_there (AtRegistry call reply) e = refl
 live_there (AtPool call reply) e = refl
 
 -- Deeds at a slot that did not find the identifier gone found it live.
-all_live : (deeds : List Deed) → list_any found_gone deeds ≡ false → list_any found_live deeds ≡ list_any is_at_slot deeds
+all_live : (deeds : List Deed) → list_any found_gone deeds ≡ false →
+    list_any found_live deeds ≡ list_any is_at_slot deeds
 all_live [] e = refl
 all_live (d ∷ deeds) e =
     let both = neither (found_gone d) (list_any found_gone deeds) e in
-    ap (λ (b : Bool). b || list_any found_live deeds) (live_there d both.0) ∙ ap (λ (b : Bool). is_at_slot d || b) (all_live deeds both.1)
+    ap (λ (b : Bool). b || list_any found_live deeds) (live_there d both.0)
+    ∙ ap (λ (b : Bool). is_at_slot d || b) (all_live deeds both.1)
 
 -- Deeds that are at no slot did not find it live.
 none_live : (deeds : List Deed) → list_any is_at_slot deeds ≡ false → list_any found_live deeds ≡ false
@@ -77,9 +90,11 @@ none_live (AtPool call reply ∷ deeds) e = none_live deeds e
 abbrev Ends : List Deed → Type 0
 Ends deeds =
     (list_any found_gone deeds ≡ false)
-    ⊎ ((front : List Deed) × (last : Deed) × (rest : List Deed) × (deeds ≡ front ++ last ∷ rest) × (list_any found_gone front ≡ false) × (list_any is_at_slot rest ≡ false))
+    ⊎ ((front : List Deed) × (last : Deed) × (rest : List Deed) × (deeds ≡ front ++ last ∷ rest)
+    × (list_any found_gone front ≡ false) × (list_any is_at_slot rest ≡ false))
 
-ends_still : (deeds : List Deed) (deed : Deed) → found_gone deed ≡ false → is_at_slot deed ≡ false → Ends deeds → Ends (deeds ++ deed ∷ [])
+ends_still : (deeds : List Deed) (deed : Deed) → found_gone deed ≡ false → is_at_slot deed ≡ false → Ends deeds →
+    Ends (deeds ++ deed ∷ [])
 ends_still deeds deed g s (inl none) = inl (kept found_gone deeds deed g ∙ none)
 ends_still deeds deed g s (inr h) = inr (
   h.0,
@@ -93,44 +108,62 @@ ends_still deeds deed g s (inr h) = inr (
 module _ (cred : Cred) (asked : SystemCall) (released : ℕ) where
   -- A call that comes to a slot has not found its identifier gone before.
   abbrev ComesUngone : Type 0
-  ComesUngone = (deeds : List Deed) (phase : Phase) (reply : Reply) (after : State) → Plays (begin cred asked released) deeds (Goes phase) → next_of_slot phase reply ≡ Some after → list_any found_gone deeds ≡ false
+  ComesUngone = (deeds : List Deed) (phase : Phase) (reply : Reply) (after : State) →
+      Plays (begin cred asked released) deeds (Goes phase) → next_of_slot phase reply ≡ Some after →
+      list_any found_gone deeds ≡ false
 
-  one_step : ComesUngone → (deeds : List Deed) (phase : Phase) (deed : Deed) (after : State) → Plays (begin cred asked released) deeds (Goes phase) → next phase deed ≡ Some after → Ends deeds → Ends (deeds ++ deed ∷ [])
-  one_step on deeds phase (AtSlot slot call reply) after p n h = inr (deeds, AtSlot slot call reply, [], refl, on deeds phase reply after p n, refl)
+  one_step : ComesUngone → (deeds : List Deed) (phase : Phase) (deed : Deed) (after : State) →
+      Plays (begin cred asked released) deeds (Goes phase) → next phase deed ≡ Some after → Ends deeds →
+      Ends (deeds ++ deed ∷ [])
+  one_step on deeds phase (AtSlot slot call reply) after p n h =
+      inr (deeds, AtSlot slot call reply, [], refl, on deeds phase reply after p n, refl)
   one_step on deeds phase (AtRegistry call reply) after p n h = ends_still deeds (AtRegistry call reply) refl refl h
   one_step on deeds phase (AtPool call reply) after p n h = ends_still deeds (AtPool call reply) refl refl h
 
-  ends_at : ComesUngone → (deeds : List Deed) (state : State) → Plays (begin cred asked released) deeds state → Ends deeds
+  ends_at : ComesUngone → (deeds : List Deed) (state : State) → Plays (begin cred asked released) deeds state →
+      Ends deeds
   ends_at on _ _ begins = inl refl
-  ends_at on _ _ (steps {deeds} {phase} deed now after p is n) = one_step on deeds phase deed after p n (ends_at on deeds (Goes phase) p)
+  ends_at on _ _ (steps {deeds} {phase} deed now after p is n) =
+      one_step on deeds phase deed after p n (ends_at on deeds (Goes phase) p)
   ends_at on _ _ (resumes {deeds} {wait} value p least) = ends_at on deeds (Waits wait) p
 
-  module _ (deeds : List Deed) (ending : Ending) (right : IsRemoved deeds → ending ≡ Refused EIDRM) (invalid : IsInvalid asked deeds → ending ≡ Refused EINVAL) where
-    told : (before after : List Deed) (slot : ℕ) (call : Call) → deeds ≡ before ++ AtSlot slot call Gone ∷ after → list_any is_at_slot after ≡ false → list_any found_gone before ≡ false → IsToldOfRemoval before after ending
+  module _ (deeds : List Deed) (ending : Ending) (right : IsRemoved deeds → ending ≡ Refused EIDRM)
+      (invalid : IsInvalid asked deeds → ending ≡ Refused EINVAL) where
+    told : (before after : List Deed) (slot : ℕ) (call : Call) → deeds ≡ before ++ AtSlot slot call Gone ∷ after →
+        list_any is_at_slot after ≡ false → list_any found_gone before ≡ false → IsToldOfRemoval before after ending
     told before after slot call e a g =
-        let here : list_any found_gone deeds ≡ true = ap (list_any found_gone) e ∙ amid found_gone before after (AtSlot slot call Gone) refl in
+        let here : list_any found_gone deeds ≡ true =
+        ap (list_any found_gone) e ∙ amid found_gone before after (AtSlot slot call Gone) refl in
         let live : list_any found_live deeds ≡ list_any is_at_slot before =
         ap (list_any found_live) e
         ∙ (list_any-append found_live before (AtSlot slot call Gone ∷ after)
-        ∙ (ap (λ (b : Bool). list_any found_live before || b) (none_live after a) ∙ (or_false (list_any found_live before) ∙ all_live before g)))
+        ∙ (ap (λ (b : Bool). list_any found_live before || b) (none_live after a)
+        ∙ (or_false (list_any found_live before) ∙ all_live before g)))
         in record { removed = λ s. right (here, live ∙ s); absent = λ s. invalid (inr (here, live ∙ s)); last = a }
 
-    pub told_so : Ends deeds → (before after : List Deed) (slot : ℕ) (call : Call) → deeds ≡ before ++ AtSlot slot call Gone ∷ after → IsToldOfRemoval before after ending
-    told_so (inl none) before after slot call e = nothing_gone before after (AtSlot slot call Gone) refl (sym (ap (list_any found_gone) e) ∙ none)
+    pub told_so : Ends deeds → (before after : List Deed) (slot : ℕ) (call : Call) →
+        deeds ≡ before ++ AtSlot slot call Gone ∷ after → IsToldOfRemoval before after ending
+    told_so (inl none) before after slot call e =
+        nothing_gone before after (AtSlot slot call Gone) refl (sym (ap (list_any found_gone) e) ∙ none)
     told_so (inr h) before after slot call e =
         let at = only_last h.0 h.2 before after h.1 (AtSlot slot call Gone) (sym h.3 ∙ e) refl h.4 h.5 in
-        told before after slot call e (ap (list_any is_at_slot) at.others ∙ h.5) (ap (list_any found_gone) at.same ∙ h.4)
+        told before after slot call e (ap (list_any is_at_slot) at.others ∙ h.5)
+        (ap (list_any found_gone) at.same ∙ h.4)
 
-pub each_told : (cred : Cred) (asked : SystemCall) (released : ℕ) (deeds : List Deed) (ending : Ending) → SendsOrReceives asked → Plays (begin cred asked released) deeds (Over ending) →
-    (before after : List Deed) (slot : ℕ) (call : Call) → deeds ≡ before ++ AtSlot slot call Gone ∷ after → IsToldOfRemoval before after ending
+pub each_told : (cred : Cred) (asked : SystemCall) (released : ℕ) (deeds : List Deed) (ending : Ending) →
+    SendsOrReceives asked → Plays (begin cred asked released) deeds (Over ending) →
+    (before after : List Deed) (slot : ℕ) (call : Call) → deeds ≡ before ++ AtSlot slot call Gone ∷ after →
+    IsToldOfRemoval before after ending
 each_told cred (Msgsnd id mtype flags text) released deeds ending q p =
     let right = send_at id mtype flags text cred released deeds (Over ending) p in
     told_so cred (Msgsnd id mtype flags text) released deeds ending right.removed.1 right.invalid.1
-    (ends_at cred (Msgsnd id mtype flags text) released (send_goes_on id mtype flags text cred released) deeds (Over ending) p)
+    (ends_at cred (Msgsnd id mtype flags text) released (send_goes_on id mtype flags text cred released) deeds
+    (Over ending) p)
 each_told cred (Msgrcv id size mtype flags) released deeds ending q p =
     let right = receive_at id size mtype flags cred released deeds (Over ending) p in
     told_so cred (Msgrcv id size mtype flags) released deeds ending right.removed.1 right.invalid.1
-    (ends_at cred (Msgrcv id size mtype flags) released (receive_goes_on id size mtype flags cred released) deeds (Over ending) p)
+    (ends_at cred (Msgrcv id size mtype flags) released (receive_goes_on id size mtype flags cred released) deeds
+    (Over ending) p)
 each_told cred (Msgget key flags) released deeds ending q p = absurd q
 each_told cred (MsgctlStat id) released deeds ending q p = absurd q
 each_told cred (MsgctlSet id to) released deeds ending q p = absurd q

@@ -1,7 +1,8 @@
 -- A send that plays to its end has a right result. While it is under way, its body was not
 -- accepted, its identifier was not found gone, and it remembers whether the identifier was found
 -- live; one that does not wait has met no want of room.
-use Rattle.std.proofs.Common.{◌≡◌, ℕ, ℤ, ◌+◌, inl, inr, Bool, true, false, List, [], ◌∷◌, ◌++◌, Some, cond, refl, sym, subst, ◌∙◌, arith}
+use Rattle.std.proofs.Common.{◌≡◌, ℕ, ℤ, ◌+◌, inl, inr, Bool, true, false, List, [], ◌∷◌, ◌++◌, Some, cond, refl, sym}
+use Rattle.std.proofs.Common.{subst, ◌∙◌, arith}
 use Rattle.std.specs.List.{list_any}
 use Rattle.sysv_model.specs.declared.cred.Cred.{Cred}
 use Rattle.sysv_model.specs.declared.errno.Errno.TheVariants.{EACCES, EAGAIN, EINVAL}
@@ -12,7 +13,8 @@ use Rattle.sysv_model.specs.History.{Call, Reply, Gone, Denied, Full, Fits, Acce
 use Rattle.sysv_model.specs.Pool.{PoolCall, PoolReply, Reserved, TooFew, Released, Foreign}
 use Rattle.sysv_model.specs.Turn.{Deed, AtSlot, AtPool}
 use Rattle.sysv_steps.specs.Call.{Msgsnd}
-use Rattle.sysv_steps.specs.State.{Sending, Wait, OnFreed, OnReleased, Afterwards, IsRefused, WaitsOn, Phase, AtLook, AtReserve, AtPlace, AtSendGiveback, Ending, Zero, Refused, State, Goes, Waits, Over}
+use Rattle.sysv_steps.specs.State.{Sending, Wait, OnFreed, OnReleased, Afterwards, IsRefused, WaitsOn, Phase, AtLook}
+use Rattle.sysv_steps.specs.State.{AtReserve, AtPlace, AtSendGiveback, Ending, Zero, Refused, State, Goes, Waits, Over}
 use Rattle.sysv_steps.specs.Begin.{is_refused, first, begin}
 use Rattle.sysv_steps.specs.Next.{next, next_of_slot, gone, waits_or, goes_on, is_full}
 use Rattle.sysv_steps.specs.Resume.{resume}
@@ -61,9 +63,11 @@ module _ (id mtype : ℤ) (flags : Flags) (text : List ℕ) where
     only = inr (inr (inr (inr (inl refl))));
   }
 
-  started : (cred : Cred) (released : ℕ) (b : Bool) → is_refused (Msgsnd id mtype flags text) ≡ b → SendAt [] (cond b (Over (Refused EINVAL)) (Goes (first cred (Msgsnd id mtype flags text) released)))
+  started : (cred : Cred) (released : ℕ) (b : Bool) → is_refused (Msgsnd id mtype flags text) ≡ b →
+      SendAt [] (cond b (Over (Refused EINVAL)) (Goes (first cred (Msgsnd id mtype flags text) released)))
   started cred released true r = refused_at_once r
-  started cred released false r = record { allowed = r; nowait = refl; accepted = refl; full = λ n. refl; denied = refl; gone = refl; live = refl }
+  started cred released false r =
+      record { allowed = r; nowait = refl; accepted = refl; full = λ n. refl; denied = refl; gone = refl; live = refl }
 
   -- A deed about which no line of the law says anything.
   record IsQuiet (deed : Deed) : Type 0 where
@@ -73,7 +77,8 @@ module _ (id mtype : ℤ) (flags : Flags) (text : List ℕ) where
     gone : found_gone deed ≡ false
     live : found_live deed ≡ false
 
-  right_still : (deeds : List Deed) (deed : Deed) (ending : Ending) → IsQuiet deed → IsRight deeds ending → IsRight (deeds ++ deed ∷ []) ending
+  right_still : (deeds : List Deed) (deed : Deed) (ending : Ending) → IsQuiet deed → IsRight deeds ending →
+      IsRight (deeds ++ deed ∷ []) ending
   right_still deeds deed ending q r =
       let a = kept was_accepted deeds deed q.accepted in
       let f = kept was_full deeds deed q.full in
@@ -93,7 +98,8 @@ module _ (id mtype : ℤ) (flags : Flags) (text : List ℕ) where
         only = r.only;
       }
 
-  under_way_still : (send : Sending) (deeds : List Deed) (deed : Deed) → IsQuiet deed → UnderWay send deeds → UnderWay send (deeds ++ deed ∷ [])
+  under_way_still : (send : Sending) (deeds : List Deed) (deed : Deed) → IsQuiet deed → UnderWay send deeds →
+      UnderWay send (deeds ++ deed ∷ [])
   under_way_still send deeds deed q u = record {
     allowed = u.allowed;
     nowait = u.nowait;
@@ -109,10 +115,14 @@ module _ (id mtype : ℤ) (flags : Flags) (text : List ℕ) where
   module _ (send : Sending) (deeds : List Deed) (u : UnderWay send deeds) (call : PoolCall) where
     few_right : send.nowait ≡ true → IsRight (deeds ++ AtPool call TooFew ∷ []) (Refused EAGAIN)
     few_right n =
-        let a : list_any was_accepted (deeds ++ AtPool call TooFew ∷ []) ≡ false = kept was_accepted deeds (AtPool call TooFew) refl ∙ u.accepted in
-        let f : list_any was_full (deeds ++ AtPool call TooFew ∷ []) ≡ true = found was_full deeds (AtPool call TooFew) refl in
-        let d : list_any was_denied (deeds ++ AtPool call TooFew ∷ []) ≡ false = kept was_denied deeds (AtPool call TooFew) refl ∙ u.denied in
-        let g : list_any found_gone (deeds ++ AtPool call TooFew ∷ []) ≡ false = kept found_gone deeds (AtPool call TooFew) refl ∙ u.gone in
+        let a : list_any was_accepted (deeds ++ AtPool call TooFew ∷ []) ≡ false =
+        kept was_accepted deeds (AtPool call TooFew) refl ∙ u.accepted in
+        let f : list_any was_full (deeds ++ AtPool call TooFew ∷ []) ≡ true =
+        found was_full deeds (AtPool call TooFew) refl in
+        let d : list_any was_denied (deeds ++ AtPool call TooFew ∷ []) ≡ false =
+        kept was_denied deeds (AtPool call TooFew) refl ∙ u.denied in
+        let g : list_any found_gone (deeds ++ AtPool call TooFew ∷ []) ≡ false =
+        kept found_gone deeds (AtPool call TooFew) refl ∙ u.gone in
         record {
           zero = (λ e. cc, λ t. apart _ t a);
           once = once_at_most was_accepted deeds (AtPool call TooFew) u.accepted;
@@ -134,35 +144,43 @@ module _ (id mtype : ℤ) (flags : Flags) (text : List ℕ) where
       live = kept found_live deeds (AtPool call TooFew) refl ∙ u.live;
     }
 
-    few_goes : (b : Bool) → send.nowait ≡ b → SendAt (deeds ++ AtPool call TooFew ∷ []) (goes_on (waits_or b (OnReleased (send.released + 1) send) EAGAIN))
+    few_goes : (b : Bool) → send.nowait ≡ b →
+        SendAt (deeds ++ AtPool call TooFew ∷ []) (goes_on (waits_or b (OnReleased (send.released + 1) send) EAGAIN))
     few_goes true n = few_right n
     few_goes false n = few_waits n
 
-    reserve_step : (reply : PoolReply) (after : State) → next (AtReserve send) (AtPool call reply) ≡ Some after → SendAt (deeds ++ AtPool call reply ∷ []) after
+    reserve_step : (reply : PoolReply) (after : State) → next (AtReserve send) (AtPool call reply) ≡ Some after →
+        SendAt (deeds ++ AtPool call reply ∷ []) after
     reserve_step (Reserved blocks) after n =
         let e : Goes (AtPlace send blocks) ≡ after = cc in
         subst (SendAt (deeds ++ AtPool call (Reserved blocks) ∷ [])) e
-        (under_way_still send deeds (AtPool call (Reserved blocks)) record { accepted = refl; full = refl; denied = refl; gone = refl; live = refl } u)
+        (under_way_still send deeds (AtPool call (Reserved blocks))
+        record { accepted = refl; full = refl; denied = refl; gone = refl; live = refl } u)
     reserve_step TooFew after n =
         let e : goes_on (waits_or send.nowait (OnReleased (send.released + 1) send) EAGAIN) ≡ after = cc in
         subst (SendAt (deeds ++ AtPool call TooFew ∷ [])) e (few_goes send.nowait refl)
     reserve_step reply after n = absurd cc
 
-  given_back : (deeds : List Deed) (afterwards : Afterwards) (deed : Deed) → IsQuiet deed → AfterAt deeds afterwards → SendAt (deeds ++ deed ∷ []) (goes_on afterwards)
+  given_back : (deeds : List Deed) (afterwards : Afterwards) (deed : Deed) → IsQuiet deed → AfterAt deeds afterwards →
+      SendAt (deeds ++ deed ∷ []) (goes_on afterwards)
   given_back deeds (IsRefused why) deed q at = right_still deeds deed (Refused why) q at
   given_back deeds (WaitsOn (OnFreed goal send)) deed q at = under_way_still send deeds deed q at
   given_back deeds (WaitsOn wait) deed q at = absurd at
 
-  giveback_step : (deeds : List Deed) (blocks : ℕ) (afterwards : Afterwards) (call : PoolCall) (reply : PoolReply) (after : State) → AfterAt deeds afterwards →
-      next (AtSendGiveback blocks afterwards) (AtPool call reply) ≡ Some after → SendAt (deeds ++ AtPool call reply ∷ []) after
+  giveback_step : (deeds : List Deed) (blocks : ℕ) (afterwards : Afterwards) (call : PoolCall) (reply : PoolReply)
+      (after : State) → AfterAt deeds afterwards →
+      next (AtSendGiveback blocks afterwards) (AtPool call reply) ≡ Some after →
+      SendAt (deeds ++ AtPool call reply ∷ []) after
   giveback_step deeds blocks afterwards call Released after at n =
       let e : goes_on afterwards ≡ after = cc in
       subst (SendAt (deeds ++ AtPool call Released ∷ [])) e
-      (given_back deeds afterwards (AtPool call Released) record { accepted = refl; full = refl; denied = refl; gone = refl; live = refl } at)
+      (given_back deeds afterwards (AtPool call Released)
+      record { accepted = refl; full = refl; denied = refl; gone = refl; live = refl } at)
   giveback_step deeds blocks afterwards call Foreign after at n =
       let e : goes_on afterwards ≡ after = cc in
       subst (SendAt (deeds ++ AtPool call Foreign ∷ [])) e
-      (given_back deeds afterwards (AtPool call Foreign) record { accepted = refl; full = refl; denied = refl; gone = refl; live = refl } at)
+      (given_back deeds afterwards (AtPool call Foreign)
+      record { accepted = refl; full = refl; denied = refl; gone = refl; live = refl } at)
   giveback_step deeds blocks afterwards call reply after at n = absurd cc
 
   -- ---- and those at its queue
@@ -173,9 +191,12 @@ module _ (id mtype : ℤ) (flags : Flags) (text : List ℕ) where
 
     gone_right : (seen : Bool) → list_any found_live deeds ≡ seen → IsRight (with Gone) (Refused (gone seen))
     gone_right true l =
-        let a : list_any was_accepted (with Gone) ≡ false = kept was_accepted deeds (AtSlot slot call Gone) refl ∙ u.accepted in
-        let f : list_any was_full (with Gone) ≡ list_any was_full deeds = kept was_full deeds (AtSlot slot call Gone) refl in
-        let d : list_any was_denied (with Gone) ≡ false = kept was_denied deeds (AtSlot slot call Gone) refl ∙ u.denied in
+        let a : list_any was_accepted (with Gone) ≡ false =
+        kept was_accepted deeds (AtSlot slot call Gone) refl ∙ u.accepted in
+        let f : list_any was_full (with Gone) ≡ list_any was_full deeds =
+        kept was_full deeds (AtSlot slot call Gone) refl in
+        let d : list_any was_denied (with Gone) ≡ false =
+        kept was_denied deeds (AtSlot slot call Gone) refl ∙ u.denied in
         let g : list_any found_gone (with Gone) ≡ true = found found_gone deeds (AtSlot slot call Gone) refl in
         let k : list_any found_live (with Gone) ≡ true = kept found_live deeds (AtSlot slot call Gone) refl ∙ l in
         record {
@@ -188,9 +209,12 @@ module _ (id mtype : ℤ) (flags : Flags) (text : List ℕ) where
           only = inr (inr (inr (inl refl)));
         }
     gone_right false l =
-        let a : list_any was_accepted (with Gone) ≡ false = kept was_accepted deeds (AtSlot slot call Gone) refl ∙ u.accepted in
-        let f : list_any was_full (with Gone) ≡ list_any was_full deeds = kept was_full deeds (AtSlot slot call Gone) refl in
-        let d : list_any was_denied (with Gone) ≡ false = kept was_denied deeds (AtSlot slot call Gone) refl ∙ u.denied in
+        let a : list_any was_accepted (with Gone) ≡ false =
+        kept was_accepted deeds (AtSlot slot call Gone) refl ∙ u.accepted in
+        let f : list_any was_full (with Gone) ≡ list_any was_full deeds =
+        kept was_full deeds (AtSlot slot call Gone) refl in
+        let d : list_any was_denied (with Gone) ≡ false =
+        kept was_denied deeds (AtSlot slot call Gone) refl ∙ u.denied in
         let g : list_any found_gone (with Gone) ≡ true = found found_gone deeds (AtSlot slot call Gone) refl in
         let k : list_any found_live (with Gone) ≡ false = kept found_live deeds (AtSlot slot call Gone) refl ∙ l in
         record {
@@ -205,10 +229,13 @@ module _ (id mtype : ℤ) (flags : Flags) (text : List ℕ) where
 
     denied_right : IsRight (with Denied) (Refused EACCES)
     denied_right =
-        let a : list_any was_accepted (with Denied) ≡ false = kept was_accepted deeds (AtSlot slot call Denied) refl ∙ u.accepted in
-        let f : list_any was_full (with Denied) ≡ list_any was_full deeds = kept was_full deeds (AtSlot slot call Denied) refl in
+        let a : list_any was_accepted (with Denied) ≡ false =
+        kept was_accepted deeds (AtSlot slot call Denied) refl ∙ u.accepted in
+        let f : list_any was_full (with Denied) ≡ list_any was_full deeds =
+        kept was_full deeds (AtSlot slot call Denied) refl in
         let d : list_any was_denied (with Denied) ≡ true = found was_denied deeds (AtSlot slot call Denied) refl in
-        let g : list_any found_gone (with Denied) ≡ false = kept found_gone deeds (AtSlot slot call Denied) refl ∙ u.gone in
+        let g : list_any found_gone (with Denied) ≡ false =
+        kept found_gone deeds (AtSlot slot call Denied) refl ∙ u.gone in
         record {
           zero = (λ e. cc, λ t. apart _ t a);
           once = once_at_most was_accepted deeds (AtSlot slot call Denied) u.accepted;
@@ -221,10 +248,14 @@ module _ (id mtype : ℤ) (flags : Flags) (text : List ℕ) where
 
     full_right : (freed : ℕ) → send.nowait ≡ true → IsRight (with (Full freed)) (Refused EAGAIN)
     full_right freed n =
-        let a : list_any was_accepted (with (Full freed)) ≡ false = kept was_accepted deeds (AtSlot slot call (Full freed)) refl ∙ u.accepted in
-        let f : list_any was_full (with (Full freed)) ≡ true = found was_full deeds (AtSlot slot call (Full freed)) refl in
-        let d : list_any was_denied (with (Full freed)) ≡ false = kept was_denied deeds (AtSlot slot call (Full freed)) refl ∙ u.denied in
-        let g : list_any found_gone (with (Full freed)) ≡ false = kept found_gone deeds (AtSlot slot call (Full freed)) refl ∙ u.gone in
+        let a : list_any was_accepted (with (Full freed)) ≡ false =
+        kept was_accepted deeds (AtSlot slot call (Full freed)) refl ∙ u.accepted in
+        let f : list_any was_full (with (Full freed)) ≡ true =
+        found was_full deeds (AtSlot slot call (Full freed)) refl in
+        let d : list_any was_denied (with (Full freed)) ≡ false =
+        kept was_denied deeds (AtSlot slot call (Full freed)) refl ∙ u.denied in
+        let g : list_any found_gone (with (Full freed)) ≡ false =
+        kept found_gone deeds (AtSlot slot call (Full freed)) refl ∙ u.gone in
         record {
           zero = (λ e. cc, λ t. apart _ t a);
           once = once_at_most was_accepted deeds (AtSlot slot call (Full freed)) u.accepted;
@@ -246,11 +277,13 @@ module _ (id mtype : ℤ) (flags : Flags) (text : List ℕ) where
       live = found found_live deeds (AtSlot slot call (Full freed)) refl;
     }
 
-    full_goes : (freed : ℕ) (b : Bool) → send.nowait ≡ b → SendAt (with (Full freed)) (goes_on (waits_or b (OnFreed (freed + 1) (record send { seen = true })) EAGAIN))
+    full_goes : (freed : ℕ) (b : Bool) → send.nowait ≡ b →
+        SendAt (with (Full freed)) (goes_on (waits_or b (OnFreed (freed + 1) (record send { seen = true })) EAGAIN))
     full_goes freed true n = full_right freed n
     full_goes freed false n = full_waits freed n
 
-    full_after : (freed : ℕ) (b : Bool) → send.nowait ≡ b → AfterAt (with (Full freed)) (waits_or b (OnFreed (freed + 1) (record send { seen = true })) EAGAIN)
+    full_after : (freed : ℕ) (b : Bool) → send.nowait ≡ b →
+        AfterAt (with (Full freed)) (waits_or b (OnFreed (freed + 1) (record send { seen = true })) EAGAIN)
     full_after freed true n = full_right freed n
     full_after freed false n = full_waits freed n
 
@@ -267,10 +300,14 @@ module _ (id mtype : ℤ) (flags : Flags) (text : List ℕ) where
 
     placed_right : (number : ℕ) → IsRight (with (Accepted number)) Zero
     placed_right number =
-        let a : list_any was_accepted (with (Accepted number)) ≡ true = found was_accepted deeds (AtSlot slot call (Accepted number)) refl in
-        let f : list_any was_full (with (Accepted number)) ≡ list_any was_full deeds = kept was_full deeds (AtSlot slot call (Accepted number)) refl in
-        let d : list_any was_denied (with (Accepted number)) ≡ false = kept was_denied deeds (AtSlot slot call (Accepted number)) refl ∙ u.denied in
-        let g : list_any found_gone (with (Accepted number)) ≡ false = kept found_gone deeds (AtSlot slot call (Accepted number)) refl ∙ u.gone in
+        let a : list_any was_accepted (with (Accepted number)) ≡ true =
+        found was_accepted deeds (AtSlot slot call (Accepted number)) refl in
+        let f : list_any was_full (with (Accepted number)) ≡ list_any was_full deeds =
+        kept was_full deeds (AtSlot slot call (Accepted number)) refl in
+        let d : list_any was_denied (with (Accepted number)) ≡ false =
+        kept was_denied deeds (AtSlot slot call (Accepted number)) refl ∙ u.denied in
+        let g : list_any found_gone (with (Accepted number)) ≡ false =
+        kept found_gone deeds (AtSlot slot call (Accepted number)) refl ∙ u.gone in
         record {
           zero = (λ e. a, λ t. refl);
           once = once_at_most was_accepted deeds (AtSlot slot call (Accepted number)) u.accepted;
@@ -282,48 +319,77 @@ module _ (id mtype : ℤ) (flags : Flags) (text : List ℕ) where
         }
 
     -- One more deed at a look, and at a place.
-    look_step : (reply : Reply) (after : State) → next (AtLook send) (AtSlot slot call reply) ≡ Some after → SendAt (with reply) after
-    look_step Gone after n = let e : Over (Refused (gone send.seen)) ≡ after = cc in subst (SendAt (with Gone)) e (gone_right send.seen u.live)
+    look_step : (reply : Reply) (after : State) → next (AtLook send) (AtSlot slot call reply) ≡ Some after →
+        SendAt (with reply) after
+    look_step Gone after n =
+        let e : Over (Refused (gone send.seen)) ≡ after = cc in
+        subst (SendAt (with Gone)) e (gone_right send.seen u.live)
     look_step Denied after n = let e : Over (Refused EACCES) ≡ after = cc in subst (SendAt (with Denied)) e denied_right
-    look_step (Full freed) after n = let e : goes_on (is_full send freed) ≡ after = cc in subst (SendAt (with (Full freed))) e (full_goes freed send.nowait refl)
-    look_step Fits after n = let e : Goes (AtReserve (record send { seen = true })) ≡ after = cc in subst (SendAt (with Fits)) e fits_goes
+    look_step (Full freed) after n =
+        let e : goes_on (is_full send freed) ≡ after = cc in
+        subst (SendAt (with (Full freed))) e (full_goes freed send.nowait refl)
+    look_step Fits after n =
+        let e : Goes (AtReserve (record send { seen = true })) ≡ after = cc in subst (SendAt (with Fits)) e fits_goes
     look_step reply after n = absurd cc
 
-    place_step : (blocks : ℕ) (reply : Reply) (after : State) → next (AtPlace send blocks) (AtSlot slot call reply) ≡ Some after → SendAt (with reply) after
+    place_step : (blocks : ℕ) (reply : Reply) (after : State) →
+        next (AtPlace send blocks) (AtSlot slot call reply) ≡ Some after → SendAt (with reply) after
     place_step blocks Gone after n =
-        let e : Goes (AtSendGiveback blocks (IsRefused (gone send.seen))) ≡ after = cc in subst (SendAt (with Gone)) e (gone_right send.seen u.live)
-    place_step blocks Denied after n = let e : Goes (AtSendGiveback blocks (IsRefused EACCES)) ≡ after = cc in subst (SendAt (with Denied)) e denied_right
+        let e : Goes (AtSendGiveback blocks (IsRefused (gone send.seen))) ≡ after = cc in
+        subst (SendAt (with Gone)) e (gone_right send.seen u.live)
+    place_step blocks Denied after n =
+        let e : Goes (AtSendGiveback blocks (IsRefused EACCES)) ≡ after = cc in
+        subst (SendAt (with Denied)) e denied_right
     place_step blocks (Full freed) after n =
-        let e : Goes (AtSendGiveback blocks (is_full send freed)) ≡ after = cc in subst (SendAt (with (Full freed))) e (full_after freed send.nowait refl)
-    place_step blocks (Accepted number) after n = let e : Over Zero ≡ after = cc in subst (SendAt (with (Accepted number))) e (placed_right number)
+        let e : Goes (AtSendGiveback blocks (is_full send freed)) ≡ after = cc in
+        subst (SendAt (with (Full freed))) e (full_after freed send.nowait refl)
+    place_step blocks (Accepted number) after n =
+        let e : Over Zero ≡ after = cc in subst (SendAt (with (Accepted number))) e (placed_right number)
     place_step blocks reply after n = absurd cc
 
-  one_step : (deeds : List Deed) (phase : Phase) (deed : Deed) (after : State) → SendAt deeds (Goes phase) → next phase deed ≡ Some after → SendAt (deeds ++ deed ∷ []) after
+  one_step : (deeds : List Deed) (phase : Phase) (deed : Deed) (after : State) → SendAt deeds (Goes phase) →
+      next phase deed ≡ Some after → SendAt (deeds ++ deed ∷ []) after
   one_step deeds (AtLook send) (AtSlot slot call reply) after at n = look_step send deeds at slot call reply after n
   one_step deeds (AtReserve send) (AtPool call reply) after at n = reserve_step send deeds at call reply after n
-  one_step deeds (AtPlace send blocks) (AtSlot slot call reply) after at n = place_step send deeds at slot call blocks reply after n
-  one_step deeds (AtSendGiveback blocks afterwards) (AtPool call reply) after at n = giveback_step deeds blocks afterwards call reply after at n
+  one_step deeds (AtPlace send blocks) (AtSlot slot call reply) after at n =
+      place_step send deeds at slot call blocks reply after n
+  one_step deeds (AtSendGiveback blocks afterwards) (AtPool call reply) after at n =
+      giveback_step deeds blocks afterwards call reply after at n
   one_step deeds (AtLook send) deed after at n = absurd cc
   one_step deeds (AtReserve send) deed after at n = absurd cc
   one_step deeds (AtPlace send blocks) deed after at n = absurd cc
   one_step deeds (AtSendGiveback blocks afterwards) deed after at n = absurd cc
   one_step deeds phase deed after at n = absurd at
 
-  started_again : (send : Sending) (released : ℕ) (deeds : List Deed) → UnderWay send deeds → UnderWay (record send { released = released }) deeds
+  started_again : (send : Sending) (released : ℕ) (deeds : List Deed) → UnderWay send deeds →
+      UnderWay (record send { released = released }) deeds
   started_again send released deeds u =
-      record { allowed = u.allowed; nowait = u.nowait; accepted = u.accepted; full = u.full; denied = u.denied; gone = u.gone; live = u.live }
+      record {
+        allowed = u.allowed;
+        nowait = u.nowait;
+        accepted = u.accepted;
+        full = u.full;
+        denied = u.denied;
+        gone = u.gone;
+        live = u.live;
+      }
 
-  one_wait : (deeds : List Deed) (wait : Wait) (value : ℕ) → SendAt deeds (Waits wait) → SendAt deeds (Goes (resume wait value))
+  one_wait : (deeds : List Deed) (wait : Wait) (value : ℕ) → SendAt deeds (Waits wait) →
+      SendAt deeds (Goes (resume wait value))
   one_wait deeds (OnFreed goal send) value at = at
   one_wait deeds (OnReleased goal send) value at = started_again send value deeds at
   one_wait deeds wait value at = absurd at
 
-  pub send_at : (cred : Cred) (released : ℕ) (deeds : List Deed) (state : State) → Plays (begin cred (Msgsnd id mtype flags text) released) deeds state → SendAt deeds state
+  pub send_at : (cred : Cred) (released : ℕ) (deeds : List Deed) (state : State) →
+      Plays (begin cred (Msgsnd id mtype flags text) released) deeds state → SendAt deeds state
   send_at cred released _ _ begins = started cred released (is_refused (Msgsnd id mtype flags text)) refl
-  send_at cred released _ _ (steps {deeds} {phase} deed now after p asked n) = one_step deeds phase deed after (send_at cred released deeds (Goes phase) p) n
-  send_at cred released _ _ (resumes {deeds} {wait} value p least) = one_wait deeds wait value (send_at cred released deeds (Waits wait) p)
+  send_at cred released _ _ (steps {deeds} {phase} deed now after p asked n) =
+      one_step deeds phase deed after (send_at cred released deeds (Goes phase) p) n
+  send_at cred released _ _ (resumes {deeds} {wait} value p least) =
+      one_wait deeds wait value (send_at cred released deeds (Waits wait) p)
 
-  none_gone : (deeds : List Deed) (phase : Phase) (reply : Reply) (after : State) → SendAt deeds (Goes phase) → next_of_slot phase reply ≡ Some after → list_any found_gone deeds ≡ false
+  none_gone : (deeds : List Deed) (phase : Phase) (reply : Reply) (after : State) → SendAt deeds (Goes phase) →
+      next_of_slot phase reply ≡ Some after → list_any found_gone deeds ≡ false
   none_gone deeds (AtLook send) reply after at n = at.gone
   none_gone deeds (AtPlace send blocks) reply after at n = at.gone
   none_gone deeds (AtReserve send) reply after at n = absurd cc
@@ -331,6 +397,8 @@ module _ (id mtype : ℤ) (flags : Flags) (text : List ℕ) where
   none_gone deeds phase reply after at n = absurd at
 
   -- A send that comes to a slot has not found its identifier gone before.
-  pub send_goes_on : (cred : Cred) (released : ℕ) (deeds : List Deed) (phase : Phase) (reply : Reply) (after : State) → Plays (begin cred (Msgsnd id mtype flags text) released) deeds (Goes phase) →
+  pub send_goes_on : (cred : Cred) (released : ℕ) (deeds : List Deed) (phase : Phase) (reply : Reply) (after : State) →
+      Plays (begin cred (Msgsnd id mtype flags text) released) deeds (Goes phase) →
       next_of_slot phase reply ≡ Some after → list_any found_gone deeds ≡ false
-  send_goes_on cred released deeds phase reply after p n = none_gone deeds phase reply after (send_at cred released deeds (Goes phase) p) n
+  send_goes_on cred released deeds phase reply after p n =
+      none_gone deeds phase reply after (send_at cred released deeds (Goes phase) p) n

@@ -31,4 +31,5 @@ pub record IsToldOfRemoval (before after : List Deed) (ending : Ending) : Type 0
 abbrev pub EachIsToldOfRemoval : Type 0
 EachIsToldOfRemoval = (cred : Cred) (asked : SystemCall) (released : ℕ) (deeds : List Deed) (ending : Ending) →
     SendsOrReceives asked → Plays (begin cred asked released) deeds (Over ending) →
-    (before after : List Deed) (slot : ℕ) (call : Call) → deeds ≡ before ++ AtSlot slot call Gone ∷ after → IsToldOfRemoval before after ending
+    (before after : List Deed) (slot : ℕ) (call : Call) → deeds ≡ before ++ AtSlot slot call Gone ∷ after →
+    IsToldOfRemoval before after ending

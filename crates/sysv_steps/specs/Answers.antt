@@ -7,12 +7,14 @@ use Rattle.std.specs.List.{list_any, flat_map}
 use Rattle.sysv_model.specs.declared.cred.Cred.{Cred}
 use Rattle.sysv_model.specs.declared.attributes.Stat.{Stat}
 use Rattle.sysv_model.specs.declared.errno.Errno.{Errno}
-use Rattle.sysv_model.specs.declared.errno.Errno.TheVariants.{EACCES, EAGAIN, EEXIST, EIDRM, EINVAL, ENOMSG, ENOSPC, E2BIG}
+use Rattle.sysv_model.specs.declared.errno.Errno.TheVariants.{EACCES, EAGAIN, EEXIST, EIDRM, EINVAL, ENOMSG, ENOSPC}
+use Rattle.sysv_model.specs.declared.errno.Errno.TheVariants.{E2BIG}
 use Rattle.sysv_model.specs.declared.flags.Flags.{Flags}
 use Rattle.sysv_model.specs.declared.flags.TheConstants.Flags.{IPC_NOWAIT}
 use Rattle.sysv_model.specs.HasFlag.{has_flag}
 use Rattle.sysv_model.specs.Message.{Message}
-use Rattle.sysv_model.specs.History.{Install, Probe, Installed, Gone, Denied, Granted, Full, Accepted, NoMatch, TooLong, Taken, Told as TellsStat, Done, Discarded, Refused as IsRefusedFor}
+use Rattle.sysv_model.specs.History.{Install, Probe, Installed, Gone, Denied, Granted, Full, Accepted, NoMatch, TooLong}
+use Rattle.sysv_model.specs.History.{Taken, Told as TellsStat, Done, Discarded, Refused as IsRefusedFor}
 use Rattle.sysv_model.specs.Registry.{Settle, Forget, Made, Unbound}
 use Rattle.sysv_model.specs.Pool.{TooFew}
 use Rattle.sysv_model.specs.Turn.{Deed, AtSlot, AtRegistry, AtPool}
@@ -177,7 +179,8 @@ pub record IsRightSend (asked : SystemCall) (flags : Flags) (deeds : List Deed) 
   pub only : (ending ≡ Zero) ⊎ IsRefusedWith (EAGAIN ∷ EACCES ∷ EIDRM ∷ EINVAL ∷ []) ending
 
 -- The result of a receive is right.
-pub record IsRightReceive (asked : SystemCall) (size : ℕ) (flags : Flags) (deeds : List Deed) (ending : Ending) : Type 0 where
+pub record IsRightReceive (asked : SystemCall) (size : ℕ) (flags : Flags) (deeds : List Deed)
+    (ending : Ending) : Type 0 where
   -- A message if and only if exactly one was taken: its type, and at most `size` bytes of its body.
   pub got : (mtype : ℤ) (text : List ℕ) → (ending ≡ Got mtype text)
       ↔ ((m : Message) × (flat_map taken_by deeds ≡ m ∷ []) × (mtype ≡ m.mtype) × (text ≡ take size m.bytes))
@@ -191,12 +194,14 @@ pub record IsRightReceive (asked : SystemCall) (size : ℕ) (flags : Flags) (dee
   pub denied : (ending ≡ Refused EACCES) ↔ some was_denied deeds
   pub removed : (ending ≡ Refused EIDRM) ↔ IsRemoved deeds
   pub invalid : (ending ≡ Refused EINVAL) ↔ IsInvalid asked deeds
-  pub only : ((mtype : ℤ) × (text : List ℕ) × (ending ≡ Got mtype text)) ⊎ IsRefusedWith (ENOMSG ∷ E2BIG ∷ EACCES ∷ EIDRM ∷ EINVAL ∷ []) ending
+  pub only : ((mtype : ℤ) × (text : List ℕ) × (ending ≡ Got mtype text))
+      ⊎ IsRefusedWith (ENOMSG ∷ E2BIG ∷ EACCES ∷ EIDRM ∷ EINVAL ∷ []) ending
 
 -- The call made the queue of this identifier: the registry made the identifier, a queue was
 -- installed under it, and the registry was requested to settle it.
 abbrev pub IsNew : List Deed → ℤ → Type 0
-IsNew deeds id = (flat_map made_by deeds ≡ id ∷ []) × (flat_map installed_by deeds ≡ id ∷ []) × (flat_map settled_by deeds ≡ id ∷ [])
+IsNew deeds id =
+    (flat_map made_by deeds ≡ id ∷ []) × (flat_map installed_by deeds ≡ id ∷ []) × (flat_map settled_by deeds ≡ id ∷ [])
 
 -- The call made the queue of this identifier, or it was granted the queue that it found and does
 -- not require a new one.
@@ -254,7 +259,8 @@ pub record IsRightRemoval (asked : SystemCall) (deeds : List Deed) (ending : End
 -- The result of a call is right for its arguments and its deeds.
 abbrev pub IsRightAnswer : SystemCall → List Deed → Ending → Type 0
 IsRightAnswer (Msgsnd id mtype flags text) deeds ending = IsRightSend (Msgsnd id mtype flags text) flags deeds ending
-IsRightAnswer (Msgrcv id size mtype flags) deeds ending = IsRightReceive (Msgrcv id size mtype flags) size flags deeds ending
+IsRightAnswer (Msgrcv id size mtype flags) deeds ending =
+    IsRightReceive (Msgrcv id size mtype flags) size flags deeds ending
 IsRightAnswer (Msgget key flags) deeds ending = IsRightGet flags deeds ending
 IsRightAnswer (MsgctlStat id) deeds ending = IsRightStat (MsgctlStat id) deeds ending
 IsRightAnswer (MsgctlSet id to) deeds ending = IsRightSet (MsgctlSet id to) deeds ending

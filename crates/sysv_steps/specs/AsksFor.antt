@@ -35,11 +35,13 @@ AsksFor cred (Msgsnd id mtype flags text) ask =
     ⊎ ((now : ℕ) × (ask ≡ OfSlot (slot_of_id id) (Place id cred mtype text now)))
     ⊎ GivesBack ask
 AsksFor cred (Msgrcv id size mtype flags) ask =
-    ((now : ℕ) × (ask ≡ OfSlot (slot_of_id id) (Take id cred (selector_for mtype flags) size (has_flag MSG_NOERROR flags) now)))
+    ((now : ℕ)
+    × (ask ≡ OfSlot (slot_of_id id) (Take id cred (selector_for mtype flags) size (has_flag MSG_NOERROR flags) now)))
     ⊎ GivesBack ask
 AsksFor cred (MsgctlStat id) ask = ask ≡ OfSlot (slot_of_id id) (ReadStat id cred)
 AsksFor cred (MsgctlSet id to) ask = ((now : ℕ) × (ask ≡ OfSlot (slot_of_id id) (Set id cred to now))) ⊎ GivesBack ask
-AsksFor cred (MsgctlRmid id) ask = (ask ≡ OfSlot (slot_of_id id) (Remove id cred)) ⊎ (ask ≡ OfRegistry (Forget id)) ⊎ GivesBack ask
+AsksFor cred (MsgctlRmid id) ask =
+    (ask ≡ OfSlot (slot_of_id id) (Remove id cred)) ⊎ (ask ≡ OfRegistry (Forget id)) ⊎ GivesBack ask
 
 -- The call may make the request of each of these deeds.
 abbrev pub AllAskFor : Cred → SystemCall → List Deed → Type 0

@@ -15,7 +15,8 @@ use Rattle.sysv_steps.specs.State.{Phase, AtBegin, AtLook, AtTake, AtStat, AtSet
 -- identifier below 0. Those of a msgget never are.
 abbrev pub is_refused : SystemCall → Bool
 is_refused (Msgget key flags) = false
-is_refused (Msgsnd id mtype flags text) = int_lt mtype (pos 1) || nat_lt MESSAGE_BYTES (length text) || int_lt id (pos 0)
+is_refused (Msgsnd id mtype flags text) =
+    int_lt mtype (pos 1) || nat_lt MESSAGE_BYTES (length text) || int_lt id (pos 0)
 is_refused (Msgrcv id size mtype flags) = int_lt id (pos 0)
 is_refused (MsgctlStat id) = int_lt id (pos 0)
 is_refused (MsgctlSet id to) = int_lt id (pos 0)
@@ -25,7 +26,15 @@ is_refused (MsgctlRmid id) = int_lt id (pos 0)
 abbrev pub first : Cred → SystemCall → ℕ → Phase
 first cred (Msgget key flags) released = AtBegin record { cred = cred; key = key; flags = flags }
 first cred (Msgsnd id mtype flags text) released =
-    AtLook record { cred = cred; id = id; mtype = mtype; text = text; nowait = has_flag IPC_NOWAIT flags; released = released; seen = false }
+    AtLook record {
+      cred = cred;
+      id = id;
+      mtype = mtype;
+      text = text;
+      nowait = has_flag IPC_NOWAIT flags;
+      released = released;
+      seen = false;
+    }
 first cred (Msgrcv id size mtype flags) released =
     AtTake record {
       cred = cred;

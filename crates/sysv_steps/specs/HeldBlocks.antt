@@ -9,7 +9,8 @@ use Rattle.sysv_model.specs.Pool.{blocks_for, PoolCall, Reserve, Release, Reserv
 use Rattle.sysv_model.specs.Turn.{Deed, AtSlot, AtPool, asked_by}
 use Rattle.sysv_queue.specs.Blocks.{blocks_of}
 use Rattle.sysv_steps.specs.Call.{SystemCall}
-use Rattle.sysv_steps.specs.State.{Phase, AtPlace, AtSendGiveback, AtReceiveGiveback, AtForget, AtRemoveGiveback, State, Goes}
+use Rattle.sysv_steps.specs.State.{Phase, AtPlace, AtSendGiveback, AtReceiveGiveback, AtForget, AtRemoveGiveback, State}
+use Rattle.sysv_steps.specs.State.{Goes}
 use Rattle.sysv_steps.specs.Begin.{begin}
 use Rattle.sysv_steps.specs.Asks.{asks}
 use Rattle.sysv_steps.specs.Next.{next}
@@ -56,7 +57,8 @@ HasItsBlocks state = Unit {0}
 -- Each reservation that the pool grants has the number of blocks that a body of the requested size
 -- needs.
 abbrev pub GivesWhatIsAsked : List Deed → Type 0
-GivesWhatIsAsked deeds = (size blocks : ℕ) → Contains deeds (AtPool (Reserve size) (Reserved blocks)) → blocks ≡ blocks_for size
+GivesWhatIsAsked deeds =
+    (size blocks : ℕ) → Contains deeds (AtPool (Reserve size) (Reserved blocks)) → blocks ≡ blocks_for size
 
 -- What the call holds and what left it are what it received, and a send before its place has its
 -- blocks.
@@ -72,5 +74,7 @@ EachHoldsItsBlocks = (cred : Cred) (asked : SystemCall) (released : ℕ) (deeds 
 -- It also holds at each step: what the call held before and received is what left it and what it
 -- holds afterwards.
 abbrev pub EachStepKeepsItsBlocks : Type 0
-EachStepKeepsItsBlocks = (phase : Phase) (deed : Deed) (now : ℕ) (after : State) → HasItsBlocks (Goes phase) → GivesWhatIsAsked (deed ∷ []) →
-    asked_by deed ≡ asks phase now → next phase deed ≡ Some after → held after + left_by deed ≡ held (Goes phase) + given_by deed
+EachStepKeepsItsBlocks =
+    (phase : Phase) (deed : Deed) (now : ℕ) (after : State) → HasItsBlocks (Goes phase) → GivesWhatIsAsked (deed ∷ []) →
+    asked_by deed ≡ asks phase now → next phase deed ≡ Some after →
+    held after + left_by deed ≡ held (Goes phase) + given_by deed

@@ -8,7 +8,11 @@ use Rattle.sysv_model.specs.HasFlag.{has_flag}
 use Rattle.sysv_model.specs.Selector.{selector_for}
 use Rattle.sysv_model.specs.Turn.{Deed}
 use Rattle.sysv_steps.specs.Call.{SystemCall, Msgget, Msgsnd, Msgrcv, MsgctlStat, MsgctlSet, MsgctlRmid}
-use Rattle.sysv_steps.specs.State.{Getting, Sending, Receiving, Wait, OnSettled, OnFreed, OnReleased, OnArrived, Afterwards, IsRefused, WaitsOn, Phase, AtBegin, AtInstall, AtSettle, AtProbe, AtUnmake, AtLook, AtReserve, AtPlace, AtSendGiveback, AtTake, AtReceiveGiveback, AtStat, AtSet, AtSetGiveback, AtRemove, AtForget, AtRemoveGiveback, State, Goes, Waits, Over}
+use Rattle.sysv_steps.specs.State.{Getting, Sending, Receiving, Wait, OnSettled, OnFreed, OnReleased, OnArrived}
+use Rattle.sysv_steps.specs.State.{Afterwards, IsRefused, WaitsOn, Phase, AtBegin, AtInstall, AtSettle, AtProbe}
+use Rattle.sysv_steps.specs.State.{AtUnmake, AtLook, AtReserve, AtPlace, AtSendGiveback, AtTake, AtReceiveGiveback}
+use Rattle.sysv_steps.specs.State.{AtStat, AtSet, AtSetGiveback, AtRemove, AtForget, AtRemoveGiveback, State, Goes}
+use Rattle.sysv_steps.specs.State.{Waits, Over}
 use Rattle.sysv_steps.specs.Begin.{begin}
 use Rattle.sysv_steps.specs.Played.{Plays}
 
@@ -54,7 +58,8 @@ PhaseHolds cred (Msgget key flags) (AtUnmake id) = Unit {0}
 PhaseHolds cred (Msgsnd id mtype flags text) (AtLook send) = IsSend cred id mtype text send
 PhaseHolds cred (Msgsnd id mtype flags text) (AtReserve send) = IsSend cred id mtype text send
 PhaseHolds cred (Msgsnd id mtype flags text) (AtPlace send blocks) = IsSend cred id mtype text send
-PhaseHolds cred (Msgsnd id mtype flags text) (AtSendGiveback blocks afterwards) = AfterwardsHolds cred (Msgsnd id mtype flags text) afterwards
+PhaseHolds cred (Msgsnd id mtype flags text) (AtSendGiveback blocks afterwards) =
+    AfterwardsHolds cred (Msgsnd id mtype flags text) afterwards
 PhaseHolds cred (Msgrcv id size mtype flags) (AtTake receive) = IsReceive cred id size mtype flags receive
 PhaseHolds cred (Msgrcv id size mtype flags) (AtReceiveGiveback blocks type text) = Unit {0}
 PhaseHolds cred (MsgctlStat id) (AtStat by at) = (by ≡ cred) × (at ≡ id)

@@ -9,6 +9,7 @@ pub use Rattle.sysv_model.specs.Turn
 pub use Rattle.sysv_keys.specs.Identifier
 pub use Rattle.sysv_queue.specs.Blocks
 pub mod Call
+pub mod Asked
 pub mod State
 pub mod Begin
 pub mod Asks

@@ -17,11 +17,14 @@ read_then wait value before = before
 -- The value that was read last along a play, if the call read `began` at its start.
 abbrev pub read_last : (began : ℕ) (from : State) (deeds : List Deed) (state : State) → Plays from deeds state → ℕ
 read_last began from _ _ begins = began
-read_last began from _ _ (steps {deeds} {phase} deed now after play asked row) = read_last began from deeds (Goes phase) play
-read_last began from _ _ (resumes {deeds} {wait} value play least) = read_then wait value (read_last began from deeds (Waits wait) play)
+read_last began from _ _ (steps {deeds} {phase} deed now after play asked row) =
+    read_last began from deeds (Goes phase) play
+read_last began from _ _ (resumes {deeds} {wait} value play least) =
+    read_then wait value (read_last began from deeds (Waits wait) play)
 
 -- The goal of each wait for blocks is one more than that value.
 abbrev pub EachWaitsAboveWhatItRead : Type 0
-EachWaitsAboveWhatItRead = (cred : Cred) (asked : SystemCall) (released : ℕ) (deeds : List Deed) (goal : ℕ) (send : Sending) →
+EachWaitsAboveWhatItRead =
+    (cred : Cred) (asked : SystemCall) (released : ℕ) (deeds : List Deed) (goal : ℕ) (send : Sending) →
     (play : Plays (begin cred asked released) deeds (Waits (OnReleased goal send))) →
     goal ≡ read_last released (begin cred asked released) deeds (Waits (OnReleased goal send)) play + 1

@@ -16,7 +16,11 @@ use Rattle.sysv_steps.specs.declared.state.Phase.{Phase as PhaseKept}
 use Rattle.sysv_steps.specs.declared.state.Phase.TheVariants as phase
 use Rattle.sysv_steps.specs.declared.state.State.{State as StateKept}
 use Rattle.sysv_steps.specs.declared.state.State.TheVariants as state
-use Rattle.sysv_steps.specs.State.{Getting, Sending, Receiving, Wait, OnSettled, OnFreed, OnReleased, OnArrived, Afterwards, IsRefused, WaitsOn, Phase, AtBegin, AtInstall, AtSettle, AtProbe, AtUnmake, AtLook, AtReserve, AtPlace, AtSendGiveback, AtTake, AtReceiveGiveback, AtStat, AtSet, AtSetGiveback, AtRemove, AtForget, AtRemoveGiveback, Ending, Id, Zero, Got, Told, Refused, State, Goes, Waits, Over}
+use Rattle.sysv_steps.specs.State.{Getting, Sending, Receiving, Wait, OnSettled, OnFreed, OnReleased, OnArrived}
+use Rattle.sysv_steps.specs.State.{Afterwards, IsRefused, WaitsOn, Phase, AtBegin, AtInstall, AtSettle, AtProbe}
+use Rattle.sysv_steps.specs.State.{AtUnmake, AtLook, AtReserve, AtPlace, AtSendGiveback, AtTake, AtReceiveGiveback}
+use Rattle.sysv_steps.specs.State.{AtStat, AtSet, AtSetGiveback, AtRemove, AtForget, AtRemoveGiveback, Ending, Id, Zero}
+use Rattle.sysv_steps.specs.State.{Got, Told, Refused, State, Goes, Waits, Over}
 
 -- What a msgget of the code holds.
 abbrev pub getting : GetKept → Getting
@@ -24,7 +28,15 @@ getting g = record { cred = g.cred; key = g.key; flags = g.flags }
 
 -- What a send of the code holds, whose body is `text`.
 abbrev pub sending : SendKept → List ℕ → Sending
-sending s text = record { cred = s.cred; id = s.id; mtype = s.mtype; text = text; nowait = s.nowait; released = s.released; seen = s.live_seen }
+sending s text = record {
+  cred = s.cred;
+  id = s.id;
+  mtype = s.mtype;
+  text = text;
+  nowait = s.nowait;
+  released = s.released;
+  seen = s.live_seen;
+}
 
 -- What a receive of the code holds.
 abbrev pub receiving : ReceiveKept → Receiving

@@ -35,10 +35,12 @@ Forgets deeds id = (reply : RegistryReply) × Contains deeds (AtRegistry (Forget
 -- Each identifier that was made, and each whose queue was removed, is dealt with by a later deed or
 -- still has to be.
 pub record IsTended (deeds : List Deed) (state : State) : Type 0 where
-  pub made : (before after : List Deed) (call : RegistryCall) (id : ℤ) → deeds ≡ before ++ AtRegistry call (Made id) ∷ after →
+  pub made : (before after : List Deed) (call : RegistryCall) (id : ℤ) →
+      deeds ≡ before ++ AtRegistry call (Made id) ∷ after →
       HasToSettle state id ⊎ Settles after id ⊎ Forgets after id
   pub removed : (before after : List Deed) (slot : ℕ) (cred : Cred) (messages : List Message) (id : ℤ) →
-      deeds ≡ before ++ AtSlot slot (Remove id cred) (Discarded messages) ∷ after → HasToForget state id ⊎ Forgets after id
+      deeds ≡ before ++ AtSlot slot (Remove id cred) (Discarded messages) ∷ after →
+      HasToForget state id ⊎ Forgets after id
 
 -- This holds in each state to which a call plays.
 abbrev pub EachIsTended : Type 0

@@ -22,31 +22,38 @@ EndsWith last deeds = (front : List Deed) × (deeds ≡ front ++ last)
 -- This is the last deed at a slot. A send may have released its chain since, which is a deed at the
 -- pool.
 abbrev pub IsLastAtSlot : Deed → List Deed → Type 0
-IsLastAtSlot deed deeds = (front after : List Deed) × (deeds ≡ front ++ deed ∷ after) × (list_any is_at_slot after ≡ false)
+IsLastAtSlot deed deeds =
+    (front after : List Deed) × (deeds ≡ front ++ deed ∷ after) × (list_any is_at_slot after ≡ false)
 
 -- Another call was making the queue of the key, or the queue of the identifier that the registry
 -- found was not live. The registry reported this settled count.
 abbrev pub WasUnsettled : Getting → ℕ → List Deed → Type 0
 WasUnsettled get settled deeds =
     EndsWith (AtRegistry (Begin get.key get.flags) (Busy settled) ∷ []) deeds
-    ⊎ ((id : ℤ) × EndsWith (AtRegistry (Begin get.key get.flags) (Found id settled) ∷ AtSlot (slot_of_id id) (Probe id get.cred get.flags) Gone ∷ []) deeds)
+    ⊎ ((id : ℤ)
+    × EndsWith (AtRegistry (Begin get.key get.flags) (Found id settled)
+    ∷ AtSlot (slot_of_id id) (Probe id get.cred get.flags) Gone ∷ []) deeds)
 
 -- A look or a place found no room, and reported this freed count.
 abbrev pub WasFull : Sending → ℕ → List Deed → Type 0
 WasFull send freed deeds =
     IsLastAtSlot (AtSlot (slot_of_id send.id) (Look send.id send.cred (length send.text)) (Full freed)) deeds
-    ⊎ ((now : ℕ) × IsLastAtSlot (AtSlot (slot_of_id send.id) (Place send.id send.cred send.mtype send.text now) (Full freed)) deeds)
+    ⊎ ((now : ℕ)
+    × IsLastAtSlot (AtSlot (slot_of_id send.id) (Place send.id send.cred send.mtype send.text now) (Full freed)) deeds)
 
 -- A take found no message that the selector names, and reported this arrived count.
 abbrev pub FoundNone : Receiving → ℕ → List Deed → Type 0
 FoundNone receive arrived deeds =
-    (now : ℕ) × IsLastAtSlot (AtSlot (slot_of_id receive.id) (Take receive.id receive.cred receive.selector receive.size receive.noerror now) (NoMatch arrived)) deeds
+    (now : ℕ)
+    × IsLastAtSlot (AtSlot (slot_of_id receive.id)
+    (Take receive.id receive.cred receive.selector receive.size receive.noerror now) (NoMatch arrived)) deeds
 
 -- The wait has this cause in the deeds of the call, and this goal.
 abbrev pub WaitsFor : Wait → List Deed → Type 0
 WaitsFor (OnSettled goal get) deeds = (settled : ℕ) × (goal ≡ settled + 1) × WasUnsettled get settled deeds
 WaitsFor (OnFreed goal send) deeds = (freed : ℕ) × (goal ≡ freed + 1) × WasFull send freed deeds
-WaitsFor (OnReleased goal send) deeds = (goal ≡ send.released + 1) × EndsWith (AtPool (Reserve (length send.text)) TooFew ∷ []) deeds
+WaitsFor (OnReleased goal send) deeds =
+    (goal ≡ send.released + 1) × EndsWith (AtPool (Reserve (length send.text)) TooFew ∷ []) deeds
 WaitsFor (OnArrived goal receive) deeds = (arrived : ℕ) × (goal ≡ arrived + 1) × FoundNone receive arrived deeds
 
 -- Each call that plays to a wait has such a cause for it.

@@ -8,12 +8,14 @@ use Rattle.sysv_model.specs.declared.errno.Errno.TheVariants.{EACCES, EAGAIN, EE
 use Rattle.sysv_model.specs.declared.flags.Flags.{Flags}
 use Rattle.sysv_model.specs.declared.flags.TheConstants.Flags.{IPC_CREAT, IPC_NOWAIT, MSG_NOERROR}
 use Rattle.sysv_model.specs.declared.selector.Selector.TheVariants.{Any}
-use Rattle.sysv_model.specs.History.{Install, Probe, Look, Take, Remove, Installed, Gone, Denied, Full, NoMatch, Taken, Discarded}
+use Rattle.sysv_model.specs.History.{Install, Probe, Look, Take, Remove, Installed, Gone, Denied, Full, NoMatch, Taken}
+use Rattle.sysv_model.specs.History.{Discarded}
 use Rattle.sysv_model.specs.Registry.{Begin, Settle, Forget, Found, Made, Busy, Changed}
 use Rattle.sysv_model.specs.Pool.{Release, Released}
 use Rattle.sysv_model.specs.Turn.{Deed, AtSlot, AtRegistry, AtPool}
 use Rattle.sysv_steps.specs.Call.{SystemCall, Msgget, Msgsnd, Msgrcv, MsgctlRmid}
-use Rattle.sysv_steps.specs.State.{Getting, Receiving, OnArrived, AtReceiveGiveback, AtForget, Ending, Id, Zero, Refused, State, Goes, Waits, Over}
+use Rattle.sysv_steps.specs.State.{Getting, Receiving, OnArrived, AtReceiveGiveback, AtForget, Ending, Id, Zero}
+use Rattle.sysv_steps.specs.State.{Refused, State, Goes, Waits, Over}
 use Rattle.sysv_steps.specs.Begin.{begin}
 use Rattle.sysv_steps.specs.Played.{Plays}
 use Rattle.sysv_steps.specs.Answers.{IsRightAnswer}
@@ -84,7 +86,8 @@ finds_it_gone = AtSlot 3 (Take (pos 259) caller Any 9 true 91) Gone
 
 -- Instead, a message of one byte is queued.
 abbrev pub takes_it : Deed
-takes_it = AtSlot 3 (Take (pos 259) caller Any 9 true 90) (Taken record { number = 0; sender = 101; mtype = pos 5; bytes = 104 ∷ [] })
+takes_it = AtSlot 3 (Take (pos 259) caller Any 9 true 90)
+    (Taken record { number = 0; sender = 101; mtype = pos 5; bytes = 104 ∷ [] })
 
 abbrev pub waiting : Receiving
 waiting = record { cred = caller; id = pos 259; selector = Any; size = 9; noerror = true; nowait = false; seen = true }
@@ -102,7 +105,8 @@ abbrev pub removes : SystemCall
 removes = MsgctlRmid (pos 259)
 
 abbrev pub discards : Deed
-discards = AtSlot 3 (Remove (pos 259) caller) (Discarded (record { number = 0; sender = 101; mtype = pos 5; bytes = 104 ∷ [] } ∷ []))
+discards = AtSlot 3 (Remove (pos 259) caller)
+    (Discarded (record { number = 0; sender = 101; mtype = pos 5; bytes = 104 ∷ [] } ∷ []))
 
 abbrev pub forgets : Deed
 forgets = AtRegistry (Forget (pos 259)) (Changed true)

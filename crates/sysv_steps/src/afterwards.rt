@@ -1,3 +1,5 @@
+//! What a refused send does next.
+
 ghost use Rattle.std.specs.Prelude.{◌≡◌, ℕ, List, Some, Result, ⊤};
 ghost use Rattle.sysv_pool.specs.Chain.{Chained};
 ghost use Rattle.sysv_pool.specs.Replies.{release_reply};

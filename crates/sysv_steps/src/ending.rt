@@ -1,3 +1,5 @@
+//! How a call ended.
+
 use sysv_model::{Errno, Stat};
 use sysv_queue::Delivery;
 

@@ -1,3 +1,5 @@
+//! The steps of `msgget`.
+
 ghost use Rattle.std.specs.Prelude.{◌≡◌, ℕ, Bool, List, Some};
 ghost use Rattle.sysv_model.specs.History.{Installed};
 ghost use Rattle.sysv_model.specs.Registry.{Changed};

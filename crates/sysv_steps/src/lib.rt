@@ -5,16 +5,19 @@
 #![tactic(auto)]
 
 mod afterwards;
+mod call;
 mod control;
 mod ending;
 mod get;
 mod laws;
+mod outcome;
 mod receive;
 mod send;
 mod state;
 mod wait;
 
 pub use afterwards::Afterwards;
+pub use call::Call;
 pub use control::{
     begin_remove, begin_set, begin_stat, forgotten, given_back, removed, set_done, stat_told,
 };
@@ -25,6 +28,7 @@ pub use laws::{
     each_holds_its_blocks, each_holds_what_it_was_asked, each_is_tended, one_answer,
     waits_above_what_it_read, waits_for_its_refusal, waits_where_it_may, worked_plays,
 };
+pub use outcome::Outcome;
 pub use receive::Receiving;
 pub use send::Sending;
 pub use state::{Phase, State};

@@ -1,3 +1,5 @@
+//! The steps of `msgrcv`.
+
 ghost use Rattle.std.specs.Prelude.{◌≡◌, ℕ, List, length, Some, Result, ⊤};
 ghost use Rattle.sysv_model.specs.Message.{Message};
 ghost use Rattle.sysv_model.specs.History.{NoMatch, Taken};

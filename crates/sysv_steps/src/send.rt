@@ -1,3 +1,5 @@
+//! The steps of `msgsnd`.
+
 ghost use Rattle.std.specs.Prelude.{◌≡◌, ℕ, List, length, Some};
 ghost use Rattle.sysv_model.specs.History.{Accepted};
 ghost use Rattle.sysv_pool.specs.Replies.{reserve_reply};

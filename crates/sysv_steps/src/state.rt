@@ -1,3 +1,5 @@
+//! The steps and states of a call under way.
+
 ghost use Rattle.std.specs.Prelude.{◌≡◌};
 ghost use Rattle.sysv_steps.specs.Next.{gone as finds_gone};
 

@@ -1,3 +1,5 @@
+//! What a call waits for.
+
 ghost use Rattle.std.specs.Prelude.{◌≡◌, ◌≤◌, ◌↔◌, ℕ, List, IsTrue};
 ghost use Rattle.sysv_steps.specs.Resume.{goal_of, resume as resumes};
 ghost use Rattle.sysv_steps.specs.Seen.{phase_of, wait_of};

@@ -1,5 +1,6 @@
 -- Places of lists, numbers that are equal or not, and the names of calls.
-use Rattle.std.proofs.Common.{◌≡◌, ◌≢◌, ◌⊎◌, inl, inr, ℕ, zero, suc, ◌≤◌, ◌==◌, ◌&&◌, Bool, true, false, List, [], ◌∷◌, Some, refl, sym, ap, subst, ◌∙◌, arith, slice_get, slice_set}
+use Rattle.std.proofs.Common.{◌≡◌, ◌≢◌, ◌⊎◌, inl, inr, ℕ, zero, suc, ◌≤◌, ◌==◌, ◌&&◌, Bool, true, false, List, [], ◌∷◌}
+use Rattle.std.proofs.Common.{Some, refl, sym, ap, subst, ◌∙◌, arith, slice_get, slice_set}
 use Rattle.std.specs.List.{sum_by}
 use Rattle.std.proofs.lemmas.List.Sums.{sum_by-cons}
 use Rattle.std.proofs.lemmas.Bool.Decides.{eqb_tells}
@@ -29,12 +30,14 @@ and_false false = refl
 
 -- ---- places
 
-pub get_set_same : {X : Type 0} (xs : List X) (i : ℕ) (x y : X) → slice_get xs i ≡ Some y → slice_get (slice_set xs i x) i ≡ Some x
+pub get_set_same : {X : Type 0} (xs : List X) (i : ℕ) (x y : X) → slice_get xs i ≡ Some y →
+    slice_get (slice_set xs i x) i ≡ Some x
 get_set_same [] i x y e = absurd cc
 get_set_same (z ∷ xs) zero x y e = refl
 get_set_same (z ∷ xs) (suc i) x y e = get_set_same xs i x y e
 
-pub get_set_other : {X : Type 0} (xs : List X) (i j : ℕ) (x : X) → i ≢ j → slice_get (slice_set xs i x) j ≡ slice_get xs j
+pub get_set_other : {X : Type 0} (xs : List X) (i j : ℕ) (x : X) → i ≢ j →
+    slice_get (slice_set xs i x) j ≡ slice_get xs j
 get_set_other [] i j x f = refl
 get_set_other (z ∷ xs) zero zero x f = absurd (f refl)
 get_set_other (z ∷ xs) zero (suc j) x f = refl
@@ -54,12 +57,17 @@ sums_alike f g (x ∷ xs) same = omega (arith, sum_by-cons f x xs, sum_by-cons g
 
 pub same_name : (who : Who) (place : ℕ) → who ≡ name_at place → is_same who who ≡ true
 same_name who place is =
-    subst (λ name. is_same name name ≡ true) (sym is) (ap (λ b. b && (place == place)) (number_same (suc place)) ∙ number_same place)
+    subst (λ name. is_same name name ≡ true) (sym is)
+    (ap (λ b. b && (place == place)) (number_same (suc place)) ∙ number_same place)
 
-pub other_name : (who other : Who) (place at : ℕ) → who ≡ name_at place → other ≡ name_at at → at ≢ place → is_same who other ≡ false
+pub other_name : (who other : Who) (place at : ℕ) → who ≡ name_at place → other ≡ name_at at → at ≢ place →
+    is_same who other ≡ false
 other_name who other place at is that apart =
     ap (λ name. is_same name other) is
-    ∙ (ap (is_same (name_at place)) that ∙ (ap (λ b. (suc place == suc at) && b) (number_other place at (λ e. apart (sym e))) ∙ and_false (suc place == suc at)))
+    ∙ (ap (is_same (name_at place)) that
+    ∙ (ap (λ b. (suc place == suc at) && b) (number_other place at (λ e. apart (sym e)))
+    ∙ and_false (suc place == suc at)))
 
 pub not_nobody : (who : Who) (place : ℕ) → who ≡ name_at place → is_same who nobody ≡ false
-not_nobody who place is = ap (λ name. is_same name nobody) is ∙ ap (λ b. b && (place == 0)) (number_other (suc place) 0 (λ e. omega arith))
+not_nobody who place is =
+    ap (λ name. is_same name nobody) is ∙ ap (λ b. b && (place == 0)) (number_other (suc place) 0 (λ e. omega arith))

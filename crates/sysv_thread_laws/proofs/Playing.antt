@@ -1,6 +1,7 @@
 -- A call that is played along its turns can make the next of them in a world, whatever other calls
 -- do in between.
-use Rattle.std.proofs.Common.{◌≡◌, ℕ, suc, ◌≤◌, List, [], ◌∷◌, ◌++◌, Some, refl, sym, ap, subst, ◌∙◌, append_assoc, slice_get, slice_set}
+use Rattle.std.proofs.Common.{◌≡◌, ℕ, suc, ◌≤◌, List, [], ◌∷◌, ◌++◌, Some, refl, sym, ap, subst, ◌∙◌, append_assoc}
+use Rattle.std.proofs.Common.{slice_get, slice_set}
 use Rattle.std.proofs.lemmas.List.{append-nil, set-set}
 use Rattle.sysv_model.specs.Turn.{Deed, asked_by}
 use Rattle.sysv_objects.specs.LegalDeed.{IsLegalDeed}
@@ -16,11 +17,19 @@ use Rattle.sysv_thread_laws.proofs.Places.{get_set_same}
 
 -- ---- lists of moments
 
-pub leads_more : (xs ys : List Moment) (w mid after : World) (given more : List Given) → LeadsOnThreads w xs given mid → LeadsOnThreads mid ys more after → LeadsOnThreads w (xs ++ ys) (given ++ more) after
+pub leads_more : (xs ys : List Moment) (w mid after : World) (given more : List Given) → LeadsOnThreads w xs given mid →
+    LeadsOnThreads mid ys more after → LeadsOnThreads w (xs ++ ys) (given ++ more) after
 leads_more [] ys w mid after given more (none, same) led =
-    subst (λ gs. LeadsOnThreads w ys (gs ++ more) after) (sym none) (subst (λ (v : World). LeadsOnThreads v ys more after) same led)
-leads_more (x ∷ xs) ys w mid after given more (then_w, one, rest, brings, leads, whole) led =
-    (then_w, one, rest ++ more, brings, leads_more xs ys then_w mid after rest more leads led, ap (λ gs. gs ++ more) whole ∙ append_assoc one rest more)
+    subst (λ gs. LeadsOnThreads w ys (gs ++ more) after) (sym none)
+    (subst (λ (v : World). LeadsOnThreads v ys more after) same led)
+leads_more (x ∷ xs) ys w mid after given more (then_w, one, rest, brings, leads, whole) led = (
+  then_w,
+  one,
+  rest ++ more,
+  brings,
+  leads_more xs ys then_w mid after rest more leads led,
+  ap (λ gs. gs ++ more) whole ∙ append_assoc one rest more,
+)
 
 -- ---- what a call has still to do
 
@@ -28,14 +37,17 @@ leads_more (x ∷ xs) ys w mid after given more (then_w, one, rest, brings, lead
 pub data PlaysOn (to : State) : State → List Deed → Type 0 where
   is_there : PlaysOn to to []
   turns : {phase : Phase} {rest : List Deed} (deed : Deed) (now : ℕ) (after : State) →
-      asked_by deed ≡ asks phase now → next phase deed ≡ Some after → PlaysOn to after rest → PlaysOn to (Goes phase) (deed ∷ rest)
+      asked_by deed ≡ asks phase now → next phase deed ≡ Some after → PlaysOn to after rest →
+      PlaysOn to (Goes phase) (deed ∷ rest)
   wakes : {wait : Wait} {rest : List Deed} (value : ℕ) →
       goal_of wait ≤ value → PlaysOn to (Goes (resume wait value)) rest → PlaysOn to (Waits wait) rest
 
-pub plays_on : {from mid : State} {deeds : List Deed} (to : State) (rest : List Deed) → Plays from deeds mid → PlaysOn to mid rest → PlaysOn to from (deeds ++ rest)
+pub plays_on : {from mid : State} {deeds : List Deed} (to : State) (rest : List Deed) → Plays from deeds mid →
+    PlaysOn to mid rest → PlaysOn to from (deeds ++ rest)
 plays_on to rest begins on = on
 plays_on {from} to rest (steps {deeds = deeds} deed now after plays asked goes) on =
-    subst (PlaysOn to from) (sym (append_assoc deeds (deed ∷ []) rest)) (plays_on to (deed ∷ rest) plays (turns deed now after asked goes on))
+    subst (PlaysOn to from) (sym (append_assoc deeds (deed ∷ []) rest))
+    (plays_on to (deed ∷ rest) plays (turns deed now after asked goes on))
 plays_on to rest (resumes value plays reached) on = plays_on to rest plays (wakes value reached on)
 
 -- A call that waits with nothing more to do remains there for good. A call that has more to do is
@@ -53,7 +65,8 @@ settled_there (Over ending) = tt
 -- The call is settled, or it is to be woken.
 data Standing (to : State) : State → List Deed → Type 0 where
   stays : {state : State} {rest : List Deed} → PlaysOn to state rest → IsSettled to state rest → Standing to state rest
-  is_woken : {wait : Wait} {rest : List Deed} (value : ℕ) → goal_of wait ≤ value → PlaysOn to (Goes (resume wait value)) rest → Standing to (Waits wait) rest
+  is_woken : {wait : Wait} {rest : List Deed} (value : ℕ) → goal_of wait ≤ value →
+      PlaysOn to (Goes (resume wait value)) rest → Standing to (Waits wait) rest
 
 standing_so : {to state : State} {rest : List Deed} → PlaysOn to state rest → Standing to state rest
 standing_so {to} is_there = stays is_there (settled_there to)
@@ -82,18 +95,28 @@ pub record Makes (w : World) (place : ℕ) (call : Started) (to : State) (deed :
   pub plays : PlaysOn to state rest
   pub settled : IsSettled to state rest
 
-module _ (w : World) (place : ℕ) (call : Started) (to : State) (deed : Deed) (rest : List Deed) (legal : IsLegalDeed w.generation w.blocks w.turns deed) where
+module _ (w : World) (place : ℕ) (call : Started) (to : State) (deed : Deed) (rest : List Deed)
+    (legal : IsLegalDeed w.generation w.blocks w.turns deed) where
   abbrev then_at : State → World
   then_at state = in_state (with_turn w call.who deed) (suc place) call state
 
-  makes_then : (phase : Phase) (now : ℕ) (after : State) → slice_get w.actors place ≡ Some (Some record { call = call; state = Goes phase }) → asked_by deed ≡ asks phase now → next phase deed ≡ Some after →
+  makes_then : (phase : Phase) (now : ℕ) (after : State) →
+      slice_get w.actors place ≡ Some (Some record { call = call; state = Goes phase }) →
+      asked_by deed ≡ asks phase now → next phase deed ≡ Some after →
       Standing to after rest → Makes w place call to deed rest
   makes_then phase now after there asked goes (stays on settled) = record {
     moments = TakesTurn (suc place) now ∷ [];
     given = given_in call after;
     mid = then_at after;
     state = after;
-    leads = (then_at after, given_in call after, [], (call, phase, there, (deed, after, asked, legal, goes, refl, refl)), (refl, refl), sym (append-nil (given_in call after)));
+    leads = (
+      then_at after,
+      given_in call after,
+      [],
+      (call, phase, there, (deed, after, asked, legal, goes, refl, refl)),
+      (refl, refl),
+      sym (append-nil (given_in call after)),
+    );
     turns = refl;
     actors = refl;
     calls = refl;
@@ -103,7 +126,8 @@ module _ (w : World) (place : ℕ) (call : Started) (to : State) (deed : Deed) (
     settled = settled;
   }
   makes_then phase now (Waits wait) there asked goes (is_woken value reached on) =
-      let waiting : slice_get (slice_set w.actors place (Some record { call = call; state = Waits wait })) place ≡ Some (Some record { call = call; state = Waits wait }) =
+      let waiting : slice_get (slice_set w.actors place (Some record { call = call; state = Waits wait })) place
+      ≡ Some (Some record { call = call; state = Waits wait }) =
       get_set_same w.actors place _ _ there in
       record {
         moments = TakesTurn (suc place) now ∷ Wakes (suc place) value ∷ [];
@@ -115,7 +139,14 @@ module _ (w : World) (place : ℕ) (call : Started) (to : State) (deed : Deed) (
           [],
           [],
           (call, phase, there, (deed, Waits wait, asked, legal, goes, refl, refl)),
-          (in_state (then_at (Waits wait)) (suc place) call (Goes (resume wait value)), [], [], (call, wait, waiting, reached, refl, refl), (refl, refl), refl),
+          (
+            in_state (then_at (Waits wait)) (suc place) call (Goes (resume wait value)),
+            [],
+            [],
+            (call, wait, waiting, reached, refl, refl),
+            (refl, refl),
+            refl,
+          ),
           refl,
         );
         turns = refl;
@@ -127,6 +158,8 @@ module _ (w : World) (place : ℕ) (call : Started) (to : State) (deed : Deed) (
         settled = tt;
       }
 
-  pub makes_turn : (state : State) → slice_get w.actors place ≡ Some (doing_in call state) → PlaysOn to state (deed ∷ rest) → IsSettled to state (deed ∷ rest) → Makes w place call to deed rest
-  makes_turn state there (turns {phase = phase} deed now after asked goes on) settled = makes_then phase now after there asked goes (standing_so on)
+  pub makes_turn : (state : State) → slice_get w.actors place ≡ Some (doing_in call state) →
+      PlaysOn to state (deed ∷ rest) → IsSettled to state (deed ∷ rest) → Makes w place call to deed rest
+  makes_turn state there (turns {phase = phase} deed now after asked goes on) settled =
+      makes_then phase now after there asked goes (standing_so on)
   makes_turn state there (wakes value reached on) settled = let bad = settled.1 in absurd cc

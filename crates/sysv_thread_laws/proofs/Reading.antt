@@ -1,5 +1,6 @@
 -- The turn that reads a row moves no block, installs and removes nothing, and belongs to no call.
-use Rattle.std.proofs.Common.{◌≡◌, ◌≢◌, inl, inr, ℕ, suc, ℤ, ◌+◌, Bool, true, false, cond, List, [], ◌∷◌, ◌++◌, Option, refl, sym, ap, subst, ◌∙◌, arith}
+use Rattle.std.proofs.Common.{◌≡◌, ◌≢◌, inl, inr, ℕ, suc, ℤ, ◌+◌, Bool, true, false, cond, List, [], ◌∷◌, ◌++◌, Option}
+use Rattle.std.proofs.Common.{refl, sym, ap, subst, ◌∙◌, arith}
 use Rattle.std.specs.List.{All, Contains}
 use Rattle.std.proofs.Math.Dec.{eqb}
 use Rattle.std.proofs.lemmas.Bool.{eqb-true}
@@ -47,13 +48,17 @@ module _ (turns : List Turn) (slot : ℕ) (reply : Reply) where
   same_pool = pool_stays turns nobody row_deed refl
 
   -- No block moves in a slot.
-  module _ (kept : TurnKeepsBlocks) (slots : (other : ℕ) → IsLegalHistory (slot_history other turns)) (legal : Legal (slot_of (slot_history slot turns)) ReadRow reply) where
+  module _ (kept : TurnKeepsBlocks) (slots : (other : ℕ) → IsLegalHistory (slot_history other turns))
+      (legal : Legal (slot_of (slot_history slot turns)) ReadRow reply) where
     abbrev entry : Entry
     entry = record { who = nobody; call = ReadRow; reply = reply }
 
-    in_slot : (other : ℕ) (b : Bool) → (b ≡ true → slot ≡ other) → blocks_of (waiting_in (slot_history other turns ++ cond b (entry ∷ []) [])) ≡ blocks_of (waiting_in (slot_history other turns))
+    in_slot : (other : ℕ) (b : Bool) → (b ≡ true → slot ≡ other) →
+        blocks_of (waiting_in (slot_history other turns ++ cond b (entry ∷ []) []))
+        ≡ blocks_of (waiting_in (slot_history other turns))
     in_slot other true here =
-        let now : Legal (slot_of (slot_history other turns)) ReadRow reply = subst (λ n. Legal (slot_of (slot_history n turns)) ReadRow reply) (here refl) legal in
+        let now : Legal (slot_of (slot_history other turns)) ReadRow reply =
+        subst (λ n. Legal (slot_of (slot_history n turns)) ReadRow reply) (here refl) legal in
         let moved = kept (slot_history other turns) nobody ReadRow reply (slots other) now in
         omega (arith, moved)
     in_slot other false here = ap (λ h. blocks_of (waiting_in h)) (append-nil (slot_history other turns))
@@ -64,9 +69,12 @@ module _ (turns : List Turn) (slot : ℕ) (reply : Reply) where
         ∙ in_slot other (eqb slot other) (λ e. eqb-true slot other e)
 
     same_waiting : blocks_waiting with_row ≡ blocks_waiting turns
-    same_waiting = is_sum with_row ∙ (same_sum (waiting_at with_row) (waiting_at turns) 0 SLOTS (λ other low. each_slot other) ∙ sym (is_sum turns))
+    same_waiting = is_sum with_row
+        ∙ (same_sum (waiting_at with_row) (waiting_at turns) 0 SLOTS (λ other low. each_slot other)
+        ∙ sym (is_sum turns))
 
-    pub row_conserves : (size : ℕ) (actors : List (Option Doing)) → AreConserved size turns actors → AreConserved size with_row actors
+    pub row_conserves : (size : ℕ) (actors : List (Option Doing)) → AreConserved size turns actors →
+        AreConserved size with_row actors
     row_conserves size actors all = record {
       whole = ap (λ (h : PoolHistory). free_after size h + (blocks_waiting with_row + blocks_in_calls actors)) same_pool
           ∙ (ap (λ n. free_after size (pool_history turns) + (n + blocks_in_calls actors)) same_waiting ∙ all.whole);
@@ -90,11 +98,14 @@ module _ (turns : List Turn) (slot : ℕ) (reply : Reply) where
   no_removal : {A : Type 0} (id : ℤ) → IsRemovedBy id ReadRow reply → A
   no_removal id gone = let bad = gone.3 in absurd cc
 
-  pub row_tends : (actors : List (Option Doing)) → Legal (slot_of (slot_history slot turns)) ReadRow reply → AllTended turns actors → AllTended with_row actors
-  row_tends actors legal all = λ id key made kept. elim (all id key (ap (is_made id key) (sym same_registry) ∙ made) (ap (is_forgotten id) (sym same_registry) ∙ kept)) [
-    | inl s ↦ inl s
-    | inr both ↦ inr (lives_still id both.0, settled_still id both.1)
-  ]
+  pub row_tends : (actors : List (Option Doing)) → Legal (slot_of (slot_history slot turns)) ReadRow reply →
+      AllTended turns actors → AllTended with_row actors
+  row_tends actors legal all = λ id key made kept.
+      elim (all id key (ap (is_made id key) (sym same_registry) ∙ made)
+      (ap (is_forgotten id) (sym same_registry) ∙ kept)) [
+        | inl s ↦ inl s
+        | inr both ↦ inr (lives_still id both.0, settled_still id both.1)
+      ]
     where
       lives_still : (id : ℤ) → Lives id turns actors → Lives id with_row actors
       lives_still id (inl lives) = elim (live_past turns nobody slot ReadRow reply id legal lives) [
@@ -108,12 +119,16 @@ module _ (turns : List Turn) (slot : ℕ) (reply : Reply) where
       settled_still id (inr s) = inr s
 
   pub row_facts : Legal (slot_of (slot_history slot turns)) ReadRow reply → Facts turns → Facts with_row
-  row_facts legal f = facts_more turns f nobody row_deed (record { legal = legal; finds = tt; installs_made = λ id e. absurd cc })
+  row_facts legal f =
+      facts_more turns f nobody row_deed (record { legal = legal; finds = tt; installs_made = λ id e. absurd cc })
 
   pub row_fits : (actors : List (Option Doing)) → AllFit turns actors → AllFit with_row actors
   row_fits actors fit = λ place d there. fits_still turns (turn_of nobody row_deed) d.state (fit place d there)
 
-module _ (more : (generation blocks : ℕ) (turns : List Turn) (who : Who) (deed : Deed) → AreLegal generation blocks turns → IsLegalDeed generation blocks turns deed → AreLegal generation blocks (turns ++ turn_of who deed ∷ [])) (kept : TurnKeepsBlocks)
+module _
+    (more : (generation blocks : ℕ) (turns : List Turn) (who : Who) (deed : Deed) → AreLegal generation blocks turns →
+    IsLegalDeed generation blocks turns deed → AreLegal generation blocks (turns ++ turn_of who deed ∷ []))
+    (kept : TurnKeepsBlocks)
     (w : World) (slot : ℕ) (reply : Reply) (legal : Legal (slot_of (slot_history slot w.turns)) ReadRow reply) where
   abbrev pub read : World
   read = record w { turns = with_row w.turns slot reply }
@@ -139,7 +154,12 @@ module _ (more : (generation blocks : ℕ) (turns : List Turn) (who : Who) (deed
     sound = row_sound i.sound;
     fates = λ c has.
         let f = i.fates c has in
-        record { state = f.state; plays = subst (λ ds. Plays (begun c) ds f.state) (sym (same c has)) f.plays; answered = f.answered; stands = f.stands };
+        record {
+          state = f.state;
+          plays = subst (λ ds. Plays (begun c) ds f.state) (sym (same c has)) f.plays;
+          answered = f.answered;
+          stands = f.stands;
+        };
     before = i.before;
     apart = i.apart;
     named = i.named;
@@ -149,4 +169,6 @@ module _ (more : (generation blocks : ℕ) (turns : List Turn) (who : Who) (deed
   }
     where
       same : (c : Started) → Contains w.calls c → deeds_of c.who (with_row w.turns slot reply) ≡ deeds_of c.who w.turns
-      same c has = other_deed c.who w.turns (turn_of nobody (AtSlot slot ReadRow reply)) (not_same c.who nobody (λ e. let b = i.before c has in let bad : Actor (suc b.0) b.1 ≡ Actor 0 0 = sym b.2 ∙ e in cc))
+      same c has = other_deed c.who w.turns (turn_of nobody (AtSlot slot ReadRow reply))
+          (not_same c.who nobody
+          (λ e. let b = i.before c has in let bad : Actor (suc b.0) b.1 ≡ Actor 0 0 = sym b.2 ∙ e in cc))

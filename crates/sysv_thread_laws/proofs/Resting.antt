@@ -1,5 +1,6 @@
 -- If no call is under way, no call holds a block or has a row to settle or to forget.
-use Rattle.std.proofs.Common.{◌≡◌, ◌⊎◌, inl, inr, ℕ, ℤ, zero, suc, ◌+◌, Bool, true, false, List, [], ◌∷◌, Option, None, Some, refl, sym, ap, subst, ◌∙◌, arith, map, slice_get}
+use Rattle.std.proofs.Common.{◌≡◌, ◌⊎◌, inl, inr, ℕ, ℤ, zero, suc, ◌+◌, Bool, true, false, List, [], ◌∷◌, Option, None}
+use Rattle.std.proofs.Common.{Some, refl, sym, ap, subst, ◌∙◌, arith, map, slice_get}
 use Rattle.std.specs.List.{range_with_len}
 use Rattle.std.specs.Ordering.{int_eq}
 use Rattle.std.proofs.lemmas.Bool.Decides.{Decides-int_eq}
@@ -43,7 +44,8 @@ no_block place c rests = by_state c.state rests
     by_state (Waits wait) r = refl
     by_state (Over ending) r = refl
 
-no_blocks : (start : ℕ) (cs : List Called) → ((place : ℕ) (c : Called) → slice_get cs place ≡ Some c → Rests c.state) → blocks_in_calls (all_standing start cs) ≡ 0
+no_blocks : (start : ℕ) (cs : List Called) → ((place : ℕ) (c : Called) → slice_get cs place ≡ Some c → Rests c.state) →
+    blocks_in_calls (all_standing start cs) ≡ 0
 no_blocks start [] rest = refl
 no_blocks start (c ∷ cs) rest =
     omega (
@@ -55,19 +57,24 @@ no_blocks start (c ∷ cs) rest =
 
 -- ---- no row is tended
 
-no_tender : (call : Started) (state : State) (d : Doing) (id : ℤ) → Rests state → doing_in call state ≡ Some d → ¬ (HasToSettle d.state id ⊎ HasToForget d.state id)
+no_tender : (call : Started) (state : State) (d : Doing) (id : ℤ) → Rests state → doing_in call state ≡ Some d →
+    ¬ (HasToSettle d.state id ⊎ HasToForget d.state id)
 no_tender call (Goes phase) d id r is t = absurd r
-no_tender call (Waits wait) d id r is (inl t) = let at : Waits wait ≡ d.state = cc in subst (λ s. HasToSettle s id) (sym at) t
-no_tender call (Waits wait) d id r is (inr t) = let at : Waits wait ≡ d.state = cc in subst (λ s. HasToForget s id) (sym at) t
+no_tender call (Waits wait) d id r is (inl t) =
+    let at : Waits wait ≡ d.state = cc in subst (λ s. HasToSettle s id) (sym at) t
+no_tender call (Waits wait) d id r is (inr t) =
+    let at : Waits wait ≡ d.state = cc in subst (λ s. HasToForget s id) (sym at) t
 no_tender call (Over ending) d id r is t = absurd cc
 
-none_tends : (start : ℕ) (cs : List Called) (place : ℕ) (d : Doing) (id : ℤ) → ((place : ℕ) (c : Called) → slice_get cs place ≡ Some c → Rests c.state) →
+none_tends : (start : ℕ) (cs : List Called) (place : ℕ) (d : Doing) (id : ℤ) →
+    ((place : ℕ) (c : Called) → slice_get cs place ≡ Some c → Rests c.state) →
     slice_get (all_standing start cs) place ≡ Some (Some d) → ¬ (HasToSettle d.state id ⊎ HasToForget d.state id)
 none_tends start [] place d id rest there t = absurd cc
 none_tends start (c ∷ cs) zero d id rest there t =
     let is : doing_in (started_at start c) c.state ≡ Some d = cc in
     no_tender (started_at start c) c.state d id (rest zero c refl) is t
-none_tends start (c ∷ cs) (suc place) d id rest there t = none_tends (suc start) cs place d id (λ p x at. rest (suc p) x at) there t
+none_tends start (c ∷ cs) (suc place) d id rest there t =
+    none_tends (suc start) cs place d id (λ p x at. rest (suc p) x at) there t
 
 -- ---- a queue lives, or not
 
@@ -81,40 +88,54 @@ has_id_or_not (Some a) id = has_it_or_not a id (int_eq a.id id) refl
 
 -- ---- the law
 
-module _ (blocks : ℕ) (turns : List Turn) (w : World) (calls : List Called) (same : Acts w.turns turns) (standing : w.actors ≡ all_standing 0 calls) (rest : (place : ℕ) (c : Called) → slice_get calls place ≡ Some c → Rests c.state) where
+module _ (blocks : ℕ) (turns : List Turn) (w : World) (calls : List Called) (same : Acts w.turns turns)
+    (standing : w.actors ≡ all_standing 0 calls)
+    (rest : (place : ℕ) (c : Called) → slice_get calls place ≡ Some c → Rests c.state) where
   waiting_alike : blocks_waiting w.turns ≡ blocks_waiting turns
   unfolding blocks_waiting
   waiting_alike =
-      sums_alike (λ slot. blocks_of (held (slot_history slot w.turns))) (λ slot. blocks_of (held (slot_history slot turns))) (range_with_len 0 SLOTS) (λ slot. ap blocks_of (held_alike slot w.turns turns same))
+      sums_alike (λ slot. blocks_of (held (slot_history slot w.turns)))
+      (λ slot. blocks_of (held (slot_history slot turns))) (range_with_len 0 SLOTS)
+      (λ slot. ap blocks_of (held_alike slot w.turns turns same))
 
-  all_back : free_after blocks (pool_history w.turns) + (blocks_waiting w.turns + blocks_in_calls w.actors) ≡ blocks → free_after blocks (pool_history turns) + blocks_waiting turns ≡ blocks
+  all_back : free_after blocks (pool_history w.turns) + (blocks_waiting w.turns + blocks_in_calls w.actors) ≡ blocks →
+      free_after blocks (pool_history turns) + blocks_waiting turns ≡ blocks
   all_back whole =
       let none : blocks_in_calls w.actors ≡ 0 = ap blocks_in_calls standing ∙ no_blocks 0 calls rest in
       omega (arith, whole, none, waiting_alike, free_alike blocks w.turns turns same)
 
   untended : (id : ℤ) → ¬ IsTended w id
-  untended id t = none_tends 0 calls t.place t.doing id rest (ap (λ ds. slice_get ds t.place) (sym standing) ∙ t.there) t.tends
+  untended id t =
+      none_tends 0 calls t.place t.doing id rest (ap (λ ds. slice_get ds t.place) (sym standing) ∙ t.there) t.tends
 
-  settled_row : (row : KeyRow) → IsRow (registry_history turns) row → ((row.live ≡ false) ⊎ ¬ IsLive (slot_history (slot_of_id row.id) w.turns) row.id → IsTended w row.id) →
+  settled_row : (row : KeyRow) → IsRow (registry_history turns) row →
+      ((row.live ≡ false) ⊎ ¬ IsLive (slot_history (slot_of_id row.id) w.turns) row.id → IsTended w row.id) →
       (row.live ≡ true) × IsLive (slot_history (slot_of_id row.id) turns) row.id
-  settled_row row r tends = (by_stage row.live refl, by_life (has_id_or_not (live (slot_history (slot_of_id row.id) turns)) row.id))
+  settled_row row r tends =
+      (by_stage row.live refl, by_life (has_id_or_not (live (slot_history (slot_of_id row.id) turns)) row.id))
     where
       by_stage : (b : Bool) → row.live ≡ b → b ≡ true
       by_stage true e = refl
       by_stage false e = absurd (untended row.id (tends (inl e)))
 
-      by_life : HasId (live (slot_history (slot_of_id row.id) turns)) row.id ⊎ ¬ HasId (live (slot_history (slot_of_id row.id) turns)) row.id → IsLive (slot_history (slot_of_id row.id) turns) row.id
+      by_life : HasId (live (slot_history (slot_of_id row.id) turns)) row.id
+          ⊎ ¬ HasId (live (slot_history (slot_of_id row.id) turns)) row.id →
+          IsLive (slot_history (slot_of_id row.id) turns) row.id
       by_life (inl lives) = lives
       by_life (inr gone) =
-          absurd (untended row.id (tends (inr (λ h. gone (subst (λ o. HasId o row.id) (lives_alike (slot_of_id row.id) w.turns turns same) h)))))
+          absurd (untended row.id (tends (inr (λ h.
+          gone (subst (λ o. HasId o row.id) (lives_alike (slot_of_id row.id) w.turns turns same) h)))))
 
 pub orders_at_rest : EveryOrderIsARun → OrdersAtRest
 orders_at_rest law generation blocks order calls legal all rest =
     let r = law generation blocks order calls legal all in
     let same : Acts r.world.turns (turns_of order) =
-    ap (map (λ (t : Turn). t.deed)) (sym r.turns.in_world) ∙ (same_acts r.turns.renamed ∙ ap (λ ts. map (λ (t : Turn). t.deed) (turns_of ts)) r.turns.in_order) in
+    ap (map (λ (t : Turn). t.deed)) (sym r.turns.in_world)
+    ∙ (same_acts r.turns.renamed ∙ ap (λ ts. map (λ (t : Turn). t.deed) (turns_of ts)) r.turns.in_order) in
     let at_each : (place : ℕ) (c : Called) → slice_get calls place ≡ Some c → Rests c.state =
-    λ place c there. subst (λ (x : Called). Rests x.state) (get_or_from_slice_get calls place c c there) (rest place c (slice_get_within calls place c there)) in
+    λ place c there.
+    subst (λ (x : Called). Rests x.state) (get_or_from_slice_get calls place c c there)
+    (rest place c (slice_get_within calls place c there)) in
     record {
       whole = all_back blocks (turns_of order) r.world calls same r.standing at_each r.obeys.conserved.whole;
       rows = λ row is. settled_row blocks (turns_of order) r.world calls same r.standing at_each row is

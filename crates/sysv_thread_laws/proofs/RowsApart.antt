@@ -4,7 +4,9 @@ use Rattle.std.specs.List.{All}
 use Rattle.std.proofs.lemmas.List.Elements.{All-push, All-nil}
 use Rattle.sysv_model.specs.History.{ReadRow}
 use Rattle.sysv_model.specs.Turn.{Deed, OfSlot, asked_by}
-use Rattle.sysv_steps.specs.State.{Phase, State, AtBegin, AtInstall, AtSettle, AtProbe, AtUnmake, AtLook, AtReserve, AtPlace, AtSendGiveback, AtTake, AtReceiveGiveback, AtStat, AtSet, AtSetGiveback, AtRemove, AtForget, AtRemoveGiveback}
+use Rattle.sysv_steps.specs.State.{Phase, State, AtBegin, AtInstall, AtSettle, AtProbe, AtUnmake, AtLook, AtReserve}
+use Rattle.sysv_steps.specs.State.{AtPlace, AtSendGiveback, AtTake, AtReceiveGiveback, AtStat, AtSet, AtSetGiveback}
+use Rattle.sysv_steps.specs.State.{AtRemove, AtForget, AtRemoveGiveback}
 use Rattle.sysv_steps.specs.Asks.{asks}
 use Rattle.sysv_steps.specs.Played.{Plays, begins, steps, resumes}
 use Rattle.sysv_thread_laws.specs.Order.{shows_row, NoCallReadsARow}
@@ -32,7 +34,8 @@ no_step (AtRemove cred id) now slot e = cc
 no_step (AtForget id blocks) now slot e = cc
 no_step (AtRemoveGiveback blocks) now slot e = cc
 
-quiet_step : (deed : Deed) (phase : Phase) (now : ℕ) (b : Bool) → asked_by deed ≡ asks phase now → shows_row deed ≡ b → b ≡ false
+quiet_step : (deed : Deed) (phase : Phase) (now : ℕ) (b : Bool) → asked_by deed ≡ asks phase now → shows_row deed ≡ b →
+    b ≡ false
 quiet_step deed phase now false asked shows = refl
 quiet_step deed phase now true asked shows =
     let form = row_form deed shows in

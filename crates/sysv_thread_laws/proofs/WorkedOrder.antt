@@ -1,5 +1,6 @@
 -- The worked order, turn by turn and call by call.
-use Rattle.std.proofs.Common.{◌≡◌, ◌≢◌, inl, inr, ℕ, zero, suc, ◌<◌, ◌==◌, ◌&&◌, Bool, true, false, cond, not, pos, List, [], ◌∷◌, ◌++◌, refl, sym, ap, ◌∙◌, arith, take}
+use Rattle.std.proofs.Common.{◌≡◌, ◌≢◌, inl, inr, ℕ, zero, suc, ◌<◌, ◌==◌, ◌&&◌, Bool, true, false, cond, not, pos}
+use Rattle.std.proofs.Common.{List, [], ◌∷◌, ◌++◌, refl, sym, ap, ◌∙◌, arith, take}
 use Rattle.sysv_model.specs.declared.errno.Errno.TheVariants.{ENOMSG}
 use Rattle.sysv_model.specs.declared.selector.Selector.TheVariants.{Any}
 use Rattle.sysv_model.specs.Message.{Message}
@@ -10,7 +11,8 @@ use Rattle.sysv_model.specs.History.{Who, Seat, Take, Taken}
 use Rattle.sysv_model.specs.Turn.{Deed, Turn, slot_history}
 use Rattle.sysv_queue.specs.Named.{IsNamed}
 use Rattle.sysv_objects.specs.LegalDeed.{IsLegalDeed, AreLegal}
-use Rattle.sysv_steps.specs.State.{Goes, Waits, Over, Id, Zero, Got, Refused, OnArrived, AtInstall, AtSettle, AtReserve, AtPlace, AtReceiveGiveback, AtForget, AtRemoveGiveback}
+use Rattle.sysv_steps.specs.State.{Goes, Waits, Over, Id, Zero, Got, Refused, OnArrived, AtInstall, AtSettle, AtReserve}
+use Rattle.sysv_steps.specs.State.{AtPlace, AtReceiveGiveback, AtForget, AtRemoveGiveback}
 use Rattle.sysv_steps.specs.Played.{begins, steps, resumes}
 use Rattle.sysv_passes.specs.Turns.{Numbered, turns_of}
 use Rattle.sysv_thread_laws.specs.Order.{Called, IsPlayed, AreAll, shows_row, deeds_by, deeds_in}
@@ -18,7 +20,11 @@ use Rattle.sysv_thread_laws.specs.OrderIsRun.{EveryOrderIsARun}
 use Rattle.sysv_thread_laws.specs.AtRest.{Rests, OrdersAtRest}
 use Rattle.sysv_thread_laws.proofs.Places.{number_other}
 use Rattle.sysv_thread_laws.proofs.Ordering.{by_another}
-use Rattle.sysv_thread_laws.specs.WorkedOrder.{sender, receiver, hello, hello_message, creating, makes, installs, settles, finds_none, looks, reserves, reads_row, places, takes, finds_no_other, gives_back, discards, forgets, gives_back_none, by, the_order, the_get, the_send, the_receive, left_at, the_left, the_refused, the_removal, calls_with, the_calls, WorkedOrder}
+use Rattle.sysv_thread_laws.specs.WorkedOrder.{sender, receiver, hello, hello_message, creating, makes, installs}
+use Rattle.sysv_thread_laws.specs.WorkedOrder.{settles, finds_none, looks, reserves, reads_row, places, takes}
+use Rattle.sysv_thread_laws.specs.WorkedOrder.{finds_no_other, gives_back, discards, forgets, gives_back_none, by}
+use Rattle.sysv_thread_laws.specs.WorkedOrder.{the_order, the_get, the_send, the_receive, left_at, the_left}
+use Rattle.sysv_thread_laws.specs.WorkedOrder.{the_refused, the_removal, calls_with, the_calls, WorkedOrder}
 
 -- ---- legal
 
@@ -26,7 +32,17 @@ abbrev after : ℕ → List Turn
 after count = turns_of (take count the_order)
 
 legal_makes : IsLegalDeed 0 128 (after 0) makes
-legal_makes = (inl refl, (0, (record { there = omega arith; empty = λ row r. let bad = r.made in absurd cc; usable = omega arith }, λ lower below. absurd (omega arith)), refl))
+legal_makes = (
+  inl refl,
+  (
+    0,
+    (
+      record { there = omega arith; empty = λ row r. let bad = r.made in absurd cc; usable = omega arith },
+      λ lower below. absurd (omega arith),
+    ),
+    refl,
+  ),
+)
 
 legal_installs : IsLegalDeed 0 128 (after 1) installs
 legal_installs = refl
@@ -71,13 +87,18 @@ legal_discards : IsLegalDeed 0 128 (after 12) discards
 legal_discards = (refl, inl refl, refl)
 
 legal_forgets : IsLegalDeed 0 128 (after 13) forgets
-legal_forgets = (record { id = pos 0; key = pos 0; live = true }, record { made = refl; kept = refl; stage = refl }, refl)
+legal_forgets =
+    (record { id = pos 0; key = pos 0; live = true }, record { made = refl; kept = refl; stage = refl }, refl)
 
 legal_back_none : IsLegalDeed 0 128 (after 14) gives_back_none
 legal_back_none = omega arith
 
-module _ (none : AreLegal 0 128 []) (more : (generation blocks : ℕ) (turns : List Turn) (who : Who) (deed : Deed) → AreLegal generation blocks turns → IsLegalDeed generation blocks turns deed → AreLegal generation blocks (turns ++ record { who = who; deed = deed } ∷ [])) where
-  with_more : (turns : List Turn) (number : ℕ) (deed : Deed) → AreLegal 0 128 turns → IsLegalDeed 0 128 turns deed → AreLegal 0 128 (turns ++ record { who = Seat number; deed = deed } ∷ [])
+module _ (none : AreLegal 0 128 [])
+    (more : (generation blocks : ℕ) (turns : List Turn) (who : Who) (deed : Deed) → AreLegal generation blocks turns →
+    IsLegalDeed generation blocks turns deed →
+    AreLegal generation blocks (turns ++ record { who = who; deed = deed } ∷ [])) where
+  with_more : (turns : List Turn) (number : ℕ) (deed : Deed) → AreLegal 0 128 turns → IsLegalDeed 0 128 turns deed →
+      AreLegal 0 128 (turns ++ record { who = Seat number; deed = deed } ∷ [])
   with_more turns number deed = more 0 128 turns (Seat number) deed
 
   legal_queue : AreLegal 0 128 (after 3)
@@ -113,19 +134,41 @@ pub plays_get : IsPlayed the_get
 plays_get =
     steps settles 0 (Over (Id (pos 0)))
     (steps installs 10 (Goes (AtSettle (pos 0)))
-    (steps makes 0 (Goes (AtInstall (record { cred = sender; key = pos 0; flags = creating }) (pos 0))) begins refl refl) refl refl) refl refl
+    (steps makes 0 (Goes (AtInstall (record { cred = sender; key = pos 0; flags = creating }) (pos 0))) begins refl
+    refl) refl refl) refl refl
 
 pub plays_receive : IsPlayed (the_receive (Over (Got (pos 5) hello)))
 plays_receive =
     steps gives_back 0 (Over (Got (pos 5) hello))
     (steps takes 13 (Goes (AtReceiveGiveback 1 (pos 5) hello))
-    (resumes 1 (steps finds_none 11 (Waits (OnArrived 1 (record { cred = receiver; id = pos 0; selector = Any; size = 100; noerror = true; nowait = false; seen = true }))) begins refl refl) (omega arith)) refl refl) refl refl
+    (resumes 1
+    (steps finds_none 11
+    (Waits (OnArrived 1
+    (record { cred = receiver; id = pos 0; selector = Any; size = 100; noerror = true; nowait = false; seen = true })))
+    begins refl refl) (omega arith)) refl refl) refl refl
 
 pub plays_send : IsPlayed the_send
 plays_send =
     steps places 12 (Over Zero)
-    (steps reserves 0 (Goes (AtPlace (record { cred = sender; id = pos 0; mtype = pos 5; text = hello; nowait = true; released = 0; seen = true }) 1))
-    (steps looks 0 (Goes (AtReserve (record { cred = sender; id = pos 0; mtype = pos 5; text = hello; nowait = true; released = 0; seen = true }))) begins refl refl) refl refl) refl refl
+    (steps reserves 0
+    (Goes (AtPlace (record {
+      cred = sender;
+      id = pos 0;
+      mtype = pos 5;
+      text = hello;
+      nowait = true;
+      released = 0;
+      seen = true;
+    }) 1))
+    (steps looks 0 (Goes (AtReserve (record {
+      cred = sender;
+      id = pos 0;
+      mtype = pos 5;
+      text = hello;
+      nowait = true;
+      released = 0;
+      seen = true;
+    }))) begins refl refl) refl refl) refl refl
 
 pub plays_left : IsPlayed the_left
 plays_left = steps finds_no_other 14 (Waits (OnArrived 2 left_at)) begins refl refl
@@ -155,7 +198,9 @@ all_rest : All Rested the_calls
 all_rest =
     All-cons Rested the_get (with_answer ∷ the_send ∷ the_left ∷ the_removal ∷ the_refused ∷ []) tt
     (All-cons Rested with_answer (the_send ∷ the_left ∷ the_removal ∷ the_refused ∷ []) tt
-    (All-cons Rested the_send (the_left ∷ the_removal ∷ the_refused ∷ []) tt (All-cons Rested the_left (the_removal ∷ the_refused ∷ []) tt (All-cons Rested the_removal (the_refused ∷ []) tt (All-cons Rested the_refused [] tt (All-nil Rested))))))
+    (All-cons Rested the_send (the_left ∷ the_removal ∷ the_refused ∷ []) tt
+    (All-cons Rested the_left (the_removal ∷ the_refused ∷ []) tt
+    (All-cons Rested the_removal (the_refused ∷ []) tt (All-cons Rested the_refused [] tt (All-nil Rested))))))
 
 -- Only the passes 0, 1 and 2 have made turns.
 low : ℕ → Bool
@@ -173,14 +218,16 @@ both_true true true e = (refl, refl)
 both_true true false e = absurd cc
 both_true false b e = absurd cc
 
-none_by : (m : ℕ) (order : List Numbered) → list_all (λ (t : Numbered). low t.by) order ≡ true → deeds_by (suc (suc (suc m))) order ≡ []
+none_by : (m : ℕ) (order : List Numbered) → list_all (λ (t : Numbered). low t.by) order ≡ true →
+    deeds_by (suc (suc (suc m))) order ≡ []
 none_by m [] e = refl
 none_by m (t ∷ order) e =
     let both = both_true (low t.by) (list_all (λ (x : Numbered). low x.by) order) e in
     let apart : (t.by == suc (suc (suc m))) ≡ false = number_other t.by (suc (suc (suc m))) (low_apart t.by m both.0) in
     by_another (suc (suc (suc m))) t order (ap (λ b. b && not (shows_row t.deed)) apart) ∙ none_by m order both.1
 
-none_in : (m : ℕ) (calls : List Called) → list_all (λ (c : Called). low c.by) calls ≡ true → deeds_in (suc (suc (suc m))) calls ≡ []
+none_in : (m : ℕ) (calls : List Called) → list_all (λ (c : Called). low c.by) calls ≡ true →
+    deeds_in (suc (suc (suc m))) calls ≡ []
 none_in m [] e = refl
 none_in m (c ∷ calls) e =
     let both = both_true (low c.by) (list_all (λ (x : Called). low x.by) calls) e in
@@ -202,22 +249,29 @@ all_calls = record { played = all_played; whole = all_whole }
 no_other_answer : EachAnswerIsRight → ¬ AreAll the_order (calls_with (Over (Refused ENOMSG)))
 no_other_answer right a =
     let p : IsPlayed (the_receive (Over (Refused ENOMSG))) = a.played 1 the_get (omega arith) in
-    let r = (right receiver (the_receive (Over Zero)).asked 0 (the_receive (Over Zero)).deeds (Refused ENOMSG) p).none in
+    let r =
+    (right receiver (the_receive (Over Zero)).asked 0 (the_receive (Over Zero)).deeds (Refused ENOMSG) p).none in
     let bad = (r.0 refl).0 in
     absurd cc
 
-none_left_out : ¬ AreAll the_order (the_get ∷ the_receive (Over (Got (pos 5) hello)) ∷ the_left ∷ the_removal ∷ the_refused ∷ [])
+none_left_out : ¬ AreAll the_order
+    (the_get ∷ the_receive (Over (Got (pos 5) hello)) ∷ the_left ∷ the_removal ∷ the_refused ∷ [])
 none_left_out a = let bad = a.whole 0 in absurd cc
 
-in_turn : ¬ AreAll the_order (the_send ∷ the_get ∷ the_receive (Over (Got (pos 5) hello)) ∷ the_left ∷ the_removal ∷ the_refused ∷ [])
+in_turn : ¬ AreAll the_order
+    (the_send ∷ the_get ∷ the_receive (Over (Got (pos 5) hello)) ∷ the_left ∷ the_removal ∷ the_refused ∷ [])
 in_turn a = let bad = a.whole 0 in absurd cc
 
 not_early : ¬ AreLegal 0 128 (turns_of (take 4 the_order ++ by 1 takes ∷ []))
 not_early l =
-    let t = l.slots 0 (slot_history 0 (after 4)) (record { who = Seat 1; call = Take (pos 0) receiver Any 100 true 13; reply = Taken hello_message }) [] refl in
+    let t = l.slots 0 (slot_history 0 (after 4))
+    (record { who = Seat 1; call = Take (pos 0) receiver Any 100 true 13; reply = Taken hello_message }) [] refl in
     none_is_named t.2.0 t.2.1
 
-pub worked_order : AreLegal 0 128 [] → ((generation blocks : ℕ) (turns : List Turn) (who : Who) (deed : Deed) → AreLegal generation blocks turns → IsLegalDeed generation blocks turns deed → AreLegal generation blocks (turns ++ record { who = who; deed = deed } ∷ [])) →
+pub worked_order : AreLegal 0 128 [] →
+    ((generation blocks : ℕ) (turns : List Turn) (who : Who) (deed : Deed) → AreLegal generation blocks turns →
+    IsLegalDeed generation blocks turns deed →
+    AreLegal generation blocks (turns ++ record { who = who; deed = deed } ∷ [])) →
     EachAnswerIsRight → EveryOrderIsARun → OrdersAtRest → WorkedOrder
 worked_order none more right law rest = record {
   legal = legal_order none more;

@@ -25,9 +25,11 @@ pub record AreAtRest (blocks : ℕ) (turns : List Turn) : Type 0 where
   -- Each block is free or under a queued message.
   pub whole : free_after blocks (pool_history turns) + blocks_waiting turns ≡ blocks
   -- Each row is settled, and its queue is live.
-  pub rows : (row : KeyRow) → IsRow (registry_history turns) row → (row.live ≡ true) × IsLive (slot_history (slot_of_id row.id) turns) row.id
+  pub rows : (row : KeyRow) → IsRow (registry_history turns) row →
+      (row.live ≡ true) × IsLive (slot_history (slot_of_id row.id) turns) row.id
 
 -- This holds of each legal order whose calls are all over or in a wait.
 abbrev pub OrdersAtRest : Type 0
 OrdersAtRest = (generation blocks : ℕ) (order : List Numbered) (calls : List Called) →
-    AreLegal generation blocks (turns_of order) → AreAll order calls → All (λ (c : Called). Rests c.state) calls → AreAtRest blocks (turns_of order)
+    AreLegal generation blocks (turns_of order) → AreAll order calls → All (λ (c : Called). Rests c.state) calls →
+    AreAtRest blocks (turns_of order)

@@ -19,10 +19,12 @@ pub data IsCrew : List Member → List Called → Type 0 where
   -- The service was opened.
   opens : (number : ℕ) → IsCrew (first_with number ∷ []) []
   -- The first pass made a call, which is over, was left at a wait, or is still under way.
-  calls : {one : Member} {rest : List Member} {made : List Called} (call : Called) (after : Member) → IsCrew (one ∷ rest) made →
+  calls : {one : Member} {rest : List Member} {made : List Called} (call : Called) (after : Member) →
+      IsCrew (one ∷ rest) made →
       call.by ≡ one.number → IsPlayed call → Does one call.deeds after → IsCrew (after ∷ rest) (made ++ call ∷ [])
   -- The first pass read the row of a slot, which is no call.
-  reads : {one : Member} {rest : List Member} {made : List Called} (slot : ℕ) (reply : Reply) (after : Member) → IsCrew (one ∷ rest) made →
+  reads : {one : Member} {rest : List Member} {made : List Called} (slot : ℕ) (reply : Reply) (after : Member) →
+      IsCrew (one ∷ rest) made →
       MakesTurn one (AtSlot slot ReadRow reply) after → IsCrew (after ∷ rest) made
   -- The first pass has seen more turns of other passes.
   goes_on : {one : Member} {rest : List Member} {made : List Called} (after : Member) → IsCrew (one ∷ rest) made →
@@ -31,10 +33,12 @@ pub data IsCrew : List Member → List Called → Type 0 where
   splits : {one : Member} {rest : List Member} {made : List Called} (kept new : Member) → IsCrew (one ∷ rest) made →
       Splits one kept new → IsCrew (kept ∷ new ∷ rest) made
   -- The second pass was joined into the first.
-  joins : {one two : Member} {rest : List Member} {made : List Called} (after : Member) → IsCrew (one ∷ two ∷ rest) made →
+  joins : {one two : Member} {rest : List Member} {made : List Called} (after : Member) →
+      IsCrew (one ∷ two ∷ rest) made →
       Joins one two after → IsCrew (after ∷ rest) made
   -- Another pass becomes the first.
-  turns_to : {one : Member} {made : List Called} (before rest : List Member) → IsCrew (before ++ one ∷ rest) made → IsCrew (one ∷ before ++ rest) made
+  turns_to : {one : Member} {made : List Called} (before rest : List Member) → IsCrew (before ++ one ∷ rest) made →
+      IsCrew (one ∷ before ++ rest) made
 
 -- ---- the law
 
@@ -49,7 +53,8 @@ pub record IsServed (generation blocks : ℕ) (order : List Numbered) (calls : L
 -- that were made, if the replies of the order are legal.
 abbrev pub EveryServiceIsARun : Type 0
 EveryServiceIsARun = (generation blocks : ℕ) (last : Member) (calls : List Called) (order : List Numbered) →
-    IsCrew (last ∷ []) calls → Closes last order → AreLegal generation blocks (turns_of order) → IsServed generation blocks order calls
+    IsCrew (last ∷ []) calls → Closes last order → AreLegal generation blocks (turns_of order) →
+    IsServed generation blocks order calls
 
 -- After all passes have come home to one, that one has the whole service.
 abbrev pub EveryLastPassIsWhole : Type 0

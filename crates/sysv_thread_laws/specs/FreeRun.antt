@@ -41,13 +41,15 @@ StartsCall w actor cred asked released given after =
 -- The actor's call is before a step and makes the turn of that step.
 abbrev pub TakesItsTurn : World → ℕ → ℕ → List Given → World → Type 0
 TakesItsTurn w actor now given after =
-    (call : Started) × (phase : Phase) × (actor_at w.actors actor ≡ Some (Some record { call = call; state = Goes phase }))
+    (call : Started) × (phase : Phase)
+    × (actor_at w.actors actor ≡ Some (Some record { call = call; state = Goes phase }))
     × Turns w actor call phase now given after
 
 -- The actor's call waits, the value is at least its goal, and the call continues.
 abbrev pub WakesUp : World → ℕ → ℕ → List Given → World → Type 0
 WakesUp w actor value given after =
-    (call : Started) × (wait : Wait) × (actor_at w.actors actor ≡ Some (Some record { call = call; state = Waits wait }))
+    (call : Started) × (wait : Wait)
+    × (actor_at w.actors actor ≡ Some (Some record { call = call; state = Waits wait }))
     × (goal_of wait ≤ value) × (given ≡ []) × (after ≡ in_state w actor call (Goes (resume wait value)))
 
 -- The slot reports its row, and no call continues.

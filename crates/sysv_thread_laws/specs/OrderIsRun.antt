@@ -9,7 +9,8 @@
 -- call for good. The run keeps that a pass makes one call after the other: this decides which of
 -- its calls made each turn. Which replies are legal does not depend on the caller of the turns
 -- (this project's profile).
-use Rattle.std.specs.Prelude.{◌≡◌, ℕ, suc, ◌==◌, true, List, [], ◌∷◌, ◌++◌, length, Option, Some, slice_get, All, filter, map, if◌then◌else◌}
+use Rattle.std.specs.Prelude.{◌≡◌, ℕ, suc, ◌==◌, true, List, [], ◌∷◌, ◌++◌, length, Option, Some, slice_get, All}
+use Rattle.std.specs.Prelude.{filter, map, if◌then◌else◌}
 use Rattle.sysv_model.specs.History.{Who, Actor}
 use Rattle.sysv_model.specs.Turn.{Deed, Turn, deeds_of}
 use Rattle.sysv_objects.specs.LegalDeed.{AreLegal}
@@ -24,7 +25,8 @@ use Rattle.sysv_thread_laws.specs.Order.{shows_row, Called, is_in_call_of, AreAl
 
 -- An opening with one actor for each call.
 abbrev pub opening_for : (generation blocks : ℕ) → List Called → Opening
-opening_for generation blocks calls = record { actors = length calls; blocks = blocks; first = 0; generation = generation }
+opening_for generation blocks calls =
+    record { actors = length calls; blocks = blocks; first = 0; generation = generation }
 
 -- The name of the call at that place of the list. Places count from 0, and actors from 1.
 abbrev pub name_at : ℕ → Who
@@ -73,7 +75,8 @@ turns_by number renamed = map renamed_turn (filter (λ (r : Renamed). is_in_call
 -- The turns of a pass in calls, by its calls from that place of the list on, one after the other.
 abbrev pub turns_in : ℕ → ℕ → List Called → List Turn
 turns_in number place [] = []
-turns_in number place (c ∷ cs) = (if c.by == number then map (turn_as (name_at place)) c.deeds else []) ++ turns_in number (suc place) cs
+turns_in number place (c ∷ cs) =
+    (if c.by == number then map (turn_as (name_at place)) c.deeds else []) ++ turns_in number (suc place) cs
 
 -- The turns are those of the order, in the same places. A turn that reads a row belongs to no call.
 -- Each other turn belongs to the call that made it, because the pass made the turns of its calls

@@ -13,5 +13,6 @@ IsOfCall happening = Unit {0}
 
 -- Each run without a preset is a free run, with the same endings and the same world.
 abbrev pub EachRunIsFree : Type 0
-EachRunIsFree = (w after : World) (list : List Happening) (given : List Given) → All IsOfCall list → Leads w list given after →
+EachRunIsFree =
+    (w after : World) (list : List Happening) (given : List Given) → All IsOfCall list → Leads w list given after →
     (moments : List Moment) × LeadsOnThreads w moments given after

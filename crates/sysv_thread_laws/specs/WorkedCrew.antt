@@ -7,11 +7,13 @@ use Rattle.sysv_steps.specs.State.{Got, Over}
 use Rattle.sysv_thread_laws.specs.Order.{Called}
 use Rattle.sysv_passes.specs.Members.{Member, AreWhole, Closes}
 use Rattle.sysv_thread_laws.specs.Crew.{IsCrew, IsServed}
-use Rattle.sysv_thread_laws.specs.WorkedOrder.{hello, the_order, the_get, the_send, the_receive, the_left, the_removal, the_refused}
+use Rattle.sysv_thread_laws.specs.WorkedOrder.{hello, the_order, the_get, the_send, the_receive, the_left, the_removal}
+use Rattle.sysv_thread_laws.specs.WorkedOrder.{the_refused}
 
 -- A pass under this number alone, with this share, that has seen this many turns.
 abbrev pub seen : (number depth count : ℕ) → Member
-seen number depth count = record { number = number; numbers = number ∷ []; shares = depth ∷ []; order = take count the_order }
+seen number depth count =
+    record { number = number; numbers = number ∷ []; shares = depth ∷ []; order = take count the_order }
 
 -- Pass 2, with pass 1 joined into it.
 abbrev pub with_one : Member
@@ -32,6 +34,7 @@ pub record WorkedCrew : Type 0 where
   pub closes : Closes with_all the_order
   pub served : IsServed 0 128 the_order calls_of_crew
   -- No crew comes home with that order and without the send.
-  pub left_out : ¬ IsCrew (with_all ∷ []) (the_get ∷ the_left ∷ the_removal ∷ the_receive (Over (Got (pos 5) hello)) ∷ the_refused ∷ [])
+  pub left_out : ¬ IsCrew (with_all ∷ [])
+      (the_get ∷ the_left ∷ the_removal ∷ the_receive (Over (Got (pos 5) hello)) ∷ the_refused ∷ [])
   -- Pass 0 alone does not have the whole service.
   pub parted : ¬ AreWhole ((seen 0 2 15).shares)

@@ -13,7 +13,8 @@ use Rattle.sysv_model.specs.declared.flags.TheConstants.Flags.{IPC_NOWAIT, MSG_N
 use Rattle.sysv_model.specs.declared.limits.TheConstants.{IPC_PRIVATE}
 use Rattle.sysv_model.specs.declared.selector.Selector.TheVariants.{Any}
 use Rattle.sysv_model.specs.Message.{Message}
-use Rattle.sysv_model.specs.History.{Install, Look, Place, Take, Remove, ReadRow, Installed, Fits, Accepted, NoMatch, Taken, Discarded, Shown}
+use Rattle.sysv_model.specs.History.{Install, Look, Place, Take, Remove, ReadRow, Installed, Fits, Accepted, NoMatch}
+use Rattle.sysv_model.specs.History.{Taken, Discarded, Shown}
 use Rattle.sysv_model.specs.Registry.{Begin, Settle, Forget, Made, Changed}
 use Rattle.sysv_model.specs.Pool.{Reserve, Release, Reserved, Released}
 use Rattle.sysv_model.specs.Turn.{Deed, AtSlot, AtRegistry, AtPool}
@@ -111,10 +112,24 @@ the_order =
 -- ---- the calls
 
 abbrev pub the_get : Called
-the_get = record { by = 0; cred = sender; asked = Msgget IPC_PRIVATE creating; released = 0; deeds = makes ∷ installs ∷ settles ∷ []; state = Over (Id (pos 0)) }
+the_get = record {
+  by = 0;
+  cred = sender;
+  asked = Msgget IPC_PRIVATE creating;
+  released = 0;
+  deeds = makes ∷ installs ∷ settles ∷ [];
+  state = Over (Id (pos 0));
+}
 
 abbrev pub the_send : Called
-the_send = record { by = 0; cred = sender; asked = Msgsnd (pos 0) (pos 5) IPC_NOWAIT hello; released = 0; deeds = looks ∷ reserves ∷ places ∷ []; state = Over Zero }
+the_send = record {
+  by = 0;
+  cred = sender;
+  asked = Msgsnd (pos 0) (pos 5) IPC_NOWAIT hello;
+  released = 0;
+  deeds = looks ∷ reserves ∷ places ∷ [];
+  state = Over Zero;
+}
 
 -- The receive of pass 1, in this state.
 abbrev pub the_receive : State → Called
@@ -129,7 +144,14 @@ the_receive state = record {
 
 -- A send that is refused because its type is 0.
 abbrev pub the_refused : Called
-the_refused = record { by = 1; cred = receiver; asked = Msgsnd (pos 0) (pos 0) IPC_NOWAIT hello; released = 0; deeds = []; state = Over (Refused EINVAL) }
+the_refused = record {
+  by = 1;
+  cred = receiver;
+  asked = Msgsnd (pos 0) (pos 0) IPC_NOWAIT hello;
+  released = 0;
+  deeds = [];
+  state = Over (Refused EINVAL);
+}
 
 -- A receive that was left at its wait for a second message.
 abbrev pub left_at : Receiving
@@ -146,7 +168,14 @@ the_left = record {
 }
 
 abbrev pub the_removal : Called
-the_removal = record { by = 0; cred = superuser; asked = MsgctlRmid (pos 0); released = 0; deeds = discards ∷ forgets ∷ gives_back_none ∷ []; state = Over Zero }
+the_removal = record {
+  by = 0;
+  cred = superuser;
+  asked = MsgctlRmid (pos 0);
+  released = 0;
+  deeds = discards ∷ forgets ∷ gives_back_none ∷ [];
+  state = Over Zero;
+}
 
 -- All calls, with this state of the receive of pass 1.
 abbrev pub calls_with : State → List Called
@@ -168,7 +197,9 @@ pub record WorkedOrder : Type 0 where
   -- The receive has no other result.
   pub answered_otherwise : ¬ AreAll the_order (calls_with (Over (Refused ENOMSG)))
   -- No call is left out, and no call precedes one that its pass made earlier.
-  pub left_out : ¬ AreAll the_order (the_get ∷ the_receive (Over (Got (pos 5) hello)) ∷ the_left ∷ the_removal ∷ the_refused ∷ [])
-  pub out_of_turn : ¬ AreAll the_order (the_send ∷ the_get ∷ the_receive (Over (Got (pos 5) hello)) ∷ the_left ∷ the_removal ∷ the_refused ∷ [])
+  pub left_out : ¬ AreAll the_order
+      (the_get ∷ the_receive (Over (Got (pos 5) hello)) ∷ the_left ∷ the_removal ∷ the_refused ∷ [])
+  pub out_of_turn : ¬ AreAll the_order
+      (the_send ∷ the_get ∷ the_receive (Over (Got (pos 5) hello)) ∷ the_left ∷ the_removal ∷ the_refused ∷ [])
   -- No message is taken before it was sent.
   pub taken_early : ¬ AreLegal 0 128 (turns_of (take 4 the_order ++ by 1 takes ∷ []))

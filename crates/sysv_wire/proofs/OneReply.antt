@@ -1,27 +1,36 @@
 -- Replies with the same spelling are equal.
-use Rattle.std.proofs.Common.{◌≡◌, ℕ, ◌^◌, ◌<◌, ◌≤◌, true, false, cond, eqb, List, [], ◌∷◌, ◌++◌, length, Option, None, Some, refl, sym, ap, subst, ◌∙◌, append-nil, arith, length-append}
+use Rattle.std.proofs.Common.{◌≡◌, ℕ, ◌^◌, ◌<◌, ◌≤◌, true, false, cond, eqb, List, [], ◌∷◌, ◌++◌, length, Option, None}
+use Rattle.std.proofs.Common.{Some, refl, sym, ap, subst, ◌∙◌, append-nil, arith, length-append}
 use Rattle.std.specs.Prelude.{ℤ}
 use Rattle.sysv_model.specs.Errors.{number_of}
 use Rattle.sysv_model.specs.declared.attributes.Perm.{Perm}
 use Rattle.sysv_model.specs.declared.attributes.Row.{Row as Line}
 use Rattle.sysv_model.specs.declared.attributes.Stat.{Stat as Attributes}
 use Rattle.sysv_model.specs.declared.errno.Errno.{Errno}
-use Rattle.sysv_model.specs.declared.errno.Errno.TheVariants.{EPERM, ENOENT, E2BIG, EAGAIN, EACCES, EEXIST, EINVAL, ENOSPC, ENOMSG, EIDRM, EOVERFLOW}
+use Rattle.sysv_model.specs.declared.errno.Errno.TheVariants.{EPERM, ENOENT, E2BIG, EAGAIN, EACCES, EEXIST, EINVAL}
+use Rattle.sysv_model.specs.declared.errno.Errno.TheVariants.{ENOSPC, ENOMSG, EIDRM, EOVERFLOW}
 use Rattle.sysv_wire.specs.declared.frame.Version.{Version}
 use Rattle.sysv_wire.specs.declared.frame.Version.TheVariants.{One, Two}
 use Rattle.sysv_wire.specs.Frames.{version_number}
 use Rattle.sysv_wire.specs.declared.reply.ReplyContent.{ReplyContent}
-use Rattle.sysv_wire.specs.declared.reply.ReplyContent.TheVariants.{Refused, Hello, HelloSlots, Get, Snd, Rcv, Stat, Set, Rm, Row}
+use Rattle.sysv_wire.specs.declared.reply.ReplyContent.TheVariants.{Refused, Hello, HelloSlots, Get, Snd, Rcv, Stat}
+use Rattle.sysv_wire.specs.declared.reply.ReplyContent.TheVariants.{Set, Rm, Row}
 use Rattle.sysv_wire.specs.declared.reply.Reply.{Reply}
 use Rattle.sysv_wire.specs.Numbers.{u16_bytes, u32_bytes, u64_bytes, i32_bytes, i64_bytes}
 use Rattle.sysv_wire.specs.OneSpelling.{OneReply}
-use Rattle.sysv_wire.specs.Replies.{FitsPerm, FitsStat, FitsRow, FitsContent, IsAnswer, error_number, perm_fields, count_fields, time_fields, stat_fields, row_fields, content_fields, content_text, gives_text}
+use Rattle.sysv_wire.specs.Replies.{FitsPerm, FitsStat, FitsRow, FitsContent, IsAnswer, error_number, perm_fields}
+use Rattle.sysv_wire.specs.Replies.{count_fields, time_fields, stat_fields, row_fields, content_fields, content_text}
+use Rattle.sysv_wire.specs.Replies.{gives_text}
 use Rattle.sysv_wire.proofs.OneRequest.{version_same}
-use Rattle.sysv_wire.proofs.Apart.{fronts_alike, rests_alike, frames_alike, u16_same, u32_same, u64_same, u16_step, u32_step, u64_step, i32_step, i64_step}
+use Rattle.sysv_wire.proofs.Apart.{fronts_alike, rests_alike, frames_alike, u16_same, u32_same, u64_same, u16_step}
+use Rattle.sysv_wire.proofs.Apart.{u32_step, u64_step, i32_step, i64_step}
 
 errno_at : ℕ → Errno
 errno_at n =
-    cond (eqb n 1) EPERM (cond (eqb n 2) ENOENT (cond (eqb n 7) E2BIG (cond (eqb n 11) EAGAIN (cond (eqb n 13) EACCES (cond (eqb n 17) EEXIST (cond (eqb n 22) EINVAL
+    cond (eqb n 1) EPERM
+    (cond (eqb n 2) ENOENT
+    (cond (eqb n 7) E2BIG
+    (cond (eqb n 11) EAGAIN (cond (eqb n 13) EACCES (cond (eqb n 17) EEXIST (cond (eqb n 22) EINVAL
     (cond (eqb n 28) ENOSPC (cond (eqb n 42) ENOMSG (cond (eqb n 43) EIDRM EOVERFLOW)))))))))
 
 errno_back : (e : Errno) → errno_at (number_of e) ≡ e
@@ -58,7 +67,18 @@ abbrev perm : ℕ → ℕ → ℕ → ℕ → ℕ → Perm
 perm u g c d m = record { uid = u; gid = g; cuid = c; cgid = d; mode = m }
 
 abbrev told : ℤ → Perm → ℕ → ℕ → ℕ → ℕ → ℕ → ℕ → ℕ → ℕ → Attributes
-told k p cb qn qb ls lr st rt ct = record { key = k; perm = p; cbytes = cb; qnum = qn; qbytes = qb; lspid = ls; lrpid = lr; stime = st; rtime = rt; ctime = ct }
+told k p cb qn qb ls lr st rt ct = record {
+  key = k;
+  perm = p;
+  cbytes = cb;
+  qnum = qn;
+  qbytes = qb;
+  lspid = ls;
+  lrpid = lr;
+  stime = st;
+  rtime = rt;
+  ctime = ct;
+}
 
 abbrev line : ℤ → ℤ → ℕ → ℕ → ℕ → ℕ → Line
 line i k u m cb qn = record { id = i; key = k; uid = u; mode = m; cbytes = cb; qnum = qn }
@@ -79,7 +99,8 @@ perm_same a b p q e =
     let x = u32_step a.cuid b.cuid _ _ p.cuid q.cuid w.1 in
     let y = u32_step a.cgid b.cgid _ _ p.cgid q.cgid x.1 in
     let z = u16_same a.mode b.mode p.mode q.mode y.1 in
-    ap (λ n. perm n a.gid a.cuid a.cgid a.mode) v.0 ∙ ap (λ n. perm b.uid n a.cuid a.cgid a.mode) w.0 ∙ ap (λ n. perm b.uid b.gid n a.cgid a.mode) x.0
+    ap (λ n. perm n a.gid a.cuid a.cgid a.mode) v.0 ∙ ap (λ n. perm b.uid n a.cuid a.cgid a.mode) w.0
+    ∙ ap (λ n. perm b.uid b.gid n a.cgid a.mode) x.0
     ∙ ap (λ n. perm b.uid b.gid b.cuid n a.mode) y.0 ∙ ap (λ n. perm b.uid b.gid b.cuid b.cgid n) z
 
 record Counts (s t : Attributes) : Type 0 where
@@ -115,7 +136,8 @@ unfolding stat_fields
 stat_same s t p q e =
     let k = i32_step s.key t.key _ _ p.key q.key e in
     let len = length-perm_fields s.perm t.perm in
-    let m = perm_same s.perm t.perm p.perm q.perm (fronts_alike (perm_fields s.perm) (perm_fields t.perm) _ _ len k.1) in
+    let m =
+    perm_same s.perm t.perm p.perm q.perm (fronts_alike (perm_fields s.perm) (perm_fields t.perm) _ _ len k.1) in
     let behind = rests_alike (perm_fields s.perm) (perm_fields t.perm) _ _ len k.1 in
     let sizes = length-count_fields s t in
     let c = counts_same s t p q (fronts_alike (count_fields s) (count_fields t) _ _ sizes behind) in
@@ -140,34 +162,42 @@ row_same r s p q e =
     let y = u16_step r.mode s.mode _ _ p.mode q.mode x.1 in
     let z = u32_step r.cbytes s.cbytes _ _ p.cbytes q.cbytes y.1 in
     let u = u32_same r.qnum s.qnum p.qnum q.qnum z.1 in
-    ap (λ n. line n r.key r.uid r.mode r.cbytes r.qnum) v.0 ∙ ap (λ n. line s.id n r.uid r.mode r.cbytes r.qnum) w.0 ∙ ap (λ n. line s.id s.key n r.mode r.cbytes r.qnum) x.0
-    ∙ ap (λ n. line s.id s.key s.uid n r.cbytes r.qnum) y.0 ∙ ap (λ n. line s.id s.key s.uid s.mode n r.qnum) z.0 ∙ ap (λ n. line s.id s.key s.uid s.mode s.cbytes n) u
+    ap (λ n. line n r.key r.uid r.mode r.cbytes r.qnum) v.0 ∙ ap (λ n. line s.id n r.uid r.mode r.cbytes r.qnum) w.0
+    ∙ ap (λ n. line s.id s.key n r.mode r.cbytes r.qnum) x.0
+    ∙ ap (λ n. line s.id s.key s.uid n r.cbytes r.qnum) y.0 ∙ ap (λ n. line s.id s.key s.uid s.mode n r.qnum) z.0
+    ∙ ap (λ n. line s.id s.key s.uid s.mode s.cbytes n) u
 
 pub row_number : (v : Version) (n : ℕ) (r : Option Line) → IsAnswer v n (Row r) → n ≡ 7
 row_number v n None h = h
 row_number v n (Some r) h = h.0
 
 -- A reply's operation, its error and the bytes after it determine the result and the body.
-content_same : (v : Version) (n : ℕ) (a b : ReplyContent) (text other : List ℕ) → IsAnswer v n a → IsAnswer v n b → FitsContent a → FitsContent b → error_number a ≡ error_number b
-    → content_fields a ++ content_text a text ≡ content_fields b ++ content_text b other → (a ≡ b) × (content_text a text ≡ content_text b other)
+content_same : (v : Version) (n : ℕ) (a b : ReplyContent) (text other : List ℕ) → IsAnswer v n a → IsAnswer v n b
+    → FitsContent a → FitsContent b → error_number a ≡ error_number b
+    → content_fields a ++ content_text a text ≡ content_fields b ++ content_text b other
+    → (a ≡ b) × (content_text a text ≡ content_text b other)
 content_same v n (Refused e) (Refused f) text other h k p q err same = (ap Refused (errno_same e f err), refl)
 content_same v n (Refused e) b text other h k p q err same = absurd (some_error e err)
 content_same v n a (Refused f) text other h k p q err same = absurd (some_error f (sym err))
 content_same v n Hello Hello text other h k p q err same = (refl, refl)
-content_same v n (HelloSlots i) (HelloSlots j) text other h k p q err same = (ap HelloSlots (u32_step i j [] [] p q same).0, refl)
+content_same v n (HelloSlots i) (HelloSlots j) text other h k p q err same =
+    (ap HelloSlots (u32_step i j [] [] p q same).0, refl)
 content_same v n Hello (HelloSlots j) text other h k p q err same = let both : One ≡ Two = sym h.0 ∙ k.0 in absurd cc
 content_same v n (HelloSlots i) Hello text other h k p q err same = let both : One ≡ Two = sym k.0 ∙ h.0 in absurd cc
 content_same v n (Get i) (Get j) text other h k p q err same = (ap Get (i32_step i j [] [] p q same).0, refl)
 content_same v n Snd Snd text other h k p q err same = (refl, refl)
-content_same v n (Rcv i) (Rcv j) text other h k p q err same = let s = i64_step i j text other p q same in (ap Rcv s.0, s.1)
+content_same v n (Rcv i) (Rcv j) text other h k p q err same =
+    let s = i64_step i j text other p q same in (ap Rcv s.0, s.1)
 content_same v n (Stat s) (Stat t) text other h k p q err same =
     (ap Stat (stat_same s t p q (sym (append-nil (stat_fields s)) ∙ same ∙ append-nil (stat_fields t))), refl)
 content_same v n Set Set text other h k p q err same = (refl, refl)
 content_same v n Rm Rm text other h k p q err same = (refl, refl)
 content_same v n (Row None) (Row None) text other h k p q err same = (refl, refl)
 content_same v n (Row (Some r)) (Row (Some s)) text other h k p q err same =
-    let tails : row_fields r ++ [] ≡ row_fields s ++ [] = cc (same) in
-    (ap (λ x. Row (Some x)) (row_same r s p q (sym (append-nil (row_fields r)) ∙ tails ∙ append-nil (row_fields s))), refl)
+    let tails : row_fields r ++ [] ≡ row_fields s ++ [] = cc (same) in (
+      ap (λ x. Row (Some x)) (row_same r s p q (sym (append-nil (row_fields r)) ∙ tails ∙ append-nil (row_fields s))),
+      refl,
+    )
 content_same v n (Row None) (Row (Some s)) text other h k p q err same =
     let marks : ◌≡◌ {A = ℕ} 0 1 = cc (same) in absurd (omega (arith, marks))
 content_same v n (Row (Some r)) (Row None) text other h k p q err same =
@@ -193,7 +223,8 @@ short_fields Rm = omega arith
 short_fields (Row None) = omega arith
 short_fields (Row (Some r)) = omega arith
 
-pub short_reply : (v : Version) (n : ℕ) (a : ReplyContent) (text : List ℕ) → length text ≤ 8192 → length (version_number v ∷ n ∷ error_number a ∷ (content_fields a ++ content_text a text)) < 2 ^ 32
+pub short_reply : (v : Version) (n : ℕ) (a : ReplyContent) (text : List ℕ) → length text ≤ 8192 →
+    length (version_number v ∷ n ∷ error_number a ∷ (content_fields a ++ content_text a text)) < 2 ^ 32
 short_reply v n a text h =
     omega (arith, length-append (content_fields a) (content_text a text), short_fields a, short_text a text h)
 
@@ -202,12 +233,21 @@ replied v n a = record { version = v; op = n; result = a }
 
 pub one_reply : OneReply
 one_reply a b text other behind rest p q e =
-    let f = frames_alike (version_number a.version ∷ a.op ∷ error_number a.result ∷ (content_fields a.result ++ content_text a.result text)) (version_number b.version ∷ b.op ∷ error_number b.result ∷ (content_fields b.result ++ content_text b.result other)) behind rest
+    let f = frames_alike (version_number a.version ∷ a.op ∷ error_number a.result
+    ∷ (content_fields a.result ++ content_text a.result text))
+    (version_number b.version ∷ b.op ∷ error_number b.result ∷ (content_fields b.result ++ content_text b.result other))
+    behind rest
     (short_reply a.version a.op a.result text p.2) (short_reply b.version b.op b.result other q.2) e in
     let versions : a.version ≡ b.version = version_same a.version b.version (cc (f.0)) in
     let ops : a.op ≡ b.op = cc (f.0) in
     let errors : error_number a.result ≡ error_number b.result = cc (f.0) in
-    let contents : content_fields a.result ++ content_text a.result text ≡ content_fields b.result ++ content_text b.result other = cc (f.0) in
-    let answers : IsAnswer a.version a.op b.result = subst (λ (n : ℕ). IsAnswer a.version n b.result) (sym ops) (subst (λ (v : Version). IsAnswer v b.op b.result) (sym versions) q.0) in
-    let same = content_same a.version a.op a.result b.result text other p.0 answers p.1 q.1 errors contents in
-    (ap (λ (v : Version). replied v a.op a.result) versions ∙ ap (λ (n : ℕ). replied b.version n a.result) ops ∙ ap (λ x. replied b.version b.op x) same.0, same.1, f.1)
+    let contents : content_fields a.result ++ content_text a.result text
+    ≡ content_fields b.result ++ content_text b.result other = cc (f.0) in
+    let answers : IsAnswer a.version a.op b.result = subst (λ (n : ℕ). IsAnswer a.version n b.result) (sym ops)
+    (subst (λ (v : Version). IsAnswer v b.op b.result) (sym versions) q.0) in
+    let same = content_same a.version a.op a.result b.result text other p.0 answers p.1 q.1 errors contents in (
+      ap (λ (v : Version). replied v a.op a.result) versions ∙ ap (λ (n : ℕ). replied b.version n a.result) ops
+          ∙ ap (λ x. replied b.version b.op x) same.0,
+      same.1,
+      f.1,
+    )

@@ -1,5 +1,6 @@
 -- Requests with the same spelling are equal.
-use Rattle.std.proofs.Common.{◌≡◌, ℕ, ◌^◌, ◌<◌, ◌≤◌, true, false, cond, eqb, List, [], ◌∷◌, ◌++◌, length, refl, sym, ap, ◌∙◌, arith, length-append}
+use Rattle.std.proofs.Common.{◌≡◌, ℕ, ◌^◌, ◌<◌, ◌≤◌, true, false, cond, eqb, List, [], ◌∷◌, ◌++◌, length, refl, sym, ap}
+use Rattle.std.proofs.Common.{◌∙◌, arith, length-append}
 use Rattle.sysv_model.specs.declared.attributes.SetTo.{SetTo}
 use Rattle.sysv_model.specs.declared.cred.Cred.{Cred}
 use Rattle.sysv_model.specs.declared.flags.Flags.{Flags}
@@ -14,11 +15,15 @@ use Rattle.sysv_wire.specs.Frames.{op_number, version_number}
 use Rattle.sysv_wire.specs.OneSpelling.{OneRequest}
 use Rattle.sysv_wire.specs.Requests.{FitsAsk, ask_fields, ask_text, fields_len, has_text, op_of}
 use Rattle.sysv_wire.proofs.RequestLemmas.{length-ask_fields}
-use Rattle.sysv_wire.proofs.Apart.{fronts_alike, rests_alike, frames_alike, u32_same, i32_same, u32_step, i32_step, i64_step}
+use Rattle.sysv_wire.proofs.Apart.{fronts_alike, rests_alike, frames_alike, u32_same, i32_same, u32_step, i32_step}
+use Rattle.sysv_wire.proofs.Apart.{i64_step}
 
 abbrev pub op_at : ℕ → Op
 op_at n =
-    cond (eqb n 0) op.Hello (cond (eqb n 1) op.Get (cond (eqb n 2) op.Snd (cond (eqb n 3) op.Rcv (cond (eqb n 4) op.Stat (cond (eqb n 5) op.Set (cond (eqb n 6) op.Rm op.Row))))))
+    cond (eqb n 0) op.Hello
+    (cond (eqb n 1) op.Get
+    (cond (eqb n 2) op.Snd
+    (cond (eqb n 3) op.Rcv (cond (eqb n 4) op.Stat (cond (eqb n 5) op.Set (cond (eqb n 6) op.Rm op.Row))))))
 
 abbrev asked : Version → Ask → Request
 asked v a = record { version = v; ask = a }
@@ -64,7 +69,8 @@ ask_same (Hello c) (Hello d) p q o e =
     let s = u32_step c.uid d.uid _ _ p.0 q.0 e in
     let t = u32_step c.gid d.gid _ _ p.1 q.1 s.1 in
     let u = u32_same c.pid d.pid p.2 q.2 t.1 in
-    ap (λ x. Hello (cred x c.gid c.pid)) s.0 ∙ ap (λ x. Hello (cred d.uid x c.pid)) t.0 ∙ ap (λ x. Hello (cred d.uid d.gid x)) u
+    ap (λ x. Hello (cred x c.gid c.pid)) s.0 ∙ ap (λ x. Hello (cred d.uid x c.pid)) t.0
+    ∙ ap (λ x. Hello (cred d.uid d.gid x)) u
 ask_same (Get k f) (Get l g) p q o e =
     let s = i32_step k l _ _ p.0 q.0 e in
     let t = u32_same f.0 g.0 p.1 q.1 s.1 in
@@ -87,7 +93,8 @@ ask_same (Set i c) (Set j d) p q o e =
     let u = u32_step c.gid d.gid _ _ p.2 q.2 t.1 in
     let v = u32_step c.mode d.mode _ _ p.3 q.3 u.1 in
     let w = u32_same c.qbytes d.qbytes p.4 q.4 v.1 in
-    ap (λ x. Set x c) s.0 ∙ ap (λ x. Set j (to x c.gid c.mode c.qbytes)) t.0 ∙ ap (λ x. Set j (to d.uid x c.mode c.qbytes)) u.0
+    ap (λ x. Set x c) s.0 ∙ ap (λ x. Set j (to x c.gid c.mode c.qbytes)) t.0
+    ∙ ap (λ x. Set j (to d.uid x c.mode c.qbytes)) u.0
     ∙ ap (λ x. Set j (to d.uid d.gid x c.qbytes)) v.0 ∙ ap (λ x. Set j (to d.uid d.gid d.mode x)) w
 ask_same (Rm i) (Rm j) p q o e = ap Rm (i32_same i j p q e)
 ask_same (Row i) (Row j) p q o e = ap Row (u32_same i j p q e)
@@ -106,18 +113,34 @@ short_fields op.Set = omega arith
 short_fields op.Rm = omega arith
 short_fields op.Row = omega arith
 
-short_request : (v : Version) (a : Ask) (text : List ℕ) → length text ≤ 8256 → length (version_number v ∷ op_number (op_of a) ∷ (ask_fields a ++ ask_text (op_of a) text)) < 2 ^ 32
+short_request : (v : Version) (a : Ask) (text : List ℕ) → length text ≤ 8256 →
+    length (version_number v ∷ op_number (op_of a) ∷ (ask_fields a ++ ask_text (op_of a) text)) < 2 ^ 32
 short_request v a text h =
-    omega (arith, length-append (ask_fields a) (ask_text (op_of a) text), length-ask_fields a, short_fields (op_of a), short_text (op_of a) text h)
+    omega (
+      arith,
+      length-append (ask_fields a) (ask_text (op_of a) text),
+      length-ask_fields a,
+      short_fields (op_of a),
+      short_text (op_of a) text h,
+    )
 
 pub one_request : OneRequest
 one_request a b text other behind rest p q e =
-    let f = frames_alike (version_number a.version ∷ op_number (op_of a.ask) ∷ (ask_fields a.ask ++ ask_text (op_of a.ask) text)) (version_number b.version ∷ op_number (op_of b.ask) ∷ (ask_fields b.ask ++ ask_text (op_of b.ask) other)) behind rest
+    let f = frames_alike (version_number a.version ∷ op_number (op_of a.ask)
+    ∷ (ask_fields a.ask ++ ask_text (op_of a.ask) text))
+    (version_number b.version ∷ op_number (op_of b.ask) ∷ (ask_fields b.ask ++ ask_text (op_of b.ask) other)) behind
+    rest
     (short_request a.version a.ask text p.1) (short_request b.version b.ask other q.1) e in
     let versions : a.version ≡ b.version = version_same a.version b.version (cc (f.0)) in
     let numbers : op_number (op_of a.ask) ≡ op_number (op_of b.ask) = cc (f.0) in
     let ops : op_of a.ask ≡ op_of b.ask = op_same (op_of a.ask) (op_of b.ask) numbers in
-    let contents : ask_fields a.ask ++ ask_text (op_of a.ask) text ≡ ask_fields b.ask ++ ask_text (op_of b.ask) other = cc (f.0) in
-    let len : length (ask_fields a.ask) ≡ length (ask_fields b.ask) = length-ask_fields a.ask ∙ ap fields_len ops ∙ sym (length-ask_fields b.ask) in
-    let asks = ask_same a.ask b.ask p.0 q.0 ops (fronts_alike (ask_fields a.ask) (ask_fields b.ask) _ _ len contents) in
-    (ap (λ v. asked v a.ask) versions ∙ ap (asked b.version) asks, rests_alike (ask_fields a.ask) (ask_fields b.ask) _ _ len contents, f.1)
+    let contents : ask_fields a.ask ++ ask_text (op_of a.ask) text ≡ ask_fields b.ask ++ ask_text (op_of b.ask) other =
+    cc (f.0) in
+    let len : length (ask_fields a.ask) ≡ length (ask_fields b.ask) =
+    length-ask_fields a.ask ∙ ap fields_len ops ∙ sym (length-ask_fields b.ask) in
+    let asks =
+    ask_same a.ask b.ask p.0 q.0 ops (fronts_alike (ask_fields a.ask) (ask_fields b.ask) _ _ len contents) in (
+      ap (λ v. asked v a.ask) versions ∙ ap (asked b.version) asks,
+      rests_alike (ask_fields a.ask) (ask_fields b.ask) _ _ len contents,
+      f.1,
+    )

@@ -1,6 +1,8 @@
 -- Four numbers of an input determine which kind of result fits it: its length, the length field at
 -- its start, and the two bytes after that.
-use Rattle.std.proofs.Common.{◌≡◌, ◌⊎◌, ◌≢◌, ℕ, ◌+◌, ◌^◌, ◌<◌, ◌≤◌, Bool, true, false, cond, eqb, ltb, leb, List, [], ◌∷◌, ◌++◌, length, get_or, take, Option, None, Some, Result, Ok, Err, refl, sym, subst, ap, ◌∙◌, append_assoc, append-nil, arith, length-append, inl, inr}
+use Rattle.std.proofs.Common.{◌≡◌, ◌⊎◌, ◌≢◌, ℕ, ◌+◌, ◌^◌, ◌<◌, ◌≤◌, Bool, true, false, cond, eqb, ltb, leb, List, []}
+use Rattle.std.proofs.Common.{◌∷◌, ◌++◌, length, get_or, take, Option, None, Some, Result, Ok, Err, refl, sym, subst}
+use Rattle.std.proofs.Common.{ap, ◌∙◌, append_assoc, append-nil, arith, length-append, inl, inr}
 use Rattle.std.specs.Int.{w32, from_be_bytes}
 use Rattle.std.proofs.lemmas.Bool.Decides.{nat_tests}
 use Rattle.std.proofs.lemmas.List.{take_at}
@@ -19,7 +21,8 @@ use Rattle.sysv_wire.specs.Frames.{IsNoVersion, IsVersion, op_number, version_nu
 use Rattle.sysv_wire.specs.Numbers.{u32_bytes}
 use Rattle.sysv_wire.specs.OneAnswer.{RequestAt, OneAnswerToRequests}
 use Rattle.sysv_wire.specs.Reading.{ReadsRequest}
-use Rattle.sysv_wire.specs.Requests.{IsRequestLength, ask_fields, ask_text, fields_len, has_text, op_of, request_spelling}
+use Rattle.sysv_wire.specs.Requests.{IsRequestLength, ask_fields, ask_text, fields_len, has_text, op_of}
+use Rattle.sysv_wire.specs.Requests.{request_spelling}
 use Rattle.sysv_wire.proofs.OneRequest.{op_at, op_back, one_request}
 use Rattle.sysv_wire.proofs.RequestLemmas.{length-ask_fields}
 
@@ -49,8 +52,12 @@ version_unknown v h =
 
 verdict_of : ℕ → ℕ → ℕ → ℕ → Verdict
 verdict_of len n v o =
-    cond (eqb len 0) End (cond (ltb len 4) (Told Truncated) (cond (ltb 8274 n) (Told TooLong) (cond (ltb n 2) (Told BadField) (cond (ltb len 6) (Told Truncated)
-    (cond (has_version v) (cond (ltb 7 o) (Told BadOp) (cond (fits_op (op_at o) n) (cond (ltb len (4 + n)) (Told Truncated) Whole) (Told BadField))) (Told BadField))))))
+    cond (eqb len 0) End
+    (cond (ltb len 4) (Told Truncated)
+    (cond (ltb 8274 n) (Told TooLong) (cond (ltb n 2) (Told BadField) (cond (ltb len 6) (Told Truncated)
+    (cond (has_version v)
+    (cond (ltb 7 o) (Told BadOp)
+    (cond (fits_op (op_at o) n) (cond (ltb len (4 + n)) (Told Truncated) Whole) (Told BadField))) (Told BadField))))))
 
 v_part : (len n v o : ℕ) → 0 < len → len < 4 → verdict_of len n v o ≡ Told Truncated
 unfolding verdict_of
@@ -76,27 +83,33 @@ v_op : (len n v o : ℕ) → 6 ≤ len → 2 ≤ n → n ≤ 8274 → has_versio
 unfolding verdict_of
 v_op len n v o a b c d e = grind (arith, nat_tests)
 
-v_length : (len n v o : ℕ) → 6 ≤ len → 2 ≤ n → n ≤ 8274 → has_version v ≡ true → o ≤ 7 → fits_op (op_at o) n ≡ false → verdict_of len n v o ≡ Told BadField
+v_length : (len n v o : ℕ) → 6 ≤ len → 2 ≤ n → n ≤ 8274 → has_version v ≡ true → o ≤ 7 → fits_op (op_at o) n ≡ false →
+    verdict_of len n v o ≡ Told BadField
 unfolding verdict_of
 v_length len n v o a b c d e f = grind (arith, nat_tests)
 
-v_rest : (len n v o : ℕ) → 6 ≤ len → 2 ≤ n → n ≤ 8274 → has_version v ≡ true → o ≤ 7 → fits_op (op_at o) n ≡ true → len < 4 + n → verdict_of len n v o ≡ Told Truncated
+v_rest : (len n v o : ℕ) → 6 ≤ len → 2 ≤ n → n ≤ 8274 → has_version v ≡ true → o ≤ 7 → fits_op (op_at o) n ≡ true →
+    len < 4 + n → verdict_of len n v o ≡ Told Truncated
 unfolding verdict_of
 v_rest len n v o a b c d e f g = grind (arith, nat_tests)
 
-v_whole : (len n v o : ℕ) → 6 ≤ len → 2 ≤ n → n ≤ 8274 → has_version v ≡ true → o ≤ 7 → fits_op (op_at o) n ≡ true → 4 + n ≤ len → verdict_of len n v o ≡ Whole
+v_whole : (len n v o : ℕ) → 6 ≤ len → 2 ≤ n → n ≤ 8274 → has_version v ≡ true → o ≤ 7 → fits_op (op_at o) n ≡ true →
+    4 + n ≤ len → verdict_of len n v o ≡ Whole
 unfolding verdict_of
 v_whole len n v o a b c d e f g = grind (arith, nat_tests)
 
 verdict : List ℕ → Verdict
 verdict input = verdict_of (length input) (from_be_bytes w32 (take 4 input)) (get_or input 4 0) (get_or input 5 0)
 
-verdict_head : (n : ℕ) (rest : List ℕ) → n < 2 ^ 32 → verdict (u32_bytes n ++ rest) ≡ verdict_of (4 + length rest) n (get_or rest 0 0) (get_or rest 1 0)
+verdict_head : (n : ℕ) (rest : List ℕ) → n < 2 ^ 32 →
+    verdict (u32_bytes n ++ rest) ≡ verdict_of (4 + length rest) n (get_or rest 0 0) (get_or rest 1 0)
 unfolding verdict u32_bytes
 verdict_head n rest small =
-    let number : from_be_bytes w32 (take 4 (u32_bytes n ++ rest)) ≡ n = ap (from_be_bytes w32) (take_at (u32_bytes n) rest 4 refl) ∙ from_be_bytes-to_be_bytes_4 n small in
+    let number : from_be_bytes w32 (take 4 (u32_bytes n ++ rest)) ≡ n =
+    ap (from_be_bytes w32) (take_at (u32_bytes n) rest 4 refl) ∙ from_be_bytes-to_be_bytes_4 n small in
     let len : length (u32_bytes n ++ rest) ≡ 4 + length rest = length-append (u32_bytes n) rest in
-    ap (λ m. verdict_of (length (u32_bytes n ++ rest)) m (get_or rest 0 0) (get_or rest 1 0)) number ∙ ap (λ l. verdict_of l n (get_or rest 0 0) (get_or rest 1 0)) len
+    ap (λ m. verdict_of (length (u32_bytes n ++ rest)) m (get_or rest 0 0) (get_or rest 1 0)) number
+    ∙ ap (λ l. verdict_of l n (get_or rest 0 0) (get_or rest 1 0)) len
 
 pub number_small : (o : Op) → op_number o ≤ 7
 number_small op.Hello = omega arith
@@ -149,22 +162,50 @@ fits_not : (o : Op) (n : ℕ) → ¬ IsRequestLength o n → fits_op (op_at (op_
 fits_not o n h = ap (λ x. fits_op x n) (op_back o) ∙ fits_is_not o n h
 
 -- The verdict on a head with these numbers and the bytes after it.
-verdict_op : (n v o : ℕ) (rest : List ℕ) → n ≤ 8274 → verdict (u32_bytes n ++ (v ∷ o ∷ rest)) ≡ verdict_of (6 + length rest) n v o
+verdict_op : (n v o : ℕ) (rest : List ℕ) → n ≤ 8274 →
+    verdict (u32_bytes n ++ (v ∷ o ∷ rest)) ≡ verdict_of (6 + length rest) n v o
 verdict_op n v o rest most =
     let len : 4 + length (v ∷ o ∷ rest) ≡ 6 + length rest = omega arith in
     verdict_head n (v ∷ o ∷ rest) (omega arith) ∙ ap (λ l. verdict_of l n v o) len
 
-request_length : (a : Ask) (text : List ℕ) → length text ≤ 8256 → IsRequestLength (op_of a) (2 + length (ask_fields a ++ ask_text (op_of a) text)) × (2 + length (ask_fields a ++ ask_text (op_of a) text) ≤ 8274)
-request_length (Hello c) text h = let l = length-append (ask_fields (Hello c)) [] in let m = length-ask_fields (Hello c) in (omega (arith, l, m), omega (arith, l, m))
-request_length (Get k f) text h = let l = length-append (ask_fields (Get k f)) [] in let m = length-ask_fields (Get k f) in (omega (arith, l, m), omega (arith, l, m))
-request_length (Snd i t f) text h = let l = length-append (ask_fields (Snd i t f)) text in let m = length-ask_fields (Snd i t f) in (omega (arith, l, m), omega (arith, l, m))
-request_length (Rcv i s t f) text h = let l = length-append (ask_fields (Rcv i s t f)) [] in let m = length-ask_fields (Rcv i s t f) in (omega (arith, l, m), omega (arith, l, m))
-request_length (Stat i) text h = let l = length-append (ask_fields (Stat i)) [] in let m = length-ask_fields (Stat i) in (omega (arith, l, m), omega (arith, l, m))
-request_length (Set i t) text h = let l = length-append (ask_fields (Set i t)) [] in let m = length-ask_fields (Set i t) in (omega (arith, l, m), omega (arith, l, m))
-request_length (Rm i) text h = let l = length-append (ask_fields (Rm i)) [] in let m = length-ask_fields (Rm i) in (omega (arith, l, m), omega (arith, l, m))
-request_length (Row i) text h = let l = length-append (ask_fields (Row i)) [] in let m = length-ask_fields (Row i) in (omega (arith, l, m), omega (arith, l, m))
+request_length : (a : Ask) (text : List ℕ) → length text ≤ 8256 →
+    IsRequestLength (op_of a) (2 + length (ask_fields a ++ ask_text (op_of a) text))
+    × (2 + length (ask_fields a ++ ask_text (op_of a) text) ≤ 8274)
+request_length (Hello c) text h =
+    let l = length-append (ask_fields (Hello c)) [] in
+    let m = length-ask_fields (Hello c) in
+    (omega (arith, l, m), omega (arith, l, m))
+request_length (Get k f) text h =
+    let l = length-append (ask_fields (Get k f)) [] in
+    let m = length-ask_fields (Get k f) in
+    (omega (arith, l, m), omega (arith, l, m))
+request_length (Snd i t f) text h =
+    let l = length-append (ask_fields (Snd i t f)) text in
+    let m = length-ask_fields (Snd i t f) in
+    (omega (arith, l, m), omega (arith, l, m))
+request_length (Rcv i s t f) text h =
+    let l = length-append (ask_fields (Rcv i s t f)) [] in
+    let m = length-ask_fields (Rcv i s t f) in
+    (omega (arith, l, m), omega (arith, l, m))
+request_length (Stat i) text h =
+    let l = length-append (ask_fields (Stat i)) [] in
+    let m = length-ask_fields (Stat i) in
+    (omega (arith, l, m), omega (arith, l, m))
+request_length (Set i t) text h =
+    let l = length-append (ask_fields (Set i t)) [] in
+    let m = length-ask_fields (Set i t) in
+    (omega (arith, l, m), omega (arith, l, m))
+request_length (Rm i) text h =
+    let l = length-append (ask_fields (Rm i)) [] in
+    let m = length-ask_fields (Rm i) in
+    (omega (arith, l, m), omega (arith, l, m))
+request_length (Row i) text h =
+    let l = length-append (ask_fields (Row i)) [] in
+    let m = length-ask_fields (Row i) in
+    (omega (arith, l, m), omega (arith, l, m))
 
-whole_verdict : (r : Request) (text rest : List ℕ) → length text ≤ 8256 → verdict (request_spelling r text ++ rest) ≡ Whole
+whole_verdict : (r : Request) (text rest : List ℕ) → length text ≤ 8256 →
+    verdict (request_spelling r text ++ rest) ≡ Whole
 unfolding frame
 whole_verdict r text rest h =
     let v = version_number r.version in
@@ -174,9 +215,12 @@ whole_verdict r text rest h =
     let sizes = request_length r.ask text h in
     let len : length (v ∷ o ∷ behind) ≡ n = omega arith in
     let parts : request_spelling r text ++ rest ≡ u32_bytes n ++ (v ∷ o ∷ (behind ++ rest)) =
-    append_assoc (u32_bytes (length (v ∷ o ∷ behind))) (v ∷ o ∷ behind) rest ∙ ap (λ m. u32_bytes m ++ (v ∷ o ∷ (behind ++ rest))) len in
+    append_assoc (u32_bytes (length (v ∷ o ∷ behind))) (v ∷ o ∷ behind) rest
+    ∙ ap (λ m. u32_bytes m ++ (v ∷ o ∷ (behind ++ rest))) len in
     ap verdict parts ∙ verdict_op n v o (behind ++ rest) sizes.1
-    ∙ v_whole (6 + length (behind ++ rest)) n v o (omega arith) (omega arith) sizes.1 (version_known v (r.version, refl)) (number_small (op_of r.ask)) (fits_when (op_of r.ask) n sizes.0) (omega (arith, length-append behind rest))
+    ∙ v_whole (6 + length (behind ++ rest)) n v o (omega arith) (omega arith) sizes.1
+    (version_known v (r.version, refl)) (number_small (op_of r.ask)) (fits_when (op_of r.ask) n sizes.0)
+    (omega (arith, length-append behind rest))
 
 code : Result (Option Request) Fault → Verdict
 code (Ok (Some r)) = Whole
@@ -189,22 +233,27 @@ broken_verdict input (inl (inl h)) = v_part (length input) _ _ _ h.0 h.1
 broken_verdict input (inl (inr h)) =
     let n = h.0 in
     let part = h.1 in
-    ap verdict h.5 ∙ verdict_head n part (omega (arith, h.3)) ∙ v_head (4 + length part) n (get_or part 0 0) (get_or part 1 0) (omega arith) h.2 h.3 (omega (arith, h.4))
+    ap verdict h.5 ∙ verdict_head n part (omega (arith, h.3))
+    ∙ v_head (4 + length part) n (get_or part 0 0) (get_or part 1 0) (omega arith) h.2 h.3 (omega (arith, h.4))
 broken_verdict input (inr h) =
     let n = h.0 in
     let v = version_number h.1 in
     let o = h.2 in
     let part = h.3 in
     ap verdict h.7 ∙ verdict_op n v (op_number o) part h.4
-    ∙ v_rest (6 + length part) n v (op_number o) (omega arith) (omega (arith, h.6)) h.4 (version_known v (h.1, refl)) (number_small o) (fits_when o n h.5) (omega (arith, h.6))
+    ∙ v_rest (6 + length part) n v (op_number o) (omega arith) (omega (arith, h.6)) h.4 (version_known v (h.1, refl))
+    (number_small o) (fits_when o n h.5) (omega (arith, h.6))
 
-long_verdict : (input taken rest : List ℕ) → RequestFault TooLong taken → input ≡ taken ++ rest → verdict input ≡ Told TooLong
+long_verdict : (input taken rest : List ℕ) → RequestFault TooLong taken → input ≡ taken ++ rest →
+    verdict input ≡ Told TooLong
 long_verdict input taken rest h e =
     let n = h.0 in
-    ap verdict (e ∙ ap (λ l. l ++ rest) h.3) ∙ verdict_head n rest h.1 ∙ v_long (4 + length rest) n (get_or rest 0 0) (get_or rest 1 0) (omega arith) h.2
+    ap verdict (e ∙ ap (λ l. l ++ rest) h.3) ∙ verdict_head n rest h.1
+    ∙ v_long (4 + length rest) n (get_or rest 0 0) (get_or rest 1 0) (omega arith) h.2
 
 -- What follows a length, a version and an operation.
-pub behind_head : (n v o : ℕ) (taken rest : List ℕ) → taken ≡ u32_bytes n ++ (v ∷ o ∷ []) → taken ++ rest ≡ u32_bytes n ++ (v ∷ o ∷ rest)
+pub behind_head : (n v o : ℕ) (taken rest : List ℕ) → taken ≡ u32_bytes n ++ (v ∷ o ∷ []) →
+    taken ++ rest ≡ u32_bytes n ++ (v ∷ o ∷ rest)
 behind_head n v o taken rest e = ap (λ l. l ++ rest) e ∙ append_assoc (u32_bytes n) (v ∷ o ∷ []) rest
 
 op_verdict : (input taken rest : List ℕ) → RequestFault BadOp taken → input ≡ taken ++ rest → verdict input ≡ Told BadOp
@@ -213,17 +262,22 @@ op_verdict input taken rest h e =
     let v = h.1 in
     let o = h.2 in
     let head = h.3 in
-    ap verdict (e ∙ behind_head n v o taken rest head.2) ∙ verdict_op n v o rest head.1 ∙ v_op (6 + length rest) n v o (omega arith) head.0 head.1 (version_known v h.4.0) h.4.1
+    ap verdict (e ∙ behind_head n v o taken rest head.2) ∙ verdict_op n v o rest head.1
+    ∙ v_op (6 + length rest) n v o (omega arith) head.0 head.1 (version_known v h.4.0) h.4.1
 
-field_verdict : (input taken rest : List ℕ) → RequestFault BadField taken → input ≡ taken ++ rest → verdict input ≡ Told BadField
+field_verdict : (input taken rest : List ℕ) → RequestFault BadField taken → input ≡ taken ++ rest →
+    verdict input ≡ Told BadField
 field_verdict input taken rest (inl h) e =
     let n = h.0 in
-    ap verdict (e ∙ ap (λ l. l ++ rest) h.3) ∙ verdict_head n rest h.1 ∙ v_short (4 + length rest) n (get_or rest 0 0) (get_or rest 1 0) (omega arith) h.2
+    ap verdict (e ∙ ap (λ l. l ++ rest) h.3) ∙ verdict_head n rest h.1
+    ∙ v_short (4 + length rest) n (get_or rest 0 0) (get_or rest 1 0) (omega arith) h.2
 field_verdict input taken rest (inr (n, v, o, head, inl other)) e =
-    ap verdict (e ∙ behind_head n v o taken rest head.2) ∙ verdict_op n v o rest head.1 ∙ v_version (6 + length rest) n v o (omega arith) head.0 head.1 (version_unknown v other)
+    ap verdict (e ∙ behind_head n v o taken rest head.2) ∙ verdict_op n v o rest head.1
+    ∙ v_version (6 + length rest) n v o (omega arith) head.0 head.1 (version_unknown v other)
 field_verdict input taken rest (inr (n, v, o, head, inr (same, (named, number, wrong)))) e =
     ap verdict (e ∙ behind_head n v o taken rest head.2) ∙ verdict_op n v o rest head.1
-    ∙ v_length (6 + length rest) n v o (omega arith) head.0 head.1 (version_known v same) (omega (arith, number, number_small named)) (ap (λ x. fits_op (op_at x) n) (sym number) ∙ fits_not named n wrong)
+    ∙ v_length (6 + length rest) n v o (omega arith) head.0 head.1 (version_known v same)
+    (omega (arith, number, number_small named)) (ap (λ x. fits_op (op_at x) n) (sym number) ∙ fits_not named n wrong)
 
 answer_verdict : (input : List ℕ) (a : Result (Option Request) Fault) → RequestAt input a → verdict input ≡ code a
 unfolding verdict verdict_of code
@@ -238,7 +292,8 @@ answer_verdict input (Err Read) h = absurd h
 abbrev refused : Fault → Result (Option Request) Fault
 refused f = Err f
 
-same_answer : (input : List ℕ) (a b : Result (Option Request) Fault) → RequestAt input a → RequestAt input b → code a ≡ code b → a ≡ b
+same_answer : (input : List ℕ) (a b : Result (Option Request) Fault) → RequestAt input a → RequestAt input b →
+    code a ≡ code b → a ≡ b
 unfolding code
 same_answer input (Ok (Some r)) (Ok (Some s)) h k e =
     ap (λ x. Ok (Some x)) (one_request r s h.0 k.0 h.1 k.1 h.2 k.2 (sym h.3 ∙ k.3)).0
@@ -255,16 +310,22 @@ pub one_answer : OneAnswerToRequests
 one_answer input a b h k = same_answer input a b h k (sym (answer_verdict input a h) ∙ answer_verdict input b k)
 
 -- What was read fits the input, or the reader failed.
-pub request_only : (input : List ℕ) (new : Option (List ℕ)) (result answer : Result (Option Request) Fault) (text : List ℕ) → ReadsRequest (Some input) new result text → RequestAt input answer
+pub request_only : (input : List ℕ) (new : Option (List ℕ)) (result answer : Result (Option Request) Fault)
+    (text : List ℕ) → ReadsRequest (Some input) new result text → RequestAt input answer
     → (result ≡ answer) ⊎ (result ≡ Err Read)
 request_only input None (Ok (Some r)) answer text h k = absurd h.0
 request_only input None (Ok None) answer text h k = absurd h.0
 request_only input None (Err f) answer text h k = absurd h.1
-request_only input (Some rest) (Ok (Some r)) answer text h k = inl (one_answer input (Ok (Some r)) answer (text, rest, h.1, h.0) k)
+request_only input (Some rest) (Ok (Some r)) answer text h k =
+    inl (one_answer input (Ok (Some r)) answer (text, rest, h.1, h.0) k)
 request_only input (Some rest) (Ok None) answer text h k = inl (one_answer input (Ok None) answer (h.0 ∙ h.1) k)
 request_only input (Some rest) (Err Truncated) answer text h k =
-    inl (one_answer input (Err Truncated) answer (subst (RequestFault Truncated) (sym (h.1 ∙ ap (λ l. h.0 ++ l) h.3 ∙ append-nil h.0)) h.2) k)
-request_only input (Some rest) (Err TooLong) answer text h k = inl (one_answer input (Err TooLong) answer (h.0, rest, h.2, h.1) k)
-request_only input (Some rest) (Err BadOp) answer text h k = inl (one_answer input (Err BadOp) answer (h.0, rest, h.2, h.1) k)
-request_only input (Some rest) (Err BadField) answer text h k = inl (one_answer input (Err BadField) answer (h.0, rest, h.2, h.1) k)
+    inl (one_answer input (Err Truncated) answer
+    (subst (RequestFault Truncated) (sym (h.1 ∙ ap (λ l. h.0 ++ l) h.3 ∙ append-nil h.0)) h.2) k)
+request_only input (Some rest) (Err TooLong) answer text h k =
+    inl (one_answer input (Err TooLong) answer (h.0, rest, h.2, h.1) k)
+request_only input (Some rest) (Err BadOp) answer text h k =
+    inl (one_answer input (Err BadOp) answer (h.0, rest, h.2, h.1) k)
+request_only input (Some rest) (Err BadField) answer text h k =
+    inl (one_answer input (Err BadField) answer (h.0, rest, h.2, h.1) k)
 request_only input (Some rest) (Err Read) answer text h k = inr refl

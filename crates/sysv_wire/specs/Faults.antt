@@ -1,7 +1,8 @@
 -- What a reader has taken of the input when it returns a fault (the order is this project's
 -- profile). The length is checked first, then the version, the operation and the length that the
 -- operation has, and then the rest of the frame is read.
-use Rattle.std.specs.Prelude.{◌≡◌, ◌≢◌, ◌<◌, ◌≤◌, ◌+◌, ◌^◌, ◌⊎◌, ⊤, ℕ, Bool, true, false, List, [], ◌∷◌, ◌++◌, length, Option, Result, Ok, Err}
+use Rattle.std.specs.Prelude.{◌≡◌, ◌≢◌, ◌<◌, ◌≤◌, ◌+◌, ◌^◌, ◌⊎◌, ⊤, ℕ, Bool, true, false, List, [], ◌∷◌, ◌++◌, length}
+use Rattle.std.specs.Prelude.{Option, Result, Ok, Err}
 use Rattle.std.specs.Io.KnownBytes.{Consumes, IsAtEnd}
 use Rattle.sysv_wire.specs.declared.fault.Fault.{Fault}
 use Rattle.sysv_wire.specs.declared.fault.Fault.TheVariants.{Truncated, TooLong, BadOp, BadField, Read}
@@ -56,7 +57,8 @@ IsPartLength taken = (0 < length taken) × (length taken < 4)
 -- A part of a head. A head is a length within the limits, followed by the bytes that are checked
 -- with it, whose number is the minimum length.
 abbrev pub IsPartHead : ℕ → ℕ → List ℕ → Type 0
-IsPartHead least most taken = (n : ℕ) × (part : List ℕ) × (least ≤ n) × (n ≤ most) × (length part < least) × (taken ≡ u32_bytes n ++ part)
+IsPartHead least most taken =
+    (n : ℕ) × (part : List ℕ) × (least ≤ n) × (n ≤ most) × (length part < least) × (taken ≡ u32_bytes n ++ part)
 
 -- Why a length is refused.
 abbrev pub LengthFault : ℕ → ℕ → ℕ → Fault → Type 0
@@ -94,7 +96,8 @@ IsRequestHead n version number taken =
 
 -- The head of a request, and a part of the rest.
 abbrev pub IsPartRequest : List ℕ → Type 0
-IsPartRequest taken = (n : ℕ) × (version : Version) × (op : Op) × (part : List ℕ) × (n ≤ MAX_REQUEST) × IsRequestLength op n
+IsPartRequest taken =
+    (n : ℕ) × (version : Version) × (op : Op) × (part : List ℕ) × (n ≤ MAX_REQUEST) × IsRequestLength op n
     × (2 + length part < n) × (taken ≡ u32_bytes n ++ (version_number version ∷ op_number op ∷ part))
 
 -- Why a request is refused: because of its length, because of what is checked with the length, or
@@ -102,7 +105,9 @@ IsPartRequest taken = (n : ℕ) × (version : Version) × (op : Op) × (part : L
 abbrev pub RequestFault : Fault → List ℕ → Type 0
 RequestFault Truncated taken = HeadFault MIN_REQUEST MAX_REQUEST Truncated taken ⊎ IsPartRequest taken
 RequestFault TooLong taken = HeadFault MIN_REQUEST MAX_REQUEST TooLong taken
-RequestFault BadOp taken = (n : ℕ) × (version : ℕ) × (number : ℕ) × IsRequestHead n version number taken × OpFault n version number BadOp
+RequestFault BadOp taken =
+    (n : ℕ) × (version : ℕ) × (number : ℕ) × IsRequestHead n version number taken × OpFault n version number BadOp
 RequestFault BadField taken = HeadFault MIN_REQUEST MAX_REQUEST BadField taken
-    ⊎ ((n : ℕ) × (version : ℕ) × (number : ℕ) × IsRequestHead n version number taken × OpFault n version number BadField)
+    ⊎ ((n : ℕ) × (version : ℕ) × (number : ℕ) × IsRequestHead n version number taken
+    × OpFault n version number BadField)
 RequestFault Read taken = ⊤

@@ -18,7 +18,8 @@ FaultAt IsWhy fault input = (taken : List ℕ) × (rest : List ℕ) × IsWhy fau
 -- or a fault that the first bytes of the input cause. An input that ends within a frame is the
 -- cause as a whole.
 abbrev pub RequestAt : List ℕ → Result (Option Request) Fault → Type 0
-RequestAt input (Ok (Some request)) = (text : List ℕ) × (rest : List ℕ) × FitsRequest request text × (input ≡ request_spelling request text ++ rest)
+RequestAt input (Ok (Some request)) =
+    (text : List ℕ) × (rest : List ℕ) × FitsRequest request text × (input ≡ request_spelling request text ++ rest)
 RequestAt input (Ok None) = input ≡ []
 RequestAt input (Err Truncated) = RequestFault Truncated input
 RequestAt input (Err TooLong) = FaultAt RequestFault TooLong input
@@ -28,7 +29,8 @@ RequestAt input (Err Read) = ⊥
 
 -- The result of reading a reply fits the input, in the same way.
 abbrev pub ReplyAt : List ℕ → Result (Option Reply) Fault → Type 0
-ReplyAt input (Ok (Some reply)) = (text : List ℕ) × (rest : List ℕ) × FitsReply reply text × (input ≡ reply_spelling reply text ++ rest)
+ReplyAt input (Ok (Some reply)) =
+    (text : List ℕ) × (rest : List ℕ) × FitsReply reply text × (input ≡ reply_spelling reply text ++ rest)
 ReplyAt input (Ok None) = input ≡ []
 ReplyAt input (Err Truncated) = ReplyFault Truncated input
 ReplyAt input (Err TooLong) = FaultAt ReplyFault TooLong input
@@ -38,7 +40,8 @@ ReplyAt input (Err Read) = ⊥
 
 -- At most one result of reading a request fits an input.
 abbrev pub OneAnswerToRequests : Type 0
-OneAnswerToRequests = (input : List ℕ) (a b : Result (Option Request) Fault) → RequestAt input a → RequestAt input b → a ≡ b
+OneAnswerToRequests =
+    (input : List ℕ) (a b : Result (Option Request) Fault) → RequestAt input a → RequestAt input b → a ≡ b
 
 -- At most one result of reading a reply fits an input.
 abbrev pub OneAnswerToReplies : Type 0

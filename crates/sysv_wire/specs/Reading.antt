@@ -13,7 +13,8 @@ use Rattle.sysv_wire.specs.Requests.{FitsRequest, op_of, ask_text, request_spell
 -- fault.
 abbrev pub ReadsRequest : Option (List ℕ) → Option (List ℕ) → Result (Option Request) Fault → List ℕ → Type 0
 ReadsRequest old new (Ok (Some request)) text =
-    Consumes old new (request_spelling request text) × FitsRequest request text × (text ≡ ask_text (op_of request.ask) text)
+    Consumes old new (request_spelling request text) × FitsRequest request text
+    × (text ≡ ask_text (op_of request.ask) text)
 ReadsRequest old new (Ok None) text = Consumes old new [] × IsAtEnd new × (text ≡ [])
 ReadsRequest old new (Err fault) text = Faults RequestFault fault old new
 

@@ -1,7 +1,8 @@
 -- The one spelling of each reply (this project's profile): the version, the operation, the number
 -- of the error or 0, then the fields of the result in order, and after the fields of a receive the
 -- body of the message. An error has no fields.
-use Rattle.std.specs.Prelude.{◌≡◌, ◌≤◌, ◌<◌, ◌^◌, ◌==◌, length, ⊤, ◌⊎◌, ℕ, Bool, true, false, List, [], ◌∷◌, ◌++◌, None, Some, MatchBool, if◌then◌else◌}
+use Rattle.std.specs.Prelude.{◌≡◌, ◌≤◌, ◌<◌, ◌^◌, ◌==◌, length, ⊤, ◌⊎◌, ℕ, Bool, true, false, List, [], ◌∷◌, ◌++◌, None}
+use Rattle.std.specs.Prelude.{Some, MatchBool, if◌then◌else◌}
 use Rattle.std.specs.Int.{w32, w64}
 use Rattle.std.specs.Int.RustNames.{FitsSigned}
 use Rattle.sysv_model.specs.Errors.{number_of}
@@ -15,7 +16,8 @@ use Rattle.sysv_wire.specs.declared.frame.TheConstants.{MAX_MODE}
 use Rattle.sysv_wire.specs.declared.frame.Version.{Version}
 use Rattle.sysv_wire.specs.declared.frame.Version.TheVariants.{One, Two}
 use Rattle.sysv_wire.specs.declared.reply.ReplyContent.{ReplyContent}
-use Rattle.sysv_wire.specs.declared.reply.ReplyContent.TheVariants.{Refused, Hello, HelloSlots, Get, Snd, Rcv, Stat, Set, Rm, Row}
+use Rattle.sysv_wire.specs.declared.reply.ReplyContent.TheVariants.{Refused, Hello, HelloSlots, Get, Snd, Rcv, Stat}
+use Rattle.sysv_wire.specs.declared.reply.ReplyContent.TheVariants.{Set, Rm, Row}
 use Rattle.sysv_wire.specs.declared.reply.Reply.{Reply}
 use Rattle.sysv_wire.specs.Frames.{op_number, version_number, frame}
 use Rattle.sysv_wire.specs.Numbers.{u16_bytes, u32_bytes, u64_bytes, i32_bytes, i64_bytes}
@@ -65,12 +67,14 @@ error_number (Row row) = 0
 
 -- The fields of the owner, creator and mode.
 unfoldable pub perm_fields : Perm → List ℕ
-perm_fields perm = u32_bytes perm.uid ++ (u32_bytes perm.gid ++ (u32_bytes perm.cuid ++ (u32_bytes perm.cgid ++ u16_bytes perm.mode)))
+perm_fields perm =
+    u32_bytes perm.uid ++ (u32_bytes perm.gid ++ (u32_bytes perm.cuid ++ (u32_bytes perm.cgid ++ u16_bytes perm.mode)))
 
 -- The fields of the counts: queued bytes and messages, the maximum number of bytes, and the
 -- processes that sent and received last.
 unfoldable pub count_fields : Attributes → List ℕ
-count_fields stat = u32_bytes stat.cbytes ++ (u32_bytes stat.qnum ++ (u32_bytes stat.qbytes ++ (u32_bytes stat.lspid ++ u32_bytes stat.lrpid)))
+count_fields stat = u32_bytes stat.cbytes
+    ++ (u32_bytes stat.qnum ++ (u32_bytes stat.qbytes ++ (u32_bytes stat.lspid ++ u32_bytes stat.lrpid)))
 
 -- The fields of the timestamps.
 unfoldable pub time_fields : Attributes → List ℕ
@@ -82,7 +86,9 @@ stat_fields stat = i32_bytes stat.key ++ (perm_fields stat.perm ++ (count_fields
 
 -- The fields of a row with a queue.
 unfoldable pub row_fields : Line → List ℕ
-row_fields row = i32_bytes row.id ++ (i32_bytes row.key ++ (u32_bytes row.uid ++ (u16_bytes row.mode ++ (u32_bytes row.cbytes ++ u32_bytes row.qnum))))
+row_fields row = i32_bytes row.id
+    ++ (i32_bytes row.key
+    ++ (u32_bytes row.uid ++ (u16_bytes row.mode ++ (u32_bytes row.cbytes ++ u32_bytes row.qnum))))
 
 -- The fields of a result without its body. A row with a queue is marked by 1, and a row without one
 -- by 0.
@@ -119,7 +125,8 @@ content_text content text = if gives_text content then text else []
 -- The one spelling of a reply.
 abbrev pub reply_spelling : Reply → List ℕ → List ℕ
 reply_spelling reply text =
-    frame (version_number reply.version ∷ reply.op ∷ error_number reply.result ∷ (content_fields reply.result ++ content_text reply.result text))
+    frame (version_number reply.version ∷ reply.op ∷ error_number reply.result
+    ∷ (content_fields reply.result ++ content_text reply.result text))
 
 -- The operation with this number may have this result in this version. Any operation may fail with
 -- an error, the reply to a hello has the number of slots only in version 2, and modes have nine
@@ -175,4 +182,5 @@ FitsContent (Row (Some row)) = FitsRow row
 
 -- The reply is one that its operation may have, and the reply and its body can be sent.
 abbrev pub FitsReply : Reply → List ℕ → Type 0
-FitsReply reply text = IsAnswer reply.version reply.op reply.result × FitsContent reply.result × (length text ≤ MESSAGE_BYTES)
+FitsReply reply text =
+    IsAnswer reply.version reply.op reply.result × FitsContent reply.result × (length text ≤ MESSAGE_BYTES)

@@ -20,7 +20,8 @@ use Rattle.sysv_wire.specs.Replies.{IsRestLength}
 -- this error.
 abbrev pub IsBadReply : ℕ → ℕ → ℕ → ℕ → Type 0
 IsBadReply n byte number error = IsNoVersion byte
-    ⊎ ((version : Version) × (version_number version ≡ byte) × ((op : Op) × (op_number op ≡ number) × ¬ IsRestLength version op error (n - MIN_REPLY)))
+    ⊎ ((version : Version) × (version_number version ≡ byte)
+    × ((op : Op) × (op_number op ≡ number) × ¬ IsRestLength version op error (n - MIN_REPLY)))
 
 -- Why a reply with this length, version, operation and error is refused before the rest is read.
 abbrev pub AnswerFault : ℕ → ℕ → ℕ → ℕ → Fault → Type 0
@@ -73,7 +74,8 @@ IsReplyHead n version number error taken =
 
 -- The head of a reply, and what was taken of the rest.
 abbrev pub IsReplyRest : Fault → List ℕ → Type 0
-IsReplyRest fault taken = (n : ℕ) × (version : Version) × (op : Op) × (error : ℕ) × (rest : List ℕ) × (MIN_REPLY ≤ n) × (n ≤ MAX_REPLY)
+IsReplyRest fault taken =
+    (n : ℕ) × (version : Version) × (op : Op) × (error : ℕ) × (rest : List ℕ) × (MIN_REPLY ≤ n) × (n ≤ MAX_REPLY)
     × IsRestLength version op error (n - MIN_REPLY) × RestFault op error (n - MIN_REPLY) fault rest
     × (taken ≡ u32_bytes n ++ (version_number version ∷ op_number op ∷ error ∷ rest))
 
@@ -82,8 +84,10 @@ IsReplyRest fault taken = (n : ℕ) × (version : Version) × (op : Op) × (erro
 abbrev pub ReplyFault : Fault → List ℕ → Type 0
 ReplyFault Truncated taken = HeadFault MIN_REPLY MAX_REPLY Truncated taken ⊎ IsReplyRest Truncated taken
 ReplyFault TooLong taken = HeadFault MIN_REPLY MAX_REPLY TooLong taken
-ReplyFault BadOp taken = (n : ℕ) × (version : ℕ) × (number : ℕ) × (error : ℕ) × IsReplyHead n version number error taken × AnswerFault n version number error BadOp
+ReplyFault BadOp taken = (n : ℕ) × (version : ℕ) × (number : ℕ) × (error : ℕ) × IsReplyHead n version number error taken
+    × AnswerFault n version number error BadOp
 ReplyFault BadField taken = (HeadFault MIN_REPLY MAX_REPLY BadField taken
-    ⊎ ((n : ℕ) × (version : ℕ) × (number : ℕ) × (error : ℕ) × IsReplyHead n version number error taken × AnswerFault n version number error BadField))
+    ⊎ ((n : ℕ) × (version : ℕ) × (number : ℕ) × (error : ℕ) × IsReplyHead n version number error taken
+    × AnswerFault n version number error BadField))
     ⊎ IsReplyRest BadField taken
 ReplyFault Read taken = ⊤

@@ -1,6 +1,7 @@
 -- The one spelling of each request (this project's profile): the version, the operation, its fields
 -- in order, and after the fields of a send its body.
-use Rattle.std.specs.Prelude.{◌≡◌, ◌≤◌, ◌<◌, ◌+◌, ◌^◌, ℕ, length, Bool, true, false, List, [], ◌∷◌, ◌++◌, MatchBool, if◌then◌else◌}
+use Rattle.std.specs.Prelude.{◌≡◌, ◌≤◌, ◌<◌, ◌+◌, ◌^◌, ℕ, length, Bool, true, false, List, [], ◌∷◌, ◌++◌, MatchBool}
+use Rattle.std.specs.Prelude.{if◌then◌else◌}
 use Rattle.std.specs.Int.{w32, w64}
 use Rattle.std.specs.Int.RustNames.{FitsSigned}
 use Rattle.sysv_model.specs.declared.limits.TheConstants.{BODY_ROOM}
@@ -30,7 +31,8 @@ ask_fields (Get key flags) = i32_bytes key ++ u32_bytes flags.0
 ask_fields (Snd id mtype flags) = i32_bytes id ++ (i64_bytes mtype ++ u32_bytes flags.0)
 ask_fields (Rcv id size mtype flags) = i32_bytes id ++ (u32_bytes size ++ (i64_bytes mtype ++ u32_bytes flags.0))
 ask_fields (Stat id) = i32_bytes id
-ask_fields (Set id to) = i32_bytes id ++ (u32_bytes to.uid ++ (u32_bytes to.gid ++ (u32_bytes to.mode ++ u32_bytes to.qbytes)))
+ask_fields (Set id to) =
+    i32_bytes id ++ (u32_bytes to.uid ++ (u32_bytes to.gid ++ (u32_bytes to.mode ++ u32_bytes to.qbytes)))
 ask_fields (Rm id) = i32_bytes id
 ask_fields (Row slot) = u32_bytes slot
 
@@ -52,7 +54,8 @@ ask_text o text = if has_text o then text else []
 -- The one spelling of a request.
 abbrev pub request_spelling : Request → List ℕ → List ℕ
 request_spelling request text =
-    frame (version_number request.version ∷ op_number (op_of request.ask) ∷ (ask_fields request.ask ++ ask_text (op_of request.ask) text))
+    frame (version_number request.version ∷ op_number (op_of request.ask)
+    ∷ (ask_fields request.ask ++ ask_text (op_of request.ask) text))
 
 -- The number of bytes in the fields of an operation, without the body.
 abbrev pub fields_len : Op → ℕ
@@ -77,7 +80,8 @@ FitsAsk (Get key flags) = FitsSigned w32 key × (flags.0 < 2 ^ 32)
 FitsAsk (Snd id mtype flags) = FitsSigned w32 id × FitsSigned w64 mtype × (flags.0 < 2 ^ 32)
 FitsAsk (Rcv id size mtype flags) = FitsSigned w32 id × (size < 2 ^ 32) × FitsSigned w64 mtype × (flags.0 < 2 ^ 32)
 FitsAsk (Stat id) = FitsSigned w32 id
-FitsAsk (Set id to) = FitsSigned w32 id × (to.uid < 2 ^ 32) × (to.gid < 2 ^ 32) × (to.mode < 2 ^ 32) × (to.qbytes < 2 ^ 32)
+FitsAsk (Set id to) =
+    FitsSigned w32 id × (to.uid < 2 ^ 32) × (to.gid < 2 ^ 32) × (to.mode < 2 ^ 32) × (to.qbytes < 2 ^ 32)
 FitsAsk (Rm id) = FitsSigned w32 id
 FitsAsk (Row slot) = slot < 2 ^ 32
 

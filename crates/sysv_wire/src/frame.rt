@@ -3,16 +3,16 @@ ghost use Rattle.std.specs.Prelude.{◌≡◌, ◌<◌, IfSome, IfNone};
 ghost use Rattle.sysv_wire.specs.Frames.{IsNoVersion, op_number, version_number};
 
 /// The minimum length of a request, in bytes after the length field.
-pub const MIN_REQUEST: u32 = 2;
+pub(crate) const MIN_REQUEST: u32 = 2;
 
 /// The maximum length of a request: that of a send with a body of 8,256 bytes.
-pub const MAX_REQUEST: u32 = 8274;
+pub(crate) const MAX_REQUEST: u32 = 8274;
 
 /// The minimum length of a reply, in bytes after the length field.
-pub const MIN_REPLY: u32 = 3;
+pub(crate) const MIN_REPLY: u32 = 3;
 
 /// The maximum length of a reply: that of a receive's reply with a body of 8,192 bytes.
-pub const MAX_REPLY: u32 = 8203;
+pub(crate) const MAX_REPLY: u32 = 8203;
 
 /// The maximum mode of a queue: nine bits.
 pub const MAX_MODE: u16 = 0o777;

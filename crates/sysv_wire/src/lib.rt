@@ -26,7 +26,7 @@ mod request;
 mod requests;
 
 pub use fault::Fault;
-pub use frame::{MAX_MODE, MAX_REPLY, MAX_REQUEST, MIN_REPLY, MIN_REQUEST, Op, Version};
+pub use frame::{MAX_MODE, Op, Version};
 pub use laws::{
     numerals_of_frames, one_answer_to_replies, one_answer_to_requests, one_reply, one_request,
 };

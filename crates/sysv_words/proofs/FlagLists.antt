@@ -1,5 +1,6 @@
 -- A list of flags has at most one value.
-use Rattle.std.proofs.Common.{◌≡◌, ℕ, ◌<◌, List, [], ◌∷◌, ◌++◌, refl, sym, ap, subst, ◌∙◌, arith, inl, inr, Bool, true, false, cond, nat_eq, bit_or, zero, suc, get_or, drop}
+use Rattle.std.proofs.Common.{◌≡◌, ℕ, ◌<◌, List, [], ◌∷◌, ◌++◌, refl, sym, ap, subst, ◌∙◌, arith, inl, inr, Bool, true}
+use Rattle.std.proofs.Common.{false, cond, nat_eq, bit_or, zero, suc, get_or, drop}
 use Rattle.std.specs.Prelude.{Contains, codes}
 use Rattle.std.specs.Char.{digit_value}
 use Rattle.std.specs.Str.Parse.{AllDigits, digits_value}
@@ -72,28 +73,39 @@ pub NamesFlag-unmarked : (name : List ℕ) (bits : ℕ) → NamesFlag name bits 
 NamesFlag-unmarked name bits h = has_plus-none name (NamesFlag-plain name bits h)
 
 -- A list that splits begins with a name and continues with a list.
-pub AddsFlags-split : (before : ℕ) (list : List ℕ) (all : ℕ) (p r : List ℕ) → SplitsAt 43 list p r → AddsFlags before list all → (bits : ℕ) × NamesFlag p bits × AddsFlags (bit_or before bits) r all
-AddsFlags-split before list all p r s (One _ name bits h) = absurd (NamesFlag-unmarked name bits h (SplitsAt-marked 43 name p r s))
+pub AddsFlags-split : (before : ℕ) (list : List ℕ) (all : ℕ) (p r : List ℕ) → SplitsAt 43 list p r →
+    AddsFlags before list all → (bits : ℕ) × NamesFlag p bits × AddsFlags (bit_or before bits) r all
+AddsFlags-split before list all p r s (One _ name bits h) =
+    absurd (NamesFlag-unmarked name bits h (SplitsAt-marked 43 name p r s))
 AddsFlags-split before list all p r s (More _ name rest bits _ h more) =
-    let e = splits_once 43 (name ++ 43 ∷ rest) name rest p r (record { whole = refl; unmarked = NamesFlag-unmarked name bits h }) s in
-    (bits, subst (λ (n : List ℕ). NamesFlag n bits) e.0 h, subst (λ (l : List ℕ). AddsFlags (bit_or before bits) l all) e.1 more)
+    let e = splits_once 43 (name ++ 43 ∷ rest) name rest p r
+    (record { whole = refl; unmarked = NamesFlag-unmarked name bits h }) s in (
+      bits,
+      subst (λ (n : List ℕ). NamesFlag n bits) e.0 h,
+      subst (λ (l : List ℕ). AddsFlags (bit_or before bits) l all) e.1 more,
+    )
 
 -- A list that does not split is one name.
-pub AddsFlags-last : (before : ℕ) (list : List ℕ) (all : ℕ) → (Contains list 43 → ⊥) → AddsFlags before list all → (bits : ℕ) × NamesFlag list bits
+pub AddsFlags-last : (before : ℕ) (list : List ℕ) (all : ℕ) → (Contains list 43 → ⊥) → AddsFlags before list all →
+    (bits : ℕ) × NamesFlag list bits
 AddsFlags-last before list all s (One _ name bits h) = (bits, h)
-AddsFlags-last before list all s (More _ name rest bits _ h more) = absurd (s (Contains-append_right name (43 ∷ rest) 43 (Contains-first 43 43 rest refl)))
+AddsFlags-last before list all s (More _ name rest bits _ h more) =
+    absurd (s (Contains-append_right name (43 ∷ rest) 43 (Contains-first 43 43 rest refl)))
 
 -- A list without `+` is one name, and has its bits combined with those before it.
-adds_last : (before : ℕ) (list : List ℕ) (all : ℕ) → (Contains list 43 → ⊥) → AddsFlags before list all → (bits : ℕ) × NamesFlag list bits × (all ≡ bit_or before bits)
+adds_last : (before : ℕ) (list : List ℕ) (all : ℕ) → (Contains list 43 → ⊥) → AddsFlags before list all →
+    (bits : ℕ) × NamesFlag list bits × (all ≡ bit_or before bits)
 adds_last before list all s (One _ name bits h) = (bits, h, refl)
-adds_last before list all s (More _ name rest bits _ h more) = absurd (s (Contains-append_right name (43 ∷ rest) 43 (0, omega arith, refl)))
+adds_last before list all s (More _ name rest bits _ h more) =
+    absurd (s (Contains-append_right name (43 ∷ rest) 43 (0, omega arith, refl)))
 
 adds_once : (before : ℕ) (list : List ℕ) (a b : ℕ) → AddsFlags before list a → AddsFlags before list b → a ≡ b
 adds_once before list a b (One _ name bits h) k =
     let last = adds_last before name b (NamesFlag-unmarked name bits h) k in
     ap (bit_or before) (NamesFlag-once name bits last.0 h last.1) ∙ sym last.2
 adds_once before list a b (More _ name rest bits _ h more) k =
-    let behind = AddsFlags-split before (name ++ 43 ∷ rest) b name rest (record { whole = refl; unmarked = NamesFlag-unmarked name bits h }) k in
+    let behind = AddsFlags-split before (name ++ 43 ∷ rest) b name rest
+    (record { whole = refl; unmarked = NamesFlag-unmarked name bits h }) k in
     let same : behind.0 ≡ bits = NamesFlag-once name behind.0 bits behind.1 h in
     adds_once (bit_or before bits) rest a b more (subst (λ x. AddsFlags (bit_or before x) rest b) same behind.2)
 
@@ -102,12 +114,16 @@ dash_unmarked (zero, h, e) = omega (arith, e)
 dash_unmarked (suc k, h, e) = omega arith
 
 NamesFlag-dash : (bits : ℕ) → NamesFlag (codes "-") bits → ⊥
-NamesFlag-dash bits (inl (digits, whole, mode, is)) = let e : 45 ≡ 48 = ap (λ (l : List ℕ). get_or l 0 0) whole in omega (arith, e)
+NamesFlag-dash bits (inl (digits, whole, mode, is)) =
+    let e : 45 ≡ 48 = ap (λ (l : List ℕ). get_or l 0 0) whole in omega (arith, e)
 NamesFlag-dash bits (inr (inl h)) = let e : 45 ≡ 67 = ap (λ (l : List ℕ). get_or l 0 0) h.0 in omega (arith, e)
 NamesFlag-dash bits (inr (inr (inl h))) = let e : 45 ≡ 69 = ap (λ (l : List ℕ). get_or l 0 0) h.0 in omega (arith, e)
-NamesFlag-dash bits (inr (inr (inr (inl h)))) = let e : 45 ≡ 78 = ap (λ (l : List ℕ). get_or l 0 0) h.0 in omega (arith, e)
-NamesFlag-dash bits (inr (inr (inr (inr (inl h))))) = let e : 45 ≡ 78 = ap (λ (l : List ℕ). get_or l 0 0) h.0 in omega (arith, e)
-NamesFlag-dash bits (inr (inr (inr (inr (inr h))))) = let e : 45 ≡ 69 = ap (λ (l : List ℕ). get_or l 0 0) h.0 in omega (arith, e)
+NamesFlag-dash bits (inr (inr (inr (inl h)))) =
+    let e : 45 ≡ 78 = ap (λ (l : List ℕ). get_or l 0 0) h.0 in omega (arith, e)
+NamesFlag-dash bits (inr (inr (inr (inr (inl h))))) =
+    let e : 45 ≡ 78 = ap (λ (l : List ℕ). get_or l 0 0) h.0 in omega (arith, e)
+NamesFlag-dash bits (inr (inr (inr (inr (inr h))))) =
+    let e : 45 ≡ 69 = ap (λ (l : List ℕ). get_or l 0 0) h.0 in omega (arith, e)
 
 dash_alone : (word : List ℕ) (bits : ℕ) → word ≡ codes "-" → ListsFlags word bits → ⊥
 dash_alone word bits e h =

@@ -1,5 +1,5 @@
 pub mod Numerals
 pub mod FlagLists
-pub mod DecidingWords
-pub mod DecidingFlags
-pub mod ReadingWords
+pub mod NumeralsOrNot
+pub mod FlagsOrNot
+pub mod OneValue

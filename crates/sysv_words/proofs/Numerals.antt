@@ -1,5 +1,6 @@
 -- A numeral is valid UTF-8.
-use Rattle.std.proofs.Common.{◌≡◌, ◌<◌, ◌≤◌, ◌^◌, length, ℕ, List, [], ◌∷◌, Bool, true, false, nat_eq, cond, refl, arith}
+use Rattle.std.proofs.Common.{◌≡◌, ◌<◌, ◌≤◌, ◌^◌, length, ℕ, List, [], ◌∷◌, Bool, true, false, nat_eq, cond, refl}
+use Rattle.std.proofs.Common.{arith}
 use Rattle.std.proofs.lemmas.Bool.Decides.{nat_tests}
 use Rattle.std.proofs.lemmas.Fmt.{IsAscii-from_digits}
 use Rattle.std.proofs.lemmas.Str.{IsUtf8-from_ascii}
@@ -10,7 +11,8 @@ use Rattle.std.specs.Str.Parse.{AllDigits, IsNumeral, digits_value}
 use Rattle.std.proofs.lemmas.Int.Digits.{digits_value-lt}
 use Rattle.sysv_words.specs.Words.{IsNumber}
 
-IsAscii-signed : (minus : Bool) (c : ℕ) (cs : List ℕ) → nat_eq c 45 ≡ minus → IsNumeral 10 (cond minus cs (c ∷ cs)) → IsAscii (c ∷ cs)
+IsAscii-signed : (minus : Bool) (c : ℕ) (cs : List ℕ) → nat_eq c 45 ≡ minus → IsNumeral 10 (cond minus cs (c ∷ cs)) →
+    IsAscii (c ∷ cs)
 IsAscii-signed true c cs e h =
     let small : c < 128 = grind (arith, nat_tests, e) in IsAscii-cons c cs small (IsAscii-from_digits cs h.1)
 IsAscii-signed false c cs e h = IsAscii-from_digits (c ∷ cs) h.1
@@ -31,13 +33,19 @@ AllDigits-decimal radix (d ∷ ds) few h = (digits_below d radix few h.0, AllDig
 
 -- A text of digits alone is valid UTF-8.
 pub IsUtf8-digits : (radix : ℕ) (word : List ℕ) → radix ≤ 10 → IsNumeral radix word → IsUtf8 word
-IsUtf8-digits radix word few h = IsUtf8-from_ascii word (IsAscii-from_digits word (AllDigits-decimal radix word few h.1))
+IsUtf8-digits radix word few h =
+    IsUtf8-from_ascii word (IsAscii-from_digits word (AllDigits-decimal radix word few h.1))
 
 -- The number of at most four octal digits is small.
 pub octal_small : (ds : List ℕ) → AllDigits 8 ds → length ds ≤ 4 → digits_value 8 ds < 2 ^ 32
 octal_small [] h few = omega arith
-octal_small (a ∷ []) h few = let small : digits_value 8 (a ∷ []) < 8 = digits_value-lt 8 (a ∷ []) h in omega (arith, small)
-octal_small (a ∷ b ∷ []) h few = let small : digits_value 8 (a ∷ b ∷ []) < 64 = digits_value-lt 8 (a ∷ b ∷ []) h in omega (arith, small)
-octal_small (a ∷ b ∷ c ∷ []) h few = let small : digits_value 8 (a ∷ b ∷ c ∷ []) < 512 = digits_value-lt 8 (a ∷ b ∷ c ∷ []) h in omega (arith, small)
-octal_small (a ∷ b ∷ c ∷ d ∷ []) h few = let small : digits_value 8 (a ∷ b ∷ c ∷ d ∷ []) < 4096 = digits_value-lt 8 (a ∷ b ∷ c ∷ d ∷ []) h in omega (arith, small)
+octal_small (a ∷ []) h few =
+    let small : digits_value 8 (a ∷ []) < 8 = digits_value-lt 8 (a ∷ []) h in omega (arith, small)
+octal_small (a ∷ b ∷ []) h few =
+    let small : digits_value 8 (a ∷ b ∷ []) < 64 = digits_value-lt 8 (a ∷ b ∷ []) h in omega (arith, small)
+octal_small (a ∷ b ∷ c ∷ []) h few =
+    let small : digits_value 8 (a ∷ b ∷ c ∷ []) < 512 = digits_value-lt 8 (a ∷ b ∷ c ∷ []) h in omega (arith, small)
+octal_small (a ∷ b ∷ c ∷ d ∷ []) h few =
+    let small : digits_value 8 (a ∷ b ∷ c ∷ d ∷ []) < 4096 = digits_value-lt 8 (a ∷ b ∷ c ∷ d ∷ []) h in
+    omega (arith, small)
 octal_small (a ∷ b ∷ c ∷ d ∷ e ∷ ds) h few = absurd (omega (arith, few))

@@ -1,6 +1,7 @@
 -- Questions about numbers and texts that are decided: which number is greater, whether two texts
 -- are equal, whether a text begins with another one, and where it splits.
-use Rattle.std.proofs.Common.{◌≡◌, ◌≤◌, ◌<◌, ◌+◌, ◌⊎◌, ℕ, zero, suc, inl, inr, List, [], ◌∷◌, ◌++◌, length, length-append, refl, sym, ap, subst, ◌∙◌, arith}
+use Rattle.std.proofs.Common.{◌≡◌, ◌≤◌, ◌<◌, ◌+◌, ◌⊎◌, ℕ, zero, suc, inl, inr, List, [], ◌∷◌, ◌++◌, length}
+use Rattle.std.proofs.Common.{length-append, refl, sym, ap, subst, ◌∙◌, arith}
 use Rattle.std.specs.Prelude.{Contains}
 use Rattle.std.proofs.lemmas.Bool.{cases_eq}
 use Rattle.std.proofs.lemmas.List.Elements.{Contains-append_cases}
@@ -76,7 +77,8 @@ rest_same [] a b e = e
 rest_same (x ∷ front) a b e = let behind : front ++ a ≡ front ++ b = cc in rest_same front a b behind
 
 -- A text begins with `front` and P holds of the rest, or this is not so.
-pub behind_or_not : (front : List ℕ) (P : List ℕ → Type 0) → ((rest : List ℕ) → Decided (P rest)) → (text : List ℕ) → Decided ((rest : List ℕ) × (text ≡ front ++ rest) × P rest)
+pub behind_or_not : (front : List ℕ) (P : List ℕ → Type 0) → ((rest : List ℕ) → Decided (P rest)) → (text : List ℕ) →
+    Decided ((rest : List ℕ) × (text ≡ front ++ rest) × P rest)
 behind_or_not front P decided text = elim (begun_or_not front text) [
   | inl b ↦ decided_as (λ p. (b.0, b.1, p)) (λ h. subst P (rest_same front h.0 b.0 (sym h.1 ∙ b.1)) h.2) (decided b.0)
   | inr none ↦ inr (λ h. none (h.0, h.1))
@@ -105,7 +107,11 @@ splits_or_not mark [] = inr (Contains-none mark)
 splits_or_not mark (x ∷ xs) = elim (cases_eq x mark) [
   | inl here ↦ inl ([], xs, record { whole = ap (λ y. y ∷ xs) here; unmarked = Contains-none mark })
   | inr other ↦ elim (splits_or_not mark xs) [
-    | inl s ↦ inl (x ∷ s.0, s.1, record { whole = ap (λ l. x ∷ l) s.2.whole; unmarked = Contains-more x mark s.0 other s.2.unmarked })
+    | inl s ↦ inl (
+      x ∷ s.0,
+      s.1,
+      record { whole = ap (λ l. x ∷ l) s.2.whole; unmarked = Contains-more x mark s.0 other s.2.unmarked },
+    )
     | inr none ↦ inr (Contains-more x mark xs other none)
   ]
 ]
@@ -113,6 +119,7 @@ splits_or_not mark (x ∷ xs) = elim (cases_eq x mark) [
 -- The rest after the mark is shorter than the text.
 pub splits_shorter : (mark : ℕ) (text part rest : List ℕ) → SplitsAt mark text part rest → length rest < length text
 splits_shorter mark text part rest s =
-    let whole : length text ≡ length part + length (mark ∷ rest) = ap length s.whole ∙ length-append part (mark ∷ rest) in
+    let whole : length text ≡ length part + length (mark ∷ rest) =
+    ap length s.whole ∙ length-append part (mark ∷ rest) in
     let more : length (mark ∷ rest) ≡ suc (length rest) = refl in
     omega (arith, whole, more)

@@ -27,7 +27,8 @@ NamesFlag name bits = NamesMode name bits ⊎ HasName name bits
 -- Names separated by `+` have, combined with the bits of the names before them, these bits.
 pub data AddsFlags : ℕ → List ℕ → ℕ → Type 0 where
   One : (before : ℕ) (name : List ℕ) (bits : ℕ) → NamesFlag name bits → AddsFlags before name (bit_or before bits)
-  More : (before : ℕ) (name rest : List ℕ) (bits all : ℕ) → NamesFlag name bits → AddsFlags (bit_or before bits) rest all → AddsFlags before (name ++ 43 ∷ rest) all
+  More : (before : ℕ) (name rest : List ℕ) (bits all : ℕ) → NamesFlag name bits →
+      AddsFlags (bit_or before bits) rest all → AddsFlags before (name ++ 43 ∷ rest) all
 
 -- Names separated by `+` have these bits: those of all names, combined by or.
 abbrev pub ListsFlags : List ℕ → ℕ → Type 0

@@ -4,8 +4,10 @@ use Rattle.std.specs.Prelude.{◌≡◌, ◌<◌, ◌⊎◌, ℕ, List, length, 
 use Rattle.sysv_words.specs.Words.{SplitsAt}
 
 pub record OneSplit : Type 0 where
-  pub once : (mark : ℕ) (text part rest front behind : List ℕ) → SplitsAt mark text part rest → SplitsAt mark text front behind → (part ≡ front) × (rest ≡ behind)
-  pub either : (mark : ℕ) (text : List ℕ) → ((part : List ℕ) × (rest : List ℕ) × SplitsAt mark text part rest) ⊎ ¬ Contains text mark
+  pub once : (mark : ℕ) (text part rest front behind : List ℕ) → SplitsAt mark text part rest →
+      SplitsAt mark text front behind → (part ≡ front) × (rest ≡ behind)
+  pub either : (mark : ℕ) (text : List ℕ) →
+      ((part : List ℕ) × (rest : List ℕ) × SplitsAt mark text part rest) ⊎ ¬ Contains text mark
   pub marked : (mark : ℕ) (text part rest : List ℕ) → SplitsAt mark text part rest → Contains text mark
   -- The rest after the mark is shorter than the text.
   pub shorter : (mark : ℕ) (text part rest : List ℕ) → SplitsAt mark text part rest → length rest < length text

@@ -1,7 +1,8 @@
 -- The words of a line of a script, separated by one space, and the numerals among them (this
 -- project's script language). A numeral is decimal, with or without a minus before it, and its
 -- number must be in the range of the word's kind.
-use Rattle.std.specs.Prelude.{◌≡◌, ◌==◌, ◌≤◌, ℕ, ℤ, pos, neg_ℤ, Bool, List, ◌∷◌, ◌++◌, drop, slice_index, Contains, if◌then◌else◌}
+use Rattle.std.specs.Prelude.{◌≡◌, ◌==◌, ◌≤◌, ℕ, ℤ, pos, neg_ℤ, Bool, List, ◌∷◌, ◌++◌, drop, slice_index, Contains}
+use Rattle.std.specs.Prelude.{if◌then◌else◌}
 use Rattle.std.specs.Int.{w32, w64}
 use Rattle.std.specs.Int.RustNames.{FitsSigned}
 use Rattle.std.specs.Str.Parse.{IsNumeral, digits_value}
@@ -12,7 +13,8 @@ pub record SplitsAt (mark : ℕ) (text part rest : List ℕ) : Type 0 where
   pub unmarked : Contains part mark → ⊥
 
 -- The text is a word with one value, a space, and a rest with another value.
-pub record Pair {A B : Type 0} (SaysOne : List ℕ → A → Type 0) (SaysOther : List ℕ → B → Type 0) (text : List ℕ) (both : A × B) : Type 0 where
+pub record Pair {A B : Type 0} (SaysOne : List ℕ → A → Type 0) (SaysOther : List ℕ → B → Type 0) (text : List ℕ)
+    (both : A × B) : Type 0 where
   pub word : List ℕ
   pub rest : List ℕ
   pub split : SplitsAt 32 text word rest
@@ -28,7 +30,8 @@ abbrev pub SaysNoFirst : {A : Type 0} → (List ℕ → A → Type 0) → List �
 SaysNoFirst {A} Says text = (word rest : List ℕ) (value : A) → SplitsAt 32 text word rest → ¬ Says word value
 
 -- The text is this word, a space, and a rest with this value.
-pub record After {A : Type 0} (name : List ℕ) (SaysRest : List ℕ → A → Type 0) (text : List ℕ) (value : A) : Type 0 where
+pub record After {A : Type 0} (name : List ℕ) (SaysRest : List ℕ → A → Type 0) (text : List ℕ)
+    (value : A) : Type 0 where
   pub rest : List ℕ
   pub split : SplitsAt 32 text name rest
   pub says : SaysRest rest value
@@ -47,7 +50,8 @@ IsNumber word = IsNumeral 10 (digits_in word)
 
 -- The number of a numeral.
 abbrev pub number_in : List ℕ → ℤ
-number_in word = if is_negative word then neg_ℤ (pos (digits_value 10 (digits_in word))) else pos (digits_value 10 (digits_in word))
+number_in word =
+    if is_negative word then neg_ℤ (pos (digits_value 10 (digits_in word))) else pos (digits_value 10 (digits_in word))
 
 -- The word is a numeral of this number.
 abbrev pub IsNumeralOf : List ℕ → ℤ → Type 0

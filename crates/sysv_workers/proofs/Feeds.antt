@@ -1,5 +1,6 @@
 -- How the list of items put grows, and what is read of it.
-use Rattle.std.proofs.Common.{◌≡◌, inl, inr, ℕ, zero, suc, ◌+◌, ◌≤◌, Bool, false, true, List, [], ◌∷◌, ◌++◌, length, map, replicate, refl, sym, ap, ◌∙◌, arith, add-one, length-append, append_assoc}
+use Rattle.std.proofs.Common.{◌≡◌, inl, inr, ℕ, zero, suc, ◌+◌, ◌≤◌, Bool, false, true, List, [], ◌∷◌, ◌++◌, length}
+use Rattle.std.proofs.Common.{map, replicate, refl, sym, ap, ◌∙◌, arith, add-one, length-append, append_assoc}
 use Rattle.std.proofs.lemmas.List.{append-nil, map-append}
 use mathlib.Core.Option.{some, some-ne-none}
 use lib.ListN.{get_elem?}
@@ -26,7 +27,8 @@ module _ {A : Type 0} where
   reads_longer list more (k ∷ ks) [] r = r
   reads_longer list more (k ∷ ks) (x ∷ xs) r = (at_longer list more k x r.0, reads_longer list more ks xs r.1)
 
-  pub reads_both : (list : List A) (ks js : List ℕ) (xs ys : List A) → Reads list ks xs → Reads list js ys → Reads list (ks ++ js) (xs ++ ys)
+  pub reads_both : (list : List A) (ks js : List ℕ) (xs ys : List A) → Reads list ks xs → Reads list js ys →
+      Reads list (ks ++ js) (xs ++ ys)
   reads_both list [] js [] ys r t = t
   reads_both list [] js (x ∷ xs) ys r t = absurd r
   reads_both list (k ∷ ks) js [] ys r t = absurd r
@@ -49,17 +51,20 @@ module _ {T : Type 0} where
   mark_at_end : (xs : List T) (n : ℕ) → (fed xs n ++ []) ++ End ∷ [] ≡ fed xs (n + 1)
   mark_at_end xs n =
       ap (λ l. l ++ End ∷ []) (append-nil (fed xs n))
-      ∙ (append_assoc (map Item xs) (replicate n End) (End ∷ []) ∙ ap (λ l. map Item xs ++ l) (replicate_push n End ∙ ap (λ k. replicate k End) (sym (add-one n))))
+      ∙ (append_assoc (map Item xs) (replicate n End) (End ∷ [])
+      ∙ ap (λ l. map Item xs ++ l) (replicate_push n End ∙ ap (λ k. replicate k End) (sym (add-one n))))
 
   -- A seat has seen no less afterwards.
-  pub grown_longer : (h h' : Holding (Feed T)) (more : List (Feed T)) → h'.seen ≡ h.seen ++ more → length h.seen ≤ length h'.seen
+  pub grown_longer : (h h' : Holding (Feed T)) (more : List (Feed T)) → h'.seen ≡ h.seen ++ more →
+      length h.seen ≤ length h'.seen
   grown_longer h h' more is = let long = ap length is ∙ length-append h.seen more in omega arith
 
   pub looks_longer : (h h' : Holding (Feed T)) → Looks h h' → length h.seen ≤ length h'.seen
   looks_longer h h' l = let long = ap length l.seen ∙ length-append h.seen l.more in omega arith
 
   -- One more item was put.
-  pub fed_item : (xs : List T) (x : T) (h h' : Holding (Feed T)) → HasFed xs 0 h → Puts (Item x) h h' → HasFed (xs ++ x ∷ []) 0 h'
+  pub fed_item : (xs : List T) (x : T) (h h' : Holding (Feed T)) → HasFed xs 0 h → Puts (Item x) h h' →
+      HasFed (xs ++ x ∷ []) 0 h'
   fed_item xs x h h' f p =
       let long = ap length p.seen ∙ length-append (h.seen ++ p.others) (Item x ∷ []) in
       let before = length-append h.seen p.others in
@@ -70,7 +75,9 @@ module _ {T : Type 0} where
         all = λ e.
             let none : p.others ≡ [] = nil_of p.others (omega arith) in
             let whole : h.seen ≡ fed xs 0 = f.all (omega arith) in
-            p.seen ∙ (ap (λ l. (h.seen ++ l) ++ Item x ∷ []) none ∙ (ap (λ l. (l ++ []) ++ Item x ∷ []) whole ∙ item_at_end xs x));
+            p.seen
+            ∙ (ap (λ l. (h.seen ++ l) ++ Item x ∷ []) none
+            ∙ (ap (λ l. (l ++ []) ++ Item x ∷ []) whole ∙ item_at_end xs x));
       }
 
   -- One more end mark was put.
@@ -84,11 +91,13 @@ module _ {T : Type 0} where
         all = λ e.
             let none : p.others ≡ [] = nil_of p.others (omega arith) in
             let whole : h.seen ≡ fed xs n = f.all (omega arith) in
-            p.seen ∙ (ap (λ l. (h.seen ++ l) ++ End ∷ []) none ∙ (ap (λ l. (l ++ []) ++ End ∷ []) whole ∙ mark_at_end xs n));
+            p.seen
+            ∙ (ap (λ l. (h.seen ++ l) ++ End ∷ []) none ∙ (ap (λ l. (l ++ []) ++ End ∷ []) whole ∙ mark_at_end xs n));
       }
 
   -- The seat has seen more.
-  pub fed_longer : (xs : List T) (n : ℕ) (h h' : Holding (Feed T)) (more : List (Feed T)) → h'.seen ≡ h.seen ++ more → HasFed xs n h → HasFed xs n h'
+  pub fed_longer : (xs : List T) (n : ℕ) (h h' : Holding (Feed T)) (more : List (Feed T)) → h'.seen ≡ h.seen ++ more →
+      HasFed xs n h → HasFed xs n h'
   fed_longer xs n h h' more is f =
       let long = ap length is ∙ length-append h.seen more in
       let most = f.most in
@@ -100,6 +109,8 @@ module _ {T : Type 0} where
       }
 
   -- If no mark was refused, there are as many as were to be put.
-  pub marked : (put : Bool) (n : ℕ) (h h' : Holding (Feed T)) → (put ≡ true → (given : List T) → HasFed given 0 h → HasFed given n h') → (put ≡ false → 2 ^ 62 ≤ length h'.seen) → IsMarked n h'
+  pub marked : (put : Bool) (n : ℕ) (h h' : Holding (Feed T)) →
+      (put ≡ true → (given : List T) → HasFed given 0 h → HasFed given n h') → (put ≡ false → 2 ^ 62 ≤ length h'.seen) →
+      IsMarked n h'
   marked true n h h' all worn = inl (all refl [] (record { most = omega arith; all = λ e. nil_of h.seen e }))
   marked false n h h' all worn = inr (worn refl)

@@ -1,5 +1,5 @@
 mod Feeds
 mod Works
-mod Crewing
-mod Dealing
-mod Ending
+mod RunningThreads
+mod AllPlacesRead
+mod EndedRun

@@ -26,19 +26,23 @@ Told items marked ended ran put marks Missed =
 module _ {W T S : Type 0} where
   -- The number of items run differs from the number of items of the source, or the number of items
   -- and end marks put differs from the number of the source's items and the end marks.
-  pub record Differs (runs : W → T → W → Type 0) (gives : S → Option T → S → Type 0) (before : List W) (source : S) (marks : ℕ) (after : List W) (source' : S) (seat : Holding (Feed T)) : Type 0 where
+  pub record Differs (runs : W → T → W → Type 0) (gives : S → Option T → S → Type 0) (before : List W) (source : S)
+      (marks : ℕ) (after : List W) (source' : S) (seat : Holding (Feed T)) : Type 0 where
     pub parts : List (Part W T)
     pub given : List T
     pub leads : Leads runs before parts after
     pub gave : Gave gives source given source'
-    pub differs : (length (flat_map (λ p. p.items) parts) ≢ length given) ⊎ (length seat.seen ≢ counted (length given + marks))
+    pub differs : (length (flat_map (λ p. p.items) parts) ≢ length given)
+        ⊎ (length seat.seen ≢ counted (length given + marks))
 
   -- The cause of a refused run. `Worn` is the cause only if 2^62 items and end marks were put into
   -- the buffer, and `Missed` only if the numbers differ. A run that had its buffer never fails with
   -- `BadCount` or `NoMemory`.
-  abbrev pub HasCause : (W → T → W → Type 0) → (S → Option T → S → Type 0) → List W → S → ℕ → WorkersFault → List W → S → Holding (Feed T) → Type 0
+  abbrev pub HasCause : (W → T → W → Type 0) → (S → Option T → S → Type 0) → List W → S → ℕ → WorkersFault → List W →
+      S → Holding (Feed T) → Type 0
   HasCause runs gives before source marks BadCount after source' seat = ⊥
   HasCause runs gives before source marks NoMemory after source' seat = ⊥
   HasCause runs gives before source marks Thread after source' seat = Unit {0}
   HasCause runs gives before source marks Worn after source' seat = 2 ^ 62 ≤ length seat.seen
-  HasCause runs gives before source marks Missed after source' seat = Differs runs gives before source marks after source' seat
+  HasCause runs gives before source marks Missed after source' seat =
+      Differs runs gives before source marks after source' seat

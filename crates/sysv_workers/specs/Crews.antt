@@ -21,8 +21,10 @@ module _ {W T J : Type 0} where
   -- The threads run this job on these states with this buffer. The thread that was started last has
   -- the first state.
   abbrev pub AreOn : J → Buffered → List W → List (PromisedHandle (Done W T) (Working W T J)) → Type 0
-  AreOn job buffer states handles = map assigned_to handles ≡ map (λ w. record { state = w; job = job; buffer = buffer }) (reverse states)
+  AreOn job buffer states handles =
+      map assigned_to handles ≡ map (λ w. record { state = w; job = job; buffer = buffer }) (reverse states)
 
-  -- A worker that began with this state leaves what it did.
-  abbrev pub HasDone : (W → T → W → Type 0) → (W → Type 0) → Buffered → W → Done W T → Type 0
-  HasDone runs fits buffer before done = Did runs fits buffer before done.ended (manually_drop_value done.state) done.seat done.ran
+-- A worker that began with this state leaves what it did.
+abbrev pub HasDone : {W T : Type 0} → (W → T → W → Type 0) → (W → Type 0) → Buffered → W → Done W T → Type 0
+HasDone runs fits buffer before done =
+    Did runs fits buffer before done.ended (manually_drop_value done.state) done.seat done.ran

@@ -11,7 +11,8 @@ use Rattle.sysv_workers.specs.Parts.{Part}
 module _ {W T : Type 0} where
   -- With its seat a worker has taken these items so far. The job's runs over them led from the
   -- first state to the second.
-  pub record Doing (runs : W → T → W → Type 0) (fits : W → Type 0) (buffer : Buffered) (before after : W) (seat : Holding (Feed T)) (ran : ℕ) : Type 0 where
+  pub record Doing (runs : W → T → W → Type 0) (fits : W → Type 0) (buffer : Buffered) (before after : W)
+      (seat : Holding (Feed T)) (ran : ℕ) : Type 0 where
     pub items : List T
     pub folds : FoldsTo runs before items after
     pub still : fits after
@@ -22,7 +23,8 @@ module _ {W T : Type 0} where
   -- With its seat a worker took these items, and then an end mark if it has ended. If it has not
   -- ended, it has seen that the buffer is worn out. The job's runs over the items led from the
   -- first state to the second.
-  pub record Did (runs : W → T → W → Type 0) (fits : W → Type 0) (buffer : Buffered) (before : W) (ended : Bool) (after : W) (seat : Holding (Feed T)) (ran : ℕ) : Type 0 where
+  pub record Did (runs : W → T → W → Type 0) (fits : W → Type 0) (buffer : Buffered) (before : W) (ended : Bool)
+      (after : W) (seat : Holding (Feed T)) (ran : ℕ) : Type 0 where
     pub items : List T
     pub folds : FoldsTo runs before items after
     pub still : fits after
@@ -33,7 +35,8 @@ module _ {W T : Type 0} where
 
   -- The workers with these parts have ended. Their seats are joined into the seat, and their states
   -- follow the other states.
-  pub record Gathered (runs : W → T → W → Type 0) (fits : W → Type 0) (others : List W) (parts : List (Part W T)) (seat : Holding (Feed T)) (states : List W) (ran : ℕ) (ended : Bool) : Type 0 where
+  pub record Gathered (runs : W → T → W → Type 0) (fits : W → Type 0) (others : List W) (parts : List (Part W T))
+      (seat : Holding (Feed T)) (states : List W) (ran : ℕ) (ended : Bool) : Type 0 where
     pub left : states ≡ others ++ map (λ p. p.after) parts
     pub folds : All (λ p. FoldsTo runs p.before p.items p.after) parts
     pub still : All fits states

@@ -13,7 +13,8 @@ pub record Part (W T : Type 0) : Type 0 where
 module _ {W T : Type 0} where
   -- The parts begin with the states `before` and leave the states `after`, both in order. Each part
   -- leaves a state to which the job's runs over its items lead.
-  pub record Leads (runs : W → T → W → Type 0) (before : List W) (parts : List (Part W T)) (after : List W) : Type 0 where
+  pub record Leads (runs : W → T → W → Type 0) (before : List W) (parts : List (Part W T))
+      (after : List W) : Type 0 where
     pub began : map (λ p. p.before) parts ≡ before
     pub left : map (λ p. p.after) parts ≡ after
     pub ran : All (λ p. FoldsTo runs p.before p.items p.after) parts

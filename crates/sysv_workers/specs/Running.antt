@@ -10,7 +10,8 @@ module _ {W T : Type 0} where
   -- The workers have run over all items of the source. Each worker has a list of items, and leaves
   -- a state to which the job's runs over that list lead. Together, the lists are the items that the
   -- source returned, each once.
-  pub record RunsAll {S : Type 0} (runs : W → T → W → Type 0) (gives : S → Option T → S → Type 0) (before : List W) (source : S) (after : List W) (source' : S) : Type 0 where
+  pub record RunsAll {S : Type 0} (runs : W → T → W → Type 0) (gives : S → Option T → S → Type 0) (before : List W)
+      (source : S) (after : List W) (source' : S) : Type 0 where
     pub parts : List (Part W T)
     pub given : List T
     pub leads : Leads runs before parts after
@@ -28,10 +29,12 @@ module _ {W T : Type 0} where
 
   -- What a run hands back that was given up since a thread could not be started. After `Missed` some
   -- worker has run over an item.
-  pub record GivesUp (runs : W → T → W → Type 0) (fits : W → Type 0) (before : List W) (why : WorkersFault) (after : List W) : Type 0 where
+  pub record GivesUp (runs : W → T → W → Type 0) (fits : W → Type 0) (before : List W) (why : WorkersFault)
+      (after : List W) : Type 0 where
     pub back : GivesBack runs before why after
     pub still : All fits after
-    pub missed : why ≡ Missed → (parts : List (Part W T)) × Leads runs before parts after × (1 ≤ length (flat_map (λ p. p.items) parts))
+    pub missed : why ≡ Missed →
+        (parts : List (Part W T)) × Leads runs before parts after × (1 ≤ length (flat_map (λ p. p.items) parts))
 
 -- What a refused run leaves of the source. After `BadCount`, `NoMemory` and `Thread` the source was
 -- not read. After `Worn` it has returned some items, and may have reported its end. After `Missed`
@@ -45,13 +48,15 @@ LeavesSource {T = T} gives source Missed source' = (given : List T) × Gave give
 
 module _ {W T S : Type 0} where
   -- The result of a run with an allowed number of states that was not refused.
-  pub record Ends (runs : W → T → W → Type 0) (fits : W → Type 0) (gives : S → Option T → S → Type 0) (before : List W) (source : S) (after : List W) (source' : S) : Type 0 where
+  pub record Ends (runs : W → T → W → Type 0) (fits : W → Type 0) (gives : S → Option T → S → Type 0) (before : List W)
+      (source : S) (after : List W) (source' : S) : Type 0 where
     pub all : RunsAll runs gives before source after source'
     pub still : All fits after
 
   -- The result of a run with an allowed number of states that was refused after the buffer was
   -- made.
-  pub record Fails (runs : W → T → W → Type 0) (fits : W → Type 0) (gives : S → Option T → S → Type 0) (before : List W) (source : S) (why : WorkersFault) (after : List W) (source' : S) : Type 0 where
+  pub record Fails (runs : W → T → W → Type 0) (fits : W → Type 0) (gives : S → Option T → S → Type 0) (before : List W)
+      (source : S) (why : WorkersFault) (after : List W) (source' : S) : Type 0 where
     pub back : GivesBack runs before why after
     pub still : All fits after
     pub asked : LeavesSource gives source why source'

@@ -33,7 +33,7 @@ pub(crate) struct Tally {
 }
 
 impl Tally {
-    // Returns the tally before any worker is joined.
+    /// Returns the tally before any worker is joined.
     pub(crate) fn new() -> Tally
         ensures { (result.ran ≡ 0) × (result.ended ≡ true) }
     {
@@ -44,9 +44,9 @@ impl Tally {
     }
 }
 
-// Starts a worker on `state`. If the thread cannot be started, one end mark is put for this worker
-// and one for each worker that was started, and this worker runs in the calling thread until it
-// takes a mark. The error is what that run left.
+/// Starts a worker on `state`. If the thread cannot be started, one end mark is put for this worker
+/// and one for each worker that was started, and this worker runs in the calling thread until it
+/// takes a mark. The error is what that run left.
 pub(crate) fn start<
     's,
     E,
@@ -98,8 +98,8 @@ pub(crate) fn start<
     }
 }
 
-// Starts a worker on each state, the last state first. If one cannot be started, returns what it
-// left after its run in the calling thread; the states before it stay in `states`.
+/// Starts a worker on each state, the last state first. If one cannot be started, returns what it
+/// left after its run in the calling thread; the states before it stay in `states`.
 pub(crate) fn start_all<
     's,
     E,
@@ -142,7 +142,7 @@ pub(crate) fn start_all<
     None
 }
 
-// Collects what one worker left: joins its seat, adds its count, and appends its state.
+/// Collects what one worker left: joins its seat, adds its count, and appends its state.
 pub(crate) fn collect<W, T: Drop>(
     buffer: &ManyBuffer<Feed<T>>,
     seat: &mut Seat<Feed<T>>,
@@ -173,7 +173,7 @@ pub(crate) fn collect<W, T: Drop>(
     tally.ended = tally.ended && ended;
 }
 
-// Waits for all workers, and collects what each left.
+/// Waits for all workers, and collects what each left.
 pub(crate) fn join_all<W, T: Drop, J: Job<W, T>, R: Threads>(
     rt: &R,
     buffer: &ManyBuffer<Feed<T>>,

@@ -16,8 +16,8 @@ pub(crate) enum Feed<T> {
     End,
 }
 
-// Puts the items of the source until it has no more, and returns their number. Returns `None` only
-// if the buffer is worn out.
+/// Puts the items of the source until it has no more, and returns their number. Returns `None` only
+/// if the buffer is worn out.
 pub(crate) fn put_all<T: Drop, S: Source<T>, R: Wait>(
     rt: &R,
     buffer: &ManyBuffer<Feed<T>>,
@@ -47,7 +47,7 @@ pub(crate) fn put_all<T: Drop, S: Source<T>, R: Wait>(
     unreachable!()
 }
 
-// Puts `count` end marks. Returns `false` only if the buffer is worn out.
+/// Puts `count` end marks. Returns `false` only if the buffer is worn out.
 pub(crate) fn put_marks<T: Drop, R: Wait>(
     rt: &R,
     buffer: &ManyBuffer<Feed<T>>,

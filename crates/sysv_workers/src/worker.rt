@@ -40,7 +40,7 @@ impl<W, T, J: Job<W, T>> Promise<Done<W, T>> for Working<W, T, J> {
         (manually_drop_value d.state) d.seat d.ran };
 }
 
-// Runs the job over the items that it takes, until it takes an end mark or the buffer is worn out.
+/// Runs the job over the items that it takes, until it takes an end mark or the buffer is worn out.
 pub(crate) fn work<W, T: Drop, J: Job<W, T>, R: Wait>(
     rt: &R,
     buffer: &ManyBuffer<Feed<T>>,
@@ -68,7 +68,7 @@ pub(crate) fn work<W, T: Drop, J: Job<W, T>, R: Wait>(
     unreachable!()
 }
 
-// Returns what a worker's thread leaves.
+/// Returns what a worker's thread leaves.
 fn left_by<W, T>(state: W, seat: Seat<Feed<T>>, ran: u64, ended: bool) -> Done<W, T>
     ensures { (manually_drop_value result.state ≡ state) × (result.seat ≡ seat) × (result.ran ≡ ran)
         × (result.ended ≡ ended) }

@@ -110,7 +110,7 @@ where
     run_at_most(MAX_CROWD, rt, alloc, states, source, job)
 }
 
-// Like `run_workers`, but with at most `most` states.
+/// Like `run_workers`, but with at most `most` states.
 fn run_at_most<W: Send, T: Drop + Send, S: Source<T>, J: Job<W, T> + Sync, R>(
     most: usize,
     rt: &R,
@@ -148,7 +148,7 @@ where
     run_scoped(rt, &buffer, job, source, &mut seat, states, handles)
 }
 
-// Runs everything in one scope of threads.
+/// Runs everything in one scope of threads.
 fn run_scoped<W: Send, T: Drop + Send, S: Source<T>, J: Job<W, T> + Sync, R>(
     rt: &R,
     buffer: &ManyBuffer<Feed<T>>,
@@ -213,12 +213,12 @@ where
     outcome
 }
 
-// Uses the reference once more. This use ties it to the parameter that lent it.
+/// Uses the reference once more. This use ties it to the parameter that lent it.
 fn given_back<S>(source: &mut S)
     ensures { source.new ≡ source.old }
 {}
 
-// Starts the workers, feeds them, and waits for them.
+/// Starts the workers, feeds them, and waits for them.
 fn run_in<
     's,
     E,
@@ -266,8 +266,8 @@ fn run_in<
     }
 }
 
-// Ends the workers that were started after another could not be started. That worker has run in the
-// calling thread, and `done` is what it left.
+/// Ends the workers that were started after another could not be started. That worker has run in
+/// the calling thread, and `done` is what it left.
 fn give_up<W, T: Drop, J: Job<W, T>, R: Threads>(
     rt: &R,
     buffer: &ManyBuffer<Feed<T>>,
@@ -298,8 +298,8 @@ fn give_up<W, T: Drop, J: Job<W, T>, R: Threads>(
     WorkersRefused { why, states }
 }
 
-// Returns what is wrong after all workers have ended, if anything is. `items` is the number of
-// items put, if all were put; `marked` is whether all end marks were put.
+/// Returns what is wrong after all workers have ended, if anything is. `items` is the number of
+/// items put, if all were put; `marked` is whether all end marks were put.
 fn fault(
     marks: u64,
     items: Option<u64>,

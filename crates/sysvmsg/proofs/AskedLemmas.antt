@@ -9,25 +9,31 @@ use Rattle.sysvmsg.specs.Tasks.{HasTask}
 use Rattle.sysvmsg.specs.Words.{IsRead}
 
 -- Without a task a client's command asks for nothing.
-pub no_client : (name : List ℕ) (words : List Row) → ((task : Task) → ¬ HasTask name words task) → (asked : Asked) → ¬ ClientAsks name words asked
+pub no_client : (name : List ℕ) (words : List Row) → ((task : Task) → ¬ HasTask name words task) → (asked : Asked) →
+    ¬ ClientAsks name words asked
 no_client name words none Script = λ h. h
 no_client name words none (Serve serving) = λ h. h
 no_client name words none (Client path command from_input) = λ h. none command.task h.2
 
-to_command : (name : List ℕ) (words : List Row) (asked : Asked) → ClientAsks name words asked → CommandAsks name words asked
+to_command : (name : List ℕ) (words : List Row) (asked : Asked) → ClientAsks name words asked →
+    CommandAsks name words asked
 to_command name words Script h = absurd h
 to_command name words (Serve serving) h = absurd h
 to_command name words (Client path command from_input) h = h
 
-to_client : (name : List ℕ) (words : List Row) → ¬ (name ≡ codes "script") → ¬ (name ≡ codes "serve") → (asked : Asked) → CommandAsks name words asked → ClientAsks name words asked
+to_client : (name : List ℕ) (words : List Row) → ¬ (name ≡ codes "script") → ¬ (name ≡ codes "serve") →
+    (asked : Asked) → CommandAsks name words asked → ClientAsks name words asked
 to_client name words not_script not_serve Script h = not_script h
 to_client name words not_script not_serve (Serve serving) h = not_serve h.0
 to_client name words not_script not_serve (Client path command from_input) h = h
 
 -- A command that is neither `script` nor `serve` asks for what a client's command asks for.
-pub as_command : {E : Type 0} (name : List ℕ) (words : List Row) (found : Option (List ℕ × List Row)) (r : Result Asked E) → found ≡ Some (name, words)
+pub as_command : {E : Type 0} (name : List ℕ) (words : List Row) (found : Option (List ℕ × List Row))
+    (r : Result Asked E) → found ≡ Some (name, words)
     → ¬ (name ≡ codes "script") → ¬ (name ≡ codes "serve") → IsRead r (ClientAsks name words) → IsRead r (AsksFor found)
 as_command name words found (Ok asked) is not_script not_serve h =
     subst (λ (o : Option (List ℕ × List Row)). AsksFor o asked) (sym is) (to_command name words asked h)
 as_command name words found (Err bad) is not_script not_serve none =
-    λ asked h. none asked (to_client name words not_script not_serve asked (subst (λ (o : Option (List ℕ × List Row)). AsksFor o asked) is h))
+    λ asked h.
+    none asked
+    (to_client name words not_script not_serve asked (subst (λ (o : Option (List ℕ × List Row)). AsksFor o asked) is h))

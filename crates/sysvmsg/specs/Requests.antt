@@ -13,7 +13,8 @@ abbrev pub ClientAsks : List ℕ → List Row → Asked → Type 0
 ClientAsks name words Script = ⊥
 ClientAsks name words (Serve serving) = ⊥
 ClientAsks name words (Client path command from_input) =
-    HasPath words path.now × StatesCred words command.cred × HasTask name words command.task × HasFlag words (codes "stdin") from_input
+    HasPath words path.now × StatesCred words command.cred × HasTask name words command.task
+    × HasFlag words (codes "stdin") from_input
 
 -- A command of this name with these words makes this request.
 abbrev pub CommandAsks : List ℕ → List Row → Asked → Type 0
@@ -29,7 +30,8 @@ AsksFor None asked = ⊥
 -- These words, on this command line, have matches that make this request. They are the matches that
 -- clap defines, if it defines any: it does so for a command line without groups of options.
 abbrev pub IsAskedBy : App → List (List ℕ) → Asked → Type 0
-IsAskedBy line words asked = (matches : ArgMatches) × HasMatchesOf line words matches × AsksFor (subcommand_rows_of matches) asked
+IsAskedBy line words asked =
+    (matches : ArgMatches) × HasMatchesOf line words matches × AsksFor (subcommand_rows_of matches) asked
 
 -- Some command, with some words, makes this request.
 abbrev pub IsMeant : Asked → Type 0

@@ -9,6 +9,8 @@ mod growths;
 #[cfg(test)]
 mod lines;
 #[cfg(test)]
+mod parts;
+#[cfg(test)]
 mod script;
 #[cfg(test)]
 mod stage;

@@ -1,30 +1,24 @@
 //! Lines of a script.
 use bitflags::Flags as _;
 use std::io::Write;
-use sysv_lines::{Head, Line, Operation, Request, Text, Told, line_of};
+use sysv_lines::{Head, Line, Operation, Text, line_of};
 use sysv_model::{Errno, Flags};
+use sysv_steps::{Call, Outcome};
 
 #[test]
 fn a_line_says_what_an_actor_starts(rt: HostRuntime) {
     let said = line_of(b"2 snd -1 9223372036854775807 NOWAIT+0600 =a b");
-    let Some(
-        Line::Start {
-            actor,
-            request,
-            goes,
-        },
-    ) = said
-    else {
+    let Some(Line::Start { actor, call, goes }) = said else {
         panic!(rt; "no start");
     };
     assert_eq!(rt; actor, 2);
     assert!(rt; goes);
-    let Request::Send {
+    let Call::Send {
         id,
         mtype,
         flags,
-        text,
-    } = request
+        body: text,
+    } = call
     else {
         panic!(rt; "no send");
     };
@@ -65,29 +59,29 @@ fn orders_are_understood(rt: HostRuntime) {
 #[test]
 fn each_call_is_understood(rt: HostRuntime) {
     let get = line_of(b"+1 get -4 CREAT+0600");
-    let Some(Line::Start { request, goes, .. }) = get else {
+    let Some(Line::Start { call, goes, .. }) = get else {
         panic!(rt; "no get");
     };
     assert!(rt; !goes);
-    assert!(rt; matches!(request, Request::Get { key: -4, .. }));
-    let Some(Line::Start { request, .. }) = line_of(b"1 set 64 5 6 0640 70000") else {
+    assert!(rt; matches!(call, Call::Get { key: -4, .. }));
+    let Some(Line::Start { call, .. }) = line_of(b"1 set 64 5 6 0640 70000") else {
         panic!(rt; "no set");
     };
-    let Request::Set { id, to } = request else {
+    let Call::Set { id, to } = call else {
         panic!(rt; "no set");
     };
     assert_eq!(rt;
         (id, to.uid, to.gid, to.mode, to.qbytes),
         (64, 5, 6, 416, 70000)
     );
-    let Some(Line::Start { request, .. }) = line_of(b"2 rm 7") else {
+    let Some(Line::Start { call, .. }) = line_of(b"2 rm 7") else {
         panic!(rt; "no removal");
     };
-    assert!(rt; matches!(request, Request::Remove { id: 7 }));
-    let Some(Line::Start { request, .. }) = line_of(b"2 stat 8") else {
+    assert!(rt; matches!(call, Call::Remove { id: 7 }));
+    let Some(Line::Start { call, .. }) = line_of(b"2 stat 8") else {
         panic!(rt; "no stat");
     };
-    assert!(rt; matches!(request, Request::Stat { id: 8 }));
+    assert!(rt; matches!(call, Call::Stat { id: 8 }));
     assert!(rt; line_of(b"1 set 0 1 1 1000 5").is_none());
     assert!(rt; line_of(b"1 rm 0 ").is_none());
 }
@@ -95,18 +89,21 @@ fn each_call_is_understood(rt: HostRuntime) {
 #[test]
 fn heads_are_printed(rt: HostRuntime) {
     let table = [
-        (Told::Zero, b"1 snd = 0".as_slice()),
+        (Outcome::Zero, b"1 snd = 0".as_slice()),
         (
-            Told::Got { len: 5, mtype: -7 },
+            Outcome::Got { mtype: -7, len: 5 },
             b"1 snd = 5 type -7 =".as_slice(),
         ),
-        (Told::Refused(Errno::EAGAIN), b"1 snd ! EAGAIN".as_slice()),
+        (
+            Outcome::Refused(Errno::EAGAIN),
+            b"1 snd ! EAGAIN".as_slice(),
+        ),
     ];
-    for (told, line) in table {
+    for (outcome, line) in table {
         let head = Head::Answers {
             actor: 1,
             operation: Operation::Send,
-            told,
+            outcome,
         };
         let Ok(mut printed) = Vec::with_capacity(rt.alloc(), 64) else {
             return;

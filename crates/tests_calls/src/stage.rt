@@ -5,7 +5,7 @@ use sysv_model::{NoMemory, Watched};
 use sysv_script::{Output, Stage};
 use tests_kit::mark;
 
-// Runs one line. Returns false if the line is bad.
+/// Runs one line. Returns false if the line is bad.
 fn run(
     stage: &mut Stage,
     alloc: Global,
@@ -18,8 +18,8 @@ fn run(
     }
 }
 
-// Creates the queue, sends a message and receives it, each in a line of its own. Returns true if
-// each line was understood.
+/// Creates the queue, sends a message and receives it, each in a line of its own. Returns true if
+/// each line was understood.
 fn send_and_receive(
     stage: &mut Stage,
     alloc: Global,

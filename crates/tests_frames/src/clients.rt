@@ -1,13 +1,13 @@
 //! Clients over bytes that were worked out by hand.
 mod growths;
 
+use crate::parts::assert_is;
 use std::alloc::Global;
 use std::io;
 use std::io::{ErrorKind, Read, Write};
 use std::process::Abort;
 use sysv_clients::{Command, Target, Task, id_of, key_of, run_client, type_of};
 use sysv_model::{BODY_ROOM, Cred};
-use tests_kit::assert_is;
 
 /// The number of bytes that a tape has space for.
 const TAPE_ROOM: usize = 9000;

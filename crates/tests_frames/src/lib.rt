@@ -8,6 +8,8 @@ mod examples;
 #[cfg(test)]
 mod model;
 #[cfg(test)]
+mod parts;
+#[cfg(test)]
 mod rules;
 #[cfg(test)]
 mod watched;

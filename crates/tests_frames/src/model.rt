@@ -1,6 +1,7 @@
 //! The words of all calls: limits, errors, flags, bodies and selectors.
 mod growths;
 
+use crate::parts::{assert_holds, open_body};
 use bitflags::Flags as Set;
 use std::alloc::Global;
 use std::process::Abort;
@@ -8,7 +9,6 @@ use sysv_model::{
     BLOCK_BYTES, BODY_ROOM, Errno, Flags, IPC_PRIVATE, MAX_ACTORS, MAX_BLOCKS, MAX_QBYTES,
     MESSAGE_BYTES, MIN_BLOCKS, QBYTES_AT_CREATION, QUEUE_MESSAGES, Selector, WORN,
 };
-use tests_kit::{assert_holds, open_body};
 
 #[test]
 fn figures(rt: HostRuntime) {

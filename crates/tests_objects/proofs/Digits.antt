@@ -6,7 +6,11 @@ use Rattle.sysv_rules.specs.Digits.{digits, one_digits}
 
 at_least_nine : (j : ℕ) → 256 < 2 ^ j → 9 ≤ j
 at_least_nine j h = elim (cases_lt j 9) [
-  | inl less ↦ let low : j ≤ 8 = omega arith in let most : 2 ^ j ≤ 2 ^ 8 = pow-le-pow_right {n = 2} (lit< tt) low in let is : 2 ^ 8 ≡ 256 = refl in absurd (omega arith)
+  | inl less ↦
+      let low : j ≤ 8 = omega arith in
+      let most : 2 ^ j ≤ 2 ^ 8 = pow-le-pow_right {n = 2} (lit< tt) low in
+      let is : 2 ^ 8 ≡ 256 = refl in
+      absurd (omega arith)
   | inr more ↦ more
 ]
 

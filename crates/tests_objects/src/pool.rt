@@ -5,12 +5,11 @@ ghost use Rattle.std.specs.Prelude.{◌≡◌, ◌≤◌, length};
 ghost use Rattle.sysv_model.specs.declared.limits.TheConstants.{MESSAGE_BYTES as most_bytes};
 ghost use Rattle.sysv_model.specs.Pool.{blocks_for};
 
-use crate::parts::give_back;
+use crate::parts::{assert_is, give_back, open_body, open_pool};
 use std::alloc::Global;
 use std::process::Abort;
 use sysv_model::Body;
 use sysv_pool::{Chain, Pool, PoolRefused};
-use tests_kit::{assert_is, open_body, open_pool};
 
 /// Returns why there is no pool with this number of blocks.
 fn refusal(alloc: Global, blocks: u32) -> Option<PoolRefused> {

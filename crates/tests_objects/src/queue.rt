@@ -5,14 +5,13 @@ mod control;
 mod indexed;
 mod no_growths;
 
-use crate::parts::give_back;
+use crate::parts::{assert_holds, give_back, open_body, open_pool};
 use bitflags::Flags as _;
 use std::alloc::Global;
 use std::process::Abort;
 use sysv_model::{Body, Cred, Errno, Flags, NoMemory, Perm, Row, Selector, SetTo, Stat};
 use sysv_pool::{Chain, Pool};
 use sysv_queue::{Delivery, Look, PlaceRefused, Probe, QueueSlot, TakeRefused, Tally, Unplaced};
-use tests_kit::{assert_holds, open_body, open_pool};
 
 const SENDER: Cred = Cred {
     uid: 1000,
@@ -631,6 +630,7 @@ fn a_probe_asks_what_the_mode_asks(rt: HostRuntime) {
 fn a_queue_shows_its_attributes(rt: HostRuntime) {
     let mut desk = open_desk(&rt, rt.alloc());
     assert_eq!(rt; desk.slot.row(), None);
+    assert_eq!(rt; desk.slot.qnum(), 0);
     assert_eq!(rt; desk.slot.stat(64, SENDER), Err(Errno::EINVAL));
     assert!(rt; desk.slot.install(64, 3, SENDER, 0o640, 50));
     assert_sends_as(&rt, &mut desk, 64, SENDER, 4, b"abc", Ok(0));
@@ -664,5 +664,6 @@ fn a_queue_shows_its_attributes(rt: HostRuntime) {
         qnum: 1,
     };
     assert_eq!(rt; desk.slot.row(), Some(row));
+    assert_eq!(rt; desk.slot.qnum(), 1);
     end_desk(&rt, desk, 1);
 }

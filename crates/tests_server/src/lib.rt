@@ -1,7 +1,12 @@
-//! Tests of a server on a real socket, with frames worked out by hand and with clients.
+//! Tests of sessions, and of a server on a real socket, with frames worked out by hand and with
+//! clients.
 #![tactic(auto)]
 
 #[cfg(test)]
 mod commands;
 #[cfg(test)]
+mod parts;
+#[cfg(test)]
 mod server;
+#[cfg(test)]
+mod session;

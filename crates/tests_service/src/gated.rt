@@ -8,7 +8,7 @@ use crate::asking::{
     Worn, begin, forget, install, look, place, probe, release, remove, reserve, row, set, settle,
     stat, take,
 };
-use crate::parts::{body_of, empty_body};
+use crate::parts::{assert_is, body_of, empty_body};
 use std::alloc::Global;
 use std::process::Abort;
 use std::sync::Wait;
@@ -16,10 +16,10 @@ use sysv_gate::{Awaited, Closing};
 use sysv_keys::Begun;
 use sysv_model::{Errno, IPC_PRIVATE, MESSAGE_BYTES, Selector, SetTo};
 use sysv_objects::Letter;
-use sysv_pool::Chain;
-use sysv_queue::{Look, Probe, Tally};
-use sysv_shared::{GatedPool, GatedSlot, Gates, GatesClosed, OpenRefused, Seats, SharedCount};
-use tests_kit::{USER, assert_is, creating};
+use sysv_pool::{Chain, Pool};
+use sysv_queue::{Look, Probe, QueueSlot, Tally};
+use sysv_shared::{Gates, GatesClosed, OpenRefused, Seats, SharedCount};
+use tests_kit::{USER, creating};
 
 const LIMIT: u64 = 1 << 62;
 
@@ -108,14 +108,14 @@ fn give_back<R: Wait + Abort>(rt: &R, gates: &Gates, seats: &mut Seats, chain: C
 }
 
 /// Frees a slot that was handed back.
-fn end_slot(slot: Option<GatedSlot>) {
+fn end_slot(slot: Option<QueueSlot>) {
     if let Some(slot) = slot {
-        slot.into_slot().end().end();
+        slot.end().end();
     }
 }
 
 /// Frees the slots that were handed back.
-fn end_slots(mut closings: Vec<Closing<GatedSlot>>) {
+fn end_slots(mut closings: Vec<Closing<QueueSlot>>) {
     while let Some(closing) = closings.pop() {
         let Closing {
             object,
@@ -129,9 +129,9 @@ fn end_slots(mut closings: Vec<Closing<GatedSlot>>) {
 }
 
 /// Frees a pool that was handed back.
-fn end_pool(pool: Option<GatedPool>) {
+fn end_pool(pool: Option<Pool>) {
     if let Some(pool) = pool {
-        pool.into_pool().end();
+        pool.end();
     }
 }
 

@@ -1,5 +1,5 @@
-//! Tests of the objects of a service behind their gates, of the service with one pass and with
-//! several threads, and of sessions.
+//! Tests of the objects of a service behind their gates, and of the service with one pass and with
+//! several threads.
 #![tactic(auto)]
 
 #[cfg(test)]
@@ -14,5 +14,3 @@ mod no_growths;
 mod parts;
 #[cfg(test)]
 mod service;
-#[cfg(test)]
-mod session;

@@ -16,7 +16,8 @@ use Rattle.sysv_objects.specs.StandsFor.{MakesTurn}
 
 -- Counts within a bound are within a higher bound.
 pub weaker : (m n : ℕ) (o : Objects) → m ≤ n → CountsUpTo m o → CountsUpTo n o
-weaker m n o up low = (λ number slot at. let l = low.0 number slot at in (omega (arith, l.0), omega (arith, l.1)), omega (arith, low.1))
+weaker m n o up low =
+    (λ number slot at. let l = low.0 number slot at in (omega (arith, l.0), omega (arith, l.1)), omega (arith, low.1))
 
 raises_one : (call : Call) → raises call ≤ 1
 raises_one (Install id key cred mode now) = omega arith
@@ -33,12 +34,16 @@ releases_one : (call : PoolCall) → pool_raises call ≤ 1
 releases_one (Reserve size) = omega arith
 releases_one (Release blocks) = omega arith
 
-rise : (n : ℕ) (old new : Objects) (deed : Deed) → MakesTurn old deed new → CountsUpTo n old → raises_by deed ≤ 1 → CountsUpTo (n + 1) new
+rise : (n : ℕ) (old new : Objects) (deed : Deed) → MakesTurn old deed new → CountsUpTo n old → raises_by deed ≤ 1 →
+    CountsUpTo (n + 1) new
 rise n old new deed turn low one = weaker (n + raises_by deed) (n + 1) new (omega (arith, one)) (turn.counts n low)
 
 -- No turn raises a count by more than one.
-pub rises : (n : ℕ) (old new : Objects) (call : ObjectCall) (reply : ObjectReply) → Takes MakesTurn old call reply new → CountsUpTo n old → CountsUpTo (n + 1) new
-rises n old new (asked.Slot call) (told.Slot reply) taken low = rise n old new _ taken.1 low (raises_one (slot_call call))
+pub rises : (n : ℕ) (old new : Objects) (call : ObjectCall) (reply : ObjectReply) → Takes MakesTurn old call reply new →
+    CountsUpTo n old → CountsUpTo (n + 1) new
+rises n old new (asked.Slot call) (told.Slot reply) taken low =
+    rise n old new _ taken.1 low (raises_one (slot_call call))
 rises n old new (asked.Registry call) (told.Registry reply) taken low = rise n old new _ taken.0 low (omega arith)
-rises n old new (asked.Pool call) (told.Pool reply) taken low = rise n old new _ taken.0 low (releases_one (pool_call call))
+rises n old new (asked.Pool call) (told.Pool reply) taken low =
+    rise n old new _ taken.0 low (releases_one (pool_call call))
 rises n old new call reply taken low = absurd taken

@@ -5,6 +5,8 @@
 #[cfg(test)]
 mod objects;
 #[cfg(test)]
+mod parts;
+#[cfg(test)]
 mod rows;
 #[cfg(test)]
 mod steps;

@@ -3,6 +3,7 @@
 ghost use Rattle.std.specs.Prelude.{◌≡◌};
 ghost use Rattle.sysv_model.specs.Pool.{blocks_for};
 
+use crate::parts::{assert_is, open_body, open_pool};
 use bitflags::Flags as _;
 use std::alloc::Global;
 use std::process::Abort;
@@ -14,7 +15,7 @@ use sysv_steps::{
     Afterwards, Ending, Getting, Phase, Receiving, Sending, State, Wait, begin_remove, begin_set,
     begin_stat, forgotten, given_back, removed, set_done, stat_told,
 };
-use tests_kit::{USER, assert_is, open_body, open_pool};
+use tests_kit::USER;
 
 /// Returns a send before its look, which has found the queue live before or not.
 fn sending(live_seen: bool) -> Sending {

@@ -6,6 +6,7 @@ ghost use Rattle.sysv_driver.specs.Kinds.{Gets, Receives, Removes, Sends, Sets};
 ghost use Rattle.sysv_objects.specs.Objects.{CountsUpTo};
 
 use crate::objects::{end, objects_at, turn};
+use crate::parts::{assert_holds, assert_is, open_body};
 use std::alloc::Global;
 use std::process::Abort;
 use sysv_driver::{Clock, get_step, receive_step, remove_step, send_step, set_step, stat_step};
@@ -14,7 +15,7 @@ use sysv_objects::{ObjectCall, ObjectReply, Objects, Turns};
 use sysv_pool::Chain;
 use sysv_queue::Tally;
 use sysv_steps::{Ending, Getting, Phase, Receiving, Sending, State};
-use tests_kit::{USER, assert_holds, assert_is, creating, open_body};
+use tests_kit::{USER, creating};
 
 pub(crate) const SEND: Sending = Sending {
     cred: USER,

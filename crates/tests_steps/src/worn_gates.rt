@@ -1,5 +1,6 @@
 //! The steps of calls at gates that are all worn out.
 
+use crate::parts::{assert_is, open_body, open_pool};
 use crate::steps::{RECEIVE, SEND, Still, TO};
 use std::process::Abort;
 use sysv_driver::{get_step, receive_step, remove_step, send_step, set_step, stat_step};
@@ -7,7 +8,7 @@ use sysv_model::{Errno, Flags};
 use sysv_objects::{ObjectCall, ObjectReply, Turns};
 use sysv_pool::Chain;
 use sysv_steps::{Afterwards, Ending, Getting, Phase, State};
-use tests_kit::{USER, assert_is, open_body, open_pool};
+use tests_kit::USER;
 
 const GET: Getting = Getting {
     cred: USER,

@@ -8,15 +8,14 @@ mod keeper;
 mod place;
 mod threads;
 
-use crate::parts::LIMIT;
+use crate::parts::{LIMIT, assert_is};
 use crate::sum::Sum;
 use std::alloc::Global;
 use std::test::Fail;
 use sysv_bank::{Bank, BankSeat};
 use sysv_gate::{Awaited, Closing, Count, OpenRefused, TryRefused};
-use tests_kit::assert_is;
 
-// Opens a bank of three sums, of 10, 20 and 30.
+/// Opens a bank of three sums, of 10, 20 and 30.
 fn opened(alloc: Global, first: u64) -> Option<(Bank<Sum>, BankSeat<Sum>)>
     ensures { IfSome result (λ o. (gates_of o.1.seats ≡ o.0) × (length o.0 ≡ 3)) }
 {
@@ -24,7 +23,7 @@ fn opened(alloc: Global, first: u64) -> Option<(Bank<Sum>, BankSeat<Sum>)>
     Bank::open(alloc, objects, first).ok()
 }
 
-// Returns the number of turns at all places.
+/// Returns the number of turns at all places.
 fn turns_of(closings: Vec<Closing<Sum>, Global>) -> u64 {
     closings
         .iter()

@@ -30,8 +30,8 @@ fn an_eventcount_counts_advances(rt: HostRuntime) -> Result<(), Fail> {
     Ok(())
 }
 
-// Advances with a seat that was split off. Returns the result, and what the other seat reads before
-// and after the two are joined.
+/// Advances with a seat that was split off. Returns the result, and what the other seat reads
+/// before and after the two are joined.
 fn advance_beside(count: &Eventcount, seat: &mut Seat) -> Option<(u64, u64, Awaited, u64)>
     requires { seat.old.counter ≡ count.now }
 {
@@ -62,7 +62,7 @@ fn draw_three(turns: &Sequencer, seat: &mut Seat) -> Option<[u64; 3]>
     Some([first, second, third])
 }
 
-// Draws with a seat that was split off, and again after that seat was joined.
+/// Draws with a seat that was split off, and again after that seat was joined.
 fn draw_beside(turns: &Sequencer, seat: &mut Seat) -> Option<[u64; 2]>
     requires { seat.old.counter ≡ turns.now }
 {
@@ -81,7 +81,7 @@ fn a_sequencer_draws_each_number_once(rt: HostRuntime) -> Result<(), Fail> {
     Ok(())
 }
 
-// This function has no handle for waiting, so none of these calls can take one of std's locks.
+/// This function has no handle for waiting, so none of these calls can take one of std's locks.
 fn step_without_waiting(
     count: &Eventcount,
     counting: &mut Seat,
@@ -106,7 +106,7 @@ fn one_lock_round_everything(rt: HostRuntime) -> Result<(), Fail> {
     Ok(())
 }
 
-// Splits the newest seat up to `most` times, and returns how often that was possible.
+/// Splits the newest seat up to `most` times, and returns how often that was possible.
 fn count_splits(count: &Eventcount, seat: Seat, most: u32) -> u32
     requires { seat.counter ≡ count.now }
 {
@@ -120,7 +120,7 @@ fn count_splits(count: &Eventcount, seat: Seat, most: u32) -> u32
     most
 }
 
-// Splits the seats of a sequencer in the same way.
+/// Splits the seats of a sequencer in the same way.
 fn count_ticket_splits(turns: &Sequencer, seat: Seat, most: u32) -> u32
     requires { seat.counter ≡ turns.now }
 {

@@ -3,11 +3,10 @@ ghost use Rattle.std.specs.Prelude.{◌≡◌, ℕ, ◌+◌, ◌%◌, ◌^◌, �
 
 mod threads;
 
-use crate::parts::{LIMIT, millis};
+use crate::parts::{LIMIT, assert_is, millis};
 use crate::sum::Sum;
 use std::test::Fail;
 use sysv_gate::{Awaited, Gate, Object, OpenRefused, Seat, TryRefused};
-use tests_kit::assert_is;
 
 fn opened(rt: &HostRuntime, first: u64) -> Option<(Gate<Sum>, Seat<Sum>)>
     ensures { IfSome result (λ o. o.1.gate ≡ o.0) }
@@ -117,7 +116,7 @@ impl Object for Drawer {
     }
 }
 
-// Spends a slip, and returns its number.
+/// Spends a slip, and returns its number.
 fn number_of(slip: Slip) -> u32 {
     let Slip { number } = slip;
     number
@@ -146,7 +145,7 @@ fn what_cannot_be_dropped_goes_through(rt: HostRuntime) {
     }
 }
 
-// Spends the slip that a drawer keeps. Returns its number, or 0 if there is no drawer.
+/// Spends the slip that a drawer keeps. Returns its number, or 0 if there is no drawer.
 fn number_in(drawer: Option<Drawer>) -> u32 {
     match drawer {
         Some(Drawer { kept }) => number_of(kept),

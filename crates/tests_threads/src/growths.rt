@@ -1,14 +1,14 @@
 //! Each call that allocates, with a growth of it refused: it then returns `NoMemory`, and its
 //! arguments are handed back unchanged.
 
-use crate::parts::LIMIT;
+use crate::parts::{LIMIT, assert_is};
 use crate::sum::Sum;
 use std::process::Abort;
 use sysv_bank::Bank;
 use sysv_buffer::{ManyBuffer, OneBuffer, OpenRefused as BufferRefused};
 use sysv_eventcount::{Eventcount, OpenRefused as CountRefused, Sequencer};
 use sysv_gate::{Gate, Object, OpenRefused};
-use tests_kit::{assert_is, mark};
+use tests_kit::mark;
 
 #[test]
 fn eventcount_open(rt: HostRuntime) {

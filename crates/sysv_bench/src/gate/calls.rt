@@ -83,7 +83,7 @@ pub(crate) fn act_at_gate<R: Threads + Wait + Clock + CpuClock + Sync>(
     }
 }
 
-// Returns a member for each task, fewer if memory runs out.
+/// Returns a member for each task, fewer if memory runs out.
 fn split_all(
     alloc: Global,
     gate: &Gate<Sum>,
@@ -150,7 +150,7 @@ fn call_often(rt: &impl Wait, gate: &Gate<Sum>, seat: &mut Seat<Sum>, raise: Rai
     }
 }
 
-// Spends some time, in each round a different one.
+/// Spends some time, in each round a different one.
 fn pause(talk: Talk, round: u64) {
     if talk.pauses {
         for _ in 0..round.wrapping_mul(977) % 4096 {

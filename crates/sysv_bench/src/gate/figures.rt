@@ -53,14 +53,14 @@ fn time_of_talk<R: Threads + Wait + Clock + CpuClock + Sync>(
     Some(done?.nanos)
 }
 
-// Returns the median of the times. A time that was not taken counts as 0.
+/// Returns the median of the times. A time that was not taken counts as 0.
 fn middle(mut times: [u64; REPEATS]) -> Option<u64> {
     times.sort_unstable();
     let time = times[REPEATS / 2];
     if time == 0 { None } else { Some(time) }
 }
 
-// Measures both in turn.
+/// Measures both in turn.
 fn times_of<R: Threads + Wait + Clock + CpuClock + Sync>(
     rt: &R,
     alloc: Global,
@@ -80,7 +80,7 @@ fn times_for(threads: usize) -> u64 {
     TIMES.saturating_mul(u64::try_from(threads).unwrap_or(1))
 }
 
-// Measures a gate beside the lock, with this number of threads.
+/// Measures a gate beside the lock, with this number of threads.
 fn show_beside<R: Threads + Wait + Clock + CpuClock + Print + Sync>(
     rt: &R,
     alloc: Global,
@@ -101,7 +101,7 @@ fn show_beside<R: Threads + Wait + Clock + CpuClock + Print + Sync>(
     show_ratio(rt, "beside the Mutex", how, gate, lock, "times its time")
 }
 
-// Measures threads at places of their own beside one thread.
+/// Measures threads at places of their own beside one thread.
 fn show_places<R: Threads + Wait + Clock + CpuClock + Print + Sync>(
     rt: &R,
     alloc: Global,

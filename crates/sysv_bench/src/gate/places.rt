@@ -33,7 +33,7 @@ pub(crate) fn time_at_places<R: Threads + Wait + Clock + CpuClock + Sync>(
     if all { nanos } else { None }
 }
 
-// Returns a seat for each thread, fewer if memory runs out.
+/// Returns a seat for each thread, fewer if memory runs out.
 fn split_all(
     alloc: Global,
     bank: &Bank<Sum>,

@@ -17,7 +17,7 @@ const KEY: i32 = 7;
 /// The flags of a call that makes a queue.
 pub(crate) const CREATING: Flags = Flags::IPC_CREAT;
 
-// Makes, settles and forgets the queue of a key.
+/// Makes, settles and forgets the queue of a key.
 fn come_and_go(registry: &mut Registry, key: i32) {
     if let Begun::Made { id } = registry.begin(key, CREATING) {
         registry.settle(id);

@@ -16,7 +16,7 @@ const MOST: i32 = 64;
 /// How often the two are measured in turn.
 const REPEATS: u32 = 3;
 
-// Gives each key a row. Returns whether each key has one.
+/// Gives each key a row. Returns whether each key has one.
 fn fill(registry: &mut Registry, keys: i32) -> bool {
     for key in 0..keys {
         let Begun::Made { id } = registry.begin(key.wrapping_mul(7919).wrapping_add(1), CREATING)
@@ -28,7 +28,7 @@ fn fill(registry: &mut Registry, keys: i32) -> bool {
     true
 }
 
-// Looks the keys up in turn. Returns `None` if one was not found.
+/// Looks the keys up in turn. Returns `None` if one was not found.
 fn look_up<R: Clock + CpuClock>(
     rt: &R,
     registry: &mut Registry,

@@ -1,3 +1,5 @@
+//! The count of the entries that selections read.
+
 ghost use Rattle.std.specs.Prelude.{◌≡◌, ℕ, ◌+◌, ◌<◌};
 
 use std::marker::Model;

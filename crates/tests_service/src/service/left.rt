@@ -4,7 +4,7 @@ ghost use Rattle.std.specs.Prelude.{ℕ};
 ghost use Rattle.sysv_shared.specs.Seats.{AreOf};
 
 use super::ask::waiting;
-use crate::parts::{CLOCK, body_of, closed, opened};
+use crate::parts::{CLOCK, assert_is, body_of, closed, opened};
 use std::alloc::Global;
 use std::process::Abort;
 use std::sync::Wait;
@@ -13,7 +13,7 @@ use std::sync::atomic::Ordering::SeqCst;
 use sysv_model::{Errno, Flags, SetTo};
 use sysv_queue::Tally;
 use sysv_service::{Caller, Pass, Service, Stays};
-use tests_kit::{USER, assert_is, creating};
+use tests_kit::{USER, creating};
 
 /// A caller that reports a number of times that it stays, and after that that it has left.
 #[derive(Drop)]
@@ -133,7 +133,7 @@ fn a_receive_is_left_and_the_message_goes_to_the_next(rt: HostRuntime) {
     assert_is(&rt, service.close(pass), closed(0, 128));
 }
 
-/// The caller is checked once for each second.
+// The caller is checked once for each second.
 #[test]
 fn a_receive_waits_while_its_caller_stays(rt: HostRuntime) {
     let (service, mut pass) = two_queues(&rt, rt.alloc());
@@ -162,7 +162,7 @@ fn a_send_that_was_left_sends_nothing_later(rt: HostRuntime) {
     assert_is(&rt, service.close(pass), closed(0, 128));
 }
 
-/// A send that waits for blocks holds none.
+// A send that waits for blocks holds none.
 #[test]
 fn a_send_that_waits_for_blocks_is_left(rt: HostRuntime) {
     let (service, mut pass) = opened(&rt, rt.alloc(), 128, 0);

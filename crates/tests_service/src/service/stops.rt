@@ -30,7 +30,7 @@ fn add_waiters<'a>(
     add(rt, parts, Part::Teases(Tease { id, looks, then }));
 }
 
-/// The stop begins after each of six receives has looked, so each of them has found its queue.
+// The stop begins after each of six receives has looked, so each of them has found its queue.
 #[test]
 fn a_stop_wakes_all_who_wait(rt: HostRuntime) {
     let alloc = rt.alloc();

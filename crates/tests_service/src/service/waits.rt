@@ -128,8 +128,8 @@ fn a_receive_waits_for_a_message(rt: HostRuntime) {
     check_each(&rt, rt.alloc(), before, waits, ends);
 }
 
-/// The send wakes the receive, which then takes nothing: the message is still queued at the end. If
-/// the send was made before the first look, the receive took the message, and the test tries again.
+// The send wakes the receive, which then takes nothing: the message is still queued at the end. If
+// the send was made before the first look, the receive took the message, and the test tries again.
 #[test]
 fn a_woken_receive_is_left(rt: HostRuntime) {
     let case = Case {
@@ -161,8 +161,8 @@ fn a_send_waits_for_blocks(rt: HostRuntime) {
     check_each(&rt, rt.alloc(), before, waits, ends);
 }
 
-/// The first get makes the queue, and its clock holds it before the install until the second get
-/// waits and the third call reports that.
+// The first get makes the queue, and its clock holds it before the install until the second get
+// waits and the third call reports that.
 #[test]
 fn a_get_waits_for_a_key_that_is_made(rt: HostRuntime) {
     let alloc = rt.alloc();
@@ -238,7 +238,7 @@ fn settled<R: Threads + Abort + Wait + Clock + Sync>(rt: &R, alloc: Global) -> u
     longest
 }
 
-/// The settle wakes one get, which wakes the next: none looks again only after a second.
+// The settle wakes one get, which wakes the next: none looks again only after a second.
 #[test]
 fn one_settle_wakes_all_gets_that_wait(rt: HostRuntime) {
     for _ in 0..WAKES {
@@ -283,7 +283,8 @@ fn stamped<R: Threads + Abort + Wait + Clock + Sync>(
     told_of(rt, &left.parts, 2).0
 }
 
-/// A call that waited is stamped with a time that its clock gave after the wait, and not with that of its start.
+// A call that waited is stamped with a time that its clock gave after the wait, and not with that
+// of its start.
 #[test]
 fn a_call_that_waited_is_stamped_after_its_wait(rt: HostRuntime) {
     let before = [

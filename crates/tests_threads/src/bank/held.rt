@@ -54,7 +54,7 @@ fn act_all<R: Threads + Wait + Sync>(rt: &R, members: &mut [Member]) {
     for_each_mut(rt, members, 2, &|_, member| member.act(rt));
 }
 
-// Returns whether both were answered correctly.
+/// Returns whether both were answered correctly.
 fn hold_and_call<'a, R: Threads + Wait + Sync>(
     rt: &R,
     alloc: Global,
@@ -85,8 +85,8 @@ fn hold_and_call<'a, R: Threads + Wait + Sync>(
     Some(members.iter().all(|member| member.well))
 }
 
-// Opens a bank whose first object holds its turns, and a watch for the thread that calls the
-// second.
+/// Opens a bank whose first object holds its turns, and a watch for the thread that calls the
+/// second.
 fn opened<'a>(
     alloc: Global,
     mut begun: Place<'a>,

@@ -13,7 +13,7 @@ use std::time::{Clock, Duration};
 use sysv_bank::{Bank, BankSeat};
 use sysv_gate::{Awaited, Count};
 
-// Waits for the first count at place 1.
+/// Waits for the first count at place 1.
 fn await_there(rt: &impl Wait, bank: &Bank<Sum>, mut seat: BankSeat<Sum>) -> Awaited
     requires seat { gates_of seat.seats ≡ bank.now }
     requires three { length bank.now ≡ 3 }
@@ -21,7 +21,8 @@ fn await_there(rt: &impl Wait, bank: &Bank<Sum>, mut seat: BankSeat<Sum>) -> Awa
     bank.await_count(rt, 1, &mut seat, Count::Arrived, 1)
 }
 
-// Raises the first count at place 1 by a try once the other thread sleeps, and then wakes all who sleep there.
+/// Raises the first count at place 1 by a try once the other thread sleeps, and then wakes all who
+/// sleep there.
 fn try_and_wake<R: Wait + Clock>(rt: &R, bank: &Bank<Sum>, mut seat: BankSeat<Sum>) -> Option<u64>
     requires seat { gates_of seat.seats ≡ bank.now }
     requires three { length bank.now ≡ 3 }

@@ -24,7 +24,7 @@ fn slept(told: Option<(u64, Duration)>) -> Option<u64> {
     }
 }
 
-// The number of the item that is taken, and the processor time of the take.
+/// The number of the item that is taken, and the processor time of the take.
 fn take<R: Wait + CpuClock>(
     rt: &R,
     buffer: &OneBuffer<Ware>,
@@ -68,7 +68,7 @@ fn a_try_put_wakes_the_consumer(rt: HostRuntime) {
     assert_eq!(rt; (slept(told), put), (Some(7), true));
 }
 
-// The number of the item that is put, and the processor time of the put.
+/// The number of the item that is put, and the processor time of the put.
 fn put<R: Wait + CpuClock>(
     rt: &R,
     buffer: &OneBuffer<Ware>,
@@ -115,7 +115,7 @@ fn a_try_take_wakes_the_producer(rt: HostRuntime) {
     assert_eq!(rt; (slept(told), taken), (Some(8), Some(7)));
 }
 
-// The same with the seats of a buffer of many.
+/// The same with the seats of a buffer of many.
 fn take_of_many<R: Wait + CpuClock>(
     rt: &R,
     buffer: &ManyBuffer<Ware>,

@@ -24,7 +24,7 @@ struct Pair {
     two: Seat,
 }
 
-// Draws some tickets with a seat, and returns them with the seat.
+/// Draws some tickets with a seat, and returns them with the seat.
 fn draw(alloc: Global, turns: &Sequencer, mut seat: Seat) -> Option<(Seat, Vec<u64>)>
     requires { seat.counter ≡ turns.now }
     ensures { IfSome result (λ d. HasDrawn seat d.0 d.1.items) }
@@ -37,7 +37,7 @@ fn draw(alloc: Global, turns: &Sequencer, mut seat: Seat) -> Option<(Seat, Vec<u
     Some((seat, drawn))
 }
 
-// Draws with two seats, each in a thread of its own, and joins the second into the first.
+/// Draws with two seats, each in a thread of its own, and joins the second into the first.
 fn draw_both<R: Threads + Sync>(
     rt: &R,
     alloc: Global,
@@ -67,7 +67,7 @@ fn draw_both<R: Threads + Sync>(
     Some((seat, drawn))
 }
 
-// Draws with four threads. The tickets are the numbers below the next ticket, each exactly once.
+/// Draws with four threads. The tickets are the numbers below the next ticket, each exactly once.
 fn draw_by_four<R: Threads + Sync>(rt: &R, alloc: Global) -> Option<(u64, Vec<u64>)>
     ensures { IfSome result (λ all. AreBetween 0 all.0 all.1.items) }
 {
@@ -141,7 +141,7 @@ impl Exclusion {
         Some(())
     }
 
-    // Splits off the seats of one more thread.
+    /// Splits off the seats of one more thread.
     fn split(&self, seats: &mut Pair) -> Option<Pair>
         requires drawing { seats.old.one.counter ≡ self.now.turns }
         requires serving { seats.old.two.counter ≡ self.now.served }
@@ -202,8 +202,8 @@ fn one_thread_at_a_time_is_in_the_section(rt: HostRuntime) -> Result<(), Fail> {
     Ok(())
 }
 
-// Advances `times` times, with one wake after each. It pauses before each advance, so that the
-// waiting thread has gone to sleep. Returns false if the count is worn out.
+/// Advances `times` times, with one wake after each. It pauses before each advance, so that the
+/// waiting thread has gone to sleep. Returns false if the count is worn out.
 fn advance_often<R: Wait + Clock>(rt: &R, count: &Eventcount, mut seat: Seat, times: u64) -> bool
     requires { seat.counter ≡ count.now }
 {
@@ -223,7 +223,7 @@ fn wait_for(rt: &impl Wait, count: &Eventcount, mut seat: Seat, goal: u64) -> u6
     count.await_at_least(rt, &mut seat, goal)
 }
 
-// Waits for two goals, each in a thread of its own.
+/// Waits for two goals, each in a thread of its own.
 fn wait_for_both<R: Threads + Wait + Sync>(rt: &R, count: &Eventcount, seats: Pair) -> (u64, u64)
     requires one { seats.one.counter ≡ count.now }
     requires two { seats.two.counter ≡ count.now }
@@ -236,7 +236,7 @@ fn wait_for_both<R: Threads + Wait + Sync>(rt: &R, count: &Eventcount, seats: Pa
     )
 }
 
-// Waits for the goal 3, while the other thread advances three times.
+/// Waits for the goal 3, while the other thread advances three times.
 fn wait_and_advance<R: Threads + Wait + Clock + Sync>(
     rt: &R,
     count: &Eventcount,
@@ -253,7 +253,7 @@ fn wait_and_advance<R: Threads + Wait + Clock + Sync>(
     )
 }
 
-// Splits off the seats of one more thread at two eventcounts.
+/// Splits off the seats of one more thread at two eventcounts.
 fn split_both(first: &Eventcount, second: &Eventcount, seats: &mut Pair) -> Option<Pair>
     requires one { seats.old.one.counter ≡ first.now }
     requires two { seats.old.two.counter ≡ second.now }
@@ -267,8 +267,8 @@ fn split_both(first: &Eventcount, second: &Eventcount, seats: &mut Pair) -> Opti
     Some(Pair { one, two })
 }
 
-// Returns the results of waits for 1, 2 and 3 while a fourth thread advances three times, and
-// whether it could advance.
+/// Returns the results of waits for 1, 2 and 3 while a fourth thread advances three times, and
+/// whether it could advance.
 fn wait_by_three<R: Threads + Wait + Clock + Sync>(
     rt: &R,
     count: &Eventcount,
@@ -302,7 +302,7 @@ fn three_waiters_are_woken_at_their_goals(rt: HostRuntime) -> Result<(), Fail> {
     Ok(())
 }
 
-// Waits for the first advance, and then sets the mark.
+/// Waits for the first advance, and then sets the mark.
 fn wait_and_mark(rt: &impl Wait, count: &Eventcount, mut seat: Seat, mark: &AtomicU64)
     requires { seat.counter ≡ count.now }
 {
@@ -310,8 +310,8 @@ fn wait_and_mark(rt: &impl Wait, count: &Eventcount, mut seat: Seat, mark: &Atom
     mark.store(1, SeqCst);
 }
 
-// Advances when the other thread has gone to sleep, and wakes that thread some time later. Returns
-// whether it still slept by then.
+/// Advances when the other thread has gone to sleep, and wakes that thread some time later. Returns
+/// whether it still slept by then.
 fn advance_and_look<R: Wait + Clock>(
     rt: &R,
     count: &Eventcount,
@@ -328,7 +328,7 @@ fn advance_and_look<R: Wait + Clock>(
     advanced && sleeps
 }
 
-// Returns whether a thread that waited for an advance slept on after it.
+/// Returns whether a thread that waited for an advance slept on after it.
 fn sleeps_on<R: Threads + Wait + Clock + Sync>(
     rt: &R,
     count: &Eventcount,
@@ -365,7 +365,7 @@ fn an_advance_wakes_no_thread(rt: HostRuntime) -> Result<(), Fail> {
 /// advanced.
 const TRIES: u64 = 100;
 
-// Advances ten times whenever that is requested, and wakes no thread.
+/// Advances ten times whenever that is requested, and wakes no thread.
 fn advance_when_asked(
     rt: &impl Wait,
     asked: &Eventcount,
@@ -396,8 +396,8 @@ fn advance_ten_times(count: &Eventcount, seat: &mut Seat) -> bool
     true
 }
 
-// Requests the advances, and then waits for the goal for a bounded number of looks. Returns whether
-// the count reached it.
+/// Requests the advances, and then waits for the goal for a bounded number of looks. Returns
+/// whether the count reached it.
 fn ask_and_see(
     rt: &impl Wait,
     asked: &Eventcount,
@@ -416,8 +416,8 @@ fn ask_and_see(
     count.await_turns(seat, goal, 10_000_000) == Awaited::Reached(goal)
 }
 
-// Requests the advances repeatedly, and returns how often the wait that followed saw the tenth
-// advance.
+/// Requests the advances repeatedly, and returns how often the wait that followed saw the tenth
+/// advance.
 fn see_ten_when_asking(
     rt: &impl Wait,
     asked: &Eventcount,
@@ -436,7 +436,7 @@ fn see_ten_when_asking(
     seen
 }
 
-// One thread requests the advances, and the other makes them.
+/// One thread requests the advances, and the other makes them.
 fn ask_and_advance<R: Threads + Wait + Sync>(
     rt: &R,
     asked: &Eventcount,
@@ -466,8 +466,8 @@ fn turns_see_what_another_thread_advances(rt: HostRuntime) -> Result<(), Fail> {
 /// The number of rounds of a ping-pong.
 const ROUNDS: u64 = 2000;
 
-// Plays all rounds: waits for one count, and advances the other. In every hundredth round it pauses
-// before, so that the other side has gone to sleep.
+/// Plays all rounds: waits for one count, and advances the other. In every hundredth round it
+/// pauses before, so that the other side has gone to sleep.
 fn play<R: Wait + Clock>(rt: &R, hear: &Eventcount, say: &Eventcount, mut seats: Pair) -> bool
     requires hearing { seats.one.counter ≡ hear.now }
     requires saying { seats.two.counter ≡ say.now }
@@ -489,7 +489,7 @@ fn pause_at(rt: &impl Clock, round: u64) {
     }
 }
 
-// Plays both sides.
+/// Plays both sides.
 fn play_both<R: Threads + Wait + Clock + Sync>(
     rt: &R,
     ping: &Eventcount,

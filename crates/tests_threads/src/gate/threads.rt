@@ -141,7 +141,7 @@ fn told_to_four<R: Threads + Wait + Clock + Sync>(
     members.map(|member| member.told)
 }
 
-// Returns the sum before the last call.
+/// Returns the sum before the last call.
 fn add_often(rt: &impl Wait, gate: &Gate<Sum>, seat: &mut Seat<Sum>) -> Option<u64>
     requires { seat.old.gate ≡ gate.now }
     ensures { seat.new.gate ≡ gate.now }
@@ -201,14 +201,14 @@ impl Object for Slow {
     }
 }
 
-// Takes a slow turn.
+/// Takes a slow turn.
 fn call_slowly(rt: &impl Wait, gate: &Gate<Slow>, mut seat: Seat<Slow>) -> bool
     requires { seat.gate ≡ gate.now }
 {
     gate.call(rt, &mut seat, 1).is_ok()
 }
 
-// Calls while the other turn lasts, and returns the processor time of the waiting thread.
+/// Calls while the other turn lasts, and returns the processor time of the waiting thread.
 fn call_after<R: Wait + Clock + CpuClock>(
     rt: &R,
     gate: &Gate<Slow>,
@@ -252,14 +252,14 @@ fn a_waiter_sleeps(rt: HostRuntime) -> Result<(), Fail> {
     Ok(())
 }
 
-// Spends some time, in each round a different one.
+/// Spends some time, in each round a different one.
 fn dither(round: u64) {
     for _ in 0..round.wrapping_mul(977) % 4096 {
         hint::spin_loop();
     }
 }
 
-// Returns the second count after the last round.
+/// Returns the second count after the last round.
 fn say_often(rt: &impl Wait, gate: &Gate<Sum>, seat: &mut Seat<Sum>) -> Option<u64>
     requires { seat.old.gate ≡ gate.now }
     ensures { seat.new.gate ≡ gate.now }
@@ -272,7 +272,7 @@ fn say_often(rt: &impl Wait, gate: &Gate<Sum>, seat: &mut Seat<Sum>) -> Option<u
     Some(gate.freed(seat))
 }
 
-// Returns the first count after the last round.
+/// Returns the first count after the last round.
 fn answer_often(rt: &impl Wait, gate: &Gate<Sum>, seat: &mut Seat<Sum>) -> Option<u64>
     requires { seat.old.gate ≡ gate.now }
     ensures { seat.new.gate ≡ gate.now }
@@ -285,8 +285,8 @@ fn answer_often(rt: &impl Wait, gate: &Gate<Sum>, seat: &mut Seat<Sum>) -> Optio
     Some(gate.arrived(seat))
 }
 
-// Returns the round in which the counts stood still for seconds, if they did. In that case it wakes
-// the sleeping threads, so that the rounds continue.
+/// Returns the round in which the counts stood still for seconds, if they did. In that case it
+/// wakes the sleeping threads, so that the rounds continue.
 fn watch<R: Wait + Clock>(rt: &R, gate: &Gate<Sum>, seat: &mut Seat<Sum>) -> Option<u64>
     requires { seat.old.gate ≡ gate.now }
     ensures { seat.new.gate ≡ gate.now }
@@ -325,7 +325,7 @@ fn no_wake_is_lost(rt: HostRuntime) -> Result<(), Fail> {
     Ok(())
 }
 
-// Returns the count that it reached, or none if the gate was worn out first.
+/// Returns the count that it reached, or none if the gate was worn out first.
 fn wait_in_vain(rt: &impl Wait, gate: &Gate<Sum>, seat: &mut Seat<Sum>) -> Option<u64>
     requires { seat.old.gate ≡ gate.now }
     ensures { seat.new.gate ≡ gate.now }
@@ -336,7 +336,7 @@ fn wait_in_vain(rt: &impl Wait, gate: &Gate<Sum>, seat: &mut Seat<Sum>) -> Optio
     }
 }
 
-// Returns the count that it reached, or `None` if the gate was worn out first.
+/// Returns the count that it reached, or `None` if the gate was worn out first.
 fn wait_for_freed(rt: &impl Wait, gate: &Gate<Sum>, seat: &mut Seat<Sum>, goal: u64) -> Option<u64>
     requires { seat.old.gate ≡ gate.now }
     ensures { seat.new.gate ≡ gate.now }
@@ -347,7 +347,7 @@ fn wait_for_freed(rt: &impl Wait, gate: &Gate<Sum>, seat: &mut Seat<Sum>, goal: 
     }
 }
 
-// Returns the sum before its turn.
+/// Returns the sum before its turn.
 fn wear_out<R: Wait + Clock>(
     rt: &R,
     gate: &Gate<Sum>,
@@ -387,7 +387,7 @@ fn a_sleeper_for_freed_is_told_that_the_gate_is_worn(rt: HostRuntime) -> Result<
     Ok(())
 }
 
-// Returns the first count, if it was raised.
+/// Returns the first count, if it was raised.
 fn nap_for_arrived(rt: &impl Wait, gate: &Gate<Sum>, seat: &mut Seat<Sum>) -> Option<u64>
     requires { seat.old.gate ≡ gate.now }
     ensures { seat.new.gate ≡ gate.now }
@@ -400,7 +400,7 @@ fn nap_for_arrived(rt: &impl Wait, gate: &Gate<Sum>, seat: &mut Seat<Sum>) -> Op
     None
 }
 
-// Returns the second count, if it was raised.
+/// Returns the second count, if it was raised.
 fn nap_for_freed(rt: &impl Wait, gate: &Gate<Sum>, seat: &mut Seat<Sum>) -> Option<u64>
     requires { seat.old.gate ≡ gate.now }
     ensures { seat.new.gate ≡ gate.now }
@@ -413,7 +413,7 @@ fn nap_for_freed(rt: &impl Wait, gate: &Gate<Sum>, seat: &mut Seat<Sum>) -> Opti
     None
 }
 
-// Returns the sum before its second turn.
+/// Returns the sum before its second turn.
 fn raise_both<R: Wait + Clock>(rt: &R, gate: &Gate<Sum>, seat: &mut Seat<Sum>) -> Option<u64>
     requires { seat.old.gate ≡ gate.now }
     ensures { seat.new.gate ≡ gate.now }
@@ -454,7 +454,7 @@ fn a_rise_wakes_all_who_wait_for_freed(rt: HostRuntime) -> Result<(), Fail> {
     Ok(())
 }
 
-// The time at which the wait ended.
+/// The time at which the wait ended.
 fn note_time<R: Wait + Clock>(rt: &R, gate: &Gate<Sum>, seat: &mut Seat<Sum>) -> Option<u64>
     requires { seat.old.gate ≡ gate.now }
     ensures { seat.new.gate ≡ gate.now }
@@ -463,7 +463,7 @@ fn note_time<R: Wait + Clock>(rt: &R, gate: &Gate<Sum>, seat: &mut Seat<Sum>) ->
     millis(rt)
 }
 
-// The time before it wakes the others.
+/// The time before it wakes the others.
 fn try_and_wake<R: Wait + Clock>(rt: &R, gate: &Gate<Sum>, seat: &mut Seat<Sum>) -> Option<u64>
     requires { seat.old.gate ≡ gate.now }
     ensures { seat.new.gate ≡ gate.now }
@@ -499,7 +499,7 @@ fn a_try_wakes_nobody_and_a_wake_wakes_all(rt: HostRuntime) -> Result<(), Fail> 
     Ok(())
 }
 
-// The time at which the wait saw the rise, or none if the rise came before the wait.
+/// The time at which the wait saw the rise, or none if the rise came before the wait.
 fn nap<R: Wait + Clock>(rt: &R, gate: &Gate<Sum>, seat: &mut Seat<Sum>) -> Option<u64>
     requires { seat.old.gate ≡ gate.now }
     ensures { seat.new.gate ≡ gate.now }
@@ -513,7 +513,7 @@ fn nap<R: Wait + Clock>(rt: &R, gate: &Gate<Sum>, seat: &mut Seat<Sum>) -> Optio
     }
 }
 
-// The time at which the wait saw the rise, or none if the rise came before the wait.
+/// The time at which the wait saw the rise, or none if the rise came before the wait.
 fn nap_and_pass_on<R: Wait + Clock>(rt: &R, gate: &Gate<Sum>, seat: &mut Seat<Sum>) -> Option<u64>
     requires { seat.old.gate ≡ gate.now }
     ensures { seat.new.gate ≡ gate.now }
@@ -523,7 +523,7 @@ fn nap_and_pass_on<R: Wait + Clock>(rt: &R, gate: &Gate<Sum>, seat: &mut Seat<Su
     seen
 }
 
-// The time before its turn.
+/// The time before its turn.
 fn raise_arrived<R: Wait + Clock>(rt: &R, gate: &Gate<Sum>, seat: &mut Seat<Sum>) -> Option<u64>
     requires { seat.old.gate ≡ gate.now }
     ensures { seat.new.gate ≡ gate.now }
@@ -534,7 +534,8 @@ fn raise_arrived<R: Wait + Clock>(rt: &R, gate: &Gate<Sum>, seat: &mut Seat<Sum>
     before
 }
 
-// Whether each of two waits was over promptly after what the waker does, or none if one came too late.
+/// Whether each of two waits was over promptly after what the waker does, or none if one came too
+/// late.
 fn prompt<R: Threads + Wait + Clock + Sync>(
     rt: &R,
     gate: &Gate<Sum>,
@@ -550,7 +551,7 @@ fn prompt<R: Threads + Wait + Clock + Sync>(
     Some((one? < late, two? < late))
 }
 
-// Whether a trial had one of these results.
+/// Whether a trial had one of these results.
 fn tried<R: Threads + Wait + Clock + Sync>(
     rt: &R,
     alloc: Global,
@@ -610,7 +611,7 @@ fn a_wake_ends_bounded_waits(rt: HostRuntime) {
     assert_eq!(rt; both, Some(true));
 }
 
-// Makes a slow turn by a try, and then wakes all.
+/// Makes a slow turn by a try, and then wakes all.
 fn try_slowly_and_wake<R: Wait + Clock>(rt: &R, gate: &Gate<Slow>, mut seat: Seat<Slow>) -> bool
     requires { seat.gate ≡ gate.now }
 {
@@ -620,7 +621,7 @@ fn try_slowly_and_wake<R: Wait + Clock>(rt: &R, gate: &Gate<Slow>, mut seat: Sea
     tried
 }
 
-// Calls while the other turn lasts.
+/// Calls while the other turn lasts.
 fn call_meanwhile<R: Wait + Clock>(rt: &R, gate: &Gate<Slow>, mut seat: Seat<Slow>) -> bool
     requires { seat.gate ≡ gate.now }
 {

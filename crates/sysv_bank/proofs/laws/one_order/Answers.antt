@@ -1,5 +1,5 @@
 use Rattle.std.proofs.Common.{sym, ◌∙◌}
-use Rattle.sysv_gate.proofs.Agreeing.{prefix_either}
+use Rattle.sysv_gate.proofs.LawsFromRule.{prefix_either}
 use Rattle.sysv_bank.proofs.laws.one_order.Goals as goal
 
 pub returns : goal.returns

@@ -1,5 +1,5 @@
 use Rattle.std.proofs.Common.{rules, refl}
-use Rattle.sysv_buffer.proofs.Opening.{starts}
+use Rattle.sysv_buffer.proofs.OpenedMeetsRule.{starts}
 use Rattle.sysv_buffer.proofs.board.lay.Goals as goal
 
 pub new-requires : goal.new-requires

@@ -1,4 +1,4 @@
-use Rattle.sysv_buffer.proofs.ManyAgreeing.{one_list}
+use Rattle.sysv_buffer.proofs.ManySeatsAgree.{one_list}
 use Rattle.sysv_buffer.proofs.laws.one_list_of_many.Goals as goal
 
 pub returns : goal.returns

@@ -1,5 +1,5 @@
 use Rattle.std.proofs.Common.{rules, refl}
-use Rattle.sysv_buffer.proofs.ManySeating.{many_starts}
+use Rattle.sysv_buffer.proofs.ManySplitKeepsRule.{many_starts}
 use Rattle.sysv_buffer.proofs.many_board.lay.Goals as goal
 
 pub new-requires : goal.new-requires

@@ -11,4 +11,6 @@ returns-in-Ok c =
     let whole = c.in-Ok.ensures.cases.0 in
     let few : length c.args.digits.now ≤ 8 = search rules in
     let plain : get_or c.args.digits.now 0 0 ≢ 43 = search rules in
-    rw c.ok.ensures.value (hex_read c.args.digits.now c.from_str_radix.result plain few (subst (λ ds. ParsesUnsigned 32 16 ds c.from_str_radix.result) whole c.from_str_radix.ensures.value))
+    rw c.ok.ensures.value
+    (hex_read c.args.digits.now c.from_str_radix.result plain few
+    (subst (λ ds. ParsesUnsigned 32 16 ds c.from_str_radix.result) whole c.from_str_radix.ensures.value))

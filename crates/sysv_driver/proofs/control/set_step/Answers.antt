@@ -16,7 +16,9 @@ returns-in-Set-clause-steps g c =
     let id : FitsSigned w32 c.in-Set.id = search rules in
     let step = c.set.ensures.steps kept in
     let on = simp to_z-of_z at step in
-    subst (λ p. StepsOn g.T.Turns.takes g.T.Turns.misses may (phase_of p []) c.args.at.now kept (state_of c.set.result []) c.set.new.at kept) (sym c.in-Set.is) on
+    subst (λ p.
+    StepsOn g.T.Turns.takes g.T.Turns.misses may (phase_of p []) c.args.at.now kept (state_of c.set.result [])
+    c.set.new.at kept) (sym c.in-Set.is) on
 
 pub returns-in-SetGiveback-clause-sets : goal.returns-in-SetGiveback-clause-sets
 returns-in-SetGiveback-clause-sets g c = given_zero Sets (Ok tt) _ tt (c.given_back.ensures [] (Ok tt))
@@ -25,7 +27,13 @@ pub returns-in-SetGiveback-clause-steps : goal.returns-in-SetGiveback-clause-ste
 returns-in-SetGiveback-clause-steps g c =
     let may = g.C.Clock.may c.args.clock.now in
     let none : c.empty.result.blocks ≡ 0 = ap (λ (x : Chained). x.blocks) c.empty.ensures in
-    let back = subst (λ n. GivesBack g.T.Turns.takes g.T.Turns.misses n c.args.at.now c.args.kept.now.blocks c.give_back.new.at c.give_back.new.kept.blocks) none c.give_back.ensures.released in
-    subst (λ p. StepsOn g.T.Turns.takes g.T.Turns.misses may (phase_of p []) c.args.at.now c.args.kept.now.blocks (state_of c.given_back.result []) c.give_back.new.at c.give_back.new.kept.blocks) (sym c.in-SetGiveback.is)
-    (given g.T.Turns.takes g.T.Turns.misses may AtSetGiveback c.args.at.now (state_of c.given_back.result []) c.give_back.new.at
-    0 c.args.kept.now.blocks c.give_back.new.kept.blocks refl refl (λ done. c.given_back.ensures [] done) (λ held. (let on = c.given_back.ensures [] (Ok tt) in cc, refl, refl, held)) back)
+    let back = subst (λ n.
+    GivesBack g.T.Turns.takes g.T.Turns.misses n c.args.at.now c.args.kept.now.blocks c.give_back.new.at
+    c.give_back.new.kept.blocks) none c.give_back.ensures.released in
+    subst (λ p.
+    StepsOn g.T.Turns.takes g.T.Turns.misses may (phase_of p []) c.args.at.now c.args.kept.now.blocks
+    (state_of c.given_back.result []) c.give_back.new.at c.give_back.new.kept.blocks) (sym c.in-SetGiveback.is)
+    (given g.T.Turns.takes g.T.Turns.misses may AtSetGiveback c.args.at.now (state_of c.given_back.result [])
+    c.give_back.new.at
+    0 c.args.kept.now.blocks c.give_back.new.kept.blocks refl refl (λ done. c.given_back.ensures [] done)
+    (λ held. (let on = c.given_back.ensures [] (Ok tt) in cc, refl, refl, held)) back)

@@ -11,6 +11,9 @@ returns-in-Err-clause-steps g c = λ kept.
     let id : FitsSigned w32 c.in-Stat.id = search rules in
     let missed = c.in-Err.ensures.missed.1 in
     let worn = simp to_z-of_z at missed in
-    subst (λ p. StepsOn g.T.Turns.takes g.T.Turns.misses no_moment (phase_of p []) c.args.at.now kept (state_of c.overflow.result []) c.make.new.at kept) (sym c.in-Stat.is)
-    (met g.T.Turns.takes g.T.Turns.misses no_moment (AtStat c.in-Stat.cred c.in-Stat.id) c.args.at.now (state_of c.overflow.result []) c.make.new.at 0 (λ e. absurd cc) c.make.new.at worn kept
+    subst (λ p.
+    StepsOn g.T.Turns.takes g.T.Turns.misses no_moment (phase_of p []) c.args.at.now kept
+    (state_of c.overflow.result []) c.make.new.at kept) (sym c.in-Stat.is)
+    (met g.T.Turns.takes g.T.Turns.misses no_moment (AtStat c.in-Stat.cred c.in-Stat.id) c.args.at.now
+    (state_of c.overflow.result []) c.make.new.at 0 (λ e. absurd cc) c.make.new.at worn kept
     (ap (λ s. state_of s []) c.overflow.ensures, refl, refl, omega arith))

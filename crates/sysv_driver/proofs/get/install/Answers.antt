@@ -24,5 +24,12 @@ returns-in-Err-clause-steps g c = λ kept.
         worn = worn;
         back = (ends, inl (done.0, refl, record { turn = done.1; held = omega arith }));
       })
-      | inr missed ↦ inr (record { deeds = []; now = c.now.result; moment = λ e. c.now.ensures; there = c.make.new.at; worn = worn; back = (ends, inr (refl, missed, refl)) })
+      | inr missed ↦ inr (record {
+        deeds = [];
+        now = c.now.result;
+        moment = λ e. c.now.ensures;
+        there = c.make.new.at;
+        worn = worn;
+        back = (ends, inr (refl, missed, refl));
+      })
     ]

@@ -16,5 +16,6 @@ returns-clause-steps g c =
     let asked = c.forget.ensures.asks in
     let asks = simp to_z-of_z at asked in
     let ends : state_of c.unmade.result [] ≡ when_worn (AtUnmake c.args.id) = let on = c.unmade.ensures [] true in cc in
-    forgot g.T.Turns.takes g.T.Turns.misses no_moment (AtUnmake c.args.id) c.args.at.now (state_of c.unmade.result []) c.forget.new.at
+    forgot g.T.Turns.takes g.T.Turns.misses no_moment (AtUnmake c.args.id) c.args.at.now (state_of c.unmade.result [])
+    c.forget.new.at
     c.args.id refl refl (λ done. c.unmade.ensures [] done) (λ kept. (ends, refl, refl, omega arith)) asks

@@ -16,7 +16,8 @@ use Rattle.sysv_driver.proofs.send.place.Goals as goal
 pub returns-in-Ok-Slot-Placed-Ok-clause-sends : goal.returns-in-Ok-Slot-Placed-Ok-clause-sends
 returns-in-Ok-Slot-Placed-Ok-clause-sends g c =
     let send = sending c.args.send c.args.text.now in
-    place_sends send c.args.chain.blocks (Accepted 0) _ c.requires.sends (c.placed.ensures send c.args.chain.blocks 0 c.args.text.now)
+    place_sends send c.args.chain.blocks (Accepted 0) _ c.requires.sends
+    (c.placed.ensures send c.args.chain.blocks 0 c.args.text.now)
 
 pub returns-in-Ok-Slot-Placed-Ok-clause-steps : goal.returns-in-Ok-Slot-Placed-Ok-clause-steps
 returns-in-Ok-Slot-Placed-Ok-clause-steps g c =
@@ -28,10 +29,19 @@ returns-in-Ok-Slot-Placed-Ok-clause-steps g c =
     let r = c.args.send in
     let id : FitsSigned w32 r.id = search rules in
     let mtype : FitsSigned w64 r.mtype = search rules in
-    let so = slot_told g.T.Turns.takes c.args.at.now c.make.new.at (called.Place (to_z w32 (of_z w32 r.id)) r.cred (to_z w64 (of_z w64 r.mtype)) c.of.result c.now.result) w.field-0 w.field-0-0 (reply.Placed (Ok number)) w.field-0-is (w.field-0-0-is ∙ ap reply.Placed w.field-0-0-0-is) w.ensures.ok in
+    let so = slot_told g.T.Turns.takes c.args.at.now c.make.new.at
+    (called.Place (to_z w32 (of_z w32 r.id)) r.cred (to_z w64 (of_z w64 r.mtype)) c.of.result c.now.result) w.field-0
+    w.field-0-0 (reply.Placed (Ok number)) w.field-0-is (w.field-0-0-is ∙ ap reply.Placed w.field-0-0-0-is)
+    w.ensures.ok in
     let made_so = so.1 in
     let told = simp to_z-of_z at made_so in
-    let made = subst (λ bytes. g.T.Turns.takes c.args.at.now (AtSlot (slot_of_id c.args.send.id) (Place c.args.send.id c.args.send.cred c.args.send.mtype bytes c.now.result) (Accepted number)) c.make.new.at) filled told in
-    stepped g.T.Turns.takes g.T.Turns.misses may (AtPlace send c.args.chain.blocks) c.args.at.now (state_of c.placed.result c.args.text.now) c.make.new.at
-    (AtSlot (slot_of_id c.args.send.id) (Place c.args.send.id c.args.send.cred c.args.send.mtype c.args.text.now c.now.result) (Accepted number)) c.now.result (λ e. c.now.ensures) refl
+    let made = subst (λ bytes.
+    g.T.Turns.takes c.args.at.now
+    (AtSlot (slot_of_id c.args.send.id) (Place c.args.send.id c.args.send.cred c.args.send.mtype bytes c.now.result)
+    (Accepted number)) c.make.new.at) filled told in
+    stepped g.T.Turns.takes g.T.Turns.misses may (AtPlace send c.args.chain.blocks) c.args.at.now
+    (state_of c.placed.result c.args.text.now) c.make.new.at
+    (AtSlot (slot_of_id c.args.send.id)
+    (Place c.args.send.id c.args.send.cred c.args.send.mtype c.args.text.now c.now.result) (Accepted number))
+    c.now.result (λ e. c.now.ensures) refl
     (c.placed.ensures send c.args.chain.blocks number c.args.text.now) made refl

@@ -1,4 +1,4 @@
-use Rattle.sysv_eventcount.proofs.Agreeing.{one_seat}
+use Rattle.sysv_eventcount.proofs.LawsFromRule.{one_seat}
 use Rattle.sysv_eventcount.proofs.laws.no_number_in_two_seats.Goals as goal
 
 pub returns : goal.returns

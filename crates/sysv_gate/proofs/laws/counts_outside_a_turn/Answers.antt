@@ -1,4 +1,4 @@
-use Rattle.sysv_gate.proofs.Agreeing.{counts_outside}
+use Rattle.sysv_gate.proofs.LawsFromRule.{counts_outside}
 use Rattle.sysv_gate.proofs.laws.counts_outside_a_turn.Goals as goal
 
 pub returns : goal.returns

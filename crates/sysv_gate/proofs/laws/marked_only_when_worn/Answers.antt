@@ -1,4 +1,4 @@
-use Rattle.sysv_gate.proofs.Agreeing.{marked_only}
+use Rattle.sysv_gate.proofs.LawsFromRule.{marked_only}
 use Rattle.sysv_gate.proofs.laws.marked_only_when_worn.Goals as goal
 
 pub returns : goal.returns

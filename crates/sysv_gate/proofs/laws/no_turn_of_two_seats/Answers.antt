@@ -1,4 +1,4 @@
-use Rattle.sysv_gate.proofs.Agreeing.{no_turn_of_two}
+use Rattle.sysv_gate.proofs.LawsFromRule.{no_turn_of_two}
 use Rattle.sysv_gate.proofs.laws.no_turn_of_two_seats.Goals as goal
 
 pub returns : goal.returns

@@ -1,4 +1,4 @@
-use Rattle.sysv_gate.proofs.Agreeing.{one_history}
+use Rattle.sysv_gate.proofs.LawsFromRule.{one_history}
 use Rattle.sysv_gate.proofs.laws.one_history.Goals as goal
 
 pub returns : goal.returns

@@ -5,7 +5,8 @@ use Rattle.sysv_gate.proofs.Laid.{one_door}
 use Rattle.sysv_gate.proofs.laying.doors_for.Goals as goal
 
 pub loop-place-init : goal.loop-place-init
-loop-place-init g c = record { doors = (ap length c.in-Ok.ensures.items, λ place o less at. absurd (omega arith)); room = search rules }
+loop-place-init g c =
+    record { doors = (ap length c.in-Ok.ensures.items, λ place o less at. absurd (omega arith)); room = search rules }
 
 pub loop-place-preserved : goal.loop-place-preserved
 loop-place-preserved g c =
@@ -14,7 +15,8 @@ loop-place-preserved g c =
     let long = c.args.objects.now.ok.0 in
     let at = at_index c.args.objects.now.items c.loop-place.place _ (omega arith) c.index.ensures in
     record {
-      doors = one_door c.args.objects.now.items c.loop-place.place _ _ _ _ c.loop-place.invariant.doors c.push_reserved.ensures.items at c.new.ensures.0 c.new.ensures.1;
+      doors = one_door c.args.objects.now.items c.loop-place.place _ _ _ _ c.loop-place.invariant.doors
+          c.push_reserved.ensures.items at c.new.ensures.0 c.new.ensures.1;
       room = search rules;
     }
 
@@ -24,4 +26,5 @@ returns g c =
     let counted = c.len-place-end.ensures in
     let long = c.args.objects.now.ok.0 in
     let most = c.loop-place.auto.place-end in
-    subst (λ n. AreDoorsUpTo c.args.objects.now.items n c.loop-place.doors.items) (omega arith) c.loop-place.invariant.doors
+    subst (λ n. AreDoorsUpTo c.args.objects.now.items n c.loop-place.doors.items) (omega arith)
+    c.loop-place.invariant.doors

@@ -19,9 +19,11 @@ object_out-requires g c = emptying_has _ _ _ _ _ c.loop-spot.invariant.emptying 
 pub loop-spot-preserved : goal.loop-spot-preserved
 loop-spot-preserved g c =
     record {
-      emptying = emptying_goes _ _ _ _ _ _ (record { object = c.object_out.result; last = None }) c.loop-spot.invariant.emptying c.in-Some.ensures.items c.object_out.ensures c.push_reserved.ensures.items;
+      emptying = emptying_goes _ _ _ _ _ _ (record { object = c.object_out.result; last = None })
+          c.loop-spot.invariant.emptying c.in-Some.ensures.items c.object_out.ensures c.push_reserved.ensures.items;
       room = search rules;
     }
 
 pub returns : goal.returns
-returns g c = record { back = emptying_ends _ _ _ c.loop-spot.invariant.emptying (search rules) ∙ ap all_put (search rules) }
+returns g c =
+    record { back = emptying_ends _ _ _ c.loop-spot.invariant.emptying (search rules) ∙ ap all_put (search rules) }

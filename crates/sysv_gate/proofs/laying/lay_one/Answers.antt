@@ -1,7 +1,7 @@
 use Rattle.std.proofs.Common.{ap, refl, ◌∙◌, ◌*◌, [], length, arith}
 use lib.ListN.{get_elem?}
 use Rattle.sysv_gate.specs.Halls.{outset}
-use Rattle.sysv_gate.proofs.Opening.{pushed, popped}
+use Rattle.sysv_gate.proofs.OpenedMeetsRule.{pushed, popped}
 use Rattle.sysv_gate.proofs.laying.lay_one.Goals as goal
 
 pub returns-in-Some-clause-ok : goal.returns-in-Some-clause-ok
@@ -11,7 +11,8 @@ returns-in-Some-clause-ok g c =
     let os = ap (λ v. v.items) c.of.ensures ∙ items in
     let doors = c.in-Some.ensures.doors.0 in
     let one = ap length items in
-    let door = popped _ _ _ _ c.in-Some-pop.ensures.items (doors.0 ∙ one) (doors.1 0 c.args.object (omega arith) (ap (λ l. get_elem? l 0) items)) in (
+    let door = popped _ _ _ _ c.in-Some-pop.ensures.items (doors.0 ∙ one)
+    (doors.1 0 c.args.object (omega arith) (ap (λ l. get_elem? l 0) items)) in (
       record {
         openings = ap (λ k. k.openings.value.items) new.key ∙ os;
         first = ap (λ k. k.first) new.key;

@@ -1,4 +1,4 @@
-use Rattle.sysv_gate.proofs.Announcing.{rises_by}
+use Rattle.sysv_gate.proofs.CountsStayAnnounced.{rises_by}
 use Rattle.sysv_gate.proofs.turns.apply.Goals as goal
 
 pub returns : goal.returns
@@ -8,5 +8,6 @@ returns g c = record {
   beside = c.tell.ensures;
   asked = c.of-asked.ensures;
   answered = c.of.ensures;
-  rises = rises_by _ _ c.counts-before.result c.counts-after.result c.counts-before.ensures.0 c.counts-before.ensures.1 c.counts-after.ensures.0 c.counts-after.ensures.1 c.apply-reply.ensures.counts;
+  rises = rises_by _ _ c.counts-before.result c.counts-after.result c.counts-before.ensures.0 c.counts-before.ensures.1
+      c.counts-after.ensures.0 c.counts-after.ensures.1 c.apply-reply.ensures.counts;
 }

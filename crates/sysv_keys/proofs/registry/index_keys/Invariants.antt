@@ -5,4 +5,5 @@ use Rattle.sysv_keys.proofs.registry.index_keys.Given as goal
 
 -- The index has the rows of the places so far.
 abbrev pub invariant-loop-slot : goal.invariant-loop-slot
-invariant-loop-slot l = IsFilled l.places (λ key. get int_eq l.by_key key) (index_map_len l.by_key) (spare l.by_key) l.slot
+invariant-loop-slot l =
+    IsFilled l.places (λ key. get int_eq l.by_key key) (index_map_len l.by_key) (spare l.by_key) l.slot

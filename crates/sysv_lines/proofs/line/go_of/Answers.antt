@@ -1,4 +1,4 @@
-use Rattle.sysv_lines.proofs.Naming.{no_go}
+use Rattle.sysv_lines.proofs.CallNames.{no_go}
 use Rattle.sysv_lines.proofs.line.go_of.Goals as goal
 
 pub returns-in_err-actor-clause-says : goal.returns-in_err-actor-clause-says

@@ -1,5 +1,5 @@
 use Rattle.std.proofs.Common.{◌≡◌, ◌≢◌, ◌≤◌, length, get_or, rules}
-use Rattle.sysv_lines.proofs.Naming.{begins}
+use Rattle.sysv_lines.proofs.CallNames.{begins}
 use Rattle.sysv_lines.proofs.LineKinds.{nothing_behind_plus, line_in_words}
 use Rattle.sysv_lines.proofs.line.line_of.Goals as goal
 

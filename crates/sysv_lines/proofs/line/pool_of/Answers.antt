@@ -1,4 +1,4 @@
-use Rattle.sysv_lines.proofs.Naming.{no_pool}
+use Rattle.sysv_lines.proofs.CallNames.{no_pool}
 use Rattle.sysv_lines.proofs.line.pool_of.Goals as goal
 
 pub returns-in_err-blocks-clause-says : goal.returns-in_err-blocks-clause-says

@@ -9,4 +9,8 @@ loop-at-preserved g c =
     let entry = c.probe-entry.result in
     let fits : FitsSigned w64 entry.mtype = search rules in
     let same = sym (to_z-of_z w64 entry.mtype fits) ∙ ap (to_z w64) c.if-entry-refused.false in
-    record { none = none_before_next c.args.by_number.now.entries.items _ c.loop-at.at entry i.none c.probe-entry.ensures.read same; read = omega arith }
+    record {
+      none = none_before_next c.args.by_number.now.entries.items _ c.loop-at.at entry i.none c.probe-entry.ensures.read
+          same;
+      read = omega arith;
+    }

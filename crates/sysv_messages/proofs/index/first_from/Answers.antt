@@ -2,7 +2,7 @@ use Rattle.std.proofs.Common.{◌≡◌, ℕ, inl, inr, ◌+◌, ◌-◌, ◌/�
 use Rattle.std.proofs.lemmas.Int.{ints}
 use Rattle.std.proofs.lemmas.Bool.{cases_lt}
 use Rattle.sysv_rules.specs.Digits.{digits, digits-is}
-use Rattle.sysv_messages.proofs.Halving.{below_from, above_from, halved}
+use Rattle.sysv_messages.proofs.SortedEntries.{below_from, above_from, halved}
 use Rattle.sysv_messages.proofs.index.first_from.Goals as goal
 
 pub loop-low-init : goal.loop-low-init
@@ -11,7 +11,11 @@ loop-low-init g c = record {
   within = omega arith;
   below = λ k d low high. absurd (omega arith);
   above = λ k d low high. absurd (omega arith);
-  few = (digits (length c.args.by_type.now.entries.items), omega (arith, (digits-is (length c.args.by_type.now.entries.items)).0), omega arith);
+  few = (
+    digits (length c.args.by_type.now.entries.items),
+    omega (arith, (digits-is (length c.args.by_type.now.entries.items)).0),
+    omega arith,
+  );
   risen = omega arith;
   some = λ none. omega arith;
 }
@@ -54,8 +58,11 @@ loop-low-preserved g c =
       some = λ none. absurd (omega arith);
     }
 
-some_read : (before now low high count : ℕ) → before ≤ now → (now ≡ before → high - low ≡ count) → high ≤ low → 0 < count → before < now
-some_read before now low high count risen some over more = elim (cases_lt before now) [ inl h ↦ h | inr h ↦ let e = some (omega arith) in absurd (omega arith) ]
+some_read : (before now low high count : ℕ) → before ≤ now → (now ≡ before → high - low ≡ count) → high ≤ low →
+    0 < count → before < now
+some_read before now low high count risen some over more =
+    elim (cases_lt before now) [ inl h ↦ h | inr h ↦ let e = some (omega arith) in absurd (omega arith) ]
 
 pub returns-clause-some : goal.returns-clause-some
-returns-clause-some g c = λ more. some_read _ _ _ _ _ c.loop-low.invariant.risen c.loop-low.invariant.some c.loop-low-test.false more
+returns-clause-some g c = λ more.
+    some_read _ _ _ _ _ c.loop-low.invariant.risen c.loop-low.invariant.some c.loop-low-test.false more

@@ -12,7 +12,8 @@ invariant-loop-low g l = record {
   within : l.high ≤ length l.by_type.entries.items;
   below : AllWithin (λ (e : Entry). e.mtype <ℤ l.mtype) l.by_type.entries.items 0 l.low;
   above : AllWithin (λ (e : Entry). l.mtype ≤ℤ e.mtype) l.by_type.entries.items l.high (length l.by_type.entries.items);
-  few : (left : ℕ) × (l.high - l.low < 2 ^ left) × (l.steps + left ≡ l.initial.steps + digits (length l.by_type.entries.items));
+  few : (left : ℕ) × (l.high - l.low < 2 ^ left)
+      × (l.steps + left ≡ l.initial.steps + digits (length l.by_type.entries.items));
   risen : l.initial.steps ≤ l.steps;
   some : l.steps ≡ l.initial.steps → l.high - l.low ≡ length l.by_type.entries.items;
 }

@@ -2,7 +2,7 @@ use Rattle.std.proofs.Common.{◌<ℤ◌, ◌≤ℤ◌, length, ap, subst, w64, 
 use Rattle.std.specs.List.{AllWithin}
 use Rattle.std.proofs.lemmas.Int.{to_z-of_z}
 use Rattle.sysv_messages.specs.declared.entry.Entry.{Entry}
-use Rattle.sysv_messages.proofs.Halving.{none_of_type}
+use Rattle.sysv_messages.proofs.SortedEntries.{none_of_type}
 use Rattle.sysv_messages.proofs.index.first_of.Goals as goal
 
 pub returns-else-found-mtype-clause-found : goal.returns-else-found-mtype-clause-found

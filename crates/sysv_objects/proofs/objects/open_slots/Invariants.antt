@@ -5,4 +5,8 @@ use Rattle.sysv_queue.specs.StandsFor.{StandsFor}
 use Rattle.sysv_objects.proofs.objects.open_slots.Given as goal
 
 abbrev pub invariant-loop : goal.invariant-loop
-invariant-loop l = record { many : vec_len l.slots ≡ l.counter; room : SLOTS ≤ vec_capacity l.slots; vacant : All (StandsFor []) l.slots.items }
+invariant-loop l = record {
+  many : vec_len l.slots ≡ l.counter;
+  room : SLOTS ≤ vec_capacity l.slots;
+  vacant : All (StandsFor []) l.slots.items;
+}

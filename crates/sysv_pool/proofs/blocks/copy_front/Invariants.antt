@@ -8,5 +8,6 @@ abbrev pub invariant-loop-link : goal.invariant-loop-link
 invariant-loop-link l = record {
   there : l.left ≤ length (concat (contents_of l.link));
   room : length l.out + l.left ≡ length l.initial.out + l.initial.left;
-  text : l.out ++ take l.left (concat (contents_of l.link)) ≡ l.initial.out ++ take l.initial.left (concat (contents_of l.initial.link));
+  text : l.out ++ take l.left (concat (contents_of l.link))
+      ≡ l.initial.out ++ take l.initial.left (concat (contents_of l.initial.link));
 }

@@ -20,7 +20,8 @@ returns-in-Err-clause-read_last g c = λ reads.
 pub returns-in-Err-clause-at_once : goal.returns-in-Err-clause-at_once
 returns-in-Err-clause-at_once g c = λ len first.
     let none : HasNoEnd c.loop-found.input = search rules in
-    absurd (first_line_ends len c.loop-found.input (subst (IsFirstLine len) (sym (c.loop-found.invariant.at_once len first).0) first) none)
+    absurd (first_line_ends len c.loop-found.input
+    (subst (IsFirstLine len) (sym (c.loop-found.invariant.at_once len first).0) first) none)
 
 pub returns-in-Some-clause-at_once : goal.returns-in-Some-clause-at_once
 returns-in-Some-clause-at_once g c = c.loop-found.invariant.at_once
@@ -28,7 +29,8 @@ returns-in-Some-clause-at_once g c = c.loop-found.invariant.at_once
 pub returns-in-Ok-eq0-clause-at_once : goal.returns-in-Ok-eq0-clause-at_once
 returns-in-Ok-eq0-clause-at_once g c = λ len first.
     let none : HasNoEnd c.loop-found.input = search rules in
-    absurd (first_line_ends len c.loop-found.input (subst (IsFirstLine len) (sym (c.loop-found.invariant.at_once len first).0) first) none)
+    absurd (first_line_ends len c.loop-found.input
+    (subst (IsFirstLine len) (sym (c.loop-found.invariant.at_once len first).0) first) none)
 
 pub returns-in-Ok-eq0-clause-text : goal.returns-in-Ok-eq0-clause-text
 returns-in-Ok-eq0-clause-text g c =
@@ -45,13 +47,17 @@ loop-found-preserved g c =
     let none : HasNoEnd old = search rules in
     let taken = c.in-Ok.ensures.text in
     let front : take (length c.waiting-seen.result.now) c.read_on.new.input ≡ old =
-    ap (λ n. take n c.read_on.new.input) (ap length same) ∙ ap (take (length old)) taken.1 ∙ take-append_seam old taken.0 in
+    ap (λ n. take n c.read_on.new.input) (ap length same) ∙ ap (take (length old)) taken.1
+    ∙ take-append_seam old taken.0 in
     record {
       within = omega (arith, ap length same, c.in-Ok.ensures.count);
       before = subst HasNoEnd (sym front) none;
-      at_once = λ len first. absurd (first_line_ends len old (subst (IsFirstLine len) (sym (c.loop-found.invariant.at_once len first).0) first) none);
+      at_once = λ len first.
+          absurd (first_line_ends len old
+          (subst (IsFirstLine len) (sym (c.loop-found.invariant.at_once len first).0) first) none);
       text = TakesIn-trans _ _ _ _ _ _ c.loop-found.invariant.text taken;
-      answers = HandsOn-all _ _ _ _ _ _ c.loop-found.invariant.answers c.in-Ok.ensures.answers c.in-Ok.ensures.none_left;
+      answers =
+          HandsOn-all _ _ _ _ _ _ c.loop-found.invariant.answers c.in-Ok.ensures.answers c.in-Ok.ensures.none_left;
       same_reader = c.in-Ok.ensures.reader.same ∙ c.loop-found.invariant.same_reader;
       same_writer = c.in-Ok.ensures.writer.same ∙ c.loop-found.invariant.same_writer;
       reader_failed = c.in-Ok.ensures.reader.failed ∙ c.loop-found.invariant.reader_failed;

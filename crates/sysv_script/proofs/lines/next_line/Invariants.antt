@@ -10,9 +10,13 @@ invariant-loop-found g l = record {
   within : l.seen ≤ length l.input;
   before : HasNoEnd (take l.seen l.input);
   -- If the end of a line was pending at the start, no read was made.
-  at_once : (len : ℕ) → IsFirstLine len l.initial.input → (l.input ≡ l.initial.input) × (l.output ≡ l.initial.output) × (l.reader ≡ l.initial.reader) × (l.writer ≡ l.initial.writer);
-  text : TakesIn (g.R.Read.remaining (stream_of l.initial.reader)) l.initial.input (g.R.Read.remaining (stream_of l.reader)) l.input;
-  answers : HandsOn (g.W.Write.contents (stream_of l.initial.writer)) l.initial.output (g.W.Write.contents (stream_of l.writer)) l.output;
+  at_once : (len : ℕ) → IsFirstLine len l.initial.input →
+      (l.input ≡ l.initial.input) × (l.output ≡ l.initial.output) × (l.reader ≡ l.initial.reader)
+      × (l.writer ≡ l.initial.writer);
+  text : TakesIn (g.R.Read.remaining (stream_of l.initial.reader)) l.initial.input
+      (g.R.Read.remaining (stream_of l.reader)) l.input;
+  answers : HandsOn (g.W.Write.contents (stream_of l.initial.writer)) l.initial.output
+      (g.W.Write.contents (stream_of l.writer)) l.output;
   same_reader : stream_name l.reader ≡ stream_name l.initial.reader;
   same_writer : stream_name l.writer ≡ stream_name l.initial.writer;
   reader_failed : failures_of l.reader ≡ failures_of l.initial.reader;

@@ -13,7 +13,8 @@ invariant-loop-worker g l = record {
   pass : AreOf l.service l.pass.seats;
   workers : All (λ w. w.kernel.service.now ≡ l.service) l.workers.items;
   sums : Adding (map (λ w. w.sums) l.fn.workers.items) l.sums (map (λ w. w.sums) l.workers.items);
-  takes : (home : Pass) → FoldsTo TakesIn l.pass (reverse (map (λ w. w.kernel.pass) l.workers.items)) home → FoldsTo TakesIn l.fn.pass (reverse (map (λ w. w.kernel.pass) l.fn.workers.items)) home;
+  takes : (home : Pass) → FoldsTo TakesIn l.pass (reverse (map (λ w. w.kernel.pass) l.workers.items)) home →
+      FoldsTo TakesIn l.fn.pass (reverse (map (λ w. w.kernel.pass) l.fn.workers.items)) home;
 }
 
 abbrev pub decreases-loop-worker : goal.decreases-loop-worker

@@ -14,7 +14,8 @@ returns-in-Ok-outcome-clause-ok g c =
     let opened = c.in-Ok.ensures.open in
     let worked = c.in-Ok-outcome.ensures.ok in
     let shifts = worked.all.shifts in
-    let hires = subst (λ (p : Pass). Hires p (first_passes shifts) (last_passes shifts) c.serve_with-outcome.new.pass) opened.1 worked.hires in
+    let hires = subst (λ (p : Pass). Hires p (first_passes shifts) (last_passes shifts) c.serve_with-outcome.new.pass)
+    opened.1 worked.hires in
     let stopped : Stopped c.in-Ok.service c.stop-removed.result = record {
       before = c.serve_with-outcome.new.pass;
       after = c.stop-removed.new.pass;
@@ -35,9 +36,12 @@ returns-in-Ok-outcome-clause-ok g c =
           hires = hires;
           closed = c.close-closed.result;
           counted = c.close-closed.ensures;
-          run = c.each_life_is_one_run.ensures.run c.args.blocks c.in-Ok.service shifts c.stop-removed.result stopped c.close-closed.result c.close-closed.ensures opened.0 c.stop-removed.ensures.pass hires;
-          held = c.each_life_is_one_run.ensures.none_held c.in-Ok.service shifts c.stop-removed.result stopped c.close-closed.result c.close-closed.ensures hires;
-          whole = c.each_life_is_one_run.ensures.whole c.args.blocks c.in-Ok.service shifts c.stop-removed.result stopped c.close-closed.result c.close-closed.ensures opened.0 c.stop-removed.ensures.pass hires;
+          run = c.each_life_is_one_run.ensures.run c.args.blocks c.in-Ok.service shifts c.stop-removed.result stopped
+              c.close-closed.result c.close-closed.ensures opened.0 c.stop-removed.ensures.pass hires;
+          held = c.each_life_is_one_run.ensures.none_held c.in-Ok.service shifts c.stop-removed.result stopped
+              c.close-closed.result c.close-closed.ensures hires;
+          whole = c.each_life_is_one_run.ensures.whole c.args.blocks c.in-Ok.service shifts c.stop-removed.result
+              stopped c.close-closed.result c.close-closed.ensures opened.0 c.stop-removed.ensures.pass hires;
         };
       };
       stopped = stopped;

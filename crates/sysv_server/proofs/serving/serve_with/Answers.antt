@@ -20,7 +20,10 @@ returns-in-Ok-run_crowd-clause-ok g c =
     let ok = c.hire.new.workers.ok in
     let many = c.hire.ensures.count in
     let counted : length c.hire.new.workers.items ≡ c.args.count = omega arith in
-    all_shifted (λ (w : Worker g.row.R.Denot). w.kernel.pass) (λ (w : Worker g.row.R.Denot). w.sums) g.S.Source.gives c.args.service.now c.args.count
+    all_shifted (λ (w : Worker g.row.R.Denot). w.kernel.pass) (λ (w : Worker g.row.R.Denot). w.sums) g.S.Source.gives
+    c.args.service.now c.args.count
     c.hire.new.workers.items c.in-Ok-run_crowd.workers.items c.args.source.now c.run_crowd.new.source c.dismiss.result
-    c.args.pass.now c.hire.new.pass c.dismiss.new.pass c.in-Ok-run_crowd.ensures.ok (λ (k : ℕ) (d : Worker g.row.R.Denot) (low : k < length c.hire.new.workers.items). (c.hire.ensures.workers k d low).1)
+    c.args.pass.now c.hire.new.pass c.dismiss.new.pass c.in-Ok-run_crowd.ensures.ok
+    (λ (k : ℕ) (d : Worker g.row.R.Denot) (low : k < length c.hire.new.workers.items).
+    (c.hire.ensures.workers k d low).1)
     counted c.dismiss.ensures.sums c.hire.ensures.gives c.dismiss.ensures.takes

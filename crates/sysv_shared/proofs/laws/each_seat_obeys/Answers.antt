@@ -6,9 +6,13 @@ use Rattle.sysv_shared.proofs.Dividing.{seats_know}
 use Rattle.sysv_shared.proofs.laws.each_seat_obeys.Goals as goal
 
 pub returns-clause-knows : goal.returns-clause-knows
-returns-clause-knows c = subst EachKnowsItsOwn c.seats.view_is (seats_know c.seats.inside.seat.seats (seats_seen c.seats.inside.seat).member c.seats.invariant c.each_seat_of_a_bank_knows_its_own.ensures)
+returns-clause-knows c = subst EachKnowsItsOwn c.seats.view_is
+    (seats_know c.seats.inside.seat.seats (seats_seen c.seats.inside.seat).member c.seats.invariant
+    c.each_seat_of_a_bank_knows_its_own.ensures)
 
 pub returns-clause-obeys : goal.returns-clause-obeys
 returns-clause-obeys c =
     subst ObeysIfOpen c.seats.view_is
-    (each_obeys (seats_seen c.seats.inside.seat) (seats_know c.seats.inside.seat.seats (seats_seen c.seats.inside.seat).member c.seats.invariant c.each_seat_of_a_bank_knows_its_own.ensures) c.seen_histories_obey.ensures)
+    (each_obeys (seats_seen c.seats.inside.seat)
+    (seats_know c.seats.inside.seat.seats (seats_seen c.seats.inside.seat).member c.seats.invariant
+    c.each_seat_of_a_bank_knows_its_own.ensures) c.seen_histories_obey.ensures)

@@ -12,9 +12,12 @@ use Rattle.sysv_steps.proofs.Sends.{send_at}
 use Rattle.sysv_steps.proofs.Receives.{receive_at}
 use Rattle.sysv_steps.proofs.laws.each_answer_is_right.Goals as goal
 
-right : (cred : Cred) (asked : SystemCall) (released : ℕ) (deeds : List Deed) (ending : Ending) → Plays (begin cred asked released) deeds (Over ending) → IsRightAnswer asked deeds ending
-right cred (Msgsnd id mtype flags text) released deeds ending p = send_at id mtype flags text cred released deeds (Over ending) p
-right cred (Msgrcv id size mtype flags) released deeds ending p = receive_at id size mtype flags cred released deeds (Over ending) p
+right : (cred : Cred) (asked : SystemCall) (released : ℕ) (deeds : List Deed) (ending : Ending) →
+    Plays (begin cred asked released) deeds (Over ending) → IsRightAnswer asked deeds ending
+right cred (Msgsnd id mtype flags text) released deeds ending p =
+    send_at id mtype flags text cred released deeds (Over ending) p
+right cred (Msgrcv id size mtype flags) released deeds ending p =
+    receive_at id size mtype flags cred released deeds (Over ending) p
 right cred (Msgget key flags) released deeds ending p = get_at key flags cred released deeds (Over ending) p
 right cred (MsgctlStat id) released deeds ending p = stat_at id cred released deeds (Over ending) p
 right cred (MsgctlSet id to) released deeds ending p = set_at id to cred released deeds (Over ending) p

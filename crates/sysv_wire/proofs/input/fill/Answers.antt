@@ -10,7 +10,9 @@ loop-count-preserved g c =
     let fits : c.in-Ok.more ≤ length c.read.new.buf = c.in-Ok.ensures.bound.0 in
     record {
       within = length_came c.loop-count.count c.in-Ok.more _ bytes c.read.new.buf c.loop-count.invariant.within fits;
-      so_far = subst (Consumes _ _) (sym (came c.loop-count.count c.in-Ok.more _ bytes c.read.new.buf c.loop-count.invariant.within fits)) (Consumes-trans _ _ _ _ _ c.loop-count.invariant.so_far c.in-Ok.ensures.bytes.0);
+      so_far = subst (Consumes _ _)
+          (sym (came c.loop-count.count c.in-Ok.more _ bytes c.read.new.buf c.loop-count.invariant.within fits))
+          (Consumes-trans _ _ _ _ _ c.loop-count.invariant.so_far c.in-Ok.ensures.bytes.0);
       same = c.in-Ok.ensures.same ∙ c.loop-count.invariant.same;
       failed = c.in-Ok.ensures.failed ∙ c.loop-count.invariant.failed;
     }

@@ -7,7 +7,8 @@ use Rattle.sysv_wire.proofs.input.fill.Given as goal
 abbrev pub invariant-loop-count : goal.invariant-loop-count
 invariant-loop-count g l = record {
   within : l.count ≤ length l.bytes;
-  so_far : Consumes (g.R.Read.remaining (stream_of l.initial.reader)) (g.R.Read.remaining (stream_of l.reader)) (take l.count l.bytes);
+  so_far : Consumes (g.R.Read.remaining (stream_of l.initial.reader)) (g.R.Read.remaining (stream_of l.reader))
+      (take l.count l.bytes);
   same : stream_name l.reader ≡ stream_name l.initial.reader;
   failed : failures_of l.reader ≡ failures_of l.initial.reader;
 }

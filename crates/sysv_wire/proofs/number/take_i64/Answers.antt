@@ -4,4 +4,6 @@ use Rattle.sysv_wire.proofs.number.take_i64.Goals as goal
 
 pub returns-clause-spelled : goal.returns-clause-spelled
 returns-clause-spelled c =
-    c.take_u64-number.ensures.spelled ∙ ap (λ (front : List ℕ). front ++ c.take_u64-number.result.1.now) (i64_same c.take_u64-number.result.0 c.cast_signed.result (omega arith) c.cast_signed.ensures)
+    c.take_u64-number.ensures.spelled
+    ∙ ap (λ (front : List ℕ). front ++ c.take_u64-number.result.1.now)
+    (i64_same c.take_u64-number.result.0 c.cast_signed.result (omega arith) c.cast_signed.ensures)

@@ -4,4 +4,6 @@ use Rattle.sysv_wire.proofs.number.take_u32.Goals as goal
 
 pub returns-clause-spelled : goal.returns-clause-spelled
 returns-clause-spelled c =
-    u32_front c.args.bytes.now c.split_at.result.0.now c.split_at.result.1.now c.from_be_bytes-number.result c.requires (λ i. omega (arith, c.type_inv.bytes i)) c.split_at.ensures.front c.split_at.ensures.back c.from_be_bytes-number.ensures
+    u32_front c.args.bytes.now c.split_at.result.0.now c.split_at.result.1.now c.from_be_bytes-number.result c.requires
+    (λ i. omega (arith, c.type_inv.bytes i)) c.split_at.ensures.front c.split_at.ensures.back
+    c.from_be_bytes-number.ensures

@@ -7,7 +7,8 @@ use Rattle.sysv_wire.proofs.output.write_text.Given as goal
 
 abbrev pub invariant-loop-k : goal.invariant-loop-k
 invariant-loop-k g l = record {
-  so_far : Appends (g.W.Write.contents (stream_of l.initial.writer)) (g.W.Write.contents (stream_of l.writer)) (take (l.k * BLOCK_BYTES) l.text);
+  so_far : Appends (g.W.Write.contents (stream_of l.initial.writer)) (g.W.Write.contents (stream_of l.writer))
+      (take (l.k * BLOCK_BYTES) l.text);
   same : stream_name l.writer ≡ stream_name l.initial.writer;
   failed : failures_of l.writer ≡ failures_of l.initial.writer;
 }

@@ -9,4 +9,5 @@ returns-clause-only g c = λ input answer known fits.
     let new = g.R.Read.remaining (stream_of c.next_reply.new.reader) in
     let result = c.next_reply.result in
     let text = c.next_reply.new.text in
-    reply_only input new result answer text (subst (λ (old : Option (List ℕ)). ReadsReply old new result text) known c.next_reply.ensures.reads) fits
+    reply_only input new result answer text
+    (subst (λ (old : Option (List ℕ)). ReadsReply old new result text) known c.next_reply.ensures.reads) fits

@@ -5,16 +5,32 @@ use Rattle.sysv_wire.proofs.replies.write_reply.Goals as goal
 
 pub returns-then-takes_text-clause-ok : goal.returns-then-takes_text-clause-ok
 returns-then-takes_text-clause-ok g c =
-    Appends-as c.write_both.result _ _ _ _ (reply_with_text c.args.reply.now.version c.args.reply.now.op c.args.reply.now.result c.fields_of-fields.result c.args.text.now c.head_of-head.result c.bytes.result.now c.len.result c.fields_of-fields.ensures.fields (sym c.takes_text.ensures ∙ c.if-takes_text.true) c.bytes.ensures c.len.ensures.value c.head_of-head.ensures) c.write_both.ensures.ok
+    Appends-as c.write_both.result _ _ _ _
+    (reply_with_text c.args.reply.now.version c.args.reply.now.op c.args.reply.now.result c.fields_of-fields.result
+    c.args.text.now c.head_of-head.result c.bytes.result.now c.len.result c.fields_of-fields.ensures.fields
+    (sym c.takes_text.ensures ∙ c.if-takes_text.true) c.bytes.ensures c.len.ensures.value c.head_of-head.ensures)
+    c.write_both.ensures.ok
 
 pub returns-then-takes_text-clause-err : goal.returns-then-takes_text-clause-err
 returns-then-takes_text-clause-err g c =
-    AppendsPrefix-as c.write_both.result _ _ _ _ (reply_with_text c.args.reply.now.version c.args.reply.now.op c.args.reply.now.result c.fields_of-fields.result c.args.text.now c.head_of-head.result c.bytes.result.now c.len.result c.fields_of-fields.ensures.fields (sym c.takes_text.ensures ∙ c.if-takes_text.true) c.bytes.ensures c.len.ensures.value c.head_of-head.ensures) c.write_both.ensures.err
+    AppendsPrefix-as c.write_both.result _ _ _ _
+    (reply_with_text c.args.reply.now.version c.args.reply.now.op c.args.reply.now.result c.fields_of-fields.result
+    c.args.text.now c.head_of-head.result c.bytes.result.now c.len.result c.fields_of-fields.ensures.fields
+    (sym c.takes_text.ensures ∙ c.if-takes_text.true) c.bytes.ensures c.len.ensures.value c.head_of-head.ensures)
+    c.write_both.ensures.err
 
 pub returns-else-takes_text-clause-ok : goal.returns-else-takes_text-clause-ok
 returns-else-takes_text-clause-ok g c =
-    Appends-as c.write_out.result _ _ _ _ (reply_without_text c.args.reply.now.version c.args.reply.now.op c.args.reply.now.result c.fields_of-fields.result c.args.text.now c.head_of-head-else-takes_text.result c.bytes-else-takes_text.result.now c.fields_of-fields.ensures.fields (sym c.takes_text.ensures ∙ c.if-takes_text.false) c.bytes-else-takes_text.ensures c.head_of-head-else-takes_text.ensures) c.write_out.ensures.ok
+    Appends-as c.write_out.result _ _ _ _
+    (reply_without_text c.args.reply.now.version c.args.reply.now.op c.args.reply.now.result c.fields_of-fields.result
+    c.args.text.now c.head_of-head-else-takes_text.result c.bytes-else-takes_text.result.now
+    c.fields_of-fields.ensures.fields (sym c.takes_text.ensures ∙ c.if-takes_text.false) c.bytes-else-takes_text.ensures
+    c.head_of-head-else-takes_text.ensures) c.write_out.ensures.ok
 
 pub returns-else-takes_text-clause-err : goal.returns-else-takes_text-clause-err
 returns-else-takes_text-clause-err g c =
-    AppendsPrefix-as c.write_out.result _ _ _ _ (reply_without_text c.args.reply.now.version c.args.reply.now.op c.args.reply.now.result c.fields_of-fields.result c.args.text.now c.head_of-head-else-takes_text.result c.bytes-else-takes_text.result.now c.fields_of-fields.ensures.fields (sym c.takes_text.ensures ∙ c.if-takes_text.false) c.bytes-else-takes_text.ensures c.head_of-head-else-takes_text.ensures) c.write_out.ensures.err
+    AppendsPrefix-as c.write_out.result _ _ _ _
+    (reply_without_text c.args.reply.now.version c.args.reply.now.op c.args.reply.now.result c.fields_of-fields.result
+    c.args.text.now c.head_of-head-else-takes_text.result c.bytes-else-takes_text.result.now
+    c.fields_of-fields.ensures.fields (sym c.takes_text.ensures ∙ c.if-takes_text.false) c.bytes-else-takes_text.ensures
+    c.head_of-head-else-takes_text.ensures) c.write_out.ensures.err

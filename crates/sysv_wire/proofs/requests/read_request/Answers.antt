@@ -9,4 +9,5 @@ returns-clause-only g c = λ input answer known fits.
     let new = g.R.Read.remaining (stream_of c.next_request.new.reader) in
     let result = c.next_request.result in
     let text = c.next_request.new.text in
-    request_only input new result answer text (subst (λ (old : Option (List ℕ)). ReadsRequest old new result text) known c.next_request.ensures.reads) fits
+    request_only input new result answer text
+    (subst (λ (old : Option (List ℕ)). ReadsRequest old new result text) known c.next_request.ensures.reads) fits

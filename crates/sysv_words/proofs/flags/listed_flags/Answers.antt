@@ -14,9 +14,11 @@ loop-name-preserved c =
       λ all behind.
           let after : AddsFlags (bit_or before flag) rest all = subst (λ n. AddsFlags n rest all) union behind in
           c.loop-name.invariant.0 all
-          (subst (λ (text : List ℕ). AddsFlags before text all) (sym split.whole) (More before _ _ _ all c.in_ok-flag_of.ensures after)),
+          (subst (λ (text : List ℕ). AddsFlags before text all) (sym split.whole)
+          (More before _ _ _ all c.in_ok-flag_of.ensures after)),
       λ all whole.
-          let next = AddsFlags-split before c.loop-name.rest.now all name rest split (c.loop-name.invariant.1 all whole) in
+          let next =
+          AddsFlags-split before c.loop-name.rest.now all name rest split (c.loop-name.invariant.1 all whole) in
           let same = NamesFlag-once name next.0 flag next.1 c.in_ok-flag_of.ensures in
           subst (λ n. AddsFlags n rest all) (ap (λ n. bit_or before n) same ∙ sym union) next.2,
     )
@@ -31,11 +33,13 @@ returns-in_err-flag_of c =
     let before = c.loop-name.flags.0 in
     let split = c.in-Some.ensures in
     rw c.from_residual.ensures (λ bits h.
-    let next = AddsFlags-split before c.loop-name.rest.now bits c.in-Some.name.now c.in-Some.behind.now split (c.loop-name.invariant.1 bits h) in
+    let next = AddsFlags-split before c.loop-name.rest.now bits c.in-Some.name.now c.in-Some.behind.now split
+    (c.loop-name.invariant.1 bits h) in
     c.in_err-flag_of.ensures next.0 next.1)
 
 pub returns-in_err-flag_of-2 : goal.returns-in_err-flag_of-2
 returns-in_err-flag_of-2 c =
     rw c.from_residual-in_err-flag_of-2.ensures (λ bits h.
-    let last = AddsFlags-last c.loop-name.flags.0 c.loop-name.rest.now bits c.in_default.ensures (c.loop-name.invariant.1 bits h) in
+    let last = AddsFlags-last c.loop-name.flags.0 c.loop-name.rest.now bits c.in_default.ensures
+    (c.loop-name.invariant.1 bits h) in
     c.in_err-flag_of-2.ensures last.0 last.1)

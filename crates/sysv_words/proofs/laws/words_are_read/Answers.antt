@@ -1,4 +1,4 @@
-use Rattle.sysv_words.proofs.ReadingWords.{each_word}
+use Rattle.sysv_words.proofs.OneValue.{each_word}
 use Rattle.sysv_words.proofs.laws.words_are_read.Goals as goal
 
 pub returns : goal.returns

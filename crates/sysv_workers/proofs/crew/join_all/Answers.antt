@@ -1,6 +1,6 @@
 use Rattle.std.proofs.Common.{◌++◌, [], ◌∙◌, ap, sym, arith, append_assoc}
 use Rattle.std.proofs.lemmas.List.{append-nil}
-use Rattle.sysv_workers.proofs.Crewing.{one_longer, one_fewer, none_joined, one_joined, all_joined}
+use Rattle.sysv_workers.proofs.RunningThreads.{one_longer, one_fewer, none_joined, one_joined, all_joined}
 use Rattle.sysv_workers.proofs.Feeds.{nil_of}
 use Rattle.sysv_workers.proofs.crew.join_all.Goals as goal
 
@@ -32,9 +32,14 @@ loop-handle-preserved g c =
           let a = one_longer _ _ _ fewer in
           let b = e.room in omega arith;
       grown =
-          let j = e.joined.begins_one in (i.grown.0 ++ j.0, j.1 ∙ (ap (λ l. l ++ j.0) i.grown.1 ∙ append_assoc _ i.grown.0 j.0));
-      gathered = λ job others parts rest on so. one_joined _ _ _ job others parts rest _ _ _ _ _ _ _ _ _ _ _ _ _ _ _ (i.gathered job others parts rest on so) fewer c.join-done.ensures e.joined e.states e.tally;
+          let j = e.joined.begins_one in
+          (i.grown.0 ++ j.0, j.1 ∙ (ap (λ l. l ++ j.0) i.grown.1 ∙ append_assoc _ i.grown.0 j.0));
+      gathered = λ job others parts rest on so.
+          one_joined _ _ _ job others parts rest _ _ _ _ _ _ _ _ _ _ _ _ _ _ _ (i.gathered job others parts rest on so)
+          fewer c.join-done.ensures e.joined e.states e.tally;
     }
 
 pub returns-clause-gathered : goal.returns-clause-gathered
-returns-clause-gathered g c job others parts rest on so = all_joined _ _ _ job others parts rest _ _ _ _ _ (c.loop-handle.invariant.gathered job others parts rest on so) (nil_of _ (sym c.loop-handle.handles.ok.0 ∙ c.in_default.ensures.cases.0))
+returns-clause-gathered g c job others parts rest on so =
+    all_joined _ _ _ job others parts rest _ _ _ _ _ (c.loop-handle.invariant.gathered job others parts rest on so)
+    (nil_of _ (sym c.loop-handle.handles.ok.0 ∙ c.in_default.ensures.cases.0))

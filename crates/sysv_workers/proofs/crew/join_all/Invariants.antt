@@ -2,7 +2,7 @@ use Rattle.std.proofs.Common.{◌≡◌, ◌+◌, ◌≤◌, List, ◌++◌, len
 use Rattle.sysv_workers.specs.Crews.{AreOn}
 use Rattle.sysv_workers.specs.Doing.{Gathered}
 use Rattle.sysv_workers.specs.Parts.{Part}
-use Rattle.sysv_workers.proofs.Crewing.{Joining}
+use Rattle.sysv_workers.proofs.RunningThreads.{Joining}
 use Rattle.sysv_workers.proofs.crew.join_all.Given as goal
 
 -- The threads at the end of the list were joined.
@@ -12,8 +12,12 @@ invariant-loop-handle g l = record {
   on : (job : _) × (left : List _) × AreOn job l.buffer left l.handles.items;
   room : vec_len l.states + length l.handles.items ≤ vec_capacity l.states;
   grown : (more : List _) × (l.seat.seen ≡ l.fn.seat.seen ++ more);
-  gathered : (job : _) (others : List _) (parts : List (Part _ _)) (rest : List _) → AreOn job l.buffer rest l.fn.handles.items → Gathered (g.J.Job.runs job) (g.J.Job.fits job) others parts l.fn.seat l.fn.states.items l.fn.tally.ran l.fn.tally.ended
-      → Joining g.J.Job.runs g.J.Job.fits l.buffer job others parts rest l.handles.items l.seat l.states.items l.tally.ran l.tally.ended;
+  gathered : (job : _) (others : List _) (parts : List (Part _ _)) (rest : List _)
+      → AreOn job l.buffer rest l.fn.handles.items
+      → Gathered (g.J.Job.runs job) (g.J.Job.fits job) others parts l.fn.seat l.fn.states.items l.fn.tally.ran
+      l.fn.tally.ended
+      → Joining g.J.Job.runs g.J.Job.fits l.buffer job others parts rest l.handles.items l.seat l.states.items
+      l.tally.ran l.tally.ended;
 }
 
 abbrev pub decreases-loop-handle : goal.decreases-loop-handle

@@ -1,5 +1,5 @@
 use Rattle.std.proofs.Common.{◌∷◌, ◌∙◌, arith}
-use Rattle.sysv_workers.proofs.Crewing.{but_last, one_longer, moves, one_more}
+use Rattle.sysv_workers.proofs.RunningThreads.{but_last, one_longer, moves, one_more}
 use Rattle.sysv_workers.proofs.crew.start_all.Goals as goal
 
 pub loop-state-preserved : goal.loop-state-preserved
@@ -19,4 +19,5 @@ loop-state-preserved g c =
     }
 
 pub returns-in-Err-clause-fits : goal.returns-in-Err-clause-fits
-returns-in-Err-clause-fits g c = but_last (g.J.Job.fits c.args.job.now) _ _ _ c.in-Some.ensures.items c.loop-state.invariant.fits
+returns-in-Err-clause-fits g c =
+    but_last (g.J.Job.fits c.args.job.now) _ _ _ c.in-Some.ensures.items c.loop-state.invariant.fits

@@ -11,4 +11,5 @@ invariant-loop g l =
     × (goal.iterator-loop g).is_finite l.iterator'
     × (l.seat.buffer ≡ l.buffer)
     × (l.seat.takes ≡ l.fn.seat.takes)
-    × ((given : List _) × FoldsTo (λ s x s'. g.S.Source.gives s (Some x) s') l.fn.source given l.source × HasFed given 0 l.seat × (l.items ≡ counted (length given)))
+    × ((given : List _) × FoldsTo (λ s x s'. g.S.Source.gives s (Some x) s') l.fn.source given l.source
+    × HasFed given 0 l.seat × (l.items ≡ counted (length given)))

@@ -8,6 +8,7 @@ use Rattle.sysvmsg.proofs.asked.key.Goals as goal
 pub returns-in-Some : goal.returns-in-Some
 returns-in-Some c =
     let found = word_of (words_in c.args.words.now) (codes "key") in
-    let there : found ≡ Some c.as_bytes.result.now = c.in-Some.ensures ∙ ap (λ (w : List ℕ). Some w) (sym c.as_bytes.ensures.value) in
+    let there : found ≡ Some c.as_bytes.result.now =
+    c.in-Some.ensures ∙ ap (λ (w : List ℕ). Some w) (sym c.as_bytes.ensures.value) in
     subst (λ (r : Result ℤ (Bor (List ℕ))). IsRead r (Has IsKey found)) (sym c.ok_or.ensures.value)
     (read_word IsKey c.as_bytes.result.now found c.key_of.result _ there c.key_of.ensures)

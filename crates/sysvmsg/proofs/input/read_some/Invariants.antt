@@ -4,4 +4,5 @@ use Rattle.std.specs.Io.KnownBytes.{Keeps}
 use Rattle.sysvmsg.proofs.input.read_some.Given as goal
 
 abbrev pub invariant-loop : goal.invariant-loop
-invariant-loop g l = (length l.buffer ≡ length l.initial.buffer) × Keeps (g.R.Read.remaining l.initial.input) (g.R.Read.remaining l.input)
+invariant-loop g l = (length l.buffer ≡ length l.initial.buffer)
+    × Keeps (g.R.Read.remaining l.initial.input) (g.R.Read.remaining l.input)

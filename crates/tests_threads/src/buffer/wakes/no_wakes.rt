@@ -14,7 +14,7 @@ use std::time::{Clock, Duration};
 use sysv_buffer::{Consumer, OneBuffer, Producer};
 use tests_kit::mark;
 
-// Takes an item that it sleeps for. Takes another one after the other thread has put both.
+/// Takes an item that it sleeps for. Takes another one after the other thread has put both.
 fn take_two(
     rt: &impl Wait,
     alloc: Global,

@@ -32,7 +32,7 @@ fn counts(rt: HostRuntime) -> Result<(), Fail> {
     Ok(())
 }
 
-// Returns whether each call was answered.
+/// Returns whether each call was answered.
 fn call_often(rt: &impl Wait, gate: &Gate<Slow>, seat: &mut Seat<Slow>) -> bool
     requires { seat.old.gate ≡ gate.now }
     ensures { seat.new.gate ≡ gate.now }

@@ -1,9 +1,10 @@
 use Rattle.std.proofs.Common.{arith}
 use Rattle.sysv_gate.specs.History.{Moves}
 use Rattle.sysv_gate.specs.Halls.{me_at}
-use Rattle.sysv_bank.proofs.Passes.{door_there, door_of, is_at, idles, rests_there, gates_after, changes, goes_on, rests_after}
-use Rattle.sysv_gate.proofs.Calling.{bare, within_rests, waited_within}
-use Rattle.sysv_bank.proofs.Calling.{stays_within}
+use Rattle.sysv_bank.proofs.Passes.{door_there, door_of, is_at, idles, rests_there, gates_after, changes, goes_on}
+use Rattle.sysv_bank.proofs.Passes.{rests_after}
+use Rattle.sysv_gate.proofs.SeenAfterCall.{bare, within_rests, waited_within}
+use Rattle.sysv_bank.proofs.PassAfterCall.{stays_within}
 use Rattle.sysv_bank.proofs.bank.Bank.await_within.Goals as goal
 
 pub index-requires : goal.index-requires
@@ -13,24 +14,46 @@ index-requires g c =
     omega arith
 
 pub await_within-requires-clause-door : goal.await_within-requires-clause-door
-await_within-requires-clause-door g c = door_of _ _ _ _ _ _ c.self.invariant c.seat.invariant c.self.view_is c.seat.view_is c.requires.seat _ _ c.requires.place c.index.ensures
+await_within-requires-clause-door g c = door_of _ _ _ _ _ _ c.self.invariant c.seat.invariant c.self.view_is
+    c.seat.view_is c.requires.seat _ _ c.requires.place c.index.ensures
 
 pub await_within-requires-clause-at : goal.await_within-requires-clause-at
-await_within-requires-clause-at g c = is_at _ _ _ _ _ _ c.self.invariant c.seat.invariant c.self.view_is c.seat.view_is c.requires.seat _ _ c.requires.place c.index.ensures
+await_within-requires-clause-at g c = is_at _ _ _ _ _ _ c.self.invariant c.seat.invariant c.self.view_is c.seat.view_is
+    c.requires.seat _ _ c.requires.place c.index.ensures
 
 pub await_within-requires-clause-idle : goal.await_within-requires-clause-idle
-await_within-requires-clause-idle g c = (let i = idles _ _ _ _ _ _ c.self.invariant c.seat.invariant c.self.view_is c.seat.view_is c.requires.seat _ _ c.requires.place c.index.ensures in (i.no_slot, i.no_ticket, i.no_turn))
+await_within-requires-clause-idle g c = (let i = idles _ _ _ _ _ _ c.self.invariant c.seat.invariant c.self.view_is
+    c.seat.view_is c.requires.seat _ _ c.requires.place c.index.ensures in
+    (i.no_slot, i.no_ticket, i.no_turn))
 
 pub invariant_of-seat : goal.invariant_of-seat
 invariant_of-seat g c =
-    let rests = within_rests _ g.O.Object.counted _ _ _ _ (rests_there _ _ _ _ _ _ c.self.invariant c.seat.invariant c.self.view_is c.seat.view_is c.requires.seat _ _ c.requires.place c.index.ensures) c.seat.inside.token.table_id c.args.count c.args.goal c.await_within.result c.await_within.ensures.waited in
-    rests_after _ _ _ _ _ _ c.self.invariant c.seat.invariant c.self.view_is c.seat.view_is c.requires.seat _ _ c.requires.place c.index.ensures c.await_within.new.token c.await_within.ensures.same (bare c.index.result.now.place c.await_within.new.token.me rests.0) rests.1 (stays_within (Moves g.O.Object.meaning g.O.Object.counted) g.O.Object.counted c.index.result.now.opening (me_at c.index.result.now.place c.seat.inside.token.me) (me_at c.index.result.now.place c.await_within.new.token.me) c.args.count c.args.goal c.await_within.result c.await_within.ensures.waited).names
+    let rests = within_rests _ g.O.Object.counted _ _ _ _
+    (rests_there _ _ _ _ _ _ c.self.invariant c.seat.invariant c.self.view_is c.seat.view_is c.requires.seat _ _
+    c.requires.place c.index.ensures)
+    c.seat.inside.token.table_id c.args.count c.args.goal c.await_within.result c.await_within.ensures.waited in
+    rests_after _ _ _ _ _ _ c.self.invariant c.seat.invariant c.self.view_is c.seat.view_is c.requires.seat _ _
+    c.requires.place c.index.ensures c.await_within.new.token c.await_within.ensures.same
+    (bare c.index.result.now.place c.await_within.new.token.me rests.0) rests.1
+    (stays_within (Moves g.O.Object.meaning g.O.Object.counted) g.O.Object.counted c.index.result.now.opening
+    (me_at c.index.result.now.place c.seat.inside.token.me) (me_at c.index.result.now.place c.await_within.new.token.me)
+    c.args.count c.args.goal c.await_within.result c.await_within.ensures.waited).names
 
 pub returns-clause-gates : goal.returns-clause-gates
-returns-clause-gates g c = gates_after _ _ _ _ _ _ c.self.invariant c.seat.invariant c.self.view_is c.seat.view_is c.requires.seat _ _ c.requires.place c.index.ensures c.await_within.new.token c.await_within.ensures.same
+returns-clause-gates g c = gates_after _ _ _ _ _ _ c.self.invariant c.seat.invariant c.self.view_is c.seat.view_is
+    c.requires.seat _ _ c.requires.place c.index.ensures c.await_within.new.token c.await_within.ensures.same
 
 pub returns-clause-longer : goal.returns-clause-longer
-returns-clause-longer g c = goes_on _ _ _ _ _ _ c.self.invariant c.seat.invariant c.self.view_is c.seat.view_is c.requires.seat _ _ c.requires.place c.index.ensures c.await_within.new.token c.await_within.ensures.same (stays_within (Moves g.O.Object.meaning g.O.Object.counted) g.O.Object.counted c.index.result.now.opening (me_at c.index.result.now.place c.seat.inside.token.me) (me_at c.index.result.now.place c.await_within.new.token.me) c.args.count c.args.goal c.await_within.result c.await_within.ensures.waited)
+returns-clause-longer g c = goes_on _ _ _ _ _ _ c.self.invariant c.seat.invariant c.self.view_is c.seat.view_is
+    c.requires.seat _ _ c.requires.place c.index.ensures c.await_within.new.token c.await_within.ensures.same
+    (stays_within (Moves g.O.Object.meaning g.O.Object.counted) g.O.Object.counted c.index.result.now.opening
+    (me_at c.index.result.now.place c.seat.inside.token.me) (me_at c.index.result.now.place c.await_within.new.token.me)
+    c.args.count c.args.goal c.await_within.result c.await_within.ensures.waited)
 
 pub returns-clause-waited : goal.returns-clause-waited
-returns-clause-waited g c = changes _ _ _ _ _ _ c.self.invariant c.seat.invariant c.self.view_is c.seat.view_is c.requires.seat _ _ c.requires.place c.index.ensures c.await_within.new.token c.await_within.ensures.same _ (waited_within (Moves g.O.Object.meaning g.O.Object.counted) g.O.Object.counted _ _ _ _ c.await_within.ensures.same.0 _ _ (rests_there _ _ _ _ _ _ c.self.invariant c.seat.invariant c.self.view_is c.seat.view_is c.requires.seat _ _ c.requires.place c.index.ensures) c.args.count c.args.goal c.await_within.result c.await_within.ensures.waited)
+returns-clause-waited g c = changes _ _ _ _ _ _ c.self.invariant c.seat.invariant c.self.view_is c.seat.view_is
+    c.requires.seat _ _ c.requires.place c.index.ensures c.await_within.new.token c.await_within.ensures.same _
+    (waited_within (Moves g.O.Object.meaning g.O.Object.counted) g.O.Object.counted _ _ _ _
+    c.await_within.ensures.same.0 _ _
+    (rests_there _ _ _ _ _ _ c.self.invariant c.seat.invariant c.self.view_is c.seat.view_is c.requires.seat _ _
+    c.requires.place c.index.ensures) c.args.count c.args.goal c.await_within.result c.await_within.ensures.waited)

@@ -13,9 +13,11 @@ invariant-loop-place g l = record {
   words : l.closed.words ≡ l.initial.closed.words;
   slots : slots_items l.closed.slots ≡ slots_items l.initial.closed.slots;
   many : slots_len l.closed.slots ≡ slots_len l.initial.closed.slots;
-  filled : (k : ℕ) → l.place ≤ k → k < slots_len l.initial.closed.slots → slice_index_or (slots_filled l.closed.slots) k false ≡ true;
+  filled : (k : ℕ) → l.place ≤ k → k < slots_len l.initial.closed.slots →
+      slice_index_or (slots_filled l.closed.slots) k false ≡ true;
   empty : (k : ℕ) → k < l.place → slice_index_or (slots_filled l.closed.slots) k false ≡ false;
-  read : (place : ℕ) (c : Closing g.row.O.Denot) → get_elem? l.closings.items place ≡ some c → IsReadAt l.key.first (slots_items l.initial.closed.words) (slots_items l.initial.closed.slots) place c;
+  read : (place : ℕ) (c : Closing g.row.O.Denot) → get_elem? l.closings.items place ≡ some c →
+      IsReadAt l.key.first (slots_items l.initial.closed.words) (slots_items l.initial.closed.slots) place c;
   count : length l.closings.items ≡ l.place;
   room : slots_len l.initial.closed.slots ≤ vec_capacity l.closings;
 }

@@ -7,7 +7,7 @@ use Rattle.sysv_bank.specs.Banks.{AreOpened, gates_of}
 use Rattle.sysv_bank.specs.Passes.{holdings}
 use Rattle.sysv_bank.specs.Resting.{gateways}
 use Rattle.sysv_bank.proofs.Passes.{gates_there}
-use Rattle.sysv_bank.proofs.Coming.{first_rests, first_named, first_seats, first_opened}
+use Rattle.sysv_bank.proofs.SeatsMade.{first_rests, first_named, first_seats, first_opened}
 use Rattle.sysv_bank.proofs.bank.Bank.open.Goals as goal
 
 pub invariant_of-bank : goal.invariant_of-bank
@@ -33,7 +33,8 @@ invariant_of-bank g c =
     }
 
 pub invariant_of-seat : goal.invariant_of-seat
-invariant_of-seat g c = first_rests _ _ (c.in-Some.ensures.some.me ∙ ap (λ k. (outset k.openings.value.items k.first, [])) (sym c.of-in-Some.ensures))
+invariant_of-seat g c = first_rests _ _
+    (c.in-Some.ensures.some.me ∙ ap (λ k. (outset k.openings.value.items k.first, [])) (sym c.of-in-Some.ensures))
 
 pub returns-in-Some-clause-ok : goal.returns-in-Some-clause-ok
 returns-in-Some-clause-ok g c =
@@ -43,7 +44,8 @@ returns-in-Some-clause-ok g c =
     let os = c.of.result.value.items in
     let table = c.in-Some.hall.shared.table_id in (
       subst (λ xs. AreOpened xs first (gateways table first os)) items (first_opened table first os),
-      ap (λ k. holdings c.in-Some.token.table_id k.first k.openings.value.items c.in-Some.token.me.0.views) c.of-in-Some.ensures
+      ap (λ k. holdings c.in-Some.token.table_id k.first k.openings.value.items c.in-Some.token.me.0.views)
+          c.of-in-Some.ensures
           ∙ ap (λ m. holdings c.in-Some.token.table_id first os m.0.views) new.me
           ∙ ap (λ t. holdings t first os (map (λ o. start o first) os)) new.table
           ∙ first_seats table first os,
@@ -56,8 +58,10 @@ returns-in-Some-clause-fits g c =
     let first = c.args.first in
     let items = ap (λ v. v.items) c.of.ensures in
     let os = c.of.result.value.items in (
-      ap (λ k. gates_of (holdings c.in-Some.token.table_id k.first k.openings.value.items c.in-Some.token.me.0.views)) c.of-in-Some.ensures
-          ∙ gates_there c.in-Some.token.table_id first os c.in-Some.token.me.0.views (ap (λ m. length m.0.views) new.me ∙ length-map os _)
+      ap (λ k. gates_of (holdings c.in-Some.token.table_id k.first k.openings.value.items c.in-Some.token.me.0.views))
+          c.of-in-Some.ensures
+          ∙ gates_there c.in-Some.token.table_id first os c.in-Some.token.me.0.views
+          (ap (λ m. length m.0.views) new.me ∙ length-map os _)
           ∙ ap (λ t. gateways t first os) new.table,
       length-map os _ ∙ ap length items,
     )

@@ -7,9 +7,10 @@ use Rattle.sysv_bank.specs.Banks.{ChangesAt}
 use Rattle.sysv_bank.specs.Passes.{GoesOn, AddsToOrder}
 use Rattle.sysv_bank.specs.Resting.{pass_of}
 use Rattle.sysv_bank.proofs.Places.{if_ok, if_err, both_ok, on_err}
-use Rattle.sysv_bank.proofs.Passes.{door_there, door_of, is_at, idles, accepted, rests_there, gates_after, changes, goes_on, rests_after, adds_to_order}
-use Rattle.sysv_gate.proofs.Calling.{bare, try_rests, answers, refused}
-use Rattle.sysv_bank.proofs.Calling.{try_names, adds, stays_tried}
+use Rattle.sysv_bank.proofs.Passes.{door_there, door_of, is_at, idles, accepted, rests_there, gates_after, changes}
+use Rattle.sysv_bank.proofs.Passes.{goes_on, rests_after, adds_to_order}
+use Rattle.sysv_gate.proofs.SeenAfterCall.{bare, try_rests, answers, refused}
+use Rattle.sysv_bank.proofs.PassAfterCall.{try_names, adds, stays_tried}
 use Rattle.sysv_bank.proofs.bank.Bank.try_call.Goals as goal
 
 pub index-requires : goal.index-requires
@@ -19,37 +20,87 @@ index-requires g c =
     omega arith
 
 pub try_call-requires-clause-door : goal.try_call-requires-clause-door
-try_call-requires-clause-door g c = door_of _ _ _ _ _ _ c.self.invariant c.seat.invariant c.self.view_is c.seat.view_is c.requires.seat _ _ c.requires.place c.index.ensures
+try_call-requires-clause-door g c = door_of _ _ _ _ _ _ c.self.invariant c.seat.invariant c.self.view_is c.seat.view_is
+    c.requires.seat _ _ c.requires.place c.index.ensures
 
 pub try_call-requires-clause-at : goal.try_call-requires-clause-at
-try_call-requires-clause-at g c = is_at _ _ _ _ _ _ c.self.invariant c.seat.invariant c.self.view_is c.seat.view_is c.requires.seat _ _ c.requires.place c.index.ensures
+try_call-requires-clause-at g c = is_at _ _ _ _ _ _ c.self.invariant c.seat.invariant c.self.view_is c.seat.view_is
+    c.requires.seat _ _ c.requires.place c.index.ensures
 
 pub try_call-requires-clause-idle : goal.try_call-requires-clause-idle
-try_call-requires-clause-idle g c = idles _ _ _ _ _ _ c.self.invariant c.seat.invariant c.self.view_is c.seat.view_is c.requires.seat _ _ c.requires.place c.index.ensures
+try_call-requires-clause-idle g c = idles _ _ _ _ _ _ c.self.invariant c.seat.invariant c.self.view_is c.seat.view_is
+    c.requires.seat _ _ c.requires.place c.index.ensures
 
 pub try_call-requires-clause-fits : goal.try_call-requires-clause-fits
-try_call-requires-clause-fits g c = accepted _ _ _ _ _ _ c.self.invariant c.seat.invariant c.self.view_is c.seat.view_is c.requires.seat _ _ c.requires.place c.index.ensures (Moves g.O.Object.meaning g.O.Object.counted) g.O.Object.accepts c.args.call c.requires.fits
+try_call-requires-clause-fits g c = accepted _ _ _ _ _ _ c.self.invariant c.seat.invariant c.self.view_is c.seat.view_is
+    c.requires.seat _ _ c.requires.place c.index.ensures (Moves g.O.Object.meaning g.O.Object.counted)
+    g.O.Object.accepts c.args.call c.requires.fits
 
 pub invariant_of-seat : goal.invariant_of-seat
 invariant_of-seat g c =
-    let rests = try_rests _ g.O.Object.counted _ _ _ _ (rests_there _ _ _ _ _ _ c.self.invariant c.seat.invariant c.self.view_is c.seat.view_is c.requires.seat _ _ c.requires.place c.index.ensures) c.seat.inside.token.table_id c.args.call c.try_call.result c.try_call.ensures.ok c.try_call.ensures.err in
-    rests_after _ _ _ _ _ _ c.self.invariant c.seat.invariant c.self.view_is c.seat.view_is c.requires.seat _ _ c.requires.place c.index.ensures c.try_call.new.token c.try_call.ensures.same (bare c.index.result.now.place c.try_call.new.token.me rests.0) rests.1 (try_names (Moves g.O.Object.meaning g.O.Object.counted) g.O.Object.counted c.index.result.now.opening (me_at c.index.result.now.place c.seat.inside.token.me) (me_at c.index.result.now.place c.try_call.new.token.me) c.args.call c.try_call.result c.try_call.ensures.ok c.try_call.ensures.err)
+    let rests = try_rests _ g.O.Object.counted _ _ _ _
+    (rests_there _ _ _ _ _ _ c.self.invariant c.seat.invariant c.self.view_is c.seat.view_is c.requires.seat _ _
+    c.requires.place c.index.ensures)
+    c.seat.inside.token.table_id c.args.call c.try_call.result c.try_call.ensures.ok c.try_call.ensures.err in
+    rests_after _ _ _ _ _ _ c.self.invariant c.seat.invariant c.self.view_is c.seat.view_is c.requires.seat _ _
+    c.requires.place c.index.ensures c.try_call.new.token c.try_call.ensures.same
+    (bare c.index.result.now.place c.try_call.new.token.me rests.0) rests.1
+    (try_names (Moves g.O.Object.meaning g.O.Object.counted) g.O.Object.counted c.index.result.now.opening
+    (me_at c.index.result.now.place c.seat.inside.token.me) (me_at c.index.result.now.place c.try_call.new.token.me)
+    c.args.call c.try_call.result c.try_call.ensures.ok c.try_call.ensures.err)
 
 pub returns-clause-gates : goal.returns-clause-gates
-returns-clause-gates g c = gates_after _ _ _ _ _ _ c.self.invariant c.seat.invariant c.self.view_is c.seat.view_is c.requires.seat _ _ c.requires.place c.index.ensures c.try_call.new.token c.try_call.ensures.same
+returns-clause-gates g c = gates_after _ _ _ _ _ _ c.self.invariant c.seat.invariant c.self.view_is c.seat.view_is
+    c.requires.seat _ _ c.requires.place c.index.ensures c.try_call.new.token c.try_call.ensures.same
 
 pub returns-clause-longer : goal.returns-clause-longer
-returns-clause-longer g c = on_err _ _ (GoesOn c.args.seat.now (pass_of (record { token = c.try_call.new.token; key = c.seat.inside.key }))) c.try_call.ensures.err (λ e told. goes_on _ _ _ _ _ _ c.self.invariant c.seat.invariant c.self.view_is c.seat.view_is c.requires.seat _ _ c.requires.place c.index.ensures c.try_call.new.token c.try_call.ensures.same (stays_tried (Moves g.O.Object.meaning g.O.Object.counted) g.O.Object.counted c.index.result.now.opening (me_at c.index.result.now.place c.seat.inside.token.me) (me_at c.index.result.now.place c.try_call.new.token.me) c.args.call e told))
+returns-clause-longer g c =
+    on_err _ _ (GoesOn c.args.seat.now (pass_of (record { token = c.try_call.new.token; key = c.seat.inside.key })))
+    c.try_call.ensures.err (λ e told.
+    goes_on _ _ _ _ _ _ c.self.invariant c.seat.invariant c.self.view_is c.seat.view_is c.requires.seat _ _
+    c.requires.place c.index.ensures c.try_call.new.token c.try_call.ensures.same
+    (stays_tried (Moves g.O.Object.meaning g.O.Object.counted) g.O.Object.counted c.index.result.now.opening
+    (me_at c.index.result.now.place c.seat.inside.token.me) (me_at c.index.result.now.place c.try_call.new.token.me)
+    c.args.call e told))
 
 pub returns-clause-ok : goal.returns-clause-ok
 returns-clause-ok g c =
-    if_ok _ _ (λ r. ChangesAt c.args.place c.args.seat.now.seats (pass_of (record { token = c.try_call.new.token; key = c.seat.inside.key })).seats (λ b a. Answers (Moves g.O.Object.meaning g.O.Object.counted) g.O.Object.counted b c.args.call r a × (b.worn ≡ false))) c.try_call.ensures.ok
-    (λ r called. changes _ _ _ _ _ _ c.self.invariant c.seat.invariant c.self.view_is c.seat.view_is c.requires.seat _ _ c.requires.place c.index.ensures c.try_call.new.token c.try_call.ensures.same (λ b a. Answers (Moves g.O.Object.meaning g.O.Object.counted) g.O.Object.counted b c.args.call r a × (b.worn ≡ false)) (answers _ _ _ _ _ _ c.try_call.ensures.same.0 (me_at c.index.result.now.place c.seat.inside.token.me) (me_at c.index.result.now.place c.try_call.new.token.me) (rests_there _ _ _ _ _ _ c.self.invariant c.seat.invariant c.self.view_is c.seat.view_is c.requires.seat _ _ c.requires.place c.index.ensures) _ _ called))
+    if_ok _ _ (λ r.
+    ChangesAt c.args.place c.args.seat.now.seats
+    (pass_of (record { token = c.try_call.new.token; key = c.seat.inside.key })).seats (λ b a.
+    Answers (Moves g.O.Object.meaning g.O.Object.counted) g.O.Object.counted b c.args.call r a × (b.worn ≡ false)))
+    c.try_call.ensures.ok
+    (λ r called.
+    changes _ _ _ _ _ _ c.self.invariant c.seat.invariant c.self.view_is c.seat.view_is c.requires.seat _ _
+    c.requires.place c.index.ensures c.try_call.new.token c.try_call.ensures.same (λ b a.
+    Answers (Moves g.O.Object.meaning g.O.Object.counted) g.O.Object.counted b c.args.call r a × (b.worn ≡ false))
+    (answers _ _ _ _ _ _ c.try_call.ensures.same.0 (me_at c.index.result.now.place c.seat.inside.token.me)
+    (me_at c.index.result.now.place c.try_call.new.token.me)
+    (rests_there _ _ _ _ _ _ c.self.invariant c.seat.invariant c.self.view_is c.seat.view_is c.requires.seat _ _
+    c.requires.place c.index.ensures) _ _ called))
 
 pub returns-clause-order : goal.returns-clause-order
-returns-clause-order g c = both_ok _ _ _ (AddsToOrder c.args.place c.args.seat.now (pass_of (record { token = c.try_call.new.token; key = c.seat.inside.key }))) c.try_call.ensures.ok c.try_call.ensures.order (λ r told ends. adds_to_order _ _ _ _ _ _ c.self.invariant c.seat.invariant c.self.view_is c.seat.view_is c.requires.seat _ _ c.requires.place c.index.ensures c.try_call.new.token c.try_call.ensures.same ends (adds (Moves g.O.Object.meaning g.O.Object.counted) g.O.Object.counted c.index.result.now.opening (me_at c.index.result.now.place c.seat.inside.token.me) (me_at c.index.result.now.place c.try_call.new.token.me) c.args.call r told))
+returns-clause-order g c = both_ok _ _ _
+    (AddsToOrder c.args.place c.args.seat.now
+    (pass_of (record { token = c.try_call.new.token; key = c.seat.inside.key })))
+    c.try_call.ensures.ok c.try_call.ensures.order (λ r told ends.
+    adds_to_order _ _ _ _ _ _ c.self.invariant c.seat.invariant c.self.view_is c.seat.view_is c.requires.seat _ _
+    c.requires.place c.index.ensures c.try_call.new.token c.try_call.ensures.same ends
+    (adds (Moves g.O.Object.meaning g.O.Object.counted) g.O.Object.counted c.index.result.now.opening
+    (me_at c.index.result.now.place c.seat.inside.token.me) (me_at c.index.result.now.place c.try_call.new.token.me)
+    c.args.call r told))
 
 pub returns-clause-err : goal.returns-clause-err
 returns-clause-err g c =
-    if_err _ _ (λ e. ChangesAt c.args.place c.args.seat.now.seats (pass_of (record { token = c.try_call.new.token; key = c.seat.inside.key })).seats (λ b a. Refuses (Moves g.O.Object.meaning g.O.Object.counted) b c.args.call e a)) c.try_call.ensures.err
-    (λ e told. changes _ _ _ _ _ _ c.self.invariant c.seat.invariant c.self.view_is c.seat.view_is c.requires.seat _ _ c.requires.place c.index.ensures c.try_call.new.token c.try_call.ensures.same (λ b a. Refuses (Moves g.O.Object.meaning g.O.Object.counted) b c.args.call e a) (refused _ g.O.Object.counted _ _ _ _ c.try_call.ensures.same.0 (me_at c.index.result.now.place c.seat.inside.token.me) (me_at c.index.result.now.place c.try_call.new.token.me) (rests_there _ _ _ _ _ _ c.self.invariant c.seat.invariant c.self.view_is c.seat.view_is c.requires.seat _ _ c.requires.place c.index.ensures) _ _ told))
+    if_err _ _ (λ e.
+    ChangesAt c.args.place c.args.seat.now.seats
+    (pass_of (record { token = c.try_call.new.token; key = c.seat.inside.key })).seats
+    (λ b a. Refuses (Moves g.O.Object.meaning g.O.Object.counted) b c.args.call e a)) c.try_call.ensures.err
+    (λ e told.
+    changes _ _ _ _ _ _ c.self.invariant c.seat.invariant c.self.view_is c.seat.view_is c.requires.seat _ _
+    c.requires.place c.index.ensures c.try_call.new.token c.try_call.ensures.same
+    (λ b a. Refuses (Moves g.O.Object.meaning g.O.Object.counted) b c.args.call e a)
+    (refused _ g.O.Object.counted _ _ _ _ c.try_call.ensures.same.0
+    (me_at c.index.result.now.place c.seat.inside.token.me) (me_at c.index.result.now.place c.try_call.new.token.me)
+    (rests_there _ _ _ _ _ _ c.self.invariant c.seat.invariant c.self.view_is c.seat.view_is c.requires.seat _ _
+    c.requires.place c.index.ensures) _ _ told))

@@ -19,7 +19,9 @@ for_each_mut-requires-send-T g c κs within = search (crossing, bank_seat_send, 
 -- Threads may share each part that the closure captures.
 pub for_each_mut-requires-sync-F : goal.for_each_mut-requires-sync-F
 for_each_mut-requires-sync-F g c κs within =
-    let shared : IsSync (bank.the_row sum.the_row raise.the_row u64-field.row object.ghosts) = bank_sync sum.the_row raise.the_row u64-field.row object.ghosts sum_send sum_sync in
-    let t = captured_sync (ShrRef (lifetime 6) κs.1.1.1.1.1.1.0 (param 0 g.row.R) ∷ ShrRef (lifetime 7) κs.1.1.1.1.1.1.1.0 (bank.the_row sum.the_row raise.the_row u64-field.row object.ghosts) ∷ [])
+    let shared : IsSync (bank.the_row sum.the_row raise.the_row u64-field.row object.ghosts) =
+    bank_sync sum.the_row raise.the_row u64-field.row object.ghosts sum_send sum_sync in
+    let t = captured_sync (ShrRef (lifetime 6) κs.1.1.1.1.1.1.0 (param 0 g.row.R)
+    ∷ ShrRef (lifetime 7) κs.1.1.1.1.1.1.1.0 (bank.the_row sum.the_row raise.the_row u64-field.row object.ghosts) ∷ [])
     (shr_sync _ _ _ c.type_bounds.sync-R, (shr_sync _ _ _ shared, tt)) in
     param_sync 2 (lts.arg-1-2 g.row.R g.R.laws g.R.Threads-dict g.R.Wait-dict κs) (record { shared = t.shared })

@@ -5,4 +5,5 @@ use Rattle.sysv_bench.proofs.gate.places.split_all.Given as goal
 
 -- The seats are those of the bank.
 abbrev pub invariant-loop : goal.invariant-loop
-invariant-loop l = record { seat : gates_of l.seat.seats ≡ l.bank; seats : All (λ s. gates_of s.seats ≡ l.bank) l.seats.items }
+invariant-loop l =
+    record { seat : gates_of l.seat.seats ≡ l.bank; seats : All (λ s. gates_of s.seats ≡ l.bank) l.seats.items }

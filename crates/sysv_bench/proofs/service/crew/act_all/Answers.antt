@@ -15,6 +15,8 @@ for_each_mut-requires-send-T g c κs within = search (crossing, pass_send, part_
 -- Threads may share each part that the closure captures.
 pub for_each_mut-requires-sync-F : goal.for_each_mut-requires-sync-F
 for_each_mut-requires-sync-F g c κs within =
-    let t = captured_sync (ShrRef (lifetime 6) κs.1.1.1.1.1.1.0 (param 0 g.row.R) ∷ ShrRef (lifetime 7) κs.1.1.1.1.1.1.1.0 service.the_row ∷ [])
+    let t = captured_sync (ShrRef (lifetime 6) κs.1.1.1.1.1.1.0 (param 0 g.row.R)
+    ∷ ShrRef (lifetime 7) κs.1.1.1.1.1.1.1.0 service.the_row ∷ [])
     (shr_sync _ _ _ c.type_bounds.sync-R, (shr_sync _ _ _ service_sync, tt)) in
-    param_sync 2 (lts.arg-1-2 g.row.R g.R.laws g.R.Threads-dict g.R.Wait-dict g.R.Clock-dict κs) (record { shared = t.shared })
+    param_sync 2 (lts.arg-1-2 g.row.R g.R.laws g.R.Threads-dict g.R.Wait-dict g.R.Clock-dict κs)
+    (record { shared = t.shared })

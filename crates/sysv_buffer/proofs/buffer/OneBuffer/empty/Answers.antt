@@ -1,6 +1,6 @@
 use Rattle.std.proofs.Common.{rules, ap, sym, ◌∙◌, ◌∷◌, ◌%◌, Some, None}
 use Rattle.atomic_table.specs.Table.{rest}
-use Rattle.sysv_buffer.proofs.Stepping.{takes'}
+use Rattle.sysv_buffer.proofs.StepKeepsRule.{takes'}
 use Rattle.sysv_buffer.proofs.buffer.OneBuffer.empty.Goals as goal
 
 pub exchange-requires : goal.exchange-requires
@@ -13,5 +13,9 @@ fetch_add-requires g c =
     let v = c.args.token.now.me.0 in
     let out = c.requires.out in
     let slots = c.self.invariant.1 ∙ ap (λ b. b.room) c.self.view_is in
-    let is = c.exchange.ensures.3 ∙ ap (λ xs. (v, (c.args.cell, None) ∷ rest xs)) out.1 in
-    (search rules, search rules, takes' _ _ _ v c.args.cell is c.requires.consumer c.requires.busy (c.requires.place ∙ ap (λ n. v.taken % n) (sym slots)))
+    let is = c.exchange.ensures.3 ∙ ap (λ xs. (v, (c.args.cell, None) ∷ rest xs)) out.1 in (
+      search rules,
+      search rules,
+      takes' _ _ _ v c.args.cell is c.requires.consumer c.requires.busy
+          (c.requires.place ∙ ap (λ n. v.taken % n) (sym slots)),
+    )

@@ -1,11 +1,15 @@
 use Rattle.std.proofs.Common.{rules, ap, sym, ◌∙◌, ◌∷◌, ◌%◌, Some, length}
 use Rattle.atomic_table.specs.Table.{rest}
-use Rattle.sysv_buffer.proofs.Stepping.{puts}
+use Rattle.sysv_buffer.proofs.StepKeepsRule.{puts}
 use Rattle.sysv_buffer.proofs.buffer.OneBuffer.fill.Goals as goal
 
 pub fetch_add-requires : goal.fetch_add-requires
 fetch_add-requires g c =
     let v = c.args.token.now.me.0 in
     let slots = c.self.invariant.1 ∙ ap (λ b. b.room) c.self.view_is in
-    let is = c.exchange-left.ensures.3 ∙ ap (λ xs. (v, (c.args.cell, Some c.args.item) ∷ rest xs)) c.requires.out in
-    (search rules, search rules, puts _ _ _ v c.args.cell c.args.item is c.requires.producer c.requires.busy (c.requires.place ∙ ap (λ n. length v.put % n) (sym slots)))
+    let is = c.exchange-left.ensures.3 ∙ ap (λ xs. (v, (c.args.cell, Some c.args.item) ∷ rest xs)) c.requires.out in (
+      search rules,
+      search rules,
+      puts _ _ _ v c.args.cell c.args.item is c.requires.producer c.requires.busy
+          (c.requires.place ∙ ap (λ n. length v.put % n) (sym slots)),
+    )

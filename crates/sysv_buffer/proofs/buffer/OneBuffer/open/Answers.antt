@@ -1,5 +1,5 @@
 use Rattle.std.proofs.Common.{rules}
-use Rattle.sysv_buffer.proofs.Opening.{parts}
+use Rattle.sysv_buffer.proofs.OpenedMeetsRule.{parts}
 use Rattle.sysv_buffer.proofs.buffer.OneBuffer.open.Goals as goal
 
 pub split_seat-other-requires : goal.split_seat-other-requires

@@ -11,6 +11,8 @@ returns-clause-ok g c =
     record {
       others = k.more;
       seen = p.seen ∙ ap (λ l. l ++ c.args.item ∷ []) seen;
-      puts = p.puts ∙ (ap (λ l. l ++ length r.seen ∷ []) (k.puts ∙ ap (λ h. h.puts) c.seat.view_is) ∙ ap (λ l. before.puts ++ length l ∷ []) seen);
+      puts = p.puts
+          ∙ (ap (λ l. l ++ length r.seen ∷ []) (k.puts ∙ ap (λ h. h.puts) c.seat.view_is)
+          ∙ ap (λ l. before.puts ++ length l ∷ []) seen);
       takes = p.takes ∙ (k.takes ∙ ap (λ h. h.takes) c.seat.view_is);
     }

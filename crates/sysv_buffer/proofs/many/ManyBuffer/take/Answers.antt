@@ -1,7 +1,7 @@
 use Rattle.std.proofs.Common.{ap, sym, ◌∙◌, ◌++◌, refl}
 use mathlib.Core.Option.{some}
 use lib.ListN.{get_elem?}
-use Rattle.sysv_buffer.proofs.Turning.{same_item}
+use Rattle.sysv_buffer.proofs.ConsumerAfterTake.{same_item}
 use Rattle.sysv_buffer.proofs.many.ManyBuffer.take.Goals as goal
 
 pub returns-clause-ok : goal.returns-clause-ok
@@ -17,6 +17,8 @@ returns-clause-ok g c =
       seen = t.seen ∙ (k.seen ∙ ap (λ h. h.seen ++ k.more) c.seat.view_is);
       puts = t.puts ∙ (k.puts ∙ ap (λ h. h.puts) c.seat.view_is);
       place = has.place;
-      takes = t.takes ∙ (ap (λ l. l ++ m.0.take_ticket) (k.takes ∙ ap (λ h. h.takes) c.seat.view_is) ∙ ap (λ l. before.takes ++ l) has.take_ticket);
+      takes = t.takes
+          ∙ (ap (λ l. l ++ m.0.take_ticket) (k.takes ∙ ap (λ h. h.takes) c.seat.view_is)
+          ∙ ap (λ l. before.takes ++ l) has.take_ticket);
       at = ap (λ l. get_elem? l has.place) t.seen ∙ (has.at ∙ ap some (sym same));
     }

@@ -1,4 +1,5 @@
-use Rattle.std.proofs.Common.{◌+◌, ◌*◌, ◌++◌, length, take, drop, ap, ◌∙◌, append_assoc, arith, length-append, length-take}
+use Rattle.std.proofs.Common.{◌+◌, ◌*◌, ◌++◌, length, take, drop, ap, ◌∙◌, append_assoc, arith, length-append}
+use Rattle.std.proofs.Common.{length-take}
 use Rattle.sysv_wire.proofs.StreamLemmas.{block_more}
 use Rattle.sysv_clients.proofs.page.Page.message.Goals as goal
 
@@ -17,5 +18,6 @@ loop-k-preserved c =
     let text = c.args.text.now in
     let k = c.loop-k.k in
     let first = c.args.self.now in
-    c.put.ensures.after ∙ ap (λ l. l ++ c.block.result.now) c.loop-k.invariant ∙ ap (λ l. (first ++ take (k * 64) text) ++ l) c.block.ensures
+    c.put.ensures.after ∙ ap (λ l. l ++ c.block.result.now) c.loop-k.invariant
+    ∙ ap (λ l. (first ++ take (k * 64) text) ++ l) c.block.ensures
     ∙ append_assoc first (take (k * 64) text) (take 64 (drop (k * 64) text)) ∙ ap (λ l. first ++ l) (block_more k text)

@@ -12,7 +12,16 @@ end-requires c = weaker c.self.inside.steps (2 ^ 62) c.self.inside.objects c.sel
 pub returns : goal.returns
 returns c =
     let o = c.self.inside.objects in
-    let seen : Seen = record { objects = o; states = states_kept c.self.inside.actors.items; steps = c.self.inside.steps; tally = c.self.inside.tally } in
-    let freed : o.pool.free + (blocks_in o.slots + blocks_held seen.states) ≤ o.pool.size → c.end.result ≡ o.pool.free + (blocks_in o.slots + blocks_held seen.states) =
-    subst (λ n. o.pool.free + (blocks_in o.slots + n) ≤ o.pool.size → c.end.result ≡ o.pool.free + (blocks_in o.slots + n)) c.end_all.ensures c.end.ensures.own in
-    subst (λ v. AreAllFree v c.end.result) c.self.view_is (λ opened list given s. all_free opened list given seen c.end.result freed s)
+    let seen : Seen = record {
+      objects = o;
+      states = states_kept c.self.inside.actors.items;
+      steps = c.self.inside.steps;
+      tally = c.self.inside.tally;
+    } in
+    let freed : o.pool.free + (blocks_in o.slots + blocks_held seen.states) ≤ o.pool.size →
+    c.end.result ≡ o.pool.free + (blocks_in o.slots + blocks_held seen.states) =
+    subst (λ n.
+    o.pool.free + (blocks_in o.slots + n) ≤ o.pool.size → c.end.result ≡ o.pool.free + (blocks_in o.slots + n))
+    c.end_all.ensures c.end.ensures.own in
+    subst (λ v. AreAllFree v c.end.result) c.self.view_is
+    (λ opened list given s. all_free opened list given seen c.end.result freed s)

@@ -10,13 +10,19 @@ use Rattle.sysv_core.proofs.world.World.open_at.Goals as goal
 
 pub returns-in-Ok-clause-opened : goal.returns-in-Ok-clause-opened
 returns-in-Ok-clause-opened c =
-    let o : Opening = record { actors = c.args.actors; blocks = c.args.blocks; first = c.args.first_step; generation = c.args.generation } in
+    let o : Opening = record {
+      actors = c.args.actors;
+      blocks = c.args.blocks;
+      first = c.args.first_step;
+      generation = c.args.generation;
+    } in
     record {
       world = opening o;
       led = (refl, refl);
       sight = record {
         objects = c.in-Ok.ensures.stands;
-        states = map-replicate state_in c.args.actors None ∙ sym (ap states_kept c.in_ok-actors.ensures ∙ map-replicate state_kept c.args.actors None);
+        states = map-replicate state_in c.args.actors None
+            ∙ sym (ap states_kept c.in_ok-actors.ensures ∙ map-replicate state_kept c.args.actors None);
         sound = opening_sound o (c.legal_turns.ensures.none c.args.generation c.args.blocks);
         steps = refl;
         blocks = sym c.in-Ok.ensures.size;
@@ -27,5 +33,9 @@ pub invariant_of-result : goal.invariant_of-result
 invariant_of-result c =
     let opened = returns-in-Ok-clause-opened c in
     let written = ap (λ (t : Tallied). t.written) c.open.ensures in
-    let lost = ap (λ (t : Tallied). t.lost) c.open.ensures in
-    (omega arith, weaker 0 c.args.first_step c.in-Ok.objects (omega arith) c.in-Ok.ensures.counts, (opened.world, opened.sight), omega (arith, written, lost))
+    let lost = ap (λ (t : Tallied). t.lost) c.open.ensures in (
+      omega arith,
+      weaker 0 c.args.first_step c.in-Ok.objects (omega arith) c.in-Ok.ensures.counts,
+      (opened.world, opened.sight),
+      omega (arith, written, lost),
+    )

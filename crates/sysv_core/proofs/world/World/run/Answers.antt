@@ -1,4 +1,5 @@
-use Rattle.std.proofs.Common.{◌≡◌, ◌<◌, ◌++◌, ◌∷◌, [], length, length-append, vec_len, vec_capacity, sym, ap, subst, ◌∙◌, rules, arith, refl, append_assoc, add-zero, inl, inr}
+use Rattle.std.proofs.Common.{◌≡◌, ◌<◌, ◌++◌, ◌∷◌, [], length, length-append, vec_len, vec_capacity, sym, ap, subst}
+use Rattle.std.proofs.Common.{◌∙◌, rules, arith, refl, append_assoc, add-zero, inl, inr}
 use Rattle.std.proofs.lemmas.List.{append-nil, length_push}
 use Rattle.sysv_core.specs.declared.event.Stepped.TheVariants.{Nothing, Answer}
 use Rattle.sysv_core.specs.Tallying.{messages_in}
@@ -16,7 +17,8 @@ loop-event-init c =
       room = omega (arith, c.in-Ok.ensures.capacity, c.args.events.ok.0);
       written = omega (arith, ap messages_in c.in-Ok.ensures.items);
       lost = refl;
-      going = subst (UnderWay c.args.self.now c.args.self.now []) (sym c.in-Ok.ensures.items) (under_way c.args.self.now);
+      going =
+          subst (UnderWay c.args.self.now c.args.self.now []) (sym c.in-Ok.ensures.items) (under_way c.args.self.now);
     }
 
 pub loop-event-preserved-in-Nothing : goal.loop-event-preserved-in-Nothing
@@ -24,13 +26,17 @@ loop-event-preserved-in-Nothing c =
     let next = c.in-Some.ensures.steps in
     let i = c.loop-event.invariant in
     record {
-      split = i.split ∙ (ap (λ xs. c.loop-event.yielded ++ xs) next.0 ∙ sym (append_assoc c.loop-event.yielded (c.in-Some.event ∷ []) c.next.new.self.rest.items));
+      split = i.split
+          ∙ (ap (λ xs. c.loop-event.yielded ++ xs) next.0
+          ∙ sym (append_assoc c.loop-event.yielded (c.in-Some.event ∷ []) c.next.new.self.rest.items));
       few = omega (arith, i.few, length_push c.loop-event.yielded c.in-Some.event);
       room = i.room;
       written = c.in-Nothing.ensures.written ∙ (add-zero c.loop-event.self.tally.written ∙ i.written);
       lost = c.in-Nothing.ensures.lost ∙ i.lost;
-      going = subst (UnderWay c.args.self.now c.step.new.self (c.loop-event.yielded ++ c.in-Some.event ∷ [])) (append-nil c.loop-event.answers.items)
-          (goes_on c.args.self.now c.loop-event.self c.step.new.self c.loop-event.yielded c.loop-event.answers.items c.in-Some.event Nothing i.going c.in-Nothing.ensures.stands);
+      going = subst (UnderWay c.args.self.now c.step.new.self (c.loop-event.yielded ++ c.in-Some.event ∷ []))
+          (append-nil c.loop-event.answers.items)
+          (goes_on c.args.self.now c.loop-event.self c.step.new.self c.loop-event.yielded c.loop-event.answers.items
+          c.in-Some.event Nothing i.going c.in-Nothing.ensures.stands);
     }
 
 pub unwrap-requires : goal.unwrap-requires
@@ -49,13 +55,23 @@ loop-event-preserved c =
     let pushed = rw c.unwrap.ensures at c.push.ensures.items in
     let longer = rw c.unwrap.ensures at c.push.ensures.len in
     record {
-      split = i.split ∙ (ap (λ xs. c.loop-event.yielded ++ xs) next.0 ∙ sym (append_assoc c.loop-event.yielded (c.in-Some.event ∷ []) c.next.new.self.rest.items));
+      split = i.split
+          ∙ (ap (λ xs. c.loop-event.yielded ++ xs) next.0
+          ∙ sym (append_assoc c.loop-event.yielded (c.in-Some.event ∷ []) c.next.new.self.rest.items));
       few = omega (arith, i.few, longer, length_push c.loop-event.yielded c.in-Some.event);
       room = omega (arith, i.room, c.push.ensures.capacity);
-      written = omega (arith, i.written, c.in-Answer.ensures.written, ap messages_in pushed, messages_more c.loop-event.answers.items c.in-Answer.answer);
+      written = omega (
+        arith,
+        i.written,
+        c.in-Answer.ensures.written,
+        ap messages_in pushed,
+        messages_more c.loop-event.answers.items c.in-Answer.answer,
+      );
       lost = c.in-Answer.ensures.lost ∙ i.lost;
-      going = subst (UnderWay c.args.self.now c.step.new.self (c.loop-event.yielded ++ c.in-Some.event ∷ [])) (sym pushed)
-          (goes_on c.args.self.now c.loop-event.self c.step.new.self c.loop-event.yielded c.loop-event.answers.items c.in-Some.event (Answer c.in-Answer.answer) i.going c.in-Answer.ensures.stands);
+      going =
+          subst (UnderWay c.args.self.now c.step.new.self (c.loop-event.yielded ++ c.in-Some.event ∷ [])) (sym pushed)
+          (goes_on c.args.self.now c.loop-event.self c.step.new.self c.loop-event.yielded c.loop-event.answers.items
+          c.in-Some.event (Answer c.in-Answer.answer) i.going c.in-Answer.ensures.stands);
     }
 
 pub returns-clause-stands : goal.returns-clause-stands
@@ -63,12 +79,18 @@ returns-clause-stands c =
     let i = c.loop-event.invariant in
     elim c.match-next.branch [
       | in-None w ↦
-          let over : c.loop-event.event-iterator.rest.items ≡ [] = none_in c.loop-event.event-iterator.rest.items (omega (arith, w.in-None.ensures.steps.0, c.loop-event.event-iterator.rest.ok.0)) in
-          rw w.self-is (runs_on c.args.self.now c.loop-event.self c.args.events.items c.loop-event.yielded [] c.loop-event.answers.items i.going (i.split ∙ ap (λ xs. c.loop-event.yielded ++ xs) over) (inl refl))
+          let over : c.loop-event.event-iterator.rest.items ≡ [] = none_in c.loop-event.event-iterator.rest.items
+          (omega (arith, w.in-None.ensures.steps.0, c.loop-event.event-iterator.rest.ok.0)) in
+          rw w.self-is
+          (runs_on c.args.self.now c.loop-event.self c.args.events.items c.loop-event.yielded []
+          c.loop-event.answers.items i.going (i.split ∙ ap (λ xs. c.loop-event.yielded ++ xs) over) (inl refl))
       | in-Some+in-Worn w ↦
           let same = w.in-Worn.ensures.unchanged refl in
           let worn = w.in-Worn.ensures.worn.0 refl in
-          rw w.self-is (rw same (runs_on c.args.self.now c.loop-event.self c.args.events.items c.loop-event.yielded c.loop-event.event-iterator.rest.items c.loop-event.answers.items i.going i.split (inr worn)))
+          rw w.self-is
+          (rw same
+          (runs_on c.args.self.now c.loop-event.self c.args.events.items c.loop-event.yielded
+          c.loop-event.event-iterator.rest.items c.loop-event.answers.items i.going i.split (inr worn)))
     ]
 
 pub returns-in_default-clause-law : goal.returns-in_default-clause-law

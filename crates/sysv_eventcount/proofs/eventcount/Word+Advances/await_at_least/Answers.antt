@@ -1,5 +1,5 @@
 use Rattle.std.proofs.Common.{rules}
-use Rattle.sysv_eventcount.proofs.Learning.{learns_before}
+use Rattle.sysv_eventcount.proofs.LearnedBefore.{learns_before}
 use Rattle.sysv_eventcount.proofs.eventcount.Word+Advances.await_at_least.Goals as goal
 
 pub returns-in-Reached-clause-learned : goal.returns-in-Reached-clause-learned

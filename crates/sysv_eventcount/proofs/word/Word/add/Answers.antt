@@ -3,7 +3,7 @@ use Rattle.std.proofs.lemmas.Bool.Decides.{nat_tests}
 use Rattle.sysv_eventcount.specs.Counter.{Holding, Learns}
 use Rattle.sysv_eventcount.specs.declared.view.View.{View}
 use Rattle.sysv_eventcount.specs.Steps.{Informs}
-use Rattle.sysv_eventcount.proofs.Keeping.{clears, adds, before_clearing}
+use Rattle.sysv_eventcount.proofs.StepKeepsRule.{clears, adds, before_clearing}
 use Rattle.sysv_eventcount.proofs.word.Word.add.Goals as goal
 
 pub load-found-requires : goal.load-found-requires
@@ -19,5 +19,8 @@ returns-clause-learned g c =
     let number = c.fetch_add-number.result in
     let load = c.load-found.ensures.2 in
     let step = c.fetch_add-number.ensures.2 in
-    let before : Informs c.seat.inside.token.me.0 number = before_clearing c.seat.inside.token.me.0 c.load-found.new.seat.me.0 c.load-found.result number (ap (λ m. m.0) load.0) load.1 step.1 in
-    (subst (λ (h : Holding). Learns h number) c.seat.view_is before, subst (λ (v : View). Informs v (number + 1)) (sym (ap (λ m. m.0) step.0)) step.2)
+    let before : Informs c.seat.inside.token.me.0 number = before_clearing c.seat.inside.token.me.0
+    c.load-found.new.seat.me.0 c.load-found.result number (ap (λ m. m.0) load.0) load.1 step.1 in (
+      subst (λ (h : Holding). Learns h number) c.seat.view_is before,
+      subst (λ (v : View). Informs v (number + 1)) (sym (ap (λ m. m.0) step.0)) step.2,
+    )

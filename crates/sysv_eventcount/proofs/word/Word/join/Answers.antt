@@ -1,7 +1,7 @@
 use Rattle.std.proofs.Common.{rules, sym, subst}
 use Rattle.sysv_lists.specs.Numbers.{NoneTwice}
 use Rattle.sysv_eventcount.specs.Steps.{Mine}
-use Rattle.sysv_eventcount.proofs.Keeping.{joins, weighs}
+use Rattle.sysv_eventcount.proofs.StepKeepsRule.{joins, weighs}
 use Rattle.sysv_eventcount.proofs.word.Word.join.Goals as goal
 
 pub join_seat-requires : goal.join_seat-requires

@@ -1,5 +1,5 @@
 use Rattle.std.proofs.Common.{rules}
-use Rattle.sysv_eventcount.proofs.Keeping.{looks}
+use Rattle.sysv_eventcount.proofs.StepKeepsRule.{looks}
 use Rattle.sysv_eventcount.proofs.word.Word.look.Goals as goal
 
 pub load-requires : goal.load-requires

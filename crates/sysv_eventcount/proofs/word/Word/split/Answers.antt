@@ -1,5 +1,5 @@
 use Rattle.std.proofs.Common.{rules, arith}
-use Rattle.sysv_eventcount.proofs.Keeping.{splits}
+use Rattle.sysv_eventcount.proofs.StepKeepsRule.{splits}
 use Rattle.sysv_eventcount.proofs.word.Word.split.Goals as goal
 
 pub split_seat-token-requires : goal.split_seat-token-requires

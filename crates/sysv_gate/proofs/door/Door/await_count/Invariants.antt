@@ -5,4 +5,8 @@ use Rattle.sysv_gate.proofs.door.Door.await_count.Given as goal
 
 -- The wait is not over yet.
 abbrev pub invariant-loop : goal.invariant-loop
-invariant-loop g l = record { same : IsSame l.self.place l.fn.token l.token; more : ReadMore l.count (me_at l.self.place l.fn.token.me) (me_at l.self.place l.token.me); goes_on : (goal.iterator-loop g).can_next l.iterator' × (goal.iterator-loop g).is_finite l.iterator' }
+invariant-loop g l = record {
+  same : IsSame l.self.place l.fn.token l.token;
+  more : ReadMore l.count (me_at l.self.place l.fn.token.me) (me_at l.self.place l.token.me);
+  goes_on : (goal.iterator-loop g).can_next l.iterator' × (goal.iterator-loop g).is_finite l.iterator';
+}

@@ -1,5 +1,5 @@
-use Rattle.sysv_gate.proofs.Turning.{read_again, read_more}
-use Rattle.sysv_gate.proofs.Entering.{same_trans}
+use Rattle.sysv_gate.proofs.LearnedInCall.{read_again, read_more}
+use Rattle.sysv_gate.proofs.PassUnchanged.{same_trans}
 use Rattle.sysv_gate.proofs.door.Door.count_to.Goals as goal
 
 pub loop-preserved : goal.loop-preserved

@@ -5,4 +5,8 @@ use Rattle.sysv_gate.proofs.door.Door.count_to.Given as goal
 
 -- The value that was read last.
 abbrev pub invariant-loop : goal.invariant-loop
-invariant-loop g l = record { same : IsSame l.self.place l.fn.token l.token; read : HasRead g.O.Object.counted l.self.opening l.count (me_at l.self.place l.fn.token.me) l.value (me_at l.self.place l.token.me) }
+invariant-loop g l = record {
+  same : IsSame l.self.place l.fn.token l.token;
+  read : HasRead g.O.Object.counted l.self.opening l.count (me_at l.self.place l.fn.token.me) l.value
+      (me_at l.self.place l.token.me);
+}

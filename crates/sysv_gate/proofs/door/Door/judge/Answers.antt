@@ -1,4 +1,4 @@
-use Rattle.sysv_gate.proofs.Entering.{same_trans}
+use Rattle.sysv_gate.proofs.PassUnchanged.{same_trans}
 use Rattle.sysv_gate.proofs.door.Door.judge.Goals as goal
 
 pub returns-then-is_worn-clause-same : goal.returns-then-is_worn-clause-same

@@ -9,6 +9,8 @@ use Rattle.sysv_gate.proofs.door.Door.spin.Given as goal
 abbrev pub invariant-loop : goal.invariant-loop
 invariant-loop g l = record {
   same : IsSame l.self.place l.fn.token l.token;
-  turn : l.served ≡ l.ticket → TurnCame (Moves g.O.Object.meaning g.O.Object.counted) g.O.Object.counted l.self.opening (me_at l.self.place l.fn.token.me).0 l.ticket (me_at l.self.place l.token.me);
+  turn : l.served ≡ l.ticket →
+      TurnCame (Moves g.O.Object.meaning g.O.Object.counted) g.O.Object.counted l.self.opening
+      (me_at l.self.place l.fn.token.me).0 l.ticket (me_at l.self.place l.token.me);
   waits : l.served ≢ l.ticket → SawMore (me_at l.self.place l.fn.token.me).0 (me_at l.self.place l.token.me);
 }

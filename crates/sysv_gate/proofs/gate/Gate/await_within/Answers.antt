@@ -3,19 +3,28 @@ use Rattle.sysv_gate.proofs.OneDoor.{door_of, is_at, idles, gate_after, has_wait
 use Rattle.sysv_gate.proofs.gate.Gate.await_within.Goals as goal
 
 pub await_within-requires-clause-door : goal.await_within-requires-clause-door
-await_within-requires-clause-door g c = door_of _ c.self.inside _ _ _ c.self.invariant c.seat.invariant c.self.view_is c.seat.view_is c.requires
+await_within-requires-clause-door g c =
+    door_of _ c.self.inside _ _ _ c.self.invariant c.seat.invariant c.self.view_is c.seat.view_is c.requires
 
 pub await_within-requires-clause-at : goal.await_within-requires-clause-at
-await_within-requires-clause-at g c = is_at _ c.self.inside _ _ _ c.self.invariant c.seat.invariant c.self.view_is c.seat.view_is c.requires
+await_within-requires-clause-at g c =
+    is_at _ c.self.inside _ _ _ c.self.invariant c.seat.invariant c.self.view_is c.seat.view_is c.requires
 
 pub await_within-requires-clause-idle : goal.await_within-requires-clause-idle
-await_within-requires-clause-idle g c = let i = idles _ c.self.inside _ _ _ c.self.invariant c.seat.invariant c.self.view_is c.seat.view_is c.requires in (i.no_slot, i.no_ticket, i.no_turn)
+await_within-requires-clause-idle g c =
+    let i = idles _ c.self.inside _ _ _ c.self.invariant c.seat.invariant c.self.view_is c.seat.view_is c.requires in
+    (i.no_slot, i.no_ticket, i.no_turn)
 
 pub invariant_of-seat : goal.invariant_of-seat
-invariant_of-seat g c = (has_waited_within (Moves g.O.Object.meaning g.O.Object.counted) c.self.inside _ _ _ c.self.invariant c.seat.invariant c.self.view_is c.seat.view_is c.requires g.O.Object.counted c.await_within.new.token c.await_within.ensures.same _ _ _ c.await_within.ensures.waited).0
+invariant_of-seat g c = (has_waited_within (Moves g.O.Object.meaning g.O.Object.counted) c.self.inside _ _ _
+    c.self.invariant c.seat.invariant c.self.view_is c.seat.view_is c.requires g.O.Object.counted
+    c.await_within.new.token c.await_within.ensures.same _ _ _ c.await_within.ensures.waited).0
 
 pub returns-clause-gate : goal.returns-clause-gate
-returns-clause-gate g c = gate_after _ c.self.inside _ _ _ c.self.invariant c.seat.invariant c.self.view_is c.seat.view_is c.requires g.O.Object.counted c.await_within.new.token c.await_within.ensures.same
+returns-clause-gate g c = gate_after _ c.self.inside _ _ _ c.self.invariant c.seat.invariant c.self.view_is
+    c.seat.view_is c.requires g.O.Object.counted c.await_within.new.token c.await_within.ensures.same
 
 pub returns-clause-waited : goal.returns-clause-waited
-returns-clause-waited g c = (has_waited_within (Moves g.O.Object.meaning g.O.Object.counted) c.self.inside _ _ _ c.self.invariant c.seat.invariant c.self.view_is c.seat.view_is c.requires g.O.Object.counted c.await_within.new.token c.await_within.ensures.same _ _ _ c.await_within.ensures.waited).1
+returns-clause-waited g c = (has_waited_within (Moves g.O.Object.meaning g.O.Object.counted) c.self.inside _ _ _
+    c.self.invariant c.seat.invariant c.self.view_is c.seat.view_is c.requires g.O.Object.counted
+    c.await_within.new.token c.await_within.ensures.same _ _ _ c.await_within.ensures.waited).1

@@ -10,9 +10,14 @@ pub invariant_of-self : goal.invariant_of-self
 invariant_of-self c =
     let entries = c.self.inside.by_number.entries.items in
     let room : length entries < QUEUE_MESSAGES = omega (arith, c.requires.room, ap length c.self.view_is) in
-    let last = subst (λ es. All (λ (o : Entry). o.number < c.args.entry.number) es) (sym c.self.view_is) c.requires.last in
-    let kept = pushed entries c.self.inside.by_type.entries.items c.self.invariant.0 c.args.entry c.insert.new.self.entries.items room last c.insert.ensures.inserted in
-    (subst (λ es. IsIndex es c.insert.new.self.entries.items) (sym c.push.ensures.pushed) kept, omega (arith, c.push.ensures.roomy, c.self.invariant.1), omega (arith, c.insert.ensures.roomy, c.self.invariant.2))
+    let last =
+    subst (λ es. All (λ (o : Entry). o.number < c.args.entry.number) es) (sym c.self.view_is) c.requires.last in
+    let kept = pushed entries c.self.inside.by_type.entries.items c.self.invariant.0 c.args.entry
+    c.insert.new.self.entries.items room last c.insert.ensures.inserted in (
+      subst (λ es. IsIndex es c.insert.new.self.entries.items) (sym c.push.ensures.pushed) kept,
+      omega (arith, c.push.ensures.roomy, c.self.invariant.1),
+      omega (arith, c.insert.ensures.roomy, c.self.invariant.2),
+    )
 
 pub returns : goal.returns
 returns c = c.push.ensures.pushed ∙ ap (λ es. es ++ c.args.entry ∷ []) c.self.view_is

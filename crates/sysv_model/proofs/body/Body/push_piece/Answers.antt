@@ -8,5 +8,6 @@ loop-rest-preserved c =
       text = step.ensures.text ∙ c.loop-rest.invariant.text;
       bytes =
           sym (length-append step.new.self step.result.now)
-          ∙ (ap length step.ensures.text ∙ (length-append c.loop-rest.self c.loop-rest.rest.now ∙ c.loop-rest.invariant.bytes));
+          ∙ (ap length step.ensures.text
+          ∙ (length-append c.loop-rest.self c.loop-rest.rest.now ∙ c.loop-rest.invariant.bytes));
     }

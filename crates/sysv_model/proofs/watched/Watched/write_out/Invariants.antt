@@ -7,7 +7,8 @@ use Rattle.sysv_model.proofs.watched.Watched.write_out.Given as goal
 abbrev pub invariant-loop-written : goal.invariant-loop-written
 invariant-loop-written g l = record {
   within : l.written ≤ length l.bytes;
-  so_far : Appends (g.S.Write.contents (stream_of l.initial.self)) (g.S.Write.contents (stream_of l.self)) (take l.written l.bytes);
+  so_far : Appends (g.S.Write.contents (stream_of l.initial.self)) (g.S.Write.contents (stream_of l.self))
+      (take l.written l.bytes);
   same : stream_name l.self ≡ stream_name l.initial.self;
   failed : failures_of l.self ≡ failures_of l.initial.self;
 }

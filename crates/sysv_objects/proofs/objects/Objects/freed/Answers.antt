@@ -4,4 +4,9 @@ use Rattle.sysv_objects.proofs.Placed.{its_slot, counted}
 use Rattle.sysv_objects.proofs.objects.Objects.freed.Goals as goal
 
 pub returns : goal.returns
-returns c = λ generation turns s. c.counts.ensures.freed ∙ (counted c.self.inside.slots.items c.self.inside.registry c.self.inside.pool c.args.self.now c.self.view_is c.self.invariant c.slot_of_id-place.result (slot_of_id c.args.id) (its_slot _ c.args.id c.ranges.id c.slot_of_id-place.ensures.slot) c.slot_of_id-place.ensures.within c.index.result.now c.index.ensures generation turns s).1
+returns c = λ generation turns s.
+    c.counts.ensures.freed
+    ∙ (counted c.self.inside.slots.items c.self.inside.registry c.self.inside.pool c.args.self.now c.self.view_is
+    c.self.invariant c.slot_of_id-place.result (slot_of_id c.args.id)
+    (its_slot _ c.args.id c.ranges.id c.slot_of_id-place.ensures.slot) c.slot_of_id-place.ensures.within
+    c.index.result.now c.index.ensures generation turns s).1

@@ -6,4 +6,6 @@ use Rattle.sysv_objects.proofs.objects.Objects.is_unused.Goals as goal
 
 pub returns : goal.returns
 returns c = λ generation turns s.
-    c.is_unused.ensures generation (registry_history turns) (subst (λ (o : Objects). RegistryStandsFor generation (registry_history turns) o.registry) (sym c.self.view_is) s.registry)
+    c.is_unused.ensures generation (registry_history turns)
+    (subst (λ (o : Objects). RegistryStandsFor generation (registry_history turns) o.registry) (sym c.self.view_is)
+    s.registry)

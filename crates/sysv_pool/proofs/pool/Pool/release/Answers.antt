@@ -6,16 +6,25 @@ use Rattle.sysv_pool.proofs.pool.Pool.release.Goals as goal
 
 pub returns-then-chain-self-clause-turn : goal.returns-then-chain-self-clause-turn
 returns-then-chain-self-clause-turn c =
-    let blocks : length (contents_of c.chain.inside.link) ≡ c.args.chain.blocks = ap (λ (s : Chained). s.blocks) c.chain.view_is in
-    rw (← c.self.view_is) (turn_foreign c.self.inside.size c.self.inside.count c.self.inside.released c.args.chain.blocks (omega arith))
+    let blocks : length (contents_of c.chain.inside.link) ≡ c.args.chain.blocks =
+    ap (λ (s : Chained). s.blocks) c.chain.view_is in
+    rw (← c.self.view_is)
+    (turn_foreign c.self.inside.size c.self.inside.count c.self.inside.released c.args.chain.blocks (omega arith))
 
 pub invariant_of-self : goal.invariant_of-self
 invariant_of-self c =
-    let linked : length (contents_of c.take.result) ≡ c.self.inside.count = ap (λ x. length (contents_of x)) c.take.ensures.value ∙ c.self.invariant.0 in
-    (omega (arith, c.shift_all.ensures, c.self.invariant.1, c.self.invariant.2, c.chain.invariant), omega (arith, c.self.invariant.1), c.self.invariant.2)
+    let linked : length (contents_of c.take.result) ≡ c.self.inside.count =
+    ap (λ x. length (contents_of x)) c.take.ensures.value ∙ c.self.invariant.0 in (
+      omega (arith, c.shift_all.ensures, c.self.invariant.1, c.self.invariant.2, c.chain.invariant),
+      omega (arith, c.self.invariant.1),
+      c.self.invariant.2,
+    )
 
 pub returns-clause-turn : goal.returns-clause-turn
 returns-clause-turn c =
-    let seen : length (contents_of c.chain.inside.link) ≡ c.args.chain.blocks = ap (λ (s : Chained). s.blocks) c.chain.view_is in
+    let seen : length (contents_of c.chain.inside.link) ≡ c.args.chain.blocks =
+    ap (λ (s : Chained). s.blocks) c.chain.view_is in
     let blocks : c.chain.inside.count ≡ c.args.chain.blocks = omega (arith, c.chain.invariant, c.self.invariant.2) in
-    rw (← c.self.view_is, blocks) (turn_released c.self.inside.size c.self.inside.count c.self.inside.released c.args.chain.blocks (omega (arith, c.self.invariant.1)))
+    rw (← c.self.view_is, blocks)
+    (turn_released c.self.inside.size c.self.inside.count c.self.inside.released c.args.chain.blocks
+    (omega (arith, c.self.invariant.1)))

@@ -8,10 +8,13 @@ use Rattle.sysv_pool.proofs.pool.Pool.reserve.Goals as goal
 pub returns-then-count-self-clause-turn : goal.returns-then-count-self-clause-turn
 returns-then-count-self-clause-turn c =
     let count : c.div_ceil-count.result ≡ blocks_for c.args.size = c.div_ceil-count.ensures ∙ rounded_up c.args.size in
-    rw (← c.self.view_is) (turn_too_few c.self.inside.size c.self.inside.count c.self.inside.released c.args.size (omega arith))
+    rw (← c.self.view_is)
+    (turn_too_few c.self.inside.size c.self.inside.count c.self.inside.released c.args.size (omega arith))
 
 pub returns-clause-turn : goal.returns-clause-turn
 returns-clause-turn c =
     let count : c.div_ceil-count.result ≡ blocks_for c.args.size = c.div_ceil-count.ensures ∙ rounded_up c.args.size in
-    let made : length (contents_of c.replace-link.result) ≡ c.div_ceil-count.result = ap (λ x. length (contents_of x)) c.replace-link.ensures.value ∙ c.cut-rest.ensures.kept in
-    rw (← c.self.view_is, made, count) (turn_reserved c.self.inside.size c.self.inside.count c.self.inside.released c.args.size (omega arith))
+    let made : length (contents_of c.replace-link.result) ≡ c.div_ceil-count.result =
+    ap (λ x. length (contents_of x)) c.replace-link.ensures.value ∙ c.cut-rest.ensures.kept in
+    rw (← c.self.view_is, made, count)
+    (turn_reserved c.self.inside.size c.self.inside.count c.self.inside.released c.args.size (omega arith))

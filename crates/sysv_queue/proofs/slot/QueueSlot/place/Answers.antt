@@ -17,10 +17,12 @@ returns-in-Denied-clause-turn c =
 pub returns-in-Full-clause-turn : goal.returns-in-Full-clause-turn
 returns-in-Full-clause-turn c =
     let legal = rw (to_z-of_z w32 c.args.id c.ranges.id, ← c.requires.text) at c.in-Full.ensures.turn.legal in
-    turn_quiet _ _ _ (quiet_place_full c.args.id c.args.cred c.args.mtype c.args.chain.bytes c.args.now c.in-Full.freed) legal
+    turn_quiet _ _ _ (quiet_place_full c.args.id c.args.cred c.args.mtype c.args.chain.bytes c.args.now c.in-Full.freed)
+    legal
 
 pub returns-in-Fits-clause-turn : goal.returns-in-Fits-clause-turn
 returns-in-Fits-clause-turn c =
     let legal = rw (to_z-of_z w32 c.args.id c.ranges.id, ← c.requires.text) at c.in-Fits.ensures.turn.legal in
     rw (c.accept.ensures.after, c.accept.ensures.number, to_z-of_z w64 c.args.mtype c.ranges.mtype)
-    (turn_sent c.args.self.now c.args.id c.args.cred c.args.mtype c.args.chain.bytes c.args.now c.args.self.now.arrived (legal.0, legal.1, legal.2, refl))
+    (turn_sent c.args.self.now c.args.id c.args.cred c.args.mtype c.args.chain.bytes c.args.now c.args.self.now.arrived
+    (legal.0, legal.1, legal.2, refl))

@@ -13,7 +13,8 @@ returns-in-Err-Gone c =
 
 pub returns-in-Err-Denied : goal.returns-in-Err-Denied
 returns-in-Err-Denied c =
-    let denied = rw (to_z-of_z w32 c.args.id c.ranges.id, c.in-Err-Denied.field-0-is) at c.in-Err-Denied.ensures.barred in
+    let denied =
+    rw (to_z-of_z w32 c.args.id c.ranges.id, c.in-Err-Denied.field-0-is) at c.in-Err-Denied.ensures.barred in
     record { turn = turn_quiet _ _ _ (quiet_stat c.args.id c.args.cred _) denied }
 
 pub returns : goal.returns
@@ -23,6 +24,11 @@ returns c =
     let found = rw (to_z-of_z w32 c.args.id c.ranges.id, ← c.self.view_is) at c.in-Ok.ensures.enters in
     let messages = c.self.inside.messages in
     record {
-      turn = rw (to_z-of_z w32 queue.key key_fits, ← c.self.view_is) (turn_quiet _ _ _ (quiet_stat c.args.id c.args.cred _)
-          (found.1, found.2, stat_shown messages c.self.inside.live queue _ _ found.0 c.bytes.ensures c.len.ensures.value));
+      turn =
+          rw (to_z-of_z w32 queue.key key_fits, ← c.self.view_is)
+          (turn_quiet _ _ _ (quiet_stat c.args.id c.args.cred _) (
+            found.1,
+            found.2,
+            stat_shown messages c.self.inside.live queue _ _ found.0 c.bytes.ensures c.len.ensures.value,
+          ));
     }

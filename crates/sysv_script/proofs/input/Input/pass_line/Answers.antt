@@ -9,6 +9,8 @@ returns c =
     let end = c.self.inside.end in
     let len = c.args.len in
     let seen : slice_range items start end ≡ c.args.self.now = c.self.view_is in
-    let inside : start + (len + 1) ≤ end = omega (arith, c.requires, ap length seen, length-take (end - start) (drop start items)) in
+    let inside : start + (len + 1) ≤ end =
+    omega (arith, c.requires, ap length seen, length-take (end - start) (drop start items)) in
     let sum : start + len + 1 ≡ start + (len + 1) = omega arith in
-    ap (λ from. slice_range items from end) sum ∙ passed_over items start end (len + 1) inside ∙ ap (drop (len + 1)) seen
+    ap (λ from. slice_range items from end) sum ∙ passed_over items start end (len + 1) inside
+    ∙ ap (drop (len + 1)) seen

@@ -15,10 +15,12 @@ returns-in-Ok-clause-text g c =
     let read = c.read.new.buf in
     let now = put_mid len (length moved - len) moved read in
     let held : take len moved ≡ c.args.self.now =
-    ap (take len) c.deref_mut.ensures.value ∙ ap (take len) c.copy_within.ensures.items ∙ moved_to_front was start end (omega arith) (omega arith) ∙ c.self.view_is in
+    ap (take len) c.deref_mut.ensures.value ∙ ap (take len) c.copy_within.ensures.items
+    ∙ moved_to_front was start end (omega arith) (omega arith) ∙ c.self.view_is in
     let within : len ≤ length moved = omega (arith, ap length c.deref_mut.ensures.value) in (
       take count read,
-      ap (λ items. slice_range items 0 (len + count)) (with_items_is c.copy_within.new.self now (search (rules, places)))
+      ap (λ items. slice_range items 0 (len + count))
+          (with_items_is c.copy_within.new.self now (search (rules, places)))
           ∙ came_behind c.args.self.now moved read len count _ within c.in-Ok.ensures.bound.0 held,
       c.in-Ok.ensures.bytes.0,
     )

@@ -1,6 +1,7 @@
 use Rattle.std.proofs.Common.{rules}
 use Rattle.sysv_script.proofs.FaultLemmas.{LeavesBadLine-stream}
-use Rattle.sysv_script.proofs.Scripting.{takes_more, hands_all, read_none, ends_text, stops_part, stops_read, no_end_in_none, exceeds_at}
+use Rattle.sysv_script.proofs.Scripting.{takes_more, hands_all, read_none, ends_text, stops_part, stops_read}
+use Rattle.sysv_script.proofs.Scripting.{no_end_in_none, exceeds_at}
 use Rattle.sysv_script.proofs.ScriptEnds.{at_stream_fault}
 use Rattle.sysv_script.proofs.StreamLemmas.{Grows-part}
 use Rattle.sysv_script.proofs.script.Run.expect_end.Goals as goal
@@ -12,7 +13,9 @@ returns-then-not-is_empty-clause-runs g c = λ s text old number many on.
 pub returns-in-Err-clause-runs : goal.returns-in-Err-clause-runs
 returns-in-Err-clause-runs g c = λ s text old number many on.
     at_stream_fault c.in-Err.fault s text _ _ _ _ c.in-Err.ensures.fault
-    (λ reads. stops_read _ _ _ _ _ _ _ _ _ _ _ (no_end_in_none _ _ (search rules) c.in-Err.ensures.kept) (c.in-Err.ensures.read_last reads) c.in-Err.ensures.none_left
+    (λ reads.
+    stops_read _ _ _ _ _ _ _ _ _ _ _ (no_end_in_none _ _ (search rules) c.in-Err.ensures.kept)
+    (c.in-Err.ensures.read_last reads) c.in-Err.ensures.none_left
     (takes_more _ _ _ _ _ _ _ _ _ _ _ c.in-Err.ensures.text on))
     (stops_part _ _ _ _ _ _ _ _ _ _ _ c.in-Err.ensures.err c.in-Err.ensures.none_left on)
 
@@ -24,7 +27,10 @@ returns-in-Err-clause-bad g c = LeavesBadLine-stream c.in-Err.fault _ c.in-Err.e
 
 pub returns-in-Ok-eq0-clause-runs : goal.returns-in-Ok-eq0-clause-runs
 returns-in-Ok-eq0-clause-runs g c = λ s text old number many on.
-    ends_text _ _ _ _ _ _ _ _ _ (read_none _ _ _ (search rules) c.in-Ok-eq0.ensures.count c.in-Ok-eq0.field-0-test, c.in-Ok-eq0.ensures.end c.in-Ok-eq0.field-0-test)
+    ends_text _ _ _ _ _ _ _ _ _ (
+      read_none _ _ _ (search rules) c.in-Ok-eq0.ensures.count c.in-Ok-eq0.field-0-test,
+      c.in-Ok-eq0.ensures.end c.in-Ok-eq0.field-0-test,
+    )
     (hands_all _ _ _ _ _ _ _ _ _ _ _ c.in-Ok-eq0.ensures.answers c.in-Ok-eq0.ensures.none_left
     (takes_more _ _ _ _ _ _ _ _ _ _ _ c.in-Ok-eq0.ensures.text on))
 

@@ -7,8 +7,13 @@ use Rattle.sysv_script.proofs.stage.Stage.act.Goals as goal
 
 pub returns-in-Preset-clause-runs : goal.returns-in-Preset-clause-runs
 returns-in-Preset-clause-runs c = λ s seen.
-    let made = c.preset.ensures.single s.world seen.world in
-    (in_world s made.0, [], (rw c.in-Preset.is (made.1, refl, refl)), record { world = made.2; creds = seen.creds; moment = seen.moment; fresh = seen.fresh }, sym (append-nil c.args.output.now))
+    let made = c.preset.ensures.single s.world seen.world in (
+      in_world s made.0,
+      [],
+      (rw c.in-Preset.is (made.1, refl, refl)),
+      record { world = made.2; creds = seen.creds; moment = seen.moment; fresh = seen.fresh },
+      sym (append-nil c.args.output.now),
+    )
 
 pub returns-in-Cred-clause-runs : goal.returns-in-Cred-clause-runs
 returns-in-Cred-clause-runs c = λ s seen.
@@ -17,7 +22,12 @@ returns-in-Cred-clause-runs c = λ s seen.
       record s { creds = with_cred s.creds actor cred },
       [],
       (rw c.in-Cred.is (refl, refl, refl)),
-      record { world = seen.world; creds = ap (λ creds. with_cred creds actor cred) seen.creds; moment = seen.moment; fresh = seen.fresh },
+      record {
+        world = seen.world;
+        creds = ap (λ creds. with_cred creds actor cred) seen.creds;
+        moment = seen.moment;
+        fresh = seen.fresh;
+      },
       sym (append-nil c.args.output.now),
     )
 
@@ -52,8 +62,10 @@ returns-in_ok-take_all_on-in-All-clause-runs c = λ s seen.
 
 pub returns-in_err-take_on-in-Step-clause-err : goal.returns-in_err-take_on-in-Step-clause-err
 returns-in_err-take_on-in-Step-clause-err c =
-    on_err c.from_residual-in_err-take_on-in-Step.result (prefix_none c.take_on.new.output c.args.output.now c.in_err-take_on-in-Step.ensures.err)
+    on_err c.from_residual-in_err-take_on-in-Step.result
+    (prefix_none c.take_on.new.output c.args.output.now c.in_err-take_on-in-Step.ensures.err)
 
 pub returns-in_err-take_on-in-Go-clause-err : goal.returns-in_err-take_on-in-Go-clause-err
 returns-in_err-take_on-in-Go-clause-err c =
-    on_err c.from_residual-in_err-take_on-in-Go.result (prefix_none c.take_on-in-Go.new.output c.args.output.now c.in_err-take_on-in-Go.ensures.err)
+    on_err c.from_residual-in_err-take_on-in-Go.result
+    (prefix_none c.take_on-in-Go.new.output c.args.output.now c.in_err-take_on-in-Go.ensures.err)

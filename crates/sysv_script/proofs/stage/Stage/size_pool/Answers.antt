@@ -9,12 +9,20 @@ pub returns : goal.returns
 returns c = λ s seen.
     let blocks = c.args.blocks in
     let o : Opening = record { actors = 16; blocks = blocks; first = 0; generation = 0 } in
-    let stands : StandsFor o [] [] c.in_ok-world.world = IfOk-mapped (λ world. StandsFor o [] [] world) _ c.open.result c.map_err.result c.in_ok-world.world c.open.ensures.opened c.map_err.ensures.cases c.map_err.ensures.variant c.in_ok-world.was in
+    let stands : StandsFor o [] [] c.in_ok-world.world =
+    IfOk-mapped (λ world. StandsFor o [] [] world) _ c.open.result c.map_err.result c.in_ok-world.world
+    c.open.ensures.opened c.map_err.ensures.cases c.map_err.ensures.variant c.in_ok-world.was in
     let held : true ≡ c.args.self.now.fresh = search rules in
     let fresh : true ≡ s.fresh = held ∙ sym seen.fresh in
     let after = in_world (begun_scene s) (opening_world blocks) in
-    let opened : IsSeenAs (opening_world blocks) c.in_ok-world.world = subst (λ w. IsSeenAs w c.in_ok-world.world) stands.led.1 stands.sight in (
+    let opened : IsSeenAs (opening_world blocks) c.in_ok-world.world =
+    subst (λ w. IsSeenAs w c.in_ok-world.world) stands.led.1 stands.sight in (
       after,
       (fresh, subst (λ b. after ≡ (if b then after else s)) fresh refl),
-      record { world = subst (IsSeenAs (opening_world blocks)) (sym c.replace.ensures.after) opened; creds = seen.creds; moment = seen.moment; fresh = refl },
+      record {
+        world = subst (IsSeenAs (opening_world blocks)) (sym c.replace.ensures.after) opened;
+        creds = seen.creds;
+        moment = seen.moment;
+        fresh = refl;
+      },
     )

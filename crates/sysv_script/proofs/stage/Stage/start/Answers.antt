@@ -1,7 +1,8 @@
 use Rattle.std.proofs.Common.{◌≡◌, None, sym, ap, subst, ◌∙◌, ◌++◌, refl}
 use Rattle.sysv_lines.specs.SaidBy.{call_asked}
 use Rattle.sysv_core.specs.World.{actor_at}
-use Rattle.sysv_script.specs.Scene.{StartRuns, StartsAs, GoesOn, call_for, most_steps, under_way, printed, operation_of}
+use Rattle.sysv_script.specs.Scene.{StartRuns, StartsAs, GoesOn, call_for, most_steps, under_way, printed}
+use Rattle.sysv_lines.specs.Names.{operation_of}
 use Rattle.sysv_lists.proofs.Prefixes.{prefix_self}
 use Rattle.sysv_script.proofs.Kept.{kept, on_ok, on_err}
 use Rattle.sysv_script.proofs.NoneLeft.{none_of}
@@ -14,16 +15,20 @@ pub returns-clause-runs : goal.returns-clause-runs
 returns-clause-runs c = on_ok c.tell-2.result c.tell-2.ensures.told (λ told s seen.
     let actor = c.args.actor in
     let goes = c.args.goes in
-    let asked = call_asked c.args.request in
+    let asked = call_asked c.args.call in
     let first = c.begin-first.result in
     let given = c.go-given.result in
-    let began = c.begin-first.ensures s (kept s c.args.self.now c.call_of.new.self (c.in_ok-call.ensures).kept seen) in
-    let starts : StartsAs s actor (call_for asked) first began.0 = subst (λ one. StartsAs s actor one first began.0) (c.in_ok-call.ensures).call began.1 in
+    let began =
+    c.begin-first.ensures s (kept s c.args.self.now c.with_body.new.self (c.in_ok-call.ensures).kept seen) in
+    let starts : StartsAs s actor (call_for asked) first began.0 =
+    subst (λ one. StartsAs s actor one first began.0) (c.in_ok-call.ensures).call began.1 in
     let went = c.go-given.ensures began.0 began.2 in
-    let steps : GoesOn (most_steps goes) began.0 actor first given went.0 = subst (λ n. GoesOn n began.0 actor first given went.0) c.most_steps.ensures went.1 in
+    let steps : GoesOn (most_steps goes) began.0 actor first given went.0 =
+    subst (λ n. GoesOn n began.0 actor first given went.0) c.most_steps.ensures went.1 in
     let free : None ≡ under_way (actor_at s.world.actors actor) = sym c.in_default.is ∙ c.under_way.ensures s seen in
     let out = printed went.0.world actor (operation_of asked) given in
-    let line = told went.0 went.2 ∙ ap (λ operation. c.args.output.now ++ printed went.0.world actor operation given) c.operation_of-operation.ensures in (
+    let line = told went.0 went.2
+    ∙ ap (λ operation. c.args.output.now ++ printed went.0.world actor operation given) c.of_call-operation.ensures in (
       went.0,
       out,
       subst (λ o. StartRuns s actor asked goes o out went.0) free (given, (began.0, first, starts, steps), refl),

@@ -11,7 +11,8 @@ returns-in-At c = λ s seen.
     let actor = c.args.actor in
     let told = standing.At c.in-At.phase in
     let there = subst (StandsThere (state_at world.states actor)) c.in-At.is c.in_ok-phase.ensures in
-    going_way (actor_at s.world.actors actor) told c.of_phase.result (told_there s.world world actor told seen.world there) (λ text. ap Some (sym (c.of_phase.ensures text)))
+    going_way (actor_at s.world.actors actor) told c.of_phase.result
+    (told_there s.world world actor told seen.world there) (λ text. ap Some (sym (c.of_phase.ensures text)))
 
 pub returns-in-Waits : goal.returns-in-Waits
 returns-in-Waits c = λ s seen.
@@ -19,4 +20,5 @@ returns-in-Waits c = λ s seen.
     let actor = c.args.actor in
     let told = standing.Waits c.in-Waits.wait in
     let there = subst (StandsThere (state_at world.states actor)) c.in-Waits.is c.in_ok-phase.ensures in
-    going_way (actor_at s.world.actors actor) told c.of_wait.result (told_there s.world world actor told seen.world there) (λ text. ap Some (sym (c.of_wait.ensures text)))
+    going_way (actor_at s.world.actors actor) told c.of_wait.result
+    (told_there s.world world actor told seen.world there) (λ text. ap Some (sym (c.of_wait.ensures text)))

@@ -14,6 +14,14 @@ returns g c =
     (λ (k : ServiceKernel g.row.C.Denot g.row.R.Denot g.row.K.Denot g.C.Clock g.K.Caller). k.caller)
     (λ (clock : Bor g.row.C.Denot). g.C.Clock.may clock.now)
     g.K.Caller.may_leave
-    SLOTS c.serve.result c.args.self.now c.serve.new.kernel (g.I.Read.remaining c.args.reader.now) (g.I.Read.remaining c.serve.new.reader)
+    SLOTS c.serve.result c.args.self.now c.serve.new.kernel (g.I.Read.remaining c.args.reader.now)
+    (g.I.Read.remaining c.serve.new.reader)
     (g.O.Write.contents c.args.writer.now) (g.O.Write.contents c.serve.new.writer) c.serve.ensures.serves in
-    record { serves = done.3; only = c.serve.ensures.only; memory = c.serve.ensures.memory; handles = record { service = done.0; clock = done.1; caller = done.2 } }
+    record {
+      serves = done.3;
+      only = c.serve.ensures.only;
+      memory = c.serve.ensures.memory;
+      service = done.0;
+      clock = done.1;
+      caller = done.2;
+    }

@@ -14,6 +14,14 @@ returns g c =
     (λ (k : ServiceKernel g.row.C.Denot g.row.R.Denot g.row.K.Denot g.C.Clock g.K.Caller). k.caller)
     (λ (clock : Bor g.row.C.Denot). g.C.Clock.may clock.now)
     g.K.Caller.may_leave
-    SLOTS c.serve_with.result c.args.self.now c.serve_with.new.kernel (g.I.Read.remaining c.args.reader.now) (g.I.Read.remaining c.serve_with.new.reader)
+    SLOTS c.serve_with.result c.args.self.now c.serve_with.new.kernel (g.I.Read.remaining c.args.reader.now)
+    (g.I.Read.remaining c.serve_with.new.reader)
     (g.O.Write.contents c.args.writer.now) (g.O.Write.contents c.serve_with.new.writer) c.serve_with.ensures.serves in
-    record { serves = done.3; only = c.serve_with.ensures.only; memory = c.serve_with.ensures.memory; handles = record { service = done.0; clock = done.1; caller = done.2 } }
+    record {
+      serves = done.3;
+      only = c.serve_with.ensures.only;
+      memory = c.serve_with.ensures.memory;
+      service = done.0;
+      clock = done.1;
+      caller = done.2;
+    }

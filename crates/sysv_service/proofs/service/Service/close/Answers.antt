@@ -16,6 +16,13 @@ returns c =
       parts = c.close-slots.result;
       all = all;
       waiting = c.end_slots-waiting.ensures.waiting;
-      held = let h = c.end_slots-waiting.ensures.held in let r = c.end_registry-registry_held.ensures in let p = c.end_pool-pool.ensures.held in omega (arith, h, r, p);
-      free = c.end_blocks.ensures ∙ ap free_in (gone ∙ ap (λ (p : Option State). with_chain p c.into_seats-seats.result.1.blocks) (back ∙ slots) ∙ ap (with_chain (with_slots c.close-slots.result.pool.object c.close-slots.result.slots.items)) seats.1);
+      held =
+          let h = c.end_slots-waiting.ensures.held in
+          let r = c.end_registry-registry_held.ensures in
+          let p = c.end_pool-pool.ensures.held in
+          omega (arith, h, r, p);
+      free = c.end_blocks.ensures
+          ∙ ap free_in
+          (gone ∙ ap (λ (p : Option State). with_chain p c.into_seats-seats.result.1.blocks) (back ∙ slots)
+          ∙ ap (with_chain (with_slots c.close-slots.result.pool.object c.close-slots.result.slots.items)) seats.1);
     }

@@ -12,6 +12,7 @@ abbrev pub invariant-loop : goal.invariant-loop
 invariant-loop g l = record {
   pass : AreOf l.fn.self l.pass.seats;
   sets : Sets (state_of l.state []);
-  comes : Comes (g.C.Clock.may l.fn.clock) (begins l.fn.cred (MsgctlSet l.fn.id l.fn.to) 0) l.fn.pass (state_of l.state []) l.pass;
+  comes : Comes (g.C.Clock.may l.fn.clock) (begins l.fn.cred (MsgctlSet l.fn.id l.fn.to) 0) l.fn.pass
+      (state_of l.state []) l.pass;
   goes_on : (goal.iterator-loop g).can_next l.iterator' × (goal.iterator-loop g).is_finite l.iterator';
 }

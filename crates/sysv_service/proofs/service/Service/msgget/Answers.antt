@@ -9,12 +9,24 @@ use Rattle.sysv_service.proofs.service.Service.msgget.Goals as goal
 pub loop-init : goal.loop-init
 loop-init g c =
     let starts = c.begin-state.ensures [] 0 in
-    record { pass = c.requires; gets = subst Gets starts tt; comes = first_at (g.C.Clock.may c.args.clock.now) _ _ _ starts; goes_on = search rules }
+    record {
+      pass = c.requires;
+      gets = subst Gets starts tt;
+      comes = first_at (g.C.Clock.may c.args.clock.now) _ _ _ starts;
+      goes_on = search rules;
+    }
 
 pub loop-preserved-in-Goes : goal.loop-preserved-in-Goes
 loop-preserved-in-Goes g c =
-    let there = moved (g.C.Clock.may c.args.clock.now) _ _ _ _ c.loop.pass (ap (λ s. state_of s []) c.in-Goes.is) c.loop.invariant.comes in
-    record { pass = c.get_step.ensures.pass; gets = c.get_step.ensures.gets; comes = comes_step (g.C.Clock.may c.args.clock.now) _ _ (phase_of c.in-Goes.phase []) c.loop.pass _ c.get_step.new.pass there c.get_step.ensures.steps; goes_on = search rules }
+    let there = moved (g.C.Clock.may c.args.clock.now) _ _ _ _ c.loop.pass (ap (λ s. state_of s []) c.in-Goes.is)
+    c.loop.invariant.comes in
+    record {
+      pass = c.get_step.ensures.pass;
+      gets = c.get_step.ensures.gets;
+      comes = comes_step (g.C.Clock.may c.args.clock.now) _ _ (phase_of c.in-Goes.phase []) c.loop.pass _
+          c.get_step.new.pass there c.get_step.ensures.steps;
+      goes_on = search rules;
+    }
 
 pub loop-preserved : goal.loop-preserved
 loop-preserved g c =
@@ -25,7 +37,8 @@ loop-preserved g c =
     let ended = c.wait_on.ensures.ended [] in
     record {
       pass = c.wait_on.ensures.pass;
-      gets = ends_wait Gets wait c.loop.pass _ c.wait_on.new.pass (λ value. wait_gets wait value stays) stays (λ why. tt) ended;
+      gets = ends_wait Gets wait c.loop.pass _ c.wait_on.new.pass (λ value. wait_gets wait value stays) stays
+          (λ why. tt) ended;
       comes = comes_wait (g.C.Clock.may c.args.clock.now) _ _ wait c.loop.pass _ c.wait_on.new.pass there ended;
       goes_on = search rules;
     }

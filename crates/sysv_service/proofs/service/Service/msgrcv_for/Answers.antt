@@ -6,17 +6,22 @@ use Rattle.sysv_driver.specs.Kinds.{Receives, IsSized}
 use Rattle.sysv_driver.specs.Giving.{GivesNothing, nothing_is_sized}
 use Rattle.sysv_service.proofs.Running.{first_at, moved, comes_wait}
 use Rattle.sysv_service.proofs.Delivering.{comes_giving, comes_with_nothing, has_given}
-use Rattle.sysv_service.proofs.Staying.{begin_gives_nothing, wait_gives_nothing, ends_wait, wait_receives, begin_receives}
+use Rattle.sysv_service.proofs.Staying.{begin_gives_nothing, wait_gives_nothing, ends_wait, wait_receives}
+use Rattle.sysv_service.proofs.Staying.{begin_receives}
 use Rattle.sysv_service.proofs.service.Service.msgrcv_for.Goals as goal
 
 pub loop-init : goal.loop-init
 loop-init g c =
     let may = g.C.Clock.may c.args.clock.now in
     let starts = c.begin-state.ensures c.args.out.now 0 in
-    let none = subst GivesNothing starts (begin_gives_nothing c.args.cred (to_z w32 (of_z w32 c.args.id)) c.args.size (to_z w64 (of_z w64 c.args.mtype)) c.args.flags) in
+    let none = subst GivesNothing starts
+    (begin_gives_nothing c.args.cred (to_z w32 (of_z w32 c.args.id)) c.args.size (to_z w64 (of_z w64 c.args.mtype))
+    c.args.flags) in
     record {
       pass = c.requires;
-      receives = subst Receives starts (begin_receives c.args.cred (to_z w32 (of_z w32 c.args.id)) c.args.size (to_z w64 (of_z w64 c.args.mtype)) c.args.flags);
+      receives = subst Receives starts
+          (begin_receives c.args.cred (to_z w32 (of_z w32 c.args.id)) c.args.size (to_z w64 (of_z w64 c.args.mtype))
+          c.args.flags);
       sized = nothing_is_sized c.begin-state.result c.args.out.now none;
       comes = comes_with_nothing may _ _ c.begin-state.result c.args.out.now _ none (first_at may _ _ _ starts);
       goes_on = search rules;
@@ -27,7 +32,8 @@ loop-preserved-in-Goes g c = record {
   pass = c.receive_step.ensures.pass;
   receives = c.receive_step.ensures.receives;
   sized = c.receive_step.ensures.sized;
-  comes = comes_giving (g.C.Clock.may c.args.clock.now) _ _ c.in-Goes.phase c.loop.out c.loop.pass _ _ _ c.receive_step.new.pass c.in-Goes.is c.loop.invariant.comes c.receive_step.ensures.steps;
+  comes = comes_giving (g.C.Clock.may c.args.clock.now) _ _ c.in-Goes.phase c.loop.out c.loop.pass _ _ _
+      c.receive_step.new.pass c.in-Goes.is c.loop.invariant.comes c.receive_step.ensures.steps;
   goes_on = search rules;
 }
 
@@ -43,9 +49,11 @@ loop-preserved g c =
     let none = wait_gives_nothing wait c.loop.pass _ c.wait_for.new.pass ended in
     record {
       pass = c.wait_for.ensures.pass;
-      receives = ends_wait Receives wait c.loop.pass _ c.wait_for.new.pass (λ value. wait_receives wait value stays) stays (λ why. tt) ended;
+      receives = ends_wait Receives wait c.loop.pass _ c.wait_for.new.pass (λ value. wait_receives wait value stays)
+          stays (λ why. tt) ended;
       sized = nothing_is_sized c.in-Some-wait_for.next c.loop.out none;
-      comes = comes_with_nothing may _ _ c.in-Some-wait_for.next c.loop.out c.wait_for.new.pass none (comes_wait may _ _ wait c.loop.pass _ c.wait_for.new.pass there ended);
+      comes = comes_with_nothing may _ _ c.in-Some-wait_for.next c.loop.out c.wait_for.new.pass none
+          (comes_wait may _ _ wait c.loop.pass _ c.wait_for.new.pass there ended);
       goes_on = search rules;
     }
 
@@ -66,7 +74,8 @@ returns-in-None-wait_for-clause-left g c =
 pub returns-in-Over-clause-ran : goal.returns-in-Over-clause-ran
 returns-in-Over-clause-ran g c =
     let came = c.loop.invariant.comes in
-    let there = moved (g.C.Clock.may c.args.clock.now) _ _ _ _ c.loop.pass (ap (λ s. state_of s c.loop.out) c.in-Over.is) (came.0, came.1) in
+    let there = moved (g.C.Clock.may c.args.clock.now) _ _ _ _ c.loop.pass
+    (ap (λ s. state_of s c.loop.out) c.in-Over.is) (came.0, came.1) in
     let id = c.ranges.id in
     let mtype = c.ranges.mtype in
     let comes = simp to_z-of_z at there in
@@ -77,7 +86,8 @@ returns-in-Over-clause-given g c =
     let came = c.loop.invariant.comes in
     let id = c.ranges.id in
     let mtype = c.ranges.mtype in
-    let given = has_given (g.C.Clock.may c.args.clock.now) _ _ c.in-Over.ending c.loop.state c.loop.out c.loop.pass c.given_of.result c.in-Over.is came c.given_of.ensures.given in
+    let given = has_given (g.C.Clock.may c.args.clock.now) _ _ c.in-Over.ending c.loop.state c.loop.out c.loop.pass
+    c.given_of.result c.in-Over.is came c.given_of.ensures.given in
     simp to_z-of_z at given
 
 pub receive_step-requires-clause-sized : goal.receive_step-requires-clause-sized

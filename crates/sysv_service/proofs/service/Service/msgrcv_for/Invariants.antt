@@ -12,6 +12,7 @@ invariant-loop g l = record {
   pass : AreOf l.fn.self l.pass.seats;
   receives : Receives (state_of l.state l.out);
   sized : IsSized l.state l.out;
-  comes : ComesGiving (g.C.Clock.may l.fn.clock) (begins l.fn.cred (Msgrcv l.fn.id l.fn.size l.fn.mtype l.fn.flags) 0) l.fn.pass l.state l.out l.pass;
+  comes : ComesGiving (g.C.Clock.may l.fn.clock) (begins l.fn.cred (Msgrcv l.fn.id l.fn.size l.fn.mtype l.fn.flags) 0)
+      l.fn.pass l.state l.out l.pass;
   goes_on : (goal.iterator-loop g).can_next l.iterator' × (goal.iterator-loop g).is_finite l.iterator';
 }

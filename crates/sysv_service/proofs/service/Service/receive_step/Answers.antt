@@ -7,5 +7,8 @@ use Rattle.sysv_service.proofs.service.Service.receive_step.Goals as goal
 pub returns-clause-steps : goal.returns-clause-steps
 returns-clause-steps g c =
     subst
-    (λ (b : Pass). StepsGiving MakesTurnAt FindsWorn (g.C.Clock.may c.args.clock.now) c.args.phase c.args.out.now b.seats b.held c.receive_step-state.result c.receive_step-state.new.out c.receive_step-state.new.at c.receive_step-state.new.kept.blocks)
+    (λ (b : Pass).
+    StepsGiving MakesTurnAt FindsWorn (g.C.Clock.may c.args.clock.now) c.args.phase c.args.out.now b.seats b.held
+    c.receive_step-state.result c.receive_step-state.new.out c.receive_step-state.new.at
+    c.receive_step-state.new.kept.blocks)
     c.pass.view_is c.receive_step-state.ensures.steps

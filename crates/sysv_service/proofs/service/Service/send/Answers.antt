@@ -8,12 +8,24 @@ use Rattle.sysv_service.proofs.Staying.{ends_wait, wait_sends}
 use Rattle.sysv_service.proofs.service.Service.send.Goals as goal
 
 pub loop-init : goal.loop-init
-loop-init g c = record { pass = c.requires.pass; sends = c.requires.sends; comes = comes_first (g.C.Clock.may c.args.clock.now) _ _; goes_on = search rules }
+loop-init g c = record {
+  pass = c.requires.pass;
+  sends = c.requires.sends;
+  comes = comes_first (g.C.Clock.may c.args.clock.now) _ _;
+  goes_on = search rules;
+}
 
 pub loop-preserved-in-Goes : goal.loop-preserved-in-Goes
 loop-preserved-in-Goes g c =
-    let there = moved (g.C.Clock.may c.args.clock.now) _ _ _ _ c.loop.pass (ap (λ s. state_of s c.args.text.now) c.in-Goes.is) c.loop.invariant.comes in
-    record { pass = c.send_step.ensures.pass; sends = c.send_step.ensures.sends; comes = comes_step (g.C.Clock.may c.args.clock.now) _ _ (phase_of c.in-Goes.phase c.args.text.now) c.loop.pass _ c.send_step.new.pass there c.send_step.ensures.steps; goes_on = search rules }
+    let there = moved (g.C.Clock.may c.args.clock.now) _ _ _ _ c.loop.pass
+    (ap (λ s. state_of s c.args.text.now) c.in-Goes.is) c.loop.invariant.comes in
+    record {
+      pass = c.send_step.ensures.pass;
+      sends = c.send_step.ensures.sends;
+      comes = comes_step (g.C.Clock.may c.args.clock.now) _ _ (phase_of c.in-Goes.phase c.args.text.now) c.loop.pass _
+          c.send_step.new.pass there c.send_step.ensures.steps;
+      goes_on = search rules;
+    }
 
 pub loop-preserved : goal.loop-preserved
 loop-preserved g c =
@@ -24,7 +36,8 @@ loop-preserved g c =
     let ended = c.in_ok-state-in-Waits.ensures.ended c.args.text.now in
     record {
       pass = c.wait_for.ensures.pass;
-      sends = ends_wait Sends wait c.loop.pass _ c.wait_for.new.pass (λ value. wait_sends wait value stays) stays (λ why. tt) ended;
+      sends = ends_wait Sends wait c.loop.pass _ c.wait_for.new.pass (λ value. wait_sends wait value stays) stays
+          (λ why. tt) ended;
       comes = comes_wait (g.C.Clock.may c.args.clock.now) _ _ wait c.loop.pass _ c.wait_for.new.pass there ended;
       goes_on = search rules;
     }
@@ -35,5 +48,10 @@ returns-in_err-state-in-Waits-clause-left g c =
     let wait = wait_of c.in-Waits.wait c.args.text.now in
     let there = moved (g.C.Clock.may c.args.clock.now) _ _ _ _ c.loop.pass is c.loop.invariant.comes in
     let still = c.in_err-state-in-Waits.ensures.still c.args.text.now in
-    let left : IsLeft (g.K.Caller.may_leave c.args.caller.now) (g.C.Clock.may c.args.clock.now) (state_of c.args.begun c.args.text.now) c.args.pass.now c.wait_for.new.pass = (c.in_err-state-in-Waits.ensures.left, wait, comes_wait (g.C.Clock.may c.args.clock.now) _ _ wait c.loop.pass _ c.wait_for.new.pass there still) in
+    let left : IsLeft (g.K.Caller.may_leave c.args.caller.now) (g.C.Clock.may c.args.clock.now)
+    (state_of c.args.begun c.args.text.now) c.args.pass.now c.wait_for.new.pass = (
+      c.in_err-state-in-Waits.ensures.left,
+      wait,
+      comes_wait (g.C.Clock.may c.args.clock.now) _ _ wait c.loop.pass _ c.wait_for.new.pass there still,
+    ) in
     if_none c.from_residual.result left

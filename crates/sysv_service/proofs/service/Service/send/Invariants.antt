@@ -9,6 +9,7 @@ abbrev pub invariant-loop : goal.invariant-loop
 invariant-loop g l = record {
   pass : AreOf l.fn.self l.pass.seats;
   sends : Sends (state_of l.state l.fn.text);
-  comes : Comes (g.C.Clock.may l.fn.clock) (state_of l.fn.begun l.fn.text) l.fn.pass (state_of l.state l.fn.text) l.pass;
+  comes : Comes (g.C.Clock.may l.fn.clock) (state_of l.fn.begun l.fn.text) l.fn.pass (state_of l.state l.fn.text)
+      l.pass;
   goes_on : (goal.iterator-loop g).can_next l.iterator' × (goal.iterator-loop g).is_finite l.iterator';
 }

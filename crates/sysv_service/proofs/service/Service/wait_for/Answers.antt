@@ -10,21 +10,33 @@ use Rattle.sysv_service.proofs.service.Service.wait_for.Goals as goal
 pub returns-then-has_left-clause-still : goal.returns-then-has_left-clause-still
 returns-then-has_left-clause-still g c = λ text.
     let wait = wait_of c.args.wait text in
-    let told = subst (λ a. Awaits (awaited wait) (goal_seen (goal_of wait)) c.args.pass.now.seats a c.await_within.new.pass.seats) c.in-Some-Reached.field-0-is (c.in-Some-Reached.ensures.waited text) in
+    let told =
+    subst (λ a. Awaits (awaited wait) (goal_seen (goal_of wait)) c.args.pass.now.seats a c.await_within.new.pass.seats)
+    c.in-Some-Reached.field-0-is (c.in-Some-Reached.ensures.waited text) in
     inl (c.in-Some-Reached.value, told.1, c.await_within.ensures.held, inr refl)
 
 pub returns-else-is_over-clause-ended : goal.returns-else-is_over-clause-ended
 returns-else-is_over-clause-ended g c = λ text.
     let wait = wait_of c.args.wait text in
-    let told = subst (λ a. Awaits (awaited wait) (goal_seen (goal_of wait)) c.args.pass.now.seats a c.await_within.new.pass.seats) c.in-Some-Reached.field-0-is (c.in-Some-Reached.ensures.waited text) in
+    let told =
+    subst (λ a. Awaits (awaited wait) (goal_seen (goal_of wait)) c.args.pass.now.seats a c.await_within.new.pass.seats)
+    c.in-Some-Reached.field-0-is (c.in-Some-Reached.ensures.waited text) in
     inl (c.in-Some-Reached.value, told.1, c.await_within.ensures.held, inr refl)
 
 pub returns-then-is_over-clause-ended : goal.returns-then-is_over-clause-ended
 returns-then-is_over-clause-ended g c = λ text.
     let wait = wait_of c.args.wait text in
-    let told = subst (λ a. Awaits (awaited wait) (goal_seen (goal_of wait)) c.args.pass.now.seats a c.await_within.new.pass.seats) c.in-Some-Reached.field-0-is (c.in-Some-Reached.ensures.waited text) in
-    let over : goal_of (wait_of c.args.wait text) ≤ c.in-Some-Reached.value = (c.is_over.ensures text).0 c.if-is_over.true in
-    inl (c.in-Some-Reached.value, told.1, c.await_within.ensures.held, inl (over, ap (λ p. Goes p) (sym (c.resume.ensures text))))
+    let told =
+    subst (λ a. Awaits (awaited wait) (goal_seen (goal_of wait)) c.args.pass.now.seats a c.await_within.new.pass.seats)
+    c.in-Some-Reached.field-0-is (c.in-Some-Reached.ensures.waited text) in
+    let over : goal_of (wait_of c.args.wait text) ≤ c.in-Some-Reached.value =
+    (c.is_over.ensures text).0 c.if-is_over.true in
+    inl (
+      c.in-Some-Reached.value,
+      told.1,
+      c.await_within.ensures.held,
+      inl (over, ap (λ p. Goes p) (sym (c.resume.ensures text))),
+    )
 
 pub returns-then-has_left-2-clause-still : goal.returns-then-has_left-2-clause-still
 returns-then-has_left-2-clause-still g c = λ text.
@@ -39,7 +51,9 @@ returns-else-has_left-2-clause-ended g c = λ text.
 pub returns-in-Some-Worn-clause-ended : goal.returns-in-Some-Worn-clause-ended
 returns-in-Some-Worn-clause-ended g c = λ text.
     let wait = wait_of c.args.wait text in
-    let told = subst (λ a. Awaits (awaited wait) (goal_seen (goal_of wait)) c.args.pass.now.seats a c.await_within.new.pass.seats) c.in-Some-Worn.field-0-is (c.in-Some-Worn.ensures.waited text) in
+    let told =
+    subst (λ a. Awaits (awaited wait) (goal_seen (goal_of wait)) c.args.pass.now.seats a c.await_within.new.pass.seats)
+    c.in-Some-Worn.field-0-is (c.in-Some-Worn.ensures.waited text) in
     let least = min-le_left (goal_of wait) (2 ^ 64 - 1) in
     let below : told.0 < goal_of wait = omega (arith, least, told.1) in
     inr (told.0, below, told.2, c.await_within.ensures.held, ap (λ s. state_of s text) c.overflow.ensures)
@@ -47,7 +61,9 @@ returns-in-Some-Worn-clause-ended g c = λ text.
 pub returns-else-is_over-clause-unmet : goal.returns-else-is_over-clause-unmet
 returns-else-is_over-clause-unmet g c = λ same text.
     let wait = wait_of c.args.wait text in
-    let told = subst (λ a. Awaits (awaited wait) (goal_seen (goal_of wait)) c.args.pass.now.seats a c.await_within.new.pass.seats) c.in-Some-Reached.field-0-is (c.in-Some-Reached.ensures.waited text) in
+    let told =
+    subst (λ a. Awaits (awaited wait) (goal_seen (goal_of wait)) c.args.pass.now.seats a c.await_within.new.pass.seats)
+    c.in-Some-Reached.field-0-is (c.in-Some-Reached.ensures.waited text) in
     let below : c.in-Some-Reached.value < goal_of wait = search rules in
     (c.in-Some-Reached.value, below, told.1)
 

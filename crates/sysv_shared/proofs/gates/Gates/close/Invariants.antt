@@ -9,7 +9,8 @@ use Rattle.sysv_shared.proofs.gates.Gates.close.Given as goal
 -- The elements taken from the end so far were moved to the slots, the last one first.
 abbrev pub invariant-loop : goal.invariant-loop
 invariant-loop l = record {
-  back : (done : List (Closing Gated)) × (l.initial.closings.items ≡ l.closings.items ++ done) × Each2 GivenBack done (reverse l.slots.items);
+  back : (done : List (Closing Gated)) × (l.initial.closings.items ≡ l.closings.items ++ done)
+      × Each2 GivenBack done (reverse l.slots.items);
   left : length l.closings.items + l.counter ≡ SLOTS + 2;
   many : length l.slots.items ≡ l.counter;
   room : SLOTS ≤ vec_capacity l.slots;

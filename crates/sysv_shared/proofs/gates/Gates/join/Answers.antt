@@ -6,10 +6,12 @@ use Rattle.sysv_shared.proofs.Dividing.{are_joined}
 use Rattle.sysv_shared.proofs.gates.Gates.join.Goals as goal
 
 pub join-requires-clause-seat : goal.join-requires-clause-seat
-join-requires-clause-seat c = of_bank c.self.inside.bank c.seats.inside.seat _ _ c.self.invariant.0 c.seats.invariant c.self.view_is c.seats.view_is c.requires.seats
+join-requires-clause-seat c = of_bank c.self.inside.bank c.seats.inside.seat _ _ c.self.invariant.0 c.seats.invariant
+    c.self.view_is c.seats.view_is c.requires.seats
 
 pub join-requires-clause-other : goal.join-requires-clause-other
-join-requires-clause-other c = of_bank c.self.inside.bank c.other.inside.seat _ _ c.self.invariant.0 c.other.invariant c.self.view_is c.other.view_is c.requires.other
+join-requires-clause-other c = of_bank c.self.inside.bank c.other.inside.seat _ _ c.self.invariant.0 c.other.invariant
+    c.self.view_is c.other.view_is c.requires.other
 
 pub returns-clause-seats : goal.returns-clause-seats
 returns-clause-seats c = search (rules, are_of)
@@ -20,5 +22,7 @@ returns-clause-joined c =
     subst (λ b. AreJoined b c.args.other (seats_seen after)) c.seats.view_is
     (subst (λ o. AreJoined (seats_seen c.seats.inside.seat) o (seats_seen after)) c.other.view_is
     (are_joined c.self.inside.bank c.seats.inside.seat c.other.inside.seat after c.seats.invariant
-    (of_bank c.self.inside.bank c.seats.inside.seat _ _ c.self.invariant.0 c.seats.invariant c.self.view_is c.seats.view_is c.requires.seats)
-    (of_bank c.self.inside.bank c.other.inside.seat _ _ c.self.invariant.0 c.other.invariant c.self.view_is c.other.view_is c.requires.other) c.join.ensures.gates c.join.ensures.joined c.join.ensures.order))
+    (of_bank c.self.inside.bank c.seats.inside.seat _ _ c.self.invariant.0 c.seats.invariant c.self.view_is
+    c.seats.view_is c.requires.seats)
+    (of_bank c.self.inside.bank c.other.inside.seat _ _ c.self.invariant.0 c.other.invariant c.self.view_is
+    c.other.view_is c.requires.other) c.join.ensures.gates c.join.ensures.joined c.join.ensures.order))

@@ -5,7 +5,8 @@ use Rattle.sysv_model.specs.Message.{Message}
 use Rattle.sysv_queue.specs.Shown.{row_of}
 use Rattle.tests_objects.proofs.queue.indexed.assert_full.Goals as goal
 
-many_shown : (messages : List Message) (live : Option Attributes) (row : Row) → Some row ≡ option_map (row_of messages) live → row.qnum ≡ length messages
+many_shown : (messages : List Message) (live : Option Attributes) (row : Row) →
+    Some row ≡ option_map (row_of messages) live → row.qnum ≡ length messages
 many_shown messages None row is = absurd cc
 many_shown messages (Some a) row is = let same : row ≡ row_of messages a = cc in ap (λ (r : Row). r.qnum) same
 

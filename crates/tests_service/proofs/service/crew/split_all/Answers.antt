@@ -10,6 +10,7 @@ loop-part-preserved g c =
     let i = c.loop-part.invariant in
     let of = λ (m : Member). AreOf c.args.service.now m.pass.seats in record {
       pass = c.split_one.ensures.pass;
-      members = subst (All of) (sym c.push_reserved.ensures.items) (All-push of _ _ i.members c.split_one.ensures.member);
+      members =
+          subst (All of) (sym c.push_reserved.ensures.items) (All-push of _ _ i.members c.split_one.ensures.member);
       room = search rules;
     }

@@ -4,4 +4,5 @@ use Rattle.tests_threads.proofs.Crossing.{crossing, bank_seat_send, bank_sync}
 use Rattle.tests_threads.proofs.bank.held.act_all.Goals as goal
 
 pub for_each_mut-requires-send-T : goal.for_each_mut-requires-send-T
-for_each_mut-requires-send-T g c κs within = search (crossing, bank_seat_send, bank_sync, keeper_send, keeper_sync, role_send) depth 40
+for_each_mut-requires-send-T g c κs within =
+    search (crossing, bank_seat_send, bank_sync, keeper_send, keeper_sync, role_send) depth 40

@@ -18,7 +18,17 @@ pub join-requires-send-F : goal.join-requires-send-F
 join-requires-send-F g c κs within =
     let own = κs.1.1.1.1.1.1.0 in
     let shared = κs.1.1.1.1.1.1.1.0 in
-    let seats : IsSend (seat.the_row slow.the_row u8-field.row u64-field.row object.ghosts) = seat_send slow.the_row u8-field.row u64-field.row object.ghosts slow_send in
-    let t = captured_send (ShrRef (lifetime 6) own (param 0 g.row.R) ∷ ShrRef (lifetime 7) shared (gate.the_row slow.the_row u8-field.row u64-field.row object.ghosts) ∷ seat.the_row slow.the_row u8-field.row u64-field.row object.ghosts ∷ [])
-    (shr_send (lifetime 6) own (param 0 g.row.R) c.type_bounds.sync-R, (shr_send (lifetime 7) shared (gate.the_row slow.the_row u8-field.row u64-field.row object.ghosts) (gate_sync slow.the_row u8-field.row u64-field.row object.ghosts slow_send), (seats, tt))) in
-    param_send _ (lts.arg-0-1 g.row.R g.R.laws g.R.Threads-dict g.R.Wait-dict g.R.Clock-dict κs) (record { owned = t.owned; leaving = λ _. t.leaving kept })
+    let seats : IsSend (seat.the_row slow.the_row u8-field.row u64-field.row object.ghosts) =
+    seat_send slow.the_row u8-field.row u64-field.row object.ghosts slow_send in
+    let t = captured_send (ShrRef (lifetime 6) own (param 0 g.row.R)
+    ∷ ShrRef (lifetime 7) shared (gate.the_row slow.the_row u8-field.row u64-field.row object.ghosts)
+    ∷ seat.the_row slow.the_row u8-field.row u64-field.row object.ghosts ∷ []) (
+      shr_send (lifetime 6) own (param 0 g.row.R) c.type_bounds.sync-R,
+      (
+        shr_send (lifetime 7) shared (gate.the_row slow.the_row u8-field.row u64-field.row object.ghosts)
+            (gate_sync slow.the_row u8-field.row u64-field.row object.ghosts slow_send),
+        (seats, tt),
+      ),
+    ) in
+    param_send _ (lts.arg-0-1 g.row.R g.R.laws g.R.Threads-dict g.R.Wait-dict g.R.Clock-dict κs)
+    (record { owned = t.owned; leaving = λ _. t.leaving kept })
