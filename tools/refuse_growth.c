@@ -5,10 +5,10 @@
  * the mark.
  *
  * Where STEP is set, copies of the process run the program from its beginning, one after another and a minute each. The
- * first copy has growth GROWTH refused, each later one the growth that is STEP further on, until one asks for fewer or
- * fails, or until the second UNTIL of the epoch. TOLD then has the number of copies that had a growth refused, and a word:
- *     all         the last copy asked for fewer growths than the one that was to be refused
- *     left        the time was over
+ * first copy has growth GROWTH refused, each later one the growth that is STEP further on. TOLD then has the number of
+ * copies that passed with a growth refused, the number of growths that the last copy asked for, and a word for the end:
+ *     all         the last copy asked for no growth that was to be refused
+ *     left        the next growth was beyond MOST, or the second UNTIL of the epoch had come
  *     unmarked    the last copy did not meet the mark
  *     failed      the last copy did not end with status 0
  * The status is that of the last copy, 128 and the signal if one ended it. What it printed stands alone in the file that
@@ -80,38 +80,48 @@ static int status_of(pid_t copy)
     return WIFSIGNALED(status) ? 128 + WTERMSIG(status) : WEXITSTATUS(status);
 }
 
-/* Runs the program in copies of the process. Returns only in a copy. */
-static void run_in_copies(long step, long until)
+/* Runs the program in a copy of the process, and sets status to how that ended. Returns whether this is the copy. */
+static int is_copy(int *status)
 {
-    const char *word = "all";
-    long copies = 0;
+    if (ftruncate(STDOUT_FILENO, 0) == 0)
+        lseek(STDOUT_FILENO, 0, SEEK_SET);
+    *asked = mark ? -1 : 0;
+    pid_t copy = fork();
+    if (copy == 0) {
+        told = -1;
+        alarm(60);
+        return 1;
+    }
+    *status = copy < 0 ? 127 : status_of(copy);
+    return 0;
+}
+
+/* Runs the program in copies of the process. Returns only in a copy. */
+static void run_in_copies(long step, long most, long until)
+{
+    const char *word = NULL;
+    long passed = 0;
     int status = 0;
     asked = mmap(NULL, sizeof *asked, PROT_READ | PROT_WRITE, MAP_SHARED | MAP_ANONYMOUS, -1, 0);
     if (asked == MAP_FAILED)
         _exit(127);
-    for (;; growth += step, copies++) {
-        if (until > 0 && time(NULL) >= until) {
+    while (!word) {
+        if ((most > 0 && growth > most) || (until > 0 && time(NULL) >= until))
             word = "left";
-            break;
-        }
-        if (ftruncate(STDOUT_FILENO, 0) == 0)
-            lseek(STDOUT_FILENO, 0, SEEK_SET);
-        *asked = mark ? -1 : 0;
-        pid_t copy = fork();
-        if (copy == 0) {
-            told = -1;
-            alarm(60);
+        else if (is_copy(&status))
             return;
+        else if (status != 0)
+            word = "failed";
+        else if (*asked < 0)
+            word = "unmarked";
+        else if (*asked < growth)
+            word = "all";
+        else {
+            passed++;
+            growth += step;
         }
-        status = copy < 0 ? 127 : status_of(copy);
-        if (status != 0 || *asked < growth)
-            break;
     }
-    if (status != 0)
-        word = "failed";
-    else if (*asked < 0)
-        word = "unmarked";
-    dprintf(told, "%ld %s\n", copies, word);
+    dprintf(told, "%ld %ld %s\n", passed, (long)*asked, word);
     _exit(status);
 }
 
@@ -125,7 +135,7 @@ __attribute__((constructor)) static void begin(void)
     if (name)
         told = open(name, O_WRONLY | O_CREAT | O_TRUNC | O_CLOEXEC, 0600);
     if (number_in("STEP") > 0)
-        run_in_copies(number_in("STEP"), number_in("UNTIL"));
+        run_in_copies(number_in("STEP"), number_in("MOST"), number_in("UNTIL"));
     *asked = mark ? -1 : 0;
     tell(*asked);
 }
