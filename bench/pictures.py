@@ -89,7 +89,7 @@ class Wide:
     ROW, BAR = 22, 14
 
     def __init__(self, ratios):
-        low, high = min(ratios + [0.5]) / 1.15, max(ratios + [2.0]) * 1.05
+        low, high = min(ratios + [0.5]) / 1.15, max(ratios + [4.0]) * 1.05
         self.low, self.high = low, high
         self.y = 0
         tens = range(math.floor(math.log10(low)), math.ceil(math.log10(high)) + 1)
