@@ -309,9 +309,8 @@ static bool goes_on(const struct frame *frame, const struct iovec pieces[2])
     return whole > frame->length && whole - frame->length <= room;
 }
 
-/* Waits until there is something to read. Returns what poll returns. Each signal handler that runs
- * meanwhile ends it with EINTR: recv is restarted if the handler has SA_RESTART. A thread that is
- * cancelled while it waits here has taken nothing. */
+/* Waits until there is something to read, and returns what poll returns. Each signal handler that
+ * runs meanwhile ends it with EINTR; recv would be restarted if the handler has SA_RESTART. */
 static int poll_reply(struct connection *connection, const struct call *call)
 {
     int ready;

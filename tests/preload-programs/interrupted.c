@@ -122,9 +122,11 @@ static pid_t start(bool sends, long microseconds, long seconds)
     mine = &all[sends];
     start_timer(microseconds, sends ? SA_RESTART : 0);
     mine->wrong = sends ? send_all(milliseconds() + seconds * 1000) : receive_all();
-    if (mine->wrong)
-        perror(mine->wrong);
-    exit(mine->wrong != NULL);
+    if (!mine->wrong)
+        exit(0);
+    perror(mine->wrong);
+    msgctl(queue, IPC_RMID, NULL); /* ends the other process */
+    exit(1);
 }
 
 static bool is_right(const char *who, const struct told *told)

@@ -517,18 +517,36 @@ static void only_handlers_end_waits(void)
 
 static void count_signal(int number) { caught += number == SIGALRM; }
 
-/* Calls that don't wait aren't interrupted, nor are those that have IPC_NOWAIT. */
+/* Makes calls that don't wait, until so many signals were handled. */
+static void call_under_signals(long type, int microseconds, int signals)
+{
+    sigaction(SIGALRM, &(struct sigaction){.sa_handler = count_signal}, NULL);
+    struct timeval period = {0, microseconds};
+    setitimer(ITIMER_REAL, &(struct itimerval){period, period}, NULL);
+    while (caught < signals) {
+        expect(one_pair((void *)type) == NULL, "a pair fails");
+        expect(refused(receive_text(shared_queue, 9, IPC_NOWAIT), ENOMSG), "IPC_NOWAIT");
+        expect(stat_of(shared_queue).msg_qnum <= 3, "IPC_STAT");
+    }
+}
+
+/* No signal interrupts calls that don't wait, nor those that have IPC_NOWAIT. Three processes use
+ * the same queue. */
 static void never_waits(void)
 {
-    enum { PERIOD = 10000, SIGNALS = 100 };
+    pid_t children[2];
     shared_queue = new_queue();
-    sigaction(SIGALRM, &(struct sigaction){.sa_handler = count_signal}, NULL);
-    setitimer(ITIMER_REAL, &(struct itimerval){{0, PERIOD}, {0, PERIOD}}, NULL);
-    while (caught < SIGNALS) {
-        expect(one_pair((void *)6L) == NULL, "a pair fails");
-        expect(refused(receive_text(shared_queue, 1, IPC_NOWAIT), ENOMSG), "IPC_NOWAIT");
-        expect(stat_of(shared_queue).msg_qnum == 0, "IPC_STAT");
+    for (int i = 0; i < 2; i++) {
+        children[i] = fork();
+        if (children[i] == 0) {
+            call_under_signals(i + 1, 1000, 1000);
+            _exit(0);
+        }
     }
+    call_under_signals(3, 10000, 100);
+    setitimer(ITIMER_REAL, &(struct itimerval){{0, 0}, {0, 0}}, NULL);
+    for (int i = 0; i < 2; i++)
+        expect(status_of(children[i]) == 0, "a child's call fails");
 }
 
 static void *wait_in_thread(void *result)
