@@ -7,7 +7,7 @@ use Rattle.std.proofs.KnownBytes.{Appends-nil, Appends-trans, Consumes-nil, Cons
 use Rattle.std.specs.List.{AllByRecursion, concat}
 use Rattle.sysv_model.specs.declared.cred.Cred.{Cred}
 use Rattle.sysv_queue.specs.Tally.{Tallied, taken_in}
-use Rattle.sysv_session.specs.declared.kernel.Outcome.{Outcome}
+use Rattle.sysv_session.specs.declared.kernel.RequestOutcome.{RequestOutcome}
 use Rattle.sysv_session.specs.declared.served.End.{End}
 use Rattle.sysv_session.specs.declared.served.End.TheVariants.{Ended, NoMemory, NoHello, Fault, Write, Bound}
 use Rattle.sysv_session.specs.declared.served.TheConstants.{SESSION_REQUESTS}
@@ -26,7 +26,7 @@ use Rattle.sysv_wire.specs.Requests.{request_spelling}
 
 -- A request was taken up, and its outcome was written or the writing broke off.
 pub taken_turn : {K : Type 0} (Means : Meaning K) (version : Version) (cred : Cred) (result : Result ⊤ End)
-    (request : Request) (text : List ℕ) (outcome : Outcome) (given : List ℕ) (old new : K)
+    (request : Request) (text : List ℕ) (outcome : RequestOutcome) (given : List ℕ) (old new : K)
     (left rest taken more : Option (List ℕ)) (before after : Tallied) (few : ℕ)
     → Consumes left rest (request_spelling request text) × IsAskedIn version request text
     → Means old cred request text outcome given new → MayAnswer request.version request.ask outcome given
