@@ -217,6 +217,7 @@ module _ (may : ℕ → Type 0) (may_leave : Type 0) (any : EachRunIsAtAnyMoment
           unread = talks.unread;
           reads = talks.reads;
           ends = talks.ends;
+          replies = talks.replies;
           writes = talks.writes;
           tallies = talks.tallies;
           counts = talks.counts;
