@@ -44,7 +44,8 @@ one_call may any cred asked released start mid made deeds state new ran works =
 module _ (may : ℕ → Type 0) (may_leave : Type 0) (any : EachRunIsAtAnyMoment may)
     (unstamped : EachRunIsAtAnyMoment no_moment) (version : Version) (cred : Cred) where
   -- The calls that a request makes, whatever calls were made before.
-  record Makes (ask : Ask) (text : List ℕ) (old : Pass) (outcome : RequestOutcome) (given : List ℕ) (new : Pass) : Type 0 where
+  record Makes (ask : Ask) (text : List ℕ) (old : Pass) (outcome : RequestOutcome) (given : List ℕ)
+      (new : Pass) : Type 0 where
     calls : List Called
     rests : AllByRecursion Resting calls
     works : (start : Pass) (made : List Called) → Works start made old → Works start (made ++ calls) new

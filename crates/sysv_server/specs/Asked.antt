@@ -32,12 +32,13 @@ abbrev pub Gets : (ℕ → Type 0) → Version → Cred → ℤ → Flags → Pa
 Gets = requests.Gets ComesFrom ReadsReleased TellsRow
 
 -- A `msgsnd` with the pass.
-abbrev pub Sends : (ℕ → Type 0) → Type 0 → Version → Cred → ℤ → ℤ → Flags → List ℕ → Pass → RequestOutcome → Pass → Type 0
+abbrev pub Sends : (ℕ → Type 0) → Type 0 → Version → Cred → ℤ → ℤ → Flags → List ℕ → Pass → RequestOutcome → Pass →
+    Type 0
 Sends = requests.Sends ComesFrom ReadsReleased TellsRow
 
 -- A `msgrcv` with the pass.
-abbrev pub Receives : (ℕ → Type 0) → Type 0 → Version → Cred → ℤ → ℕ → ℤ → Flags → Pass → RequestOutcome → List ℕ → Pass →
-    Type 0
+abbrev pub Receives : (ℕ → Type 0) → Type 0 → Version → Cred → ℤ → ℕ → ℤ → Flags → Pass → RequestOutcome → List ℕ →
+    Pass → Type 0
 Receives = requests.Receives ComesFrom ReadsReleased TellsRow
 
 -- A `msgctl` with `IPC_STAT`, with the pass.

@@ -55,10 +55,10 @@ module _ {K : Type 0} (Comes : Going K) (ReadsReleased : ℕ → K → K → Typ
       × (outcome ≡ done_reply version op.Snd content.Snd answer)
 
   -- The caller left a `msgsnd` while it waited, and it has no reply.
-  abbrev pub SendIsLeft : (ℕ → Type 0) → Type 0 → Version → Cred → ℤ → ℤ → Flags → List ℕ → ℕ → K → RequestOutcome → K → Type 0
+  abbrev pub SendIsLeft : (ℕ → Type 0) → Type 0 → Version → Cred → ℤ → ℤ → Flags → List ℕ → ℕ → K → RequestOutcome → K →
+      Type 0
   SendIsLeft may may_leave version cred id mtype flags text released mid outcome after =
-      IsLeft may_leave may cred (Msgsnd id mtype flags text) released mid after
-      × (outcome ≡ Left)
+      IsLeft may_leave may cred (Msgsnd id mtype flags text) released mid after × (outcome ≡ Left)
 
   -- A `msgsnd` read the released count at its start, and then ended or was left.
   abbrev pub Sends : (ℕ → Type 0) → Type 0 → Version → Cred → ℤ → ℤ → Flags → List ℕ → K → RequestOutcome → K → Type 0
@@ -69,21 +69,22 @@ module _ {K : Type 0} (Comes : Going K) (ReadsReleased : ℕ → K → K → Typ
 
   -- A `msgrcv` ended, and the outcome is its message, whose body is `given`, or the reply with its
   -- error.
-  abbrev pub ReceiveIsOver : (ℕ → Type 0) → Version → Cred → ℤ → ℕ → ℤ → Flags → K → RequestOutcome → List ℕ → K → Type 0
+  abbrev pub ReceiveIsOver : (ℕ → Type 0) → Version → Cred → ℤ → ℕ → ℤ → Flags → K → RequestOutcome → List ℕ → K →
+      Type 0
   ReceiveIsOver may version cred id size mtype flags before outcome given after =
       (answer : Result Given Errno) × (ending : Ending)
       × Ends may cred (Msgrcv id size mtype flags) 0 before ending after × TellsGot ending answer given
       × (outcome ≡ given_reply version answer)
 
   -- The caller left a `msgrcv` while it waited. There is no body, and it has no reply.
-  abbrev pub ReceiveIsLeft : (ℕ → Type 0) → Type 0 → Version → Cred → ℤ → ℕ → ℤ → Flags → K → RequestOutcome → List ℕ → K →
-      Type 0
+  abbrev pub ReceiveIsLeft : (ℕ → Type 0) → Type 0 → Version → Cred → ℤ → ℕ → ℤ → Flags → K → RequestOutcome → List ℕ →
+      K → Type 0
   ReceiveIsLeft may may_leave version cred id size mtype flags before outcome given after =
-      IsLeft may_leave may cred (Msgrcv id size mtype flags) 0 before after
-      × (given ≡ []) × (outcome ≡ Left)
+      IsLeft may_leave may cred (Msgrcv id size mtype flags) 0 before after × (given ≡ []) × (outcome ≡ Left)
 
   -- A `msgrcv` ended or was left.
-  abbrev pub Receives : (ℕ → Type 0) → Type 0 → Version → Cred → ℤ → ℕ → ℤ → Flags → K → RequestOutcome → List ℕ → K → Type 0
+  abbrev pub Receives : (ℕ → Type 0) → Type 0 → Version → Cred → ℤ → ℕ → ℤ → Flags → K → RequestOutcome → List ℕ → K →
+      Type 0
   Receives may may_leave version cred id size mtype flags before outcome given after =
       ReceiveIsOver may version cred id size mtype flags before outcome given after
       ⊎ ReceiveIsLeft may may_leave version cred id size mtype flags before outcome given after
