@@ -20,9 +20,9 @@ pub fn each_session_makes_calls<C: Clock, K: Caller>(clock: &C, caller: &K)
 /// States that the sessions of a server are one run of its service if no gate was found worn out.
 ///
 /// The calls of all sessions, each answered as it ended or left without a reply, and the removals
-/// of the stop are all the calls that made the order of turns of the service. That order is a run of a world
-/// with those calls, and the run obeys the headline of threads. The pool has all its blocks after
-/// the close. No gate is held then, also if one was found worn out.
+/// of the stop are all the calls that made the order of turns of the service. That order is a run
+/// of a world with those calls, and the run obeys the headline of threads. The pool has all its
+/// blocks after the close. No gate is held then, also if one was found worn out.
 pub fn each_life_is_one_run()
     ensures run { EachLifeIsOneRun }
     ensures whole { EachLifeLeavesThePoolWhole }
