@@ -117,10 +117,7 @@ impl<O: Object> Door<O> {
             ≡ me_at self.now.place token.old.me) }
     {
         let next = self.next_ticket(hall);
-        if next >= LIMIT {
-            return None;
-        }
-        if self.served_ticket(hall) != next {
+        if next >= LIMIT || self.served_ticket(hall) != next {
             return None;
         }
         if self.draw_next(hall, token, next) != next {
