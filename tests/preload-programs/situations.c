@@ -497,21 +497,38 @@ static void signals_end_waits(void)
         "a wait that was left sent its message");
 }
 
-/* Only a handler ends a wait. A stop that is continued doesn't, nor a signal that is ignored. */
+/* Stops a process a few times, and lets it go on. */
+static bool stop_often(pid_t process)
+{
+    for (int i = 0; i < 10; i++) {
+        if (kill(process, SIGALRM) != 0 || kill(process, SIGSTOP) != 0
+            || kill(process, SIGCONT) != 0)
+            return false;
+        usleep(300);
+    }
+    return true;
+}
+
+/* Only a handler ends a wait. A stop that is continued doesn't, nor a signal that is ignored,
+ * neither at the beginning of a wait nor later. */
 static void only_handlers_end_waits(void)
 {
+    enum { WAITS = 50 };
     int id = new_queue();
-    pid_t parent = getpid(), child = fork();
+    pid_t parent = getpid();
     signal(SIGALRM, SIG_IGN);
+    pid_t child = fork();
     if (child == 0) {
         usleep(200000);
-        bool told = kill(parent, SIGALRM) == 0 && kill(parent, SIGSTOP) == 0;
-        usleep(100000);
-        told = told && kill(parent, SIGCONT) == 0;
-        usleep(400000);
-        _exit(!told || send_text(id, 1) != 0);
+        for (int i = 0; i < WAITS; i++) {
+            if (!stop_often(parent) || send_text(id, 1) != 0)
+                _exit(1);
+        }
+        usleep(200000);
+        _exit(!stop_often(parent) || usleep(400000) != 0 || send_text(id, 1) != 0);
     }
-    expect(receive_text(id, 1, 0) == 4, "the wait doesn't go on");
+    for (int i = 0; i <= WAITS; i++)
+        expect(receive_text(id, 1, 0) == 4, "the wait doesn't go on");
     expect(status_of(child) == 0, "the child doesn't send");
 }
 
