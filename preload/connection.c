@@ -286,13 +286,19 @@ static long milliseconds(void)
     return now.tv_sec * 1000L + now.tv_nsec / 1000000L;
 }
 
+/* Waits until there is something to read, and returns what poll returns. In a child that a signal
+ * handler forked there is no connection, and reading fails at once. */
+static int await_input(int fd, int timeout)
+{
+    return fd < 0 ? 1 : poll(&(struct pollfd){.fd = fd, .events = POLLIN}, 1, timeout);
+}
+
 /* Waits for more of a reply. Returns what recv returns, or 0 if nothing came until `deadline`. */
 static ssize_t await_rest(int fd, struct iovec pieces[2], long deadline)
 {
     for (;;) {
         long left = deadline - milliseconds();
-        int ready =
-            left <= 0 ? 0 : poll(&(struct pollfd){.fd = fd, .events = POLLIN}, 1, (int)left);
+        int ready = left <= 0 ? 0 : await_input(fd, (int)left);
         if (ready == 0)
             return 0;
         if (ready > 0)
@@ -313,12 +319,12 @@ static bool goes_on(const struct frame *frame, const struct iovec pieces[2])
 
 /* Waits until there is something to read, and returns what poll returns. Each signal handler that
  * runs meanwhile ends it with EINTR, and nothing else does. */
-static int poll_reply(struct connection *connection, const struct call *call)
+static int await_cancellable(struct connection *connection, const struct call *call)
 {
     int ready;
     pthread_cleanup_push(abandon, connection);
     pthread_setcancelstate(call->cancel_state, NULL);
-    ready = poll(&(struct pollfd){.fd = connection->fd, .events = POLLIN}, 1, -1);
+    ready = await_input(connection->fd, -1);
     pthread_setcancelstate(PTHREAD_CANCEL_DISABLE, NULL);
     pthread_cleanup_pop(0);
     return ready;
@@ -348,7 +354,7 @@ static void await_longer(struct connection *connection, struct call *call, bool 
 {
     if (by_signal && has_handler())
         note_signal(call);
-    while (!call->is_interrupted && poll_reply(connection, call) < 0 && errno == EINTR)
+    while (!call->is_interrupted && await_cancellable(connection, call) < 0 && errno == EINTR)
         note_signal(call);
 }
 
@@ -383,8 +389,10 @@ static ssize_t await_reply(
             leave(connection, call);
         got = receive_pieces(connection->fd, pieces, 0);
     }
-    while (is_early(got))
-        got = receive_pieces(connection->fd, pieces, 0);
+    while (is_early(got)) {
+        await_input(connection->fd, -1);
+        got = receive_pieces(connection->fd, pieces, MSG_DONTWAIT);
+    }
     return got;
 }
 
