@@ -14,16 +14,18 @@
 #include <sys/socket.h>
 #include <sys/stat.h>
 #include <sys/syscall.h>
+#include <sys/time.h>
 #include <sys/uio.h>
 #include <sys/un.h>
 #include <time.h>
 #include <unistd.h>
 
 enum {
-    CONNECTIONS = 1024,       /* threads that can keep one */
-    HIGH_DESCRIPTOR = 900,    /* out of the way of programs that count or close theirs */
-    REST_SECONDS = 10,        /* how long the rest of a reply may take that has begun */
-    HELLO_MILLISECONDS = 250, /* how long an interrupted call waits for the reply to its hello */
+    CONNECTIONS = 1024,        /* threads that can keep one */
+    HIGH_DESCRIPTOR = 900,     /* out of the way of programs that count or close theirs */
+    REST_SECONDS = 10,         /* how long the rest of a reply may take that has begun */
+    FIRST_MICROSECONDS = 2000, /* how long a single recv may wait for a reply */
+    HELLO_MILLISECONDS = 250,  /* how long an interrupted call waits for the reply to its hello */
 };
 
 /* Tells whether a descriptor still is the file that it was. */
@@ -47,7 +49,7 @@ struct connection {
 struct call {
     pid_t process; /* in which it began */
     bool may_wait;
-    int cancel_state; /* of its thread */
+    int cancel_state; /* while it waits */
     bool is_interrupted;
 };
 
@@ -284,13 +286,19 @@ static long milliseconds(void)
     return now.tv_sec * 1000L + now.tv_nsec / 1000000L;
 }
 
+/* Waits until there is something to read, and returns what poll returns. In a child that a signal
+ * handler forked there is no connection, and reading fails at once. */
+static int await_input(int fd, int timeout)
+{
+    return fd < 0 ? 1 : poll(&(struct pollfd){.fd = fd, .events = POLLIN}, 1, timeout);
+}
+
 /* Waits for more of a reply. Returns what recv returns, or 0 if nothing came until `deadline`. */
 static ssize_t await_rest(int fd, struct iovec pieces[2], long deadline)
 {
     for (;;) {
         long left = deadline - milliseconds();
-        int ready =
-            left <= 0 ? 0 : poll(&(struct pollfd){.fd = fd, .events = POLLIN}, 1, (int)left);
+        int ready = left <= 0 ? 0 : await_input(fd, (int)left);
         if (ready == 0)
             return 0;
         if (ready > 0)
@@ -310,23 +318,44 @@ static bool goes_on(const struct frame *frame, const struct iovec pieces[2])
 }
 
 /* Waits until there is something to read, and returns what poll returns. Each signal handler that
- * runs meanwhile ends it with EINTR; recv would be restarted if the handler has SA_RESTART. */
-static int poll_reply(struct connection *connection, const struct call *call)
+ * runs meanwhile ends it with EINTR, and nothing else does. */
+static int await_cancellable(struct connection *connection, const struct call *call)
 {
     int ready;
     pthread_cleanup_push(abandon, connection);
     pthread_setcancelstate(call->cancel_state, NULL);
-    ready = poll(&(struct pollfd){.fd = connection->fd, .events = POLLIN}, 1, -1);
+    ready = await_input(connection->fd, -1);
     pthread_setcancelstate(PTHREAD_CANCEL_DISABLE, NULL);
     pthread_cleanup_pop(0);
     return ready;
 }
 
-/* Waits for the reply of a call that may wait, and notes whether a signal handler ended that. */
-static void await_or_note(struct connection *connection, struct call *call)
+/* Whether the program handles any signal. */
+static bool has_handler(void)
 {
-    while (!call->is_interrupted && poll_reply(connection, call) < 0 && errno == EINTR)
-        call->is_interrupted = ends_by_signals || is_in_child(call);
+    struct sigaction action;
+    for (int number = 1; number < NSIG; number++)
+        if (sigaction(number, NULL, &action) == 0 && action.sa_handler != SIG_DFL
+            && action.sa_handler != SIG_IGN)
+            return true;
+    return false;
+}
+
+/* Notes that a signal handler ran during a call. */
+static void note_signal(struct call *call)
+{
+    call->is_interrupted = (call->may_wait && ends_by_signals) || is_in_child(call);
+}
+
+/* Waits on for a reply, after a first recv has ended early: `by_signal`, or because of its limit of
+ * time. That limit makes it fail with EINTR even if the handler has SA_RESTART, but also after a
+ * stop that was continued. Only a program without handlers is told from that, so poll waits on. */
+static void await_longer(struct connection *connection, struct call *call, bool by_signal)
+{
+    if (by_signal && has_handler())
+        note_signal(call);
+    while (!call->is_interrupted && await_cancellable(connection, call) < 0 && errno == EINTR)
+        note_signal(call);
 }
 
 /* Leaves a wait: the server replies if the call is done, and else ends the session without a reply.
@@ -341,21 +370,29 @@ static void leave(struct connection *connection, const struct call *call)
         connection->fd = -1;
 }
 
+/* Whether recv ended without anything: by its limit of time, or by a signal. */
+static bool is_early(ssize_t got) { return got < 0 && (errno == EAGAIN || errno == EINTR); }
+
 /* Waits for the beginning of a reply as its call may wait. Returns what recv returns, or 0 if an
  * interrupted call gets no worker of the server. */
 static ssize_t await_reply(
     struct connection *connection, bool is_hello, struct iovec pieces[2], struct call *call)
 {
-    ssize_t got;
-    if (call->may_wait)
-        await_or_note(connection, call);
-    if (call->is_interrupted && is_hello && !is_in_child(call))
-        return await_rest(connection->fd, pieces, milliseconds() + HELLO_MILLISECONDS);
     if (call->is_interrupted)
         leave(connection, call);
-    do
+    ssize_t got = receive_pieces(connection->fd, pieces, 0);
+    if (is_early(got) && !call->is_interrupted) {
+        await_longer(connection, call, errno == EINTR);
+        if (call->is_interrupted && is_hello && !is_in_child(call))
+            return await_rest(connection->fd, pieces, milliseconds() + HELLO_MILLISECONDS);
+        if (call->is_interrupted)
+            leave(connection, call);
         got = receive_pieces(connection->fd, pieces, 0);
-    while (got < 0 && errno == EINTR);
+    }
+    while (is_early(got)) {
+        await_input(connection->fd, -1);
+        got = receive_pieces(connection->fd, pieces, MSG_DONTWAIT);
+    }
     return got;
 }
 
@@ -455,6 +492,8 @@ static bool open_held(struct connection *connection)
     if (fd < 0)
         return false;
     fd = move_up(fd);
+    setsockopt(fd, SOL_SOCKET, SO_RCVTIMEO, &(struct timeval){.tv_usec = FIRST_MICROSECONDS},
+        sizeof(struct timeval));
     if (!note_file(fd, &connection->file)) {
         close(fd);
         return false;
@@ -601,7 +640,9 @@ int ask(struct frame *frame, bool may_wait)
     int cancel_state, errno_before = errno;
     struct connection single = {.fd = -1};
     pthread_setcancelstate(PTHREAD_CANCEL_DISABLE, &cancel_state);
-    struct call call = {.process = getpid(), .may_wait = may_wait, .cancel_state = cancel_state};
+    struct call call = {.process = getpid(),
+        .may_wait = may_wait,
+        .cancel_state = may_wait ? cancel_state : PTHREAD_CANCEL_DISABLE};
     struct connection *connection = borrow(&single, &call);
     int error = make_ready(connection, &call);
     if (error == 0)

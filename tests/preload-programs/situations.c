@@ -480,6 +480,24 @@ static void is_interrupted(ssize_t (*wait)(int), int id, int flags)
     expect(count_descriptors(is_socket) == 0, "the connection is left");
 }
 
+/* A signal that comes at the beginning of a wait ends it too. Should one come before the wait, the
+ * next one comes a second later. */
+static void signals_end_new_waits(void)
+{
+    enum { ROUNDS = 10, SOON = 900 };
+    int id = new_queue();
+    long took = SOON;
+    catch (SIGALRM, note);
+    for (int i = 0; i < ROUNDS && took >= SOON; i++) {
+        stat_of(id);
+        long start = milliseconds();
+        setitimer(ITIMER_REAL, &(struct itimerval){{1, 0}, {0, 1000}}, NULL);
+        expect(refused(wait_for_text(id), EINTR), "the wait doesn't end with EINTR");
+        took = milliseconds() - start;
+    }
+    expect(took < SOON, "the signal is not seen");
+}
+
 /* A wait that a signal ended has had no effect, and has none later. */
 static void signals_end_waits(void)
 {
@@ -497,21 +515,38 @@ static void signals_end_waits(void)
         "a wait that was left sent its message");
 }
 
-/* Only a handler ends a wait. A stop that is continued doesn't, nor a signal that is ignored. */
+/* Stops a process a few times, and lets it go on. */
+static bool stop_often(pid_t process)
+{
+    for (int i = 0; i < 10; i++) {
+        if (kill(process, SIGALRM) != 0 || kill(process, SIGSTOP) != 0
+            || kill(process, SIGCONT) != 0)
+            return false;
+        usleep(300);
+    }
+    return true;
+}
+
+/* Only a handler ends a wait. A stop that is continued doesn't, nor a signal that is ignored,
+ * neither at the beginning of a wait nor later. */
 static void only_handlers_end_waits(void)
 {
+    enum { WAITS = 50 };
     int id = new_queue();
-    pid_t parent = getpid(), child = fork();
+    pid_t parent = getpid();
     signal(SIGALRM, SIG_IGN);
+    pid_t child = fork();
     if (child == 0) {
         usleep(200000);
-        bool told = kill(parent, SIGALRM) == 0 && kill(parent, SIGSTOP) == 0;
-        usleep(100000);
-        told = told && kill(parent, SIGCONT) == 0;
-        usleep(400000);
-        _exit(!told || send_text(id, 1) != 0);
+        for (int i = 0; i < WAITS; i++) {
+            if (!stop_often(parent) || send_text(id, 1) != 0)
+                _exit(1);
+        }
+        usleep(200000);
+        _exit(!stop_often(parent) || usleep(400000) != 0 || send_text(id, 1) != 0);
     }
-    expect(receive_text(id, 1, 0) == 4, "the wait doesn't go on");
+    for (int i = 0; i <= WAITS; i++)
+        expect(receive_text(id, 1, 0) == 4, "the wait doesn't go on");
     expect(status_of(child) == 0, "the child doesn't send");
 }
 
@@ -810,20 +845,32 @@ static void half_reply(const char *path)
 static const char HELLO_REPLY[] = "\0\0\0\7\2\0\0\0\0\1";
 static const char RECEIVE_REPLY[] = "\0\0\0\17\2\3\0\0\0\0\0\0\0\0\1text";
 
+/* Sends a signal to a process that waits meanwhile. */
+static void interrupt(pid_t process)
+{
+    usleep(50000);
+    kill(process, SIGALRM);
+    usleep(50000);
+}
+
 /* Plays a server that lets signals interrupt the caller's receive, sees that it is left, sends so
- * many bytes of the reply, and closes the connection. */
-static pid_t play_left(int listener, size_t size)
+ * many bytes of the reply, and closes the connection. `early` signals come before it has replied to
+ * the hello. */
+static pid_t play_left(int listener, bool early, size_t size)
 {
     char bytes[256];
     pid_t caller = getpid(), child = fork();
     if (child != 0)
         return child;
     int peer = accept(listener, NULL, NULL);
-    bool is_asked = read(peer, bytes, sizeof bytes) > 0
-                    && write(peer, HELLO_REPLY, sizeof HELLO_REPLY) == sizeof HELLO_REPLY
-                    && read(peer, bytes, sizeof bytes) > 0;
-    usleep(50000);
-    bool is_left = kill(caller, SIGALRM) == 0 && read(peer, bytes, sizeof bytes) == 0;
+    bool is_asked = read(peer, bytes, sizeof bytes) > 0;
+    if (early)
+        interrupt(caller);
+    is_asked = is_asked && write(peer, HELLO_REPLY, sizeof HELLO_REPLY) == sizeof HELLO_REPLY
+               && read(peer, bytes, sizeof bytes) > 0;
+    if (!early)
+        interrupt(caller);
+    bool is_left = read(peer, bytes, sizeof bytes) == 0;
     for (int i = 0; i < 3; i++) {
         usleep(10000);
         kill(caller, SIGALRM);
@@ -837,8 +884,9 @@ static void left_replies(const char *path)
     const size_t whole = sizeof RECEIVE_REPLY - 1;
     int listener = listen_at(path);
     catch (SIGALRM, note);
-    for (size_t size = 0; size <= whole; size++) {
-        pid_t player = play_left(listener, size);
+    for (size_t i = 0; i <= 2 * whole + 1; i++) {
+        size_t size = i / 2;
+        pid_t player = play_left(listener, i % 2 == 1, size);
         ssize_t got = receive_text(3, 1, 0);
         if (size == whole)
             expect(got == 4, "a whole reply doesn't count");
@@ -919,6 +967,7 @@ static const struct {
     {"jump-out", jumps},
     {"signal", signals},
     {"signal-ends-wait", signals_end_waits},
+    {"signal-ends-new-wait", signals_end_new_waits},
     {"only-handlers-end-waits", only_handlers_end_waits},
     {"never-waits", never_waits},
     {"signal-ends-one-thread", signals_end_one_thread},
