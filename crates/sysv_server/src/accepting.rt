@@ -55,6 +55,28 @@ pub(crate) enum Listening<'a> {
     Closed,
 }
 
+impl Listening<'_> {
+    /// Returns whether there is no listener any more.
+    fn is_closed(&self) -> bool
+        ensures { result ≡ is_closed self.now }
+    {
+        match self {
+            Listening::Closed => true,
+            Listening::Lent(_) | Listening::Unopened | Listening::Own(_) => false,
+        }
+    }
+
+    /// Returns whether the host has not opened the listener yet.
+    fn is_unopened(&self) -> bool
+        ensures { result ≡ is_unopened self.now }
+    {
+        match self {
+            Listening::Unopened => true,
+            Listening::Lent(_) | Listening::Own(_) | Listening::Closed => false,
+        }
+    }
+}
+
 /// A source that accepts connections, up to a maximum number if that is not 0. It ends when an
 /// accept fails, or when its input, if it has one, ends.
 #[derive(Drop)]
@@ -110,7 +132,7 @@ impl<'a, I: Read + AsRawFd + Drop, H: Host> Accepting<'a, I, H> {
         ensures opened { IfOk result (λ _. is_unopened self.new.listening ≡ false) }
         ensures refused { IfErr result (λ _. is_unopened self.old.listening ≡ true) }
     {
-        if let Listening::Unopened = &self.listening {
+        if self.listening.is_unopened() {
             self.listening = Listening::Own(self.common.host.listen()?);
         }
         Ok(())
@@ -154,7 +176,7 @@ impl<I: Read + AsRawFd + Drop, H: Host> Source<UnixStream> for Accepting<'_, I, 
     ghost gives = { Accepts };
 
     fn next(&mut self) -> Option<UnixStream> {
-        if let Listening::Closed = &self.listening {
+        if self.listening.is_closed() {
             return None;
         }
         match self.accept() {

@@ -114,17 +114,17 @@ impl<'a> Patiently<'a> {
         }
     }
 
-    /// Waits until the connection can be written to, and writes to it.
+    /// Writes to the connection, once there is room.
     fn write_by(&self, buf: &[u8]) -> io::Result<usize>
         ensures { WritesAtMost result buf.now }
     {
         let mut stream = self.stream;
         for _ in 0..u64::MAX {
-            await_ready(stream.as_raw_fd(), POLLOUT, self.limits.cut, self.due)?;
             match stream.write(buf) {
                 Err(why) if is_early(&why) => {}
                 outcome => return outcome,
             }
+            await_ready(stream.as_raw_fd(), POLLOUT, self.limits.cut, self.due)?;
         }
         stream.write(buf)
     }

@@ -120,6 +120,7 @@ pub fn serve_listener<I: Read + AsRawFd + Drop, H: Host + Sync, R: Threads + Wai
         patience,
         drain,
     } = terms;
+    *reason = None;
     let common = Common::new(host, at_once, patience, drain);
     if !common.can_cut() {
         return Err(ServeFault::NoMemory);
