@@ -1,6 +1,6 @@
 //! A source of accepted connections.
-ghost use Rattle.std.specs.Prelude.{◌≡◌, ◌≢◌, ◌<◌, ◌≤◌, ◌-◌, ◌^◌, ◌⊎◌, true, false, is_some, IfErr, IfOk, IsSome};
-ghost use Rattle.sysv_server.specs.Accepts.{is_closed, is_unopened, EndsInput, HasEnded, IsFull};
+ghost use Rattle.std.specs.Prelude.{◌≡◌, ◌≢◌, ◌<◌, ◌≤◌, ◌-◌, ◌^◌, ◌⊎◌, true, false, is_some, IfErr, IfNone, IfOk};
+ghost use Rattle.sysv_server.specs.Accepts.{is_closed, is_unopened, EndsInput, HasEnded};
 
 use crate::common::Common;
 use crate::host::{Host, Notice, Reason};
@@ -56,6 +56,25 @@ pub(crate) enum Listening<'a> {
 }
 
 impl Listening<'_> {
+    /// Returns the listener, if one is open.
+    fn listener(&self) -> Option<&UnixListener>
+        ensures { IfNone result ((is_closed self.now ≡ true) ⊎ (is_unopened self.now ≡ true)) }
+    {
+        match self {
+            Listening::Lent(listener) => Some(listener),
+            Listening::Own(listener) => Some(listener),
+            Listening::Unopened | Listening::Closed => None,
+        }
+    }
+
+    /// Returns whether it is the server's own listener.
+    fn is_own(&self) -> bool {
+        match self {
+            Listening::Own(_) => true,
+            Listening::Lent(_) | Listening::Unopened | Listening::Closed => false,
+        }
+    }
+
     /// Returns whether there is no listener any more.
     fn is_closed(&self) -> bool
         ensures { result ≡ is_closed self.now }
@@ -80,7 +99,7 @@ impl Listening<'_> {
 /// A source that accepts connections, up to a maximum number if that is not 0. It ends when an
 /// accept fails, or when its input, if it has one, ends.
 #[derive(Drop)]
-pub(crate) struct Accepting<'a, I: Drop, H> {
+pub(crate) struct Accepting<'a, I: Drop, H: Drop> {
     listening: Listening<'a>,
     /// The input whose end ends the source.
     input: Option<I>,
@@ -91,16 +110,16 @@ pub(crate) struct Accepting<'a, I: Drop, H> {
     /// Why the source has ended, if it has.
     reason: Option<Reason>,
     line: Line,
-    common: &'a Common<'a, H>,
+    common: &'a Common<H>,
 }
 
-impl<'a, I: Read + AsRawFd + Drop, H: Host> Accepting<'a, I, H> {
+impl<'a, I: Read + AsRawFd + Drop, H: Host + Drop> Accepting<'a, I, H> {
     /// Creates a source that has accepted no connection.
     pub(crate) fn new(
         listening: Listening<'a>,
         input: Option<I>,
         most: u64,
-        common: &'a Common<'a, H>,
+        common: &'a Common<H>,
     ) -> Accepting<'a, I, H>
         ensures begun { (result.most ≡ most) × (result.accepted ≡ 0) }
         ensures range { result.most ≤ 2 ^ 64 - 1 }
@@ -155,10 +174,9 @@ impl<'a, I: Read + AsRawFd + Drop, H: Host> Accepting<'a, I, H> {
         if let Err(why) = self.open() {
             return Err(Reason::NoSocket(why));
         }
-        let (listener, retries) = match &self.listening {
-            Listening::Lent(listener) => (*listener, false),
-            Listening::Own(listener) => (listener, true),
-            Listening::Unopened | Listening::Closed => unreachable!(),
+        let retries = self.listening.is_own();
+        let Some(listener) = self.listening.listener() else {
+            unreachable!()
         };
         let mut door = Door {
             listener,
@@ -170,7 +188,7 @@ impl<'a, I: Read + AsRawFd + Drop, H: Host> Accepting<'a, I, H> {
     }
 }
 
-impl<I: Read + AsRawFd + Drop, H: Host> Source<UnixStream> for Accepting<'_, I, H> {
+impl<I: Read + AsRawFd + Drop, H: Host + Drop> Source<UnixStream> for Accepting<'_, I, H> {
     ghost use Rattle.sysv_server.specs.Accepts.{Accepts};
 
     ghost gives = { Accepts };
@@ -196,10 +214,10 @@ impl<I: Read + AsRawFd + Drop, H: Host> Source<UnixStream> for Accepting<'_, I, 
 
 /// An open listener, and the connections that wait behind it.
 #[derive(Drop)]
-struct Door<'a, 'b, H> {
-    listener: &'a UnixListener,
-    common: &'a Common<'a, H>,
-    line: &'b mut Line,
+struct Door<'l, 'c, 'n, H: Drop> {
+    listener: &'l UnixListener,
+    common: &'c Common<H>,
+    line: &'n mut Line,
     /// The number of connections that were accepted.
     accepted: u64,
 }
@@ -213,7 +231,7 @@ struct Arrived {
     input: bool,
 }
 
-impl<H: Host> Door<'_, '_, H> {
+impl<H: Host + Drop> Door<'_, '_, '_, H> {
     /// Waits for a connection and accepts it. If the server `retries`, an accept that fails for
     /// want of something is tried again; the host is told so, and when it succeeds.
     fn accept_next<I: Read + AsRawFd>(

@@ -8,8 +8,8 @@ use std::sync::atomic::{AtomicBool, AtomicU64, Ordering};
 
 /// What the sessions of a server share with the thread that accepts connections.
 #[derive(Drop)]
-pub(crate) struct Common<'a, H> {
-    pub(crate) host: &'a H,
+pub(crate) struct Common<H: Drop> {
+    pub(crate) host: H,
     /// The maximum number of sessions that run at once, and of connections that wait for a worker.
     at_once: u64,
     patience: Patience,
@@ -29,9 +29,9 @@ pub(crate) struct Common<'a, H> {
     cut: Bell,
 }
 
-impl<'a, H: Host> Common<'a, H> {
+impl<H: Host + Drop> Common<H> {
     /// Returns what the sessions share before the first of them.
-    pub(crate) fn new(host: &'a H, at_once: u32, patience: Patience, drain: u32) -> Common<'a, H> {
+    pub(crate) fn new(host: H, at_once: u32, patience: Patience, drain: u32) -> Common<H> {
         Common {
             host,
             at_once: u64::from(at_once),

@@ -42,6 +42,7 @@ pub enum Reason {
 }
 
 /// The host of a server that has its listener. It drops what it is told.
+#[derive(Drop)]
 pub(crate) struct Quiet;
 
 impl Host for Quiet {
@@ -51,5 +52,3 @@ impl Host for Quiet {
 
     fn note(&self, _notice: Notice) {}
 }
-
-pub(crate) const QUIET: Quiet = Quiet;

@@ -31,9 +31,9 @@ impl Line {
     /// Looks at the line, in which connections wait if fewer sessions have begun than were
     /// accepted. Tells the host if the first has waited for long. Returns when to look again, or
     /// `None` if there is nothing to look for.
-    pub(crate) fn look<H: Host>(
+    pub(crate) fn look<H: Host + Drop>(
         &mut self,
-        common: &Common<'_, H>,
+        common: &Common<H>,
         accepted: u64,
     ) -> Option<Moment> {
         let begun = common.begun();

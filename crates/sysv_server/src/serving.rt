@@ -10,7 +10,7 @@ use crate::accepting::{Accepting, Listening};
 use crate::common::Common;
 use crate::crew::{dismiss, hire};
 use crate::fault::ServeFault;
-use crate::host::{Host, QUIET, Quiet, Reason};
+use crate::host::{Host, Quiet, Reason};
 use crate::laws::each_life_is_one_run;
 use crate::session::{Sessions, Worker};
 use crate::sums::Sums;
@@ -63,7 +63,7 @@ pub fn serve_on<R: Threads + Wait + Sync>(
     ensures ok { IfOk result (λ sums. ServesOn blocks workers sessions sums) }
     ensures balance { IfOk result IsBalanced }
 {
-    let common = Common::new(&QUIET, workers, Patience::UNBOUNDED, 0);
+    let common = Common::new(Quiet, workers, Patience::UNBOUNDED, 0);
     let mut source = lent(listener, sessions, &common);
     serve_source(rt, alloc, &mut source, blocks, workers, &common)
 }
@@ -72,7 +72,7 @@ pub fn serve_on<R: Threads + Wait + Sync>(
 fn lent<'a>(
     listener: &'a UnixListener,
     sessions: u64,
-    common: &'a Common<'a, Quiet>,
+    common: &'a Common<Quiet>,
 ) -> Accepting<'a, UnixStream, Quiet>
     ensures { (result.most ≡ sessions) × (result.accepted ≡ 0) }
 {
@@ -98,10 +98,10 @@ fn lent<'a>(
 ///
 /// - `terms.blocks` is 128 to 65,536.
 /// - `terms.at_once` is 1 to 256.
-pub fn serve_listener<I: Read + AsRawFd + Drop, H: Host + Sync, R: Threads + Wait + Sync>(
+pub fn serve_listener<I: Read + AsRawFd + Drop, H: Host + Sync + Drop, R: Threads + Wait + Sync>(
     rt: &R,
     alloc: Global,
-    host: &H,
+    host: H,
     input: Option<I>,
     terms: Terms,
     reason: &mut Option<Reason>,
@@ -132,13 +132,13 @@ pub fn serve_listener<I: Read + AsRawFd + Drop, H: Host + Sync, R: Threads + Wai
 }
 
 /// Serves the connections of a source like `serve_all`, and returns the sums.
-fn serve_source<S: Source<UnixStream>, H: Host + Sync, R: Threads + Wait + Sync>(
+fn serve_source<S: Source<UnixStream>, H: Host + Sync + Drop, R: Threads + Wait + Sync>(
     rt: &R,
     alloc: Global,
     source: &mut S,
     blocks: u32,
     workers: u32,
-    common: &Common<'_, H>,
+    common: &Common<H>,
 ) -> Result<Sums, ServeFault>
     requires blocks { (MIN_BLOCKS ≤ blocks) × (blocks ≤ MAX_BLOCKS) }
     requires workers { (1 ≤ workers) × (workers ≤ MAX_CROWD) }
@@ -154,13 +154,13 @@ fn serve_source<S: Source<UnixStream>, H: Host + Sync, R: Threads + Wait + Sync>
 
 /// Serves the connections of a source on a new service, and removes the queues that are left. After
 /// `NoMemory` and `Thread` no connection was requested from the source.
-fn serve_all<S: Source<UnixStream>, H: Host + Sync, R: Threads + Wait + Sync>(
+fn serve_all<S: Source<UnixStream>, H: Host + Sync + Drop, R: Threads + Wait + Sync>(
     rt: &R,
     alloc: Global,
     source: &mut S,
     blocks: u32,
     workers: u32,
-    common: &Common<'_, H>,
+    common: &Common<H>,
 ) -> Result<Ended, ServeFault>
     requires blocks { (MIN_BLOCKS ≤ blocks) × (blocks ≤ MAX_BLOCKS) }
     requires workers { (1 ≤ workers) × (workers ≤ MAX_CROWD) }
@@ -187,14 +187,14 @@ fn serve_all<S: Source<UnixStream>, H: Host + Sync, R: Threads + Wait + Sync>(
 }
 
 /// Serves the connections of a source on this service, and takes back the passes of all workers.
-fn serve_with<S: Source<UnixStream>, H: Host + Sync, R: Threads + Wait + Sync>(
+fn serve_with<S: Source<UnixStream>, H: Host + Sync + Drop, R: Threads + Wait + Sync>(
     rt: &R,
     alloc: Global,
     service: &Service,
     pass: &mut Pass,
     source: &mut S,
     count: usize,
-    common: &Common<'_, H>,
+    common: &Common<H>,
 ) -> Result<Sums, ServeFault>
     requires pass { AreOf service.now pass.old.seats }
     requires count { (1 ≤ count) × (count ≤ MAX_CROWD) }

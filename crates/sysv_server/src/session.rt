@@ -75,13 +75,13 @@ impl<'a, R: Wait> Worker<'a, R> {
 
 /// The job that runs a session on each connection.
 #[derive(Drop)]
-pub(crate) struct Sessions<'a, H> {
+pub(crate) struct Sessions<'a, 'c, H: Drop> {
     pub(crate) alloc: Global,
     pub(crate) service: &'a Service,
-    pub(crate) common: &'a Common<'a, H>,
+    pub(crate) common: &'c Common<H>,
 }
 
-impl<'a, R: Wait, H: Host> Job<Worker<'a, R>, UnixStream> for Sessions<'a, H> {
+impl<'a, 'c, R: Wait, H: Host + Drop> Job<Worker<'a, R>, UnixStream> for Sessions<'a, 'c, H> {
     ghost use Rattle.sysv_server.specs.Handled.{Handles};
 
     ghost fits = { λ job worker. worker.kernel.service.now ≡ job.service.now };

@@ -68,7 +68,7 @@ pub(crate) fn serve_at<
     let host = Reporter { rt, serving };
     let input = serving.until_eof.then_some(input);
     let mut reason = None;
-    match serve_listener(rt, rt.alloc(), &host, input, serving.terms, &mut reason) {
+    match serve_listener(rt, rt.alloc(), host, input, serving.terms, &mut reason) {
         Ok(ended) => end(rt, &ended.sums, reason),
         Err(fault) => {
             explain(rt, fault, &serving.terms);

@@ -358,7 +358,7 @@ fn ended<R: Threads + Wait + Net + Files + Abort + Clock + Sync>(
                 × (terms.at_once ≤ 256) }
         {
             let mut reason = None;
-            let end = serve_listener(rt, alloc, &host, None::<UnixStream>, terms, &mut reason);
+            let end = serve_listener(rt, alloc, host, None::<UnixStream>, terms, &mut reason);
             (end, matches!(reason, Some(Reason::Full)))
         },
         move || clients.run(rt, alloc, path),
@@ -474,7 +474,7 @@ fn a_server_without_a_listener_serves_nobody(rt: HostRuntime) {
     let end = serve_listener(
         &rt,
         rt.alloc(),
-        &Unbound,
+        Unbound,
         None::<UnixStream>,
         terms,
         &mut reason,
