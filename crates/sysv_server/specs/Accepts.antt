@@ -1,5 +1,6 @@
 -- How connections are accepted, and why no more are (this project's profile).
-use Rattle.std.specs.Prelude.{◌≡◌, ◌≢◌, ◌+◌, ◌<◌, ◌≤◌, ◌⊎◌, ⊤, ℕ, Bool, false, true, Option, None, Some, is_some, IsSomeAnd}
+use Rattle.std.specs.Prelude.{◌≡◌, ◌≢◌, ◌+◌, ◌<◌, ◌≤◌, ◌⊎◌, ⊤, ℕ, Bool, false, true, Option, None, Some, is_some}
+use Rattle.std.specs.Prelude.{IsSomeAnd}
 use Rattle.sysv_server.specs.declared.accepting.Accepting.{Accepting}
 use Rattle.sysv_server.specs.declared.accepting.Listening.{Listening}
 use Rattle.sysv_server.specs.declared.accepting.Listening.TheVariants.{Closed, Unopened}

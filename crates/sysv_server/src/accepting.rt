@@ -178,13 +178,12 @@ impl<'a, I: Read + AsRawFd + Drop, H: Host + Drop> Accepting<'a, I, H> {
         let Some(listener) = self.listening.listener() else {
             unreachable!()
         };
-        let mut door = Door {
+        let door = Door {
             listener,
             common: self.common,
-            line: &mut self.line,
             accepted: self.accepted,
         };
-        door.accept_next(&mut self.input, retries)
+        door.accept_next(&mut self.line, &mut self.input, retries)
     }
 }
 
@@ -212,12 +211,11 @@ impl<I: Read + AsRawFd + Drop, H: Host + Drop> Source<UnixStream> for Accepting<
     }
 }
 
-/// An open listener, and the connections that wait behind it.
+/// An open listener, and what is known of the connections that came through it.
 #[derive(Drop)]
-struct Door<'l, 'c, 'n, H: Drop> {
+struct Door<'l, 'c, H: Drop> {
     listener: &'l UnixListener,
     common: &'c Common<H>,
-    line: &'n mut Line,
     /// The number of connections that were accepted.
     accepted: u64,
 }
@@ -231,11 +229,12 @@ struct Arrived {
     input: bool,
 }
 
-impl<H: Host + Drop> Door<'_, '_, '_, H> {
+impl<H: Host + Drop> Door<'_, '_, H> {
     /// Waits for a connection and accepts it. If the server `retries`, an accept that fails for
     /// want of something is tried again; the host is told so, and when it succeeds.
     fn accept_next<I: Read + AsRawFd>(
-        &mut self,
+        &self,
+        line: &mut Line,
         input: &mut Option<I>,
         retries: bool,
     ) -> Result<UnixStream, Reason>
@@ -244,7 +243,7 @@ impl<H: Host + Drop> Door<'_, '_, '_, H> {
     {
         let mut held = false;
         for _ in 0..u64::MAX {
-            let arrived = self.wait(descriptor(input));
+            let arrived = self.wait(line, descriptor(input));
             if arrived.input && has_ended(input) {
                 return Err(Reason::InputOver);
             }
@@ -278,8 +277,8 @@ impl<H: Host + Drop> Door<'_, '_, '_, H> {
 
     /// Waits until the input, whose descriptor is given, can be read, or until there is a connection
     /// and one more may wait for a worker. It may return early.
-    fn wait(&mut self, input: i32) -> Arrived {
-        let left = self.line.look(self.common, self.accepted).map(Moment::left);
+    fn wait(&self, line: &mut Line, input: i32) -> Arrived {
+        let left = line.look(self.common, self.accepted).map(Moment::left);
         if self.common.has_room(self.accepted) {
             return arrived_at(input, self.listener.as_raw_fd(), timeout(left));
         }
