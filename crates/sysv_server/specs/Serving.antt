@@ -1,6 +1,6 @@
 -- What a server does (this project's profile). Its workers share one service, each worker has a
 -- pass of its own, and there is one session for each connection.
-use Rattle.std.specs.Prelude.{◌≡◌, ◌≢◌, ◌≤◌, ℕ, List, Option, Result, length}
+use Rattle.std.specs.Prelude.{◌≡◌, ◌≢◌, ◌≤◌, ⊤, ℕ, Bool, true, List, Option, Some, None, Result, length}
 use Rattle.std.specs.List.{AllByRecursion}
 use Rattle.sysv_shared.specs.Opened.{AreOpen}
 use Rattle.sysv_shared.specs.Seats.{Gates, AreOf}
@@ -12,6 +12,8 @@ use Rattle.sysv_workers.specs.declared.refusals.WorkersFault.TheVariants as work
 use Rattle.sysv_workers.specs.Sources.{GivesAll, Gave, Returned}
 use Rattle.sysv_server.specs.declared.fault.ServeFault.{ServeFault}
 use Rattle.sysv_server.specs.declared.fault.ServeFault.TheVariants.{NoMemory, Thread, Worn, Missed}
+use Rattle.sysv_server.specs.declared.host.Reason.{Reason}
+use Rattle.sysv_server.specs.declared.host.Reason.TheVariants.{Full, InputOver, NoSocket, Accept}
 use Rattle.sysv_server.specs.declared.sums.Sums.{Sums}
 use Rattle.sysv_server.specs.declared.terms.Ended.{Ended}
 use Rattle.sysv_server.specs.Added.{nothing}
@@ -80,6 +82,15 @@ pub record EndsOn (blocks workers most : ℕ) (ended : Ended) : Type 0 where
   pub stopped : Stopped served.gates ended.removed
   pub told : ended.removed ≡ served.removed
   pub closed : ended.closed ≡ served.lived.closed
+
+-- A server that may have an input, that was to run this maximum number of sessions, 0 for no limit,
+-- and that ran this number of them, accepted no more connections for this reason.
+abbrev pub HasReason : Bool → (most sessions : ℕ) → Option Reason → Type 0
+HasReason has_input most sessions None = ⊥
+HasReason has_input most sessions (Some Full) = (most ≢ 0) × (sessions ≡ most)
+HasReason has_input most sessions (Some InputOver) = has_input ≡ true
+HasReason has_input most sessions (Some (NoSocket why)) = sessions ≡ 0
+HasReason has_input most sessions (Some (Accept why)) = ⊤
 
 -- After a fault that keeps the server from running any session, the source of connections is
 -- unchanged. After `Worn` it has returned some connections, and may have reported its end. After

@@ -6,11 +6,16 @@
 #![tactic(auto)]
 
 mod accepting;
+mod bell;
+mod common;
 mod crew;
 mod fault;
 mod framing;
+mod host;
 mod kernel;
 mod laws;
+mod line;
+mod moment;
 mod patient;
 mod peer;
 mod serving;
@@ -19,6 +24,7 @@ mod sums;
 mod terms;
 
 pub use fault::ServeFault;
+pub use host::{Host, Notice, Reason};
 pub use kernel::ServiceKernel;
 pub use laws::{each_life_is_one_run, each_session_makes_calls};
 pub use serving::{serve_listener, serve_on};

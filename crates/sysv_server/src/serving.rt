@@ -1,20 +1,21 @@
 //! The server.
-ghost use Rattle.std.specs.Prelude.{◌≡◌, ◌≢◌, ◌≤◌, IfOk, IfErr, IsNone};
+ghost use Rattle.std.specs.Prelude.{◌≡◌, ◌≢◌, ◌≤◌, IfOk, IfErr, is_some};
 ghost use Rattle.sysv_model.specs.declared.limits.TheConstants.{MIN_BLOCKS, MAX_BLOCKS};
 ghost use Rattle.sysv_workers.specs.declared.workers.TheConstants.{MAX_CROWD, MAX_WORKERS};
 ghost use Rattle.sysv_shared.specs.Seats.{AreOf};
 ghost use Rattle.sysv_server.specs.Added.{IsBalanced};
-ghost use Rattle.sysv_server.specs.Serving.{EndsAll, EndsOn, FaultOf, LeavesConnections, ServesAll, ServesOn, WorkedFrom};
+ghost use Rattle.sysv_server.specs.Serving.{EndsAll, EndsOn, FaultOf, HasReason, LeavesConnections, ServesAll, ServesOn, WorkedFrom};
 
 use crate::accepting::{Accepting, Listening};
+use crate::common::Common;
 use crate::crew::{dismiss, hire};
 use crate::fault::ServeFault;
+use crate::host::{Host, Quiet, Reason};
 use crate::laws::each_life_is_one_run;
 use crate::session::{Sessions, Worker};
 use crate::sums::Sums;
 use crate::terms::{Ended, Patience, Terms};
 use std::alloc::Global;
-use std::io;
 use std::io::Read;
 use std::os::fd::AsRawFd;
 use std::os::unix::net::{UnixListener, UnixStream};
@@ -62,46 +63,54 @@ pub fn serve_on<R: Threads + Wait + Sync>(
     ensures ok { IfOk result (λ sums. ServesOn blocks workers sessions sums) }
     ensures balance { IfOk result IsBalanced }
 {
-    let mut source = lent(listener, sessions);
-    serve_source(rt, alloc, &mut source, blocks, workers)
+    let common = Common::new(Quiet, workers, Patience::UNBOUNDED, 0);
+    let mut source = lent(listener, sessions, &common);
+    serve_source(rt, alloc, &mut source, blocks, workers, &common)
 }
 
 /// Returns a source of connections from a listener that stays open.
-fn lent(listener: &UnixListener, sessions: u64) -> Accepting<'_, UnixStream>
+fn lent<'a>(
+    listener: &'a UnixListener,
+    sessions: u64,
+    common: &'a Common<Quiet>,
+) -> Accepting<'a, UnixStream, Quiet>
     ensures { (result.most ≡ sessions) × (result.accepted ≡ 0) }
 {
-    Accepting::new(Listening::Lent(listener), None, 0, sessions)
+    Accepting::new(Listening::Lent(listener), None, sessions, common)
 }
 
-/// Serves the connections of `listener` on a new service, like `serve_on`, but under `terms`.
+/// Serves the connections of the listener that `host` opens on a new service, like `serve_on`, but
+/// under `terms`.
 ///
-/// The listener is closed when no more connections are to be accepted, before the last sessions are
-/// over. If there is an `input`, no more connections are accepted after it has ended; the bytes
-/// that it returns before its end are dropped. `fault` is set to the reason if an accept failed,
-/// and to `None` otherwise. Without an `input` and without a `fault`, exactly `terms.sessions`
+/// The host opens the listener when the server has its memory and its threads. The listener is
+/// closed when no more connections are to be accepted, before the last sessions are over. If there
+/// is an `input`, no more connections are accepted after it has ended; the bytes that it returns
+/// before its end are dropped. An accept that fails for want of descriptors or memory, or because
+/// the client has gone, is tried again every 100 ms; the host is told. `reason` is set to why no
+/// more connections were accepted, if any were to be: at `Reason::Full` exactly `terms.sessions`
 /// sessions were run.
 ///
 /// # Errors
 ///
-/// The errors are those of `serve_on`.
+/// The errors are those of `serve_on`. After `NoMemory` and `Thread` no listener was opened.
 ///
 /// # Conditions
 ///
 /// - `terms.blocks` is 128 to 65,536.
 /// - `terms.at_once` is 1 to 256.
-pub fn serve_listener<I: Read + AsRawFd + Drop, R: Threads + Wait + Sync>(
+pub fn serve_listener<I: Read + AsRawFd + Drop, H: Host + Sync + Drop, R: Threads + Wait + Sync>(
     rt: &R,
     alloc: Global,
-    listener: UnixListener,
+    host: H,
     input: Option<I>,
     terms: Terms,
-    fault: &mut Option<io::Error>,
+    reason: &mut Option<Reason>,
 ) -> Result<Ended, ServeFault>
     requires blocks { (MIN_BLOCKS ≤ terms.blocks) × (terms.blocks ≤ MAX_BLOCKS) }
     requires at_once { (1 ≤ terms.at_once) × (terms.at_once ≤ MAX_CROWD) }
     ensures ok { IfOk result (λ ended. EndsOn terms.blocks terms.at_once terms.sessions ended) }
-    ensures exact { IfOk result (λ ended. IsNone input → IsNone fault.new →
-        (terms.sessions ≢ 0) × (ended.sums.sessions ≡ terms.sessions)) }
+    ensures exact { IfOk result (λ ended.
+        HasReason (is_some input) terms.sessions ended.sums.sessions reason.new) }
     ensures balance { IfOk result (λ ended. IsBalanced ended.sums) }
 {
     let Terms {
@@ -109,21 +118,27 @@ pub fn serve_listener<I: Read + AsRawFd + Drop, R: Threads + Wait + Sync>(
         at_once,
         sessions,
         patience,
+        drain,
     } = terms;
-    let listening = Listening::Own(listener);
-    let mut source = Accepting::new(listening, input, patience.stall, sessions);
-    let outcome = serve_all(rt, alloc, &mut source, blocks, at_once, patience);
-    *fault = source.into_fault();
+    *reason = None;
+    let common = Common::new(host, at_once, patience, drain);
+    if !common.can_cut() {
+        return Err(ServeFault::NoMemory);
+    }
+    let mut source = Accepting::new(Listening::Unopened, input, sessions, &common);
+    let outcome = serve_all(rt, alloc, &mut source, blocks, at_once, &common);
+    *reason = source.into_reason();
     outcome
 }
 
-/// Serves the connections of a source like `serve_all`, without limits on a client's silence.
-fn serve_source<S: Source<UnixStream>, R: Threads + Wait + Sync>(
+/// Serves the connections of a source like `serve_all`, and returns the sums.
+fn serve_source<S: Source<UnixStream>, H: Host + Sync + Drop, R: Threads + Wait + Sync>(
     rt: &R,
     alloc: Global,
     source: &mut S,
     blocks: u32,
     workers: u32,
+    common: &Common<H>,
 ) -> Result<Sums, ServeFault>
     requires blocks { (MIN_BLOCKS ≤ blocks) × (blocks ≤ MAX_BLOCKS) }
     requires workers { (1 ≤ workers) × (workers ≤ MAX_CROWD) }
@@ -131,7 +146,7 @@ fn serve_source<S: Source<UnixStream>, R: Threads + Wait + Sync>(
     ensures balance { IfOk result IsBalanced }
     ensures err { IfErr result (λ why. LeavesConnections S.gives source.old why source.new) }
 {
-    match serve_all(rt, alloc, source, blocks, workers, Patience::UNBOUNDED) {
+    match serve_all(rt, alloc, source, blocks, workers, common) {
         Ok(ended) => Ok(ended.sums),
         Err(why) => Err(why),
     }
@@ -139,13 +154,13 @@ fn serve_source<S: Source<UnixStream>, R: Threads + Wait + Sync>(
 
 /// Serves the connections of a source on a new service, and removes the queues that are left. After
 /// `NoMemory` and `Thread` no connection was requested from the source.
-fn serve_all<S: Source<UnixStream>, R: Threads + Wait + Sync>(
+fn serve_all<S: Source<UnixStream>, H: Host + Sync + Drop, R: Threads + Wait + Sync>(
     rt: &R,
     alloc: Global,
     source: &mut S,
     blocks: u32,
     workers: u32,
-    patience: Patience,
+    common: &Common<H>,
 ) -> Result<Ended, ServeFault>
     requires blocks { (MIN_BLOCKS ≤ blocks) × (blocks ≤ MAX_BLOCKS) }
     requires workers { (1 ≤ workers) × (workers ≤ MAX_CROWD) }
@@ -157,7 +172,7 @@ fn serve_all<S: Source<UnixStream>, R: Threads + Wait + Sync>(
         return Err(ServeFault::NoMemory);
     };
     let count = workers as usize;
-    let outcome = serve_with(rt, alloc, &service, &mut pass, source, count, patience);
+    let outcome = serve_with(rt, alloc, &service, &mut pass, source, count, common);
     let removed = service.stop(rt, &mut pass);
     let closed = service.close(pass);
     each_life_is_one_run();
@@ -172,14 +187,14 @@ fn serve_all<S: Source<UnixStream>, R: Threads + Wait + Sync>(
 }
 
 /// Serves the connections of a source on this service, and takes back the passes of all workers.
-fn serve_with<S: Source<UnixStream>, R: Threads + Wait + Sync>(
+fn serve_with<S: Source<UnixStream>, H: Host + Sync + Drop, R: Threads + Wait + Sync>(
     rt: &R,
     alloc: Global,
     service: &Service,
     pass: &mut Pass,
     source: &mut S,
     count: usize,
-    patience: Patience,
+    common: &Common<H>,
 ) -> Result<Sums, ServeFault>
     requires pass { AreOf service.now pass.old.seats }
     requires count { (1 ≤ count) × (count ≤ MAX_CROWD) }
@@ -195,7 +210,7 @@ fn serve_with<S: Source<UnixStream>, R: Threads + Wait + Sync>(
     let job = Sessions {
         alloc,
         service,
-        patience,
+        common,
     };
     match run_crowd(rt, alloc, workers, source, &job) {
         Ok(workers) => Ok(dismiss(service, pass, workers)),

@@ -4,11 +4,12 @@ ghost use Rattle.sysv_shared.specs.Seats.{AreOf};
 ghost use Rattle.sysv_server.specs.Asked.{ServesPass};
 ghost use Rattle.sysv_server.specs.Added.{nothing};
 
+use crate::common::Common;
+use crate::host::Host;
 use crate::kernel::ServiceKernel;
-use crate::patient::Patient;
+use crate::patient::{Limits, Patient, Patiently};
 use crate::peer::Peer;
 use crate::sums::Sums;
-use crate::terms::Patience;
 use std::alloc::Global;
 use std::io::{BufReader, BufWriter};
 use std::os::unix::net::UnixStream;
@@ -74,13 +75,13 @@ impl<'a, R: Wait> Worker<'a, R> {
 
 /// The job that runs a session on each connection.
 #[derive(Drop)]
-pub(crate) struct Sessions<'a> {
+pub(crate) struct Sessions<'a, 'c, H: Drop> {
     pub(crate) alloc: Global,
     pub(crate) service: &'a Service,
-    pub(crate) patience: Patience,
+    pub(crate) common: &'c Common<H>,
 }
 
-impl<'a, R: Wait> Job<Worker<'a, R>, UnixStream> for Sessions<'a> {
+impl<'a, 'c, R: Wait, H: Host + Drop> Job<Worker<'a, R>, UnixStream> for Sessions<'a, 'c, H> {
     ghost use Rattle.sysv_server.specs.Handled.{Handles};
 
     ghost fits = { λ job worker. worker.kernel.service.now ≡ job.service.now };
@@ -88,19 +89,25 @@ impl<'a, R: Wait> Job<Worker<'a, R>, UnixStream> for Sessions<'a> {
     ghost runs = { λ _ old _ new. Handles old.kernel.pass old.sums new.kernel.pass new.sums };
 
     fn run(&self, worker: &mut Worker<'a, R>, stream: UnixStream) {
-        let reader = Patient::new(&stream, self.patience);
+        self.common.begin();
+        let limits = self.common.limits();
         let Worker {
             kernel,
             sums,
             texts,
         } = worker;
-        kernel.set_caller(Peer::of(&stream));
-        let tally = match converse(self.alloc, kernel, texts, reader, &stream) {
+        kernel.set_caller(Peer::of(&stream, limits.cut));
+        let tally = match converse(self.alloc, kernel, texts, limits, &stream) {
             Some(served) => served.tally,
-            None => Tally::open(),
+            None => {
+                self.common.starve();
+                Tally::open()
+            }
         };
         kernel.set_caller(Peer::none());
         sums.add(Sums::of(&tally));
+        drop(stream);
+        self.common.finish();
     }
 }
 
@@ -113,13 +120,13 @@ fn opened(alloc: Global, texts: &mut Option<Texts>) -> Option<&mut Texts> {
     texts.as_mut()
 }
 
-/// Runs one session on the connection `stream`, which `reader` reads. Returns `None` if memory for
-/// its buffers or its bodies is refused; then nothing was read or written.
+/// Runs one session on the connection `stream`. Returns `None` if memory for its buffers or its
+/// bodies is refused; then nothing was read or written.
 fn converse<C: Clock, R: Wait>(
     alloc: Global,
     kernel: &mut ServiceKernel<'_, C, R, Peer>,
     texts: &mut Option<Texts>,
-    reader: Patient<'_>,
+    limits: Limits,
     stream: &UnixStream,
 ) -> Option<Served>
     ensures some { IfSome result (λ told. (left rest taken more : Option (List ℕ))
@@ -129,7 +136,7 @@ fn converse<C: Clock, R: Wait>(
     ensures service { kernel.new.service ≡ kernel.old.service }
     ensures clock { kernel.new.clock ≡ kernel.old.clock }
 {
-    let mut reader = BufReader::new(alloc, reader).ok()?;
-    let mut writer = BufWriter::new(alloc, stream).ok()?;
+    let mut reader = BufReader::new(alloc, Patient::new(stream, limits)).ok()?;
+    let mut writer = BufWriter::new(alloc, Patiently::new(stream, limits)).ok()?;
     Some(kernel.serve_with(opened(alloc, texts)?, &mut reader, &mut writer))
 }

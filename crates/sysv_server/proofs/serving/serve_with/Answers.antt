@@ -1,10 +1,11 @@
 -- The workers run, and their sums are added.
-use denote.Param.Send.{arg_send, param_send, param_sync, shr_sync}
+use denote.Param.Send.{arg_send, arg_sync, param_send, param_sync, shr_sync}
 use Rattle.std.proofs.Common.{◌≡◌, ℕ, ◌<◌, length, arith}
 use Rattle.std.proofs.alloc.Global.TheSendSync as heaps
 use Rattle.sysv_service.proofs.Crossing.{crossing, service_sync}
 use Rattle.sysv_server.specs.declared.session.Worker.{Worker}
 use Rattle.sysv_server.proofs.Crossing.{worker_send}
+use Rattle.sysv_server.proofs.common.Common.TheSendSync as commons
 use Rattle.sysv_server.proofs.Shifts.{all_shifted}
 use Rattle.sysv_server.proofs.serving.serve_with.Goals as goal
 
@@ -13,7 +14,17 @@ run_crowd-requires-send-W g c κs within =
     search (worker_send, param_send, arg_send, c.type_bounds.sync-R) depth 10
 
 pub run_crowd-requires-sync-J : goal.run_crowd-requires-sync-J
-run_crowd-requires-sync-J g c κs within = search (crossing, service_sync, heaps.the_sync, shr_sync, param_sync) depth 40
+run_crowd-requires-sync-J g c κs within =
+    search (
+      crossing,
+      service_sync,
+      heaps.the_sync,
+      commons.the_sync,
+      shr_sync,
+      param_sync,
+      arg_sync,
+      c.type_bounds.sync-H,
+    ) depth 40
 
 pub returns-in-Ok-run_crowd-clause-ok : goal.returns-in-Ok-run_crowd-clause-ok
 returns-in-Ok-run_crowd-clause-ok g c =
