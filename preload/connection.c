@@ -347,9 +347,9 @@ static void note_signal(struct call *call)
     call->is_interrupted = (call->may_wait && ends_by_signals) || is_in_child(call);
 }
 
-/* Waits on for a reply, after a first recv has ended early: `by_signal`, or because of its limit of
- * time. That limit makes it fail with EINTR even if the handler has SA_RESTART, but also after a
- * stop that was continued. Only a program without handlers is told from that, so poll waits on. */
+/* Waits on for a reply after a first recv ended early, `by_signal` or by its limit of time. The
+ * limit makes recv fail with EINTR after each handler, also with SA_RESTART, but after a stop that
+ * was continued too. If the program has no handler, it was a stop. */
 static void await_longer(struct connection *connection, struct call *call, bool by_signal)
 {
     if (by_signal && has_handler())

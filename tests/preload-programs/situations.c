@@ -467,15 +467,16 @@ static ssize_t wait_for_room(int id)
     return msgsnd(id, &full, sizeof full.text, 0);
 }
 
-/* The signal comes after 200 ms, and the server sees within about 250 ms that a wait is left. The
- * rest is for a machine that does other work too. */
+/* A signal comes each 200 ms, in case the first one comes before the wait, and the server sees
+ * within about 250 ms that a wait is left. The rest is for a machine that does other work too. */
 static void is_interrupted(ssize_t (*wait)(int), int id, int flags)
 {
     sigaction(SIGALRM, &(struct sigaction){.sa_handler = note, .sa_flags = flags}, NULL);
     caught = 0;
     long start = milliseconds();
-    ualarm(200000, 0);
+    ualarm(200000, 200000);
     expect(refused(wait(id), EINTR) && caught, "the wait doesn't end with EINTR");
+    ualarm(0, 0);
     expect(milliseconds() - start < 2000, "it ends late");
     expect(count_descriptors(is_socket) == 0, "the connection is left");
 }
@@ -600,9 +601,10 @@ static void signals_end_one_thread(void)
     catch (SIGUSR1, note);
     pthread_create(&one, NULL, wait_in_thread, &left);
     pthread_create(&other, NULL, wait_in_thread, &received);
-    usleep(200000);
-    pthread_kill(one, SIGUSR1);
-    pthread_join(one, NULL);
+    while (pthread_tryjoin_np(one, NULL) == EBUSY) {
+        usleep(200000);
+        pthread_kill(one, SIGUSR1);
+    }
     expect(left == -EINTR, "the thread's wait doesn't end with EINTR");
     expect(send_text(shared_queue, 1) == 0, "msgsnd");
     pthread_join(other, NULL);
@@ -625,7 +627,7 @@ static void signals_end_wait_for_worker(void)
         _exit(0);
     }
     expect(read(pipe_ends[0], &byte, 1) == 1, "read");
-    usleep(100000);
+    usleep(300000);
     close(connection());
     usleep(300000);
     is_interrupted(wait_for_text, id, SA_RESTART);
@@ -845,12 +847,13 @@ static void half_reply(const char *path)
 static const char HELLO_REPLY[] = "\0\0\0\7\2\0\0\0\0\1";
 static const char RECEIVE_REPLY[] = "\0\0\0\17\2\3\0\0\0\0\0\0\0\0\1text";
 
-/* Sends a signal to a process that waits meanwhile. */
-static void interrupt(pid_t process)
+/* Sends a process signals for a while, or until there is input. A process that is slow may handle
+ * the first ones before it waits. */
+static void interrupt(pid_t process, int peer, int times)
 {
-    usleep(50000);
-    kill(process, SIGALRM);
-    usleep(50000);
+    struct pollfd input = {.fd = peer, .events = POLLIN};
+    for (int i = 0; i < times && poll(&input, 1, 20) == 0; i++)
+        kill(process, SIGALRM);
 }
 
 /* Plays a server that lets signals interrupt the caller's receive, sees that it is left, sends so
@@ -865,11 +868,10 @@ static pid_t play_left(int listener, bool early, size_t size)
     int peer = accept(listener, NULL, NULL);
     bool is_asked = read(peer, bytes, sizeof bytes) > 0;
     if (early)
-        interrupt(caller);
+        interrupt(caller, peer, 3);
     is_asked = is_asked && write(peer, HELLO_REPLY, sizeof HELLO_REPLY) == sizeof HELLO_REPLY
                && read(peer, bytes, sizeof bytes) > 0;
-    if (!early)
-        interrupt(caller);
+    interrupt(caller, peer, 1000);
     bool is_left = read(peer, bytes, sizeof bytes) == 0;
     for (int i = 0; i < 3; i++) {
         usleep(10000);
@@ -878,23 +880,25 @@ static pid_t play_left(int listener, bool early, size_t size)
     _exit(!is_asked || !is_left || write(peer, RECEIVE_REPLY, size) != (ssize_t)size);
 }
 
-/* A wait that was left fails with EINTR if not a byte of a reply comes, and else counts. */
+/* A wait that was left fails with EINTR if not a byte of a reply comes, and else counts. An early
+ * signal makes the call give up if the reply to its hello is late, as on a busy machine. */
 static void left_replies(const char *path)
 {
     const size_t whole = sizeof RECEIVE_REPLY - 1;
     int listener = listen_at(path);
     catch (SIGALRM, note);
     for (size_t i = 0; i <= 2 * whole + 1; i++) {
+        bool early = i % 2 == 1;
         size_t size = i / 2;
-        pid_t player = play_left(listener, i % 2 == 1, size);
+        pid_t player = play_left(listener, early, size);
         ssize_t got = receive_text(3, 1, 0);
+        bool gives_up = early && refused(got, EINTR);
         if (size == whole)
-            expect(got == 4, "a whole reply doesn't count");
+            expect(got == 4 || gives_up, "a whole reply doesn't count");
         else
-            expect(refused(got, size == 0 ? EINTR : EIO), "a part of a reply counts");
-        expect(
-            count_descriptors(is_socket) == 1, "the connection is left"); /* the listener is one */
-        expect(status_of(player) == 0, "the wait isn't left");
+            expect(refused(got, size == 0 ? EINTR : EIO) || gives_up, "a part of a reply counts");
+        expect(count_descriptors(is_socket) == 1, "a connection is left"); /* one listens */
+        expect(status_of(player) == 0 || gives_up, "the wait isn't left");
     }
 }
 
