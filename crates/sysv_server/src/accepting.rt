@@ -7,6 +7,7 @@ use crate::host::{Host, Notice, Reason};
 use crate::line::Line;
 use crate::moment::{Moment, NO_DESCRIPTOR, asking, bell_timeout, pause, timeout};
 use libc::net::{POLLIN, poll};
+use libc::types::pollfd;
 use libc::{EAGAIN, ECONNABORTED, EMFILE, ENOMEM, EPERM};
 use std::io;
 use std::io::{ErrorKind, Read};
@@ -110,7 +111,8 @@ pub(crate) struct Accepting<'a, I: Drop, H: Drop> {
     /// Why the source has ended, if it has.
     reason: Option<Reason>,
     line: Line,
-    common: &'a Common<H>,
+    common: &'a Common,
+    host: H,
 }
 
 impl<'a, I: Read + AsRawFd + Drop, H: Host + Drop> Accepting<'a, I, H> {
@@ -119,7 +121,8 @@ impl<'a, I: Read + AsRawFd + Drop, H: Host + Drop> Accepting<'a, I, H> {
         listening: Listening<'a>,
         input: Option<I>,
         most: u64,
-        common: &'a Common<H>,
+        common: &'a Common,
+        host: H,
     ) -> Accepting<'a, I, H>
         ensures begun { (result.most ≡ most) × (result.accepted ≡ 0) }
         ensures range { result.most ≤ 2 ^ 64 - 1 }
@@ -133,6 +136,7 @@ impl<'a, I: Read + AsRawFd + Drop, H: Host + Drop> Accepting<'a, I, H> {
             reason: None,
             line: Line::new(),
             common,
+            host,
         }
     }
 
@@ -152,7 +156,7 @@ impl<'a, I: Read + AsRawFd + Drop, H: Host + Drop> Accepting<'a, I, H> {
         ensures refused { IfErr result (λ _. is_unopened self.old.listening ≡ true) }
     {
         if self.listening.is_unopened() {
-            self.listening = Listening::Own(self.common.host.listen()?);
+            self.listening = Listening::Own(self.host.listen()?);
         }
         Ok(())
     }
@@ -181,6 +185,7 @@ impl<'a, I: Read + AsRawFd + Drop, H: Host + Drop> Accepting<'a, I, H> {
         let door = Door {
             listener,
             common: self.common,
+            host: &self.host,
             accepted: self.accepted,
         };
         door.accept_next(&mut self.line, &mut self.input, retries)
@@ -204,7 +209,9 @@ impl<I: Read + AsRawFd + Drop, H: Host + Drop> Source<UnixStream> for Accepting<
             Err(why) => {
                 self.reason = Some(why);
                 self.listening = Listening::Closed;
-                self.common.drain(self.accepted);
+                if self.common.drain(self.accepted) {
+                    self.host.note(Notice::Cut);
+                }
                 None
             }
         }
@@ -213,9 +220,10 @@ impl<I: Read + AsRawFd + Drop, H: Host + Drop> Source<UnixStream> for Accepting<
 
 /// An open listener, and what is known of the connections that came through it.
 #[derive(Drop)]
-struct Door<'l, 'c, H: Drop> {
+struct Door<'l, 'c, 'h, H> {
     listener: &'l UnixListener,
-    common: &'c Common<H>,
+    common: &'c Common,
+    host: &'h H,
     /// The number of connections that were accepted.
     accepted: u64,
 }
@@ -229,7 +237,7 @@ struct Arrived {
     input: bool,
 }
 
-impl<H: Host + Drop> Door<'_, '_, H> {
+impl<H: Host> Door<'_, '_, '_, H> {
     /// Waits for a connection and accepts it. If the server `retries`, an accept that fails for
     /// want of something is tried again; the host is told so, and when it succeeds.
     fn accept_next<I: Read + AsRawFd>(
@@ -253,7 +261,7 @@ impl<H: Host + Drop> Door<'_, '_, H> {
             match self.listener.accept() {
                 Ok((stream, _address)) => {
                     if held {
-                        self.common.host.note(Notice::Resumed);
+                        self.host.note(Notice::Resumed);
                     }
                     return Ok(stream);
                 }
@@ -270,7 +278,7 @@ impl<H: Host + Drop> Door<'_, '_, H> {
     /// Waits a little after an accept that failed. Tells the host, unless it was told already.
     fn hold(&self, why: io::Error, told: bool) {
         if !told {
-            self.common.host.note(Notice::Held(why));
+            self.host.note(Notice::Held(why));
         }
         pause(HOLD_MILLIS);
     }
@@ -278,21 +286,34 @@ impl<H: Host + Drop> Door<'_, '_, H> {
     /// Waits until the input, whose descriptor is given, can be read, or until there is a connection
     /// and one more may wait for a worker. It may return early.
     fn wait(&self, line: &mut Line, input: i32) -> Arrived {
-        let left = line.look(self.common, self.accepted).map(Moment::left);
+        let left = line
+            .look(self.common, self.host, self.accepted)
+            .map(Moment::left);
         if self.common.has_room(self.accepted) {
-            return arrived_at(input, self.listener.as_raw_fd(), timeout(left));
+            return self.arrived(input, self.listener.as_raw_fd(), timeout(left));
         }
-        let bell = self.common.await_turn(true);
+        self.common.await_turn(true);
         let limit = if self.common.has_room(self.accepted) {
             0
         } else {
-            bell_timeout(bell, left)
+            bell_timeout(self.common.bell(), left)
         };
-        let arrived = arrived_at(input, bell, limit);
+        let arrived = self.arrived(input, NO_DESCRIPTOR, limit);
         self.common.await_turn(false);
+        arrived
+    }
+
+    /// Waits until the input, the listener or the bell can be read, for at most `limit`
+    /// milliseconds, and hushes the bell.
+    fn arrived(&self, input: i32, listener: i32, limit: i32) -> Arrived {
+        let mut asked = [input, listener, self.common.bell()].map(readable);
+        let any = poll(&mut asked, limit) > 0;
+        if any && asked[2].revents != 0 {
+            self.common.hush();
+        }
         Arrived {
-            connection: false,
-            input: arrived.input,
+            connection: any && asked[1].revents != 0,
+            input: any && asked[0].revents != 0,
         }
     }
 }
@@ -305,14 +326,9 @@ fn descriptor<I: AsRawFd>(input: &Option<I>) -> i32 {
     }
 }
 
-/// Waits until one of the two descriptors can be read, for at most `limit` milliseconds.
-fn arrived_at(input: i32, door: i32, limit: i32) -> Arrived {
-    let mut asked = [asking(input, POLLIN), asking(door, POLLIN)];
-    let any = poll(&mut asked, limit) > 0;
-    Arrived {
-        connection: any && asked[1].revents != 0,
-        input: any && asked[0].revents != 0,
-    }
+/// Returns a poll request for whether `fd` can be read.
+fn readable(fd: i32) -> pollfd {
+    asking(fd, POLLIN)
 }
 
 /// Returns whether an accept failed for want of something that may come back, or because the client

@@ -1,6 +1,5 @@
 //! What the sessions of a server share with the thread that accepts connections.
 use crate::bell::Bell;
-use crate::host::{Host, Notice};
 use crate::moment::{Moment, await_bell};
 use crate::patient::Limits;
 use crate::terms::Patience;
@@ -8,8 +7,7 @@ use std::sync::atomic::{AtomicBool, AtomicU64, Ordering};
 
 /// What the sessions of a server share with the thread that accepts connections.
 #[derive(Drop)]
-pub(crate) struct Common<H: Drop> {
-    pub(crate) host: H,
+pub(crate) struct Common {
     /// The maximum number of sessions that run at once, and of connections that wait for a worker.
     at_once: u64,
     patience: Patience,
@@ -23,17 +21,17 @@ pub(crate) struct Common<H: Drop> {
     starved: AtomicBool,
     /// Whether the accepting thread waits for a session to begin or to be over.
     is_awaited: AtomicBool,
-    /// Rung at each session that begins or is over while the accepting thread waits for that.
+    /// Rung at each session that begins or is over while the accepting thread waits for that, and
+    /// when the memory of a session was refused.
     turn: Bell,
     /// Rung once all sessions are to end.
     cut: Bell,
 }
 
-impl<H: Host + Drop> Common<H> {
+impl Common {
     /// Returns what the sessions share before the first of them.
-    pub(crate) fn new(host: H, at_once: u32, patience: Patience, drain: u32) -> Common<H> {
+    pub(crate) fn new(at_once: u32, patience: Patience, drain: u32) -> Common {
         Common {
-            host,
             at_once: u64::from(at_once),
             patience,
             drain,
@@ -82,11 +80,25 @@ impl<H: Host + Drop> Common<H> {
         }
     }
 
-    /// Tells the host that the memory of a session was refused, the first time.
+    /// Says that the memory of a session was refused.
     pub(crate) fn starve(&self) {
-        if !self.starved.swap(true, Ordering::SeqCst) {
-            self.host.note(Notice::NoMemory);
-        }
+        self.starved.store(true, Ordering::SeqCst);
+        self.turn.ring();
+    }
+
+    /// Returns whether the memory of a session was refused.
+    pub(crate) fn is_starved(&self) -> bool {
+        self.starved.load(Ordering::SeqCst)
+    }
+
+    /// Returns the descriptor of the bell for the accepting thread.
+    pub(crate) fn bell(&self) -> i32 {
+        self.turn.fd()
+    }
+
+    /// Ends the ringing of that bell.
+    pub(crate) fn hush(&self) {
+        self.turn.hush();
     }
 
     /// Returns the number of sessions that have begun.
@@ -110,32 +122,29 @@ impl<H: Host + Drop> Common<H> {
         self.over.load(Ordering::SeqCst) >= accepted
     }
 
-    /// Says whether the accepting thread waits from now on for a session to begin or to be over,
-    /// and returns the descriptor of the bell that is rung then.
-    pub(crate) fn await_turn(&self, awaits: bool) -> i32 {
+    /// Says whether the accepting thread waits from now on for a session to begin or to be over.
+    pub(crate) fn await_turn(&self, awaits: bool) {
         self.is_awaited.store(awaits, Ordering::SeqCst);
-        self.turn.hush();
-        self.turn.fd()
     }
 
     /// Waits for the sessions, of which this many were accepted, and cuts those off that are still
-    /// there when the time for an orderly end is over.
-    pub(crate) fn drain(&self, accepted: u64) {
+    /// there when the time for an orderly end is over. Returns whether it cut any off.
+    pub(crate) fn drain(&self, accepted: u64) -> bool {
         let Some(deadline) = Moment::after(self.drain) else {
-            return;
+            return false;
         };
+        self.await_turn(true);
         for _ in 0..u64::MAX {
-            let bell = self.await_turn(true);
+            self.hush();
             if self.is_empty(accepted) {
-                break;
+                return false;
             }
             if deadline.left() == 0 {
-                self.host.note(Notice::Cut);
-                self.cut.ring();
                 break;
             }
-            await_bell(bell, Some(deadline));
+            await_bell(self.bell(), Some(deadline));
         }
-        self.await_turn(false);
+        self.cut.ring();
+        true
     }
 }

@@ -8,7 +8,8 @@ pub trait Host {
     /// its memory and its threads.
     fn listen(&self) -> io::Result<UnixListener>;
 
-    /// Learns of something that happened to the server. Any of its threads may call it.
+    /// Learns of something that happened to the server. Like `listen`, the thread that accepts
+    /// connections calls it.
     fn note(&self, notice: Notice);
 }
 

@@ -17,6 +17,8 @@ pub(crate) struct Line {
     first: Option<(u64, Moment)>,
     /// When the host may learn of a long wait again.
     again: Option<Moment>,
+    /// Whether the host has learned that the memory of a session was refused.
+    told: bool,
 }
 
 impl Line {
@@ -25,17 +27,24 @@ impl Line {
         Line {
             first: None,
             again: None,
+            told: false,
         }
     }
 
     /// Looks at the line, in which connections wait if fewer sessions have begun than were
-    /// accepted. Tells the host if the first has waited for long. Returns when to look again, or
+    /// accepted. Tells the host if the first has waited for long, and of the first session whose
+    /// memory was refused. Returns when to look again, or
     /// `None` if there is nothing to look for.
-    pub(crate) fn look<H: Host + Drop>(
+    pub(crate) fn look<H: Host>(
         &mut self,
-        common: &Common<H>,
+        common: &Common,
+        host: &H,
         accepted: u64,
     ) -> Option<Moment> {
+        if common.is_starved() && !self.told {
+            host.note(Notice::NoMemory);
+            self.told = true;
+        }
         let begun = common.begun();
         if begun >= accepted {
             self.first = None;
@@ -48,7 +57,7 @@ impl Line {
         }
         let sessions = common.running();
         let waiting = accepted.saturating_sub(begun);
-        common.host.note(Notice::Busy { sessions, waiting });
+        host.note(Notice::Busy { sessions, waiting });
         self.again = Moment::after(AGAIN_SECONDS);
         self.again
     }

@@ -63,7 +63,7 @@ pub fn serve_on<R: Threads + Wait + Sync>(
     ensures ok { IfOk result (λ sums. ServesOn blocks workers sessions sums) }
     ensures balance { IfOk result IsBalanced }
 {
-    let common = Common::new(Quiet, workers, Patience::UNBOUNDED, 0);
+    let common = Common::new(workers, Patience::UNBOUNDED, 0);
     let mut source = lent(listener, sessions, &common);
     serve_source(rt, alloc, &mut source, blocks, workers, &common)
 }
@@ -72,11 +72,11 @@ pub fn serve_on<R: Threads + Wait + Sync>(
 fn lent<'a>(
     listener: &'a UnixListener,
     sessions: u64,
-    common: &'a Common<Quiet>,
+    common: &'a Common,
 ) -> Accepting<'a, UnixStream, Quiet>
     ensures { (result.most ≡ sessions) × (result.accepted ≡ 0) }
 {
-    Accepting::new(Listening::Lent(listener), None, sessions, common)
+    Accepting::new(Listening::Lent(listener), None, sessions, common, Quiet)
 }
 
 /// Serves the connections of the listener that `host` opens on a new service, like `serve_on`, but
@@ -98,7 +98,7 @@ fn lent<'a>(
 ///
 /// - `terms.blocks` is 128 to 65,536.
 /// - `terms.at_once` is 1 to 256.
-pub fn serve_listener<I: Read + AsRawFd + Drop, H: Host + Sync + Drop, R: Threads + Wait + Sync>(
+pub fn serve_listener<I: Read + AsRawFd + Drop, H: Host + Drop, R: Threads + Wait + Sync>(
     rt: &R,
     alloc: Global,
     host: H,
@@ -121,24 +121,24 @@ pub fn serve_listener<I: Read + AsRawFd + Drop, H: Host + Sync + Drop, R: Thread
         drain,
     } = terms;
     *reason = None;
-    let common = Common::new(host, at_once, patience, drain);
+    let common = Common::new(at_once, patience, drain);
     if !common.can_cut() {
         return Err(ServeFault::NoMemory);
     }
-    let mut source = Accepting::new(Listening::Unopened, input, sessions, &common);
+    let mut source = Accepting::new(Listening::Unopened, input, sessions, &common, host);
     let outcome = serve_all(rt, alloc, &mut source, blocks, at_once, &common);
     *reason = source.into_reason();
     outcome
 }
 
 /// Serves the connections of a source like `serve_all`, and returns the sums.
-fn serve_source<S: Source<UnixStream>, H: Host + Sync + Drop, R: Threads + Wait + Sync>(
+fn serve_source<S: Source<UnixStream>, R: Threads + Wait + Sync>(
     rt: &R,
     alloc: Global,
     source: &mut S,
     blocks: u32,
     workers: u32,
-    common: &Common<H>,
+    common: &Common,
 ) -> Result<Sums, ServeFault>
     requires blocks { (MIN_BLOCKS ≤ blocks) × (blocks ≤ MAX_BLOCKS) }
     requires workers { (1 ≤ workers) × (workers ≤ MAX_CROWD) }
@@ -154,13 +154,13 @@ fn serve_source<S: Source<UnixStream>, H: Host + Sync + Drop, R: Threads + Wait 
 
 /// Serves the connections of a source on a new service, and removes the queues that are left. After
 /// `NoMemory` and `Thread` no connection was requested from the source.
-fn serve_all<S: Source<UnixStream>, H: Host + Sync + Drop, R: Threads + Wait + Sync>(
+fn serve_all<S: Source<UnixStream>, R: Threads + Wait + Sync>(
     rt: &R,
     alloc: Global,
     source: &mut S,
     blocks: u32,
     workers: u32,
-    common: &Common<H>,
+    common: &Common,
 ) -> Result<Ended, ServeFault>
     requires blocks { (MIN_BLOCKS ≤ blocks) × (blocks ≤ MAX_BLOCKS) }
     requires workers { (1 ≤ workers) × (workers ≤ MAX_CROWD) }
@@ -187,14 +187,14 @@ fn serve_all<S: Source<UnixStream>, H: Host + Sync + Drop, R: Threads + Wait + S
 }
 
 /// Serves the connections of a source on this service, and takes back the passes of all workers.
-fn serve_with<S: Source<UnixStream>, H: Host + Sync + Drop, R: Threads + Wait + Sync>(
+fn serve_with<S: Source<UnixStream>, R: Threads + Wait + Sync>(
     rt: &R,
     alloc: Global,
     service: &Service,
     pass: &mut Pass,
     source: &mut S,
     count: usize,
-    common: &Common<H>,
+    common: &Common,
 ) -> Result<Sums, ServeFault>
     requires pass { AreOf service.now pass.old.seats }
     requires count { (1 ≤ count) × (count ≤ MAX_CROWD) }

@@ -5,7 +5,6 @@ ghost use Rattle.sysv_server.specs.Asked.{ServesPass};
 ghost use Rattle.sysv_server.specs.Added.{nothing};
 
 use crate::common::Common;
-use crate::host::Host;
 use crate::kernel::ServiceKernel;
 use crate::patient::{Limits, Patient, Patiently};
 use crate::peer::Peer;
@@ -75,13 +74,13 @@ impl<'a, R: Wait> Worker<'a, R> {
 
 /// The job that runs a session on each connection.
 #[derive(Drop)]
-pub(crate) struct Sessions<'a, 'c, H: Drop> {
+pub(crate) struct Sessions<'a, 'c> {
     pub(crate) alloc: Global,
     pub(crate) service: &'a Service,
-    pub(crate) common: &'c Common<H>,
+    pub(crate) common: &'c Common,
 }
 
-impl<'a, 'c, R: Wait, H: Host + Drop> Job<Worker<'a, R>, UnixStream> for Sessions<'a, 'c, H> {
+impl<'a, 'c, R: Wait> Job<Worker<'a, R>, UnixStream> for Sessions<'a, 'c> {
     ghost use Rattle.sysv_server.specs.Handled.{Handles};
 
     ghost fits = { λ job worker. worker.kernel.service.now ≡ job.service.now };

@@ -1,5 +1,5 @@
 -- The workers run, and their sums are added.
-use denote.Param.Send.{arg_send, arg_sync, param_send, param_sync, shr_sync}
+use denote.Param.Send.{arg_send, param_send, param_sync, shr_sync}
 use Rattle.std.proofs.Common.{◌≡◌, ℕ, ◌<◌, length, arith}
 use Rattle.std.proofs.alloc.Global.TheSendSync as heaps
 use Rattle.sysv_service.proofs.Crossing.{crossing, service_sync}
@@ -15,16 +15,7 @@ run_crowd-requires-send-W g c κs within =
 
 pub run_crowd-requires-sync-J : goal.run_crowd-requires-sync-J
 run_crowd-requires-sync-J g c κs within =
-    search (
-      crossing,
-      service_sync,
-      heaps.the_sync,
-      commons.the_sync,
-      shr_sync,
-      param_sync,
-      arg_sync,
-      c.type_bounds.sync-H,
-    ) depth 40
+    search (crossing, service_sync, heaps.the_sync, commons.the_sync, shr_sync, param_sync) depth 40
 
 pub returns-in-Ok-run_crowd-clause-ok : goal.returns-in-Ok-run_crowd-clause-ok
 returns-in-Ok-run_crowd-clause-ok g c =
