@@ -8,13 +8,7 @@ fn run_of_client(rt: HostRuntime) {
     let mut talk = Talk::new(&rt, rt.alloc(), &[WELCOME, GOT, MESSAGE]);
     let command = Command {
         cred: WHO,
-        task: Task::Receive {
-            key: 7,
-            size: 8192,
-            mtype: 0,
-            nowait: false,
-            noerror: false,
-        },
+        task: RECEIVE_ANY,
     };
     let _marked = mark(rt.alloc());
     let status = run_client(
