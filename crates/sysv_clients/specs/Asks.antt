@@ -43,9 +43,8 @@ abbrev pub flags_to_make : ℕ → Flags
 flags_to_make mode = record { 0 = bit_or (bit_or IPC_CREAT.0 IPC_EXCL.0) mode }
 
 -- The flags to find a queue: IPC_CREAT with a mode, or none.
-abbrev pub flags_to_find : Option ℕ → Flags
-flags_to_find (Some mode) = record { 0 = bit_or IPC_CREAT.0 mode }
-flags_to_find None = no_flags
+abbrev pub flags_to_find : Bool → ℕ → Flags
+flags_to_find create mode = if create then record { 0 = bit_or IPC_CREAT.0 mode } else no_flags
 
 -- The flags of a send: IPC_NOWAIT or none.
 abbrev pub flags_to_wait : Bool → Flags
@@ -79,7 +78,7 @@ make_asks owner making found = Get making.key (flags_to_make making.mode) ∷ li
 
 -- The request of a rcv that finds the queue.
 abbrev pub find_ask : Receipt → Ask
-find_ask receipt = Get receipt.key (flags_to_find receipt.create)
+find_ask receipt = Get receipt.key (flags_to_find receipt.create receipt.mode)
 
 -- The request of a rcv that receives a message.
 abbrev pub receive_ask : Receipt → ℤ → Ask

@@ -101,11 +101,18 @@ ShowsCalls (Ok done) text shown after = Appends shown after text
 ShowsCalls (Err (Fault why)) text shown after = Appends shown after text
 ShowsCalls (Err Screen) text shown after = AppendsPrefix shown after text
 
--- The requests of a rcv of several messages, if the msgget returns this identifier.
-unfoldable pub receiving_asks : Receiving → ℤ → List Ask
-receiving_asks receiving found =
-    Hello receiving.cred ∷ find_ask receiving.receipt
-    ∷ replicate (min receiving.count MAX_MESSAGES) (receive_ask receiving.receipt found)
+-- The requests for the messages of a rcv of several, from the queue with this identifier.
+unfoldable pub message_asks : Receiving → ℤ → List Ask
+message_asks receiving found =
+    replicate (min receiving.count MAX_MESSAGES) (receive_ask receiving.receipt found)
+
+-- Its requests after the hello, if the msgget returns this identifier.
+abbrev pub calling_asks : Receiving → ℤ → List Ask
+calling_asks receiving found = find_ask receiving.receipt ∷ message_asks receiving found
+
+-- All its requests, if the msgget returns this identifier.
+abbrev pub receiving_asks : Receiving → ℤ → List Ask
+receiving_asks receiving found = Hello receiving.cred ∷ calling_asks receiving found
 
 -- The same, by their places.
 abbrev pub receiving_plan : Receiving → Plan

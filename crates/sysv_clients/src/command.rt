@@ -75,9 +75,10 @@ pub struct Making {
 pub struct Receipt {
     /// The queue's key.
     pub key: i32,
-    /// The mode with which the queue is created if there is none, 0 to 0o777. With `None` no queue
-    /// is created.
-    pub create: Option<u32>,
+    /// Whether the queue is created if there is none.
+    pub create: bool,
+    /// The mode of a queue that is created, 0 to 0o777.
+    pub mode: u32,
     /// The maximum number of bytes of the body to receive.
     pub size: u32,
     /// The type to receive, as `msgrcv` defines it: 0 for any type, a positive number for
@@ -237,7 +238,7 @@ impl Receipt {
     {
         Ask::Get {
             key: self.key,
-            flags: find_flags(self.create),
+            flags: find_flags(self.create, self.mode),
         }
     }
 
@@ -272,13 +273,14 @@ fn make_flags(mode: u32) -> Flags
         .union(Flags::from_bits_retain(mode))
 }
 
-/// Returns `IPC_CREAT` with this mode, or no flags if there is none.
-fn find_flags(create: Option<u32>) -> Flags
-    ensures { result ≡ flags_to_find create }
+/// Returns `IPC_CREAT` with this mode if `create` is true, and otherwise no flags.
+fn find_flags(create: bool, mode: u32) -> Flags
+    ensures { result ≡ flags_to_find create mode }
 {
-    match create {
-        Some(mode) => Flags::IPC_CREAT.union(Flags::from_bits_retain(mode)),
-        None => Flags::empty(),
+    if create {
+        Flags::IPC_CREAT.union(Flags::from_bits_retain(mode))
+    } else {
+        Flags::empty()
     }
 }
 

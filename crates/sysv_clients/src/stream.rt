@@ -1,7 +1,8 @@
 //! A `rcv` of several messages: a session that shows each message as it comes.
-ghost use Rattle.std.specs.Prelude.{◌≡◌, ◌+◌, ◌≤◌, [], length, slice_get, IfOk, IfSome, OnOk, OnErr};
+ghost use Rattle.std.specs.Prelude.{◌≡◌, ◌+◌, ◌<◌, ◌≤◌, [], length, slice_get, IfOk, IfSome, OnOk, OnErr};
 ghost use Rattle.std.specs.Io.KnownBytes.{Appends};
-ghost use Rattle.sysv_clients.specs.Stream.{Receives, TakesAll, received_text, receiving_asks};
+ghost use Rattle.sysv_clients.specs.Stream.{Receives, TakesAll, calling_asks, message_asks, received_text};
+ghost use Rattle.sysv_clients.specs.Stream.{receiving_asks};
 ghost use Rattle.sysv_model.specs.Watched.{stream_of};
 ghost use Rattle.sysv_model.specs.Writing.{AppendsPrefix};
 ghost use Rattle.sysv_model.specs.declared.limits.TheConstants.{MESSAGE_BYTES};
@@ -37,14 +38,36 @@ impl Receiving {
     /// identifier that the `msgget` returned.
     fn ask(&self, place: u64, id: i32) -> Option<Ask>
         ensures ask { result ≡ slice_get (receiving_asks self.now id) place }
-        ensures few { IfSome result (λ _. place ≤ MAX_MESSAGES + 1) }
+        ensures few { IfSome result (λ _. place < MAX_MESSAGES + 2) }
     {
-        let count = self.count.min(MAX_MESSAGES);
         match place {
             0 => Some(Ask::Hello(self.cred)),
-            1 => Some(self.receipt.find()),
-            _ if place - 2 < count => Some(self.receipt.receive(id)),
-            _ => None,
+            _ => self.call(place - 1, id),
+        }
+    }
+
+    /// Returns the request at `place` after the hello, counted from 0, or `None` after the last.
+    fn call(&self, place: u64, id: i32) -> Option<Ask>
+        ensures ask { result ≡ slice_get (calling_asks self.now id) place }
+        ensures few { IfSome result (λ _. place < MAX_MESSAGES + 1) }
+    {
+        match place {
+            0 => Some(self.receipt.find()),
+            _ => self.receive(place - 1, id),
+        }
+    }
+
+    /// Returns the request for the message with this number, counted from 0, or `None` after the
+    /// last.
+    fn receive(&self, number: u64, id: i32) -> Option<Ask>
+        ensures ask { result ≡ slice_get (message_asks self.now id) number }
+        ensures few { IfSome result (λ _. number < MAX_MESSAGES) }
+    {
+        let count = self.count.min(MAX_MESSAGES);
+        if number < count {
+            Some(self.receipt.receive(id))
+        } else {
+            None
         }
     }
 }

@@ -196,7 +196,8 @@ const RECEIVE_ANY: Task<'static> = Task::Receive(ANY);
 
 const ANY: Receipt = Receipt {
     key: 7,
-    create: None,
+    create: false,
+    mode: 0o600,
     size: 8192,
     mtype: 0,
     except: false,

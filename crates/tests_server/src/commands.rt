@@ -30,7 +30,8 @@ const OTHER: Cred = Cred {
 /// A receive of any message of key 7.
 const RECEIVE: Task<'static> = Task::Receive(Receipt {
     key: 7,
-    create: None,
+    create: false,
+    mode: 0o600,
     size: 8192,
     mtype: 0,
     except: false,

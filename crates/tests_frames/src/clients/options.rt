@@ -51,16 +51,17 @@ fn the_longest_message_is_shown_with_its_type(rt: HostRuntime) {
 
 #[test]
 fn a_receive_may_except_a_type_and_create_the_queue(rt: HostRuntime) {
-    let table: [(Option<u32>, &[u8], bool, bool, &[u8]); 4] = [
-        (None, GET, true, false, b"\0\0\x20\0"),
-        (Some(0o640), GET_OR_MAKE, false, false, b"\0\0\0\0"),
-        (Some(0o640), GET_OR_MAKE, true, true, b"\0\0\x30\0"),
-        (None, GET, false, true, b"\0\0\x10\0"),
+    let table: [(bool, &[u8], bool, bool, &[u8]); 4] = [
+        (false, GET, true, false, b"\0\0\x20\0"),
+        (true, GET_OR_MAKE, false, false, b"\0\0\0\0"),
+        (true, GET_OR_MAKE, true, true, b"\0\0\x30\0"),
+        (false, GET, false, true, b"\0\0\x10\0"),
     ];
     for (create, get, except, noerror, flags) in table {
         let mut talk = Talk::new(&rt, rt.alloc(), &[WELCOME, GOT, MESSAGE]);
         let receipt = Receipt {
             create,
+            mode: 0o640,
             except,
             noerror,
             ..ANY
