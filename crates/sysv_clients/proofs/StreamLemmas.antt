@@ -12,7 +12,9 @@ use Rattle.sysv_clients.specs.declared.stream.Receiving.{Receiving}
 use Rattle.sysv_clients.specs.declared.stream.Stop.TheVariants.{Fault, Screen}
 use Rattle.sysv_clients.specs.declared.style.Style.{Style}
 use Rattle.sysv_clients.specs.Asks.{request_of}
-use Rattle.sysv_clients.specs.Stream.{BreaksPlan, Call, EndsPlan, FollowsPlan, Plan, TakesAll, id_in, next_call}
+use Rattle.sysv_clients.specs.Faults.{fault_line}
+use Rattle.sysv_clients.specs.Run.{Shows}
+use Rattle.sysv_clients.specs.Stream.{Call, EndsPlan, FollowsPlan, Plan, Receives, TakesAll, id_in, next_call}
 use Rattle.sysv_clients.specs.Stream.{read_by, received_text, receiving_plan, shown_by, written_by}
 use Rattle.sysv_clients.specs.Style.{style_of_receipt}
 use Rattle.sysv_clients.specs.Talk.{Exchanges, IsDone, id_after, reply_to}
@@ -224,3 +226,32 @@ screen_fails receiving ask answer given left mid rest taken more most shown so a
       shows = subst (AppendsPrefix shown after) (sym (shown_more style before one))
           (prefix_after shown so after (shown_by style before) (received_text style answer given) so_far.shows shows);
     }
+
+-- Memory is refused, and no request was made.
+pub refused : (receiving : Receiving) (status : ℤ) (left taken shown after : Option (List ℕ))
+    → Shows status (pos 1) (fault_line NoMemory) shown after
+    → Receives receiving status left left taken taken shown after
+refused receiving status left taken shown after shows = record {
+  ended = Err (Fault NoMemory);
+  so_far = shown;
+  takes = record {
+    calls = [];
+    made = tt;
+    unread = left;
+    written = taken;
+    reads = Consumes-nil left;
+    writes = Appends-nil taken;
+    ends = (refl, refl, refl);
+    shows = Appends-nil shown;
+  };
+  closes = shows;
+}
+
+-- The line of a fault is shown after the messages.
+pub closes : (receiving : Receiving) (why : ClientFault) (status : ℤ)
+    (left rest taken more shown so after : Option (List ℕ))
+    → TakesAll receiving (Err (Fault why)) left rest taken more shown so
+    → Shows status (pos 1) (fault_line why) so after
+    → Receives receiving status left rest taken more shown after
+closes receiving why status left rest taken more shown so after takes shows =
+    record { ended = Err (Fault why); so_far = so; takes = takes; closes = shows }

@@ -1,5 +1,5 @@
 //! The request that a command line makes.
-ghost use Rattle.std.specs.Prelude.{◌≡◌, IfOk, MatchOption, OnOk, codes, map, pos};
+ghost use Rattle.std.specs.Prelude.{◌≡◌, IfOk, MatchOption, OnOk, codes, is_some, map, pos};
 ghost use Rattle.clap.specs.Words.{app_of, subcommand_rows_of};
 ghost use Rattle.sysvmsg.specs.Asked.{AreAtOnce, AreBlocks, AreTerms, AreWorkers, HasLimits, IsWithinLimits};
 ghost use Rattle.sysvmsg.specs.Requests.{AsksFor, ClientAsks, IsAskedBy, IsMeant};
@@ -316,11 +316,18 @@ fn seconds_of(words: &ArgMatches<'_>, id: &str) -> Result<u32, Bad>
 fn mode_of(words: &ArgMatches<'_>) -> Result<Option<u32>, Bad>
     ensures { IsRead result (IsMode (word_of (words_in words.now) (codes "mode"))) }
 {
-    let Some(word) = word_in(words, "mode") else {
-        return Ok(None);
-    };
+    match word_in(words, "mode") {
+        Some(word) => Ok(Some(octal_mode(word)?)),
+        None => Ok(None),
+    }
+}
+
+/// Parses a mode: an octal number from 0 to 777.
+fn octal_mode(word: &str) -> Result<u32, Bad>
+    ensures { IsRead result (IsOctalMode word.now) }
+{
     match u32::from_str_radix(word, 8) {
-        Ok(mode) if mode <= MAX_MODE && !word.starts_with('+') => Ok(Some(mode)),
+        Ok(mode) if mode <= MAX_MODE && !word.starts_with('+') => Ok(mode),
         _ => Err(BAD_MODE),
     }
 }
@@ -365,8 +372,8 @@ fn sessions_of(words: &ArgMatches<'_>) -> Result<u64, Bad>
 fn queue_mode(words: &ArgMatches<'_>) -> Result<u32, Bad>
     ensures { IsRead result (HasOr IsOctalMode 384 (word_of (words_in words.now) (codes "mode"))) }
 {
-    match mode_of(words)? {
-        Some(mode) => Ok(mode),
+    match word_in(words, "mode") {
+        Some(word) => octal_mode(word),
         None => Ok(0o600),
     }
 }
@@ -410,7 +417,7 @@ fn key_or_private(words: &ArgMatches<'_>) -> Result<i32, Bad>
     ensures { IsRead result (HasOr IsKey (pos 0) (word_of (words_in words.now) (codes "key"))) }
 {
     match word_in(words, "key") {
-        Some(word) => key_of(word.as_bytes()).ok_or(BAD_KEY),
+        Some(_) => key(words),
         None => Ok(0),
     }
 }
@@ -467,7 +474,7 @@ fn receipt_of(words: &ArgMatches<'_>) -> Result<Receipt, Bad>
         mode: queue_mode(words)?,
         size: number(words, "size", 8192)?,
         mtype: wanted_type(words)?,
-        except: word_in(words, "except").is_some(),
+        except: has_word(words, "except"),
         nowait: has_flag(words, "nowait"),
         noerror: has_flag(words, "noerror"),
         show_type: has_flag(words, "show-type"),
@@ -561,6 +568,16 @@ fn word_in<'a>(words: &ArgMatches<'a>, name: &str) -> Option<&'a str>
         (λ word. word_of (words_in words.now) name.now ≡ Some word.now) }
 {
     words.get_str(name)
+}
+
+/// Returns whether a command has a word under a name.
+fn has_word(words: &ArgMatches<'_>, name: &str) -> bool
+    ensures { result ≡ is_some (word_of (words_in words.now) name.now) }
+{
+    match word_in(words, name) {
+        Some(_) => true,
+        None => false,
+    }
 }
 
 /// Returns whether a command has a flag.
