@@ -255,3 +255,17 @@ pub closes : (receiving : Receiving) (why : ClientFault) (status : ℤ)
     → Receives receiving status left rest taken more shown after
 closes receiving why status left rest taken more shown so after takes shows =
     record { ended = Err (Fault why); so_far = so; takes = takes; closes = shows }
+
+-- All messages were received and shown.
+pub completes : (receiving : Receiving) (done : ⊤) (left rest taken more shown after : Option (List ℕ))
+    → TakesAll receiving (Ok done) left rest taken more shown after
+    → Receives receiving (pos 0) left rest taken more shown after
+completes receiving done left rest taken more shown after takes =
+    record { ended = Ok done; so_far = after; takes = takes; closes = (refl, refl) }
+
+-- The screen failed.
+pub unshown : (receiving : Receiving) (left rest taken more shown after : Option (List ℕ))
+    → TakesAll receiving (Err Screen) left rest taken more shown after
+    → Receives receiving (pos 1) left rest taken more shown after
+unshown receiving left rest taken more shown after takes =
+    record { ended = Err Screen; so_far = after; takes = takes; closes = (refl, refl) }

@@ -7,13 +7,20 @@ use Rattle.sysv_model.specs.declared.attributes.Perm.{Perm}
 use Rattle.sysv_model.specs.declared.attributes.Row.{Row}
 use Rattle.sysv_model.specs.declared.attributes.Stat.{Stat}
 
+-- The owner and the mode of a row, in a JSON object.
+unfoldable pub json_owner : Row → List ℕ
+json_owner row = codes ",\"owner\":" ++ (decimal row.uid ++ (codes ",\"perms\":\"" ++ mode_text row.mode))
+
+-- The queued bytes and messages of a row, in a JSON object, and its end.
+unfoldable pub json_counts : Row → List ℕ
+json_counts row =
+    codes "\",\"bytes\":" ++ (decimal row.cbytes ++ (codes ",\"messages\":" ++ (decimal row.qnum ++ 125 ∷ 10 ∷ [])))
+
 -- A row as a JSON object, and an LF.
 unfoldable pub json_line : Row → List ℕ
 json_line row =
     codes "{\"key\":\"" ++ (key_text row.key ++ (codes "\",\"msqid\":" ++ (signed_decimal row.id
-    ++ (codes ",\"owner\":" ++ (decimal row.uid ++ (codes ",\"perms\":\"" ++ (mode_text row.mode
-    ++ (codes "\",\"bytes\":" ++ (decimal row.cbytes ++ (codes ",\"messages\":" ++ (decimal row.qnum
-    ++ 125 ∷ 10 ∷ [])))))))))))
+    ++ (json_owner row ++ json_counts row))))
 
 -- An identifier, and an LF.
 abbrev pub id_line : ℤ → List ℕ

@@ -2,7 +2,7 @@
 //! attributes.
 ghost use Rattle.std.specs.Prelude.{◌≡◌, ◌+◌, ◌-◌, ◌≤◌, ◌<◌, [], ◌∷◌, ◌++◌, ℕ, codes, length, max};
 ghost use Rattle.sysv_clients.specs.Table.{column, glyph, hex_byte, key_text, mode_text, row_line};
-ghost use Rattle.sysv_clients.specs.Queue.{count_lines, field_line, id_line, json_line, owner_lines, stat_lines, time_lines};
+ghost use Rattle.sysv_clients.specs.Queue.{count_lines, field_line, id_line, json_counts, json_line, json_owner, owner_lines, stat_lines, time_lines};
 
 use itoa::{Buffer, Integer};
 use std::marker::Model;
@@ -159,10 +159,30 @@ impl Line {
         self.key(row.key);
         self.put(b"\",\"msqid\":");
         self.digits(row.id);
+        self.json_owner(row);
+        self.json_counts(row);
+    }
+
+    /// Appends the owner and the mode of a JSON object.
+    #[tactic(auto, using(std::proofs::Common::append_assoc), unfolding(crate::specs::Queue::json_owner))]
+    fn json_owner(&mut self, row: &Row)
+        requires { length self.old + 32 ≤ MAX_LINE }
+        ensures after { self.new ≡ self.old ++ json_owner row.now }
+        ensures len { length self.new ≤ length self.old + 32 }
+    {
         self.put(b",\"owner\":");
         self.digits(row.uid);
         self.put(b",\"perms\":\"");
         self.put(&octal_digits(row.mode));
+    }
+
+    /// Appends the counts of a JSON object, its end and an LF.
+    #[tactic(auto, using(std::proofs::Common::append_assoc), unfolding(crate::specs::Queue::json_counts))]
+    fn json_counts(&mut self, row: &Row)
+        requires { length self.old + 44 ≤ MAX_LINE }
+        ensures after { self.new ≡ self.old ++ json_counts row.now }
+        ensures len { length self.new ≤ length self.old + 44 }
+    {
         self.put(b"\",\"bytes\":");
         self.digits(row.cbytes);
         self.put(b",\"messages\":");

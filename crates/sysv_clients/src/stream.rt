@@ -3,7 +3,7 @@ ghost use Rattle.std.specs.Prelude.{◌≡◌, ◌+◌, ◌<◌, ◌≤◌, [], 
 ghost use Rattle.std.specs.Io.KnownBytes.{Appends};
 ghost use Rattle.sysv_clients.specs.Stream.{Receives, TakesAll, calling_asks, message_asks, received_text};
 ghost use Rattle.sysv_clients.specs.Stream.{receiving_asks};
-ghost use Rattle.sysv_model.specs.Watched.{stream_of};
+ghost use Rattle.sysv_model.specs.Watched.{stream_name, stream_of};
 ghost use Rattle.sysv_model.specs.Writing.{AppendsPrefix};
 ghost use Rattle.sysv_model.specs.declared.limits.TheConstants.{MESSAGE_BYTES};
 
@@ -123,10 +123,32 @@ pub fn receive_all<R: Read, W: Write, S: Write>(
         (W.contents writer.old) (W.contents writer.new)
         (S.contents screen.old) (S.contents screen.new) }
 {
-    let mut reader = Watched::new(reader);
-    let mut writer = Watched::new(writer);
+    receive_watched(
+        alloc,
+        receiving,
+        &mut Watched::new(reader),
+        &mut Watched::new(writer),
+        screen,
+    )
+}
+
+/// Receives messages like `receive_all`.
+fn receive_watched<R: Read, W: Write, S: Write>(
+    alloc: Global,
+    receiving: &Receiving,
+    reader: &mut Watched<'_, R>,
+    writer: &mut Watched<'_, W>,
+    screen: &mut S,
+) -> i32
+    ensures receives { Receives receiving.now result
+        (R.remaining (stream_of reader.old)) (R.remaining (stream_of reader.new))
+        (W.contents (stream_of writer.old)) (W.contents (stream_of writer.new))
+        (S.contents screen.old) (S.contents screen.new) }
+    ensures same_reader { stream_name reader.new ≡ stream_name reader.old }
+    ensures same_writer { stream_name writer.new ≡ stream_name writer.old }
+{
     match Taker::open(alloc) {
-        Ok(mut taker) => match taker.take_all(receiving, &mut reader, &mut writer, screen) {
+        Ok(mut taker) => match taker.take_all(receiving, reader, writer, screen) {
             Ok(()) => 0,
             Err(Stop::Fault(fault)) => show_fault(screen, fault),
             Err(Stop::Screen) => 1,
@@ -167,10 +189,12 @@ impl Taker {
         screen: &mut S,
     ) -> Result<(), Stop>
         requires { self.old.text ≡ [] }
-        ensures { TakesAll receiving.now result
+        ensures takes { TakesAll receiving.now result
             (R.remaining (stream_of reader.old)) (R.remaining (stream_of reader.new))
             (W.contents (stream_of writer.old)) (W.contents (stream_of writer.new))
             (S.contents screen.old) (S.contents screen.new) }
+        ensures same_reader { stream_name reader.new ≡ stream_name reader.old }
+        ensures same_writer { stream_name writer.new ≡ stream_name writer.old }
     {
         let style = Style::of_receipt(&receiving.receipt);
         let mut place = 0;

@@ -3,7 +3,7 @@ use Rattle.std.proofs.Common.{◌≡◌, ◌+◌, ◌-◌, ◌≤◌, []}
 use Rattle.sysv_clients.specs.declared.stream.TheConstants.{MAX_MESSAGES}
 use Rattle.sysv_clients.specs.Stream.{receiving_plan}
 use Rattle.sysv_clients.specs.Style.{style_of_receipt}
-use Rattle.sysv_model.specs.Watched.{stream_of}
+use Rattle.sysv_model.specs.Watched.{stream_name, stream_of}
 use Rattle.sysv_clients.proofs.StreamLemmas.{Streaming}
 use Rattle.sysv_clients.proofs.stream.Taker.take_all.Given as goal
 
@@ -15,6 +15,8 @@ invariant-loop-ask g l = record {
       (g.S.Write.contents l.initial.screen) (g.S.Write.contents l.screen) l.place l.id;
   text : l.self.text ≡ [];
   few : l.place ≤ MAX_MESSAGES + 2;
+  same_reader : stream_name l.reader ≡ stream_name l.initial.reader;
+  same_writer : stream_name l.writer ≡ stream_name l.initial.writer;
 }
 
 abbrev pub decreases-loop-ask : goal.decreases-loop-ask
