@@ -93,7 +93,8 @@ is_next plan style left rest taken more shown after place id found so_far asked 
     ∙ ap (λ (n : ℕ). plan (id_in so_far.calls) n) so_far.counts)
 
 -- One more call, shown as far as it may be.
-pub record Joins (plan : Plan) (style : Style) (left rest taken most : Option (List ℕ)) (before : List Call) (one : Call) :
+pub record Joins (plan : Plan) (style : Style) (left rest taken most : Option (List ℕ)) (before : List Call)
+    (one : Call) :
     Type 0 where
   pub made : FollowsPlan plan [] (before ++ one ∷ [])
   pub reads : Consumes left rest (read_by (before ++ one ∷ []))
@@ -143,7 +144,8 @@ goes_on plan style ask answer given left mid rest taken more most shown so after
 -- All requests were made.
 pub finishes : (receiving : Receiving) (left rest taken more shown after : Option (List ℕ)) (place : ℕ) (id : ℤ)
     (done : ⊤)
-    → Streaming (receiving_plan receiving) (style_of_receipt receiving.receipt) left rest taken more shown after place id
+    → Streaming (receiving_plan receiving) (style_of_receipt receiving.receipt) left rest taken more shown after place
+    id
     → None ≡ receiving_plan receiving id place
     → TakesAll receiving (Ok done) left rest taken more shown after
 finishes receiving left rest taken more shown after place id done so_far asked = record {
@@ -154,7 +156,8 @@ finishes receiving left rest taken more shown after place id done so_far asked =
   reads = so_far.reads;
   writes = so_far.writes;
   ends = (
-    is_next (receiving_plan receiving) (style_of_receipt receiving.receipt) left rest taken more shown after place id None
+    is_next (receiving_plan receiving) (style_of_receipt receiving.receipt) left rest taken more shown after place id
+        None
         so_far asked,
     refl,
     refl,

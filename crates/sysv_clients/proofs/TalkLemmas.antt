@@ -129,7 +129,8 @@ pub goes_on : (command : Command) (ask : Ask) (answer : ReplyContent) (given : L
     → Talking command left mid taken more page place slots id → Some ask ≡ slice_get (asks_of command slots id) place
     → text ≡ text_of command.task
     → Exchanges (request_spelling (request_of ask) text) ask (Ok answer) mid rest more most given
-    → Talking command left rest taken most (page ++ answer_text (style_of command.task) answer given) (place + 1) (slots_after slots answer)
+    → Talking command left rest taken most (page ++ answer_text (style_of command.task) answer given) (place + 1)
+    (slots_after slots answer)
     (id_after id answer)
 goes_on command ask answer given left mid rest taken more most page text place slots id so_far asked sent exchange =
     let one : Exchange = record { ask = ask; answer = answer; given = given } in
@@ -144,7 +145,8 @@ goes_on command ask answer given left mid rest taken more most page text place s
           (Consumes-trans left mid rest _ _ so_far.reads exchange.1.0);
       writes = subst (Appends taken most) (sym (asked_more command before one))
           (Appends-trans taken more most _ _ so_far.writes frame);
-      collects = ap (λ l. l ++ answer_text (style_of command.task) answer given) so_far.collects ∙ sym (page_more command before one);
+      collects = ap (λ l. l ++ answer_text (style_of command.task) answer given) so_far.collects
+          ∙ sym (page_more command before one);
       counts = ap (λ n. n + 1) so_far.counts ∙ sym (length_more before one);
       tells = ap (λ (s : ℕ). slots_after s answer) so_far.tells ∙ sym (slots_more before one);
       finds = ap (λ (i : ℤ). id_after i answer) so_far.finds ∙ sym (found_more before one);
@@ -214,7 +216,8 @@ pub no_line : (command : Command) (ask : Ask) (answer : ReplyContent) (given : L
     (left mid rest taken more most : Option (List ℕ)) (page last text : List ℕ) (place slots : ℕ) (id : ℤ)
     → Talking command left mid taken more page place slots id → Some ask ≡ slice_get (asks_of command slots id) place
     → text ≡ text_of command.task
-    → Exchanges (request_spelling (request_of ask) text) ask (Ok answer) mid rest more most given → grows (style_of command.task) answer ≡ true
+    → Exchanges (request_spelling (request_of ask) text) ask (Ok answer) mid rest more most given
+    → grows (style_of command.task) answer ≡ true
     → TalksThrough command (Err NoMemory) last left rest taken most
 no_line command ask answer given left mid rest taken more most page last text place slots id so_far asked sent exchange
     row =

@@ -120,7 +120,8 @@ receiving_plan receiving found place = slice_get (receiving_asks receiving found
 
 -- A session that ended this way. What was read is the replies to its requests, and then what ended
 -- it. What was written is those requests, each whole except perhaps the last.
-pub record TakesAll (receiving : Receiving) (ended : Result ⊤ Stop) (left rest taken more shown after : Option (List ℕ)) :
+pub record TakesAll (receiving : Receiving) (ended : Result ⊤ Stop)
+    (left rest taken more shown after : Option (List ℕ)) :
     Type 0 where
   pub calls : List Call
   pub made : FollowsPlan (receiving_plan receiving) [] calls

@@ -127,4 +127,5 @@ AsksToReceive words (Send key text mtype nowait) = ⊥
 abbrev pub HasTask : List ℕ → List Row → Task → Type 0
 HasTask name words task =
     ((name ≡ codes "ipcs") × AsksToList words task) ⊎ ((name ≡ codes "ipcrm") × AsksToRemove words task)
-    ⊎ ((name ≡ codes "ipcmk") × AsksToMake words task) ⊎ ((name ≡ codes "snd") × AsksToSend words task) ⊎ ((name ≡ codes "rcv") × AsksToReceive words task)
+    ⊎ ((name ≡ codes "ipcmk") × AsksToMake words task) ⊎ ((name ≡ codes "snd") × AsksToSend words task)
+    ⊎ ((name ≡ codes "rcv") × AsksToReceive words task)

@@ -10,7 +10,8 @@ returns-in-Ok-take_all-clause-receives g c = completes c.args.receiving.now _ _ 
 pub returns-in-Err-Fault-clause-receives : goal.returns-in-Err-Fault-clause-receives
 returns-in-Err-Fault-clause-receives g c =
     rw (to_z-of_z w32 c.show_fault.result (record { sfits = c.show_fault.type_inv }))
-    (closes c.args.receiving.now c.in-Err-Fault.fault _ _ _ _ _ _ _ _ (rw c.in-Err-Fault.field-0-is at c.in-Err-Fault.ensures.takes)
+    (closes c.args.receiving.now c.in-Err-Fault.fault _ _ _ _ _ _ _ _
+    (rw c.in-Err-Fault.field-0-is at c.in-Err-Fault.ensures.takes)
     c.show_fault.ensures)
 
 pub returns-in-Ok-clause-receives : goal.returns-in-Ok-clause-receives

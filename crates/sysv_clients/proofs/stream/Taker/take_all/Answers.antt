@@ -28,7 +28,8 @@ loop-ask-preserved g c =
     (received_text s c.in_ok-answer.answer given)) c.of_receipt-style.ensures c.in_ok-show.ensures.ok in
     record {
       streaming = rw (to_z-of_z w32 c.found-id.result (record { sfits = c.found-id.type_inv }), c.found-id.ensures)
-          (goes_on (receiving_plan c.args.receiving.now) style c.in-Some.ask c.in_ok-answer.answer given _ _ _ _ _ _ _ _ _
+          (goes_on (receiving_plan c.args.receiving.now) style c.in-Some.ask c.in_ok-answer.answer given _ _ _ _ _ _ _ _
+          _
           c.loop-ask.self.text c.loop-ask.place _ c.loop-ask.invariant.streaming c.in-Some.ensures.ask
           c.in_ok-answer.ensures.exchanges shown);
       text = c.show.ensures.text ∙ c.loop-ask.invariant.text;
