@@ -11,7 +11,7 @@ _sysvmsg_words() {
     ipcrm) echo "-q -Q $credentials --help --version" ;;
     snd) echo "--stdin --type --nowait --wait $credentials --help --version" ;;
     rcv)
-        echo "--type --upto --except --size --noerror --nowait --wait --count --follow --show-type --raw --create --mode"
+        echo "--type --upto --except --size --nowait --noerror --wait --count --follow --show-type --raw --create --mode"
         echo "$credentials --help --version"
         ;;
     *) echo "serve snd rcv ipcs ipcrm ipcmk script --help --version" ;;
