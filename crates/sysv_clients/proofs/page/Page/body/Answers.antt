@@ -1,7 +1,7 @@
 use Rattle.std.proofs.Common.{◌+◌, ◌*◌, ◌++◌, length, take, drop, ap, ◌∙◌, append_assoc, arith, length-append}
 use Rattle.std.proofs.Common.{length-take}
 use Rattle.sysv_wire.proofs.StreamLemmas.{block_more}
-use Rattle.sysv_clients.proofs.page.Page.message.Goals as goal
+use Rattle.sysv_clients.proofs.page.Page.body.Goals as goal
 
 pub put-requires : goal.put-requires
 put-requires c =
