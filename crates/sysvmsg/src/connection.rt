@@ -246,7 +246,7 @@ fn no_memory<S: Write>(screen: &mut S) -> ExitCode {
 }
 
 /// Reports that no connection can be made.
-fn no_server(rt: &(impl Print + Eprint), path: &str, why: &io::Error) -> ExitCode {
+fn no_server(rt: &(impl Print + Eprint + AllocGlobal), path: &str, why: &io::Error) -> ExitCode {
     complain(rt, path, why, "");
     say(rt, "no server")
 }
