@@ -3,8 +3,12 @@
 use mathlib.Core.Bool.{true≢false}
 use Rattle.std.proofs.Common.{◌≡◌, ◌≢◌, inl, inr, Bool, ℕ, ◌+◌, ◌≤◌, ◌<◌, List, [], ◌∷◌, length, map, Option, Some}
 use Rattle.std.proofs.Common.{refl, arith, sym, ap, ◌∙◌}
-use Rattle.std.specs.Prelude.{Result, Ok, Err, IfOk, IsNone, ◌^◌, ◌-◌, false, is_some, min}
+use Rattle.std.specs.Prelude.{Result, Ok, Err, IfOk, IsNone, ◌^◌, ◌-◌, false, is_some, min, reverse}
 use Rattle.std.specs.List.{FoldsTo, sum_by}
+use Rattle.std.specs.List.Sorted.{IsPermutation}
+use Rattle.std.proofs.Common.{◌++◌, length-append, suc}
+use Rattle.std.proofs.lemmas.List.{length-map, length-reverse}
+use Rattle.std.proofs.lemmas.List.Sorted.{length_permutation}
 use Rattle.std.proofs.lemmas.List.Sums.{sum_by-cons}
 use Rattle.sysv_session.specs.declared.served.Served.{Served}
 use Rattle.sysv_workers.specs.Sources.{GivesAll}
@@ -14,8 +18,15 @@ use Rattle.sysv_server.specs.declared.sums.Sums.{Sums}
 use Rattle.sysv_server.specs.declared.terms.Ended.{Ended}
 use Rattle.sysv_server.specs.Accepts.{Accepts, is_closed}
 use Rattle.sysv_server.specs.Added.{capped, one_session}
-use Rattle.sysv_server.specs.Handled.{tally_of, told_in}
-use Rattle.sysv_server.specs.Serving.{EndsAll, EndsOn, ServesAll, ServesOn}
+use Rattle.sysv_server.specs.declared.socket.Nothing.{Nothing}
+use Rattle.sysv_server.specs.declared.socket.Socket.{Socket}
+use Rattle.sysv_server.specs.Desks.{Crewed, Desk, Sat, all_connections}
+use Rattle.sysv_server.specs.Handled.{Shift, reports_of, told_in}
+use Rattle.sysv_server.specs.Headline.{ServesConnections}
+use Rattle.sysv_server.specs.Serving.{EndsOn, ServesOn}
+use Rattle.sysv_server.specs.Talks.{Closing, Talk, leaves_nothing, tally_of, untold}
+use Rattle.sysv_bank.specs.Banks.{Each2}
+use Rattle.sysv_shared.specs.Seats.{Gates}
 
 room : (m a a' n : ℕ) → m ≤ 2 ^ 64 - 1 → a < m → a' ≡ min (a + 1) (2 ^ 64 - 1) → (a' ≤ m → a' + n ≤ m) → a + (n + 1) ≤ m
 room m a a' n small low is rest = omega arith
@@ -33,15 +44,54 @@ all_counted (t ∷ told) =
     let rest = all_counted told in
     omega arith
 
-module _ {I : Type 0} (T : Type 0) where
-  abbrev pub Gives : Accepting I → Option T → Accepting I → Type 0
+-- ---- one session for each connection
+
+each2_length : {X Y : Type 0} (P : X → Y → Type 0) (xs : List X) (ys : List Y) → Each2 P xs ys → length xs ≡ length ys
+each2_length P [] [] each = refl
+each2_length P [] (y ∷ ys) each = absurd each
+each2_length P (x ∷ xs) [] each = absurd each
+each2_length P (x ∷ xs) (y ∷ ys) each = ap suc (each2_length P xs ys each.1)
+
+both_lengths : (a b c d m n : ℕ) → a ≡ b → c ≡ d → m ≡ a + c → n ≡ b + d → m ≡ n
+both_lengths a b c d m n p q r s = omega arith
+
+module _ {T B : Type 0} (incoming outgoing : T → Option (List ℕ)) (closes : Closing B) where
+  sat_each : (desks : List (Desk T B)) (shifts : List Shift) → Each2 (Sat incoming outgoing closes) desks shifts →
+      length (told_in shifts) ≡ length (all_connections desks)
+  sat_each [] [] sat = refl
+  sat_each [] (shift ∷ shifts) sat = absurd sat
+  sat_each (desk ∷ desks) [] sat = absurd sat
+  sat_each (desk ∷ desks) (shift ∷ shifts) sat =
+      let one = length-map shift.talks (λ (talk : Talk). talk.told) ∙ sym (each2_length _ desk.connections shift.talks sat.0.0) in
+      both_lengths _ _ _ _ _ _ one (sat_each desks shifts sat.1) (length-append (reports_of shift.talks) (told_in shifts))
+      (length-append desk.connections (all_connections desks))
+
+  -- there was one session for each connection
+  pub one_each : (desks : List (Desk T B)) (shifts : List Shift) (given : List T) →
+      Each2 (Sat incoming outgoing closes) desks shifts → IsPermutation (all_connections desks) given →
+      length (told_in shifts) ≡ length given
+  one_each desks shifts given sat dealt =
+      sat_each desks shifts sat ∙ sym (length_permutation (all_connections desks) given dealt)
+
+  -- there was one worker for each book
+  pub as_books : (gates : Gates) (books : List B) (desks : List (Desk T B)) (shifts : List Shift) (books' : List B) →
+      Crewed incoming outgoing closes gates books desks shifts books' → length shifts ≡ length books
+  as_books gates books desks shifts books' crewed =
+      sym (each2_length _ desks shifts crewed.sat)
+      ∙ (sym (length-map desks (λ (desk : Desk T B). desk.first))
+      ∙ (sym (length-reverse (map (λ (desk : Desk T B). desk.first) desks)) ∙ ap length crewed.firsts))
+
+-- ---- the connections of a listener
+
+module _ {I : Type 0} where
+  abbrev pub Gives : Accepting I → Option Socket → Accepting I → Type 0
   Gives = Accepts
 
   -- the connections that were given one after the other
-  abbrev Given : List T → Accepting I → Accepting I → Type 0
+  abbrev Given : List Socket → Accepting I → Accepting I → Type 0
   Given items s s' = FoldsTo (λ s x s'. Gives s (Some x) s') s items s'
 
-  within : (items : List T) (s s' : Accepting I) → Given items s s' → s.most ≢ 0 → s.most ≤ 2 ^ 64 - 1 →
+  within : (items : List Socket) (s s' : Accepting I) → Given items s s' → s.most ≢ 0 → s.most ≤ 2 ^ 64 - 1 →
       s.accepted ≤ s.most → s.accepted + length items ≤ s.most
   within [] s s' h some small low = omega arith
   within (x ∷ items) s s' h some small low =
@@ -52,14 +102,14 @@ module _ {I : Type 0} (T : Type 0) where
       let all = room s.most s.accepted h.0.accepted (length items) small (step.1 some) step.2 rest in
       omega arith
 
-  pub bounded : (items : List T) (s s' : Accepting I) → GivesAll Gives s items s' → s.accepted ≡ 0 →
+  pub bounded : (items : List Socket) (s s' : Accepting I) → GivesAll Gives s items s' → s.accepted ≡ 0 →
       s.most ≤ 2 ^ 64 - 1 → s.most ≢ 0 → length items ≤ s.most
   bounded items s s' gave none small some =
       let all = within items s gave.last gave.gave some small (omega arith) in
       omega arith
 
   -- while connections are given the listener stays open, and not more are counted than were given
-  stays : (items : List T) (s s' : Accepting I) → Given items s s'
+  stays : (items : List Socket) (s s' : Accepting I) → Given items s s'
       → (s'.most ≡ s.most) × (s'.accepted ≤ s.accepted + length items) × (s'.listening ≡ s.listening)
       × (is_some s'.input ≡ is_some s.input)
   stays [] s s' h = rw h (refl, omega arith, refl, refl)
@@ -70,7 +120,7 @@ module _ {I : Type 0} (T : Type 0) where
       let more = step.2 in
       (rest.0 ∙ step.0, omega arith, rest.2 ∙ step.3, rest.3 ∙ step.4)
 
-  as_many : (items : List T) (s s' : Accepting I) → GivesAll Gives s items s' → s.accepted ≡ 0 → s.most ≤ 2 ^ 64 - 1
+  as_many : (items : List Socket) (s s' : Accepting I) → GivesAll Gives s items s' → s.accepted ≡ 0 → s.most ≤ 2 ^ 64 - 1
       → is_closed s.listening ≡ false → IsNone s.input → IsNone s'.fault
       → (s.most ≢ 0) × (length items ≡ s.most)
   as_many items s s' gave none small unclosed no_input no_fault =
@@ -88,53 +138,68 @@ module _ {I : Type 0} (T : Type 0) where
         | inr (inr (inr ends)) ↦ absurd (true≢false (sym ends ∙ (stay.3 ∙ no_input)))
       ]
 
-  pub serves_on : (blocks workers m : ℕ) (s s' : Accepting I) (result : Result Sums ServeFault) → s.accepted ≡ 0
-      → s.most ≡ m → m ≤ 2 ^ 64 - 1 → IfOk result (λ total. ServesAll Gives blocks workers s total s')
-      → IfOk result (λ total. ServesOn blocks workers m total)
-  serves_on blocks workers m s s' (Ok total) none same small served = record {
+  abbrev pub Serves : ℕ → Accepting I → List Nothing → Ended → Accepting I → List Nothing → Type 0
+  Serves = ServesConnections untold untold leaves_nothing Gives
+
+  pub serves_on : (blocks workers m : ℕ) (s s' : Accepting I) (books books' : List Nothing) (ended : Ended)
+      → s.accepted ≡ 0 → s.most ≡ m → m ≤ 2 ^ 64 - 1 → length books ≡ workers → Serves blocks s books ended s' books'
+      → ServesOn blocks workers m ended.sums
+  serves_on blocks workers m s s' books books' ended none same small counted served = record {
     gates = served.gates;
     opened = served.opened;
-    shifts = served.all.shifts;
-    worked = served.all.worked;
+    shifts = served.shifts;
+    worked = record {
+      workers = as_books untold untold leaves_nothing served.gates books served.desks served.shifts books' served.crewed
+          ∙ counted;
+      passes = served.crewed.passes;
+      sums = served.sums;
+    };
     bounded = λ some.
         let fits : s.most ≤ 2 ^ 64 - 1 = omega arith in
-        let all = bounded served.all.given s s' served.all.gave none fits (λ z. some (sym same ∙ z)) in
-        let each = served.all.each in omega arith;
-    removed = served.removed;
+        let all = bounded served.given s s' served.gave none fits (λ z. some (sym same ∙ z)) in
+        let each = one_each untold untold leaves_nothing served.desks served.shifts served.given served.crewed.sat
+        served.dealt in
+        omega arith;
+    accepted = served.given;
+    desks = served.desks;
+    dealt = served.dealt;
+    sat = served.crewed.sat;
+    removed = ended.removed;
     lived = served.lived;
   }
-  serves_on blocks workers m s s' (Err why) none same small served = tt
 
-  pub ends_on : (blocks workers m : ℕ) (s s' : Accepting I) (result : Result Ended ServeFault) → s.accepted ≡ 0
-      → s.most ≡ m → m ≤ 2 ^ 64 - 1 → IfOk result (λ ended. EndsAll Gives blocks workers s ended s')
+  pub ends_on : (blocks workers m : ℕ) (s s' : Accepting I) (books books' : List Nothing)
+      (result : Result Ended ServeFault) → s.accepted ≡ 0 → s.most ≡ m → m ≤ 2 ^ 64 - 1 → length books ≡ workers
+      → IfOk result (λ ended. Serves blocks s books ended s' books')
       → IfOk result (λ ended. EndsOn blocks workers m ended)
   unfolding serves_on
-  ends_on blocks workers m s s' (Ok ended) none same small all = record {
-    served = serves_on blocks workers m s s' (Ok ended.sums) none same small all.served;
-    stopped = all.stopped;
-    told = all.told;
+  ends_on blocks workers m s s' books books' (Ok ended) none same small counted all = record {
+    served = serves_on blocks workers m s s' books books' ended none same small counted all;
+    refused = all.refused;
+    stopped = all.lived.stopped;
+    told = refl;
     closed = all.closed;
   }
-  ends_on blocks workers m s s' (Err why) none same small all = tt
+  ends_on blocks workers m s s' books books' (Err why) none same small counted all = tt
 
   -- without an input and a fault, there were as many sessions as were named
-  pub ends_exactly : (blocks workers m : ℕ) (s s' : Accepting I) (result : Result Ended ServeFault) (input fault : Bool)
+  pub ends_exactly : (blocks m : ℕ) (s s' : Accepting I) (books books' : List Nothing)
+      (result : Result Ended ServeFault) (input fault : Bool)
       → s.accepted ≡ 0 → s.most ≡ m → m ≤ 2 ^ 64 - 1 → is_closed s.listening ≡ false
       → is_some s.input ≡ input → is_some s'.fault ≡ fault
-      → IfOk result (λ ended. EndsAll Gives blocks workers s ended s')
+      → IfOk result (λ ended. Serves blocks s books ended s' books')
       → IfOk result (λ ended. input ≡ false → fault ≡ false → (m ≢ 0) × (ended.sums.sessions ≡ m))
-  ends_exactly blocks workers m s s' (Ok ended) input fault none same small unclosed of_input of_fault all =
+  ends_exactly blocks m s s' books books' (Ok ended) input fault none same small unclosed of_input of_fault served =
       λ no_input no_fault.
-      let served = all.served in
       let fits : s.most ≤ 2 ^ 64 - 1 = omega arith in
-      let is =
-      as_many served.all.given s s' served.all.gave none fits unclosed (of_input ∙ no_input) (of_fault ∙ no_fault) in
-      let each = served.all.each in
+      let is = as_many served.given s s' served.gave none fits unclosed (of_input ∙ no_input) (of_fault ∙ no_fault) in
+      let each = one_each untold untold leaves_nothing served.desks served.shifts served.given served.crewed.sat
+      served.dealt in
       let many = is.1 in
-      let count : length (told_in served.all.shifts) ≡ m = each ∙ (many ∙ same) in
+      let count : length (told_in served.shifts) ≡ m = each ∙ (many ∙ same) in
       let sums : ended.sums.sessions
-      ≡ capped (sum_by (λ (s : Sums). s.sessions) (map (λ t. one_session (tally_of t)) (told_in served.all.shifts))) =
-      ap (λ (s : Sums). s.sessions) served.all.worked.sums in
-      let counted = all_counted (told_in served.all.shifts) ∙ count in
+      ≡ capped (sum_by (λ (s : Sums). s.sessions) (map (λ t. one_session (tally_of t)) (told_in served.shifts))) =
+      ap (λ (s : Sums). s.sessions) served.sums in
+      let counted = all_counted (told_in served.shifts) ∙ count in
       (λ z. is.0 (same ∙ z), sums ∙ (ap capped counted ∙ below m small))
-  ends_exactly blocks workers m s s' (Err why) input fault none same small unclosed of_input of_fault all = tt
+  ends_exactly blocks m s s' books books' (Err why) input fault none same small unclosed of_input of_fault all = tt

@@ -45,8 +45,8 @@ body_send = search crossing depth 30
 texts_send : IsSend texts.the_row
 texts_send = search (crossing, body_send) depth 30
 
-pub worker_send : (l : NamedLft) (R : RattleType) → IsSync R → IsSend (worker.the_row l R)
-worker_send l R y = declared_send (worker.the_type l R) (
+pub worker_send : (l : NamedLft) (R B : RattleType) → IsSync R → IsSend B → IsSend (worker.the_row l R B)
+worker_send l R B y b = declared_send (worker.the_type l R B) (
   kernel_send l zero.the_row R peer.the_row clock.ghosts caller.ghosts zero_sync y peers.the_send,
-  (sum.the_send, (options.the_send _ texts_send, tt)),
+  (sum.the_send, (search crossing depth 10, (options.the_send _ texts_send, (as_row_send (row_field B) b, tt)))),
 )

@@ -3,12 +3,14 @@ ghost use Rattle.std.specs.Prelude.{◌≡◌, ◌≢◌, ◌<◌, ◌≤◌, �
 ghost use Rattle.sysv_server.specs.Accepts.{is_closed, IsFull};
 
 use crate::patient::seconds_long;
+use crate::socket::Socket;
+use crate::terms::Patience;
 use libc::net::{POLLIN, poll};
 use libc::types::pollfd;
 use std::io;
 use std::io::{ErrorKind, Read};
 use std::os::fd::AsRawFd;
-use std::os::unix::net::{UnixListener, UnixStream};
+use std::os::unix::net::UnixListener;
 use sysv_workers::Source;
 
 /// The maximum number of bytes of the input that are read at once and dropped.
@@ -46,8 +48,8 @@ pub(crate) struct Accepting<'a, I: Drop> {
     listening: Listening<'a>,
     /// The input whose end ends the source.
     input: Option<I>,
-    /// The number of seconds that a write to a connection may wait, 0 for no limit.
-    stall: u32,
+    /// How long a client may be silent.
+    patience: Patience,
     /// The maximum number of connections to accept, 0 for no limit.
     most: u64,
     /// The number of connections that were accepted. It stays at 2^64 - 1 once it has reached it.
@@ -61,7 +63,7 @@ impl<'a, I: Read + AsRawFd + Drop> Accepting<'a, I> {
     pub(crate) fn new(
         listening: Listening<'a>,
         input: Option<I>,
-        stall: u32,
+        patience: Patience,
         most: u64,
     ) -> Accepting<'a, I>
         ensures begun { (result.most ≡ most) × (result.accepted ≡ 0) }
@@ -71,7 +73,7 @@ impl<'a, I: Read + AsRawFd + Drop> Accepting<'a, I> {
         Accepting {
             listening,
             input,
-            stall,
+            patience,
             most,
             accepted: 0,
             fault: None,
@@ -86,7 +88,7 @@ impl<'a, I: Read + AsRawFd + Drop> Accepting<'a, I> {
     }
 
     /// Accepts the next connection. Returns `None` if no more connections are to be accepted.
-    fn accept(&mut self) -> Option<io::Result<UnixStream>>
+    fn accept(&mut self) -> Option<io::Result<Socket>>
         ensures same { (self.new.most ≡ self.old.most) × (self.new.accepted ≡ self.old.accepted) }
         ensures stays { (self.new.listening ≡ self.old.listening)
             × (is_some self.new.input ≡ is_some self.old.input) }
@@ -104,20 +106,20 @@ impl<'a, I: Read + AsRawFd + Drop> Accepting<'a, I> {
                 return None;
             }
         }
-        Some(accept_from(listener, self.stall))
+        Some(accept_from(listener, self.patience))
     }
 }
 
-impl<I: Read + AsRawFd + Drop> Source<UnixStream> for Accepting<'_, I> {
+impl<I: Read + AsRawFd + Drop> Source<Socket> for Accepting<'_, I> {
     ghost use Rattle.sysv_server.specs.Accepts.{Accepts};
 
     ghost gives = { Accepts };
 
-    fn next(&mut self) -> Option<UnixStream> {
+    fn next(&mut self) -> Option<Socket> {
         match self.accept() {
-            Some(Ok(stream)) => {
+            Some(Ok(socket)) => {
                 self.accepted = self.accepted.saturating_add(1);
-                return Some(stream);
+                return Some(socket);
             }
             Some(Err(why)) => self.fault = Some(why),
             None => {}
@@ -127,14 +129,14 @@ impl<I: Read + AsRawFd + Drop> Source<UnixStream> for Accepting<'_, I> {
     }
 }
 
-/// Accepts a connection from the listener. Writes to it may wait for `stall` seconds, or without
-/// limit if `stall` is 0.
-fn accept_from(listener: &UnixListener, stall: u32) -> io::Result<UnixStream> {
+/// Accepts a connection from the listener. Writes to it may wait for `patience.stall` seconds, or
+/// without limit if that is 0.
+fn accept_from(listener: &UnixListener, patience: Patience) -> io::Result<Socket> {
     let (stream, _address) = listener.accept()?;
-    if stall != 0 {
-        stream.set_write_timeout(seconds_long(stall))?;
+    if patience.stall != 0 {
+        stream.set_write_timeout(seconds_long(patience.stall))?;
     }
-    Ok(stream)
+    Ok(Socket::new(stream, patience))
 }
 
 /// Waits until a connection has arrived, or the input has ended or cannot be read. Returns true if

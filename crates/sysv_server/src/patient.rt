@@ -6,21 +6,22 @@ use crate::terms::Patience;
 use std::io;
 use std::io::{ErrorKind, Read};
 use std::os::unix::net::UnixStream;
+use std::sync::Arc;
 use std::time::Duration;
 
 /// A reader of a connection. A read fails if the client is silent for longer than it may be.
 #[derive(Drop)]
-pub(crate) struct Patient<'a> {
-    stream: &'a UnixStream,
+pub(crate) struct Patient {
+    stream: Arc<UnixStream>,
     patience: Patience,
     framing: Framing,
     /// The number of seconds after which the connection's reads fail, 0 for never.
     seconds: u32,
 }
 
-impl<'a> Patient<'a> {
+impl Patient {
     /// Creates a reader that has read nothing and sets no time limit on reads yet.
-    pub(crate) fn new(stream: &'a UnixStream, patience: Patience) -> Patient<'a> {
+    pub(crate) fn new(stream: Arc<UnixStream>, patience: Patience) -> Patient {
         Patient {
             stream,
             patience,
@@ -48,7 +49,7 @@ impl<'a> Patient<'a> {
     fn read_again(&self, buf: &mut [u8]) -> io::Result<usize>
         ensures { ReadsAtMost result buf.new }
     {
-        let mut stream = self.stream;
+        let mut stream: &UnixStream = &self.stream;
         for _ in 0..u64::MAX {
             match stream.read(buf) {
                 Err(why) if why.kind() == ErrorKind::Interrupted => {}
@@ -59,10 +60,11 @@ impl<'a> Patient<'a> {
     }
 }
 
-impl Read for Patient<'_> {
+impl Read for Patient {
     fn read(&mut self, buf: &mut [u8]) -> io::Result<usize> {
         if self.patience == Patience::UNBOUNDED {
-            return self.stream.read(buf);
+            let mut stream: &UnixStream = &self.stream;
+            return stream.read(buf);
         }
         self.bound()?;
         let count = self.read_again(buf)?;

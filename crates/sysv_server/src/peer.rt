@@ -13,18 +13,18 @@ const NO_DESCRIPTOR: i32 = -1;
 ///
 /// It has the number of the connection's descriptor, and is used only while the connection is open.
 #[derive(Clone, Copy)]
-pub(crate) struct Peer {
+pub struct Peer {
     fd: i32,
 }
 
 impl Peer {
     /// Returns the peer of no connection. It never leaves.
-    pub(crate) fn none() -> Peer {
+    pub fn none() -> Peer {
         Peer { fd: NO_DESCRIPTOR }
     }
 
     /// Returns the peer of this connection.
-    pub(crate) fn of(stream: &UnixStream) -> Peer {
+    pub fn of(stream: &UnixStream) -> Peer {
         Peer {
             fd: stream.as_raw_fd(),
         }

@@ -2,22 +2,9 @@
 -- accepting.
 use Rattle.std.proofs.Common.{ap, sym, arith}
 use Rattle.std.specs.Prelude.{is_some}
-use Rattle.std.specs.declared.net.unix.UnixStream.{UnixStream}
 use Rattle.sysv_server.specs.Accepts.{is_closed}
 use Rattle.sysv_server.proofs.Accepted.{ends_on, ends_exactly}
 use Rattle.sysv_server.proofs.serving.serve_listener.Goals as goal
 
 pub returns-clause-ok : goal.returns-clause-ok
-returns-clause-ok g c =
-    ends_on UnixStream _ _ _ c.new-source.result
-    c.serve_all-outcome.new.source c.serve_all-outcome.result c.new-source.ensures.begun.1 c.new-source.ensures.begun.0
-    (let same = c.new-source.ensures.begun.0 in let fits = c.new-source.ensures.range in omega arith)
-    c.serve_all-outcome.ensures.ok
-
-pub returns-clause-exact : goal.returns-clause-exact
-returns-clause-exact g c =
-    ends_exactly UnixStream _ _ _ c.new-source.result c.serve_all-outcome.new.source c.serve_all-outcome.result _ _
-    c.new-source.ensures.begun.1 c.new-source.ensures.begun.0
-    (let same = c.new-source.ensures.begun.0 in let fits = c.new-source.ensures.range in omega arith)
-    (ap is_closed c.new-source.ensures.given.0)
-    (ap is_some c.new-source.ensures.given.1) (sym (ap is_some c.into_fault.ensures)) c.serve_all-outcome.ensures.ok
+returns-clause-ok g c = ?
