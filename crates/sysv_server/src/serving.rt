@@ -1,7 +1,8 @@
 //! The server.
-ghost use Rattle.std.specs.Prelude.{◌≡◌, ◌≢◌, ◌≤◌, IfOk, IsNone};
+ghost use Rattle.std.specs.Prelude.{◌≡◌, ◌≢◌, ◌≤◌, IfOk, IsNone, false};
 ghost use Rattle.sysv_model.specs.declared.limits.TheConstants.{MIN_BLOCKS, MAX_BLOCKS};
 ghost use Rattle.sysv_workers.specs.declared.workers.TheConstants.{MAX_CROWD, MAX_WORKERS};
+ghost use Rattle.sysv_server.specs.Accepts.{is_closed};
 ghost use Rattle.sysv_server.specs.Added.{IsBalanced};
 ghost use Rattle.sysv_server.specs.Serving.{EndsOn, ServesOn};
 
@@ -70,7 +71,8 @@ pub fn serve_on<R: Threads + Wait + Sync>(
 
 /// Returns a source of connections from a listener that stays open.
 fn lent(listener: &UnixListener, sessions: u64) -> Accepting<'_, UnixStream>
-    ensures { (result.most ≡ sessions) × (result.accepted ≡ 0) }
+    ensures counts { (result.most ≡ sessions) × (result.accepted ≡ 0) }
+    ensures open { (is_closed result.listening ≡ false) × IsNone result.input }
 {
     Accepting::new(
         Listening::Lent(listener),
