@@ -7,11 +7,14 @@ use Rattle.sysv_server.specs.declared.memory.Replies.{Replies}
 abbrev pub replies_in : Replies → List (List ℕ)
 replies_in book = map (λ page. page.items) book.kept.items
 
--- One more connection was closed, to which this was written. It is added at the end of the book if
--- there is room.
-abbrev pub Keeps : Replies → Option (List ℕ) → Option (List ℕ) → Replies → Type 0
-Keeps book rest None book' = ⊥
-Keeps book rest (Some written) book' =
+-- This was written to one more connection. It is added at the end of the book if there is room.
+abbrev pub KeepsMore : Replies → List ℕ → Replies → Type 0
+KeepsMore book written book' =
     (vec_capacity book'.kept ≡ vec_capacity book.kept)
     × (vec_len book.kept < vec_capacity book.kept → replies_in book' ≡ replies_in book ++ written ∷ [])
     × (vec_capacity book.kept ≤ vec_len book.kept → book' ≡ book)
+
+-- One more connection was closed, whatever it had still to be read.
+abbrev pub Keeps : Replies → Option (List ℕ) → Option (List ℕ) → Replies → Type 0
+Keeps book rest None book' = ⊥
+Keeps book rest (Some written) book' = KeepsMore book written book'

@@ -1,5 +1,6 @@
 //! Connections in memory, which tell their bytes.
-ghost use Rattle.std.specs.Prelude.{◌≡◌, []};
+ghost use Rattle.std.specs.Prelude.{◌≡◌, [], IfSome, vec_capacity};
+ghost use Rattle.sysv_server.specs.Memory.{KeepsMore, replies_in};
 
 use crate::connection::Connection;
 use crate::peer::Peer;
@@ -16,7 +17,7 @@ pub struct MemoryConnection<'a> {
 impl<'a> MemoryConnection<'a> {
     /// Creates a connection whose client writes `input`.
     pub fn new(alloc: Global, input: &'a [u8]) -> MemoryConnection<'a>
-        ensures input { result.input ≡ input }
+        ensures input { result.input.now ≡ input.now }
         ensures output { result.output.items ≡ [] }
     {
         MemoryConnection {
@@ -37,7 +38,9 @@ pub struct Replies {
 impl Replies {
     /// Returns a book without replies, which has room for those of `room` connections. Returns
     /// `None` if memory is refused.
-    pub fn with_room(alloc: Global, room: usize) -> Option<Replies> {
+    pub fn with_room(alloc: Global, room: usize) -> Option<Replies>
+        ensures { IfSome result (λ book. (replies_in book ≡ []) × (vec_capacity book.kept ≡ room)) }
+    {
         let kept = Vec::with_capacity(alloc, room).ok()?;
         Some(Replies { kept })
     }
@@ -49,8 +52,10 @@ impl Replies {
         self.kept.as_slice()
     }
 
-    /// Keeps the replies of one more connection.
-    fn keep(&mut self, replies: Vec<u8>) {
+    /// Keeps the replies of one more connection, if there is room.
+    fn keep(&mut self, replies: Vec<u8>)
+        ensures { KeepsMore self.old replies.items self.new }
+    {
         if self.kept.len() < self.kept.capacity() {
             self.kept.push_reserved(replies);
         }
