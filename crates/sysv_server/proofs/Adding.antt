@@ -1,5 +1,5 @@
 -- Sums of sums.
-use Rattle.std.proofs.Common.{◌≡◌, ◌∙◌, ℕ, ◌+◌, ◌≤◌, ◌<◌, List, [], ◌∷◌, ◌++◌, map, Option, ap, refl, sym, arith}
+use Rattle.std.proofs.Common.{◌≡◌, ◌∙◌, ℕ, ◌+◌, ◌≤◌, ◌<◌, List, [], ◌∷◌, ◌++◌, map, length, Option, ap, refl, sym, arith}
 use Rattle.std.specs.Prelude.{◌^◌, ◌-◌}
 use Rattle.std.specs.List.{sum_by}
 use Rattle.std.proofs.lemmas.List.{map-append}
@@ -126,6 +126,14 @@ sum_by_map f g (x ∷ xs) =
 -- One number more was taken from the end of a list, and added.
 pub counting_one : (n x r : ℕ) → capped (capped (n + x) + r) ≡ capped (n + (r + x))
 counting_one n x r = omega arith
+
+-- None is left, so what was added is the sum of all.
+pub all_counted : (n rest all : ℕ) → n ≤ 2 ^ 64 - 1 → rest ≡ 0 → capped (n + rest) ≡ capped all → n ≡ capped all
+all_counted n rest all small none is = omega arith
+
+pub emptied : {A : Type 0} (xs : List A) → length xs ≡ 0 → xs ≡ []
+emptied [] none = refl
+emptied (x ∷ xs) none = absurd (omega arith)
 
 sums_up : (w l t w' l' : ℕ) → t ≡ w' + l' → (w + l) + t ≡ (w + w') + (l + l')
 sums_up w l t w' l' h = omega arith

@@ -46,6 +46,8 @@ pub fn serve_connections<T: Connection + Drop + Send, S: Source<T>, R: Threads +
     blocks: u32,
 ) -> Result<Ended, ServeFault>
 where
+    T::Input: Send,
+    T::Output: Send,
     T::Book: Send,
     requires blocks { (MIN_BLOCKS ≤ blocks) × (blocks ≤ MAX_BLOCKS) }
     requires workers { (1 ≤ vec_len books.old) × (vec_len books.old ≤ MAX_CROWD) }
@@ -84,6 +86,8 @@ fn serve_with<T: Connection + Drop + Send, S: Source<T>, R: Threads + Wait + Syn
     books: &mut Vec<T::Book>,
 ) -> Result<(Sums, u64), ServeFault>
 where
+    T::Input: Send,
+    T::Output: Send,
     T::Book: Send,
     requires pass { AreOf service.now pass.old.seats }
     requires count { (1 ≤ vec_len books.old) × (vec_len books.old ≤ MAX_CROWD) }

@@ -3,7 +3,8 @@ ghost use Rattle.std.specs.Prelude.{◌≡◌, ⊤, IfSome, IfNone};
 ghost use Rattle.sysv_shared.specs.Seats.{AreOf};
 ghost use Rattle.sysv_server.specs.Asked.{ServesPass};
 ghost use Rattle.sysv_server.specs.Added.{nothing};
-ghost use Rattle.sysv_server.specs.Handled.{Holds};
+ghost use Rattle.sysv_server.specs.Handled.{Holds, one_refused};
+ghost use Rattle.sysv_server.specs.Talks.{tally_of};
 
 use crate::connection::Connection;
 use crate::kernel::ServiceKernel;
@@ -105,14 +106,29 @@ impl<'a, R: Wait, T: Connection> Job<Worker<'a, R, T::Book>, T> for Sessions<'a,
             texts,
             book,
         } = worker;
-        let tally = match hold(self.alloc, kernel, texts, connection, book) {
-            Some(served) => served.tally,
-            None => {
-                *refused = refused.saturating_add(1);
-                Tally::open()
-            }
-        };
-        sums.add(Sums::of(&tally));
+        let told = hold(self.alloc, kernel, texts, connection, book);
+        *refused = refused.saturating_add(refusals(&told));
+        sums.add(Sums::of(&tally(&told)));
+    }
+}
+
+/// Returns the tally of a session, which is empty if its memory was refused.
+fn tally(told: &Option<Served>) -> Tally
+    ensures { result ≡ tally_of told.now }
+{
+    match told {
+        Some(served) => served.tally,
+        None => Tally::open(),
+    }
+}
+
+/// Returns 1 if the memory of the session was refused, and else 0.
+fn refusals(told: &Option<Served>) -> u64
+    ensures { result ≡ one_refused told.now }
+{
+    match told {
+        Some(_) => 0,
+        None => 1,
     }
 }
 

@@ -1,5 +1,5 @@
 -- The last worker's pass is one of the service, its sums are added, and its book is put back.
-use Rattle.std.proofs.Common.{◌≡◌, ◌∙◌, ℕ, ◌+◌, ◌∷◌, [], ◌++◌, map, reverse, ap, arith, sym, subst}
+use Rattle.std.proofs.Common.{◌≡◌, ◌∙◌, ℕ, ◌+◌, ◌∷◌, [], ◌++◌, map, reverse, ap, arith, length, sym, subst}
 use Rattle.std.proofs.lemmas.List.{map-append, reverse-append}
 use Rattle.std.proofs.lemmas.List.Sums.{sum_by_push}
 use Rattle.std.specs.List.{FoldsTo, sum_by}
@@ -9,7 +9,7 @@ use Rattle.sysv_service.specs.Ran.{Pass}
 use Rattle.sysv_server.specs.declared.session.Worker.{Worker}
 use Rattle.sysv_server.specs.declared.sums.Sums.{Sums}
 use Rattle.sysv_server.specs.Added.{added, capped}
-use Rattle.sysv_server.proofs.Adding.{adding_one, counting_one}
+use Rattle.sysv_server.proofs.Adding.{adding_one, all_counted, counting_one, emptied}
 use Rattle.sysv_server.proofs.Shifts.{but_last, reverse_last, the_last, unpopped}
 use Rattle.sysv_server.proofs.crew.dismiss.Goals as goal
 
@@ -54,6 +54,7 @@ loop-worker-preserved g c =
           ∙ (ap (λ n. capped (c.loop-worker.refused + n))
           (sym (ap (sum_by missed) is ∙ sum_by_push missed c.pop.new.self.items c.in-Some.worker))
           ∙ c.loop-worker.invariant.refused));
+      small = let is = c.saturating_add-refused.ensures in omega arith;
       books = ap (λ l. l ++ rest) c.push_reserved.ensures.items
           ∙ (unpopped c.loop-worker.books.items c.into_parts-theirs.result.3 rest
           ∙ (ap (λ b. c.loop-worker.books.items ++ b ∷ rest) c.into_parts-theirs.ensures.book
@@ -62,3 +63,13 @@ loop-worker-preserved g c =
           let same = c.push_reserved.ensures.capacity in let less = c.in-Some.ensures.cases in
           omega arith;
     }
+
+pub returns-clause-refused : goal.returns-clause-refused
+returns-clause-refused g c =
+    let missed : Worker g.row.R.Denot g.row.B.Denot → ℕ = λ w. w.refused in
+    let len = c.in_default.ensures.cases.0 in
+    let ok = c.loop-worker.workers.ok in
+    let none : length c.loop-worker.workers.items ≡ 0 = omega arith in
+    let empty = ap (sum_by missed) (emptied c.loop-worker.workers.items none) in
+    all_counted c.loop-worker.refused (sum_by missed c.loop-worker.workers.items)
+    (sum_by missed c.args.workers.items) c.loop-worker.invariant.small empty c.loop-worker.invariant.refused

@@ -1,4 +1,5 @@
 use Rattle.std.proofs.Common.{◌≡◌, ◌≤◌, ◌+◌, ◌++◌, map, reverse, vec_len, vec_capacity}
+use Rattle.std.specs.Prelude.{◌^◌, ◌-◌}
 use Rattle.std.specs.List.{All, FoldsTo, sum_by}
 use Rattle.sysv_shared.specs.Seats.{AreOf}
 use Rattle.sysv_service.specs.Hiring.{TakesIn}
@@ -16,6 +17,7 @@ invariant-loop-worker g l = record {
   sums : Adding (map (λ w. w.sums) l.fn.workers.items) l.sums (map (λ w. w.sums) l.workers.items);
   refused : capped (l.refused + sum_by (λ w. w.refused) l.workers.items)
       ≡ capped (sum_by (λ w. w.refused) l.fn.workers.items);
+  small : l.refused ≤ 2 ^ 64 - 1;
   takes : (home : Pass) → FoldsTo TakesIn l.pass (reverse (map (λ w. w.kernel.pass) l.workers.items)) home →
       FoldsTo TakesIn l.fn.pass (reverse (map (λ w. w.kernel.pass) l.fn.workers.items)) home;
   books : l.books.items ++ reverse (map (λ w. w.book) l.workers.items)

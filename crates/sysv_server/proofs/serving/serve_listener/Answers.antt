@@ -1,10 +1,26 @@
 -- No more connections are accepted than the maximum, and no fewer unless something else ends the
 -- accepting.
-use Rattle.std.proofs.Common.{ap, sym, arith}
+use Rattle.std.proofs.Common.{◌≡◌, length, ap, sym, arith}
 use Rattle.std.specs.Prelude.{is_some}
 use Rattle.sysv_server.specs.Accepts.{is_closed}
-use Rattle.sysv_server.proofs.Accepted.{ends_on, ends_exactly}
+use Rattle.sysv_server.proofs.Accepted.{ends_exactly, ends_on}
 use Rattle.sysv_server.proofs.serving.serve_listener.Goals as goal
 
 pub returns-clause-ok : goal.returns-clause-ok
-returns-clause-ok g c = ?
+returns-clause-ok g c =
+    let ok = c.in-Some.books.ok in
+    let many = c.in-Some.ensures in
+    let counted : length c.in-Some.books.items ≡ c.args.terms.at_once = omega arith in
+    ends_on _ _ _ c.new-source.result c.serve_connections-outcome.new.source c.in-Some.books.items
+    c.serve_connections-outcome.new.books.items c.serve_connections-outcome.result c.new-source.ensures.begun.1
+    c.new-source.ensures.begun.0
+    (let same = c.new-source.ensures.begun.0 in let fits = c.new-source.ensures.range in omega arith)
+    counted c.serve_connections-outcome.ensures.ok
+
+pub returns-clause-exact : goal.returns-clause-exact
+returns-clause-exact g c =
+    ends_exactly _ _ c.new-source.result c.serve_connections-outcome.new.source c.in-Some.books.items c.serve_connections-outcome.new.books.items
+    c.serve_connections-outcome.result _ _ c.new-source.ensures.begun.1 c.new-source.ensures.begun.0
+    (let same = c.new-source.ensures.begun.0 in let fits = c.new-source.ensures.range in omega arith)
+    (ap is_closed c.new-source.ensures.given.0)
+    (ap is_some c.new-source.ensures.given.1) (sym (ap is_some c.into_fault.ensures)) c.serve_connections-outcome.ensures.ok
