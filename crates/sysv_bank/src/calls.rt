@@ -148,8 +148,8 @@ impl<O: Object> Bank<O> {
         self.doors[place].await_count(rt, &self.hall, &mut seat.token, count, goal)
     }
 
-    /// Waits for a count at `place`, but sleeps only once, and for a second at most, like
-    /// `Gate::arrived_within` for the first count and `Gate::freed_within` for the second.
+    /// Waits for a count at `place`, but sleeps only once, and for a quarter of a second at most,
+    /// like `Gate::arrived_within` for the first count and `Gate::freed_within` for the second.
     ///
     /// # Conditions
     ///

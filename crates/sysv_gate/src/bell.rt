@@ -5,15 +5,15 @@ use std::sync::atomic::AtomicU64;
 use std::sync::atomic::Ordering::SeqCst;
 use std::time::Duration;
 
-/// The longest time, in seconds, that a bounded sleep lasts.
-const LONGEST_NAP: u64 = 1;
+/// The longest time, in milliseconds, that a bounded sleep lasts.
+const LONGEST_NAP: u64 = 250;
 
 /// How long a thread sleeps if no other thread wakes it.
 #[derive(Clone, Copy)]
 pub(crate) enum Sleep {
     /// Until the bell is rung.
     UntilRung,
-    /// At most `LONGEST_NAP` seconds.
+    /// At most `LONGEST_NAP` milliseconds.
     Bounded,
 }
 
@@ -58,7 +58,7 @@ impl Bell {
             Sleep::UntilRung => self.rung.park(rt, expected),
             Sleep::Bounded => {
                 self.rung
-                    .park_timeout(rt, expected, Duration::from_secs(LONGEST_NAP));
+                    .park_timeout(rt, expected, Duration::from_millis(LONGEST_NAP));
             }
         }
     }

@@ -73,8 +73,8 @@ impl<O: Object> Gate<O> {
         self.await_count(rt, seat, Count::Freed, goal)
     }
 
-    /// Waits for the first count like `await_arrived`, but sleeps only once, and for a second at
-    /// most. Returns `None` only if the count that was read last is below `goal`.
+    /// Waits for the first count like `await_arrived`, but sleeps only once, and for a quarter of a
+    /// second at most. Returns `None` only if the count that was read last is below `goal`.
     ///
     /// A rise wakes only one of the threads that sleep in this wait. A thread that was woken here
     /// and does not use what arrived should call `pass_on`.
@@ -124,7 +124,8 @@ impl<O: Object> Gate<O> {
             .await_count(rt, &self.hall, &mut seat.token, count, goal)
     }
 
-    /// Waits until the count is at least the goal, but sleeps only once, and for a second at most.
+    /// Waits until the count is at least the goal, but sleeps only once, and for a quarter of a
+    /// second at most.
     fn await_within(
         &self,
         rt: &impl Wait,

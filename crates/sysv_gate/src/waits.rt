@@ -157,8 +157,8 @@ impl<O: Object> Door<O> {
         unreachable!()
     }
 
-    /// Waits until the count is at least `goal`, but sleeps only once, and for a second at most.
-    /// Returns `None` only if the count that was read last is below `goal`.
+    /// Waits until the count is at least `goal`, but sleeps only once, and for a quarter of a second
+    /// at most. Returns `None` only if the count that was read last is below `goal`.
     ///
     /// # Conditions
     ///

@@ -10,7 +10,7 @@ use Rattle.sysv_steps.specs.State.{State, Waits, Over}
 use Rattle.std.specs.List.{AllByRecursion}
 use Rattle.sysv_thread_laws.specs.AtRest.{Rests}
 use Rattle.sysv_thread_laws.specs.Order.{Called}
-use Rattle.sysv_session.specs.declared.kernel.Outcome.{Outcome}
+use Rattle.sysv_session.specs.declared.kernel.RequestOutcome.{RequestOutcome}
 use Rattle.sysv_session.specs.Calls.{Call, Leads}
 use Rattle.sysv_wire.specs.declared.frame.Version.{Version}
 use Rattle.sysv_wire.specs.declared.request.Ask.{Ask}
@@ -44,7 +44,8 @@ one_call may any cred asked released start mid made deeds state new ran works =
 module _ (may : ℕ → Type 0) (may_leave : Type 0) (any : EachRunIsAtAnyMoment may)
     (unstamped : EachRunIsAtAnyMoment no_moment) (version : Version) (cred : Cred) where
   -- The calls that a request makes, whatever calls were made before.
-  record Makes (ask : Ask) (text : List ℕ) (old : Pass) (outcome : Outcome) (given : List ℕ) (new : Pass) : Type 0 where
+  record Makes (ask : Ask) (text : List ℕ) (old : Pass) (outcome : RequestOutcome) (given : List ℕ)
+      (new : Pass) : Type 0 where
     calls : List Called
     rests : AllByRecursion Resting calls
     works : (start : Pass) (made : List Called) → Works start made old → Works start (made ++ calls) new
@@ -56,7 +57,7 @@ module _ (may : ℕ → Type 0) (may_leave : Type 0) (any : EachRunIsAtAnyMoment
   abbrev only : Pass → SystemCall → ℕ → List Deed → State → List Called
   only pass asked released deeds state = call_of pass cred asked released deeds state ∷ []
 
-  makes : (ask : Ask) (text : List ℕ) (old : Pass) (outcome : Outcome) (given : List ℕ) (new : Pass) →
+  makes : (ask : Ask) (text : List ℕ) (old : Pass) (outcome : RequestOutcome) (given : List ℕ) (new : Pass) →
       Asks may may_leave version cred ask text old outcome given new → Makes ask text old outcome given new
   makes (Hello other) text old outcome given new asked = absurd asked
   makes (Get key flags) text old outcome given new asked =
@@ -217,6 +218,7 @@ module _ (may : ℕ → Type 0) (may_leave : Type 0) (any : EachRunIsAtAnyMoment
           unread = talks.unread;
           reads = talks.reads;
           ends = talks.ends;
+          replies = talks.replies;
           writes = talks.writes;
           tallies = talks.tallies;
           counts = talks.counts;

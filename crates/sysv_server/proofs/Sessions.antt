@@ -62,6 +62,7 @@ module _ {K S C L : Type 0} (service : K → S) (clock : K → C) (pass : K → 
                 unread = talks.unread;
                 reads = talks.reads;
                 ends = talks.ends;
+                replies = talks.replies;
                 writes = talks.writes;
                 tallies = talks.tallies;
                 counts = talks.counts;

@@ -6,7 +6,7 @@ use Rattle.sysv_model.specs.declared.attributes.SetTo.{SetTo}
 use Rattle.sysv_model.specs.declared.cred.Cred.{Cred}
 use Rattle.sysv_model.specs.declared.flags.Flags.{Flags}
 use Rattle.sysv_shared.specs.Reading.{Reads}
-use Rattle.sysv_session.specs.declared.kernel.Outcome.{Outcome}
+use Rattle.sysv_session.specs.declared.kernel.RequestOutcome.{RequestOutcome}
 use Rattle.sysv_session.specs.declared.served.Served.{Served}
 use Rattle.sysv_session.specs.Calls.{Meaning}
 use Rattle.sysv_session.specs.Session.{Serves}
@@ -28,36 +28,37 @@ abbrev pub ReadsReleased : ℕ → Pass → Pass → Type 0
 ReadsReleased released before after = Reads Released released before.seats after.seats × (after.held ≡ before.held)
 
 -- A `msgget` with the pass.
-abbrev pub Gets : (ℕ → Type 0) → Version → Cred → ℤ → Flags → Pass → Outcome → Pass → Type 0
+abbrev pub Gets : (ℕ → Type 0) → Version → Cred → ℤ → Flags → Pass → RequestOutcome → Pass → Type 0
 Gets = requests.Gets ComesFrom ReadsReleased TellsRow
 
 -- A `msgsnd` with the pass.
-abbrev pub Sends : (ℕ → Type 0) → Type 0 → Version → Cred → ℤ → ℤ → Flags → List ℕ → Pass → Outcome → Pass → Type 0
+abbrev pub Sends : (ℕ → Type 0) → Type 0 → Version → Cred → ℤ → ℤ → Flags → List ℕ → Pass → RequestOutcome → Pass →
+    Type 0
 Sends = requests.Sends ComesFrom ReadsReleased TellsRow
 
 -- A `msgrcv` with the pass.
-abbrev pub Receives : (ℕ → Type 0) → Type 0 → Version → Cred → ℤ → ℕ → ℤ → Flags → Pass → Outcome → List ℕ → Pass →
-    Type 0
+abbrev pub Receives : (ℕ → Type 0) → Type 0 → Version → Cred → ℤ → ℕ → ℤ → Flags → Pass → RequestOutcome → List ℕ →
+    Pass → Type 0
 Receives = requests.Receives ComesFrom ReadsReleased TellsRow
 
 -- A `msgctl` with `IPC_STAT`, with the pass.
-abbrev pub Stats : Version → Cred → ℤ → Pass → Outcome → Pass → Type 0
+abbrev pub Stats : Version → Cred → ℤ → Pass → RequestOutcome → Pass → Type 0
 Stats = requests.Stats ComesFrom ReadsReleased TellsRow
 
 -- A `msgctl` with `IPC_SET`, with the pass.
-abbrev pub Sets : (ℕ → Type 0) → Version → Cred → ℤ → SetTo → Pass → Outcome → Pass → Type 0
+abbrev pub Sets : (ℕ → Type 0) → Version → Cred → ℤ → SetTo → Pass → RequestOutcome → Pass → Type 0
 Sets = requests.Sets ComesFrom ReadsReleased TellsRow
 
 -- A `msgctl` with `IPC_RMID`, with the pass.
-abbrev pub Removes : Version → Cred → ℤ → Pass → Outcome → Pass → Type 0
+abbrev pub Removes : Version → Cred → ℤ → Pass → RequestOutcome → Pass → Type 0
 Removes = requests.Removes ComesFrom ReadsReleased TellsRow
 
 -- A request for a row, with the pass.
-abbrev pub Shows : Version → ℕ → Pass → Outcome → Pass → Type 0
+abbrev pub Shows : Version → ℕ → Pass → RequestOutcome → Pass → Type 0
 Shows = requests.Shows ComesFrom ReadsReleased TellsRow
 
 -- Request by request, for the pass.
-abbrev pub Asks : (ℕ → Type 0) → Type 0 → Version → Cred → Ask → List ℕ → Pass → Outcome → List ℕ → Pass → Type 0
+abbrev pub Asks : (ℕ → Type 0) → Type 0 → Version → Cred → Ask → List ℕ → Pass → RequestOutcome → List ℕ → Pass → Type 0
 Asks = requests.Asks ComesFrom ReadsReleased TellsRow
 
 -- What the calls of a session mean for the pass.

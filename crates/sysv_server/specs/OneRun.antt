@@ -18,9 +18,9 @@ use Rattle.sysv_service.specs.Ran.{Pass}
 use Rattle.sysv_service.specs.Stopped.{Stops, TellsStop}
 use Rattle.sysv_server.specs.Handled.{Shift, first_passes, last_passes, AreMadeBy}
 
--- The calls of the sessions, each answered as it ended or was left, and the removals of the stop,
--- which removed this number of queues, are all the calls that made the order of turns. The order is
--- a run of a world with these calls, and the run obeys the headline of threads.
+-- The calls of the sessions, each answered as it ended or left without a reply, and the removals of
+-- the stop, which removed this number of queues, are all the calls that made the order of turns. The
+-- order is a run of a world with these calls, and the run obeys the headline of threads.
 pub record IsOneRun (blocks : ℕ) (shifts : List Shift) (removed : ℕ) (order : List Numbered) : Type 0 where
   pub each : List (List Called)
   pub made : Each2 AreMadeBy shifts each

@@ -5,8 +5,8 @@ use Rattle.sysv_model.specs.declared.attributes.Stat.{Stat as Attributes}
 use Rattle.sysv_model.specs.declared.errno.Errno.{Errno}
 use Rattle.sysv_model.specs.Live.{low_nine}
 use Rattle.sysv_queue.specs.Delivery.{Given}
-use Rattle.sysv_session.specs.declared.kernel.Outcome.{Outcome}
-use Rattle.sysv_session.specs.declared.kernel.Outcome.TheVariants.{Reply, Got}
+use Rattle.sysv_session.specs.declared.kernel.RequestOutcome.{RequestOutcome}
+use Rattle.sysv_session.specs.declared.kernel.RequestOutcome.TheVariants.{Reply, Got}
 use Rattle.sysv_wire.specs.declared.frame.Op.{Op}
 use Rattle.sysv_wire.specs.declared.frame.Op.TheVariants as op
 use Rattle.sysv_wire.specs.declared.frame.Version.{Version}
@@ -15,21 +15,21 @@ use Rattle.sysv_wire.specs.declared.reply.ReplyContent.TheVariants as content
 use Rattle.sysv_wire.specs.Frames.{op_number}
 
 -- The reply of an operation, in the version of its request.
-abbrev pub reply : Version → Op → ReplyContent → Outcome
+abbrev pub reply : Version → Op → ReplyContent → RequestOutcome
 reply version o answer = Reply (record { version = version; op = op_number o; result = answer })
 
 -- The reply with an identifier or an error.
-abbrev pub id_reply : Version → Result ℤ Errno → Outcome
+abbrev pub id_reply : Version → Result ℤ Errno → RequestOutcome
 id_reply version (Ok id) = reply version op.Get (content.Get id)
 id_reply version (Err why) = reply version op.Get (content.Refused why)
 
 -- The reply that the operation was done, or the reply with an error.
-abbrev pub done_reply : Version → Op → ReplyContent → Result ⊤ Errno → Outcome
+abbrev pub done_reply : Version → Op → ReplyContent → Result ⊤ Errno → RequestOutcome
 done_reply version o done (Ok zero) = reply version o done
 done_reply version o done (Err why) = reply version o (content.Refused why)
 
 -- The outcome of a receive: its message is passed on, and an error is a reply.
-abbrev pub given_reply : Version → Result Given Errno → Outcome
+abbrev pub given_reply : Version → Result Given Errno → RequestOutcome
 given_reply version (Ok delivery) = Got delivery
 given_reply version (Err why) = reply version op.Rcv (content.Refused why)
 
@@ -38,7 +38,7 @@ abbrev pub shown_stat : Attributes → Attributes
 shown_stat stat = record stat { perm = record stat.perm { mode = low_nine stat.perm.mode } }
 
 -- The reply with attributes or an error.
-abbrev pub stat_reply : Version → Result Attributes Errno → Outcome
+abbrev pub stat_reply : Version → Result Attributes Errno → RequestOutcome
 stat_reply version (Ok stat) = reply version op.Stat (content.Stat (shown_stat stat))
 stat_reply version (Err why) = reply version op.Stat (content.Refused why)
 
@@ -47,6 +47,6 @@ abbrev pub shown_row : Line → Line
 shown_row row = record row { mode = low_nine row.mode }
 
 -- The reply with a row, with the report that the slot has no queue, or with an error.
-abbrev pub row_reply : Version → Result (Option Line) Errno → Outcome
+abbrev pub row_reply : Version → Result (Option Line) Errno → RequestOutcome
 row_reply version (Ok row) = reply version op.Row (content.Row (option_map shown_row row))
 row_reply version (Err why) = reply version op.Row (content.Refused why)

@@ -11,9 +11,9 @@ use std::alloc::Global;
 use std::io::{Read, Write};
 use std::sync::Wait;
 use sysv_keys::SLOTS;
-use sysv_model::{Body, Cred, Errno, Flags, Row, SetTo, Stat};
+use sysv_model::{Body, Cred, Flags, Row, SetTo, Stat};
 use sysv_service::{Caller, Clock, Pass, Service, Stays};
-use sysv_session::{End, Kernel, Outcome, Served, Texts, serve, serve_with};
+use sysv_session::{End, Kernel, RequestOutcome, Served, Texts, serve, serve_with};
 use sysv_wire::{Ask, MAX_MODE, Op, Reply, ReplyContent, Request, Version};
 
 /// The kernel of one session over a service. Each request, except one for a row, is one call of the
@@ -50,8 +50,8 @@ impl<'a, C: Clock, R: Wait> ServiceKernel<'a, C, R, Stays> {
 impl<'a, C: Clock, R: Wait, K: Caller + Copy> ServiceKernel<'a, C, R, K> {
     /// Creates a kernel that calls `service` with `pass`, for a caller that may leave.
     ///
-    /// A call that the caller leaves while it waits takes no message and sends none. Its reply,
-    /// which nobody reads, is the reply of `IPC_NOWAIT`.
+    /// A call that the caller leaves while it waits takes no message and sends none. It has no
+    /// reply, and the session ends.
     ///
     /// # Conditions
     ///
@@ -152,7 +152,7 @@ impl<'a, C: Clock, R: Wait, K: Caller + Copy> ServiceKernel<'a, C, R, K> {
     }
 
     /// Makes a `msgget`, and returns the reply with its result.
-    fn get(&mut self, version: Version, cred: Cred, key: i32, flags: Flags) -> Outcome
+    fn get(&mut self, version: Version, cred: Cred, key: i32, flags: Flags) -> RequestOutcome
         ensures gets { Gets (C.may self.old.clock.now) version cred key flags self.old.pass result
             self.new.pass }
         ensures answer { MayAnswer version (Ask.Get key flags) result [] }
@@ -169,8 +169,8 @@ impl<'a, C: Clock, R: Wait, K: Caller + Copy> ServiceKernel<'a, C, R, K> {
         }
     }
 
-    /// Makes a `msgsnd` of the body, and returns the reply with its result. A call that was left
-    /// has the reply `EAGAIN`.
+    /// Makes a `msgsnd` of the body, and returns the reply with its result, or `Left` if the caller
+    /// left it.
     fn send(
         &mut self,
         version: Version,
@@ -179,7 +179,7 @@ impl<'a, C: Clock, R: Wait, K: Caller + Copy> ServiceKernel<'a, C, R, K> {
         mtype: i64,
         flags: Flags,
         text: &Body,
-    ) -> Outcome
+    ) -> RequestOutcome
         ensures sends { Sends (C.may self.old.clock.now)
             (K.may_leave self.old.caller) version cred id mtype flags text.now self.old.pass result
             self.new.pass }
@@ -193,7 +193,7 @@ impl<'a, C: Clock, R: Wait, K: Caller + Copy> ServiceKernel<'a, C, R, K> {
             self.rt, pass, self.clock, caller, cred, id, mtype, text, flags,
         );
         let Some(told) = told else {
-            return reply(version, Op::Snd, ReplyContent::Refused(Errno::EAGAIN));
+            return RequestOutcome::Left;
         };
         match told {
             Ok(()) => reply(version, Op::Snd, ReplyContent::Snd),
@@ -201,8 +201,8 @@ impl<'a, C: Clock, R: Wait, K: Caller + Copy> ServiceKernel<'a, C, R, K> {
         }
     }
 
-    /// Makes a `msgrcv` into `given`, and returns its message or the reply with its error. A call
-    /// that was left has the reply `ENOMSG`.
+    /// Makes a `msgrcv` into `given`, and returns its message or the reply with its error, or
+    /// `Left` if the caller left it.
     fn receive(
         &mut self,
         version: Version,
@@ -212,7 +212,7 @@ impl<'a, C: Clock, R: Wait, K: Caller + Copy> ServiceKernel<'a, C, R, K> {
         mtype: i64,
         flags: Flags,
         given: &mut Body,
-    ) -> Outcome
+    ) -> RequestOutcome
         ensures receives { Receives (C.may self.old.clock.now)
             (K.may_leave self.old.caller) version cred id size mtype flags self.old.pass result
             given.new self.new.pass }
@@ -226,16 +226,16 @@ impl<'a, C: Clock, R: Wait, K: Caller + Copy> ServiceKernel<'a, C, R, K> {
             self.rt, pass, self.clock, caller, cred, id, given, size, mtype, flags,
         );
         let Some(told) = told else {
-            return reply(version, Op::Rcv, ReplyContent::Refused(Errno::ENOMSG));
+            return RequestOutcome::Left;
         };
         match told {
-            Ok(delivery) => Outcome::Got(delivery),
+            Ok(delivery) => RequestOutcome::Got(delivery),
             Err(why) => reply(version, Op::Rcv, ReplyContent::Refused(why)),
         }
     }
 
     /// Makes a `msgctl` with `IPC_STAT`, and returns the reply with its result.
-    fn stat(&mut self, version: Version, cred: Cred, id: i32) -> Outcome
+    fn stat(&mut self, version: Version, cred: Cred, id: i32) -> RequestOutcome
         ensures stats { Stats version cred id self.old.pass result self.new.pass }
         ensures answer { MayAnswer version (Ask.Stat id) result [] }
         ensures service { self.new.service ≡ self.old.service }
@@ -250,7 +250,7 @@ impl<'a, C: Clock, R: Wait, K: Caller + Copy> ServiceKernel<'a, C, R, K> {
     }
 
     /// Makes a `msgctl` with `IPC_SET`, and returns the reply with its result.
-    fn set(&mut self, version: Version, cred: Cred, id: i32, to: SetTo) -> Outcome
+    fn set(&mut self, version: Version, cred: Cred, id: i32, to: SetTo) -> RequestOutcome
         ensures sets { Sets (C.may self.old.clock.now) version cred id to self.old.pass result
             self.new.pass }
         ensures answer { MayAnswer version (Ask.Set id to) result [] }
@@ -268,7 +268,7 @@ impl<'a, C: Clock, R: Wait, K: Caller + Copy> ServiceKernel<'a, C, R, K> {
     }
 
     /// Makes a `msgctl` with `IPC_RMID`, and returns the reply with its result.
-    fn remove(&mut self, version: Version, cred: Cred, id: i32) -> Outcome
+    fn remove(&mut self, version: Version, cred: Cred, id: i32) -> RequestOutcome
         ensures removes { Removes version cred id self.old.pass result self.new.pass }
         ensures answer { MayAnswer version (Ask.Rm id) result [] }
         ensures service { self.new.service ≡ self.old.service }
@@ -283,7 +283,7 @@ impl<'a, C: Clock, R: Wait, K: Caller + Copy> ServiceKernel<'a, C, R, K> {
     }
 
     /// Reads the row of a slot, and returns the reply with the result.
-    fn row(&mut self, version: Version, slot: u32) -> Outcome
+    fn row(&mut self, version: Version, slot: u32) -> RequestOutcome
         ensures shows { Shows version slot self.old.pass result self.new.pass }
         ensures answer { MayAnswer version (Ask.Row slot) result [] }
         ensures service { self.new.service ≡ self.old.service }
@@ -316,7 +316,13 @@ impl<C: Clock, R: Wait, K: Caller + Copy> Kernel for ServiceKernel<'_, C, R, K> 
         SLOTS as u32
     }
 
-    fn call(&mut self, cred: Cred, request: &Request, text: &Body, given: &mut Body) -> Outcome {
+    fn call(
+        &mut self,
+        cred: Cred,
+        request: &Request,
+        text: &Body,
+        given: &mut Body,
+    ) -> RequestOutcome {
         let version = request.version;
         match request.ask {
             Ask::Hello(_) => unreachable!(),
@@ -337,10 +343,10 @@ impl<C: Clock, R: Wait, K: Caller + Copy> Kernel for ServiceKernel<'_, C, R, K> 
 }
 
 /// Returns the reply of an operation, in the version of its request.
-fn reply(version: Version, op: Op, content: ReplyContent) -> Outcome
+fn reply(version: Version, op: Op, content: ReplyContent) -> RequestOutcome
     ensures { result ≡ the_reply version op content }
 {
-    Outcome::Reply(Reply {
+    RequestOutcome::Reply(Reply {
         version,
         op: op.number(),
         result: content,

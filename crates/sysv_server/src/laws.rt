@@ -9,8 +9,8 @@ use sysv_service::{Caller, Clock, every_hiring_obeys, every_pool_is_whole, every
 /// States which calls of a service a session makes.
 ///
 /// It makes one call for each request, except for a request for a row, which is no call. Each
-/// request is answered as its call ended or was left. The session makes no other call with its
-/// pass.
+/// request is answered as its call ended, or its call was left and has no reply. The session makes
+/// no other call with its pass.
 pub fn each_session_makes_calls<C: Clock, K: Caller>(clock: &C, caller: &K)
     ensures { EachSessionMakesCalls (C.may clock.now) (K.may_leave caller.now) }
 {
@@ -19,10 +19,10 @@ pub fn each_session_makes_calls<C: Clock, K: Caller>(clock: &C, caller: &K)
 
 /// States that the sessions of a server are one run of its service if no gate was found worn out.
 ///
-/// The calls of all sessions, each answered as it ended or was left, and the removals of the stop
-/// are all the calls that made the order of turns of the service. That order is a run of a world
-/// with those calls, and the run obeys the headline of threads. The pool has all its blocks after
-/// the close. No gate is held then, also if one was found worn out.
+/// The calls of all sessions, each answered as it ended or left without a reply, and the removals
+/// of the stop are all the calls that made the order of turns of the service. That order is a run
+/// of a world with those calls, and the run obeys the headline of threads. The pool has all its
+/// blocks after the close. No gate is held then, also if one was found worn out.
 pub fn each_life_is_one_run()
     ensures run { EachLifeIsOneRun }
     ensures whole { EachLifeLeavesThePoolWhole }

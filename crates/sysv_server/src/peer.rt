@@ -1,6 +1,6 @@
 //! The client at the other end of a connection.
 
-use libc::net::{POLLERR, POLLHUP, poll};
+use libc::net::{POLLERR, POLLHUP, POLLRDHUP, poll};
 use libc::types::pollfd;
 use std::os::fd::AsRawFd;
 use std::os::unix::net::UnixStream;
@@ -36,16 +36,16 @@ impl Caller for Peer {
 
     ghost may_leave = { λ _. ⊤ };
 
-    /// Returns whether the client has closed the connection.
+    /// Returns whether the client has shut down its writing or closed the connection.
     ///
-    /// A client that has shut down only its writing may still read a reply, so it has not left:
-    /// `poll` then reports neither `POLLHUP` nor `POLLERR`.
+    /// Bytes that it sent before are no reason to stay: they come after the request of the call
+    /// that waits, and the session ends with that call.
     fn has_left(&self) -> bool {
         let mut asked = [pollfd {
             fd: self.fd,
-            events: 0,
+            events: POLLRDHUP,
             revents: 0,
         }];
-        poll(&mut asked, 0) > 0 && asked[0].revents & (POLLHUP | POLLERR) != 0
+        poll(&mut asked, 0) > 0 && asked[0].revents & (POLLRDHUP | POLLHUP | POLLERR) != 0
     }
 }

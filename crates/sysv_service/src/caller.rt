@@ -7,7 +7,7 @@ pub trait Caller {
     /// Whether the caller may have left.
     ghost may_leave: { Self → Type 0 };
 
-    /// Returns whether the caller has left, so that the result of the call would reach no one.
+    /// Returns whether the caller has left, so that a call that waits is given up.
     fn has_left(&self) -> bool
         ensures { IsTrue result → may_leave self.now };
 }

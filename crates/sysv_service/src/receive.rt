@@ -81,8 +81,8 @@ impl Service {
     /// Like `msgrcv`, but for a caller that may leave. Returns `None` if the caller left while the
     /// call waited: no message is taken then, and `out` is empty.
     ///
-    /// The call checks whether the caller has left after each sleep of at most a second that does
-    /// not end the wait, and at the end of the wait, before its next turn.
+    /// The call checks whether the caller has left after each sleep of at most a quarter of a second
+    /// that does not end the wait, and at the end of the wait, before its next turn.
     ///
     /// # Errors
     ///

@@ -41,8 +41,8 @@ impl Pass {
 }
 
 impl Service {
-    /// Waits for a second at most. Returns the state of the call afterwards: it goes on, still
-    /// waits, or is over because a gate is worn out.
+    /// Waits for a quarter of a second at most. Returns the state of the call afterwards: it goes
+    /// on, still waits, or is over because a gate is worn out.
     pub(crate) fn wait_on(&self, rt: &impl MayWait, pass: &mut Pass, wait: Wait) -> State
         requires { AreOf self.now pass.old.seats }
         ensures pass { AreOf self.now pass.new.seats }
@@ -96,7 +96,8 @@ impl Service {
         }
     }
 
-    /// Waits, for a second at most, until the count of `wait` is above the value in `wait`.
+    /// Waits, for a quarter of a second at most, until the count of `wait` is above the value in
+    /// `wait`.
     fn await_within(&self, rt: &impl MayWait, pass: &mut Pass, wait: &Wait) -> Option<Awaited>
         requires { AreOf self.now pass.old.seats }
         ensures pass { AreOf self.now pass.new.seats }

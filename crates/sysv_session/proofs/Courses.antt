@@ -243,6 +243,7 @@ before oneA («end».Fault fault) input rest requests none ends course takes =
     no_bad oneA course fault input requests none takes (fault_at fault input rest ends)
 before oneA «end».Write input rest requests none ends course takes = absurd ends
 before oneA «end».Bound input rest requests none ends course takes = absurd ends
+before oneA «end».Left input rest requests none ends course takes = absurd ends
 
 -- All requests of the course were made if nothing more is read.
 told_none : (version : Version) (cred : Cred) (asked more : List Asked) (stop : Option Fault) (n requests : ℕ)
@@ -288,6 +289,7 @@ finishes oneA version cred asked more stop («end».Fault fault) n requests left
     (later_fault_at version fault left rest ends)
 finishes oneA version cred asked more stop «end».Write n requests left rest asks len counts ends = inr tt
 finishes oneA version cred asked more stop «end».Bound n requests left rest asks len counts ends = inr tt
+finishes oneA version cred asked more stop «end».Left n requests left rest asks len counts ends = inr tt
 
 -- A session with a hello.
 after : OneAnswerToRequests → OneRequest

@@ -6,7 +6,7 @@ use Rattle.std.specs.List.{concat}
 use Rattle.sysv_model.specs.declared.cred.Cred.{Cred}
 use Rattle.sysv_queue.specs.Tally.{Tallied, taken_in}
 use Rattle.sysv_session.specs.declared.served.End.{End}
-use Rattle.sysv_session.specs.declared.served.End.TheVariants.{Ended, NoMemory, NoHello, Fault, Write, Bound}
+use Rattle.sysv_session.specs.declared.served.End.TheVariants.{Ended, NoMemory, NoHello, Fault, Write, Bound, Left}
 use Rattle.sysv_wire.specs.declared.frame.Version.{Version}
 use Rattle.sysv_session.specs.Calls.{Meaning}
 use Rattle.sysv_session.specs.Input.{hello_spelling}
@@ -35,6 +35,8 @@ writes_after Write frame frames taken more most first second = (
 )
 writes_after Bound frame frames taken more most first second =
     Appends-trans taken more most frame (concat frames) first second
+writes_after Left frame frames taken more most first second =
+    Appends-trans taken more most frame (concat frames) first second
 
 module _ {K : Type 0} where
   -- A hello that was answered, and then calls.
@@ -53,6 +55,7 @@ module _ {K : Type 0} where
     unread = goes.unread;
     reads = Consumes-trans left mid goes.unread (hello_spelling version cred) _ hello.0.1 goes.reads;
     ends = goes.ends;
+    replies = goes.replies;
     writes = writes_after why (hello_frame version slots) (frames_of goes.calls) taken more most hello.1 goes.writes;
     tallies = goes.tallies;
     counts = goes.counts;
@@ -89,9 +92,11 @@ module _ {K : Type 0} where
     unread = rest;
     reads = subst (Consumes left rest) (sym (append-nil (hello_spelling hello.0 hello.1))) hello.2.1;
     ends = refl;
+    replies = tt;
     writes = ([], hello_frame hello.0 slots, taken, refl, Appends-nil taken, hello.3);
     tallies = (ap taken_in none, ap (λ (t : Tallied). t.written) none);
     counts = hello.2.2;
     bounded = tt;
   })
   not_greeted Means slots Bound k left rest taken more tally many none hello = absurd hello
+  not_greeted Means slots Left k left rest taken more tally many none hello = absurd hello

@@ -1,9 +1,9 @@
 -- The requests that a kernel may receive and the outcomes that it may return (this project's
 -- profile).
-use Rattle.std.specs.Prelude.{◌≡◌, ◌≢◌, ◌≤◌, ℕ, ℤ, Bool, true, false, List, length, cond}
+use Rattle.std.specs.Prelude.{◌≡◌, ◌≢◌, ◌≤◌, ⊤, ℕ, ℤ, Bool, true, false, List, [], length, cond}
 use Rattle.sysv_model.specs.declared.limits.TheConstants.{MESSAGE_BYTES}
-use Rattle.sysv_session.specs.declared.kernel.Outcome.{Outcome}
-use Rattle.sysv_session.specs.declared.kernel.Outcome.TheVariants.{Reply, Got}
+use Rattle.sysv_session.specs.declared.kernel.RequestOutcome.{RequestOutcome}
+use Rattle.sysv_session.specs.declared.kernel.RequestOutcome.TheVariants.{Reply, Got, Left}
 use Rattle.sysv_wire.specs.declared.frame.Op.TheVariants as op
 use Rattle.sysv_wire.specs.declared.frame.Version.{Version}
 use Rattle.sysv_wire.specs.declared.reply.ReplyContent.TheVariants.{Rcv}
@@ -25,32 +25,45 @@ IsAskedIn version request text = (request.version ≡ version) × IsAsked reques
 
 -- A kernel may return this outcome. A reply has the version and the operation of its request, is a
 -- reply that the operation may have, and carries no message. Only a receive returns a message,
--- which has the length of its body. In both cases the body has at most MESSAGE_BYTES bytes.
-abbrev pub MayAnswer : Version → Ask → Outcome → List ℕ → Type 0
+-- which has the length of its body. In both cases the body has at most MESSAGE_BYTES bytes. A call
+-- that was left has no body.
+abbrev pub MayAnswer : Version → Ask → RequestOutcome → List ℕ → Type 0
 MayAnswer version ask (Reply reply) given = (reply.version ≡ version) × (reply.op ≡ op_number (op_of ask))
     × IsAnswer reply.version reply.op reply.result × (gives_text reply.result ≡ false) × (length given ≤ MESSAGE_BYTES)
 MayAnswer version ask (Got delivery) given =
     (op_of ask ≡ op.Rcv) × (delivery.len ≡ length given) × (length given ≤ MESSAGE_BYTES)
+MayAnswer version ask Left given = given ≡ []
 
 -- The reply that carries a message of this type.
 abbrev pub message_reply : Version → ℤ → Answer
 message_reply version mtype = record { version = version; op = op_number op.Rcv; result = Rcv mtype }
 
--- The reply as which an outcome is written in this version. A message is written as the reply to a
--- receive, with its type.
-abbrev pub reply_of : Version → Outcome → Answer
-reply_of version (Reply reply) = reply
-reply_of version (Got delivery) = message_reply version delivery.mtype
+-- A reply in the outcome is one that its operation may have.
+abbrev pub HasAnswer : RequestOutcome → Type 0
+HasAnswer (Reply reply) = IsAnswer reply.version reply.op reply.result
+HasAnswer (Got delivery) = ⊤
+HasAnswer Left = ⊤
 
--- The frame of that reply, with the body of a message.
-abbrev pub outcome_spelling : Version → Outcome → List ℕ → List ℕ
-outcome_spelling version outcome given = reply_spelling (reply_of version outcome) given
+-- What is written for an outcome in this version: a reply as its frame, and a message as the frame
+-- of the reply to a receive, with its type and its body. For a call that was left nothing is
+-- written.
+abbrev pub outcome_spelling : Version → RequestOutcome → List ℕ → List ℕ
+outcome_spelling version (Reply reply) given = reply_spelling reply given
+outcome_spelling version (Got delivery) given = reply_spelling (message_reply version delivery.mtype) given
+outcome_spelling version Left given = []
+
+-- The call was not left, so the outcome has a reply.
+abbrev pub IsReplied : RequestOutcome → Type 0
+IsReplied (Reply reply) = ⊤
+IsReplied (Got delivery) = ⊤
+IsReplied Left = ⊥
 
 -- The outcome is a message.
-abbrev pub is_message : Outcome → Bool
+abbrev pub is_message : RequestOutcome → Bool
 is_message (Reply reply) = false
 is_message (Got delivery) = true
+is_message Left = false
 
 -- The number of messages in the outcome, one or none.
-abbrev pub messages_in : Outcome → ℕ
+abbrev pub messages_in : RequestOutcome → ℕ
 messages_in outcome = cond (is_message outcome) 1 0

@@ -2,7 +2,7 @@
 -- profile).
 use Rattle.std.specs.Prelude.{◌≡◌, ℕ, List, [], ◌∷◌, count_by}
 use Rattle.sysv_model.specs.declared.cred.Cred.{Cred}
-use Rattle.sysv_session.specs.declared.kernel.Outcome.{Outcome}
+use Rattle.sysv_session.specs.declared.kernel.RequestOutcome.{RequestOutcome}
 use Rattle.sysv_session.specs.Answers.{IsAskedIn, MayAnswer, is_message}
 use Rattle.sysv_wire.specs.declared.frame.Version.{Version}
 use Rattle.sysv_wire.specs.declared.request.Request.{Request}
@@ -11,7 +11,7 @@ use Rattle.sysv_wire.specs.declared.request.Request.{Request}
 pub record Call : Type 0 where
   pub request : Request
   pub text : List ℕ
-  pub outcome : Outcome
+  pub outcome : RequestOutcome
   pub given : List ℕ
 
 -- In a session of this version, the kernel may receive the request, and may return the outcome.
@@ -22,7 +22,7 @@ IsCall version call =
 -- What a kernel's calls mean: a relation between the kernel before, the caller's credentials, the
 -- request with its body, the outcome with its body, and the kernel after.
 abbrev pub Meaning : Type 0 → Type 1
-Meaning K = K → Cred → Request → List ℕ → Outcome → List ℕ → K → Type 0
+Meaning K = K → Cred → Request → List ℕ → RequestOutcome → List ℕ → K → Type 0
 
 -- The calls were made in this order, all with these credentials, and lead from the old kernel to
 -- the new one by what the kernel's calls mean.

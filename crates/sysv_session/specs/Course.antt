@@ -96,8 +96,8 @@ EndsAsTold (Greeted version cred asked None) why requests = (why ≡ «end».End
 EndsAsTold (Greeted version cred asked (Some fault)) why requests =
     (why ≡ «end».Fault fault) × (requests ≡ 1 + length asked)
 
--- The session ended because memory was refused, because the reader or the writer failed, or because
--- it had the maximum number of requests.
+-- The session ended because memory was refused, because the reader or the writer failed, because it
+-- had the maximum number of requests, or because its client left a call that waited.
 abbrev pub IsCutShort : End → Type 0
 IsCutShort «end».Ended = ⊥
 IsCutShort «end».NoMemory = ⊤
@@ -109,6 +109,7 @@ IsCutShort («end».Fault BadField) = ⊥
 IsCutShort («end».Fault Read) = ⊤
 IsCutShort «end».Write = ⊤
 IsCutShort «end».Bound = ⊤
+IsCutShort «end».Left = ⊤
 
 -- The session ended as the course of its input determines, or it was cut short.
 abbrev pub Follows : Course → Served → Type 0

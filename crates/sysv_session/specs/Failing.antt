@@ -1,7 +1,7 @@
 -- Which stream of a session failed, by the session's end (this project's profile).
 use Rattle.std.specs.Prelude.{Bool, true, false, Result, Ok, Err}
 use Rattle.sysv_session.specs.declared.served.End.{End}
-use Rattle.sysv_session.specs.declared.served.End.TheVariants.{Ended, NoMemory, NoHello, Fault, Write, Bound}
+use Rattle.sysv_session.specs.declared.served.End.TheVariants.{Ended, NoMemory, NoHello, Fault, Write, Bound, Left}
 use Rattle.sysv_wire.specs.Faults.{is_read}
 
 -- The end is that the reader failed.
@@ -12,6 +12,7 @@ is_failed_read NoHello = false
 is_failed_read (Fault fault) = is_read fault
 is_failed_read Write = false
 is_failed_read Bound = false
+is_failed_read Left = false
 
 -- The end is that the writer failed.
 abbrev pub is_failed_write : End → Bool
@@ -21,6 +22,7 @@ is_failed_write NoHello = false
 is_failed_write (Fault fault) = false
 is_failed_write Write = true
 is_failed_write Bound = false
+is_failed_write Left = false
 
 -- A part of a session ended it because the reader failed.
 abbrev pub ends_by_read : {T : Type 0} → Result T End → Bool

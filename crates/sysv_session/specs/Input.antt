@@ -64,6 +64,7 @@ EndsBefore «end».NoHello old new =
 EndsBefore («end».Fault fault) old new = Faults RequestFault fault old new
 EndsBefore «end».Write old new = ⊥
 EndsBefore «end».Bound old new = ⊥
+EndsBefore «end».Left old new = ⊥
 
 -- Why a session ends after its hello, by what it took of the input after the last request that it
 -- took up.
@@ -74,6 +75,7 @@ EndsAfter version «end».NoHello old new = ⊥
 EndsAfter version («end».Fault fault) old new = Faults (LaterFault version) fault old new
 EndsAfter version «end».Write old new = new ≡ old
 EndsAfter version «end».Bound old new = new ≡ old
+EndsAfter version «end».Left old new = new ≡ old
 
 -- The version and the credentials of a hello are read, or there is a reason why there is no hello.
 abbrev pub Greets : Result (Version × Cred) End → Option (List ℕ) → Option (List ℕ) → Type 0

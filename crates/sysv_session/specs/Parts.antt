@@ -5,10 +5,10 @@ use Rattle.std.specs.Io.KnownBytes.{Appends, Consumes}
 use Rattle.sysv_model.specs.declared.cred.Cred.{Cred}
 use Rattle.sysv_queue.specs.Tally.{Tallied}
 use Rattle.sysv_session.specs.declared.served.End.{End}
-use Rattle.sysv_session.specs.declared.served.End.TheVariants.{Ended, NoMemory, NoHello, Fault, Write, Bound}
+use Rattle.sysv_session.specs.declared.served.End.TheVariants.{Ended, NoMemory, NoHello, Fault, Write, Bound, Left}
 use Rattle.sysv_session.specs.Calls.{Call, IsCall, Leads, Meaning}
 use Rattle.sysv_session.specs.Input.{EndsAfter, EndsBefore, asked_spelling, hello_of, hello_spelling}
-use Rattle.sysv_session.specs.Output.{Tallies, Writes, frames_of, hello_frame}
+use Rattle.sysv_session.specs.Output.{Replies, Tallies, Writes, frames_of, hello_frame}
 use Rattle.sysv_session.specs.Session.{IsBounded}
 use Rattle.sysv_wire.specs.declared.frame.Version.{Version}
 use Rattle.sysv_wire.specs.Requests.{FitsRequest}
@@ -35,6 +35,7 @@ Opens slots (Err Write) left rest taken more many =
     (version : Version) × (cred : Cred) × IsGreeted version cred left rest many
     × AppendsPrefix taken more (hello_frame version slots)
 Opens slots (Err Bound) left rest taken more many = ⊥
+Opens slots (Err Left) left rest taken more many = ⊥
 
 module _ {K : Type 0} where
   -- What follows a hello that was replied to.
@@ -46,6 +47,7 @@ module _ {K : Type 0} where
     pub unread : Option (List ℕ)
     pub reads : Consumes left unread (asked_spelling calls)
     pub ends : EndsAfter version why unread rest
+    pub replies : Replies why calls
     pub writes : Writes why (frames_of calls) taken more
     pub tallies : Tallies why calls tally
     pub counts : many ≡ 1 + length calls

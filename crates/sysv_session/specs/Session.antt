@@ -1,17 +1,18 @@
 -- What a session does (this project's profile). It reads a hello and replies to it. It then reads
--- requests, passes each to the kernel and writes the kernel's outcome, until something ends it.
+-- requests, passes each to the kernel and writes the kernel's outcome, until something ends it. A
+-- call that was left has no reply and ends it.
 use Rattle.std.specs.Prelude.{◌≡◌, ◌+◌, ◌<◌, ◌⊎◌, ⊤, ℕ, List, [], ◌∷◌, ◌++◌, Option, length}
 use Rattle.std.specs.List.{AllByRecursion}
 use Rattle.std.specs.Io.KnownBytes.{Consumes}
 use Rattle.sysv_model.specs.declared.cred.Cred.{Cred}
 use Rattle.sysv_queue.specs.Tally.{Tallied}
 use Rattle.sysv_session.specs.declared.served.End.{End}
-use Rattle.sysv_session.specs.declared.served.End.TheVariants.{Ended, NoMemory, NoHello, Fault, Write, Bound}
+use Rattle.sysv_session.specs.declared.served.End.TheVariants.{Ended, NoMemory, NoHello, Fault, Write, Bound, Left}
 use Rattle.sysv_session.specs.declared.served.Served.{Served}
 use Rattle.sysv_session.specs.declared.served.TheConstants.{SESSION_REQUESTS}
 use Rattle.sysv_session.specs.Calls.{Call, IsCall, Leads, Meaning}
 use Rattle.sysv_session.specs.Input.{EndsAfter, EndsBefore, asked_spelling, hello_of, hello_spelling}
-use Rattle.sysv_session.specs.Output.{Tallies, Writes, frames_of, hello_frame}
+use Rattle.sysv_session.specs.Output.{Replies, Tallies, Writes, frames_of, hello_frame}
 use Rattle.sysv_wire.specs.declared.frame.Version.{Version}
 use Rattle.sysv_wire.specs.Requests.{FitsRequest}
 
@@ -24,6 +25,7 @@ IsBounded NoHello requests = requests < SESSION_REQUESTS
 IsBounded (Fault fault) requests = requests < SESSION_REQUESTS
 IsBounded Write requests = ⊤
 IsBounded Bound requests = requests ≡ SESSION_REQUESTS
+IsBounded Left requests = ⊤
 
 module _ {K : Type 0} where
   -- A session without a hello makes no call and writes nothing.
@@ -37,7 +39,8 @@ module _ {K : Type 0} where
 
   -- A session with a hello. Its calls of the kernel are one for each request of the hello's version
   -- that was read after the hello, and it writes the frames of the replies to the hello and to
-  -- these calls. The reply to the hello states this number of slots, if it is of version 2.
+  -- these calls. Each call has a reply, except a last one that was left. The reply to the hello
+  -- states this number of slots, if it is of version 2.
   pub record Talks (Means : Meaning K) (slots : ℕ) (why : End) (tally : Tallied) (requests : ℕ) (old new : K)
       (left rest taken more : Option (List ℕ)) : Type 0 where
     pub version : Version
@@ -49,6 +52,7 @@ module _ {K : Type 0} where
     pub unread : Option (List ℕ)  -- what the reader had left after the last request that was taken up
     pub reads : Consumes left unread (hello_spelling version cred ++ asked_spelling calls)
     pub ends : EndsAfter version why unread rest
+    pub replies : Replies why calls
     pub writes : Writes why (hello_frame version slots ∷ frames_of calls) taken more
     pub tallies : Tallies why calls tally
     pub counts : requests ≡ 1 + length calls

@@ -1,13 +1,14 @@
 -- What a session does for one request after its hello (this project's profile): it reads the
--- request, passes it to the kernel and writes the reply.
+-- request, passes it to the kernel and writes the reply, or ends if the call was left.
 use Rattle.std.specs.Prelude.{◌≡◌, ◌+◌, ⊤, ℕ, List, Option, Result, Ok, Err}
 use Rattle.std.specs.Io.KnownBytes.{Appends, Consumes}
 use Rattle.sysv_model.specs.declared.cred.Cred.{Cred}
 use Rattle.sysv_queue.specs.Tally.{Tallied}
-use Rattle.sysv_session.specs.declared.kernel.Outcome.{Outcome}
+use Rattle.sysv_session.specs.declared.kernel.RequestOutcome.{RequestOutcome}
+use Rattle.sysv_session.specs.declared.kernel.RequestOutcome.TheVariants as outcomes
 use Rattle.sysv_session.specs.declared.served.End.{End}
-use Rattle.sysv_session.specs.declared.served.End.TheVariants.{Ended, NoMemory, NoHello, Fault, Write, Bound}
-use Rattle.sysv_session.specs.Answers.{messages_in, outcome_spelling}
+use Rattle.sysv_session.specs.declared.served.End.TheVariants.{Ended, NoMemory, NoHello, Fault, Write, Bound, Left}
+use Rattle.sysv_session.specs.Answers.{IsReplied, messages_in, outcome_spelling}
 use Rattle.sysv_session.specs.Calls.{Call, IsCall, Meaning}
 use Rattle.sysv_session.specs.Input.{EndsAfter}
 use Rattle.sysv_wire.specs.declared.frame.Version.{Version}
@@ -15,30 +16,35 @@ use Rattle.sysv_wire.specs.Requests.{request_spelling}
 use Rattle.sysv_model.specs.Writing.{AppendsPrefix}
 
 -- The tally with one more message written, if the outcome is a message.
-abbrev pub one_written : Outcome → Tallied → Tallied
+abbrev pub one_written : RequestOutcome → Tallied → Tallied
 one_written outcome tally = record { written = tally.written + messages_in outcome; lost = tally.lost }
 
 -- The tally with one more message lost, if the outcome is a message.
-abbrev pub one_lost : Outcome → Tallied → Tallied
+abbrev pub one_lost : RequestOutcome → Tallied → Tallied
 one_lost outcome tally = record { written = tally.written; lost = tally.lost + messages_in outcome }
 
 -- The outcome was written whole as its frame of this version, and a message in it counted as
--- written. If the writer failed, a prefix was written, and a message in it counted as lost.
-abbrev pub Answers : Result ⊤ End → Version → Outcome → List ℕ → (old new : Option (List ℕ)) →
+-- written. If the writer failed, a prefix was written, and a message in it counted as lost. For a
+-- call that was left nothing was written and nothing was counted.
+abbrev pub Answers : Result ⊤ End → Version → RequestOutcome → List ℕ → (old new : Option (List ℕ)) →
     (before after : Tallied) → Type 0
 Answers (Ok done) version outcome given old new before after =
-    Appends old new (outcome_spelling version outcome given) × (after ≡ one_written outcome before)
+    IsReplied outcome × Appends old new (outcome_spelling version outcome given)
+    × (after ≡ one_written outcome before)
 Answers (Err Write) version outcome given old new before after =
-    AppendsPrefix old new (outcome_spelling version outcome given) × (after ≡ one_lost outcome before)
+    IsReplied outcome × AppendsPrefix old new (outcome_spelling version outcome given)
+    × (after ≡ one_lost outcome before)
 Answers (Err Ended) version outcome given old new before after = ⊥
 Answers (Err NoMemory) version outcome given old new before after = ⊥
 Answers (Err NoHello) version outcome given old new before after = ⊥
 Answers (Err (Fault fault)) version outcome given old new before after = ⊥
 Answers (Err Bound) version outcome given old new before after = ⊥
+Answers (Err Left) version outcome given old new before after =
+    (outcome ≡ outcomes.Left) × (new ≡ old) × (after ≡ before)
 
 module _ {K : Type 0} where
   -- A request was read and passed to the kernel, and its outcome was written, or the writing broke
-  -- off.
+  -- off, or the call was left.
   pub record Takes (Means : Meaning K) (version : Version) (cred : Cred) (result : Result ⊤ End) (old new : K)
       (left rest : Option (List ℕ)) (taken more : Option (List ℕ)) (before after : Tallied)
       (few many : ℕ) : Type 0 where
@@ -72,3 +78,5 @@ module _ {K : Type 0} where
   Turns Means version cred (Err NoMemory) old new left rest taken more before after few many = ⊥
   Turns Means version cred (Err NoHello) old new left rest taken more before after few many = ⊥
   Turns Means version cred (Err Bound) old new left rest taken more before after few many = ⊥
+  Turns Means version cred (Err Left) old new left rest taken more before after few many =
+      Takes Means version cred (Err Left) old new left rest taken more before after few many

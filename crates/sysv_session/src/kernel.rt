@@ -9,11 +9,13 @@ use sysv_queue::Delivery;
 use sysv_wire::{Op, Reply, Request};
 
 /// The outcome of a request. A message that was received can be neither dropped nor copied.
-pub enum Outcome {
+pub enum RequestOutcome {
     /// A reply of the request's version and operation. It carries no message.
     Reply(Reply),
     /// A receive took this message.
     Got(Delivery),
+    /// The caller left while the call waited. The call did nothing, and has no reply.
+    Left,
 }
 
 /// Message queues as a session uses them.
@@ -35,13 +37,20 @@ pub trait Kernel {
     ///
     /// `cred` is the caller's credentials, which are not authenticated. `text` is the body of a
     /// send, and empty for any other request. If a receive took a message, the outcome is `Got`,
-    /// and `given` is the body of the message, at most 8,192 bytes.
+    /// and `given` is the body of the message, at most 8,192 bytes. If the caller left while the
+    /// call waited, the outcome is `Left`, and `given` is empty.
     ///
     /// # Conditions
     ///
     /// - `request` is not a hello.
     /// - `given` is empty.
-    fn call(&mut self, cred: Cred, request: &Request, text: &Body, given: &mut Body) -> Outcome
+    fn call(
+        &mut self,
+        cred: Cred,
+        request: &Request,
+        text: &Body,
+        given: &mut Body,
+    ) -> RequestOutcome
         requires asked { op_of request.now.ask ≢ Op.Hello }
         requires empty { given.old ≡ [] }
         ensures meaning { meaning self.old cred request.now text.now result given.new self.new }

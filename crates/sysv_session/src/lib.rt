@@ -1,6 +1,7 @@
-//! Sessions: one client's requests and the server's replies, one reply per request, in order, over
-//! any reader and writer. A kernel carries out the requests. `specs/` defines what a session reads,
-//! requests and writes, and why it ends.
+//! Sessions: one client's requests and the server's replies, in order, over any reader and writer.
+//! Each request has one reply, except a last one whose call the client left while it waited. A
+//! kernel carries out the requests. `specs/` defines what a session reads, requests and writes, and
+//! why it ends.
 #![tactic(auto)]
 
 mod kernel;
@@ -9,7 +10,7 @@ mod served;
 mod session;
 mod turn;
 
-pub use kernel::{Kernel, Outcome};
+pub use kernel::{Kernel, RequestOutcome};
 pub use laws::numeral_of_requests;
 pub use served::{End, Served};
 pub use session::{Texts, serve, serve_watched, serve_with};

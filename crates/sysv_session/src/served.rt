@@ -27,6 +27,9 @@ pub enum End {
     Write,
     /// 4,294,967,295 requests were answered. No more was read.
     Bound,
+    /// The client left while its last call waited. That call did nothing and has no reply, and no
+    /// more was read.
+    Left,
 }
 
 impl From<Fault> for End {
@@ -54,6 +57,7 @@ pub struct Served {
     /// and flushed, and `lost` the others.
     pub tally: Tally,
     /// The number of requests that were taken up, 0 to 4,294,967,295: the hello and the requests
-    /// that the kernel received. What ended the session is not counted.
+    /// that the kernel received, also the last one if its call was left. What ended the session
+    /// otherwise is not counted.
     pub requests: u32,
 }

@@ -25,7 +25,7 @@ use sysv_wire::{Request, Version, one_answer_to_requests, one_request};
 ///
 /// The session has the version of its hello. In version 2 the reply to the hello states the number
 /// of slots. A request that cannot be read, a request of another version and a later hello end the
-/// session without a reply.
+/// session without a reply. So does a call that its client leaves while it waits.
 ///
 /// Memory for two bodies is allocated before anything is read. If it is refused, the session ends
 /// with `NoMemory`, and the reader, the writer and the kernel are unchanged.

@@ -3,7 +3,7 @@ ghost use Rattle.std.specs.Prelude.{◌≡◌, ◌<◌, ◌≤◌, ◌-◌, ◌^
 ghost use Rattle.std.specs.Io.KnownBytes.{Appends};
 ghost use Rattle.sysv_model.specs.declared.limits.TheConstants.{MESSAGE_BYTES};
 ghost use Rattle.sysv_queue.specs.Tally.{taken_in};
-ghost use Rattle.sysv_session.specs.Answers.{reply_of, message_reply as the_reply};
+ghost use Rattle.sysv_session.specs.Answers.{HasAnswer, message_reply as the_reply};
 ghost use Rattle.sysv_model.specs.Watched.{stream_of, KeepsStream};
 ghost use Rattle.sysv_session.specs.Failing.{ends_by_read, ends_by_write};
 ghost use Rattle.sysv_session.specs.Input.{Greets, ReadsAsked};
@@ -13,7 +13,7 @@ ghost use Rattle.sysv_wire.specs.Faults.{is_read_fault};
 ghost use Rattle.sysv_wire.specs.Replies.{IsAnswer, reply_spelling};
 ghost use Rattle.sysv_model.specs.Writing.{AppendsPrefix};
 
-use crate::kernel::Outcome;
+use crate::kernel::RequestOutcome;
 use crate::served::End;
 use std::io::{Read, Write};
 use sysv_model::{Body, Cred, Watched};
@@ -127,7 +127,7 @@ fn deliver<W: Write>(
 ) -> Result<(), End>
     requires text { length given.now ≤ MESSAGE_BYTES }
     requires room { taken_in tally.old < 2 ^ 64 - 1 }
-    ensures answers { Answers result version (Outcome.Got delivery) given.now
+    ensures answers { Answers result version (RequestOutcome.Got delivery) given.now
         (W.contents (stream_of writer.old))
         (W.contents (stream_of writer.new)) tally.old tally.new }
     ensures stream { KeepsStream writer.old writer.new (ends_by_write result) }
@@ -146,16 +146,15 @@ fn deliver<W: Write>(
     }
 }
 
-/// Writes the outcome of a request of this version.
+/// Writes the outcome of a request of this version. For a call that was left it writes nothing.
 pub(crate) fn answer<W: Write>(
     writer: &mut Watched<'_, W>,
     version: Version,
-    outcome: Outcome,
+    outcome: RequestOutcome,
     given: &Body,
     tally: &mut Tally,
 ) -> Result<(), End>
-    requires reply { IsAnswer (reply_of version outcome).version (reply_of version outcome).op
-        (reply_of version outcome).result }
+    requires reply { HasAnswer outcome }
     requires text { length given.now ≤ MESSAGE_BYTES }
     requires room { taken_in tally.old < 2 ^ 64 - 1 }
     ensures answers { Answers result version outcome given.now (W.contents (stream_of writer.old))
@@ -164,10 +163,11 @@ pub(crate) fn answer<W: Write>(
     ensures read { ends_by_read result ≡ false }
 {
     match outcome {
-        Outcome::Reply(reply) => {
+        RequestOutcome::Reply(reply) => {
             send(writer, &reply, given)?;
             Ok(())
         }
-        Outcome::Got(delivery) => deliver(writer, version, delivery, given, tally),
+        RequestOutcome::Got(delivery) => deliver(writer, version, delivery, given, tally),
+        RequestOutcome::Left => Err(End::Left),
     }
 }

@@ -28,9 +28,10 @@ impl Gates {
             .count(count.place(), &mut seats.seat, count.there())
     }
 
-    /// Waits until `count` is at least `goal`, but sleeps only once, and for a second at most.
-    /// Returns `Reached` with the value, or `Worn` only if the value that was read last is below
-    /// `goal` and the gate of the object is worn out, or `None` only if that value is below `goal`.
+    /// Waits until `count` is at least `goal`, but sleeps only once, and for a quarter of a second
+    /// at most. Returns `Reached` with the value, or `Worn` only if the value that was read last is
+    /// below `goal` and the gate of the object is worn out, or `None` only if that value is below
+    /// `goal`.
     ///
     /// A rise of the freed count wakes all threads that sleep in this wait. A rise of another count
     /// wakes only one of them. A call that returns `Some` for the settled or the released count

@@ -260,9 +260,9 @@ fn a_bounded_wait_comes_back(rt: HostRuntime) -> Result<(), Fail> {
     Ok(())
 }
 
-// Each of the two waits lasts a second at most.
+// Each of the two waits lasts a quarter of a second at most. A busy machine may be late.
 #[test]
-fn a_bounded_wait_lasts_a_second_at_most(rt: HostRuntime) -> Result<(), Fail> {
+fn a_bounded_wait_lasts_a_quarter_of_a_second_at_most(rt: HostRuntime) -> Result<(), Fail> {
     let (gate, mut seat) = opened(&rt, 0).ok_or("no memory")?;
     let begun = millis(&rt);
     assert_is(&rt, gate.arrived_within(&rt, &mut seat, 1), None);
@@ -270,7 +270,7 @@ fn a_bounded_wait_lasts_a_second_at_most(rt: HostRuntime) -> Result<(), Fail> {
     let ended = millis(&rt);
     assert_is(&rt, gate.close(seat).turns, 0);
     assert!(rt;
-        matches!((begun, ended), (Some(begun), Some(ended)) if ended.saturating_sub(begun) < 3_900)
+        matches!((begun, ended), (Some(begun), Some(ended)) if ended.saturating_sub(begun) < 1_900)
     );
     Ok(())
 }

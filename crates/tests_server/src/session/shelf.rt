@@ -14,7 +14,7 @@ use sysv_keys::{Begun, Registry};
 use sysv_model::{Body, Cred, Errno, Flags, MESSAGE_BYTES, Selector};
 use sysv_pool::{Chain, Pool};
 use sysv_queue::{PlaceRefused, QueueSlot, TakeRefused, Unplaced};
-use sysv_session::{Kernel, Outcome};
+use sysv_session::{Kernel, RequestOutcome};
 use sysv_wire::{Ask, Op, Reply, ReplyContent, Request, Version};
 
 /// The maximum of each count here.
@@ -106,7 +106,7 @@ impl Shelf {
         }
     }
 
-    fn receive(&mut self, cred: Cred, request: &Request, given: &mut Body) -> Outcome
+    fn receive(&mut self, cred: Cred, request: &Request, given: &mut Body) -> RequestOutcome
         requires { op_of request.now.ask ≡ Op.Rcv }
         ensures { MayAnswer request.now.version request.now.ask result given.new }
     {
@@ -131,7 +131,7 @@ impl Shelf {
             Ok(taken) => {
                 let (delivery, chain) = taken.finish(size, given);
                 give_back(&mut self.pool, chain);
-                Outcome::Got(delivery)
+                RequestOutcome::Got(delivery)
             }
             Err(TakeRefused::Gone) => refusal(request.version, Op::Rcv, Errno::EINVAL),
             Err(TakeRefused::Denied) => refusal(request.version, Op::Rcv, Errno::EACCES),
@@ -152,12 +152,18 @@ impl Kernel for Shelf {
         256
     }
 
-    fn call(&mut self, cred: Cred, request: &Request, text: &Body, given: &mut Body) -> Outcome {
+    fn call(
+        &mut self,
+        cred: Cred,
+        request: &Request,
+        text: &Body,
+        given: &mut Body,
+    ) -> RequestOutcome {
         self.asked = self.asked.wrapping_add(1);
         match request.ask {
             Ask::Get { key, flags } => {
                 let result = self.get(cred, key, flags);
-                Outcome::Reply(Reply {
+                RequestOutcome::Reply(Reply {
                     version: request.version,
                     op: Op::Get.number(),
                     result,
@@ -165,7 +171,7 @@ impl Kernel for Shelf {
             }
             Ask::Snd { id, mtype, .. } => {
                 let result = self.send(cred, id, mtype, text);
-                Outcome::Reply(Reply {
+                RequestOutcome::Reply(Reply {
                     version: request.version,
                     op: Op::Snd.number(),
                     result,
@@ -178,11 +184,11 @@ impl Kernel for Shelf {
 }
 
 /// Returns the reply that refuses an operation.
-fn refusal(version: Version, op: Op, why: Errno) -> Outcome
-    ensures { result ≡ Outcome.Reply
+fn refusal(version: Version, op: Op, why: Errno) -> RequestOutcome
+    ensures { result ≡ RequestOutcome.Reply
         (record { version = version; op = op_number op; result = ReplyContent.Refused why }) }
 {
-    Outcome::Reply(Reply {
+    RequestOutcome::Reply(Reply {
         version,
         op: op.number(),
         result: ReplyContent::Refused(why),

@@ -2,7 +2,7 @@
 use super::served::counts_of;
 use std::sync::{Mutex, Wait};
 use sysv_model::{Body, Cred, Errno};
-use sysv_session::{End, Kernel, Outcome, serve};
+use sysv_session::{End, Kernel, RequestOutcome, serve};
 use sysv_wire::{Reply, ReplyContent, Request};
 use tests_kit::worked::SESSION;
 use tests_kit::{Page, Pieces};
@@ -25,10 +25,16 @@ impl<R: Wait> Kernel for Locked<'_, R> {
         3
     }
 
-    fn call(&mut self, _cred: Cred, request: &Request, _text: &Body, _given: &mut Body) -> Outcome {
+    fn call(
+        &mut self,
+        _cred: Cred,
+        request: &Request,
+        _text: &Body,
+        _given: &mut Body,
+    ) -> RequestOutcome {
         let mut asked = self.asked.lock(self.rt);
         *asked = asked.wrapping_add(1);
-        Outcome::Reply(Reply {
+        RequestOutcome::Reply(Reply {
             version: request.version,
             op: request.ask.op().number(),
             result: ReplyContent::Refused(Errno::ENOMSG),

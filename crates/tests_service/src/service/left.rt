@@ -133,7 +133,7 @@ fn a_receive_is_left_and_the_message_goes_to_the_next(rt: HostRuntime) {
     assert_is(&rt, service.close(pass), closed(0, 128));
 }
 
-// The caller is checked once for each second.
+// The caller is checked once for each sleep.
 #[test]
 fn a_receive_waits_while_its_caller_stays(rt: HostRuntime) {
     let (service, mut pass) = two_queues(&rt, rt.alloc());

@@ -16,8 +16,8 @@ use tests_kit::{ROOT, USER};
 /// How often a wait is tried if the other call may be first.
 const TRIES: u32 = 50;
 
-/// How often a wake is tried. A busy machine may be late, and a lost wake costs up to a second each
-/// time.
+/// How often a wake is tried. A busy machine may be late, and a lost wake costs up to a quarter of a
+/// second each time.
 const WAKES: u32 = 8;
 
 /// The number of gets that wait for one key.
@@ -238,11 +238,11 @@ fn settled<R: Threads + Abort + Wait + Clock + Sync>(rt: &R, alloc: Global) -> u
     longest
 }
 
-// The settle wakes one get, which wakes the next: none looks again only after a second.
+// The settle wakes one get, which wakes the next: none looks again only after its sleep.
 #[test]
 fn one_settle_wakes_all_gets_that_wait(rt: HostRuntime) {
     for _ in 0..WAKES {
-        if settled(&rt, rt.alloc()) < 400 {
+        if settled(&rt, rt.alloc()) < 100 {
             return;
         }
     }

@@ -32,7 +32,11 @@ const TRIALS: u64 = 8;
 
 /// A thread that is woken returns within this number of milliseconds. A thread that is not woken
 /// sleeps longer.
-const PROMPT: u64 = 400;
+const PROMPT: u64 = 100;
+
+/// The thread that wakes others does so after this number of milliseconds, or after twice as many:
+/// when they sleep, and long before their bounded waits are over.
+const LATE: u64 = 50;
 
 /// The task of a thread.
 #[derive(Clone, Copy)]
@@ -468,9 +472,9 @@ fn try_and_wake<R: Wait + Clock>(rt: &R, gate: &Gate<Sum>, seat: &mut Seat<Sum>)
     requires { seat.old.gate ≡ gate.now }
     ensures { seat.new.gate ≡ gate.now }
 {
-    thread::sleep(rt, Duration::from_millis(100));
+    thread::sleep(rt, Duration::from_millis(LATE));
     gate.try_call(seat, 1).ok()?;
-    thread::sleep(rt, Duration::from_millis(100));
+    thread::sleep(rt, Duration::from_millis(LATE));
     let before = millis(rt);
     gate.wake(rt);
     before
@@ -528,7 +532,7 @@ fn raise_arrived<R: Wait + Clock>(rt: &R, gate: &Gate<Sum>, seat: &mut Seat<Sum>
     requires { seat.old.gate ≡ gate.now }
     ensures { seat.new.gate ≡ gate.now }
 {
-    thread::sleep(rt, Duration::from_millis(300));
+    thread::sleep(rt, Duration::from_millis(LATE));
     let before = millis(rt);
     gate.call(rt, seat, 1).ok()?;
     before
