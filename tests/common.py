@@ -127,9 +127,9 @@ class Session:
 class Server:
     """A server at a path, from the line that says that it listens until it is told to end."""
 
-    def __init__(self, program, path, *words, **how):
+    def __init__(self, program, path, *words, under=(), **how):
         self.path = path
-        words = [program, "serve", path, *words]
+        words = [*under, program, "serve", path, *words]
         self.process = start(words, stdout=subprocess.PIPE, stderr=subprocess.PIPE, **how)
         try:
             self.listening = self.process.stderr.readline().decode()
@@ -210,7 +210,7 @@ class Trial:
         self.started = []
 
     def serve(self, *words, listens=True, **how):
-        """A server at the path, which listens, or need not."""
+        """A server at the path, which listens, or need not. The words `under` stand before the program."""
         server = Server(self.program, self.path, *words, **how)
         self.started.append(server.process)
         if listens and not server.listening.startswith("sysvmsg: serving "):

@@ -5,7 +5,7 @@ _sysvmsg_words() {
     local credentials="--uid --gid --pid"
     case $1 in
     script) echo "--help --version" ;;
-    serve) echo "--mode --replace --blocks --workers --at-once --sessions --until-eof --idle --stall --help --version" ;;
+    serve) echo "--mode --replace --blocks --workers --at-once --sessions --until-eof --idle --stall --drain --help --version" ;;
     ipcs) echo "$credentials --help --version" ;;
     ipcrm) echo "-q -Q $credentials --help --version" ;;
     snd) echo "--stdin --type --nowait $credentials --help --version" ;;

@@ -2,8 +2,8 @@
 -- accepting.
 use mathlib.Core.Bool.{true≢false}
 use Rattle.std.proofs.Common.{◌≡◌, ◌≢◌, inl, inr, Bool, ℕ, ◌+◌, ◌≤◌, ◌<◌, List, [], ◌∷◌, length, map, Option, Some}
-use Rattle.std.proofs.Common.{refl, arith, sym, ap, ◌∙◌}
-use Rattle.std.specs.Prelude.{Result, Ok, Err, IfOk, IsNone, ◌^◌, ◌-◌, false, is_some, min, reverse}
+use Rattle.std.proofs.Common.{None, refl, arith, sym, ap, subst, ◌∙◌}
+use Rattle.std.specs.Prelude.{Result, Ok, Err, IfOk, IsSomeAnd, ◌^◌, ◌-◌, true, false, is_some, min, reverse}
 use Rattle.std.specs.List.{FoldsTo, sum_by}
 use Rattle.std.specs.List.Sorted.{IsPermutation}
 use Rattle.std.proofs.Common.{◌++◌, length-append, suc}
@@ -14,16 +14,18 @@ use Rattle.sysv_session.specs.declared.served.Served.{Served}
 use Rattle.sysv_workers.specs.Sources.{GivesAll}
 use Rattle.sysv_server.specs.declared.accepting.Accepting.{Accepting}
 use Rattle.sysv_server.specs.declared.fault.ServeFault.{ServeFault}
+use Rattle.sysv_server.specs.declared.host.Reason.{Reason}
+use Rattle.sysv_server.specs.declared.host.Reason.TheVariants.{Full, InputOver, NoSocket, Accept}
 use Rattle.sysv_server.specs.declared.sums.Sums.{Sums}
 use Rattle.sysv_server.specs.declared.terms.Ended.{Ended}
-use Rattle.sysv_server.specs.Accepts.{Accepts, is_closed}
+use Rattle.sysv_server.specs.Accepts.{Accepts, HasEnded, is_closed, is_unopened}
 use Rattle.sysv_server.specs.Added.{capped, one_session}
 use Rattle.sysv_server.specs.declared.socket.Nothing.{Nothing}
 use Rattle.sysv_server.specs.declared.socket.Socket.{Socket}
 use Rattle.sysv_server.specs.Desks.{Crewed, Desk, Sat, all_connections}
 use Rattle.sysv_server.specs.Handled.{Shift, reports_of, told_in}
 use Rattle.sysv_server.specs.Headline.{ServesConnections}
-use Rattle.sysv_server.specs.Serving.{EndsOn, ServesOn}
+use Rattle.sysv_server.specs.Serving.{EndsOn, HasReason, ServesOn}
 use Rattle.sysv_server.specs.Talks.{Closing, Talk, leaves_nothing, tally_of, untold}
 use Rattle.sysv_bank.specs.Banks.{Each2}
 use Rattle.sysv_shared.specs.Seats.{Gates}
@@ -83,15 +85,15 @@ module _ {T B : Type 0} (incoming outgoing : T → Option (List ℕ)) (closes : 
 
 -- ---- the connections of a listener
 
-module _ {I : Type 0} where
-  abbrev pub Gives : Accepting I → Option Socket → Accepting I → Type 0
+module _ {I H : Type 0} where
+  abbrev pub Gives : Accepting I H → Option Socket → Accepting I H → Type 0
   Gives = Accepts
 
   -- the connections that were given one after the other
-  abbrev Given : List Socket → Accepting I → Accepting I → Type 0
+  abbrev Given : List Socket → Accepting I H → Accepting I H → Type 0
   Given items s s' = FoldsTo (λ s x s'. Gives s (Some x) s') s items s'
 
-  within : (items : List Socket) (s s' : Accepting I) → Given items s s' → s.most ≢ 0 → s.most ≤ 2 ^ 64 - 1 →
+  within : (items : List Socket) (s s' : Accepting I H) → Given items s s' → s.most ≢ 0 → s.most ≤ 2 ^ 64 - 1 →
       s.accepted ≤ s.most → s.accepted + length items ≤ s.most
   within [] s s' h some small low = omega arith
   within (x ∷ items) s s' h some small low =
@@ -102,46 +104,66 @@ module _ {I : Type 0} where
       let all = room s.most s.accepted h.0.accepted (length items) small (step.1 some) step.2 rest in
       omega arith
 
-  pub bounded : (items : List Socket) (s s' : Accepting I) → GivesAll Gives s items s' → s.accepted ≡ 0 →
+  pub bounded : (items : List Socket) (s s' : Accepting I H) → GivesAll Gives s items s' → s.accepted ≡ 0 →
       s.most ≤ 2 ^ 64 - 1 → s.most ≢ 0 → length items ≤ s.most
   bounded items s s' gave none small some =
       let all = within items s gave.last gave.gave some small (omega arith) in
       omega arith
 
-  -- while connections are given the listener stays open, and not more are counted than were given
-  stays : (items : List Socket) (s s' : Accepting I) → Given items s s'
-      → (s'.most ≡ s.most) × (s'.accepted ≤ s.accepted + length items) × (s'.listening ≡ s.listening)
-      × (is_some s'.input ≡ is_some s.input)
-  stays [] s s' h = rw h (refl, omega arith, refl, refl)
+  -- while connections are given, not more are counted than were given
+  stays : (items : List Socket) (s s' : Accepting I H) → Given items s s'
+      → (s'.most ≡ s.most) × (s'.accepted ≤ s.accepted + length items) × (is_some s'.input ≡ is_some s.input)
+  stays [] s s' h = rw h (refl, omega arith, refl)
   stays (x ∷ items) s s' h =
       let step = h.1 in
       let rest = stays items h.0 s' h.2 in
       let low = rest.1 in
       let more = step.2 in
-      (rest.0 ∙ step.0, omega arith, rest.2 ∙ step.3, rest.3 ∙ step.4)
+      (rest.0 ∙ step.0, omega arith, rest.2 ∙ step.5)
 
-  as_many : (items : List Socket) (s s' : Accepting I) → GivesAll Gives s items s' → s.accepted ≡ 0 → s.most ≤ 2 ^ 64 - 1
-      → is_closed s.listening ≡ false → IsNone s.input → IsNone s'.fault
-      → (s.most ≢ 0) × (length items ≡ s.most)
-  as_many items s s' gave none small unclosed no_input no_fault =
-      let stay = stays items s gave.last gave.gave in
-      elim gave.ended.2 [
-        | inl closed ↦ absurd (true≢false (sym closed ∙ (ap is_closed stay.2 ∙ unclosed)))
-        | inr (inl full) ↦
-            let some : s.most ≢ 0 = λ z. full.0 (stay.0 ∙ z) in
-            let most = bounded items s s' gave none small some in
-            let same = stay.0 in
-            let low = stay.1 in
-            let least = full.1 in
-            (some, omega arith)
-        | inr (inr (inl failed)) ↦ absurd (true≢false (sym failed ∙ no_fault))
-        | inr (inr (inr ends)) ↦ absurd (true≢false (sym ends ∙ (stay.3 ∙ no_input)))
-      ]
+  -- while connections are given, the listener stays open
+  stays_open : (items : List Socket) (s s' : Accepting I H) → Given items s s' → is_closed s.listening ≡ false →
+      is_closed s'.listening ≡ false
+  stays_open [] s s' h unclosed = rw (← h) unclosed
+  stays_open (x ∷ items) s s' h unclosed = stays_open items h.0 s' h.2 h.1.3
 
-  abbrev pub Serves : ℕ → Accepting I → List Nothing → Ended → Accepting I → List Nothing → Type 0
+  -- once a connection was given, the listener has been opened
+  is_opened : (x : Socket) (items : List Socket) (s s' : Accepting I H) → Given (x ∷ items) s s' →
+      is_unopened s'.listening ≡ false
+  is_opened x [] s s' h = rw (← h.2) h.1.4
+  is_opened x (y ∷ items) s s' h = is_opened y items h.0 s' h.2
+
+  none_given : (items : List Socket) (s s' : Accepting I H) → Given items s s' → is_unopened s'.listening ≡ true →
+      length items ≡ 0
+  none_given [] s s' h unopened = refl
+  none_given (x ∷ items) s s' h unopened = absurd (true≢false (sym unopened ∙ is_opened x items s s' h))
+
+  has_reason : (m sessions : ℕ) (s last s' : Accepting I H) (items : List Socket) (input : Bool) (reason : Option Reason)
+      → s.accepted ≡ 0 → s.most ≡ m → m ≤ 2 ^ 64 - 1 → is_some s.input ≡ input → Given items s last
+      → GivesAll Gives s items s' → sessions ≡ capped (length items) → IsSomeAnd reason (HasEnded last)
+      → HasReason input m sessions reason
+  has_reason m sessions s last s' items input None none same small of_input gave all count why = why
+  has_reason m sessions s last s' items input (Some Full) none same small of_input gave all count full =
+      let fits : s.most ≤ 2 ^ 64 - 1 = omega arith in
+      let stay = stays items s last gave in
+      let some : s.most ≢ 0 = λ z. full.0 (stay.0 ∙ z) in
+      let most = bounded items s s' all none fits some in
+      let kept = stay.0 in
+      let low = stay.1 in
+      let least = full.1 in
+      let many : length items ≡ m = omega arith in
+      (λ z. some (same ∙ z), count ∙ (ap capped many ∙ below m small))
+  has_reason m sessions s last s' items input (Some InputOver) none same small of_input gave all count over =
+      sym of_input ∙ (sym (stays items s last gave).2 ∙ over)
+  has_reason m sessions s last s' items input (Some (NoSocket why)) none same small of_input gave all count unopened =
+      let no_item = none_given items s last gave unopened in
+      count ∙ (ap capped no_item ∙ below 0 (omega arith))
+  has_reason m sessions s last s' items input (Some (Accept why)) none same small of_input gave all count failed = tt
+
+  abbrev pub Serves : ℕ → Accepting I H → List Nothing → Ended → Accepting I H → List Nothing → Type 0
   Serves = ServesConnections untold untold leaves_nothing Gives
 
-  pub serves_on : (blocks workers m : ℕ) (s s' : Accepting I) (books books' : List Nothing) (ended : Ended)
+  pub serves_on : (blocks workers m : ℕ) (s s' : Accepting I H) (books books' : List Nothing) (ended : Ended)
       → s.accepted ≡ 0 → s.most ≡ m → m ≤ 2 ^ 64 - 1 → length books ≡ workers → Serves blocks s books ended s' books'
       → ServesOn blocks workers m ended.sums
   serves_on blocks workers m s s' books books' ended none same small counted served = record {
@@ -168,7 +190,7 @@ module _ {I : Type 0} where
     lived = served.lived;
   }
 
-  pub ends_on : (blocks workers m : ℕ) (s s' : Accepting I) (books books' : List Nothing)
+  pub ends_on : (blocks workers m : ℕ) (s s' : Accepting I H) (books books' : List Nothing)
       (result : Result Ended ServeFault) → s.accepted ≡ 0 → s.most ≡ m → m ≤ 2 ^ 64 - 1 → length books ≡ workers
       → IfOk result (λ ended. Serves blocks s books ended s' books')
       → IfOk result (λ ended. EndsOn blocks workers m ended)
@@ -182,24 +204,26 @@ module _ {I : Type 0} where
   }
   ends_on blocks workers m s s' books books' (Err why) none same small counted all = tt
 
-  -- without an input and a fault, there were as many sessions as were named
-  pub ends_exactly : (blocks m : ℕ) (s s' : Accepting I) (books books' : List Nothing)
-      (result : Result Ended ServeFault) (input fault : Bool)
+  -- the reason why no more connections were accepted tells how many sessions there were
+  pub ends_for : (blocks m : ℕ) (s s' : Accepting I H) (books books' : List Nothing)
+      (result : Result Ended ServeFault) (input : Bool) (reason : Option Reason)
       → s.accepted ≡ 0 → s.most ≡ m → m ≤ 2 ^ 64 - 1 → is_closed s.listening ≡ false
-      → is_some s.input ≡ input → is_some s'.fault ≡ fault
+      → is_some s.input ≡ input → s'.reason ≡ reason
       → IfOk result (λ ended. Serves blocks s books ended s' books')
-      → IfOk result (λ ended. input ≡ false → fault ≡ false → (m ≢ 0) × (ended.sums.sessions ≡ m))
-  ends_exactly blocks m s s' books books' (Ok ended) input fault none same small unclosed of_input of_fault served =
-      λ no_input no_fault.
-      let fits : s.most ≤ 2 ^ 64 - 1 = omega arith in
-      let is = as_many served.given s s' served.gave none fits unclosed (of_input ∙ no_input) (of_fault ∙ no_fault) in
+      → IfOk result (λ ended. HasReason input m ended.sums.sessions reason)
+  ends_for blocks m s s' books books' (Ok ended) input reason none same small unclosed of_input of_reason served =
+      let gave = served.gave in
       let each = one_each untold untold leaves_nothing served.desks served.shifts served.given served.crewed.sat
       served.dealt in
-      let many = is.1 in
-      let count : length (told_in served.shifts) ≡ m = each ∙ (many ∙ same) in
       let sums : ended.sums.sessions
       ≡ capped (sum_by (λ (s : Sums). s.sessions) (map (λ t. one_session (tally_of t)) (told_in served.shifts))) =
       ap (λ (s : Sums). s.sessions) served.sums in
-      let counted = all_counted (told_in served.shifts) ∙ count in
-      (λ z. is.0 (same ∙ z), sums ∙ (ap capped counted ∙ below m small))
-  ends_exactly blocks m s s' books books' (Err why) input fault none same small unclosed of_input of_fault all = tt
+      let counted = all_counted (told_in served.shifts) ∙ each in
+      elim gave.ended.2 [
+        | inl closed ↦ absurd (true≢false (sym closed ∙ stays_open served.given s gave.last gave.gave unclosed))
+        | inr why ↦
+            has_reason m ended.sums.sessions s gave.last s' served.given input reason none same small of_input
+            gave.gave gave (sums ∙ ap capped counted)
+            (subst (λ r. IsSomeAnd r (HasEnded gave.last)) of_reason why)
+      ]
+  ends_for blocks m s s' books books' (Err why) input reason none same small unclosed of_input of_reason all = tt

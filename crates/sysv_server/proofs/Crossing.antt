@@ -10,7 +10,9 @@ use Rattle.std.proofs.option.Option.TheSendSync as options
 use Rattle.sysv_model.specs.contracts.body.Body as body
 use Rattle.sysv_session.specs.contracts.session.Texts as texts
 use Rattle.sysv_service.proofs.Crossing.{crossing, pass_send, service_sync}
+use Rattle.sysv_server.specs.contracts.common.Common as common
 use Rattle.sysv_server.specs.contracts.kernel.ServiceKernel as kernel
+use Rattle.sysv_server.proofs.common.Common.TheSendSync as commons
 use Rattle.sysv_server.proofs.session.Zero.TheSendSync.{the_sync as zero_sync}
 use Rattle.sysv_server.proofs.peer.Peer.TheSendSync as peers
 use Rattle.sysv_server.proofs.sums.Sums.TheSendSync as sum
@@ -53,11 +55,13 @@ worker_send l R B y b = declared_send (worker.the_type l R B) (
   (sum.the_send, (search crossing depth 10, (options.the_send _ texts_send, (as_row_send (row_field B) b, tt)))),
 )
 
-pub sessions_sync : (l : NamedLft) (R : RattleType) → IsSync R → IsSync (sessions.the_row l R)
-sessions_sync l R y =
+pub sessions_sync : (l m : NamedLft) (R : RattleType) → IsSync R → IsSync (sessions.the_row l m R)
+sessions_sync l m R y =
     let served : IsSync (as_row (shr_ref_field l service.the_row tt)) =
     search (crossing, service_sync, shr_sync) depth 20 in
-    declared_sync (sessions.the_type l R) (
+    let shared : IsSync (as_row (shr_ref_field m common.the_row tt)) =
+    search (crossing, commons.the_sync, shr_sync) depth 20 in
+    declared_sync (sessions.the_type l m R) (
       as_row_sync (row_field (ShrRef l.mir l.lft R)) (shr_sync l.mir l.lft R y),
-      (search (crossing, heaps.the_sync) depth 10, (served, tt)),
+      (search (crossing, heaps.the_sync) depth 10, (served, (shared, tt))),
     )

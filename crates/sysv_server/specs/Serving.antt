@@ -1,7 +1,7 @@
 -- How a server serves a listener, what its workers do, and what a fault leaves (this project's
 -- profile). Its workers share one service, each worker has a pass of its own, and there is one
 -- session for each connection.
-use Rattle.std.specs.Prelude.{◌≡◌, ◌≢◌, ◌≤◌, ℕ, List, Option, Result, length}
+use Rattle.std.specs.Prelude.{◌≡◌, ◌≢◌, ◌≤◌, ⊤, ℕ, Bool, true, List, Option, Some, None, Result, length}
 use Rattle.std.specs.List.{AllByRecursion}
 use Rattle.std.specs.List.Sorted.{IsPermutation}
 use Rattle.sysv_bank.specs.Banks.{Each2}
@@ -16,6 +16,8 @@ use Rattle.sysv_workers.specs.Sources.{GivesAll, Gave, Returned}
 use Rattle.sysv_server.specs.declared.fault.ServeFault.{ServeFault}
 use Rattle.sysv_server.specs.declared.fault.ServeFault.TheVariants.{NoMemory, Thread, Worn, Missed}
 use Rattle.sysv_server.specs.declared.socket.Socket.{Socket}
+use Rattle.sysv_server.specs.declared.host.Reason.{Reason}
+use Rattle.sysv_server.specs.declared.host.Reason.TheVariants.{Full, InputOver, NoSocket, Accept}
 use Rattle.sysv_server.specs.declared.socket.Nothing.{Nothing}
 use Rattle.sysv_server.specs.declared.sums.Sums.{Sums}
 use Rattle.sysv_server.specs.declared.terms.Ended.{Ended}
@@ -98,6 +100,15 @@ pub record EndsOn (blocks workers most : ℕ) (ended : Ended) : Type 0 where
   pub stopped : Stopped served.gates ended.removed
   pub told : ended.removed ≡ served.removed
   pub closed : ended.closed ≡ served.lived.closed
+
+-- A server that may have an input, that was to run this maximum number of sessions, 0 for no limit,
+-- and that ran this number of them, accepted no more connections for this reason.
+abbrev pub HasReason : Bool → (most sessions : ℕ) → Option Reason → Type 0
+HasReason has_input most sessions None = ⊥
+HasReason has_input most sessions (Some Full) = (most ≢ 0) × (sessions ≡ most)
+HasReason has_input most sessions (Some InputOver) = has_input ≡ true
+HasReason has_input most sessions (Some (NoSocket why)) = sessions ≡ 0
+HasReason has_input most sessions (Some (Accept why)) = ⊤
 
 -- The server's fault has the name of the workers' refusal. A bad count does not occur.
 abbrev pub FaultOf : WorkersFault → ServeFault → Type 0

@@ -1,26 +1,55 @@
 //! A source of accepted connections.
-ghost use Rattle.std.specs.Prelude.{◌≡◌, ◌≢◌, ◌<◌, ◌≤◌, ◌-◌, ◌^◌, ◌⊎◌, true, is_some, IfSome, IfNone, IsSome};
-ghost use Rattle.sysv_server.specs.Accepts.{is_closed, IsFull};
+ghost use Rattle.std.specs.Prelude.{◌≡◌, ◌≢◌, ◌<◌, ◌≤◌, ◌-◌, ◌^◌, ◌⊎◌, true, false, is_some, IfErr, IfNone, IfOk};
+ghost use Rattle.sysv_server.specs.Accepts.{is_closed, is_unopened, EndsInput, HasEnded};
 
-use crate::patient::seconds_long;
+use crate::common::Common;
+use crate::host::{Host, Notice, Reason};
+use crate::line::Line;
+use crate::moment::{Moment, NO_DESCRIPTOR, asking, bell_timeout, pause, timeout};
 use crate::socket::Socket;
-use crate::terms::Patience;
 use libc::net::{POLLIN, poll};
 use libc::types::pollfd;
+use libc::{EAGAIN, ECONNABORTED, EMFILE, ENOMEM, EPERM};
 use std::io;
 use std::io::{ErrorKind, Read};
 use std::os::fd::AsRawFd;
-use std::os::unix::net::UnixListener;
+use std::os::unix::net::{UnixListener, UnixStream};
 use sysv_workers::Source;
 
 /// The maximum number of bytes of the input that are read at once and dropped.
 const INPUT_BYTES: usize = 512;
+
+/// The time from an accept that failed to the next one, in milliseconds.
+const HOLD_MILLIS: i32 = 100;
+
+/// Too many files are open in the system.
+const ENFILE: i32 = 23;
+
+/// A protocol error.
+const EPROTO: i32 = 71;
+
+/// No space for a buffer.
+const ENOBUFS: i32 = 105;
+
+/// The errors of an accept that is tried again.
+const PASSING: [i32; 8] = [
+    EMFILE,
+    ENFILE,
+    ENOMEM,
+    ENOBUFS,
+    ECONNABORTED,
+    EPERM,
+    EPROTO,
+    EAGAIN,
+];
 
 /// The socket that connections are accepted from.
 #[derive(Drop)]
 pub(crate) enum Listening<'a> {
     /// The caller's listener, which stays open.
     Lent(&'a UnixListener),
+    /// The server's own listener, which its host has not opened yet.
+    Unopened,
     /// The server's own listener, which is closed when no more connections are to be accepted.
     /// After that, clients are refused.
     Own(UnixListener),
@@ -29,14 +58,42 @@ pub(crate) enum Listening<'a> {
 }
 
 impl Listening<'_> {
-    /// Returns the listener, if there is still one.
+    /// Returns the listener, if one is open.
     fn listener(&self) -> Option<&UnixListener>
-        ensures { IfNone result (is_closed self.now ≡ true) }
+        ensures { IfNone result ((is_closed self.now ≡ true) ⊎ (is_unopened self.now ≡ true)) }
     {
         match self {
             Listening::Lent(listener) => Some(listener),
             Listening::Own(listener) => Some(listener),
-            Listening::Closed => None,
+            Listening::Unopened | Listening::Closed => None,
+        }
+    }
+
+    /// Returns whether it is the server's own listener.
+    fn is_own(&self) -> bool {
+        match self {
+            Listening::Own(_) => true,
+            Listening::Lent(_) | Listening::Unopened | Listening::Closed => false,
+        }
+    }
+
+    /// Returns whether there is no listener any more.
+    fn is_closed(&self) -> bool
+        ensures { result ≡ is_closed self.now }
+    {
+        match self {
+            Listening::Closed => true,
+            Listening::Lent(_) | Listening::Unopened | Listening::Own(_) => false,
+        }
+    }
+
+    /// Returns whether the host has not opened the listener yet.
+    fn is_unopened(&self) -> bool
+        ensures { result ≡ is_unopened self.now }
+    {
+        match self {
+            Listening::Unopened => true,
+            Listening::Lent(_) | Listening::Own(_) | Listening::Closed => false,
         }
     }
 }
@@ -44,28 +101,30 @@ impl Listening<'_> {
 /// A source that accepts connections, up to a maximum number if that is not 0. It ends when an
 /// accept fails, or when its input, if it has one, ends.
 #[derive(Drop)]
-pub(crate) struct Accepting<'a, I: Drop> {
+pub(crate) struct Accepting<'a, I: Drop, H: Drop> {
     listening: Listening<'a>,
     /// The input whose end ends the source.
     input: Option<I>,
-    /// How long a client may be silent.
-    patience: Patience,
     /// The maximum number of connections to accept, 0 for no limit.
     most: u64,
     /// The number of connections that were accepted. It stays at 2^64 - 1 once it has reached it.
     accepted: u64,
-    /// Why an accept failed, if one did.
-    fault: Option<io::Error>,
+    /// Why the source has ended, if it has.
+    reason: Option<Reason>,
+    line: Line,
+    common: &'a Common,
+    host: H,
 }
 
-impl<'a, I: Read + AsRawFd + Drop> Accepting<'a, I> {
+impl<'a, I: Read + AsRawFd + Drop, H: Host + Drop> Accepting<'a, I, H> {
     /// Creates a source that has accepted no connection.
     pub(crate) fn new(
         listening: Listening<'a>,
         input: Option<I>,
-        patience: Patience,
         most: u64,
-    ) -> Accepting<'a, I>
+        common: &'a Common,
+        host: H,
+    ) -> Accepting<'a, I, H>
         ensures begun { (result.most ≡ most) × (result.accepted ≡ 0) }
         ensures range { result.most ≤ 2 ^ 64 - 1 }
         ensures given { (result.listening ≡ listening.entry) × (result.input ≡ input) }
@@ -73,97 +132,225 @@ impl<'a, I: Read + AsRawFd + Drop> Accepting<'a, I> {
         Accepting {
             listening,
             input,
-            patience,
             most,
             accepted: 0,
-            fault: None,
+            reason: None,
+            line: Line::new(),
+            common,
+            host,
         }
     }
 
-    /// Returns why an accept failed, if one did.
-    pub(crate) fn into_fault(self) -> Option<io::Error>
-        ensures { result ≡ self.entry.fault }
+    /// Returns why the source has ended, if it has.
+    pub(crate) fn into_reason(self) -> Option<Reason>
+        ensures { result ≡ self.entry.reason }
     {
-        self.fault
+        self.reason
     }
 
-    /// Accepts the next connection. Returns `None` if no more connections are to be accepted.
-    fn accept(&mut self) -> Option<io::Result<Socket>>
+    /// Has the host open the server's own listener, if it is not open yet.
+    fn open(&mut self) -> io::Result<()>
         ensures same { (self.new.most ≡ self.old.most) × (self.new.accepted ≡ self.old.accepted) }
-        ensures stays { (self.new.listening ≡ self.old.listening)
-            × (is_some self.new.input ≡ is_some self.old.input) }
-        ensures bounded { IfSome result (λ _. self.old.most ≢ 0 →
+        ensures input { is_some self.new.input ≡ is_some self.old.input }
+        ensures closed { is_closed self.new.listening ≡ is_closed self.old.listening }
+        ensures opened { IfOk result (λ _. is_unopened self.new.listening ≡ false) }
+        ensures refused { IfErr result (λ _. is_unopened self.old.listening ≡ true) }
+    {
+        if self.listening.is_unopened() {
+            self.listening = Listening::Own(self.host.listen()?);
+        }
+        Ok(())
+    }
+
+    /// Accepts the next connection. The error is why no more connections are to be accepted.
+    fn accept(&mut self) -> Result<Socket, Reason>
+        requires { is_closed self.old.listening ≡ false }
+        ensures same { (self.new.most ≡ self.old.most) × (self.new.accepted ≡ self.old.accepted) }
+        ensures input { is_some self.new.input ≡ is_some self.old.input }
+        ensures bounded { IfOk result (λ _. self.old.most ≢ 0 →
             self.old.accepted < self.old.most) }
-        ensures ended { IfNone result ((is_closed self.old.listening ≡ true)
-            ⊎ IsFull self.old.most self.old.accepted ⊎ IsSome self.old.input) }
+        ensures opened { IfOk result (λ _. (is_closed self.new.listening ≡ false)
+            × (is_unopened self.new.listening ≡ false)) }
+        ensures ended { IfErr result (λ why. HasEnded self.old why) }
     {
         if self.most != 0 && self.accepted >= self.most {
-            return None;
+            return Err(Reason::Full);
         }
-        let listener = self.listening.listener()?;
-        if let Some(input) = &mut self.input {
-            if has_ended_first(input, listener) {
-                return None;
-            }
+        if let Err(why) = self.open() {
+            return Err(Reason::NoSocket(why));
         }
-        Some(accept_from(listener, self.patience))
+        let retries = self.listening.is_own();
+        let Some(listener) = self.listening.listener() else {
+            unreachable!()
+        };
+        let door = Door {
+            listener,
+            common: self.common,
+            host: &self.host,
+            accepted: self.accepted,
+        };
+        let stream = door.accept_next(&mut self.line, &mut self.input, retries)?;
+        Ok(Socket::new(stream, self.common.limits()))
     }
 }
 
-impl<I: Read + AsRawFd + Drop> Source<Socket> for Accepting<'_, I> {
+impl<I: Read + AsRawFd + Drop, H: Host + Drop> Source<Socket> for Accepting<'_, I, H> {
     ghost use Rattle.sysv_server.specs.Accepts.{Accepts};
 
     ghost gives = { Accepts };
 
     fn next(&mut self) -> Option<Socket> {
+        if self.listening.is_closed() {
+            return None;
+        }
         match self.accept() {
-            Some(Ok(socket)) => {
+            Ok(socket) => {
                 self.accepted = self.accepted.saturating_add(1);
-                return Some(socket);
+                Some(socket)
             }
-            Some(Err(why)) => self.fault = Some(why),
-            None => {}
+            Err(why) => {
+                self.reason = Some(why);
+                self.listening = Listening::Closed;
+                if self.common.drain(self.accepted) {
+                    self.host.note(Notice::Cut);
+                }
+                None
+            }
         }
-        self.listening = Listening::Closed;
-        None
     }
 }
 
-/// Accepts a connection from the listener. Writes to it may wait for `patience.stall` seconds, or
-/// without limit if that is 0.
-fn accept_from(listener: &UnixListener, patience: Patience) -> io::Result<Socket> {
-    let (stream, _address) = listener.accept()?;
-    if patience.stall != 0 {
-        stream.set_write_timeout(seconds_long(patience.stall))?;
-    }
-    Ok(Socket::new(stream, patience))
+/// An open listener, and what is known of the connections that came through it.
+#[derive(Drop)]
+struct Door<'l, 'c, 'h, H> {
+    listener: &'l UnixListener,
+    common: &'c Common,
+    host: &'h H,
+    /// The number of connections that were accepted.
+    accepted: u64,
 }
 
-/// Waits until a connection has arrived, or the input has ended or cannot be read. Returns true if
-/// the input has ended or cannot be read. The bytes that the input returns before its end are
-/// dropped.
-fn has_ended_first<I: Read + AsRawFd>(input: &mut I, listener: &UnixListener) -> bool {
-    for _ in 0..u64::MAX {
-        let mut asked = [input.as_raw_fd(), listener.as_raw_fd()].map(readable);
-        if poll(&mut asked, -1) < 0 {
-            continue;
+/// What has arrived at a door.
+#[derive(Clone, Copy, PartialEq, Eq)]
+struct Arrived {
+    /// Whether there is a connection.
+    connection: bool,
+    /// Whether the input can be read.
+    input: bool,
+}
+
+impl<H: Host> Door<'_, '_, '_, H> {
+    /// Waits for a connection and accepts it. If the server `retries`, an accept that fails for
+    /// want of something is tried again; the host is told so, and when it succeeds.
+    fn accept_next<I: Read + AsRawFd>(
+        &self,
+        line: &mut Line,
+        input: &mut Option<I>,
+        retries: bool,
+    ) -> Result<UnixStream, Reason>
+        ensures input { is_some input.new ≡ is_some input.old }
+        ensures ended { IfErr result (EndsInput (is_some input.old)) }
+    {
+        let mut held = false;
+        for _ in 0..u64::MAX {
+            let arrived = self.wait(line, descriptor(input));
+            if arrived.input && has_ended(input) {
+                return Err(Reason::InputOver);
+            }
+            if !arrived.connection {
+                continue;
+            }
+            match self.listener.accept() {
+                Ok((stream, _address)) => {
+                    if held {
+                        self.host.note(Notice::Resumed);
+                    }
+                    return Ok(stream);
+                }
+                Err(why) if retries && is_passing(&why) => {
+                    self.hold(why, held);
+                    held = true;
+                }
+                Err(why) => return Err(Reason::Accept(why)),
+            }
         }
-        if asked[0].revents != 0 && is_over(input) {
-            return true;
+        Err(Reason::Accept(io::Error::from(ErrorKind::TimedOut)))
+    }
+
+    /// Waits a little after an accept that failed. Tells the host, unless it was told already.
+    fn hold(&self, why: io::Error, told: bool) {
+        if !told {
+            self.host.note(Notice::Held(why));
         }
-        if asked[1].revents != 0 {
-            return false;
+        pause(HOLD_MILLIS);
+    }
+
+    /// Waits until the input, whose descriptor is given, can be read, or until there is a connection
+    /// and one more may wait for a worker. It may return early.
+    fn wait(&self, line: &mut Line, input: i32) -> Arrived {
+        let left = line
+            .look(self.common, self.host, self.accepted)
+            .map(Moment::left);
+        if self.common.has_room(self.accepted) {
+            return self.arrived(input, self.listener.as_raw_fd(), timeout(left));
+        }
+        self.common.await_turn(true);
+        let limit = if self.common.has_room(self.accepted) {
+            0
+        } else {
+            bell_timeout(self.common.bell(), left)
+        };
+        let arrived = self.arrived(input, NO_DESCRIPTOR, limit);
+        self.common.await_turn(false);
+        arrived
+    }
+
+    /// Waits until the input, the listener or the bell can be read, for at most `limit`
+    /// milliseconds, and hushes the bell.
+    fn arrived(&self, input: i32, listener: i32, limit: i32) -> Arrived {
+        let mut asked = [input, listener, self.common.bell()].map(readable);
+        let any = poll(&mut asked, limit) > 0;
+        if any && asked[2].revents != 0 {
+            self.common.hush();
+        }
+        Arrived {
+            connection: any && asked[1].revents != 0,
+            input: any && asked[0].revents != 0,
         }
     }
-    true
+}
+
+/// Returns the descriptor of the input, or that of no file.
+fn descriptor<I: AsRawFd>(input: &Option<I>) -> i32 {
+    match input {
+        Some(input) => input.as_raw_fd(),
+        None => NO_DESCRIPTOR,
+    }
 }
 
 /// Returns a poll request for whether `fd` can be read.
 fn readable(fd: i32) -> pollfd {
-    pollfd {
-        fd,
-        events: POLLIN,
-        revents: 0,
+    asking(fd, POLLIN)
+}
+
+/// Returns whether an accept failed for want of something that may come back, or because the client
+/// has gone.
+fn is_passing(why: &io::Error) -> bool {
+    match why.raw_os_error() {
+        Some(code) => PASSING.contains(&code),
+        None => false,
+    }
+}
+
+/// Reads a piece of the input, which can be read and is dropped. Returns whether the input is at its
+/// end or cannot be read.
+fn has_ended<I: Read>(input: &mut Option<I>) -> bool
+    ensures input { is_some input.new ≡ is_some input.old }
+    ensures ended { result ≡ true → is_some input.old ≡ true }
+{
+    match input {
+        Some(input) => is_over(input),
+        None => false,
     }
 }
 

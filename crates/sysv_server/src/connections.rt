@@ -7,13 +7,14 @@ ghost use Rattle.sysv_server.specs.Added.{IsBalanced};
 ghost use Rattle.sysv_server.specs.Headline.{ServesConnections};
 ghost use Rattle.sysv_server.specs.Serving.{FaultOf, LeavesConnections, WorkedFrom};
 
+use crate::common::Common;
 use crate::connection::Connection;
 use crate::crew::{dismiss, hire};
 use crate::fault::ServeFault;
 use crate::laws::each_life_is_one_run;
 use crate::session::Sessions;
 use crate::sums::Sums;
-use crate::terms::Ended;
+use crate::terms::{Ended, Patience};
 use std::alloc::Global;
 use std::sync::Wait;
 use std::thread::Threads;
@@ -57,10 +58,37 @@ where
     ensures err { IfErr result (λ why. LeavesConnections T.incoming T.outgoing T.closes S.gives
         source.old books.old.items why source.new books.new.items) }
 {
+    let count = books.len() as u32;
+    let common = Common::new(count, Patience::UNBOUNDED, 0);
+    serve_all(rt, alloc, source, books, blocks, &common)
+}
+
+/// Serves the connections of a source like `serve_connections`. The sessions share `common` with
+/// the source.
+pub(crate) fn serve_all<T: Connection + Drop + Send, S: Source<T>, R: Threads + Wait + Sync>(
+    rt: &R,
+    alloc: Global,
+    source: &mut S,
+    books: &mut Vec<T::Book>,
+    blocks: u32,
+    common: &Common,
+) -> Result<Ended, ServeFault>
+where
+    T::Input: Send,
+    T::Output: Send,
+    T::Book: Send,
+    requires blocks { (MIN_BLOCKS ≤ blocks) × (blocks ≤ MAX_BLOCKS) }
+    requires workers { (1 ≤ vec_len books.old) × (vec_len books.old ≤ MAX_CROWD) }
+    ensures ok { IfOk result (λ ended. ServesConnections T.incoming T.outgoing T.closes S.gives
+        blocks source.old books.old.items ended source.new books.new.items) }
+    ensures balance { IfOk result (λ ended. IsBalanced ended.sums) }
+    ensures err { IfErr result (λ why. LeavesConnections T.incoming T.outgoing T.closes S.gives
+        source.old books.old.items why source.new books.new.items) }
+{
     let Ok((service, mut pass)) = Service::open(alloc, blocks) else {
         return Err(ServeFault::NoMemory);
     };
-    let outcome = serve_with(rt, alloc, &service, &mut pass, source, books);
+    let outcome = serve_with(rt, alloc, &service, &mut pass, source, books, common);
     let removed = service.stop(rt, &mut pass);
     let closed = service.close(pass);
     each_life_is_one_run();
@@ -84,6 +112,7 @@ fn serve_with<T: Connection + Drop + Send, S: Source<T>, R: Threads + Wait + Syn
     pass: &mut Pass,
     source: &mut S,
     books: &mut Vec<T::Book>,
+    common: &Common,
 ) -> Result<(Sums, u64), ServeFault>
 where
     T::Input: Send,
@@ -101,7 +130,12 @@ where
         return Err(ServeFault::NoMemory);
     };
     hire(rt, alloc, service, pass, books, &mut workers);
-    let job = Sessions { rt, alloc, service };
+    let job = Sessions {
+        rt,
+        alloc,
+        service,
+        common,
+    };
     match run_crowd(rt, alloc, workers, source, &job) {
         Ok(workers) => Ok(dismiss(service, pass, workers, books)),
         Err(refused) => {

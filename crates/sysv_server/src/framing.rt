@@ -13,6 +13,8 @@ pub(crate) struct Framing {
     length: u32,
     /// The number of bytes after the length field still to be read.
     left: u32,
+    /// The number of frames that have begun, counted modulo 2^64.
+    begun: u64,
 }
 
 impl Framing {
@@ -22,7 +24,13 @@ impl Framing {
             head: LENGTH_BYTES,
             length: 0,
             left: 0,
+            begun: 0,
         }
+    }
+
+    /// Returns the number of frames that have begun. It differs from one frame to the next.
+    pub(crate) fn begun(&self) -> u64 {
+        self.begun
     }
 
     /// Returns whether the reader is between two frames, or before the first.
@@ -47,6 +55,9 @@ impl Framing {
 
     /// Moves past this byte of a length field.
     fn take_head(&mut self, byte: u8) {
+        if self.head == LENGTH_BYTES {
+            self.begun = self.begun.wrapping_add(1);
+        }
         let [_, high, middle, low] = self.length.to_be_bytes();
         self.length = u32::from_be_bytes([high, middle, low, byte]);
         self.head = self.head.saturating_sub(1);

@@ -6,14 +6,19 @@
 #![tactic(auto)]
 
 mod accepting;
+mod bell;
+mod common;
 mod connection;
 mod connections;
 mod crew;
 mod fault;
 mod framing;
+mod host;
 mod kernel;
 mod laws;
+mod line;
 mod memory;
+mod moment;
 mod patient;
 mod peer;
 mod serving;
@@ -25,6 +30,7 @@ mod terms;
 pub use connection::Connection;
 pub use connections::serve_connections;
 pub use fault::ServeFault;
+pub use host::{Host, Notice, Reason};
 pub use kernel::ServiceKernel;
 pub use laws::{each_life_is_one_run, each_session_makes_calls};
 pub use memory::{MemoryConnection, Replies};

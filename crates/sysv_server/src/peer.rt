@@ -1,13 +1,10 @@
 //! The client at the other end of a connection.
 
-use libc::net::{POLLERR, POLLHUP, POLLRDHUP, poll};
-use libc::types::pollfd;
+use crate::moment::{NO_DESCRIPTOR, asking};
+use libc::net::{POLLERR, POLLHUP, POLLIN, poll};
 use std::os::fd::AsRawFd;
 use std::os::unix::net::UnixStream;
 use sysv_service::Caller;
-
-/// A descriptor that refers to no file. `poll` ignores negative descriptors.
-const NO_DESCRIPTOR: i32 = -1;
 
 /// The client at the other end of a connection, as the caller of the calls of its session.
 ///
@@ -15,18 +12,24 @@ const NO_DESCRIPTOR: i32 = -1;
 #[derive(Clone, Copy)]
 pub struct Peer {
     fd: i32,
+    /// A descriptor that can be read once the session is to end, or a negative number.
+    cut: i32,
 }
 
 impl Peer {
     /// Returns the peer of no connection. It never leaves.
     pub fn none() -> Peer {
-        Peer { fd: NO_DESCRIPTOR }
+        Peer {
+            fd: NO_DESCRIPTOR,
+            cut: NO_DESCRIPTOR,
+        }
     }
 
-    /// Returns the peer of this connection.
-    pub fn of(stream: &UnixStream) -> Peer {
+    /// Returns the peer of this connection. It is taken to have left once `cut` can be read.
+    pub fn of(stream: &UnixStream, cut: i32) -> Peer {
         Peer {
             fd: stream.as_raw_fd(),
+            cut,
         }
     }
 }
@@ -36,16 +39,13 @@ impl Caller for Peer {
 
     ghost may_leave = { λ _. ⊤ };
 
-    /// Returns whether the client has shut down its writing or closed the connection.
+    /// Returns whether the client has closed the connection, or the session is to end.
     ///
-    /// Bytes that it sent before are no reason to stay: they come after the request of the call
-    /// that waits, and the session ends with that call.
+    /// A client that has shut down only its writing may still read a reply, so it has not left:
+    /// `poll` then reports neither `POLLHUP` nor `POLLERR`.
     fn has_left(&self) -> bool {
-        let mut asked = [pollfd {
-            fd: self.fd,
-            events: POLLRDHUP,
-            revents: 0,
-        }];
-        poll(&mut asked, 0) > 0 && asked[0].revents & (POLLRDHUP | POLLHUP | POLLERR) != 0
+        let mut asked = [asking(self.fd, 0), asking(self.cut, POLLIN)];
+        poll(&mut asked, 0) > 0
+            && (asked[0].revents & (POLLHUP | POLLERR) != 0 || asked[1].revents != 0)
     }
 }

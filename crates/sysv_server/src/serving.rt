@@ -1,19 +1,20 @@
 //! The server.
-ghost use Rattle.std.specs.Prelude.{◌≡◌, ◌≢◌, ◌≤◌, IfOk, IsNone, false};
+ghost use Rattle.std.specs.Prelude.{◌≡◌, ◌≤◌, IfOk, IsNone, false, is_some};
 ghost use Rattle.sysv_model.specs.declared.limits.TheConstants.{MIN_BLOCKS, MAX_BLOCKS};
 ghost use Rattle.sysv_workers.specs.declared.workers.TheConstants.{MAX_CROWD, MAX_WORKERS};
 ghost use Rattle.sysv_server.specs.Accepts.{is_closed};
 ghost use Rattle.sysv_server.specs.Added.{IsBalanced};
-ghost use Rattle.sysv_server.specs.Serving.{EndsOn, ServesOn};
+ghost use Rattle.sysv_server.specs.Serving.{EndsOn, HasReason, ServesOn};
 
 use crate::accepting::{Accepting, Listening};
-use crate::connections::serve_connections;
+use crate::common::Common;
+use crate::connections::serve_all;
 use crate::fault::ServeFault;
+use crate::host::{Host, Quiet, Reason};
 use crate::socket::empty_books;
 use crate::sums::Sums;
 use crate::terms::{Ended, Patience, Terms};
 use std::alloc::Global;
-use std::io;
 use std::io::Read;
 use std::os::fd::AsRawFd;
 use std::os::unix::net::{UnixListener, UnixStream};
@@ -62,55 +63,58 @@ pub fn serve_on<R: Threads + Wait + Sync>(
     let Some(mut books) = empty_books(alloc, workers) else {
         return Err(ServeFault::NoMemory);
     };
-    let mut source = lent(listener, sessions);
-    match serve_connections(rt, alloc, &mut source, &mut books, blocks) {
+    let common = Common::new(workers, Patience::UNBOUNDED, 0);
+    let mut source = lent(listener, sessions, &common);
+    match serve_all(rt, alloc, &mut source, &mut books, blocks, &common) {
         Ok(ended) => Ok(ended.sums),
         Err(why) => Err(why),
     }
 }
 
 /// Returns a source of connections from a listener that stays open.
-fn lent(listener: &UnixListener, sessions: u64) -> Accepting<'_, UnixStream>
+fn lent<'a>(
+    listener: &'a UnixListener,
+    sessions: u64,
+    common: &'a Common,
+) -> Accepting<'a, UnixStream, Quiet>
     ensures counts { (result.most ≡ sessions) × (result.accepted ≡ 0) }
     ensures open { (is_closed result.listening ≡ false) × IsNone result.input }
 {
-    Accepting::new(
-        Listening::Lent(listener),
-        None,
-        Patience::UNBOUNDED,
-        sessions,
-    )
+    Accepting::new(Listening::Lent(listener), None, sessions, common, Quiet)
 }
 
-/// Serves the connections of `listener` on a new service, like `serve_on`, but under `terms`.
+/// Serves the connections of the listener that `host` opens on a new service, like `serve_on`, but
+/// under `terms`.
 ///
-/// The listener is closed when no more connections are to be accepted, before the last sessions are
-/// over. If there is an `input`, no more connections are accepted after it has ended; the bytes
-/// that it returns before its end are dropped. `fault` is set to the reason if an accept failed,
-/// and to `None` otherwise. Without an `input` and without a `fault`, exactly `terms.sessions`
+/// The host opens the listener when the server has its memory and its threads. The listener is
+/// closed when no more connections are to be accepted, before the last sessions are over. If there
+/// is an `input`, no more connections are accepted after it has ended; the bytes that it returns
+/// before its end are dropped. An accept that fails for want of descriptors or memory, or because
+/// the client has gone, is tried again every 100 ms; the host is told. `reason` is set to why no
+/// more connections were accepted, if any were to be: at `Reason::Full` exactly `terms.sessions`
 /// sessions were run.
 ///
 /// # Errors
 ///
-/// The errors are those of `serve_on`.
+/// The errors are those of `serve_on`. After `NoMemory` and `Thread` no listener was opened.
 ///
 /// # Conditions
 ///
 /// - `terms.blocks` is 128 to 65,536.
 /// - `terms.at_once` is 1 to 256.
-pub fn serve_listener<I: Read + AsRawFd + Drop, R: Threads + Wait + Sync>(
+pub fn serve_listener<I: Read + AsRawFd + Drop, H: Host + Drop, R: Threads + Wait + Sync>(
     rt: &R,
     alloc: Global,
-    listener: UnixListener,
+    host: H,
     input: Option<I>,
     terms: Terms,
-    fault: &mut Option<io::Error>,
+    reason: &mut Option<Reason>,
 ) -> Result<Ended, ServeFault>
     requires blocks { (MIN_BLOCKS ≤ terms.blocks) × (terms.blocks ≤ MAX_BLOCKS) }
     requires at_once { (1 ≤ terms.at_once) × (terms.at_once ≤ MAX_CROWD) }
     ensures ok { IfOk result (λ ended. EndsOn terms.blocks terms.at_once terms.sessions ended) }
-    ensures exact { IfOk result (λ ended. IsNone input → IsNone fault.new →
-        (terms.sessions ≢ 0) × (ended.sums.sessions ≡ terms.sessions)) }
+    ensures exact { IfOk result (λ ended.
+        HasReason (is_some input) terms.sessions ended.sums.sessions reason.new) }
     ensures balance { IfOk result (λ ended. IsBalanced ended.sums) }
 {
     let Terms {
@@ -118,14 +122,18 @@ pub fn serve_listener<I: Read + AsRawFd + Drop, R: Threads + Wait + Sync>(
         at_once,
         sessions,
         patience,
+        drain,
     } = terms;
-    let listening = Listening::Own(listener);
+    *reason = None;
+    let common = Common::new(at_once, patience, drain);
+    if !common.can_cut() {
+        return Err(ServeFault::NoMemory);
+    }
     let Some(mut books) = empty_books(alloc, at_once) else {
-        *fault = None;
         return Err(ServeFault::NoMemory);
     };
-    let mut source = Accepting::new(listening, input, patience, sessions);
-    let outcome = serve_connections(rt, alloc, &mut source, &mut books, blocks);
-    *fault = source.into_fault();
+    let mut source = Accepting::new(Listening::Unopened, input, sessions, &common, host);
+    let outcome = serve_all(rt, alloc, &mut source, &mut books, blocks, &common);
+    *reason = source.into_reason();
     outcome
 }

@@ -6,6 +6,7 @@ ghost use Rattle.sysv_server.specs.Added.{nothing};
 ghost use Rattle.sysv_server.specs.Handled.{Holds, one_refused};
 ghost use Rattle.sysv_server.specs.Talks.{tally_of};
 
+use crate::common::Common;
 use crate::connection::Connection;
 use crate::kernel::ServiceKernel;
 use crate::peer::Peer;
@@ -83,13 +84,14 @@ impl<'a, R: Wait, B> Worker<'a, R, B> {
 
 /// The job that runs a session on each connection.
 #[derive(Drop)]
-pub(crate) struct Sessions<'a, R> {
+pub(crate) struct Sessions<'a, 'c, R> {
     pub(crate) rt: &'a R,
     pub(crate) alloc: Global,
     pub(crate) service: &'a Service,
+    pub(crate) common: &'c Common,
 }
 
-impl<'a, R: Wait, T: Connection> Job<Worker<'a, R, T::Book>, T> for Sessions<'a, R> {
+impl<'a, 'c, R: Wait, T: Connection> Job<Worker<'a, R, T::Book>, T> for Sessions<'a, 'c, R> {
     ghost use Rattle.sysv_server.specs.Handled.{Handles};
 
     ghost fits = { λ job worker. worker.kernel.service.now ≡ job.service.now };
@@ -99,6 +101,7 @@ impl<'a, R: Wait, T: Connection> Job<Worker<'a, R, T::Book>, T> for Sessions<'a,
         new.kernel.pass new.sums new.refused new.book };
 
     fn run(&self, worker: &mut Worker<'a, R, T::Book>, connection: T) {
+        self.common.begin();
         let Worker {
             kernel,
             sums,
@@ -107,8 +110,12 @@ impl<'a, R: Wait, T: Connection> Job<Worker<'a, R, T::Book>, T> for Sessions<'a,
             book,
         } = worker;
         let told = hold(self.alloc, kernel, texts, connection, book);
+        if told.is_none() {
+            self.common.starve();
+        }
         *refused = refused.saturating_add(refusals(&told));
         sums.add(Sums::of(&tally(&told)));
+        self.common.finish();
     }
 }
 

@@ -3,26 +3,25 @@
 ghost use Rattle.std.specs.Prelude.{◌≡◌, IfSome, vec_len};
 
 use crate::connection::Connection;
-use crate::patient::Patient;
+use crate::patient::{Limits, Patient, Patiently};
 use crate::peer::Peer;
-use crate::terms::Patience;
 use std::alloc::Global;
 use std::io;
 use std::io::{BufReader, BufWriter, Read, Write};
 use std::os::unix::net::UnixStream;
 use std::sync::Arc;
 
-/// A connection on a Unix socket, whose client may be silent for a limited time.
+/// A connection on a Unix socket, whose client may take a limited time.
 #[derive(Drop)]
 pub(crate) struct Socket {
     stream: UnixStream,
-    patience: Patience,
+    limits: Limits,
 }
 
 impl Socket {
     /// Creates the connection of this stream.
-    pub(crate) fn new(stream: UnixStream, patience: Patience) -> Socket {
-        Socket { stream, patience }
+    pub(crate) fn new(stream: UnixStream, limits: Limits) -> Socket {
+        Socket { stream, limits }
     }
 }
 
@@ -46,12 +45,12 @@ impl Connection for Socket {
         alloc: Global,
         _book: &mut Nothing,
     ) -> Option<(SocketReader, SocketWriter, Peer)> {
-        let Socket { stream, patience } = self;
-        let peer = Peer::of(&stream);
+        let Socket { stream, limits } = self;
+        let peer = Peer::of(&stream, limits.cut);
         let reading = Arc::new(alloc, stream).ok()?;
         let writing = Arc::try_clone(&reading).ok()?;
-        let reader = BufReader::new(alloc, Patient::new(reading, patience)).ok()?;
-        let writer = BufWriter::new(alloc, Writing { stream: writing }).ok()?;
+        let reader = BufReader::new(alloc, Patient::new(reading, limits)).ok()?;
+        let writer = BufWriter::new(alloc, Patiently::new(writing, limits)).ok()?;
         Some((SocketReader { reader }, SocketWriter { writer }, peer))
     }
 
@@ -84,7 +83,7 @@ impl Read for SocketReader {
 /// The end of a socket that replies are written to, with its buffer.
 #[derive(Drop)]
 pub(crate) struct SocketWriter {
-    writer: BufWriter<Writing>,
+    writer: BufWriter<Patiently>,
 }
 
 impl Write for SocketWriter {
@@ -98,23 +97,5 @@ impl Write for SocketWriter {
 
     fn write_all(&mut self, buf: &[u8]) -> io::Result<()> {
         self.writer.write_all(buf)
-    }
-}
-
-/// A socket that is written to without a buffer.
-#[derive(Drop)]
-struct Writing {
-    stream: Arc<UnixStream>,
-}
-
-impl Write for Writing {
-    fn write(&mut self, buf: &[u8]) -> io::Result<usize> {
-        let mut stream: &UnixStream = &self.stream;
-        stream.write(buf)
-    }
-
-    fn flush(&mut self) -> io::Result<()> {
-        let mut stream: &UnixStream = &self.stream;
-        stream.flush()
     }
 }

@@ -13,19 +13,20 @@ pub struct Terms {
     pub at_once: u32,
     /// The number of connections to accept, 0 for no limit.
     pub sessions: u64,
-    /// How long a client may be silent.
+    /// How long a client may take.
     pub patience: Patience,
+    /// The number of seconds that an orderly end may take before the sessions that are left are cut
+    /// off, 0 for no limit.
+    pub drain: u32,
 }
 
-/// The number of seconds that a client may be silent before its session ends, 0 for no limit.
-///
-/// Each limit bounds one silence, not a whole frame: a client that sends a byte now and then is
-/// never silent for long.
+/// The number of seconds that a client may take before its session ends, 0 for no limit.
 #[derive(Clone, Copy, PartialEq, Eq, Debug)]
 pub struct Patience {
-    /// The limit between two requests and before the first request.
+    /// The limit until a request begins, or the hello.
     pub idle: u32,
-    /// The limit within a request, and within a reply that the client does not read.
+    /// The limit from the first byte of a request to its last, and from the first byte of a reply
+    /// until the client has room for its last.
     pub stall: u32,
 }
 

@@ -11,7 +11,7 @@ use Rattle.sysv_model.specs.declared.limits.TheConstants.{MIN_BLOCKS, MAX_BLOCKS
 abbrev pub AreBlocks : ℕ → Type 0
 AreBlocks n = (MIN_BLOCKS ≤ n) × (n ≤ MAX_BLOCKS)
 
--- A server may have this number of workers.
+-- `--workers` may ask for this number of workers.
 abbrev pub AreWorkers : ℕ → Type 0
 AreWorkers n = (1 ≤ n) × (n ≤ 16)
 

@@ -5,7 +5,7 @@ use Rattle.sysv_server.specs.declared.terms.Terms.{Terms}
 use Rattle.sysv_words.specs.Words.{IsNat32, IsNat64}
 use Rattle.sysvmsg.specs.declared.asked.Serving.{Serving}
 use Rattle.sysvmsg.specs.declared.asked.SocketFile.{SocketFile}
-use Rattle.sysvmsg.specs.declared.asked.TheConstants.{MAX_PATH, MAX_PATH_WITH_MODE}
+use Rattle.sysvmsg.specs.declared.asked.TheConstants.{MAX_AT_ONCE, MAX_PATH, MAX_PATH_WITH_MODE}
 use Rattle.sysvmsg.specs.Asked.{AreAtOnce, AreBlocks, AreWorkers}
 use Rattle.sysvmsg.specs.Words.{HasFlag, HasOr, IsMode, word_of}
 
@@ -13,9 +13,15 @@ use Rattle.sysvmsg.specs.Words.{HasFlag, HasOr, IsMode, word_of}
 abbrev pub AsksForBlocks : List Row → ℕ → Type 0
 AsksForBlocks words blocks = HasOr IsNat32 1024 (word_of words (codes "blocks")) blocks × AreBlocks blocks
 
+-- The word after `--workers` is this number of workers, or there is no such word and the number is as
+-- large as it may be.
+abbrev pub CountsWorkers : Option (List ℕ) → ℕ → Type 0
+CountsWorkers (Some word) workers = IsNat32 word workers × AreWorkers workers
+CountsWorkers None workers = workers ≡ MAX_AT_ONCE
+
 -- A command with these words asks for this number of workers.
 abbrev pub AsksForWorkers : List Row → ℕ → Type 0
-AsksForWorkers words workers = HasOr IsNat32 4 (word_of words (codes "workers")) workers × AreWorkers workers
+AsksForWorkers words workers = CountsWorkers (word_of words (codes "workers")) workers
 
 -- The word after `--at-once`, or else the number of workers, is this number of sessions at once.
 abbrev pub CountsAtOnce : Option (List ℕ) → List Row → ℕ → Type 0
@@ -33,6 +39,7 @@ pub record AsksForTerms (words : List Row) (terms : Terms) : Type 0 where
   pub sessions : HasOr IsNat64 0 (word_of words (codes "sessions")) terms.sessions
   pub idle : HasOr IsNat32 0 (word_of words (codes "idle")) terms.patience.idle
   pub stall : HasOr IsNat32 0 (word_of words (codes "stall")) terms.patience.stall
+  pub drain : HasOr IsNat32 0 (word_of words (codes "drain")) terms.drain
 
 -- A command with these words has this path.
 abbrev pub HasPath : List Row → List ℕ → Type 0

@@ -1,7 +1,7 @@
 //! The request that a command line makes.
 ghost use Rattle.std.specs.Prelude.{◌≡◌, IfOk, MatchOption, OnOk, codes, map};
 ghost use Rattle.clap.specs.Words.{app_of, subcommand_rows_of};
-ghost use Rattle.sysvmsg.specs.Asked.{AreAtOnce, AreBlocks, AreTerms, AreWorkers, HasLimits, IsWithinLimits};
+ghost use Rattle.sysvmsg.specs.Asked.{AreAtOnce, AreBlocks, AreTerms, HasLimits, IsWithinLimits};
 ghost use Rattle.sysvmsg.specs.Requests.{AsksFor, ClientAsks, IsAskedBy, IsMeant};
 ghost use Rattle.sysvmsg.specs.Servers.{AsksForAtOnce, AsksForBlocks, AsksForFile, AsksForTerms};
 ghost use Rattle.sysvmsg.specs.Servers.{AsksForWorkers, AsksToServe, HasPath};
@@ -57,10 +57,10 @@ pub(crate) struct SocketFile<'a> {
     pub(crate) replace: bool,
 }
 
-/// The maximum number of workers of a server.
+/// The maximum number of workers that `--workers` may ask for.
 const MAX_WORKERS: u32 = 16;
 
-/// The maximum number of sessions that a server runs at once.
+/// The maximum number of sessions that a server runs at once, and the number without an option.
 const MAX_AT_ONCE: u32 = 256;
 
 /// The maximum mode of a socket file.
@@ -90,7 +90,7 @@ const BAD_TYPE: Bad = "a type is 1 to 9223372036854775807";
 
 const BAD_BLOCKS: Bad = "the number of blocks is 128 to 65536";
 
-const BAD_WORKERS: Bad = "the number of workers is 1 to 16";
+const BAD_WORKERS: Bad = "the number of workers is 1 to 16, and --at-once N is up to 256";
 
 const BAD_AT_ONCE: Bad = "the number of sessions at once is 1 to 256";
 
@@ -251,11 +251,12 @@ fn terms_of(words: &ArgMatches<'_>) -> Result<Terms, Bad>
             idle: seconds_of(words, "idle")?,
             stall: seconds_of(words, "stall")?,
         },
+        drain: seconds_of(words, "drain")?,
     })
 }
 
-/// Returns the number of sessions that run at once. Without an `--at-once` it is the number of
-/// workers.
+/// Returns the number of sessions that run at once: the word after `--at-once`, or else the number
+/// of workers.
 fn at_once_of(words: &ArgMatches<'_>) -> Result<u32, Bad>
     ensures limits { IfOk result AreAtOnce }
     ensures meaning { IsRead result (AsksForAtOnce (words_in words.now)) }
@@ -269,7 +270,7 @@ fn at_once_of(words: &ArgMatches<'_>) -> Result<u32, Bad>
     }
 }
 
-/// Returns the number of seconds that a client may be silent, 0 for no limit.
+/// Returns the number of seconds that an option has, 0 for no limit.
 fn seconds_of(words: &ArgMatches<'_>, id: &str) -> Result<u32, Bad>
     ensures { IsRead result (HasOr IsNat32 0 (word_of (words_in words.now) id.now)) }
 {
@@ -305,16 +306,17 @@ fn blocks_of(words: &ArgMatches<'_>) -> Result<u32, Bad>
     }
 }
 
-/// Returns the number of workers.
+/// Returns the number of workers: the word after `--workers`, or else as many as a server can have.
 fn workers_of(words: &ArgMatches<'_>) -> Result<u32, Bad>
-    ensures limits { IfOk result AreWorkers }
+    ensures limits { IfOk result AreAtOnce }
     ensures meaning { IsRead result (AsksForWorkers (words_in words.now)) }
 {
-    let workers = number(words, "workers", 4)?;
-    if (1..=MAX_WORKERS).contains(&workers) {
-        Ok(workers)
-    } else {
-        Err(BAD_WORKERS)
+    let Some(word) = word_in(words, "workers") else {
+        return Ok(MAX_AT_ONCE);
+    };
+    match u32::read(word.as_bytes()) {
+        Some(workers) if (1..=MAX_WORKERS).contains(&workers) => Ok(workers),
+        _ => Err(BAD_WORKERS),
     }
 }
 

@@ -9,7 +9,7 @@ const VERSION: &str = "0.2.0";
 const SESSION: &str = "\
 Example:
   $ sysvmsg serve ./q &
-  sysvmsg: serving ./q by 4 workers
+  sysvmsg: serving ./q, up to 256 sessions at once
   $ sysvmsg snd ./q 7 hello --type 5
   $ sysvmsg ipcs ./q
   key             msqid      owner perms  bytes messages
@@ -90,12 +90,11 @@ const SERVE: Known = Known {
     name: "serve",
     about: "Serves message queues on a Unix socket",
     example: "\
-A worker is a thread that runs one client session at a time, from its connection to its end;
-a call that waits occupies its worker.
+Up to 256 clients are served at once; more wait. A call that waits is one of them.
 
 Example:
-  $ sysvmsg serve ./q --workers 8 &
-  sysvmsg: serving ./q by 8 workers",
+  $ sysvmsg serve ./q --mode 660 &
+  sysvmsg: serving ./q, up to 256 sessions at once",
     arguments: &[
         (
             "path",
@@ -120,12 +119,12 @@ Example:
         (
             "workers",
             Form::Value("W"),
-            "The number of workers, 1 to 16 [default: 4]",
+            "The number of sessions at once, 1 to 16",
         ),
         (
             "at-once",
             Form::Value("N"),
-            "The number of workers, 1 to 256, in place of --workers",
+            "The number of sessions at once, 1 to 256 [default: 256]",
         ),
         (
             "sessions",
@@ -145,7 +144,12 @@ Example:
         (
             "stall",
             Form::Value("SECONDS"),
-            "Ends a session that stalls within a request or a reply for this time, 0 for never [default: 0]",
+            "Ends a session whose request or reply takes longer than this, 0 for never [default: 0]",
+        ),
+        (
+            "drain",
+            Form::Value("SECONDS"),
+            "Ends the sessions left this long after the last accept, 0 for never [default: 0]",
         ),
     ],
     either: Some(Either {

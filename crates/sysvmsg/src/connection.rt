@@ -4,6 +4,7 @@ ghost use Rattle.sysv_clients.specs.Run.{HasShortText};
 ghost use Rattle.sysvmsg.specs.Bodies.{with_text};
 
 use crate::input::{Unread, read_body};
+use crate::plain::complain;
 use crate::{FAULT, say};
 use std::alloc::Global;
 use std::io;
@@ -27,7 +28,7 @@ pub(crate) fn run_with_input<I: Read>(
         Ok(body) => run_at(rt, path, &with_body(command, &body)),
         Err(Unread::NoMemory) => say(rt, "no memory"),
         Err(Unread::Failed(why)) => {
-            let _ = eprintln!(rt; "sysvmsg: standard input: {why}");
+            complain(rt, "standard input", &why, "");
             say(rt, "cannot read")
         }
     }
@@ -94,7 +95,7 @@ pub(crate) fn run_at(
     match UnixStream::connect(rt, path) {
         Ok(stream) => run_over(rt.alloc(), &stream, command, &mut io::writer(rt)),
         Err(why) => {
-            let _ = eprintln!(rt; "sysvmsg: {path}: {why}");
+            complain(rt, path, &why, "");
             say(rt, "no server")
         }
     }

@@ -5,6 +5,7 @@ mod asked;
 mod commands;
 mod connection;
 mod input;
+mod plain;
 mod serving;
 mod socket;
 

@@ -2,9 +2,11 @@
 ghost use Rattle.sysvmsg.specs.Asked.{HasLimits};
 
 use crate::asked::Serving;
-use crate::socket::{Unbound, listen_at};
+use crate::plain::complain;
+use crate::socket::listen_at;
 use crate::{FAULT, say};
-use std::io::{Eprint, Read};
+use std::io;
+use std::io::{ErrorKind, Eprint, Read};
 use std::net::Net;
 use std::os::fd::AsRawFd;
 use std::os::unix::net::UnixListener;
@@ -12,51 +14,102 @@ use std::process::ExitCode;
 use std::rt::Files;
 use std::sync::Wait;
 use std::thread::Threads;
-use sysv_server::{Sums, serve_listener};
+use sysv_server::{Host, Notice, Reason, ServeFault, Sums, Terms, serve_listener};
+
+/// The host of a server: it opens the socket, and reports on standard error.
+#[derive(Drop)]
+struct Reporter<'a, R> {
+    rt: &'a R,
+    serving: &'a Serving<'a>,
+}
+
+impl<R: Files + Net + Eprint + AllocGlobal + Clone + Drop> Host for Reporter<'_, R> {
+    /// Opens the socket, and reports that the server listens, or why it does not.
+    fn listen(&self) -> io::Result<UnixListener> {
+        let Reporter { rt, serving } = *self;
+        let listener = listen_at(rt, &serving.file)?;
+        let at_once = serving.terms.at_once;
+        let sessions = if at_once == 1 { "session" } else { "sessions" };
+        let path = serving.file.path;
+        let _ = eprintln!(*rt; "sysvmsg: serving {path}, up to {at_once} {sessions} at once");
+        Ok(listener)
+    }
+
+    fn note(&self, notice: Notice) {
+        let rt = self.rt;
+        match notice {
+            Notice::Held(why) => complain(rt, "cannot accept, and tries again", &why, ""),
+            Notice::Resumed => {
+                let _ = eprintln!(*rt; "sysvmsg: accepts again");
+            }
+            Notice::Busy { sessions, waiting } => {
+                let _ = eprintln!(*rt;
+                    "sysvmsg: no worker is free: sessions {sessions}, waiting {waiting}"
+                );
+            }
+            Notice::NoMemory => {
+                let _ = eprintln!(*rt; "sysvmsg: no memory for a session");
+            }
+            Notice::Cut => {
+                let _ = eprintln!(*rt; "sysvmsg: the sessions that are left are cut off");
+            }
+        }
+    }
+}
 
 /// Serves at a path, reports on standard error that it listens, and prints the sums of the
 /// sessions. The input is read only if the server is to end after it has ended.
 pub(crate) fn serve_at<
     I: Read + AsRawFd + Drop,
-    R: Files + Net + Threads + Wait + Sync + Print + Eprint + AllocGlobal,
+    R: Files + Net + Threads + Wait + Sync + Print + Eprint + AllocGlobal + Clone + Drop,
 >(rt: &R, input: I, serving: &Serving<'_>) -> ExitCode
     requires { HasLimits serving.now }
 {
-    match listen_at(rt, &serving.file) {
-        Ok(listener) => {
-            let _ = eprintln!(rt;
-                "sysvmsg: serving {} by {} workers",
-                serving.file.path, serving.terms.at_once
-            );
-            let input = serving.until_eof.then_some(input);
-            serve_over(rt, listener, input, serving)
-        }
-        Err(Unbound { end, why }) => {
-            let _ = eprintln!(rt; "sysvmsg: {}{end}: {why}", serving.file.path);
-            say(rt, "cannot bind")
+    let host = Reporter { rt, serving };
+    let input = serving.until_eof.then_some(input);
+    let mut reason = None;
+    match serve_listener(rt, rt.alloc(), host, input, serving.terms, &mut reason) {
+        Ok(ended) => end(rt, &ended.sums, reason),
+        Err(fault) => {
+            explain(rt, fault, &serving.terms);
+            say(rt, "no memory")
         }
     }
 }
 
-/// Serves the connections of a listener, and prints the sums of their sessions. If an accept fails,
-/// the reason is reported on standard error.
-fn serve_over<I: Read + AsRawFd + Drop, R: Threads + Wait + Sync + Print + Eprint + AllocGlobal>(
-    rt: &R,
-    listener: UnixListener,
-    input: Option<I>,
-    serving: &Serving<'_>,
-) -> ExitCode
-    requires { HasLimits serving.now }
-{
-    let mut fault = None;
-    let outcome = serve_listener(rt, rt.alloc(), listener, input, serving.terms, &mut fault);
-    if let Some(why) = fault {
-        let _ = eprintln!(rt; "sysvmsg: cannot accept: {why}");
+/// Prints how a server ended that accepted no more connections for this reason. If an accept
+/// failed, that is reported on standard error.
+fn end<R: Print + Eprint + AllocGlobal>(rt: &R, sums: &Sums, reason: Option<Reason>) -> ExitCode {
+    match reason {
+        Some(Reason::NoSocket(why)) if why.kind() == ErrorKind::OutOfMemory => {
+            say(rt, "no memory")
+        }
+        Some(Reason::NoSocket(_)) => say(rt, "cannot bind"),
+        Some(Reason::Accept(why)) => {
+            complain(rt, "cannot accept", &why, "");
+            tell(rt, sums);
+            ExitCode::from(FAULT)
+        }
+        _ => tell(rt, sums),
     }
-    match outcome {
-        Ok(ended) => tell(rt, &ended.sums),
-        Err(_) => say(rt, "no memory"),
-    }
+}
+
+/// Reports on standard error why a server did not serve to its end.
+fn explain(rt: &impl Eprint, fault: ServeFault, terms: &Terms) {
+    let Terms {
+        blocks,
+        at_once,
+        ..
+    } = *terms;
+    let _ = match fault {
+        ServeFault::NoMemory => {
+            eprintln!(rt; "sysvmsg: no memory for {blocks} blocks and {at_once} sessions")
+        }
+        ServeFault::Thread => {
+            eprintln!(rt; "sysvmsg: cannot start {at_once} threads: the system refuses more")
+        }
+        ServeFault::Worn | ServeFault::Missed => eprintln!(rt; "sysvmsg: {fault}"),
+    };
 }
 
 /// Prints the sums.

@@ -1,9 +1,10 @@
 //! The file of a server's socket.
 
 use crate::asked::SocketFile;
+use crate::plain::complain;
 use std::alloc::Global;
 use std::fs::{DirBuilder, Permissions};
-use std::io::ErrorKind;
+use std::io::{Eprint, ErrorKind};
 use std::net::Net;
 use std::os::unix::fs::{DirBuilderExt, FileTypeExt, PermissionsExt};
 use std::os::unix::net::{UnixListener, UnixStream};
@@ -13,70 +14,117 @@ use std::{fs, io};
 /// The mode of a folder that only its owner may use.
 const PRIVATE: u32 = 0o700;
 
-/// The error that there is no socket.
+/// The name of the socket in the private folder.
+const SOCKET: &str = "s";
+
+/// What is said if the file is there already, and may be one that `--replace` removes.
+const HINT: &str = " (--replace removes a socket that no server uses)";
+
+/// The names of the files that a server makes.
 #[derive(Drop)]
-pub(crate) struct Unbound {
-    /// What follows the socket's path in the name of the file at fault.
-    pub(crate) end: &'static str,
-    /// Why there is no socket.
-    pub(crate) why: io::Error,
+struct Names {
+    /// The private folder, in which a socket with a mode is made.
+    folder: String,
+    /// The socket in it.
+    private: String,
 }
 
-impl From<io::Error> for Unbound {
-    /// Returns the error with the socket's own file at fault.
-    fn from(why: io::Error) -> Unbound {
-        Unbound { end: "", why }
-    }
-}
-
-/// Creates the socket and listens on it.
-pub(crate) fn listen_at<R: Files + Net + AllocGlobal>(
+/// Creates the socket and listens on it. If there is none, the reason is reported on standard error.
+pub(crate) fn listen_at<R: Files + Net + Eprint + AllocGlobal + Clone + Drop>(
     rt: &R,
     file: &SocketFile<'_>,
-) -> Result<UnixListener, Unbound> {
+) -> io::Result<UnixListener> {
+    let names = names_of(rt.alloc(), file.path)?;
     if file.replace {
-        remove_unused(rt, file.path)?;
+        clear(rt, file.path, &names);
     }
     match file.mode {
-        Some(mode) => bind_with(rt, file.path, mode),
-        None => Ok(UnixListener::bind(rt, file.path)?),
+        Some(mode) => bind_with(rt, file, &names, mode),
+        None => {
+            let outcome = UnixListener::bind(rt, file.path);
+            told(rt, file, file.path, outcome)
+        }
+    }
+}
+
+/// Returns the outcome. If the file `path` is at fault, that is reported on standard error.
+fn told<T, R: Eprint + AllocGlobal>(
+    rt: &R,
+    file: &SocketFile<'_>,
+    path: &str,
+    outcome: io::Result<T>,
+) -> io::Result<T> {
+    if let Err(why) = &outcome {
+        let hint = if is_there(why) && !file.replace {
+            HINT
+        } else {
+            ""
+        };
+        complain(rt, path, why, hint);
+    }
+    outcome
+}
+
+/// Returns whether a file is there already.
+fn is_there(why: &io::Error) -> bool {
+    matches!(why.kind(), ErrorKind::AddrInUse | ErrorKind::AlreadyExists)
+}
+
+/// Removes what a server that was killed has left: the socket, and the private folder if nothing is
+/// in it but its socket. A socket on which a server listens stays.
+fn clear<R: Files + Net + AllocGlobal + Clone + Drop>(rt: &R, path: &str, names: &Names) {
+    remove_unused(rt, path);
+    if has_no_other(rt, names) {
+        remove_unused(rt, names.private.as_str());
+        let _ = fs::remove_dir(rt, names.folder.as_str());
     }
 }
 
 /// Removes the file at `path` if it is a socket on which no server listens.
-fn remove_unused<R: Files + Net>(rt: &R, path: &str) -> io::Result<()> {
+fn remove_unused<R: Files + Net>(rt: &R, path: &str) {
     let is_socket = fs::symlink_metadata(rt, path).is_ok_and(|found| found.file_type().is_socket());
     if !is_socket {
-        return Ok(());
+        return;
     }
-    match UnixStream::connect(rt, path) {
-        Err(why) if why.kind() == ErrorKind::ConnectionRefused => fs::remove_file(rt, path),
-        _ => Ok(()),
+    if let Err(why) = UnixStream::connect(rt, path) {
+        if why.kind() == ErrorKind::ConnectionRefused {
+            let _ = fs::remove_file(rt, path);
+        }
     }
+}
+
+/// Returns whether the private folder holds nothing but its socket. If it cannot be read, it does
+/// not.
+fn has_no_other<R: Files + AllocGlobal + Clone + Drop>(rt: &R, names: &Names) -> bool {
+    let Ok(mut entries) = fs::read_dir(rt, names.folder.as_str()) else {
+        return false;
+    };
+    entries.all(|entry| entry.is_ok_and(|entry| entry.file_name() == SOCKET))
 }
 
 /// Creates a socket with this mode. The socket is created in a private folder beside the path, and
 /// is linked to the path once it has the mode, so that it never has another mode there.
-fn bind_with<R: Files + Net + AllocGlobal>(
+fn bind_with<R: Files + Net + Eprint + AllocGlobal>(
     rt: &R,
-    path: &str,
+    file: &SocketFile<'_>,
+    names: &Names,
     mode: u32,
-) -> Result<UnixListener, Unbound> {
-    let (folder, private) = private_names(rt.alloc(), path)?;
-    if let Err(why) = DirBuilder::new().mode(PRIVATE).create(rt, folder.as_str()) {
-        return Err(Unbound { end: ".d", why });
-    }
-    let listener = bind_in(rt, private.as_str(), path, mode);
-    let _ = fs::remove_file(rt, private.as_str());
-    let _ = fs::remove_dir(rt, folder.as_str());
-    Ok(listener?)
+) -> io::Result<UnixListener> {
+    let (folder, private) = (names.folder.as_str(), names.private.as_str());
+    let made = DirBuilder::new().mode(PRIVATE).create(rt, folder);
+    told(rt, file, folder, made)?;
+    let outcome = bind_in(rt, private, file.path, mode);
+    let _ = fs::remove_file(rt, private);
+    let _ = fs::remove_dir(rt, folder);
+    told(rt, file, file.path, outcome)
 }
 
-/// Returns the name of the private folder, and that of the socket in it.
-fn private_names(alloc: Global, path: &str) -> io::Result<(String, String)> {
-    let folder = format!(in alloc; "{path}.d")?;
-    let private = format!(in alloc; "{path}.d/s")?;
-    Ok((folder, private))
+/// Returns the names of the files that a server at this path makes.
+fn names_of(alloc: Global, path: &str) -> io::Result<Names> {
+    Ok(Names {
+        folder: format!(in alloc; "{path}.d")?,
+        private: format!(in alloc; "{path}.d/{SOCKET}")?,
+    })
 }
 
 /// Creates a socket with this mode at the path `private`, and links it to `path`.

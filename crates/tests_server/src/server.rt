@@ -5,7 +5,7 @@ mod growths;
 
 use crate::commands::five_sessions;
 use std::alloc::Global;
-use std::io::{Read, Write};
+use std::io::{ErrorKind, Read, Write};
 use std::net::Net;
 use std::os::unix::net::{UnixListener, UnixStream};
 use std::process::Abort;
@@ -13,9 +13,11 @@ use std::rt::Files;
 use std::sync::Wait;
 use std::thread::Threads;
 use std::time::{Clock, Duration};
-use std::{fs, thread};
+use std::{fs, io, thread};
 use sysv_keys::SLOTS;
-use sysv_server::{Ended, Patience, ServeFault, Sums, Terms, serve_listener, serve_on};
+use sysv_server::{
+    Ended, Host, Notice, Patience, Reason, ServeFault, Sums, Terms, serve_listener, serve_on,
+};
 use sysv_service::Closed;
 
 /// What is left of a service of 128 blocks when it is closed: no message, all blocks, no held gate.
@@ -308,27 +310,56 @@ fn adds_up<R: Threads + Wait + Net + Files + Abort + Clock + Sync>(
     }
 }
 
-/// Returns how a server on these terms ends, and whether its clients had the right replies.
+/// The host of a server, with a listener of which the server gets a copy.
+#[derive(Drop)]
+struct Bound {
+    listener: UnixListener,
+}
+
+impl Host for Bound {
+    fn listen(&self) -> io::Result<UnixListener> {
+        self.listener.try_clone()
+    }
+
+    fn note(&self, _notice: Notice) {}
+}
+
+/// The host of a server, which has no listener.
+#[derive(Drop)]
+struct Unbound;
+
+impl Host for Unbound {
+    fn listen(&self) -> io::Result<UnixListener> {
+        Err(io::Error::from(ErrorKind::AddrInUse))
+    }
+
+    fn note(&self, _notice: Notice) {}
+}
+
+/// Returns how a server on these terms ends, and whether that was because all its connections were
+/// accepted, and whether its clients had the right replies.
 fn ended<R: Threads + Wait + Net + Files + Abort + Clock + Sync>(
     rt: &R,
     alloc: Global,
     terms: Terms,
     clients: Clients,
-) -> (Result<Ended, ServeFault>, bool)
+) -> ((Result<Ended, ServeFault>, bool), bool)
     requires { (128 ≤ terms.blocks) × (terms.blocks ≤ 65536) × (1 ≤ terms.at_once)
         × (terms.at_once ≤ 256) }
 {
     let path = "server.socket";
     let _old = fs::remove_file(rt, path);
     let listener = UnixListener::bind(rt, path).expect(rt, "a socket");
+    let host = Bound { listener };
     thread::join(
         rt,
-        move || -> Result<Ended, ServeFault>
+        move || -> (Result<Ended, ServeFault>, bool)
             requires { (128 ≤ terms.blocks) × (terms.blocks ≤ 65536) × (1 ≤ terms.at_once)
                 × (terms.at_once ≤ 256) }
         {
-            let mut fault = None;
-            serve_listener(rt, alloc, listener, None::<UnixStream>, terms, &mut fault)
+            let mut reason = None;
+            let end = serve_listener(rt, alloc, host, None::<UnixStream>, terms, &mut reason);
+            (end, matches!(reason, Some(Reason::Full)))
         },
         move || clients.run(rt, alloc, path),
     )
@@ -353,13 +384,14 @@ fn ends_as<R: Threads + Wait + Net + Files + Abort + Clock + Sync>(
             idle: 60,
             stall: 60,
         },
+        drain: 60,
     };
     let first = ended(rt, alloc, terms, clients);
-    if matches!(&first.0, Err(ServeFault::NoMemory | ServeFault::Thread)) {
+    if matches!(&first.0.0, Err(ServeFault::NoMemory | ServeFault::Thread)) {
         let second = ended(rt, alloc, terms, clients);
-        assert_eq!(rt; second, (Ok(end), true));
+        assert_eq!(rt; second, ((Ok(end), true), true));
     } else {
-        assert_eq!(rt; first, (Ok(end), true));
+        assert_eq!(rt; first, ((Ok(end), true), true));
     }
 }
 
@@ -429,4 +461,31 @@ fn no_queue_is_left(rt: HostRuntime) {
         closed: EMPTY,
     };
     ends_as(&rt, rt.alloc(), 40, Clients::Commanding, end);
+}
+
+#[test]
+fn a_server_without_a_listener_serves_nobody(rt: HostRuntime) {
+    let terms = Terms {
+        blocks: 128,
+        at_once: 2,
+        sessions: 3,
+        patience: Patience::UNBOUNDED,
+        drain: 0,
+    };
+    let mut reason = None;
+    let end = serve_listener(
+        &rt,
+        rt.alloc(),
+        Unbound,
+        None::<UnixStream>,
+        terms,
+        &mut reason,
+    );
+    match end {
+        Ok(end) => {
+            assert_eq!(&rt; end.sums, sums(0, 0, 0));
+            assert!(&rt; matches!(reason, Some(Reason::NoSocket(_))));
+        }
+        Err(fault) => assert!(&rt; matches!(fault, ServeFault::NoMemory | ServeFault::Thread)),
+    }
 }

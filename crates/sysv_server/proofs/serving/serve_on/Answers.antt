@@ -8,6 +8,6 @@ returns-in-Ok-clause-ok g c =
     let ok = c.in-Some.books.ok in
     let many = c.in-Some.ensures in
     let counted : length c.in-Some.books.items ≡ c.args.workers = omega arith in
-    serves_on c.args.blocks c.args.workers c.args.sessions c.lent-source.result c.serve_connections.new.source
-    c.in-Some.books.items c.serve_connections.new.books.items c.in-Ok.ended c.lent-source.ensures.counts.1
+    serves_on c.args.blocks c.args.workers c.args.sessions c.lent-source.result c.serve_all.new.source
+    c.in-Some.books.items c.serve_all.new.books.items c.in-Ok.ended c.lent-source.ensures.counts.1
     c.lent-source.ensures.counts.0 (let fits = c.ranges.sessions in omega arith) counted c.in-Ok.ensures.ok

@@ -6,7 +6,7 @@ use Rattle.sysv_service.specs.Ran.{Pass}
 use Rattle.sysv_server.specs.Handled.{first_passes, last_passes, told_in}
 use Rattle.sysv_server.specs.OneRun.{Stopped}
 use Rattle.sysv_server.proofs.Adding.{balanced}
-use Rattle.sysv_server.proofs.connections.serve_connections.Goals as goal
+use Rattle.sysv_server.proofs.connections.serve_all.Goals as goal
 
 pub returns-in-Ok-outcome-clause-ok : goal.returns-in-Ok-outcome-clause-ok
 returns-in-Ok-outcome-clause-ok g c =

@@ -1,0 +1,55 @@
+//! The program that a server runs in.
+use std::io;
+use std::os::unix::net::UnixListener;
+
+/// The program that a server runs in: it opens the socket, and learns what happens to the server.
+pub trait Host {
+    /// Opens the socket that connections are accepted from. The server calls it once, when it has
+    /// its memory and its threads.
+    fn listen(&self) -> io::Result<UnixListener>;
+
+    /// Learns of something that happened to the server. Like `listen`, the thread that accepts
+    /// connections calls it.
+    fn note(&self, notice: Notice);
+}
+
+/// What happened to a server that goes on.
+#[derive(Debug, Drop)]
+pub enum Notice {
+    /// An accept failed for want of something. The server tries again every 100 ms.
+    Held(io::Error),
+    /// Connections are accepted again.
+    Resumed,
+    /// A connection has waited a second for a worker: this number of sessions run, and this number
+    /// of connections wait. It is told at most once a minute.
+    Busy { sessions: u64, waiting: u64 },
+    /// The memory of a session was refused. It is told of the first such session alone.
+    NoMemory,
+    /// The time for an orderly end is over, and the sessions that are left are cut off.
+    Cut,
+}
+
+/// Why a server accepted no more connections.
+#[derive(Debug, Drop)]
+pub enum Reason {
+    /// The number of connections was reached.
+    Full,
+    /// The input has ended or could not be read.
+    InputOver,
+    /// The socket could not be opened.
+    NoSocket(io::Error),
+    /// An accept failed.
+    Accept(io::Error),
+}
+
+/// The host of a server that has its listener. It drops what it is told.
+#[derive(Drop)]
+pub(crate) struct Quiet;
+
+impl Host for Quiet {
+    fn listen(&self) -> io::Result<UnixListener> {
+        Err(io::Error::from(io::ErrorKind::Unsupported))
+    }
+
+    fn note(&self, _notice: Notice) {}
+}
