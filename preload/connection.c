@@ -14,15 +14,18 @@
 #include <sys/socket.h>
 #include <sys/stat.h>
 #include <sys/syscall.h>
+#include <sys/time.h>
 #include <sys/uio.h>
 #include <sys/un.h>
 #include <time.h>
 #include <unistd.h>
 
 enum {
-    CONNECTIONS = 1024,    /* threads that can keep one */
-    HIGH_DESCRIPTOR = 900, /* out of the way of programs that count or close theirs */
-    REST_SECONDS = 10,     /* how long the rest of a reply may take that has begun */
+    CONNECTIONS = 1024,        /* threads that can keep one */
+    HIGH_DESCRIPTOR = 900,     /* out of the way of programs that count or close theirs */
+    REST_SECONDS = 10,         /* how long the rest of a reply may take that has begun */
+    FIRST_MICROSECONDS = 2000, /* how long a single recv may wait for a reply */
+    HELLO_MILLISECONDS = 250,  /* how long an interrupted call waits for the reply to its hello */
 };
 
 /* Tells whether a descriptor still is the file that it was. */
@@ -42,11 +45,12 @@ struct connection {
     int slots;          /* of the reply to the hello */
 };
 
-/* How a call was made. */
+/* How a call was made, and whether a signal handler has ended its wait. */
 struct call {
     pid_t process; /* in which it began */
     bool may_wait;
-    bool may_be_cancelled;
+    int cancel_state; /* while it waits */
+    bool is_interrupted;
 };
 
 /* The connections of all threads, so that a child of fork can close its copies of them. */
@@ -135,6 +139,14 @@ static void end_session(struct connection *connection)
     connection->fd = -1;
 }
 
+/* Closes a child's copy of its parent's connection, whose session goes on. */
+static void close_copy(struct connection *connection)
+{
+    if (is_open(connection))
+        close(connection->fd);
+    connection->fd = -1;
+}
+
 static void end_thread(void *connection)
 {
     in_call = 1;
@@ -156,9 +168,7 @@ static void begin_child(void)
     for (struct connection *each = connections; each < connections + CONNECTIONS; each++) {
         if (!atomic_load(&each->taken))
             continue;
-        if (is_open(each))
-            close(each->fd);
-        each->fd = -1;
+        close_copy(each);
         if (each != mine)
             atomic_store(&each->taken, false);
     }
@@ -168,7 +178,7 @@ static void begin_child(void)
 static void begin(void)
 {
     const char *word = secure_getenv("SYSVMSG_EINTR");
-    ends_by_signals = word && strcmp(word, "1") == 0;
+    ends_by_signals = !word || strcmp(word, "0") != 0;
     word = secure_getenv("SYSVMSG_PATH");
     if (!word || !*word)
         return;
@@ -218,14 +228,18 @@ static void say_once(const char *why)
     write_line(line, 5);
 }
 
-/* Ends a session that failed during a call. If a signal handler forks during a call, it returns to
- * that call in the child too, whose copy of the connection is closed. There the call was
- * interrupted, and nothing is wrong. */
+/* If a signal handler forks during a call, it returns to that call in the child too. */
+static bool is_in_child(const struct call *call) { return getpid() != call->process; }
+
+/* Ends a session that failed during a call. In a child that a signal handler forked during the call
+ * nothing is wrong: there the call was interrupted. */
 static int broken(struct connection *connection, const struct call *call, const char *why)
 {
-    end_session(connection);
-    if (getpid() != call->process)
+    if (is_in_child(call)) {
+        close_copy(connection);
         return EINTR;
+    }
+    end_session(connection);
     say_once(why);
     return EIO;
 }
@@ -265,35 +279,6 @@ static ssize_t receive_pieces(int fd, struct iovec pieces[2], int flags)
     return recvmsg(fd, &(struct msghdr){.msg_iov = pieces, .msg_iovlen = 2}, flags);
 }
 
-/* Waits for the beginning of a reply, and returns what recv returns. If `by_signals`, a handled
- * signal ends the wait. That takes a poll, which every handled signal ends: recv is restarted if
- * the handler has SA_RESTART. */
-static ssize_t await_bytes(int fd, struct iovec pieces[2], bool by_signals)
-{
-    ssize_t got;
-    if (by_signals && poll(&(struct pollfd){.fd = fd, .events = POLLIN}, 1, -1) < 0) {
-        got = receive_pieces(fd, pieces, MSG_DONTWAIT);
-        if (got < 0 && errno != EFAULT)
-            errno = EINTR;
-        return got;
-    }
-    do
-        got = receive_pieces(fd, pieces, 0);
-    while (got < 0 && errno == EINTR);
-    return got;
-}
-
-static ssize_t await_cancellable(struct connection *connection, struct iovec pieces[2])
-{
-    ssize_t got;
-    pthread_cleanup_push(abandon, connection);
-    pthread_setcancelstate(PTHREAD_CANCEL_ENABLE, NULL);
-    got = await_bytes(connection->fd, pieces, ends_by_signals);
-    pthread_setcancelstate(PTHREAD_CANCEL_DISABLE, NULL);
-    pthread_cleanup_pop(0);
-    return got;
-}
-
 static long milliseconds(void)
 {
     struct timespec now;
@@ -301,13 +286,19 @@ static long milliseconds(void)
     return now.tv_sec * 1000L + now.tv_nsec / 1000000L;
 }
 
+/* Waits until there is something to read, and returns what poll returns. In a child that a signal
+ * handler forked there is no connection, and reading fails at once. */
+static int await_input(int fd, int timeout)
+{
+    return fd < 0 ? 1 : poll(&(struct pollfd){.fd = fd, .events = POLLIN}, 1, timeout);
+}
+
 /* Waits for more of a reply. Returns what recv returns, or 0 if nothing came until `deadline`. */
 static ssize_t await_rest(int fd, struct iovec pieces[2], long deadline)
 {
     for (;;) {
         long left = deadline - milliseconds();
-        int ready =
-            left <= 0 ? 0 : poll(&(struct pollfd){.fd = fd, .events = POLLIN}, 1, (int)left);
+        int ready = left <= 0 ? 0 : await_input(fd, (int)left);
         if (ready == 0)
             return 0;
         if (ready > 0)
@@ -326,24 +317,93 @@ static bool goes_on(const struct frame *frame, const struct iovec pieces[2])
     return whole > frame->length && whole - frame->length <= room;
 }
 
-/* Waits for the beginning of a reply as its call may wait. */
-static ssize_t await_reply(
-    struct connection *connection, struct iovec pieces[2], const struct call *call)
+/* Waits until there is something to read, and returns what poll returns. Each signal handler that
+ * runs meanwhile ends it with EINTR, and nothing else does. */
+static int await_cancellable(struct connection *connection, const struct call *call)
 {
-    if (call->may_wait && call->may_be_cancelled)
-        return await_cancellable(connection, pieces);
-    return await_bytes(connection->fd, pieces, call->may_wait && ends_by_signals);
+    int ready;
+    pthread_cleanup_push(abandon, connection);
+    pthread_setcancelstate(call->cancel_state, NULL);
+    ready = await_input(connection->fd, -1);
+    pthread_setcancelstate(PTHREAD_CANCEL_DISABLE, NULL);
+    pthread_cleanup_pop(0);
+    return ready;
+}
+
+/* Whether the program handles any signal. */
+static bool has_handler(void)
+{
+    struct sigaction action;
+    for (int number = 1; number < NSIG; number++)
+        if (sigaction(number, NULL, &action) == 0 && action.sa_handler != SIG_DFL
+            && action.sa_handler != SIG_IGN)
+            return true;
+    return false;
+}
+
+/* Notes that a signal handler ran during a call. */
+static void note_signal(struct call *call)
+{
+    call->is_interrupted = (call->may_wait && ends_by_signals) || is_in_child(call);
+}
+
+/* Waits on for a reply after a first recv ended early, `by_signal` or by its limit of time. The
+ * limit makes recv fail with EINTR after each handler, also with SA_RESTART, but after a stop that
+ * was continued too. If the program has no handler, it was a stop. */
+static void await_longer(struct connection *connection, struct call *call, bool by_signal)
+{
+    if (by_signal && has_handler())
+        note_signal(call);
+    while (!call->is_interrupted && await_cancellable(connection, call) < 0 && errno == EINTR)
+        note_signal(call);
+}
+
+/* Leaves a wait: the server replies if the call is done, and else ends the session without a reply.
+ * A connection that is not the call's own any more is not read either. */
+static void leave(struct connection *connection, const struct call *call)
+{
+    if (is_in_child(call))
+        close_copy(connection);
+    else if (is_open(connection))
+        shutdown(connection->fd, SHUT_WR);
+    else
+        connection->fd = -1;
+}
+
+/* Whether recv ended without anything: by its limit of time, or by a signal. */
+static bool is_early(ssize_t got) { return got < 0 && (errno == EAGAIN || errno == EINTR); }
+
+/* Waits for the beginning of a reply as its call may wait. Returns what recv returns, or 0 if an
+ * interrupted call gets no worker of the server. */
+static ssize_t await_reply(
+    struct connection *connection, bool is_hello, struct iovec pieces[2], struct call *call)
+{
+    if (call->is_interrupted)
+        leave(connection, call);
+    ssize_t got = receive_pieces(connection->fd, pieces, 0);
+    if (is_early(got) && !call->is_interrupted) {
+        await_longer(connection, call, errno == EINTR);
+        if (call->is_interrupted && is_hello && !is_in_child(call))
+            return await_rest(connection->fd, pieces, milliseconds() + HELLO_MILLISECONDS);
+        if (call->is_interrupted)
+            leave(connection, call);
+        got = receive_pieces(connection->fd, pieces, 0);
+    }
+    while (is_early(got)) {
+        await_input(connection->fd, -1);
+        got = receive_pieces(connection->fd, pieces, MSG_DONTWAIT);
+    }
+    return got;
 }
 
 /* Reads a reply. Returns what recv returned last: if that is above 0, no more is to come. */
-static ssize_t read_reply(
-    struct connection *connection, struct frame *frame, const struct call *call)
+static ssize_t read_reply(struct connection *connection, struct frame *frame, struct call *call)
 {
     struct iovec pieces[2];
     long deadline = 0;
     frame_reply(frame, pieces);
     frame->length = 0;
-    ssize_t got = await_reply(connection, pieces, call);
+    ssize_t got = await_reply(connection, frame->operation == HELLO, pieces, call);
     while (got > 0) {
         frame->length += (size_t)got;
         skip(pieces, (size_t)got);
@@ -384,14 +444,15 @@ static int unsent(struct connection *connection, const struct call *call, size_t
     return EFAULT;
 }
 
-/* Ends a call whose reply did not come as a whole: `got` is what recv returned last. */
+/* Ends a call whose reply did not come as a whole: `got` is what recv returned last. If an
+ * interrupted call has no byte of a reply, it had no effect. */
 static int unanswered(
     struct connection *connection, const struct frame *frame, const struct call *call, ssize_t got)
 {
-    if (got < 0 && (errno == EINTR || errno == EFAULT)) {
-        int error = errno;
+    bool has_left = got == 0 && frame->length == 0 && call->is_interrupted;
+    if (has_left || (got < 0 && errno == EFAULT)) {
         end_session(connection);
-        return error;
+        return has_left ? EINTR : EFAULT;
     }
     return broken(connection, call,
         frame->length == 0 ? "the server closed the connection"
@@ -399,7 +460,7 @@ static int unanswered(
 }
 
 /* Sends a request and reads its reply. */
-static int exchange(struct connection *connection, struct frame *frame, const struct call *call)
+static int exchange(struct connection *connection, struct frame *frame, struct call *call)
 {
     size_t sent = write_request(connection->fd, frame);
     if (sent < frame->length)
@@ -431,6 +492,8 @@ static bool open_held(struct connection *connection)
     if (fd < 0)
         return false;
     fd = move_up(fd);
+    setsockopt(fd, SOL_SOCKET, SO_RCVTIMEO, &(struct timeval){.tv_usec = FIRST_MICROSECONDS},
+        sizeof(struct timeval));
     if (!note_file(fd, &connection->file)) {
         close(fd);
         return false;
@@ -447,16 +510,18 @@ static bool open_socket(struct connection *connection)
     return is_opened;
 }
 
-static bool connect_server(int fd)
+/* A connect that a signal interrupts waited, because the server's queue of connections is full. */
+static bool connect_server(int fd, struct call *call)
 {
     int status;
-    do
+    do {
         status = connect(fd, (const struct sockaddr *)&server, sizeof server);
-    while (status < 0 && errno == EINTR);
+        call->is_interrupted = status < 0 && errno == EINTR && call->may_wait && ends_by_signals;
+    } while (status < 0 && errno == EINTR && !call->is_interrupted);
     return status == 0;
 }
 
-static int say_hello(struct connection *connection, const struct call *call)
+static int say_hello(struct connection *connection, struct call *call)
 {
     struct frame hello;
     frame_begin(&hello, HELLO);
@@ -482,12 +547,12 @@ static const char *why_unconnected(int error)
     }
 }
 
-static int begin_session(struct connection *connection, const struct call *call)
+static int begin_session(struct connection *connection, struct call *call)
 {
     if (!*server.sun_path)
         return broken(connection, call, "it is longer than 107 bytes");
-    if (!open_socket(connection) || !connect_server(connection->fd))
-        return broken(connection, call, why_unconnected(errno));
+    if (!open_socket(connection) || !connect_server(connection->fd, call))
+        return call->is_interrupted ? EINTR : broken(connection, call, why_unconnected(errno));
     return say_hello(connection, call);
 }
 
@@ -521,7 +586,7 @@ static bool has_present_ids(const struct connection *connection)
 }
 
 /* Opens the connection unless it is open and its hello had the present effective user and group. */
-static int make_ready(struct connection *connection, const struct call *call)
+static int make_ready(struct connection *connection, struct call *call)
 {
     if (is_open(connection) && has_present_ids(connection))
         return 0;
@@ -575,11 +640,15 @@ int ask(struct frame *frame, bool may_wait)
     int cancel_state, errno_before = errno;
     struct connection single = {.fd = -1};
     pthread_setcancelstate(PTHREAD_CANCEL_DISABLE, &cancel_state);
-    const struct call call = {getpid(), may_wait, cancel_state == PTHREAD_CANCEL_ENABLE};
+    struct call call = {.process = getpid(),
+        .may_wait = may_wait,
+        .cancel_state = may_wait ? cancel_state : PTHREAD_CANCEL_DISABLE};
     struct connection *connection = borrow(&single, &call);
     int error = make_ready(connection, &call);
     if (error == 0)
         error = exchange(connection, frame, &call);
+    if (call.is_interrupted)
+        end_session(connection);
     frame->slots = connection->slots;
     give_back(connection, &single);
     pthread_setcancelstate(cancel_state, NULL);

@@ -1,16 +1,20 @@
-# Completion of sysvmsg(1) for bash. Words that it does not know complete to file names, as PATH does.
+# Completion of sysvmsg(1) and sysvmsg-run(1) for bash. Words that it does not know complete to file names, as PATH does.
 
 # Prints the options of a command, or the commands if it is none.
 _sysvmsg_words() {
-    local credentials="--uid --gid --pid"
+    local credentials="--me --uid --gid --pid"
     case $1 in
     script) echo "--help --version" ;;
     serve) echo "--mode --replace --blocks --workers --at-once --sessions --until-eof --idle --stall --drain --help --version" ;;
-    ipcs) echo "$credentials --help --version" ;;
+    ipcs) echo "-i --json $credentials --help --version" ;;
+    ipcmk) echo "--mode --qbytes $credentials --help --version" ;;
     ipcrm) echo "-q -Q $credentials --help --version" ;;
-    snd) echo "--stdin --type --nowait $credentials --help --version" ;;
-    rcv) echo "--type --upto --size --nowait --noerror $credentials --help --version" ;;
-    *) echo "serve snd rcv ipcs ipcrm script --help --version" ;;
+    snd) echo "--stdin --type --nowait --wait $credentials --help --version" ;;
+    rcv)
+        echo "--type --upto --except --size --nowait --noerror --wait --count --follow --show-type --raw --create --mode"
+        echo "$credentials --help --version"
+        ;;
+    *) echo "serve snd rcv ipcs ipcrm ipcmk script --help --version" ;;
     esac
 }
 
@@ -28,3 +32,11 @@ _sysvmsg() {
 }
 
 complete -o default -F _sysvmsg sysvmsg
+
+# The second word is a program, and those after it are the program's own.
+_sysvmsg_run() {
+    COMPREPLY=()
+    [ "$COMP_CWORD" -ne 2 ] || mapfile -t COMPREPLY < <(compgen -c -- "${COMP_WORDS[2]}")
+}
+
+complete -o default -F _sysvmsg_run sysvmsg-run

@@ -158,10 +158,10 @@ static int act_make(int key)
     struct msqid_ds told = stat_of(id);
     errno = ERANGE;
     return told.msg_perm.uid == geteuid() && told.msg_perm.cuid == geteuid()
-            && told.msg_perm.gid == getegid() && told.msg_perm.cgid == getegid()
-            && (told.msg_perm.mode & 0777) == 0604
-        ? id
-        : -1;
+                   && told.msg_perm.gid == getegid() && told.msg_perm.cgid == getegid()
+                   && (told.msg_perm.mode & 0777) == 0604
+               ? id
+               : -1;
 }
 
 /* Gets a queue with these flags as another user. */
@@ -486,35 +486,32 @@ static volatile sig_atomic_t caught;
 
 static void catch (int number) { caught = number; }
 
-/* A handled signal during a wait. On the server the wait goes on, and what `helps` does ends it. */
-static void signal_sentence(const char *sentence, int id, int (*waits)(int), int (*helps)(int))
+/* A handled signal during a wait. */
+static void signal_sentence(const char *sentence, int id, int flags, int (*waits)(int))
 {
-    struct sigaction action = {.sa_handler = catch, .sa_flags = SA_RESTART};
+    struct sigaction action = {.sa_handler = catch, .sa_flags = flags};
     sigaction(SIGALRM, &action, NULL);
     caught = 0;
-    pid_t child = soon(act_signal, id), helper = on_server ? after(500, helps, id) : -1;
-    int result = waits(id);
-    changed(sentence, refused(result, EINTR) && caught, "the handler runs, and the wait goes on",
-        result >= 0 && caught);
+    pid_t child = soon(act_signal, id);
+    says(sentence, refused(waits(id), EINTR) && caught);
     status_of(child);
-    if (helper > 0)
-        status_of(helper);
 }
 
 static int wait_for_type(int id) { return (int)receive(id, TEXT, 3, 0); }
 
 static void signal_sentences(int id)
 {
-    signal_sentence("msgrcv, EINTR if a signal is caught during the wait, also with SA_RESTART", id,
-        wait_for_type, act_send);
+    signal_sentence("msgrcv, EINTR if a signal is caught during the wait", id, 0, wait_for_type);
+    signal_sentence("msgrcv, also with SA_RESTART", id, SA_RESTART, wait_for_type);
+    says("msgrcv, and no message is taken later",
+        send(id, 3, 4, 0) == 0 && receive(id, TEXT, 3, IPC_NOWAIT) == 4);
     send(id, 5, TEXT, 0);
     send(id, 5, TEXT, 0);
-    signal_sentence("msgsnd, EINTR if a signal is caught during the wait, also with SA_RESTART", id,
-        act_send_long, act_receive);
-    int count = (int)stat_of(id).msg_qnum;
-    bool is_sent = receive(id, TEXT, 3, IPC_NOWAIT) == TEXT;
-    changed("msgsnd, and then the message is not sent", count == 2 && !is_sent,
-        "it is sent once, after a message was received", count == 2 && is_sent);
+    signal_sentence("msgsnd, EINTR if a signal is caught during the wait", id, 0, act_send_long);
+    signal_sentence("msgsnd, also with SA_RESTART", id, SA_RESTART, act_send_long);
+    says("msgsnd, and then the message is not sent",
+        stat_of(id).msg_qnum == 2 && receive(id, TEXT, 5, IPC_NOWAIT) == TEXT
+            && refused(receive(id, TEXT, 3, IPC_NOWAIT), ENOMSG));
 }
 
 static void control_sentences(int id)
@@ -563,7 +560,7 @@ static void control_sentences(int id)
 static bool hold(int id, int mode)
 {
     return set_to(id, geteuid(), getegid(), 0600, LIMIT) == 0 && send(id, 3, 0, IPC_NOWAIT) == 0
-        && set_to(id, USER, USER + 1, mode, LIMIT) == 0;
+           && set_to(id, USER, USER + 1, mode, LIMIT) == 0;
 }
 
 /* Each class of callers, with a queue whose mode grants it one permission. */
@@ -572,14 +569,15 @@ static bool grants(int id, int bit, uid_t user, gid_t group)
     bool reads = (bit & 0444) != 0;
     bool is_set = hold(id, bit);
     return is_set && as(user, group, 0, act_receive, id) == (reads ? 0 : EACCES)
-        && as(user, group, 0, act_stat, id) == (reads ? 0 : EACCES)
-        && as(user, group, 0, act_send, id) == (reads ? EACCES : 0);
+           && as(user, group, 0, act_stat, id) == (reads ? 0 : EACCES)
+           && as(user, group, 0, act_send, id) == (reads ? EACCES : 0);
 }
 
 static bool denies(int id, int bits, uid_t user, gid_t group)
 {
     return hold(id, bits) && as(user, group, 0, act_receive, id) == EACCES
-        && as(user, group, 0, act_stat, id) == EACCES && as(user, group, 0, act_send, id) == EACCES;
+           && as(user, group, 0, act_stat, id) == EACCES
+           && as(user, group, 0, act_send, id) == EACCES;
 }
 
 static void class_sentences(int id)
@@ -602,8 +600,8 @@ static void class_sentences(int id)
         "the effective group alone, as in POSIX", status == EACCES);
     if (has_privilege(CAP_IPC_OWNER))
         says("permission, a user with the privilege needs none",
-            hold(id, 0) && send(id, 1, 0, IPC_NOWAIT) == 0
-                && receive(id, TEXT, 0, IPC_NOWAIT) >= 0 && act_stat(id) == 0);
+            hold(id, 0) && send(id, 1, 0, IPC_NOWAIT) == 0 && receive(id, TEXT, 0, IPC_NOWAIT) >= 0
+                && act_stat(id) == 0);
     else
         skip("permission, of a user with the privilege",
             "it needs root, and CAP_IPC_OWNER on the kernel");
@@ -666,8 +664,8 @@ static void permission_sentences(key_t key)
     says("msgrcv, EACCES without read permission", as_user(USER, act_receive, id) == EACCES);
     says("msgctl, IPC_STAT, EACCES without read permission", as_user(USER, act_stat, id) == EACCES);
     asked_command = 12345;
-    says("msgctl, EINVAL for the command comes before it",
-        as_user(USER, act_command, id) == EINVAL);
+    says(
+        "msgctl, EINVAL for the command comes before it", as_user(USER, act_command, id) == EINVAL);
     says("msgctl, EINVAL for the identifier, whoever calls",
         as_user(USER, act_stat, INT_MAX) == EINVAL && as_user(USER, act_remove, INT_MAX) == EINVAL
             && set_as(USER, INT_MAX, 100) == EINVAL);

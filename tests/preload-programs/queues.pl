@@ -55,6 +55,13 @@ expect(msgctl($id, IPC_STAT, my $bytes), 'msgctl: IPC_STAT');
 expect(msgctl($id, IPC_RMID, 0), 'msgctl: IPC_RMID');
 expect(!msgsnd($id, pack('l! a*', 9, 'plain'), 0) && $!{EINVAL}, 'msgsnd to a removed queue');
 
+# alarm bounds a wait, and a handler that doesn't die ends it with EINTR.
+my $late = !eval { local $SIG{ALRM} = sub { die "late\n" }; alarm 1; $queue->rcv($text, 20, 4); 1 };
+expect($late && $@ eq "late\n", 'alarm');
+local $SIG{ALRM} = sub { };
+alarm 1;
+expect(!defined $queue->rcv($text, 20, 4) && $!{EINTR}, 'EINTR');
+
 # A wait ends when the queue is removed.
 $child = fork // die "fork: $!\n";
 exit(!defined $queue->rcv($text, 20, 4) && $!{EIDRM} ? 0 : 1) if $child == 0;

@@ -22,6 +22,7 @@
 #include <sys/time.h>
 #include <sys/un.h>
 #include <sys/wait.h>
+#include <time.h>
 #include <unistd.h>
 
 struct message {
@@ -343,6 +344,12 @@ static void catch (int signal, void (*handler)(int))
     sigaction(signal, &(struct sigaction){.sa_handler = handler, .sa_flags = SA_RESTART}, NULL);
 }
 
+/* Whether a wait that a signal interrupted received the message that is there now, or left it. */
+static bool receives_or_leaves(ssize_t got)
+{
+    return got == 4 || (refused(got, EINTR) && receive_text(shared_queue, 1, IPC_NOWAIT) == 4);
+}
+
 /* A handler within a wait sends the very message that is waited for. */
 static void calls_in_handler(void)
 {
@@ -350,8 +357,9 @@ static void calls_in_handler(void)
     catch (SIGALRM, send_in_handler);
     for (int i = 0; i < 3; i++) {
         ualarm(200000, 0);
-        expect(receive_text(shared_queue, 1, 0) == 4 && caught,
+        expect(receives_or_leaves(receive_text(shared_queue, 1, 0)) && caught,
             "the message of the handler isn't received");
+        expect(stat_of(shared_queue).msg_qnum == 0, "it is received twice");
         caught = 0;
     }
     expect(count_descriptors(is_socket) == 1, "connections are left");
@@ -384,19 +392,29 @@ static void fork_in_handler(int number)
     handlers_child = fork();
 }
 
-/* A handler within a wait forks, and both processes return to the wait. The child's is over. */
-static void forks_in_handler(void)
+/* A handler within a wait forks, and both processes return to the wait. The child's is over, and
+ * the parent's goes on or is left. */
+static void fork_within_wait(bool goes_on)
 {
     shared_queue = new_queue();
     catch (SIGALRM, fork_in_handler);
     ualarm(200000, 0);
     ssize_t got = receive_text(shared_queue, 1, 0);
+    int error = errno;
     if (handlers_child == 0) {
         expect(refused(got, EINTR), "the child's wait doesn't end with EINTR");
         _exit(send_text(shared_queue, 1) != 0);
     }
-    expect(got == 4 && status_of(handlers_child) == 0, "the parent's wait doesn't go on");
+    expect(status_of(handlers_child) == 0, "the child doesn't send");
+    errno = error;
+    expect(goes_on ? got == 4 : receives_or_leaves(got), "the parent's wait ends otherwise");
+    expect(stat_of(shared_queue).msg_qnum == 0, "a message is received twice");
 }
+
+static void forks_in_handler(void) { fork_within_wait(false); }
+
+/* With SYSVMSG_EINTR=0. */
+static void forks_in_wait_that_goes_on(void) { fork_within_wait(true); }
 
 static sigjmp_buf out_of_wait;
 
@@ -418,7 +436,7 @@ static void jumps(void)
 
 static void note(int number) { caught = number; }
 
-/* A signal doesn't end a wait. */
+/* With SYSVMSG_EINTR=0 a signal doesn't end a wait. */
 static void signals(void)
 {
     int id = new_queue();
@@ -433,15 +451,191 @@ static void signals(void)
     expect(status_of(child) == 0, "the child doesn't send");
 }
 
-/* With SYSVMSG_EINTR=1 it does. Removing the queue ends the wait that goes on in the server. */
+static long milliseconds(void)
+{
+    struct timespec now;
+    clock_gettime(CLOCK_MONOTONIC, &now);
+    return now.tv_sec * 1000L + now.tv_nsec / 1000000L;
+}
+
+static ssize_t wait_for_text(int id) { return receive_text(id, 1, 0); }
+
+static ssize_t wait_for_room(int id)
+{
+    static struct message full;
+    full.type = 2;
+    return msgsnd(id, &full, sizeof full.text, 0);
+}
+
+/* A signal comes each 200 ms, in case the first one comes before the wait, and the server sees
+ * within about 250 ms that a wait is left. The rest is for a machine that does other work too. */
+static void is_interrupted(ssize_t (*wait)(int), int id, int flags)
+{
+    sigaction(SIGALRM, &(struct sigaction){.sa_handler = note, .sa_flags = flags}, NULL);
+    caught = 0;
+    long start = milliseconds();
+    ualarm(200000, 200000);
+    expect(refused(wait(id), EINTR) && caught, "the wait doesn't end with EINTR");
+    ualarm(0, 0);
+    expect(milliseconds() - start < 2000, "it ends late");
+    expect(count_descriptors(is_socket) == 0, "the connection is left");
+}
+
+/* A signal that comes at the beginning of a wait ends it too. Should one come before the wait, the
+ * next one comes a second later. */
+static void signals_end_new_waits(void)
+{
+    enum { ROUNDS = 10, SOON = 900 };
+    int id = new_queue();
+    long took = SOON;
+    catch (SIGALRM, note);
+    for (int i = 0; i < ROUNDS && took >= SOON; i++) {
+        stat_of(id);
+        long start = milliseconds();
+        setitimer(ITIMER_REAL, &(struct itimerval){{1, 0}, {0, 1000}}, NULL);
+        expect(refused(wait_for_text(id), EINTR), "the wait doesn't end with EINTR");
+        took = milliseconds() - start;
+    }
+    expect(took < SOON, "the signal is not seen");
+}
+
+/* A wait that a signal ended has had no effect, and has none later. */
 static void signals_end_waits(void)
 {
     int id = new_queue();
-    catch (SIGALRM, note);
-    ualarm(200000, 0);
-    expect(refused(receive_text(id, 1, 0), EINTR) && caught, "the wait doesn't end with EINTR");
-    expect(count_descriptors(is_socket) == 0, "the connection is left");
-    expect(msgctl(id, IPC_RMID, NULL) == 0, "IPC_RMID");
+    struct msqid_ds told = stat_of(id);
+    is_interrupted(wait_for_text, id, 0);
+    is_interrupted(wait_for_text, id, SA_RESTART);
+    expect(send_text(id, 1) == 0 && receive_text(id, 1, IPC_NOWAIT) == 4,
+        "a wait that was left took a message");
+    told.msg_qbytes = sizeof((struct message *)0)->text;
+    expect(msgctl(id, IPC_SET, &told) == 0 && send_text(id, 1) == 0, "IPC_SET");
+    is_interrupted(wait_for_room, id, 0);
+    is_interrupted(wait_for_room, id, SA_RESTART);
+    expect(receive_text(id, 1, IPC_NOWAIT) == 4 && stat_of(id).msg_qnum == 0,
+        "a wait that was left sent its message");
+}
+
+/* Stops a process a few times, and lets it go on. */
+static bool stop_often(pid_t process)
+{
+    for (int i = 0; i < 10; i++) {
+        if (kill(process, SIGALRM) != 0 || kill(process, SIGSTOP) != 0
+            || kill(process, SIGCONT) != 0)
+            return false;
+        usleep(300);
+    }
+    return true;
+}
+
+/* Only a handler ends a wait. A stop that is continued doesn't, nor a signal that is ignored,
+ * neither at the beginning of a wait nor later. */
+static void only_handlers_end_waits(void)
+{
+    enum { WAITS = 50 };
+    int id = new_queue();
+    pid_t parent = getpid();
+    signal(SIGALRM, SIG_IGN);
+    pid_t child = fork();
+    if (child == 0) {
+        usleep(200000);
+        for (int i = 0; i < WAITS; i++) {
+            if (!stop_often(parent) || send_text(id, 1) != 0)
+                _exit(1);
+        }
+        usleep(200000);
+        _exit(!stop_often(parent) || usleep(400000) != 0 || send_text(id, 1) != 0);
+    }
+    for (int i = 0; i <= WAITS; i++)
+        expect(receive_text(id, 1, 0) == 4, "the wait doesn't go on");
+    expect(status_of(child) == 0, "the child doesn't send");
+}
+
+static void count_signal(int number) { caught += number == SIGALRM; }
+
+/* Makes calls that don't wait, until so many signals were handled. */
+static void call_under_signals(long type, int microseconds, int signals)
+{
+    sigaction(SIGALRM, &(struct sigaction){.sa_handler = count_signal}, NULL);
+    struct timeval period = {0, microseconds};
+    setitimer(ITIMER_REAL, &(struct itimerval){period, period}, NULL);
+    while (caught < signals) {
+        expect(one_pair((void *)type) == NULL, "a pair fails");
+        expect(refused(receive_text(shared_queue, 9, IPC_NOWAIT), ENOMSG), "IPC_NOWAIT");
+        expect(stat_of(shared_queue).msg_qnum <= 3, "IPC_STAT");
+    }
+}
+
+/* No signal interrupts calls that don't wait, nor those that have IPC_NOWAIT. Three processes use
+ * the same queue. */
+static void never_waits(void)
+{
+    pid_t children[2];
+    shared_queue = new_queue();
+    for (int i = 0; i < 2; i++) {
+        children[i] = fork();
+        if (children[i] == 0) {
+            call_under_signals(i + 1, 1000, 1000);
+            _exit(0);
+        }
+    }
+    call_under_signals(3, 10000, 100);
+    setitimer(ITIMER_REAL, &(struct itimerval){{0, 0}, {0, 0}}, NULL);
+    for (int i = 0; i < 2; i++)
+        expect(status_of(children[i]) == 0, "a child's call fails");
+}
+
+static void *wait_in_thread(void *result)
+{
+    *(ssize_t *)result = receive_text(shared_queue, 1, 0);
+    *(ssize_t *)result = refused(*(ssize_t *)result, EINTR) ? -EINTR : *(ssize_t *)result;
+    return NULL;
+}
+
+/* A signal to one of two threads that wait ends that one's wait, and the other one's goes on. */
+static void signals_end_one_thread(void)
+{
+    pthread_t one, other;
+    ssize_t left = 77, received = 77;
+    shared_queue = new_queue();
+    catch (SIGUSR1, note);
+    pthread_create(&one, NULL, wait_in_thread, &left);
+    pthread_create(&other, NULL, wait_in_thread, &received);
+    while (pthread_tryjoin_np(one, NULL) == EBUSY) {
+        usleep(200000);
+        pthread_kill(one, SIGUSR1);
+    }
+    expect(left == -EINTR, "the thread's wait doesn't end with EINTR");
+    expect(send_text(shared_queue, 1) == 0, "msgsnd");
+    pthread_join(other, NULL);
+    expect(received == 4, "the other thread's wait doesn't go on");
+    expect(count_descriptors(is_socket) == 1, "connections are left");
+}
+
+/* A wait for the server's only worker is ended by a signal too, but not that of a call that the
+ * kernel doesn't let wait. */
+static void signals_end_wait_for_worker(void)
+{
+    int pipe_ends[2], id = new_queue();
+    char byte;
+    expect(pipe(pipe_ends) == 0, "pipe");
+    pid_t child = fork();
+    if (child == 0) {
+        expect(write(pipe_ends[1], "1", 1) == 1, "write");
+        msgget(id, 0); /* takes the worker once the parent has closed its connection */
+        usleep(2000000);
+        _exit(0);
+    }
+    expect(read(pipe_ends[0], &byte, 1) == 1, "read");
+    usleep(300000);
+    close(connection());
+    usleep(300000);
+    is_interrupted(wait_for_text, id, SA_RESTART);
+    caught = 0;
+    ualarm(100000, 0);
+    expect(refused(receive_text(id, 1, IPC_NOWAIT), ENOMSG) && caught,
+        "a signal ends a call with IPC_NOWAIT");
+    status_of(child);
 }
 
 static void descriptors(void)
@@ -650,6 +844,64 @@ static void half_reply(const char *path)
     one_bad_reply(listener, "half a reply", "\0\0\0\7\2\1\0\0", 8);
 }
 
+static const char HELLO_REPLY[] = "\0\0\0\7\2\0\0\0\0\1";
+static const char RECEIVE_REPLY[] = "\0\0\0\17\2\3\0\0\0\0\0\0\0\0\1text";
+
+/* Sends a process signals for a while, or until there is input. A process that is slow may handle
+ * the first ones before it waits. */
+static void interrupt(pid_t process, int peer, int times)
+{
+    struct pollfd input = {.fd = peer, .events = POLLIN};
+    for (int i = 0; i < times && poll(&input, 1, 20) == 0; i++)
+        kill(process, SIGALRM);
+}
+
+/* Plays a server that lets signals interrupt the caller's receive, sees that it is left, sends so
+ * many bytes of the reply, and closes the connection. `early` signals come before it has replied to
+ * the hello. */
+static pid_t play_left(int listener, bool early, size_t size)
+{
+    char bytes[256];
+    pid_t caller = getpid(), child = fork();
+    if (child != 0)
+        return child;
+    int peer = accept(listener, NULL, NULL);
+    bool is_asked = read(peer, bytes, sizeof bytes) > 0;
+    if (early)
+        interrupt(caller, peer, 3);
+    is_asked = is_asked && write(peer, HELLO_REPLY, sizeof HELLO_REPLY) == sizeof HELLO_REPLY
+               && read(peer, bytes, sizeof bytes) > 0;
+    interrupt(caller, peer, 1000);
+    bool is_left = read(peer, bytes, sizeof bytes) == 0;
+    for (int i = 0; i < 3; i++) {
+        usleep(10000);
+        kill(caller, SIGALRM);
+    }
+    _exit(!is_asked || !is_left || write(peer, RECEIVE_REPLY, size) != (ssize_t)size);
+}
+
+/* A wait that was left fails with EINTR if not a byte of a reply comes, and else counts. An early
+ * signal makes the call give up if the reply to its hello is late, as on a busy machine. */
+static void left_replies(const char *path)
+{
+    const size_t whole = sizeof RECEIVE_REPLY - 1;
+    int listener = listen_at(path);
+    catch (SIGALRM, note);
+    for (size_t i = 0; i <= 2 * whole + 1; i++) {
+        bool early = i % 2 == 1;
+        size_t size = i / 2;
+        pid_t player = play_left(listener, early, size);
+        ssize_t got = receive_text(3, 1, 0);
+        bool gives_up = early && refused(got, EINTR);
+        if (size == whole)
+            expect(got == 4 || gives_up, "a whole reply doesn't count");
+        else
+            expect(refused(got, size == 0 ? EINTR : EIO) || gives_up, "a part of a reply counts");
+        expect(count_descriptors(is_socket) == 1, "a connection is left"); /* one listens */
+        expect(status_of(player) == 0 || gives_up, "the wait isn't left");
+    }
+}
+
 /* The server, whose process is the second word, is killed while a call waits. */
 static void server_gone(const char *server)
 {
@@ -715,9 +967,15 @@ static const struct {
     {"call-in-handler", calls_in_handler},
     {"many-handlers", many_handlers},
     {"fork-in-handler", forks_in_handler},
+    {"fork-in-wait-that-goes-on", forks_in_wait_that_goes_on},
     {"jump-out", jumps},
     {"signal", signals},
     {"signal-ends-wait", signals_end_waits},
+    {"signal-ends-new-wait", signals_end_new_waits},
+    {"only-handlers-end-waits", only_handlers_end_waits},
+    {"never-waits", never_waits},
+    {"signal-ends-one-thread", signals_end_one_thread},
+    {"signal-ends-wait-for-worker", signals_end_wait_for_worker},
     {"descriptors", descriptors},
     {"few-descriptors", few_descriptors},
     {"user", changes_user},
@@ -737,6 +995,7 @@ static const struct {
     {"bad-replies", bad_replies},
     {"half-reply", half_reply},
     {"server-gone", server_gone},
+    {"left-replies", left_replies},
     {"error-is-file", error_is_file},
 };
 

@@ -1,3 +1,4 @@
 pub mod TalkLemmas
 pub mod WordLemmas
 pub mod Courses
+pub mod StreamLemmas

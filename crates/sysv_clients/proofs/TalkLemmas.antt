@@ -10,17 +10,19 @@ use Rattle.std.specs.Io.KnownBytes.{Appends, Consumes}
 use Rattle.std.proofs.KnownBytes.{Appends-nil, Appends-trans, Consumes-nil, Consumes-trans}
 use Rattle.sysv_clients.specs.declared.command.Command.{Command}
 use Rattle.sysv_clients.specs.declared.command.Task.{Task}
-use Rattle.sysv_clients.specs.declared.command.Task.TheVariants.{List as Table, Remove, Send, Receive}
+use Rattle.sysv_clients.specs.declared.command.Format.TheVariants.{Table as AsTable, Json}
+use Rattle.sysv_clients.specs.declared.command.Task.TheVariants.{List as Table, Show, Remove, Make, Send, Receive}
 use Rattle.sysv_clients.specs.declared.fault.ClientFault.{ClientFault}
 use Rattle.sysv_clients.specs.declared.fault.ClientFault.TheVariants.{Refused, NoReply, NoMemory}
 use Rattle.sysv_clients.specs.Asks.{asks_of, is_receive, request_of, text_of}
 use Rattle.sysv_clients.specs.Blame.{Blames, ExchangedBy, Streams, RunsBlaming}
 use Rattle.sysv_clients.specs.Faults.{fault_line}
-use Rattle.sysv_clients.specs.Page.{answer_most, answer_text, page_text, task_head}
+use Rattle.sysv_clients.specs.Page.{answer_most, answer_text, answers_text, page_text, task_head}
+use Rattle.sysv_clients.specs.Style.{grows, style_of}
 use Rattle.sysv_clients.specs.Run.{Runs, Shows, TalksThrough}
 use Rattle.sysv_clients.specs.Table.{table_head}
 use Rattle.sysv_clients.specs.Talk.{EndsTalk, Exchange, Exchanges, Follows, IsDone, Talked, answered_spelling}
-use Rattle.sysv_clients.specs.Talk.{ask_spelling, asked_spelling, found_in, id_after, is_row, next_ask, reply_to}
+use Rattle.sysv_clients.specs.Talk.{ask_spelling, asked_spelling, found_in, id_after, next_ask, reply_to}
 use Rattle.sysv_clients.specs.Talk.{slots_after, slots_in}
 use Rattle.sysv_wire.specs.declared.frame.Version.TheVariants.{Two}
 use Rattle.sysv_wire.specs.declared.reply.ReplyContent.{ReplyContent}
@@ -34,7 +36,7 @@ use Rattle.sysv_wire.specs.Requests.{op_of, request_spelling}
 -- The maximum number of bytes that are collected of this number of exchanges. A message is in the
 -- third exchange at the earliest.
 abbrev pub page_most : ℕ → ℕ
-page_most place = 55 + 62 * place + cond (ltb 2 place) 8193 0
+page_most place = 55 + 256 * place + cond (ltb 2 place) 8214 0
 
 -- This number of exchanges was made, and this page was collected of them.
 pub record Talking (command : Command) (left rest taken more : Option (List ℕ)) (page : List ℕ) (place slots : ℕ)
@@ -76,14 +78,14 @@ asked_more command exchanges one =
 
 page_more : (command : Command) (exchanges : List Exchange) (one : Exchange) →
     page_text command.task (exchanges ++ one ∷ [])
-    ≡ page_text command.task exchanges ++ answer_text one.answer one.given
+    ≡ page_text command.task exchanges ++ answer_text (style_of command.task) one.answer one.given
 page_more command exchanges one =
     ap (λ l. task_head command.task ++ l)
-    (flat_map-append (λ (e : Exchange). answer_text e.answer e.given) exchanges (one ∷ [])
-    ∙ ap (λ l. flat_map (λ (e : Exchange). answer_text e.answer e.given) exchanges ++ l)
-    (append-nil (answer_text one.answer one.given)))
-    ∙ sym (append_assoc (task_head command.task) (flat_map (λ (e : Exchange). answer_text e.answer e.given) exchanges)
-    (answer_text one.answer one.given))
+    (flat_map-append (λ (e : Exchange). answer_text (style_of command.task) e.answer e.given) exchanges (one ∷ [])
+    ∙ ap (λ l. answers_text (style_of command.task) exchanges ++ l)
+    (append-nil (answer_text (style_of command.task) one.answer one.given)))
+    ∙ sym (append_assoc (task_head command.task) (answers_text (style_of command.task) exchanges)
+    (answer_text (style_of command.task) one.answer one.given))
 
 found_more : (exchanges : List Exchange) (one : Exchange) →
     found_in (exchanges ++ one ∷ []) ≡ id_after (found_in exchanges) one.answer
@@ -127,7 +129,8 @@ pub goes_on : (command : Command) (ask : Ask) (answer : ReplyContent) (given : L
     → Talking command left mid taken more page place slots id → Some ask ≡ slice_get (asks_of command slots id) place
     → text ≡ text_of command.task
     → Exchanges (request_spelling (request_of ask) text) ask (Ok answer) mid rest more most given
-    → Talking command left rest taken most (page ++ answer_text answer given) (place + 1) (slots_after slots answer)
+    → Talking command left rest taken most (page ++ answer_text (style_of command.task) answer given) (place + 1)
+    (slots_after slots answer)
     (id_after id answer)
 goes_on command ask answer given left mid rest taken more most page text place slots id so_far asked sent exchange =
     let one : Exchange = record { ask = ask; answer = answer; given = given } in
@@ -142,7 +145,8 @@ goes_on command ask answer given left mid rest taken more most page text place s
           (Consumes-trans left mid rest _ _ so_far.reads exchange.1.0);
       writes = subst (Appends taken most) (sym (asked_more command before one))
           (Appends-trans taken more most _ _ so_far.writes frame);
-      collects = ap (λ l. l ++ answer_text answer given) so_far.collects ∙ sym (page_more command before one);
+      collects = ap (λ l. l ++ answer_text (style_of command.task) answer given) so_far.collects
+          ∙ sym (page_more command before one);
       counts = ap (λ n. n + 1) so_far.counts ∙ sym (length_more before one);
       tells = ap (λ (s : ℕ). slots_after s answer) so_far.tells ∙ sym (slots_more before one);
       finds = ap (λ (i : ℤ). id_after i answer) so_far.finds ∙ sym (found_more before one);
@@ -212,7 +216,8 @@ pub no_line : (command : Command) (ask : Ask) (answer : ReplyContent) (given : L
     (left mid rest taken more most : Option (List ℕ)) (page last text : List ℕ) (place slots : ℕ) (id : ℤ)
     → Talking command left mid taken more page place slots id → Some ask ≡ slice_get (asks_of command slots id) place
     → text ≡ text_of command.task
-    → Exchanges (request_spelling (request_of ask) text) ask (Ok answer) mid rest more most given → is_row answer ≡ true
+    → Exchanges (request_spelling (request_of ask) text) ask (Ok answer) mid rest more most given
+    → grows (style_of command.task) answer ≡ true
     → TalksThrough command (Err NoMemory) last left rest taken most
 no_line command ask answer given left mid rest taken more most page last text place slots id so_far asked sent exchange
     row =
@@ -268,7 +273,7 @@ answers_receive (asks.Row slot) mtype fits = absurd (omega (arith, fits))
 -- The maximum number of bytes that a result adds, by the number of exchanges before it.
 most_at : (place : ℕ) (ask : Ask) (answer : ReplyContent) → IsAnswer Two (op_number (op_of ask)) answer
     → (is_receive ask ≡ true → place ≡ 2)
-    → (answer_most answer ≤ 62) ⊎ ((answer_most answer ≡ 8193) × (place ≡ 2))
+    → (answer_most answer ≤ 256) ⊎ ((answer_most answer ≡ 8214) × (place ≡ 2))
 most_at place ask (content.Rcv mtype) fits third = inr (refl, third (answers_receive ask mtype fits))
 most_at place ask (content.Row row) fits third = inl (omega arith)
 most_at place ask (content.Refused error) fits third = inl (omega arith)
@@ -280,7 +285,7 @@ most_at place ask (content.Stat stat) fits third = inl (omega arith)
 most_at place ask content.Set fits third = inl (omega arith)
 most_at place ask content.Rm fits third = inl (omega arith)
 
-page_most_more : (place : ℕ) → page_most place + 62 ≤ page_most (place + 1)
+page_most_more : (place : ℕ) → page_most place + 256 ≤ page_most (place + 1)
 page_most_more place = grind (arith, nat_tests)
 
 -- A message is in the third exchange.
@@ -300,7 +305,7 @@ third_one place ask content.Rm fits third gives = absurd cc
 -- There is space for a message.
 pub has_room : (place : ℕ) (ask : Ask) (answer : ReplyContent) (given : List ℕ) (held : ℕ) → IsDone ask answer given
     → (is_receive ask ≡ true → place ≡ 2) → held ≤ page_most place → gives_text answer ≡ true
-    → held + 8192 + 1 ≤ 8372
+    → held + 8192 + 22 ≤ 8781
 has_room place ask answer given held done third room gives =
     let at : held ≤ page_most 2 =
     subst (λ (n : ℕ). held ≤ page_most n) (third_one place ask answer done.fits.0 third gives) room in
@@ -322,10 +327,13 @@ stays_within place ask answer given held more done third room grown =
 -- The head before the lines is short.
 pub short_head : (task : Task) (page : List ℕ) → page ≡ task_head task → length page ≤ 55
 unfolding table_head
-short_head Table page same = omega (arith, ap length same)
+short_head (Table AsTable) page same = omega (arith, ap length same)
+short_head (Table Json) page same = omega (arith, ap length same)
+short_head (Show id) page same = omega (arith, ap length same)
 short_head (Remove target) page same = omega (arith, ap length same)
+short_head (Make making) page same = omega (arith, ap length same)
 short_head (Send key text mtype nowait) page same = omega (arith, ap length same)
-short_head (Receive key size mtype nowait noerror) page same = omega (arith, ap length same)
+short_head (Receive receipt) page same = omega (arith, ap length same)
 
 -- A talk that a fault ends, by the counts of failures.
 blames : (command : Command) (why : ClientFault) (ask : Ask) (had has wrote writes : ℕ)

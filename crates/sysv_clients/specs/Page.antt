@@ -1,43 +1,71 @@
--- What a client shows (this project's programs): the table of `ipcs`, or the message of `rcv`.
-use Rattle.std.specs.Prelude.{ℕ, List, [], ◌∷◌, ◌++◌, None, Some, flat_map}
+-- What a client shows (this project's programs): the table of `ipcs` or its JSON objects, the
+-- attributes of a queue, an identifier, or the message of `rcv`.
+use Rattle.std.specs.Prelude.{ℕ, ℤ, List, [], ◌∷◌, ◌++◌, None, Some, flat_map, if◌then◌else◌, take}
+use Rattle.std.specs.Fmt.{signed_decimal}
+use Rattle.sysv_clients.specs.declared.command.Format.TheVariants.{Table as AsTable, Json}
 use Rattle.sysv_clients.specs.declared.command.Task.{Task}
-use Rattle.sysv_clients.specs.declared.command.Task.TheVariants.{List as Table, Remove, Send, Receive}
+use Rattle.sysv_clients.specs.declared.command.Task.TheVariants.{List as Table, Show, Remove, Make, Send, Receive}
 use Rattle.sysv_clients.specs.declared.line.TheConstants.{MAX_LINE}
+use Rattle.sysv_clients.specs.declared.style.Style.{Style}
+use Rattle.sysv_clients.specs.Queue.{id_line, json_line, stat_lines}
+use Rattle.sysv_clients.specs.Style.{style_of}
 use Rattle.sysv_clients.specs.Table.{row_line, table_head}
 use Rattle.sysv_clients.specs.Talk.{Exchange}
+use Rattle.sysv_model.specs.declared.attributes.Row.{Row as RowOf}
 use Rattle.sysv_wire.specs.declared.reply.ReplyContent.{ReplyContent}
 use Rattle.sysv_wire.specs.declared.reply.ReplyContent.TheVariants.{Refused, Hello, HelloSlots, Get, Snd, Rcv, Stat}
 use Rattle.sysv_wire.specs.declared.reply.ReplyContent.TheVariants.{Set, Rm, Row}
 
--- What a result adds to what is shown: for a row with a queue its line, and for a message its body
--- and an LF.
-abbrev pub answer_text : ReplyContent → List ℕ → List ℕ
-answer_text (Row (Some row)) given = row_line row
-answer_text (Rcv mtype) given = given ++ 10 ∷ []
-answer_text (Row None) given = []
-answer_text (Refused error) given = []
-answer_text Hello given = []
-answer_text (HelloSlots slots) given = []
-answer_text (Get id) given = []
-answer_text Snd given = []
-answer_text (Stat stat) given = []
-answer_text Set given = []
-answer_text Rm given = []
+-- The line of a row.
+abbrev pub row_text : Style → RowOf → List ℕ
+row_text style row = if style.json then json_line row else row_line row
+
+-- A message's type and a tab.
+abbrev pub type_text : ℤ → List ℕ
+type_text mtype = signed_decimal mtype ++ 9 ∷ []
+
+-- A message: its type and a tab if they are wanted, no more bytes of its body than the size that was
+-- requested, and an LF unless the message is to be raw.
+abbrev pub message_text : Style → ℤ → List ℕ → List ℕ
+message_text style mtype given =
+    (if style.shows_type then type_text mtype else [])
+    ++ (take style.size given ++ (if style.raw then [] else 10 ∷ []))
+
+-- What a result adds to what is shown: the lines of a queue, or a message.
+abbrev pub answer_text : Style → ReplyContent → List ℕ → List ℕ
+answer_text style (Row (Some row)) given = row_text style row
+answer_text style (Rcv mtype) given = message_text style mtype given
+answer_text style (Get id) given = if style.shows_id then id_line id else []
+answer_text style (Stat stat) given = stat_lines stat
+answer_text style (Row None) given = []
+answer_text style (Refused error) given = []
+answer_text style Hello given = []
+answer_text style (HelloSlots slots) given = []
+answer_text style Snd given = []
+answer_text style Set given = []
+answer_text style Rm given = []
 
 -- What is shown before the results: for `ipcs` the head of the table.
 abbrev pub task_head : Task → List ℕ
-task_head Table = table_head
+task_head (Table AsTable) = table_head
+task_head (Table Json) = []
+task_head (Show id) = []
 task_head (Remove target) = []
+task_head (Make making) = []
 task_head (Send key text mtype nowait) = []
-task_head (Receive key size mtype nowait noerror) = []
+task_head (Receive receipt) = []
+
+-- What these exchanges add.
+abbrev pub answers_text : Style → List Exchange → List ℕ
+answers_text style exchanges = flat_map (λ exchange. answer_text style exchange.answer exchange.given) exchanges
 
 -- What is shown of these exchanges.
 abbrev pub page_text : Task → List Exchange → List ℕ
-page_text task exchanges = task_head task ++ flat_map (λ exchange. answer_text exchange.answer exchange.given) exchanges
+page_text task exchanges = task_head task ++ answers_text (style_of task) exchanges
 
 -- The maximum number of bytes that a result adds.
 abbrev pub answer_most : ReplyContent → ℕ
-answer_most (Rcv mtype) = 8193
+answer_most (Rcv mtype) = 8214
 answer_most (Row row) = MAX_LINE
 answer_most (Refused error) = MAX_LINE
 answer_most Hello = MAX_LINE

@@ -7,6 +7,7 @@ use Rattle.sysv_clients.specs.declared.command.Command.{Command}
 use Rattle.sysv_clients.specs.declared.fault.ClientFault.{ClientFault}
 use Rattle.sysv_clients.specs.declared.fault.ClientFault.TheVariants as fault
 use Rattle.sysv_clients.specs.Asks.{asks_of, request_of, text_of}
+use Rattle.sysv_clients.specs.Style.{grows, style_of}
 use Rattle.sysv_wire.specs.declared.fault.Fault.{Fault}
 use Rattle.sysv_wire.specs.declared.frame.Version.TheVariants.{Two}
 use Rattle.sysv_wire.specs.declared.reply.ReplyContent.{ReplyContent}
@@ -142,27 +143,13 @@ BreaksOff command exchanges why left rest taken more =
     (ask : Ask) × (next_ask command exchanges ≡ Some ask)
     × Exchanges (ask_spelling command ask) ask (Err why) left rest taken more []
 
--- The result is a row with a queue.
-abbrev pub is_row : ReplyContent → Bool
-is_row (Row (Some row)) = true
-is_row (Row None) = false
-is_row (Rcv mtype) = false
-is_row (Refused error) = false
-is_row Hello = false
-is_row (HelloSlots slots) = false
-is_row (Get id) = false
-is_row Snd = false
-is_row (Stat stat) = false
-is_row Set = false
-is_row Rm = false
-
--- The last reply reported a row with a queue.
-abbrev pub EndsWithRow : List Exchange → Type 0
-EndsWithRow exchanges =
-    (before : List Exchange) × (last : Exchange) × (exchanges ≡ before ++ last ∷ []) × (is_row last.answer ≡ true)
+-- What is shown of the last reply takes memory as it comes.
+abbrev pub EndsWithGrowth : Command → List Exchange → Type 0
+EndsWithGrowth command exchanges = (before : List Exchange) × (last : Exchange) × (exchanges ≡ before ++ last ∷ [])
+    × (grows (style_of command.task) last.answer ≡ true)
 
 -- How a talk ends after these exchanges: all requests were made, or the next request ends it, or
--- memory was refused, either before the first request or for the line of a row.
+-- memory was refused, either before the first request or for what is shown of the last reply.
 abbrev pub EndsTalk : Command → List Exchange → Result ⊤ ClientFault → (left rest taken more : Option (List ℕ)) → Type 0
 EndsTalk command exchanges (Ok done) left rest taken more =
     (next_ask command exchanges ≡ None) × (rest ≡ left) × (more ≡ taken)
@@ -171,7 +158,7 @@ EndsTalk command exchanges (Err (fault.Refused error)) left rest taken more =
 EndsTalk command exchanges (Err fault.NoReply) left rest taken more =
     BreaksOff command exchanges fault.NoReply left rest taken more
 EndsTalk command exchanges (Err fault.NoMemory) left rest taken more =
-    ((exchanges ≡ []) ⊎ EndsWithRow exchanges) × (rest ≡ left) × (more ≡ taken)
+    ((exchanges ≡ []) ⊎ EndsWithGrowth command exchanges) × (rest ≡ left) × (more ≡ taken)
 
 -- A talk that ended this way. What was read is the replies to its requests, and then what ended it.
 -- What was written is those requests, each whole except perhaps the last.

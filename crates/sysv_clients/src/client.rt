@@ -9,11 +9,12 @@ ghost use Rattle.sysv_clients.specs.Run.{HasShortText, Runs, Shows, TalksThrough
 ghost use Rattle.sysv_clients.specs.Talk.{Exchange, id_after, slots_after};
 ghost use Rattle.sysv_model.specs.Watched.{failures_of, stream_name, stream_of};
 
-use crate::command::{Command, Task};
+use crate::command::{Command, Format, Task};
 use crate::exchange::exchange;
 use crate::fault::ClientFault;
 use crate::page::Page;
 use crate::screen::show;
+use crate::style::Style;
 use std::alloc::Global;
 use std::io::{Read, Write};
 use sysv_model::{Body, NoMemory, Watched};
@@ -125,7 +126,7 @@ fn talk_and_show<R: Read, W: Write, S: Write>(
 }
 
 /// Shows the line of a fault. Returns 1.
-fn show_fault<S: Write>(screen: &mut S, fault: ClientFault) -> i32
+pub(crate) fn show_fault<S: Write>(screen: &mut S, fault: ClientFault) -> i32
     ensures { Shows result (pos 1) (fault_line fault) (S.contents screen.old)
         (S.contents screen.new) }
 {
@@ -133,7 +134,7 @@ fn show_fault<S: Write>(screen: &mut S, fault: ClientFault) -> i32
 }
 
 /// Returns the identifier that the last `msgget` returned, after one more result.
-fn found(id: i32, answer: &ReplyContent) -> i32
+pub(crate) fn found(id: i32, answer: &ReplyContent) -> i32
     ensures { result ≡ id_after id answer.now }
 {
     match answer {
@@ -174,11 +175,11 @@ impl Client {
         let given = Body::open(alloc)?;
         let mut page = Page::open(alloc)?;
         match *task {
-            Task::List => page.head(),
+            Task::List(Format::Table) => page.head(),
             Task::Send { text: sent, .. } => {
                 text.push_piece(sent);
             }
-            Task::Remove(_) | Task::Receive { .. } => {}
+            _ => {}
         }
         Ok(Client { text, given, page })
     }
@@ -201,12 +202,13 @@ impl Client {
             (failures_of reader.new) (failures_of writer.old) (failures_of writer.new)
             (R.remaining (stream_of reader.old)) (R.remaining (stream_of reader.new)) }
     {
+        let style = Style::of(&command.task);
         let mut place = 0;
         let mut slots = 0;
         let mut id = 0;
         while let Some(ask) = command.ask(place, slots, id) {
             let answer = exchange(reader, writer, ask, &self.text, &mut self.given)?;
-            self.page.tell(&answer, &self.given)?;
+            self.page.tell(&style, &answer, &mut self.given)?;
             slots = told_slots(slots, &answer);
             id = found(id, &answer);
             place += 1;

@@ -1,9 +1,10 @@
 //! The commands of a client.
 ghost use Rattle.std.specs.Prelude.{◌≡◌, ◌<◌, false, true, IfSome, slice_get};
-ghost use Rattle.sysv_clients.specs.Asks.{asks_of, create_flags, flags_to_receive, flags_to_wait, is_receive, remove_asks, row_asks, task_asks};
+ghost use Rattle.sysv_clients.specs.Asks.{asks_of, find_ask, is_receive, make_asks, receive_ask, receive_asks, remove_asks, row_asks, task_asks};
+ghost use Rattle.sysv_clients.specs.Asks.{flags_to_create, flags_to_find, flags_to_make, flags_to_receive, flags_to_wait};
 
 use bitflags::Flags as _;
-use sysv_model::{Cred, Flags};
+use sysv_model::{Cred, Flags, SetTo};
 use sysv_wire::Ask;
 
 /// The maximum number of rows that `ipcs` requests, whatever number of slots a server states. Linux
@@ -27,9 +28,13 @@ pub struct Command<'a> {
 #[derive(Clone, Copy, PartialEq, Eq, Debug)]
 pub enum Task<'a> {
     /// `ipcs`: lists the queues.
-    List,
+    List(Format),
+    /// `ipcs -i`: shows the attributes of the queue with this identifier.
+    Show(i32),
     /// `ipcrm`: removes a queue.
     Remove(Target),
+    /// `ipcmk`: makes a queue.
+    Make(Making),
     /// `snd`: sends a message to a queue, which is created with mode 0600 if there is none.
     Send {
         /// The queue's key. Key 0 is `IPC_PRIVATE`.
@@ -42,19 +47,53 @@ pub enum Task<'a> {
         nowait: bool,
     },
     /// `rcv`: receives a message from a queue.
-    Receive {
-        /// The queue's key.
-        key: i32,
-        /// The maximum number of bytes of the body to receive.
-        size: u32,
-        /// The type to receive, as `msgrcv` defines it: 0 for any type, a positive number for
-        /// exactly that type, and a negative number for the lowest type up to its absolute value.
-        mtype: i64,
-        /// Whether to fail at once instead of waiting for a message.
-        nowait: bool,
-        /// Whether to shorten a longer body instead of failing.
-        noerror: bool,
-    },
+    Receive(Receipt),
+}
+
+/// The form in which `ipcs` lists the queues.
+#[derive(Clone, Copy, PartialEq, Eq, Debug)]
+pub enum Format {
+    /// A table with a head.
+    Table,
+    /// A JSON object per line and queue.
+    Json,
+}
+
+/// The queue that an `ipcmk` makes. The client's user and group own it.
+#[derive(Clone, Copy, PartialEq, Eq, Debug)]
+pub struct Making {
+    /// The queue's key. Key 0 is `IPC_PRIVATE`. There is no queue of another key yet.
+    pub key: i32,
+    /// The queue's mode, 0 to 0o777.
+    pub mode: u32,
+    /// The maximum number of queued bytes, or `None` for that of a new queue.
+    pub qbytes: Option<u32>,
+}
+
+/// What a `rcv` receives, and how it shows it.
+#[derive(Clone, Copy, PartialEq, Eq, Debug)]
+pub struct Receipt {
+    /// The queue's key.
+    pub key: i32,
+    /// Whether the queue is created if there is none.
+    pub create: bool,
+    /// The mode of a queue that is created, 0 to 0o777.
+    pub mode: u32,
+    /// The maximum number of bytes of the body to receive.
+    pub size: u32,
+    /// The type to receive, as `msgrcv` defines it: 0 for any type, a positive number for
+    /// exactly that type, and a negative number for the lowest type up to its absolute value.
+    pub mtype: i64,
+    /// Whether to receive a message of any type but `mtype`.
+    pub except: bool,
+    /// Whether to fail at once instead of waiting for a message.
+    pub nowait: bool,
+    /// Whether to shorten a longer body instead of failing.
+    pub noerror: bool,
+    /// Whether to show the message's type and a tab before its body.
+    pub show_type: bool,
+    /// Whether to show no LF after the body.
+    pub raw: bool,
 }
 
 /// The queue that an `ipcrm` removes.
@@ -77,21 +116,26 @@ impl Command<'_> {
     {
         match place {
             0 => Some(Ask::Hello(self.cred)),
-            _ => self.task.ask(place - 1, slots, id),
+            _ => self.task.ask(&self.cred, place - 1, slots, id),
         }
     }
 }
 
 impl Task<'_> {
     /// Returns the request at `place` after the hello, counted from 0, or `None` after the last.
-    fn ask(&self, place: u32, slots: u32, id: i32) -> Option<Ask>
-        ensures ask { result ≡ slice_get (task_asks self.now slots id) place }
+    fn ask(&self, owner: &Cred, place: u32, slots: u32, id: i32) -> Option<Ask>
+        ensures ask { result ≡ slice_get (task_asks owner.now self.now slots id) place }
         ensures few { IfSome result (λ _. place < MAX_ROWS) }
         ensures receive { IfSome result (λ ask. is_receive ask ≡ true → place ≡ 1) }
     {
         match *self {
-            Task::List => row(place, slots),
+            Task::List(_) => row(place, slots),
+            Task::Show(id) => match place {
+                0 => Some(Ask::Stat { id }),
+                _ => None,
+            },
             Task::Remove(target) => target.remove(place, id),
+            Task::Make(making) => making.ask(owner, place, id),
             Task::Send {
                 key,
                 mtype,
@@ -100,7 +144,7 @@ impl Task<'_> {
             } => match place {
                 0 => Some(Ask::Get {
                     key,
-                    flags: make_flags(),
+                    flags: create_flags(),
                 }),
                 1 => Some(Ask::Snd {
                     id,
@@ -109,25 +153,7 @@ impl Task<'_> {
                 }),
                 _ => None,
             },
-            Task::Receive {
-                key,
-                size,
-                mtype,
-                nowait,
-                noerror,
-            } => match place {
-                0 => Some(Ask::Get {
-                    key,
-                    flags: Flags::empty(),
-                }),
-                1 => Some(Ask::Rcv {
-                    id,
-                    size,
-                    mtype,
-                    flags: receive_flags(nowait, noerror),
-                }),
-                _ => None,
-            },
+            Task::Receive(receipt) => receipt.ask(place, id),
         }
     }
 }
@@ -166,17 +192,100 @@ impl Target {
     }
 }
 
+impl Making {
+    /// Returns the request of an `ipcmk` at `place`, counted from 0, or `None` after the last.
+    fn ask(self, owner: &Cred, place: u32, id: i32) -> Option<Ask>
+        ensures ask { result ≡ slice_get (make_asks owner.now self id) place }
+        ensures few { IfSome result (λ _. place < 2) }
+        ensures receive { IfSome result (λ ask. is_receive ask ≡ false) }
+    {
+        match (place, self.qbytes) {
+            (0, _) => Some(Ask::Get {
+                key: self.key,
+                flags: make_flags(self.mode),
+            }),
+            (1, Some(qbytes)) => Some(Ask::Set {
+                id,
+                to: SetTo {
+                    uid: owner.uid,
+                    gid: owner.gid,
+                    mode: self.mode,
+                    qbytes,
+                },
+            }),
+            _ => None,
+        }
+    }
+}
+
+impl Receipt {
+    /// Returns the request of a `rcv` at `place`, counted from 0, or `None` after the last.
+    fn ask(&self, place: u32, id: i32) -> Option<Ask>
+        ensures ask { result ≡ slice_get (receive_asks self.now id) place }
+        ensures few { IfSome result (λ _. place < 2) }
+        ensures receive { IfSome result (λ ask. is_receive ask ≡ true → place ≡ 1) }
+    {
+        match place {
+            0 => Some(self.find()),
+            1 => Some(self.receive(id)),
+            _ => None,
+        }
+    }
+
+    /// Returns the request that finds the queue.
+    pub(crate) fn find(&self) -> Ask
+        ensures { result ≡ find_ask self.now }
+    {
+        Ask::Get {
+            key: self.key,
+            flags: find_flags(self.create, self.mode),
+        }
+    }
+
+    /// Returns the request that receives a message from the queue with this identifier.
+    pub(crate) fn receive(&self, id: i32) -> Ask
+        ensures { result ≡ receive_ask self.now id }
+    {
+        Ask::Rcv {
+            id,
+            size: self.size,
+            mtype: self.mtype,
+            flags: receive_flags(self),
+        }
+    }
+}
+
 /// Returns `IPC_CREAT` with mode 0600.
-fn make_flags() -> Flags
-    ensures { result ≡ create_flags }
+pub(crate) fn create_flags() -> Flags
+    ensures { result ≡ flags_to_create }
 {
     Flags::IPC_CREAT
         .union(Flags::USER_READ)
         .union(Flags::USER_WRITE)
 }
 
+/// Returns `IPC_CREAT` and `IPC_EXCL` with this mode.
+fn make_flags(mode: u32) -> Flags
+    ensures { result ≡ flags_to_make mode }
+{
+    Flags::IPC_CREAT
+        .union(Flags::IPC_EXCL)
+        .union(Flags::from_bits_retain(mode))
+}
+
+/// Returns `IPC_CREAT` with this mode if `create` is true, and otherwise no flags.
+fn find_flags(create: bool, mode: u32) -> Flags
+    ensures { result ≡ flags_to_find create mode }
+{
+    if create {
+        Flags::IPC_CREAT.union(Flags::from_bits_retain(mode))
+    } else {
+        Flags::empty()
+    }
+}
+
 /// Returns `IPC_NOWAIT` if `nowait` is true, and otherwise no flags.
-fn wait_flags(nowait: bool) -> Flags
+pub(crate) fn wait_flags(nowait: bool) -> Flags
     ensures { result ≡ flags_to_wait nowait }
 {
     if nowait {
@@ -186,13 +295,16 @@ fn wait_flags(nowait: bool) -> Flags
     }
 }
 
-/// Returns `IPC_NOWAIT` if `nowait` is true, together with `MSG_NOERROR` if `noerror` is true.
-fn receive_flags(nowait: bool, noerror: bool) -> Flags
-    ensures { result ≡ flags_to_receive nowait noerror }
+/// Returns those of `IPC_NOWAIT`, `MSG_NOERROR` and `MSG_EXCEPT` that the receipt has.
+fn receive_flags(receipt: &Receipt) -> Flags
+    ensures { result ≡ flags_to_receive receipt.now.nowait receipt.now.noerror receipt.now.except }
 {
-    if noerror {
-        wait_flags(nowait).union(Flags::MSG_NOERROR)
-    } else {
-        wait_flags(nowait)
+    let mut flags = wait_flags(receipt.nowait);
+    if receipt.noerror {
+        flags = flags.union(Flags::MSG_NOERROR);
     }
+    if receipt.except {
+        flags = flags.union(Flags::MSG_EXCEPT);
+    }
+    flags
 }

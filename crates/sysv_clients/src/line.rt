@@ -1,18 +1,20 @@
-//! One line of the table that `ipcs` prints.
-ghost use Rattle.std.specs.Prelude.{◌≡◌, ◌+◌, ◌-◌, ◌≤◌, ◌<◌, [], ◌∷◌, ◌++◌, ℕ, length, max};
+//! The lines that clients print of a queue: a line of the table, a JSON object, an identifier, or all
+//! attributes.
+ghost use Rattle.std.specs.Prelude.{◌≡◌, ◌+◌, ◌-◌, ◌≤◌, ◌<◌, [], ◌∷◌, ◌++◌, ℕ, codes, length, max};
 ghost use Rattle.sysv_clients.specs.Table.{column, glyph, hex_byte, key_text, mode_text, row_line};
+ghost use Rattle.sysv_clients.specs.Queue.{count_lines, field_line, id_line, json_counts, json_line, json_owner, owner_lines, stat_lines, time_lines};
 
 use itoa::{Buffer, Integer};
 use std::marker::Model;
-use sysv_model::Row;
+use sysv_model::{Perm, Row, Stat};
 
-/// The number of bytes in the longest line of the table.
-pub(crate) const MAX_LINE: usize = 62;
+/// The maximum number of bytes that are printed of a queue: those of all its attributes.
+pub(crate) const MAX_LINE: usize = 256;
 
 /// The number of spaces in the widest column.
 const SPACES: [u8; 10] = [b' '; 10];
 
-/// A line that is collected in memory of a fixed size.
+/// Lines that are collected in memory of a fixed size.
 #[derive(Drop)]
 pub(crate) struct Line {
     bytes: [u8; MAX_LINE],
@@ -26,7 +28,7 @@ impl Model for Line {
 
     ghost view = { λ line. take line.len line.bytes };
 
-    ghost invariant = { λ line. line.len ≤ 62 };
+    ghost invariant = { λ line. line.len ≤ 256 };
 }
 
 impl Line {
@@ -113,6 +115,16 @@ impl Line {
         self.column(width, text.as_bytes());
     }
 
+    /// Appends a number.
+    fn digits<I: Integer>(&mut self, number: I)
+        requires { length self.old + I.MAX_STR_LEN ≤ MAX_LINE }
+        ensures after { self.new ≡ self.old ++ I.text number }
+        ensures len { length self.new ≤ length self.old + I.MAX_STR_LEN }
+    {
+        let mut buffer = Buffer::new();
+        self.put(buffer.format(number).as_bytes());
+    }
+
     /// Appends a space, and then `text` right-aligned in a column.
     #[tactic(auto, using(std::proofs::Common::append_assoc), unfolding(crate::specs::Table::column))]
     fn column(&mut self, width: usize, text: &[u8])
@@ -132,13 +144,142 @@ impl Line {
         ensures after { self.new ≡ self.old ++ column 5 (mode_text mode) }
         ensures len { length self.new ≡ length self.old + 6 }
     {
-        let digits = [
-            b'0' + (mode / 64 % 8) as u8,
-            b'0' + (mode / 8 % 8) as u8,
-            b'0' + (mode % 8) as u8,
-        ];
-        self.column(5, &digits);
+        self.column(5, &octal_digits(mode));
     }
+}
+
+impl Line {
+    /// Writes the JSON object of a row and an LF on an empty line.
+    #[tactic(auto, using(std::proofs::Common::append_assoc), unfolding(crate::specs::Queue::json_line))]
+    pub(crate) fn json(&mut self, row: &Row)
+        requires { length self.old ≡ 0 }
+        ensures { self.new ≡ self.old ++ json_line row.now }
+    {
+        self.put(b"{\"key\":\"");
+        self.key(row.key);
+        self.put(b"\",\"msqid\":");
+        self.digits(row.id);
+        self.json_owner(row);
+        self.json_counts(row);
+    }
+
+    /// Appends the owner and the mode of a JSON object.
+    #[tactic(auto, using(std::proofs::Common::append_assoc), unfolding(crate::specs::Queue::json_owner))]
+    fn json_owner(&mut self, row: &Row)
+        requires { length self.old + 32 ≤ MAX_LINE }
+        ensures after { self.new ≡ self.old ++ json_owner row.now }
+        ensures len { length self.new ≤ length self.old + 32 }
+    {
+        self.put(b",\"owner\":");
+        self.digits(row.uid);
+        self.put(b",\"perms\":\"");
+        self.put(&octal_digits(row.mode));
+    }
+
+    /// Appends the counts of a JSON object, its end and an LF.
+    #[tactic(auto, using(std::proofs::Common::append_assoc), unfolding(crate::specs::Queue::json_counts))]
+    fn json_counts(&mut self, row: &Row)
+        requires { length self.old + 44 ≤ MAX_LINE }
+        ensures after { self.new ≡ self.old ++ json_counts row.now }
+        ensures len { length self.new ≤ length self.old + 44 }
+    {
+        self.put(b"\",\"bytes\":");
+        self.digits(row.cbytes);
+        self.put(b",\"messages\":");
+        self.digits(row.qnum);
+        self.put(b"}\n");
+    }
+
+    /// Writes an identifier and an LF on an empty line.
+    #[tactic(auto, using(std::proofs::Common::append_assoc))]
+    pub(crate) fn id(&mut self, id: i32)
+        requires { length self.old ≡ 0 }
+        ensures { self.new ≡ self.old ++ id_line id }
+    {
+        self.digits(id);
+        self.put(b"\n");
+    }
+}
+
+impl Line {
+    /// Writes all attributes of a queue, one per line, on an empty line.
+    #[tactic(auto, using(std::proofs::Common::append_assoc), unfolding(crate::specs::Queue::stat_lines))]
+    pub(crate) fn stat(&mut self, stat: &Stat)
+        requires { length self.old ≡ 0 }
+        ensures { self.new ≡ self.old ++ stat_lines stat.now }
+    {
+        self.put(b"key ");
+        self.key(stat.key);
+        self.put(b"\n");
+        self.owner(&stat.perm);
+        self.counts(stat);
+        self.times(stat);
+    }
+
+    /// Appends the owner, the creator and the mode.
+    #[tactic(auto, using(std::proofs::Common::append_assoc), unfolding(crate::specs::Queue::owner_lines))]
+    fn owner(&mut self, perm: &Perm)
+        requires { length self.old + 71 ≤ MAX_LINE }
+        ensures after { self.new ≡ self.old ++ owner_lines perm.now }
+        ensures len { length self.new ≤ length self.old + 71 }
+    {
+        self.field(b"uid ", perm.uid);
+        self.field(b"gid ", perm.gid);
+        self.field(b"cuid ", perm.cuid);
+        self.field(b"cgid ", perm.cgid);
+        self.put(b"mode ");
+        self.put(&octal_digits(perm.mode));
+        self.put(b"\n");
+    }
+
+    /// Appends the counts, the limit and the last callers.
+    #[tactic(auto, using(std::proofs::Common::append_assoc), unfolding(crate::specs::Queue::count_lines))]
+    fn counts(&mut self, stat: &Stat)
+        requires { length self.old + 86 ≤ MAX_LINE }
+        ensures after { self.new ≡ self.old ++ count_lines stat.now }
+        ensures len { length self.new ≤ length self.old + 86 }
+    {
+        self.field(b"cbytes ", stat.cbytes);
+        self.field(b"qnum ", stat.qnum);
+        self.field(b"qbytes ", stat.qbytes);
+        self.field(b"lspid ", stat.lspid);
+        self.field(b"lrpid ", stat.lrpid);
+    }
+
+    /// Appends the times.
+    #[tactic(auto, using(std::proofs::Common::append_assoc), unfolding(crate::specs::Queue::time_lines))]
+    fn times(&mut self, stat: &Stat)
+        requires { length self.old + 81 ≤ MAX_LINE }
+        ensures after { self.new ≡ self.old ++ time_lines stat.now }
+        ensures len { length self.new ≤ length self.old + 81 }
+    {
+        self.field(b"stime ", stat.stime);
+        self.field(b"rtime ", stat.rtime);
+        self.field(b"ctime ", stat.ctime);
+    }
+
+    /// Appends a line of a name and a number.
+    #[tactic(auto, using(std::proofs::Common::append_assoc), unfolding(crate::specs::Queue::field_line))]
+    fn field<I: Integer>(&mut self, name: &[u8], number: I)
+        requires { length self.old + length name.now + I.MAX_STR_LEN + 1 ≤ MAX_LINE }
+        ensures after { self.new ≡ self.old ++ field_line name.now (I.text number) }
+        ensures len { length self.new ≤ length self.old + length name.now + I.MAX_STR_LEN + 1 }
+    {
+        self.put(name);
+        self.digits(number);
+        self.put(b"\n");
+    }
+}
+
+/// Returns the three octal digits of a mode's low nine bits.
+fn octal_digits(mode: u16) -> [u8; 3]
+    ensures { result ≡ mode_text mode }
+{
+    [
+        b'0' + (mode / 64 % 8) as u8,
+        b'0' + (mode / 8 % 8) as u8,
+        b'0' + (mode % 8) as u8,
+    ]
 }
 
 /// Returns the hexadecimal digit of a number below 16.

@@ -1,21 +1,24 @@
 //! What a client collects to show. Space for a message is reserved from the start; rows allocate
 //! more as they arrive.
-ghost use Rattle.std.specs.Prelude.{◌≡◌, ◌+◌, ◌≤◌, [], ◌∷◌, ◌++◌, ℕ, length, true, IfOk, OnOk, OnErr};
-ghost use Rattle.sysv_clients.specs.Page.{answer_most, answer_text};
-ghost use Rattle.sysv_clients.specs.Talk.{is_row};
-ghost use Rattle.sysv_clients.specs.Table.{row_line, table_head};
+ghost use Rattle.std.specs.Prelude.{◌≡◌, ◌+◌, ◌≤◌, [], ◌∷◌, ◌++◌, ℕ, length, take, true, IfOk, OnOk, OnErr};
+ghost use Rattle.sysv_clients.specs.Page.{answer_most, answer_text, message_text, row_text, type_text};
+ghost use Rattle.sysv_clients.specs.Queue.{id_line, stat_lines};
+ghost use Rattle.sysv_clients.specs.Style.{grows};
+ghost use Rattle.sysv_clients.specs.Table.{table_head};
 ghost use Rattle.sysv_model.specs.declared.limits.TheConstants.{MESSAGE_BYTES};
 ghost use Rattle.sysv_wire.specs.Replies.{gives_text};
 
-use crate::line::Line;
+use crate::line::{Line, MAX_LINE};
+use crate::style::Style;
+use itoa::Buffer;
 use std::alloc::Global;
 use std::marker::Model;
-use sysv_model::{BLOCK_BYTES, Body, NoMemory, Row};
+use sysv_model::{BLOCK_BYTES, Body, NoMemory, Row, Stat};
 use sysv_wire::ReplyContent;
 
 /// The number of bytes that a page has space for from the start: a message of the maximum size with
-/// its LF, and 179 bytes before it.
-pub(crate) const PAGE_ROOM: usize = 8_372;
+/// its type, its tab and its LF, and 567 bytes before it.
+pub(crate) const PAGE_ROOM: usize = 8_781;
 
 /// What a client collects to show.
 #[derive(Drop)]
@@ -84,20 +87,36 @@ impl Page {
         self.put(b"key             msqid      owner perms  bytes messages\n");
     }
 
-    /// Appends what a result adds to the page: the line of a row, or a message and its LF. Fails
-    /// with `NoMemory` if memory for the line is refused.
-    pub(crate) fn tell(&mut self, answer: &ReplyContent, given: &Body) -> Result<(), NoMemory>
-        requires text { length given.now ≤ MESSAGE_BYTES }
+    /// Empties the page.
+    pub(crate) fn clear(&mut self)
+        ensures { self.new ≡ [] }
+    {
+        self.bytes.clear();
+    }
+
+    /// Appends what a result adds to the page: the lines of a queue, or a message. Of a message,
+    /// `given` is shortened to the bytes that are shown. Fails with `NoMemory` if memory for the
+    /// lines is refused.
+    pub(crate) fn tell(
+        &mut self,
+        style: &Style,
+        answer: &ReplyContent,
+        given: &mut Body,
+    ) -> Result<(), NoMemory>
+        requires text { length given.old ≤ MESSAGE_BYTES }
         requires room { gives_text answer.now ≡ true →
-            length self.old + MESSAGE_BYTES + 1 ≤ PAGE_ROOM }
-        ensures after { OnOk result (self.new ≡ self.old ++ answer_text answer.now given.now) }
+            length self.old + MESSAGE_BYTES + 22 ≤ PAGE_ROOM }
+        ensures after { OnOk result (self.new
+            ≡ self.old ++ answer_text style.now answer.now given.old) }
         ensures len { OnOk result (length self.new ≤ length self.old + answer_most answer.now) }
-        ensures row { OnErr result (is_row answer.now ≡ true) }
+        ensures row { OnErr result (grows style.now answer.now ≡ true) }
     {
         match answer {
-            ReplyContent::Row(Some(row)) => self.row(row),
-            ReplyContent::Rcv { .. } => {
-                self.message(given);
+            ReplyContent::Row(Some(row)) => self.row(style, row),
+            ReplyContent::Get { id } if style.shows_id => self.id(*id),
+            ReplyContent::Stat(stat) => self.stat(stat),
+            ReplyContent::Rcv { mtype } => {
+                self.message(style, *mtype, given);
                 Ok(())
             }
             _ => Ok(()),
@@ -105,25 +124,78 @@ impl Page {
     }
 
     /// Appends the line of a row.
-    fn row(&mut self, row: &Row) -> Result<(), NoMemory>
-        ensures after { OnOk result (self.new ≡ self.old ++ row_line row.now) }
-        ensures len { OnOk result (length self.new ≤ length self.old + 62) }
+    fn row(&mut self, style: &Style, row: &Row) -> Result<(), NoMemory>
+        ensures after { OnOk result (self.new ≡ self.old ++ row_text style.now row.now) }
+        ensures len { OnOk result (length self.new ≤ length self.old + MAX_LINE) }
     {
         let mut line = Line::new();
-        line.row(row);
+        if style.json {
+            line.json(row);
+        } else {
+            line.row(row);
+        }
         self.append(line.bytes())
     }
 
-    /// Appends a message and its LF.
-    fn message(&mut self, text: &Body)
-        requires { length self.old + length text.now + 1 ≤ PAGE_ROOM }
-        ensures after { self.new ≡ self.old ++ (text.now ++ 10 ∷ []) }
-        ensures len { length self.new ≡ length self.old + length text.now + 1 }
+    /// Appends the line of an identifier.
+    fn id(&mut self, id: i32) -> Result<(), NoMemory>
+        ensures after { OnOk result (self.new ≡ self.old ++ id_line id) }
+        ensures len { OnOk result (length self.new ≤ length self.old + MAX_LINE) }
+    {
+        let mut line = Line::new();
+        line.id(id);
+        self.append(line.bytes())
+    }
+
+    /// Appends the lines of all attributes.
+    fn stat(&mut self, stat: &Stat) -> Result<(), NoMemory>
+        ensures after { OnOk result (self.new ≡ self.old ++ stat_lines stat.now) }
+        ensures len { OnOk result (length self.new ≤ length self.old + MAX_LINE) }
+    {
+        let mut line = Line::new();
+        line.stat(stat);
+        self.append(line.bytes())
+    }
+}
+
+impl Page {
+    /// Appends a message, and shortens `text` to the bytes of it that are shown.
+    #[tactic(auto, using(std::proofs::Common::append_assoc))]
+    pub(crate) fn message(&mut self, style: &Style, mtype: i64, text: &mut Body)
+        requires { length self.old + length text.old + 22 ≤ PAGE_ROOM }
+        ensures after { self.new ≡ self.old ++ message_text style.now mtype text.old }
+        ensures len { length self.new ≤ length self.old + length text.old + 22 }
+    {
+        text.truncate(style.size as usize);
+        if style.shows_type {
+            self.mtype(mtype);
+        }
+        self.body(text);
+        if !style.raw {
+            self.put(b"\n");
+        }
+    }
+
+    /// Appends a message's type and a tab.
+    fn mtype(&mut self, mtype: i64)
+        requires { length self.old + 21 ≤ PAGE_ROOM }
+        ensures after { self.new ≡ self.old ++ type_text mtype }
+        ensures len { length self.new ≤ length self.old + 21 }
+    {
+        let mut buffer = Buffer::new();
+        self.put(buffer.format(mtype).as_bytes());
+        self.put(b"\t");
+    }
+
+    /// Appends the bytes of a body.
+    fn body(&mut self, text: &Body)
+        requires { length self.old + length text.now ≤ PAGE_ROOM }
+        ensures after { self.new ≡ self.old ++ text.now }
+        ensures len { length self.new ≡ length self.old + length text.now }
     {
         let blocks = text.len().div_ceil(BLOCK_BYTES) as u32;
         for k in 0..blocks {
             self.put(text.block(k));
         }
-        self.put(b"\n");
     }
 }

@@ -28,9 +28,9 @@ use Rattle.sysv_core.specs.Parked.{IsBeingChanged}
 use Rattle.sysv_core.specs.Removed.{AreRemovedForGood}
 use Rattle.sysv_core.specs.Tending.{AreTended}
 use Rattle.sysv_core.proofs.Histories.{turn_of}
-use Rattle.sysv_core.proofs.Along.{Made, made_at, slot_around, registry_around}
-use Rattle.sysv_core.proofs.Tending.{any_more, or_left, live_more}
-use Rattle.sysv_core.proofs.Settling.{SettledOnceInstalled}
+use Rattle.sysv_core.proofs.TurnInHistory.{Made, made_at, slot_around, registry_around}
+use Rattle.sysv_core.proofs.EachRowIsTended.{any_more, or_left, live_more}
+use Rattle.sysv_core.proofs.InstalledBeforeSettled.{SettledOnceInstalled}
 
 -- ---- rows stay while the settled count does
 

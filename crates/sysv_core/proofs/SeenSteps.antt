@@ -40,7 +40,7 @@ use Rattle.sysv_core.specs.Led.{LeadsTo, TurnLeads, LookLeads, Stays, StepLeads}
 use Rattle.sysv_core.specs.Preset.{MakesPreset}
 use Rattle.sysv_core.specs.Seen.{Seen, IsSeenAs, Gives, Steps, state_in}
 use Rattle.sysv_core.proofs.Lists.{map-slice_set, slice_set-same}
-use Rattle.sysv_core.proofs.Sounding.{vacant_there}
+use Rattle.sysv_core.proofs.SoundStays.{vacant_there}
 
 -- ---- the actor at a place
 

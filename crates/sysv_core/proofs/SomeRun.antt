@@ -43,7 +43,7 @@ use Rattle.sysv_core.specs.Sound.{IsToCaller, IsSound, StaysSound}
 use Rattle.sysv_core.specs.Seen.{Gives, happening_of}
 use Rattle.sysv_core.specs.SomeRun.{SomeStep, SomePreset, SomeRun}
 use Rattle.sysv_lists.proofs.Orders.{at_most}
-use Rattle.sysv_core.proofs.Sounding.{opening_sound}
+use Rattle.sysv_core.proofs.SoundStays.{opening_sound}
 
 -- ---- a legal reply has a row of the step table
 

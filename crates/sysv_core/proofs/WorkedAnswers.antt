@@ -13,7 +13,7 @@ use Rattle.sysv_steps.specs.Answers.{EachAnswerIsRight}
 use Rattle.sysv_core.specs.World.{Started, begun, preset_who, preset_cred, preset_begin, preset_install, preset_settle}
 use Rattle.sysv_core.specs.AnswerLaw.{AreInTheirCalls, IsMade, ended, standing}
 use Rattle.sysv_core.specs.WorkedRun.{hello, the_calls, look_for}
-use Rattle.sysv_core.proofs.Sounding.{none_busy}
+use Rattle.sysv_core.proofs.SoundStays.{none_busy}
 use Rattle.sysv_core.specs.WorkedAnswers.{the_send, the_end, still_reserving, looking, looked_by, look_fits}
 use Rattle.sysv_core.specs.WorkedAnswers.{gets_a_block, accepts, WorkedAnswers}
 

@@ -61,12 +61,21 @@ impl Model for World {
     ghost use Rattle.sysv_core.specs.Kept.{states_kept};
     ghost use Rattle.sysv_queue.specs.Tally.{taken_in};
 
-    ghost view = { λ w.
-        record { objects = w.objects; states = states_kept w.actors.items; steps = w.steps; tally = w.tally } };
+    ghost view = { λ w. record {
+      objects = w.objects;
+      states = states_kept w.actors.items;
+      steps = w.steps;
+      tally = w.tally;
+    } };
 
     // The step number bounds the counts of the slots and of the pool, and those of the tally.
     ghost invariant = { λ w. (w.steps ≤ 2 ^ 62) × CountsUpTo w.steps w.objects
-        × IsSeen (record { objects = w.objects; states = states_kept w.actors.items; steps = w.steps; tally = w.tally })
+        × IsSeen (record {
+          objects = w.objects;
+          states = states_kept w.actors.items;
+          steps = w.steps;
+          tally = w.tally;
+        })
         × (taken_in w.tally ≤ w.steps) };
 }
 
@@ -80,7 +89,8 @@ impl World {
     /// - `NoMemory` if memory is refused.
     pub fn open(alloc: Global, actors: u32, blocks: u32) -> Result<World, OpenRefused>
         ensures opened { IfOk result (λ world.
-            StandsFor record { actors = actors; blocks = blocks; first = 0; generation = 0 } [] [] world) }
+            StandsFor record { actors = actors; blocks = blocks; first = 0; generation = 0 }
+            [] [] world) }
         ensures tally { IfOk result (λ world. world.tally ≡ none_taken) }
         ensures bad_size { (result ≡ Err OpenRefused.BadSize)
             ↔ ((actors < 1) ⊎ (most_actors < actors) ⊎ (blocks < least_blocks)
@@ -105,7 +115,12 @@ impl World {
         generation: u32,
     ) -> Result<World, OpenRefused>
         ensures opened { IfOk result (λ world.
-            StandsFor record { actors = actors; blocks = blocks; first = first_step; generation = generation } [] [] world) }
+            StandsFor record {
+              actors = actors;
+              blocks = blocks;
+              first = first_step;
+              generation = generation;
+            } [] [] world) }
         ensures tally { IfOk result (λ world. world.tally ≡ none_taken) }
         ensures bad_size { (result ≡ Err OpenRefused.BadSize)
             ↔ ((actors < 1) ⊎ (most_actors < actors) ⊎ (blocks < least_blocks)

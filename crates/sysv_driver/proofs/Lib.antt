@@ -1,3 +1,3 @@
-pub mod Staying
-pub mod Stepping
-pub mod Giving
+pub mod KindStays
+pub mod StepFromReply
+pub mod ReceiveGivesTaken

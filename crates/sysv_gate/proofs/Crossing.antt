@@ -28,6 +28,10 @@ use Rattle.sysv_gate.specs.contracts.seat.Seat as seat
 use Rattle.sysv_gate.specs.contracts.seat.Seat.TheInside as inside
 use Rattle.sysv_gate.specs.contracts.bell.Bell as bell
 use Rattle.sysv_gate.proofs.bell.Bell.TheSendSync as bells
+use Rattle.std.specs.contracts.sync.atomic.AtomicU64 as atomic
+use Rattle.std.proofs.sync.atomic.AtomicU64.TheSendSync as atomics
+use Rattle.sysv_gate.specs.contracts.bell.Entrance as entrance
+use Rattle.sysv_gate.proofs.bell.Entrance.TheSendSync as entrances
 use Rattle.sysv_gate.specs.contracts.bell.TurnBells as turns
 use Rattle.sysv_gate.proofs.bell.TurnBells.TheSendSync as turn_bells
 use Rattle.sysv_gate.specs.contracts.gate.Gate as gate
@@ -91,10 +95,19 @@ door_sync O C R g = view_sync (door_inside.the_row O C R g) _ _ _ _
         (
           as_row_sync (snapshot.the_field O) (snapshot_sync O),
           (
-            as_row_sync turns.the_field turn_bells.the_field_sync,
+            as_row_sync atomic.the_field atomics.the_sync,
             (
-              as_row_sync bell.the_field bells.the_field_sync,
-              (as_row_sync bell.the_field bells.the_field_sync, (as_row_sync bell.the_field bells.the_field_sync, tt)),
+              as_row_sync entrance.the_field entrances.the_field_sync,
+              (
+                as_row_sync turns.the_field turn_bells.the_field_sync,
+                (
+                  as_row_sync bell.the_field bells.the_field_sync,
+                  (
+                    as_row_sync bell.the_field bells.the_field_sync,
+                    (as_row_sync bell.the_field bells.the_field_sync, tt),
+                  ),
+                ),
+              ),
             ),
           ),
         ),

@@ -68,20 +68,79 @@ impl Bell {
         self.sleepers.fetch_sub(1, SeqCst);
     }
 
-    /// Wakes all threads that sleep. If no thread has entered, this is one load.
-    pub(crate) fn ring(&self) {
-        if self.sleepers.load(SeqCst) > 0 {
+    /// Wakes all threads that sleep. If no thread has entered, this is one load. Returns whether a
+    /// thread has entered.
+    pub(crate) fn ring(&self) -> bool {
+        let entered = self.has_sleepers();
+        if entered {
             self.rung.fetch_add(1, SeqCst);
             self.rung.wake_all();
         }
+        entered
     }
 
     /// Wakes one thread that sleeps. Threads that have entered and do not sleep yet look once more.
     pub(crate) fn ring_for_one(&self) {
-        if self.sleepers.load(SeqCst) > 0 {
+        if self.has_sleepers() {
             self.rung.fetch_add(1, SeqCst);
             self.rung.wake_one();
         }
+    }
+
+    /// Returns whether a thread has entered and not left.
+    fn has_sleepers(&self) -> bool {
+        self.sleepers.load(SeqCst) > 0
+    }
+}
+
+/// The bell of the threads that sleep without a ticket. A ring wakes one of them, unless a thread
+/// that an earlier ring woke is still on its way.
+#[derive(Drop)]
+pub(crate) struct Entrance {
+    bell: Bell,
+    /// 1 from a ring for one thread until a thread is awake, or is about to look before it sleeps.
+    called: AtomicU64,
+}
+
+impl Entrance {
+    pub(crate) fn new() -> Entrance {
+        Entrance {
+            bell: Bell::new(),
+            called: AtomicU64::new(0),
+        }
+    }
+
+    /// Enters like `Bell::enter`. The thread looks afterwards, so the next ring wakes one again.
+    pub(crate) fn enter(&self) -> u64 {
+        let rung = self.bell.enter();
+        self.called.store(0, SeqCst);
+        rung
+    }
+
+    /// Sleeps if the bell was rung `rung` times and not since.
+    pub(crate) fn sleep(&self, rt: &impl Wait, rung: u64) {
+        self.bell.sleep(rt, rung, Sleep::UntilRung);
+    }
+
+    /// Leaves again after an `enter`. The thread looks afterwards, so the next ring wakes one again.
+    pub(crate) fn leave(&self) {
+        self.called.store(0, SeqCst);
+        self.bell.leave();
+    }
+
+    /// Wakes one thread that sleeps, unless one that was woken is still on its way.
+    pub(crate) fn call_one(&self) {
+        if self.bell.has_sleepers()
+            && self.called.load(SeqCst) == 0
+            && self.called.swap(1, SeqCst) == 0
+        {
+            self.bell.ring_for_one();
+        }
+    }
+
+    /// Wakes all threads that sleep.
+    pub(crate) fn ring(&self) {
+        let _ = self.bell.ring();
     }
 }
 
@@ -110,7 +169,7 @@ impl TurnBells {
     /// Wakes all threads that sleep, whatever their tickets are.
     pub(crate) fn ring_all(&self) {
         for bell in &self.bells {
-            bell.ring();
+            let _ = bell.ring();
         }
     }
 }

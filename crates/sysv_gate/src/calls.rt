@@ -44,7 +44,7 @@ impl<O: Object> Door<O> {
         ensures worn { IfErr result (λ w. (w.call ≡ call)
             × HasWorn (me_at self.now.place token.old.me) (me_at self.now.place token.new.me)) }
     {
-        let Some(ticket) = self.draw(rt, hall, token) else {
+        let Some(ticket) = self.come(rt, hall, token) else {
             return Err(Worn { call });
         };
         self.tell_worn(ticket);

@@ -9,13 +9,14 @@ ghost use Rattle.sysv_gate.specs.Turns.{Waits, Looked, HasRead};
 ghost use Rattle.sysv_gate.specs.Halls.{me_at};
 ghost use Rattle.sysv_gate.specs.Doors.{IsDoorOf, IsAt, IsSame};
 
-use crate::bell::{Bell, TurnBells};
+use crate::bell::{Bell, Entrance, TurnBells};
 use crate::count::Count;
 use crate::hall::{Announcing, Drawing, Entering, Hall, HallToken, Looking, Reading, Weighing};
 use crate::object::Object;
 use crate::words::{SERVING, TICKET};
 use std::marker::Model;
 use std::snapshot::Snapshot;
+use std::sync::atomic::AtomicU64;
 
 /// One of several places that share a table, with the bells of the threads that wait there.
 #[derive(Drop)]
@@ -25,6 +26,11 @@ pub struct Door<O: Object> {
     base: usize,
     /// The object that was at the place when the table was laid.
     opening: Snapshot<O>,
+    /// The number of threads that have entered any bell of the place and not left.
+    pub(crate) sleepers: AtomicU64,
+    /// The bell of the threads that wait for their turn without a ticket.
+    pub(crate) entrance: Entrance,
+    /// The bells of the threads that wait for their turn with a ticket.
     pub(crate) turns: TurnBells,
     /// The bell of the threads that wait for the first count without a time limit.
     pub(crate) arrived: Bell,
@@ -64,6 +70,8 @@ impl<O: Object> Door<O> {
             place,
             base: 80 * place,
             opening: Snapshot::of(object),
+            sleepers: AtomicU64::new(0),
+            entrance: Entrance::new(),
             turns: TurnBells::new(),
             arrived: Bell::new(),
             next_arrived: Bell::new(),

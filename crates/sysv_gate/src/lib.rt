@@ -17,6 +17,7 @@ mod awaited;
 mod bell;
 mod calls;
 mod closing;
+mod coming;
 mod count;
 mod door;
 mod ending;

@@ -20,6 +20,7 @@ use crate::words::{LIMIT, SERVING};
 use std::hint;
 use std::snapshot::Snapshot;
 use std::sync::Wait;
+use std::sync::atomic::Ordering::SeqCst;
 
 /// The number of looks for the seat's ticket before the thread sleeps.
 pub(crate) const LOOKS: u64 = 16_384;
@@ -180,12 +181,14 @@ impl<O: Object> Door<O> {
             → SawMore (me_at self.now.place token.old.me).0 (me_at self.now.place token.new.me) }
     {
         let bell = self.turns.of(ticket);
+        self.sleepers.fetch_add(1, SeqCst);
         let rung = bell.enter();
         let served = self.look(hall, token);
         if served != ticket {
             bell.sleep(rt, rung, Sleep::UntilRung);
         }
         bell.leave();
+        self.sleepers.fetch_sub(1, SeqCst);
         served
     }
 
@@ -247,32 +250,49 @@ impl<O: Object> Door<O> {
         (reply, rose)
     }
 
-    /// Wakes the thread with the next ticket, and the threads that wait for a count that rose: one
-    /// of those whose waits for the first count are bounded, and all others.
+    /// Wakes the threads for which the end of the turn with this ticket is of use. If no thread
+    /// sleeps, this is one load.
     pub(crate) fn wake_after(&self, ticket: u64, rose: Rose)
         requires { ticket < 2 ^ 62 }
     {
-        self.turns.of(ticket + 1).ring();
-        if rose.arrived {
-            self.arrived.ring();
-            self.next_arrived.ring_for_one();
-        }
-        if rose.freed {
-            self.freed.ring();
+        if self.sleepers.load(SeqCst) > 0 {
+            self.wake_sleepers(ticket, rose);
         }
     }
 
-    /// Wakes the threads that wait for a count if this was the last ticket.
+    /// Wakes the thread with the next ticket or, if none sleeps with a ticket, one that sleeps
+    /// without. Wakes also the threads that wait for a count that rose: one of those whose waits for
+    /// the first count are bounded, and all others.
+    #[inline(never)]
+    fn wake_sleepers(&self, ticket: u64, rose: Rose)
+        requires { ticket < 2 ^ 62 }
+    {
+        if !self.turns.of(ticket + 1).ring() {
+            self.entrance.call_one();
+        }
+        if rose.arrived {
+            let _ = self.arrived.ring();
+            self.next_arrived.ring_for_one();
+        }
+        if rose.freed {
+            let _ = self.freed.ring();
+        }
+    }
+
+    /// Wakes the threads that sleep without a ticket or wait for a count if this was the last
+    /// ticket.
     pub(crate) fn tell_worn(&self, ticket: u64) {
         if ticket >= LIMIT - 1 {
             self.ring();
         }
     }
 
-    /// Wakes the threads that wait for a count.
+    /// Wakes the threads that sleep without a ticket or wait for a count.
+    #[cold]
     pub(crate) fn ring(&self) {
-        self.arrived.ring();
-        self.next_arrived.ring();
-        self.freed.ring();
+        self.entrance.ring();
+        let _ = self.arrived.ring();
+        let _ = self.next_arrived.ring();
+        let _ = self.freed.ring();
     }
 }

@@ -13,6 +13,7 @@ use crate::object::Object;
 use crate::words::LIMIT;
 use std::hint;
 use std::sync::Wait;
+use std::sync::atomic::Ordering::SeqCst;
 
 /// The number of looks at a count before the thread sleeps.
 pub(crate) const LOOKS: u64 = 256;
@@ -115,12 +116,14 @@ impl<O: Object> Door<O> {
             (me_at self.now.place token.new.me)) }
     {
         let bell = self.bell(count, sleep);
+        self.sleepers.fetch_add(1, SeqCst);
         let rung = bell.enter();
         let found = self.judge(hall, token, count, goal);
         if found.is_none() {
             bell.sleep(rt, rung, sleep);
         }
         bell.leave();
+        self.sleepers.fetch_sub(1, SeqCst);
         found
     }
 

@@ -115,8 +115,12 @@ impl Messages {
         requires blocks { chain.blocks ≡ blocks_for len }
         requires short { len ≤ most_bytes }
         requires small { bytes_of self.old + len < 2 ^ 32 }
-        ensures { self.new ≡ self.old
-            ++ record { number = number; sender = sender; mtype = mtype; bytes = chain.bytes } ∷ [] }
+        ensures { self.new ≡ self.old ++ record {
+          number = number;
+          sender = sender;
+          mtype = mtype;
+          bytes = chain.bytes;
+        } ∷ [] }
     {
         let place = self.heads.insert_reserved(Head {
             number,

@@ -6,7 +6,10 @@
 mod blocks;
 mod chain;
 mod laws;
+mod loose;
 mod pool;
+mod shelf;
+mod stock;
 
 pub use chain::Chain;
 pub use laws::{legal_history, one_legal_reply, pool_law};

@@ -6,11 +6,10 @@ ghost use Rattle.sysv_model.specs.Pool.{blocks_for, Reserve, Release};
 ghost use Rattle.sysv_pool.specs.StandsFor.{StandsFor, MakesTurn};
 ghost use Rattle.sysv_pool.specs.Replies.{reserve_reply, release_reply};
 
-use crate::blocks::{Link, cut, free_all, linked, shift_all};
 use crate::chain::Chain;
+use crate::stock::Stock;
 use std::alloc::Global;
 use std::marker::Model;
-use std::mem;
 use sysv_model::{BLOCK_BYTES, MAX_BLOCKS, MIN_BLOCKS};
 use thiserror::Error;
 
@@ -30,23 +29,22 @@ pub enum PoolRefused {
 ///
 /// A pool cannot be dropped; end it with `end`.
 pub struct Pool {
-    link: Link,
+    stock: Stock,
     count: u32,
     size: u32,
     released: u64,
 }
 
 impl Model for Pool {
-    ghost use Rattle.std.specs.Prelude.{◌≡◌, ◌≤◌, length};
+    ghost use Rattle.std.specs.Prelude.{◌≡◌, ◌≤◌};
     ghost use Rattle.sysv_model.specs.declared.limits.TheConstants.{MAX_BLOCKS as most_blocks};
     ghost use Rattle.sysv_pool.specs.State.{State};
-    ghost use Rattle.sysv_pool.specs.Blocks.{contents_of};
 
     ghost Value = { State };
 
     ghost view = { λ p. record { size = p.size; free = p.count; released = p.released } };
 
-    ghost invariant = { λ p. (length (contents_of p.link) ≡ p.count) × (p.count ≤ p.size)
+    ghost invariant = { λ p. (p.stock ≡ p.count) × (p.count ≤ p.size)
         × (p.size ≤ most_blocks) };
 }
 
@@ -65,9 +63,9 @@ impl Pool {
         if blocks < MIN_BLOCKS || blocks > MAX_BLOCKS {
             return Err(PoolRefused::BadSize);
         }
-        let link = linked(alloc, blocks).map_err(|_| PoolRefused::NoMemory)?;
+        let stock = Stock::open(alloc, blocks).map_err(|_| PoolRefused::NoMemory)?;
         Ok(Pool {
-            link,
+            stock,
             count: blocks,
             size: blocks,
             released: 0,
@@ -78,6 +76,9 @@ impl Pool {
     /// them.
     ///
     /// Returns `None`, with the pool unchanged, if fewer blocks are free. Allocates nothing.
+    ///
+    /// It takes constant time if the pool keeps a chain of this length whole. Otherwise it takes time
+    /// in proportion to the number of blocks that it reserves, and looks at no more than 128 stacks.
     ///
     /// # Conditions
     ///
@@ -94,8 +95,7 @@ impl Pool {
         if count > self.count {
             return None;
         }
-        let rest = cut(&mut self.link, count);
-        let link = mem::replace(&mut self.link, rest);
+        let link = self.stock.take(count);
         self.count -= count;
         Some(Chain {
             link,
@@ -107,7 +107,8 @@ impl Pool {
     /// Makes the blocks of the chain free and adds 1 to the released count. A chain without blocks
     /// is counted too.
     ///
-    /// It allocates nothing. It takes time in proportion to the number of blocks in the chain.
+    /// It allocates nothing. The pool keeps the chain whole in constant time, if it has space for one
+    /// more of this length. Otherwise it takes time in proportion to the number of blocks in the chain.
     ///
     /// # Errors
     ///
@@ -131,7 +132,7 @@ impl Pool {
             count,
             len: _,
         } = chain;
-        self.link = shift_all(link, self.link.take());
+        self.stock.put(link, count);
         self.count += count;
         self.released += 1;
         Ok(())
@@ -155,11 +156,11 @@ impl Pool {
     /// Frees the memory of the free blocks. Chains that are still reserved keep their blocks.
     pub fn end(self) {
         let Pool {
-            link,
+            stock,
             count: _,
             size: _,
             released: _,
         } = self;
-        free_all(link);
+        stock.end();
     }
 }

@@ -316,16 +316,19 @@ impl QueueSlot {
     fn change_to(&mut self, live: Option<Attributes>)
         requires arrived { self.old.arrived < 2 ^ 63 }
         requires freed { self.old.freed < 2 ^ 63 }
-        ensures { self.new
-            ≡ record self.old { live = live; arrived = self.old.arrived + 1; freed = self.old.freed + 1 } }
+        ensures { self.new ≡ record self.old {
+          live = live;
+          arrived = self.old.arrived + 1;
+          freed = self.old.freed + 1;
+        } }
     {
         self.live = live;
         self.arrived += 1;
         self.freed += 1;
     }
 
-    /// Returns the number of queued messages, at most 256 (specific to this profile). It requires no
-    /// permission.
+    /// Returns the number of queued messages, at most 256 (specific to this profile). It requires
+    /// no permission.
     pub fn qnum(&self) -> u32
         ensures { result ≡ length self.now.messages }
     {
@@ -434,8 +437,12 @@ impl QueueSlot {
         ensures number { result ≡ self.old.arrived }
         ensures after { self.new ≡ record {
           live = option_map (sent_to cred now) self.old.live;
-          messages = self.old.messages
-              ++ record { number = self.old.arrived; sender = cred.pid; mtype = mtype; bytes = chain.bytes } ∷ [];
+          messages = self.old.messages ++ record {
+            number = self.old.arrived;
+            sender = cred.pid;
+            mtype = mtype;
+            bytes = chain.bytes;
+          } ∷ [];
           arrived = self.old.arrived + 1;
           freed = self.old.freed;
         } }

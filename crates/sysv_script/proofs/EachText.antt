@@ -29,7 +29,7 @@ use Rattle.sysv_script.specs.ScriptText.{BeginsWith, LineDoes, IsBad, Ending, Wh
 use Rattle.sysv_script.specs.ScriptText.{Exceeds, Fails, Goes}
 use Rattle.sysv_script.specs.EachText.{EachTextPrints}
 use Rattle.sysv_script.specs.CredHeld.{cred_held}
-use Rattle.sysv_script.proofs.Opening.{opening_sound}
+use Rattle.sysv_script.proofs.EmptyWorldSound.{opening_sound}
 use Rattle.sysv_words.specs.OneSplit.{OneSplit}
 use Rattle.sysv_lines.specs.OneLine.{EachLineIsDecided}
 

@@ -8,7 +8,7 @@ use Rattle.sysv_lines.specs.declared.names.Operation.{Operation}
 use Rattle.sysv_steps.specs.declared.call.Call.{Call}
 use Rattle.sysv_core.specs.Seen.{happening_of}
 use Rattle.sysv_core.specs.Sound.{IsSound, OpensSound, StaysSound}
-use Rattle.sysv_script.proofs.Opening.{opening_sound}
+use Rattle.sysv_script.proofs.EmptyWorldSound.{opening_sound}
 use Rattle.sysv_core.specs.declared.event.Event.{Event}
 use Rattle.sysv_core.specs.declared.event.Event.TheVariants.{Start, Step}
 use Rattle.sysv_core.specs.declared.event.Stepped.{Stepped}

@@ -24,7 +24,7 @@ use Rattle.sysv_script.specs.ScriptSofar.{LeavesRead, LeavesAtFault, Leaves}
 use Rattle.sysv_script.specs.declared.lines.Found.{Found}
 use Rattle.sysv_script.specs.declared.fault.ScriptFault.{ScriptFault}
 use Rattle.sysv_script.specs.declared.fault.ScriptFault.TheVariants.{Line, Read, Write, NoMemory, Bound}
-use Rattle.sysv_script.proofs.Scripting.{fails_at, stops_front}
+use Rattle.sysv_script.proofs.RunSofar.{fails_at, stops_front}
 
 -- A fault of a stream.
 pub at_stream_fault : (fault : ScriptFault) (s : Scene) (text : List ℕ) (old new : Option (List ℕ)) (composed : List ℕ)

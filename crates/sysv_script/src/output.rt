@@ -18,8 +18,8 @@ use sysv_model::{BLOCK_BYTES, Body, NoMemory, Watched, WriteFault};
 /// The capacity of the output in bytes.
 const OUTPUT_ROOM: usize = 65536;
 
-/// More bytes than any line of output needs. That of a receive is a head of at most 40 bytes, a body
-/// of at most 8,192 and an LF; that of a stat has at most 245.
+/// More bytes than any line of output needs. That of a receive is a head of at most 40 bytes, a
+/// body of at most 8,192 and an LF; that of a stat has at most 245.
 const LONGEST: usize = 8400;
 
 /// The maximum number of composed bytes before a line is run: one more line then fits.

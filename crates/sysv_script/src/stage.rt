@@ -249,8 +249,8 @@ impl Stage {
         }
     }
 
-    /// Returns the call with a body: that of a send has the bytes on its line, and that of a receive
-    /// is empty.
+    /// Returns the call with a body: that of a send has the bytes on its line, and that of a
+    /// receive is empty.
     fn with_body(&mut self, alloc: Global, call: Call<Text<'_>, ()>) -> Result<Call, NoMemory>
         requires { CallFits call }
         ensures call { IfOk result (λ given. given ≡ call_for (call_asked call.entry)) }

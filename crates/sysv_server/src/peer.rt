@@ -1,7 +1,7 @@
 //! The client at the other end of a connection.
 
 use crate::moment::{NO_DESCRIPTOR, asking};
-use libc::net::{POLLERR, POLLHUP, POLLIN, poll};
+use libc::net::{POLLERR, POLLHUP, POLLIN, POLLRDHUP, poll};
 use std::os::fd::AsRawFd;
 use std::os::unix::net::UnixStream;
 use sysv_service::Caller;
@@ -39,13 +39,14 @@ impl Caller for Peer {
 
     ghost may_leave = { λ _. ⊤ };
 
-    /// Returns whether the client has closed the connection, or the session is to end.
+    /// Returns whether the client has shut down its writing or closed the connection, or the
+    /// session is to end.
     ///
-    /// A client that has shut down only its writing may still read a reply, so it has not left:
-    /// `poll` then reports neither `POLLHUP` nor `POLLERR`.
+    /// Bytes that it sent before are no reason to stay: they come after the request of the call
+    /// that waits, and the session ends with that call.
     fn has_left(&self) -> bool {
-        let mut asked = [asking(self.fd, 0), asking(self.cut, POLLIN)];
+        let mut asked = [asking(self.fd, POLLRDHUP), asking(self.cut, POLLIN)];
         poll(&mut asked, 0) > 0
-            && (asked[0].revents & (POLLHUP | POLLERR) != 0 || asked[1].revents != 0)
+            && (asked[0].revents & (POLLRDHUP | POLLHUP | POLLERR) != 0 || asked[1].revents != 0)
     }
 }

@@ -20,7 +20,7 @@ use Rattle.sysv_service.specs.Ran.{Pass}
 use Rattle.sysv_service.specs.Told.{TellsRow}
 use Rattle.sysv_service.specs.Working as working
 use Rattle.sysv_service.specs.Working.{Works}
-use Rattle.sysv_service.proofs.Doing.{turn_is_made, worn_is_seen, read_is_seen, does}
+use Rattle.sysv_service.proofs.DoneByPass.{turn_is_made, worn_is_seen, read_is_seen, does}
 
 abbrev shares : Pass → List ℕ
 shares pass = pass.seats.member.shares

@@ -104,12 +104,12 @@ pub fn every_hiring_obeys()
 }
 
 /// States that no gate is held and all blocks of the pool are free after the close of a service, if
-/// all passes have come home, each of their calls is over or was left at a wait, and no call found a
-/// gate worn out.
+/// all passes have come home, each of their calls is over or was left at a wait, and no call found
+/// a gate worn out.
 ///
 /// The clause `hired` states the same of a service whose first pass gave a pass to each worker and
-/// took all of them back, if the last pass is unmarked. The clause `none_held` states that no gate is
-/// held after the close of such a service, also if calls found gates worn out.
+/// took all of them back, if the last pass is unmarked. The clause `none_held` states that no gate
+/// is held after the close of such a service, also if calls found gates worn out.
 pub fn every_pool_is_whole()
     ensures whole { EveryPoolIsWhole }
     ensures hired { EveryHiringLeavesThePoolWhole }

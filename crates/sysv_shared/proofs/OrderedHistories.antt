@@ -51,12 +51,12 @@ use Rattle.sysv_shared.specs.Sharing.{LegalIfOpen}
 use Rattle.sysv_shared.specs.Order.{GatedTurn, GatedPlaced, GatedPass, opening_at, object_at, deed_at, deeds_after}
 use Rattle.sysv_shared.specs.Order.{deeds_of}
 use Rattle.sysv_shared.specs.Ordered.{IsLegalOrder, OrdersAreOfCrews}
-use Rattle.sysv_shared.proofs.Seeing.{legal_as}
-use Rattle.sysv_shared.proofs.Keeping.{keeps_slot, keeps_registry, keeps_pool}
+use Rattle.sysv_shared.proofs.GateOfKind.{legal_as}
+use Rattle.sysv_shared.proofs.KindsKept.{keeps_slot, keeps_registry, keeps_pool}
 use Rattle.sysv_shared.proofs.Histories.{slot_on, registry_on, pool_on, pool_sized}
 use Rattle.sysv_shared.proofs.Ordered.{opens, sees, makes, splits, joins, closes, ends}
 use Rattle.sysv_shared.proofs.OrderedTurns.{answered}
-use Rattle.sysv_shared.proofs.Placing.{gates_known}
+use Rattle.sysv_shared.proofs.PlacesShown.{gates_known}
 
 same_place : (n k : ℕ) → n ≡ k → (n == k) ≡ true
 same_place n k e = grind (arith, nat_tests)

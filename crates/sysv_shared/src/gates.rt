@@ -36,6 +36,6 @@ impl Model for Gates {
 
     ghost view = { λ g. gates_seen g.bank };
 
-    ghost invariant = { λ g. AreByKind g.bank × (length g.bank ≡ SLOTS + 2) × (g.closings.items ≡ [])
-        × (SLOTS ≤ vec_capacity g.closings) };
+    ghost invariant = { λ g. AreByKind g.bank × (length g.bank ≡ SLOTS + 2)
+        × (g.closings.items ≡ []) × (SLOTS ≤ vec_capacity g.closings) };
 }

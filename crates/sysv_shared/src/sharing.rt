@@ -60,8 +60,8 @@ impl Gates {
 
     /// Closes the gates. Returns, for each slot in the order of the numbers, for the registry and
     /// for the pool, the object and the number of turns at its gate. An object is missing if its
-    /// gate is held by a turn that did not end; none is missing if `seats` have the whole service. It
-    /// allocates nothing.
+    /// gate is held by a turn that did not end; none is missing if `seats` have the whole service.
+    /// It allocates nothing.
     ///
     /// # Conditions
     ///

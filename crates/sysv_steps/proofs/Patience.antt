@@ -16,7 +16,7 @@ use Rattle.sysv_steps.proofs.Among.{apart, amid}
 use Rattle.sysv_steps.proofs.Sends.{SendAt, send_at}
 use Rattle.sysv_steps.proofs.Receives.{ReceiveAt, receive_at}
 use Rattle.sysv_steps.proofs.Controls.{stat_at, set_at, removal_at}
-use Rattle.sysv_steps.proofs.Waiting.{each_waits}
+use Rattle.sysv_steps.proofs.WaitsAfterRefusal.{each_waits}
 
 -- A test that would lead to a contradiction fails.
 denies : (b c : Bool) → b ≡ c → (b ≡ true → ⊥) → c ≡ false

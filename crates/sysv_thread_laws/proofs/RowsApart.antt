@@ -10,7 +10,7 @@ use Rattle.sysv_steps.specs.State.{AtRemove, AtForget, AtRemoveGiveback}
 use Rattle.sysv_steps.specs.Asks.{asks}
 use Rattle.sysv_steps.specs.Played.{Plays, begins, steps, resumes}
 use Rattle.sysv_thread_laws.specs.Order.{shows_row, NoCallReadsARow}
-use Rattle.sysv_thread_laws.proofs.Ordering.{row_form}
+use Rattle.sysv_thread_laws.proofs.OrderLeadsOn.{row_form}
 
 abbrev IsQuiet : Deed → Type 0
 IsQuiet deed = shows_row deed ≡ false

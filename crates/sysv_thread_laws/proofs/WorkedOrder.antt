@@ -19,7 +19,7 @@ use Rattle.sysv_thread_laws.specs.Order.{Called, IsPlayed, AreAll, shows_row, de
 use Rattle.sysv_thread_laws.specs.OrderIsRun.{EveryOrderIsARun}
 use Rattle.sysv_thread_laws.specs.AtRest.{Rests, OrdersAtRest}
 use Rattle.sysv_thread_laws.proofs.Places.{number_other}
-use Rattle.sysv_thread_laws.proofs.Ordering.{by_another}
+use Rattle.sysv_thread_laws.proofs.OrderLeadsOn.{by_another}
 use Rattle.sysv_thread_laws.specs.WorkedOrder.{sender, receiver, hello, hello_message, creating, makes, installs}
 use Rattle.sysv_thread_laws.specs.WorkedOrder.{settles, finds_none, looks, reserves, reads_row, places, takes}
 use Rattle.sysv_thread_laws.specs.WorkedOrder.{finds_no_other, gives_back, discards, forgets, gives_back_none, by}

@@ -13,19 +13,19 @@ pub no_client : (name : List ℕ) (words : List Row) → ((task : Task) → ¬ H
     ¬ ClientAsks name words asked
 no_client name words none Script = λ h. h
 no_client name words none (Serve serving) = λ h. h
-no_client name words none (Client path command from_input) = λ h. none command.task h.2
+no_client name words none (Client path who task how) = λ h. none task h.2
 
 to_command : (name : List ℕ) (words : List Row) (asked : Asked) → ClientAsks name words asked →
     CommandAsks name words asked
 to_command name words Script h = absurd h
 to_command name words (Serve serving) h = absurd h
-to_command name words (Client path command from_input) h = h
+to_command name words (Client path who task how) h = h
 
 to_client : (name : List ℕ) (words : List Row) → ¬ (name ≡ codes "script") → ¬ (name ≡ codes "serve") →
     (asked : Asked) → CommandAsks name words asked → ClientAsks name words asked
 to_client name words not_script not_serve Script h = not_script h
 to_client name words not_script not_serve (Serve serving) h = not_serve h.0
-to_client name words not_script not_serve (Client path command from_input) h = h
+to_client name words not_script not_serve (Client path who task how) h = h
 
 -- A command that is neither `script` nor `serve` asks for what a client's command asks for.
 pub as_command : {E : Type 0} (name : List ℕ) (words : List Row) (found : Option (List ℕ × List Row))

@@ -33,4 +33,4 @@ HasLimits serving = AreTerms serving.terms
 abbrev pub IsWithinLimits : Asked → Type 0
 IsWithinLimits Script = ⊤
 IsWithinLimits (Serve serving) = HasLimits serving
-IsWithinLimits (Client path command from_input) = HasShortText command.task
+IsWithinLimits (Client path who task how) = HasShortText task

@@ -2,6 +2,7 @@
 pub mod Asked
 pub mod Bodies
 pub mod Words
+pub mod Who
 pub mod Tasks
 pub mod Servers
 pub mod Requests

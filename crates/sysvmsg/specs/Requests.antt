@@ -5,22 +5,20 @@ use Rattle.clap.specs.declared.parser.matches.ArgMatches.{ArgMatches}
 use Rattle.sysvmsg.specs.declared.asked.Asked.{Asked}
 use Rattle.sysvmsg.specs.declared.asked.Asked.TheVariants.{Script, Serve, Client}
 use Rattle.sysvmsg.specs.Servers.{AsksToServe, HasPath}
-use Rattle.sysvmsg.specs.Tasks.{HasTask, StatesCred}
-use Rattle.sysvmsg.specs.Words.{HasFlag}
+use Rattle.sysvmsg.specs.Tasks.{HasHow, HasTask, StatesWho}
 
 -- A client's command of this name with these words makes this request.
 abbrev pub ClientAsks : List ℕ → List Row → Asked → Type 0
 ClientAsks name words Script = ⊥
 ClientAsks name words (Serve serving) = ⊥
-ClientAsks name words (Client path command from_input) =
-    HasPath words path.now × StatesCred words command.cred × HasTask name words command.task
-    × HasFlag words (codes "stdin") from_input
+ClientAsks name words (Client path who task how) =
+    HasPath words path.now × StatesWho words who × HasTask name words task × HasHow words how
 
 -- A command of this name with these words makes this request.
 abbrev pub CommandAsks : List ℕ → List Row → Asked → Type 0
 CommandAsks name words Script = name ≡ codes "script"
 CommandAsks name words (Serve serving) = (name ≡ codes "serve") × AsksToServe words serving
-CommandAsks name words (Client path command from_input) = ClientAsks name words (Client path command from_input)
+CommandAsks name words (Client path who task how) = ClientAsks name words (Client path who task how)
 
 -- A command line with this command makes this request. Without a command it makes none.
 abbrev pub AsksFor : Option (List ℕ × List Row) → Asked → Type 0

@@ -1,21 +1,55 @@
 -- What a client's command asks for (this project's programs): its task, and who makes it.
-use Rattle.std.specs.Prelude.{◌≡◌, ◌≤◌, ◌⊎◌, ℕ, ℤ, pos, Bool, List, [], codes, length, Option, Some, None, unwrap_or}
+use Rattle.std.specs.Prelude.{◌≡◌, ◌≤◌, ◌⊎◌, ℕ, ℤ, pos, Bool, true, false, List, [], codes, length, Option, Some}
+use Rattle.std.specs.Prelude.{None, is_some, unwrap_or}
 use Rattle.clap.specs.Words.{Row}
+use Rattle.sysv_clients.specs.declared.command.Format.{Format}
+use Rattle.sysv_clients.specs.declared.command.Format.TheVariants.{Table as AsTable, Json}
+use Rattle.sysv_clients.specs.declared.command.Making.{Making}
+use Rattle.sysv_clients.specs.declared.command.Receipt.{Receipt}
 use Rattle.sysv_clients.specs.declared.command.Target.{Target}
 use Rattle.sysv_clients.specs.declared.command.Target.TheVariants.{Id, Key}
 use Rattle.sysv_clients.specs.declared.command.Task.{Task}
-use Rattle.sysv_clients.specs.declared.command.Task.TheVariants.{List as Table, Remove, Send, Receive}
+use Rattle.sysv_clients.specs.declared.command.Task.TheVariants.{List as Table, Show, Remove, Make, Send, Receive}
 use Rattle.sysv_clients.specs.Words.{IsId, IsKey, IsType}
-use Rattle.sysv_model.specs.declared.cred.Cred.{Cred}
 use Rattle.sysv_model.specs.declared.limits.TheConstants.{BODY_ROOM}
 use Rattle.sysv_words.specs.Words.{IsNat32}
-use Rattle.sysvmsg.specs.Words.{Has, HasFlag, HasOr, WantsType, word_of}
+use Rattle.sysvmsg.specs.declared.asked.How.{How}
+use Rattle.sysvmsg.specs.declared.who.Who.{Who}
+use Rattle.sysvmsg.specs.Words.{Has, HasFlag, HasMaybe, HasOr, IsOctalMode, WantsType, word_of}
 
--- The command has a user ID, a group ID and a process ID, or their defaults.
-pub record StatesCred (words : List Row) (cred : Cred) : Type 0 where
-  pub uid : HasOr IsNat32 1000 (word_of words (codes "uid")) cred.uid
-  pub gid : HasOr IsNat32 1000 (word_of words (codes "gid")) cred.gid
-  pub pid : HasOr IsNat32 1 (word_of words (codes "pid")) cred.pid
+-- The command has a user ID, a group ID and a process ID, or lacks them, and has `--me` or not.
+pub record StatesWho (words : List Row) (who : Who) : Type 0 where
+  pub me : HasFlag words (codes "me") who.me
+  pub uid : HasMaybe IsNat32 (word_of words (codes "uid")) who.uid
+  pub gid : HasMaybe IsNat32 (word_of words (codes "gid")) who.gid
+  pub pid : HasMaybe IsNat32 (word_of words (codes "pid")) who.pid
+
+-- A task of a command with these words is run like this.
+pub record HasHow (words : List Row) (how : How) : Type 0 where
+  pub from_input : HasFlag words (codes "stdin") how.from_input
+  pub follow : HasFlag words (codes "follow") how.follow
+  pub count : HasMaybe IsNat32 (word_of words (codes "count")) how.count
+  pub wait : HasMaybe IsNat32 (word_of words (codes "wait")) how.wait
+
+-- The queues are listed as JSON objects.
+abbrev pub is_json : Format → Bool
+is_json AsTable = false
+is_json Json = true
+
+-- The word after `-i` of an `ipcs` is this identifier, or there is none and the queues are listed.
+abbrev pub Lists : (id : Option (List ℕ)) → List Row → Task → Type 0
+Lists (Some word) words (Show id) = IsId word id
+Lists None words (Table format) = HasFlag words (codes "json") (is_json format)
+Lists (Some word) words (Table format) = ⊥
+Lists None words (Show id) = ⊥
+Lists id words (Remove target) = ⊥
+Lists id words (Make making) = ⊥
+Lists id words (Send key text mtype nowait) = ⊥
+Lists id words (Receive receipt) = ⊥
+
+-- An `ipcs` with these words has this task.
+abbrev pub AsksToList : List Row → Task → Type 0
+AsksToList words task = Lists (word_of words (codes "id")) words task
 
 -- The words after `-q` and `-Q` of an `ipcrm` name this queue: that of the identifier, or that of
 -- the key if there is no identifier.
@@ -28,9 +62,26 @@ NamesTarget None key (Key named) = Has IsKey key named
 -- An `ipcrm` with these words has this task.
 abbrev pub AsksToRemove : List Row → Task → Type 0
 AsksToRemove words (Remove target) = NamesTarget (word_of words (codes "id")) (word_of words (codes "key")) target
-AsksToRemove words Table = ⊥
+AsksToRemove words (Table format) = ⊥
+AsksToRemove words (Show id) = ⊥
+AsksToRemove words (Make making) = ⊥
 AsksToRemove words (Send key text mtype nowait) = ⊥
-AsksToRemove words (Receive key size mtype nowait noerror) = ⊥
+AsksToRemove words (Receive receipt) = ⊥
+
+-- An `ipcmk` with these words makes this queue.
+pub record Makes (words : List Row) (making : Making) : Type 0 where
+  pub has_key : HasOr IsKey (pos 0) (word_of words (codes "key")) making.key
+  pub has_mode : HasOr IsOctalMode 384 (word_of words (codes "mode")) making.mode
+  pub has_qbytes : HasMaybe IsNat32 (word_of words (codes "qbytes")) making.qbytes
+
+-- An `ipcmk` with these words has this task.
+abbrev pub AsksToMake : List Row → Task → Type 0
+AsksToMake words (Make making) = Makes words making
+AsksToMake words (Table format) = ⊥
+AsksToMake words (Show id) = ⊥
+AsksToMake words (Remove target) = ⊥
+AsksToMake words (Send key text mtype nowait) = ⊥
+AsksToMake words (Receive receipt) = ⊥
 
 -- A `snd` with these words has this key, this body, this type and this flag.
 pub record Sends (words : List Row) (key : ℤ) (text : List ℕ) (mtype : ℤ) (nowait : Bool) : Type 0 where
@@ -43,27 +94,38 @@ pub record Sends (words : List Row) (key : ℤ) (text : List ℕ) (mtype : ℤ) 
 -- A `snd` with these words has this task.
 abbrev pub AsksToSend : List Row → Task → Type 0
 AsksToSend words (Send key text mtype nowait) = Sends words key text.now mtype nowait
-AsksToSend words Table = ⊥
+AsksToSend words (Table format) = ⊥
+AsksToSend words (Show id) = ⊥
 AsksToSend words (Remove target) = ⊥
-AsksToSend words (Receive key size mtype nowait noerror) = ⊥
+AsksToSend words (Make making) = ⊥
+AsksToSend words (Receive receipt) = ⊥
 
--- A `rcv` with these words has this key, this size, this type argument and these flags.
-pub record Receives (words : List Row) (key : ℤ) (size : ℕ) (mtype : ℤ) (nowait noerror : Bool) : Type 0 where
-  pub has_key : Has IsKey (word_of words (codes "key")) key
-  pub has_size : HasOr IsNat32 8192 (word_of words (codes "size")) size
-  pub has_type : WantsType (word_of words (codes "type")) (word_of words (codes "upto")) mtype
-  pub has_nowait : HasFlag words (codes "nowait") nowait
-  pub has_noerror : HasFlag words (codes "noerror") noerror
+-- A `rcv` with these words has this receipt.
+pub record Receives (words : List Row) (receipt : Receipt) : Type 0 where
+  pub has_key : Has IsKey (word_of words (codes "key")) receipt.key
+  pub has_create : HasFlag words (codes "create") receipt.create
+  pub has_mode : HasOr IsOctalMode 384 (word_of words (codes "mode")) receipt.mode
+  pub has_size : HasOr IsNat32 8192 (word_of words (codes "size")) receipt.size
+  pub has_type : WantsType (word_of words (codes "type")) (word_of words (codes "upto"))
+      (word_of words (codes "except")) receipt.mtype
+  pub has_except : receipt.except ≡ is_some (word_of words (codes "except"))
+  pub has_nowait : HasFlag words (codes "nowait") receipt.nowait
+  pub has_noerror : HasFlag words (codes "noerror") receipt.noerror
+  pub has_show_type : HasFlag words (codes "show-type") receipt.show_type
+  pub has_raw : HasFlag words (codes "raw") receipt.raw
 
 -- A `rcv` with these words has this task.
 abbrev pub AsksToReceive : List Row → Task → Type 0
-AsksToReceive words (Receive key size mtype nowait noerror) = Receives words key size mtype nowait noerror
-AsksToReceive words Table = ⊥
+AsksToReceive words (Receive receipt) = Receives words receipt
+AsksToReceive words (Table format) = ⊥
+AsksToReceive words (Show id) = ⊥
 AsksToReceive words (Remove target) = ⊥
+AsksToReceive words (Make making) = ⊥
 AsksToReceive words (Send key text mtype nowait) = ⊥
 
 -- A client's command of this name with these words has this task.
 abbrev pub HasTask : List ℕ → List Row → Task → Type 0
 HasTask name words task =
-    ((name ≡ codes "ipcs") × (task ≡ Table)) ⊎ ((name ≡ codes "ipcrm") × AsksToRemove words task)
-    ⊎ ((name ≡ codes "snd") × AsksToSend words task) ⊎ ((name ≡ codes "rcv") × AsksToReceive words task)
+    ((name ≡ codes "ipcs") × AsksToList words task) ⊎ ((name ≡ codes "ipcrm") × AsksToRemove words task)
+    ⊎ ((name ≡ codes "ipcmk") × AsksToMake words task) ⊎ ((name ≡ codes "snd") × AsksToSend words task)
+    ⊎ ((name ≡ codes "rcv") × AsksToReceive words task)

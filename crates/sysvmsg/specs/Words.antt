@@ -26,6 +26,13 @@ abbrev pub HasOr : {A : Type 0} → (List ℕ → A → Type 0) → A → Option
 HasOr Says default (Some word) value = Says word value
 HasOr Says default None value = value ≡ default
 
+-- The word has this value, or there is neither a word nor a value.
+abbrev pub HasMaybe : {A : Type 0} → (List ℕ → A → Type 0) → Option (List ℕ) → Option A → Type 0
+HasMaybe Says (Some word) (Some value) = Says word value
+HasMaybe Says (Some word) None = ⊥
+HasMaybe Says None (Some value) = ⊥
+HasMaybe Says None None = ⊤
+
 -- A flag is on if clap found it as `true`. It is off if clap found it as `false` or did not find it.
 abbrev pub IsFlag : Option (List ℕ) → Bool → Type 0
 IsFlag (Some text) on = ((text ≡ codes "true") → on ≡ true) × ((text ≡ codes "false") → on ≡ false)
@@ -39,12 +46,12 @@ HasFlag words name on = IsFlag (one_of name words) on
 abbrev pub IsRead : {T E : Type 0} → Result T E → (T → Type 0) → Type 0
 IsRead {T} {E} result Means = MatchResult result Means (λ _. (value : T) → ¬ Means value)
 
--- The type argument of a `rcv` with these words after `--type` and `--upto`: that type, or minus
--- the largest type, or 0 if there is neither.
-abbrev pub WantsType : (one upto : Option (List ℕ)) → ℤ → Type 0
-WantsType (Some word) upto mtype = IsType word mtype
-WantsType None (Some word) mtype = (most : ℤ) × IsType word most × (mtype ≡ neg_ℤ most)
-WantsType None None mtype = mtype ≡ pos 0
+-- The type argument of a `rcv` with these words after `--type`, `--upto` and `--except`: that type,
+-- or minus the largest type, or the type to except, or 0 if there is none of them.
+abbrev pub WantsType : (one upto except : Option (List ℕ)) → ℤ → Type 0
+WantsType (Some word) upto except mtype = IsType word mtype
+WantsType None (Some word) except mtype = (most : ℤ) × IsType word most × (mtype ≡ neg_ℤ most)
+WantsType None None except mtype = HasOr IsType (pos 0) except mtype
 
 -- The word is an octal numeral of this mode of a file.
 abbrev pub IsOctalMode : List ℕ → ℕ → Type 0

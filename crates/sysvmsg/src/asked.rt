@@ -1,23 +1,26 @@
 //! The request that a command line makes.
-ghost use Rattle.std.specs.Prelude.{◌≡◌, IfOk, MatchOption, OnOk, codes, map};
+ghost use Rattle.std.specs.Prelude.{◌≡◌, IfOk, MatchOption, OnOk, codes, is_some, map, pos};
 ghost use Rattle.clap.specs.Words.{app_of, subcommand_rows_of};
 ghost use Rattle.sysvmsg.specs.Asked.{AreAtOnce, AreBlocks, AreTerms, HasLimits, IsWithinLimits};
 ghost use Rattle.sysvmsg.specs.Requests.{AsksFor, ClientAsks, IsAskedBy, IsMeant};
 ghost use Rattle.sysvmsg.specs.Servers.{AsksForAtOnce, AsksForBlocks, AsksForFile, AsksForTerms};
 ghost use Rattle.sysvmsg.specs.Servers.{AsksForWorkers, AsksToServe, HasPath};
-ghost use Rattle.sysvmsg.specs.Tasks.{AsksToReceive, AsksToRemove, AsksToSend, HasTask, StatesCred};
-ghost use Rattle.sysvmsg.specs.Words.{Has, HasFlag, HasOr, IsMode, IsRead, WantsType, word_of, words_in};
+ghost use Rattle.sysvmsg.specs.Tasks.{AsksToList, AsksToMake, AsksToReceive, AsksToRemove, AsksToSend, HasTask};
+ghost use Rattle.sysvmsg.specs.Tasks.{HasHow, Receives, StatesWho, is_json};
+ghost use Rattle.sysvmsg.specs.Words.{Has, HasFlag, HasMaybe, HasOr, IsMode, IsOctalMode, IsRead};
+ghost use Rattle.sysvmsg.specs.Words.{WantsType, word_of, words_in};
 ghost use Rattle.sysv_words.specs.Words.{IsNat32, IsNat64};
 ghost use Rattle.sysv_clients.specs.Run.{HasShortText};
-ghost use Rattle.sysv_clients.specs.Words.{IsKey};
+ghost use Rattle.sysv_clients.specs.Words.{IsKey, IsType};
 
 use crate::commands::{command, command_named};
+use crate::who::Who;
 use clap::error::ErrorKind;
 use clap::{ArgMatches, Command as CommandLine, Error};
 use std::alloc::{AllocError, Global};
 use std::convert::AsStr;
-use sysv_clients::{Command, Target, Task, id_of, key_of, type_of};
-use sysv_model::{BODY_ROOM, Cred, MAX_BLOCKS, MIN_BLOCKS};
+use sysv_clients::{Format, Making, Receipt, Target, Task, id_of, key_of, type_of};
+use sysv_model::{BODY_ROOM, MAX_BLOCKS, MIN_BLOCKS};
 use sysv_server::{Patience, Terms};
 use sysv_words::Reads;
 
@@ -28,13 +31,26 @@ pub(crate) enum Asked<'a> {
     Script,
     /// Serve at a path.
     Serve(Serving<'a>),
-    /// Run a client command at the server at `path`.
+    /// Run a task of a client at the server at `path`.
     Client {
         path: &'a str,
-        command: Command<'a>,
-        /// Whether the body of a `snd` is the standard input, in place of that of `command`.
-        from_input: bool,
+        who: Who,
+        task: Task<'a>,
+        how: How,
     },
+}
+
+/// How a task is run.
+#[derive(Clone, Copy, PartialEq, Eq, Debug)]
+pub(crate) struct How {
+    /// Whether the body of a `snd` is the standard input, in place of that of the task.
+    pub(crate) from_input: bool,
+    /// Whether a `rcv` receives messages until it is ended.
+    pub(crate) follow: bool,
+    /// The number of messages that a `rcv` receives.
+    pub(crate) count: Option<u32>,
+    /// The number of seconds that a `snd` or a `rcv` waits at most.
+    pub(crate) wait: Option<u32>,
 }
 
 /// The socket file and the terms of a server.
@@ -99,6 +115,8 @@ const BAD_SECONDS: Bad = "the number of seconds is 0 to 4294967295";
 const BAD_MODE: Bad = "a mode is 0 to 777 in octal";
 
 const BAD_SESSIONS: Bad = "the number of sessions is 0 to 18446744073709551615";
+
+const BAD_COUNT: Bad = "a number of messages, bytes or seconds is 0 to 4294967295";
 
 const BAD_NUMBER: Bad = "a size, user ID, group ID or process ID is 0 to 4294967295";
 
@@ -177,11 +195,25 @@ fn client<'a>(name: &str, words: &ArgMatches<'a>) -> Result<Asked<'a>, Bad>
 {
     let task = client_task(name, words)?;
     let path = path_of(words)?;
-    let cred = cred_of(words)?;
+    let who = who_of(words)?;
+    let how = how_of(words)?;
     Ok(Asked::Client {
         path,
-        command: Command { cred, task },
+        who,
+        task,
+        how,
+    })
+}
+
+/// Returns how a client's task is run.
+fn how_of(words: &ArgMatches<'_>) -> Result<How, Bad>
+    ensures { IsRead result (HasHow (words_in words.now)) }
+{
+    Ok(How {
         from_input: has_flag(words, "stdin"),
+        follow: has_flag(words, "follow"),
+        count: number_if(words, "count")?,
+        wait: number_if(words, "wait")?,
     })
 }
 
@@ -191,8 +223,9 @@ fn client_task<'a>(name: &str, words: &ArgMatches<'a>) -> Result<Task<'a>, Bad>
     ensures meaning { IsRead result (HasTask name.now (words_in words.now)) }
 {
     match name {
-        "ipcs" => Ok(Task::List),
+        "ipcs" => listing(words),
         "ipcrm" => removal(words),
+        "ipcmk" => making(words),
         "snd" => sending(words),
         "rcv" => receiving(words),
         _ => Err(NO_COMMAND),
@@ -284,11 +317,18 @@ fn seconds_of(words: &ArgMatches<'_>, id: &str) -> Result<u32, Bad>
 fn mode_of(words: &ArgMatches<'_>) -> Result<Option<u32>, Bad>
     ensures { IsRead result (IsMode (word_of (words_in words.now) (codes "mode"))) }
 {
-    let Some(word) = word_in(words, "mode") else {
-        return Ok(None);
-    };
+    match word_in(words, "mode") {
+        Some(word) => Ok(Some(octal_mode(word)?)),
+        None => Ok(None),
+    }
+}
+
+/// Parses a mode: an octal number from 0 to 777.
+fn octal_mode(word: &str) -> Result<u32, Bad>
+    ensures { IsRead result (IsOctalMode word.now) }
+{
     match u32::from_str_radix(word, 8) {
-        Ok(mode) if mode <= MAX_MODE && !word.starts_with('+') => Ok(Some(mode)),
+        Ok(mode) if mode <= MAX_MODE && !word.starts_with('+') => Ok(mode),
         _ => Err(BAD_MODE),
     }
 }
@@ -326,6 +366,60 @@ fn sessions_of(words: &ArgMatches<'_>) -> Result<u64, Bad>
 {
     match word_in(words, "sessions") {
         Some(word) => u64::read(word.as_bytes()).ok_or(BAD_SESSIONS),
+        None => Ok(0),
+    }
+}
+
+/// Returns the mode of a queue that is created.
+fn queue_mode(words: &ArgMatches<'_>) -> Result<u32, Bad>
+    ensures { IsRead result (HasOr IsOctalMode 384 (word_of (words_in words.now) (codes "mode"))) }
+{
+    match word_in(words, "mode") {
+        Some(word) => octal_mode(word),
+        None => Ok(0o600),
+    }
+}
+
+/// Returns the task of an `ipcs`.
+fn listing<'a>(words: &ArgMatches<'a>) -> Result<Task<'a>, Bad>
+    ensures limits { IfOk result HasShortText }
+    ensures meaning { IsRead result (AsksToList (words_in words.now)) }
+{
+    match word_in(words, "id") {
+        Some(id) => Ok(Task::Show(id_of(id.as_bytes()).ok_or(BAD_ID)?)),
+        None => Ok(Task::List(format_of(words))),
+    }
+}
+
+/// Returns the form in which the queues are listed.
+fn format_of(words: &ArgMatches<'_>) -> Format
+    ensures { HasFlag (words_in words.now) (codes "json") (is_json result) }
+{
+    if has_flag(words, "json") {
+        Format::Json
+    } else {
+        Format::Table
+    }
+}
+
+/// Returns the task of an `ipcmk`.
+fn making<'a>(words: &ArgMatches<'a>) -> Result<Task<'a>, Bad>
+    ensures limits { IfOk result HasShortText }
+    ensures meaning { IsRead result (AsksToMake (words_in words.now)) }
+{
+    Ok(Task::Make(Making {
+        key: key_or_private(words)?,
+        mode: queue_mode(words)?,
+        qbytes: number_if(words, "qbytes")?,
+    }))
+}
+
+/// Returns the key, or that of a private queue if there is none.
+fn key_or_private(words: &ArgMatches<'_>) -> Result<i32, Bad>
+    ensures { IsRead result (HasOr IsKey (pos 0) (word_of (words_in words.now) (codes "key"))) }
+{
+    match word_in(words, "key") {
+        Some(_) => key(words),
         None => Ok(0),
     }
 }
@@ -369,36 +463,61 @@ fn receiving<'a>(words: &ArgMatches<'a>) -> Result<Task<'a>, Bad>
     ensures limits { IfOk result HasShortText }
     ensures meaning { IsRead result (AsksToReceive (words_in words.now)) }
 {
-    Ok(Task::Receive {
+    Ok(Task::Receive(receipt_of(words)?))
+}
+
+/// Returns what a `rcv` receives.
+fn receipt_of(words: &ArgMatches<'_>) -> Result<Receipt, Bad>
+    ensures { IsRead result (Receives (words_in words.now)) }
+{
+    Ok(Receipt {
         key: key(words)?,
+        create: has_flag(words, "create"),
+        mode: queue_mode(words)?,
         size: number(words, "size", 8192)?,
         mtype: wanted_type(words)?,
+        except: has_word(words, "except"),
         nowait: has_flag(words, "nowait"),
         noerror: has_flag(words, "noerror"),
+        show_type: has_flag(words, "show-type"),
+        raw: has_flag(words, "raw"),
     })
 }
 
-/// Returns the type argument of a `rcv`: 0 for any type, a positive number for one type, or a
-/// negative number for the lowest type up to its absolute value.
+/// Returns the type argument of a `rcv`: 0 for any type, a positive number for one type or for any
+/// but one, or a negative number for the lowest type up to its absolute value.
 fn wanted_type(words: &ArgMatches<'_>) -> Result<i64, Bad>
     ensures { IsRead result (WantsType (word_of (words_in words.now) (codes "type"))
-        (word_of (words_in words.now) (codes "upto"))) }
+        (word_of (words_in words.now) (codes "upto"))
+        (word_of (words_in words.now) (codes "except"))) }
 {
     match (word_in(words, "type"), word_in(words, "upto")) {
         (Some(word), _) => type_of(word.as_bytes()).ok_or(BAD_TYPE),
         (None, Some(word)) => Ok(-type_of(word.as_bytes()).ok_or(BAD_TYPE)?),
-        (None, None) => Ok(0),
+        (None, None) => excepted_type(words),
     }
 }
 
-/// Returns the credentials that a client states.
-fn cred_of(words: &ArgMatches<'_>) -> Result<Cred, Bad>
-    ensures { IsRead result (StatesCred (words_in words.now)) }
+/// Returns the type after `--except`, or 0 if there is none.
+fn excepted_type(words: &ArgMatches<'_>) -> Result<i64, Bad>
+    ensures { IsRead result (HasOr IsType (pos 0)
+        (word_of (words_in words.now) (codes "except"))) }
 {
-    Ok(Cred {
-        uid: number(words, "uid", 1000)?,
-        gid: number(words, "gid", 1000)?,
-        pid: number(words, "pid", 1)?,
+    match word_in(words, "except") {
+        Some(word) => type_of(word.as_bytes()).ok_or(BAD_TYPE),
+        None => Ok(0),
+    }
+}
+
+/// Returns the user, the group and the process that a client states.
+fn who_of(words: &ArgMatches<'_>) -> Result<Who, Bad>
+    ensures { IsRead result (StatesWho (words_in words.now)) }
+{
+    Ok(Who {
+        me: has_flag(words, "me"),
+        uid: id_if(words, "uid")?,
+        gid: id_if(words, "gid")?,
+        pid: id_if(words, "pid")?,
     })
 }
 
@@ -422,12 +541,45 @@ fn number(words: &ArgMatches<'_>, id: &str, default: u32) -> Result<u32, Bad>
     }
 }
 
+/// Returns the number of messages, bytes or seconds that an option has, if the command has it.
+fn number_if(words: &ArgMatches<'_>, id: &str) -> Result<Option<u32>, Bad>
+    ensures { IsRead result (HasMaybe IsNat32 (word_of (words_in words.now) id.now)) }
+{
+    match word_in(words, id) {
+        Some(word) => match u32::read(word.as_bytes()) {
+            Some(number) => Ok(Some(number)),
+            None => Err(BAD_COUNT),
+        },
+        None => Ok(None),
+    }
+}
+
+/// Returns the user, group or process ID that an option has, if the command has it.
+fn id_if(words: &ArgMatches<'_>, id: &str) -> Result<Option<u32>, Bad>
+    ensures { IsRead result (HasMaybe IsNat32 (word_of (words_in words.now) id.now)) }
+{
+    match number_if(words, id) {
+        Ok(number) => Ok(number),
+        Err(_) => Err(BAD_NUMBER),
+    }
+}
+
 /// Returns the word that a command has under a name.
 fn word_in<'a>(words: &ArgMatches<'a>, name: &str) -> Option<&'a str>
     ensures { MatchOption result (word_of (words_in words.now) name.now ≡ None)
         (λ word. word_of (words_in words.now) name.now ≡ Some word.now) }
 {
     words.get_str(name)
+}
+
+/// Returns whether a command has a word under a name.
+fn has_word(words: &ArgMatches<'_>, name: &str) -> bool
+    ensures { result ≡ is_some (word_of (words_in words.now) name.now) }
+{
+    match word_in(words, name) {
+        Some(_) => true,
+        None => false,
+    }
 }
 
 /// Returns whether a command has a flag.

@@ -7,6 +7,10 @@ const VERSION: &str = "0.2.0";
 
 /// The end of the help of the whole program.
 const SESSION: &str = "\
+Errors of commands are printed on standard output, as `sysvmsg: ENOMSG`.
+Exit status: 0 if all is done, 1 after an error, 2 if the command line is not
+understood.
+
 Example:
   $ sysvmsg serve ./q &
   sysvmsg: serving ./q, up to 256 sessions at once
@@ -27,8 +31,8 @@ struct Known {
     /// The end of the command's help.
     example: &'static str,
     arguments: &'static [Argument],
-    either: Option<Either>,
-    /// The usage, if not the one that clap composes, which names `either` first if it is required.
+    groups: &'static [Group],
+    /// The usage, if not the one that clap composes, which names a required group first.
     usage: Option<&'static str>,
 }
 
@@ -44,17 +48,18 @@ enum Form {
     OptionalWord(&'static str),
     /// As `--id VALUE`.
     Value(&'static str),
+    /// As `--id VALUE`, and only together with the second one.
+    ValueWith(&'static str, &'static str),
     /// As `-l VALUE`.
     Letter(char, &'static str),
     /// As `--id`.
     Flag,
 }
 
-/// Two arguments of which at most one may be present, or exactly one if `required` is true.
+/// Arguments of which at most one may be present, or exactly one if `required` is true.
 #[derive(Clone, Copy)]
-struct Either {
-    one: &'static str,
-    other: &'static str,
+struct Group {
+    of: &'static [&'static str],
     required: bool,
 }
 
@@ -78,13 +83,18 @@ const PROCESS: Argument = (
     "The caller's process ID [default: 1]",
 );
 
+const ME: Argument = (
+    "me",
+    Form::Flag,
+    "By default your own IDs; also by SYSVMSG_ME=1",
+);
+
 const KEY: Argument = ("key", Form::Word("KEY"), KEY_HELP);
 
-const KEY_HELP: &str =
-    "The queue's key, 1 to 2147483647, or 0x and one to eight hexadecimal digits, not all 0";
+const KEY_HELP: &str = "1 to 2147483647, or 0x and 1 to 8 hexadecimal digits, not 0";
 
 /// All commands, in the order of the help.
-const COMMANDS: [Known; 6] = [SERVE, SND, RCV, IPCS, IPCRM, SCRIPT];
+const COMMANDS: [Known; 7] = [SERVE, SND, RCV, IPCS, IPCRM, IPCMK, SCRIPT];
 
 const SERVE: Known = Known {
     name: "serve",
@@ -152,11 +162,10 @@ Example:
             "Ends the sessions left this long after the last accept, 0 for never [default: 0]",
         ),
     ],
-    either: Some(Either {
-        one: "workers",
-        other: "at-once",
+    groups: &[Group {
+        of: &["workers", "at-once"],
         required: false,
-    }),
+    }],
     usage: None,
 };
 
@@ -174,30 +183,37 @@ Example:
             Form::OptionalWord("TEXT"),
             "The message's body, at most 8192 bytes",
         ),
-        (
-            "stdin",
-            Form::Flag,
-            "Sends the bytes of standard input in place of TEXT",
-        ),
+        ("stdin", Form::Flag, "Sends the bytes of standard input"),
         (
             "type",
             Form::Value("N"),
-            "The type of the message, 1 to 9223372036854775807 [default: 1]",
+            "The type, 1 to 9223372036854775807 [default: 1]",
         ),
         (
             "nowait",
             Form::Flag,
             "Fails with EAGAIN if there is no room (IPC_NOWAIT)",
         ),
+        (
+            "wait",
+            Form::Value("SECONDS"),
+            "Waits at most that long, and then fails with EAGAIN",
+        ),
+        ME,
         USER,
         GROUP,
         PROCESS,
     ],
-    either: Some(Either {
-        one: "text",
-        other: "stdin",
-        required: true,
-    }),
+    groups: &[
+        Group {
+            of: &["text", "stdin"],
+            required: true,
+        },
+        Group {
+            of: &["nowait", "wait"],
+            required: false,
+        },
+    ],
     usage: Some("sysvmsg snd [OPTIONS] <PATH> <KEY> <TEXT|--stdin>"),
 };
 
@@ -214,12 +230,39 @@ Example:
         (
             "type",
             Form::Value("N"),
-            "Takes the first message of type N, 1 to 9223372036854775807",
+            "Takes the first of type N, 1 to 9223372036854775807",
         ),
         (
             "upto",
             Form::Value("N"),
-            "Takes the first message of the lowest type that is at most N",
+            "Takes the first of the lowest type that is at most N",
+        ),
+        (
+            "except",
+            Form::Value("N"),
+            "Takes the first of any type but N (MSG_EXCEPT)",
+        ),
+        (
+            "count",
+            Form::Value("N"),
+            "Receives N messages over one connection",
+        ),
+        ("follow", Form::Flag, "Receives messages until it is ended"),
+        (
+            "show-type",
+            Form::Flag,
+            "Prints the type and a tab before the body",
+        ),
+        ("raw", Form::Flag, "Prints no newline after the body"),
+        (
+            "create",
+            Form::Flag,
+            "Creates the queue if there is none (IPC_CREAT)",
+        ),
+        (
+            "mode",
+            Form::ValueWith("OCTAL", "create"),
+            "The mode of a queue that is created [default: 600]",
         ),
         (
             "size",
@@ -229,22 +272,37 @@ Example:
         (
             "nowait",
             Form::Flag,
-            "Fails with ENOMSG if there is no such message (IPC_NOWAIT)",
+            "Fails with ENOMSG if there is none (IPC_NOWAIT)",
+        ),
+        (
+            "wait",
+            Form::Value("SECONDS"),
+            "Waits at most that long, and then fails with ENOMSG",
         ),
         (
             "noerror",
             Form::Flag,
-            "Cuts a longer body to S bytes; the rest is lost (MSG_NOERROR)",
+            "Cuts a longer body to S bytes (MSG_NOERROR)",
         ),
+        ME,
         USER,
         GROUP,
         PROCESS,
     ],
-    either: Some(Either {
-        one: "type",
-        other: "upto",
-        required: false,
-    }),
+    groups: &[
+        Group {
+            of: &["type", "upto", "except"],
+            required: false,
+        },
+        Group {
+            of: &["count", "follow", "wait"],
+            required: false,
+        },
+        Group {
+            of: &["nowait", "wait"],
+            required: false,
+        },
+    ],
     usage: None,
 };
 
@@ -256,8 +314,23 @@ Example:
   $ sysvmsg ipcs ./q
   key             msqid      owner perms  bytes messages
   0x00000007          0       1000   600      5        1",
-    arguments: &[SERVER, USER, GROUP, PROCESS],
-    either: None,
+    arguments: &[
+        SERVER,
+        (
+            "id",
+            Form::Letter('i', "ID"),
+            "Shows all attributes of one queue",
+        ),
+        ("json", Form::Flag, "Prints a JSON object per queue"),
+        ME,
+        USER,
+        GROUP,
+        PROCESS,
+    ],
+    groups: &[Group {
+        of: &["id", "json"],
+        required: false,
+    }],
     usage: None,
 };
 
@@ -275,15 +348,48 @@ Example:
             "The queue's identifier, 0 to 2147483647",
         ),
         ("key", Form::Letter('Q', "KEY"), KEY_HELP),
+        ME,
         USER,
         GROUP,
         PROCESS,
     ],
-    either: Some(Either {
-        one: "id",
-        other: "key",
+    groups: &[Group {
+        of: &["id", "key"],
         required: true,
-    }),
+    }],
+    usage: None,
+};
+
+const IPCMK: Known = Known {
+    name: "ipcmk",
+    about: "Makes a queue and prints its identifier",
+    example: "\
+Example:
+  $ sysvmsg ipcmk ./q 9 --mode 660
+  1",
+    arguments: &[
+        SERVER,
+        (
+            "key",
+            Form::OptionalWord("KEY"),
+            "The key, which no queue has yet [default: a private queue]",
+        ),
+        (
+            "mode",
+            Form::Value("OCTAL"),
+            "The mode of the queue [default: 600]",
+        ),
+        (
+            "qbytes",
+            Form::Value("N"),
+            "The maximum number of queued bytes [default: 16384]",
+        ),
+        ME,
+        USER,
+        GROUP,
+        PROCESS,
+    ],
+    groups: &[],
     usage: None,
 };
 
@@ -296,7 +402,7 @@ Example:
   1 get = 0
   1 snd = 0",
     arguments: &[],
-    either: None,
+    groups: &[],
     usage: None,
 };
 
@@ -327,19 +433,22 @@ pub(crate) fn command_named<'a>(alloc: Global, name: &str) -> Result<Command<'a>
 }
 
 fn command_of<'a>(alloc: Global, known: Known) -> Result<Command<'a>, AllocError> {
-    let command = with_arguments(alloc, known)?;
-    match known.either {
-        Some(either) => command.group(group_of(alloc, either)?),
-        None => Ok(command),
+    let mut command = with_arguments(alloc, known)?;
+    for (place, group) in known.groups.iter().enumerate() {
+        command = command.group(group_of(alloc, NAMES[place.min(2)], *group)?)?;
     }
+    Ok(command)
 }
+
+/// The names of the groups of a command, which has at most three.
+const NAMES: [&str; 3] = ["one", "two", "three"];
 
 fn with_arguments<'a>(alloc: Global, known: Known) -> Result<Command<'a>, AllocError> {
     let mut command = Command::new(alloc, known.name)
         .about(known.about)
         .after_help(known.example);
     for given in known.arguments {
-        command = command.arg(argument_of(alloc, *given))?;
+        command = command.arg(argument_of(alloc, *given)?)?;
     }
     Ok(match known.usage {
         Some(usage) => command.override_usage(usage),
@@ -347,25 +456,28 @@ fn with_arguments<'a>(alloc: Global, known: Known) -> Result<Command<'a>, AllocE
     })
 }
 
-fn argument_of<'a>(alloc: Global, given: Argument) -> Arg<'a> {
+fn argument_of<'a>(alloc: Global, given: Argument) -> Result<Arg<'a>, AllocError> {
     let (id, form, help) = given;
     let argument = Arg::new(alloc, id).help(help);
-    match form {
+    Ok(match form {
         Form::Word(name) => valued(argument, name).required(true),
         Form::OptionalWord(name) => valued(argument, name),
         Form::Value(name) => valued(argument, name).long(id),
+        Form::ValueWith(name, other) => valued(argument, name).long(id).requires_arg(other)?,
         Form::Letter(letter, name) => valued(argument, name).short(letter),
         Form::Flag => argument.action(ArgAction::SetTrue).long(id),
-    }
+    })
 }
 
 fn valued<'a>(argument: Arg<'a>, name: &'static str) -> Arg<'a> {
     argument.value_name(name).action(ArgAction::Set)
 }
 
-fn group_of<'a>(alloc: Global, either: Either) -> Result<ArgGroup<'a>, AllocError> {
-    let group = ArgGroup::new(alloc, "either")
-        .arg(either.one)?
-        .arg(either.other)?;
-    Ok(group.required(either.required))
+fn group_of<'a>(
+    alloc: Global,
+    name: &'static str,
+    group: Group,
+) -> Result<ArgGroup<'a>, AllocError> {
+    let made = ArgGroup::new(alloc, name).args(group.of)?;
+    Ok(made.required(group.required))
 }

@@ -5,21 +5,25 @@ mod asked;
 mod commands;
 mod connection;
 mod input;
+mod leaver;
 mod plain;
 mod serving;
 mod socket;
+mod who;
 
 use asked::{Asked, no_text, read_words};
 use clap::Error;
 use clap::error::ErrorKind;
-use connection::{run_at, run_with_input};
+use connection::run_as;
 use serving::serve_at;
 use std::fs::File;
 use std::os::fd::{AsRawFd, RawFd};
 use std::process::ExitCode;
 use std::{env, io};
+use sysv_clients::Command;
 use sysv_model::Watched;
 use sysv_script::run_script;
+use who::credentials;
 
 /// The exit status if a request was refused or a fault occurred.
 const FAULT: u8 = 1;
@@ -58,17 +62,14 @@ fn main(rt: HostRuntime) -> ExitCode {
         Ok(
             Asked::Client {
                 path,
-                command,
-                from_input: false,
+                who,
+                task,
+                how,
             },
-        ) => run_at(&rt, path, &command),
-        Ok(
-            Asked::Client {
-                path,
-                command,
-                from_input: true,
-            },
-        ) => run_with_input(&rt, &mut rt.stdin(), path, &command),
+        ) => {
+            let cred = credentials(&rt, &who);
+            run_as(&rt, &mut rt.stdin(), path, &Command { cred, task }, &how)
+        }
         Err(error) => tell(&rt, &error),
     }
 }

@@ -6,7 +6,7 @@ use crate::plain::complain;
 use crate::socket::listen_at;
 use crate::{FAULT, say};
 use std::io;
-use std::io::{ErrorKind, Eprint, Read};
+use std::io::{Eprint, ErrorKind, Read};
 use std::net::Net;
 use std::os::fd::AsRawFd;
 use std::os::unix::net::UnixListener;

@@ -1,12 +1,13 @@
 //! Clients over bytes that were worked out by hand.
 mod growths;
+mod options;
 
 use crate::parts::assert_is;
 use std::alloc::Global;
 use std::io;
 use std::io::{ErrorKind, Read, Write};
 use std::process::Abort;
-use sysv_clients::{Command, Target, Task, id_of, key_of, run_client, type_of};
+use sysv_clients::{Command, Format, Receipt, Target, Task, id_of, key_of, run_client, type_of};
 use sysv_model::{BODY_ROOM, Cred};
 
 /// The number of bytes that a tape has space for.
@@ -191,13 +192,23 @@ const LINE: &[u8] = b"0x00000007          0       1000   640      3        1\n";
 
 const WIDE_LINE: &[u8] = b"0x80000000 2147483647 4294967295   777 4294967295 4294967295\n";
 
-const RECEIVE_ANY: Task<'static> = Task::Receive {
+const RECEIVE_ANY: Task<'static> = Task::Receive(ANY);
+
+const ANY: Receipt = Receipt {
     key: 7,
+    create: false,
+    mode: 0o600,
     size: 8192,
     mtype: 0,
+    except: false,
     nowait: false,
     noerror: false,
+    show_type: false,
+    raw: false,
 };
+
+/// The task to list the queues as a table.
+const LIST: Task<'static> = Task::List(Format::Table);
 
 /// Returns a tape with these bytes, one part after another.
 fn joined(rt: &impl Abort, alloc: Global, parts: &[&[u8]]) -> Tape {
@@ -309,13 +320,13 @@ fn a_receive_says_what_is_wanted(rt: HostRuntime) {
         rt.alloc(),
         &[WELCOME, GOT, b"\0\0\0\x0b\x02\x03\0\0\0\0\0\0\0\0\x05"],
     );
-    let task = Task::Receive {
-        key: 7,
+    let task = Task::Receive(Receipt {
         size: u32::MAX,
         mtype: -5,
         nowait: true,
         noerror: true,
-    };
+        ..ANY
+    });
     assert_is(&rt, talk.run(&rt, rt.alloc(), task), 0);
     let wanted = joined(
         &rt,
@@ -353,7 +364,7 @@ fn listed(rt: &impl Abort, alloc: Global) -> Talk {
 #[test]
 fn queues_are_listed(rt: HostRuntime) {
     let mut talk = listed(&rt, rt.alloc());
-    assert_is(&rt, talk.run(&rt, rt.alloc(), Task::List), 0);
+    assert_is(&rt, talk.run(&rt, rt.alloc(), LIST), 0);
     let mut wanted = joined(&rt, rt.alloc(), &[HELLO]);
     for slot in 0..64 {
         wanted.put(b"\0\0\0\x06\x02\x07\0\0\0");
@@ -373,7 +384,7 @@ fn no_queue_is_listed(rt: HostRuntime) {
     talk.replies.piece = 3;
     talk.requests.piece = 5;
     talk.screen.piece = 1;
-    assert_is(&rt, talk.run(&rt, rt.alloc(), Task::List), 0);
+    assert_is(&rt, talk.run(&rt, rt.alloc(), LIST), 0);
     assert!(rt; talk.screen.text() == HEAD);
 }
 
@@ -392,7 +403,7 @@ fn as_many_rows_are_asked_for_as_the_server_has_slots(rt: HostRuntime) {
             wanted.put(b"\0\0\0\x06\x02\x07\0\0\0");
             wanted.put(&[slot]);
         }
-        assert_is(&rt, talk.run(&rt, rt.alloc(), Task::List), 0);
+        assert_is(&rt, talk.run(&rt, rt.alloc(), LIST), 0);
         assert!(rt; talk.requests.text() == wanted.text(), "{slots}");
         assert!(rt; talk.screen.text() == HEAD, "{slots}");
     }
@@ -402,7 +413,7 @@ fn as_many_rows_are_asked_for_as_the_server_has_slots(rt: HostRuntime) {
 fn a_server_says_that_it_has_the_most_slots(rt: HostRuntime) {
     let welcome = b"\0\0\0\x07\x02\0\0\xff\xff\xff\xff";
     let mut talk = Talk::new(&rt, rt.alloc(), &[welcome, ROW, VACANT]);
-    assert_is(&rt, talk.run(&rt, rt.alloc(), Task::List), 1);
+    assert_is(&rt, talk.run(&rt, rt.alloc(), LIST), 1);
     assert!(rt; talk.screen.text() == NO_REPLY);
     assert_is(&rt, talk.requests.flushed, 4);
 }
@@ -418,7 +429,7 @@ fn a_table_takes_memory_as_its_rows_come(rt: HostRuntime) {
     }
     let command = Command {
         cred: WHO,
-        task: Task::List,
+        task: LIST,
     };
     let status = run_client(
         rt.alloc(),
@@ -452,7 +463,7 @@ fn a_refusal_is_named(rt: HostRuntime) {
     ];
     for (number, line) in table {
         let mut talk = Talk::new(&rt, rt.alloc(), &[b"\0\0\0\x03\x02\0", &[number], WELCOME]);
-        assert_is(&rt, talk.run(&rt, rt.alloc(), Task::List), 1);
+        assert_is(&rt, talk.run(&rt, rt.alloc(), LIST), 1);
         assert!(rt; talk.screen.text() == line, "{number}");
         assert!(rt; talk.requests.text() == HELLO);
         assert_is(&rt, talk.replies.read, 7);
@@ -501,7 +512,7 @@ fn a_table_that_is_cut_leaves_one_line(rt: HostRuntime) {
     let mut talk = listed(&rt, rt.alloc());
     let len = talk.replies.len();
     talk.replies.bytes.truncate(len.saturating_sub(1));
-    assert_is(&rt, talk.run(&rt, rt.alloc(), Task::List), 1);
+    assert_is(&rt, talk.run(&rt, rt.alloc(), LIST), 1);
     assert!(rt; talk.screen.text() == NO_REPLY);
 }
 
@@ -568,7 +579,7 @@ fn the_screen_fails(rt: HostRuntime) {
     for room in [0, 1, 54, 55, 56, 170] {
         let mut talk = listed(&rt, rt.alloc());
         talk.screen.good = room;
-        assert_eq!(rt; talk.run(&rt, rt.alloc(), Task::List), 1, "{room}");
+        assert_eq!(rt; talk.run(&rt, rt.alloc(), LIST), 1, "{room}");
         let text = shown.text();
         assert!(rt;
             talk.screen.text() == &text[..room.min(text.len())],
@@ -577,7 +588,7 @@ fn the_screen_fails(rt: HostRuntime) {
     }
     let mut talk = listed(&rt, rt.alloc());
     talk.screen.flushes = 0;
-    assert_is(&rt, talk.run(&rt, rt.alloc(), Task::List), 1);
+    assert_is(&rt, talk.run(&rt, rt.alloc(), LIST), 1);
     assert!(rt; talk.screen.text() == shown.text());
 }
 

@@ -5,6 +5,8 @@ ghost use Rattle.std.specs.Prelude.{◌≡◌, ◌≤◌, length};
 ghost use Rattle.sysv_model.specs.declared.limits.TheConstants.{MESSAGE_BYTES as most_bytes};
 ghost use Rattle.sysv_model.specs.Pool.{blocks_for};
 
+mod whole;
+
 use crate::parts::{assert_is, give_back, open_body, open_pool};
 use std::alloc::Global;
 use std::process::Abort;

@@ -5,7 +5,7 @@ use crate::server::{CREATE, FOUND, HELLO, KNOWN, SEND, SENT, talks};
 use std::alloc::Global;
 use std::net::Net;
 use std::os::unix::net::UnixStream;
-use sysv_clients::{Command, Target, Task, run_client};
+use sysv_clients::{Command, Format, Receipt, Target, Task, run_client};
 use sysv_model::Cred;
 
 /// The number of bytes that a screen has space for.
@@ -28,13 +28,18 @@ const OTHER: Cred = Cred {
 };
 
 /// A receive of any message of key 7.
-const RECEIVE: Task<'static> = Task::Receive {
+const RECEIVE: Task<'static> = Task::Receive(Receipt {
     key: 7,
+    create: false,
+    mode: 0o600,
     size: 8192,
     mtype: 0,
+    except: false,
     nowait: false,
     noerror: false,
-};
+    show_type: false,
+    raw: false,
+});
 
 /// Asserts that a client with this task shows these bytes and ends with this status.
 fn shows(
@@ -64,7 +69,7 @@ fn shows(
 pub(crate) fn five_sessions(rt: &impl Net, alloc: Global, path: &str) -> bool {
     let list = Command {
         cred: OWNER,
-        task: Task::List,
+        task: Task::List(Format::Table),
     };
     let by_other = Command {
         cred: OTHER,

@@ -404,3 +404,18 @@ fn worn_gates_of_registry_and_pool_serve_nothing(rt: HostRuntime) {
     assert_is(&rt, released, Some(Awaited::Worn));
     assert_is(&rt, ended(&rt, gates.close(seats)), (0, 0, 0));
 }
+
+// One ticket of the pool is left. A call with this ticket is served, and the next call is refused.
+#[test]
+fn the_last_ticket_of_the_pool_is_served(rt: HostRuntime) {
+    let (gates, mut seats) = gates_at(&rt, rt.alloc(), LIMIT - 1);
+    match reserve(&rt, &gates, &mut seats, 65) {
+        Ok(Some(chain)) => assert_is(&rt, chain.end(), 2),
+        Ok(None) | Err(Worn) => panic!(rt; "no turn"),
+    }
+    match reserve(&rt, &gates, &mut seats, 65) {
+        Err(Worn) => {}
+        Ok(_) => panic!(rt; "a turn"),
+    }
+    assert_is(&rt, ended(&rt, gates.close(seats)), (0, 0, 1));
+}

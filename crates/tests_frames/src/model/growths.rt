@@ -14,6 +14,9 @@ fn body_open(rt: HostRuntime) {
             assert!(rt; body.push_piece(&text));
             assert_is(&rt, body.len(), BODY_ROOM);
         }
-        Err(why) => assert_is(&rt, why, NoMemory),
+        Err(why) => {
+            assert_is(&rt, why, NoMemory);
+            let _ = println!(rt; "refused: {why}");
+        }
     }
 }

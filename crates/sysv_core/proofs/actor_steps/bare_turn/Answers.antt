@@ -1,6 +1,6 @@
 use Rattle.std.proofs.Common.{[]}
 use Rattle.sysv_steps.specs.Seen.{phase_of, state_of}
-use Rattle.sysv_core.proofs.Holding.{bare_leads}
+use Rattle.sysv_core.proofs.HeldByStep.{bare_leads}
 use Rattle.sysv_core.proofs.actor_steps.bare_turn.Goals as goal
 
 pub returns : goal.returns

@@ -2,7 +2,7 @@ use Rattle.std.proofs.Common.{[], None, Some, sym, rules, w32, w64}
 use Rattle.std.specs.Prelude.{FitsSigned}
 use Rattle.std.proofs.lemmas.Int.{to_z-of_z}
 use Rattle.sysv_steps.specs.Call.{Msgget, Msgrcv, MsgctlStat, MsgctlSet, MsgctlRmid}
-use Rattle.sysv_core.proofs.Holding.{bare, received, held_begun, held_sent}
+use Rattle.sysv_core.proofs.HeldByStep.{bare, received, held_begun, held_sent}
 use Rattle.sysv_core.proofs.actor_steps.begin.Goals as goal
 
 pub lead-requires-clause-held : goal.lead-requires-clause-held

@@ -4,8 +4,8 @@ use Rattle.sysv_steps.specs.Resume.{goal_of, awaited, resume}
 use Rattle.sysv_steps.specs.Seen.{wait_of, phase_of}
 use Rattle.sysv_core.specs.Held.{text_in}
 use Rattle.sysv_core.specs.World.{value_of}
-use Rattle.sysv_core.proofs.Following.{not_over}
-use Rattle.sysv_core.proofs.Holding.{resumed_held}
+use Rattle.sysv_core.proofs.StepKeepsKind.{not_over}
+use Rattle.sysv_core.proofs.HeldByStep.{resumed_held}
 use Rattle.sysv_core.proofs.actor_steps.look_again.Goals as goal
 
 pub invariant_of-result : goal.invariant_of-result

@@ -1,4 +1,4 @@
-use Rattle.sysv_core.proofs.Holding.{receive_leads}
+use Rattle.sysv_core.proofs.HeldByStep.{receive_leads}
 use Rattle.sysv_core.proofs.actor_steps.receive_turn.Goals as goal
 
 pub returns : goal.returns

@@ -1,5 +1,5 @@
 use Rattle.sysv_steps.specs.Seen.{phase_of, state_of}
-use Rattle.sysv_core.proofs.Holding.{send_leads}
+use Rattle.sysv_core.proofs.HeldByStep.{send_leads}
 use Rattle.sysv_core.proofs.actor_steps.send_turn.Goals as goal
 
 pub returns : goal.returns

@@ -1,4 +1,4 @@
-use Rattle.sysv_core.proofs.Sounding.{opening_sound, makes_sound}
+use Rattle.sysv_core.proofs.SoundStays.{opening_sound, makes_sound}
 use Rattle.sysv_core.proofs.laws.each_world_is_sound.Goals as goal
 
 pub returns : goal.returns

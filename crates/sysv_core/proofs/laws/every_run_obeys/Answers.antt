@@ -1,4 +1,4 @@
-use Rattle.sysv_core.proofs.Obeying.{Laws, run_obeys}
+use Rattle.sysv_core.proofs.WorldsObey.{Laws, run_obeys}
 use Rattle.sysv_core.proofs.laws.every_run_obeys.Goals as goal
 
 pub returns : goal.returns

@@ -1,7 +1,7 @@
 use Rattle.std.proofs.Common.{◌≡◌, pos, true, false, sym, ◌∙◌, rules, w32}
 use Rattle.std.specs.Prelude.{FitsSigned}
 use Rattle.std.proofs.lemmas.Int.{to_z-of_z}
-use Rattle.sysv_core.proofs.Presetting.{never_refused, installed_is, preset_made}
+use Rattle.sysv_core.proofs.PresetTurns.{never_refused, installed_is, preset_made}
 use Rattle.sysv_core.proofs.preset.preset_queue.Goals as goal
 
 pub returns-in_default : goal.returns-in_default

@@ -13,8 +13,8 @@ use Rattle.sysv_objects.specs.SlotTurns.{FitsSlotCall}
 use Rattle.sysv_objects.specs.declared.slot.SlotCall.TheVariants as called
 use Rattle.sysv_objects.specs.declared.slot.SlotReply.TheVariants as told
 use Rattle.sysv_driver.specs.Stepping.{no_moment}
-use Rattle.sysv_driver.proofs.Staying.{remove_removes}
-use Rattle.sysv_driver.proofs.Stepping.{stepped}
+use Rattle.sysv_driver.proofs.KindStays.{remove_removes}
+use Rattle.sysv_driver.proofs.StepFromReply.{stepped}
 use Rattle.sysv_driver.specs.Telling.{slot_told}
 use Rattle.sysv_driver.proofs.control.remove.Goals as goal
 

@@ -4,8 +4,8 @@ use Rattle.sysv_steps.specs.State.{AtForget, AtRemoveGiveback, Goes}
 use Rattle.sysv_steps.specs.Seen.{phase_of, state_of}
 use Rattle.sysv_driver.specs.Kinds.{Removes}
 use Rattle.sysv_driver.specs.Stepping.{StepsOn, no_moment}
-use Rattle.sysv_driver.proofs.Staying.{given_zero, forget_removes}
-use Rattle.sysv_driver.proofs.Stepping.{forgot, given}
+use Rattle.sysv_driver.proofs.KindStays.{given_zero, forget_removes}
+use Rattle.sysv_driver.proofs.StepFromReply.{forgot, given}
 use Rattle.sysv_driver.proofs.control.remove_step.Goals as goal
 
 pub returns-in-Remove-clause-steps : goal.returns-in-Remove-clause-steps

@@ -5,8 +5,8 @@ use Rattle.sysv_steps.specs.State.{AtSetGiveback}
 use Rattle.sysv_steps.specs.Seen.{phase_of, state_of}
 use Rattle.sysv_driver.specs.Kinds.{Sets}
 use Rattle.sysv_driver.specs.Stepping.{StepsOn, GivesBack}
-use Rattle.sysv_driver.proofs.Staying.{given_zero}
-use Rattle.sysv_driver.proofs.Stepping.{given}
+use Rattle.sysv_driver.proofs.KindStays.{given_zero}
+use Rattle.sysv_driver.proofs.StepFromReply.{given}
 use Rattle.sysv_driver.proofs.control.set_step.Goals as goal
 
 pub returns-in-Set-clause-steps : goal.returns-in-Set-clause-steps

@@ -3,7 +3,7 @@ use Rattle.std.proofs.lemmas.Int.{to_z-of_z}
 use Rattle.sysv_steps.specs.State.{AtStat}
 use Rattle.sysv_steps.specs.Seen.{phase_of, state_of}
 use Rattle.sysv_driver.specs.Stepping.{StepsOn, no_moment}
-use Rattle.sysv_driver.proofs.Stepping.{met}
+use Rattle.sysv_driver.proofs.StepFromReply.{met}
 use Rattle.sysv_driver.proofs.control.stat_step.Goals as goal
 
 pub returns-in-Err-clause-steps : goal.returns-in-Err-clause-steps

@@ -7,8 +7,8 @@ use Rattle.sysv_steps.specs.Seen.{state_of}
 use Rattle.sysv_steps.specs.State.{AtSettle}
 use Rattle.sysv_objects.specs.declared.registry.RegistryCall.TheVariants as asked
 use Rattle.sysv_driver.specs.Stepping.{no_moment}
-use Rattle.sysv_driver.proofs.Staying.{settle_gets}
-use Rattle.sysv_driver.proofs.Stepping.{stepped}
+use Rattle.sysv_driver.proofs.KindStays.{settle_gets}
+use Rattle.sysv_driver.proofs.StepFromReply.{stepped}
 use Rattle.sysv_driver.specs.Telling.{registry_told}
 use Rattle.sysv_driver.proofs.get.settle.Goals as goal
 

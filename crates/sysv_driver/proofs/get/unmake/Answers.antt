@@ -3,8 +3,8 @@ use Rattle.std.proofs.lemmas.Int.{to_z-of_z}
 use Rattle.sysv_steps.specs.Seen.{state_of}
 use Rattle.sysv_steps.specs.State.{AtUnmake}
 use Rattle.sysv_driver.specs.Stepping.{no_moment, when_worn}
-use Rattle.sysv_driver.proofs.Staying.{unmake_gets}
-use Rattle.sysv_driver.proofs.Stepping.{forgot}
+use Rattle.sysv_driver.proofs.KindStays.{unmake_gets}
+use Rattle.sysv_driver.proofs.StepFromReply.{forgot}
 use Rattle.sysv_driver.proofs.get.unmake.Goals as goal
 
 pub returns-clause-gets : goal.returns-clause-gets

@@ -5,8 +5,8 @@ use Rattle.sysv_steps.specs.State.{AtReceiveGiveback}
 use Rattle.sysv_steps.specs.Seen.{state_of}
 use Rattle.sysv_driver.specs.Kinds.{IsSized}
 use Rattle.sysv_driver.specs.Giving.{HasWhatItGives, StepsGiving}
-use Rattle.sysv_driver.proofs.Stepping.{given}
-use Rattle.sysv_driver.proofs.Giving.{gives_still}
+use Rattle.sysv_driver.proofs.StepFromReply.{given}
+use Rattle.sysv_driver.proofs.ReceiveGivesTaken.{gives_still}
 use Rattle.sysv_driver.proofs.receive.receive_step.Goals as goal
 
 pub returns-in-Take-clause-steps : goal.returns-in-Take-clause-steps

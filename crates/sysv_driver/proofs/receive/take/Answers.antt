@@ -11,10 +11,10 @@ use Rattle.sysv_steps.specs.Seen.{state_of, receiving}
 use Rattle.sysv_objects.specs.declared.slot.SlotCall.TheVariants as called
 use Rattle.sysv_objects.specs.declared.slot.SlotReply.TheVariants as reply
 use Rattle.sysv_driver.specs.Giving.{HasWhatItGives, nothing_is_sized}
-use Rattle.sysv_driver.proofs.Staying.{untaken_gives_nothing}
-use Rattle.sysv_driver.proofs.Stepping.{stepped}
+use Rattle.sysv_driver.proofs.KindStays.{untaken_gives_nothing}
+use Rattle.sysv_driver.proofs.StepFromReply.{stepped}
 use Rattle.sysv_driver.specs.Telling.{slot_told}
-use Rattle.sysv_driver.proofs.Giving.{took, gives_nothing}
+use Rattle.sysv_driver.proofs.ReceiveGivesTaken.{took, gives_nothing}
 use Rattle.sysv_driver.proofs.receive.take.Goals as goal
 
 pub returns-in-Ok-Slot-Taken-Ok-clause-steps : goal.returns-in-Ok-Slot-Taken-Ok-clause-steps

@@ -8,8 +8,8 @@ use Rattle.sysv_steps.specs.State.{AtPlace}
 use Rattle.sysv_steps.specs.Seen.{state_of, sending}
 use Rattle.sysv_objects.specs.declared.slot.SlotCall.TheVariants as called
 use Rattle.sysv_objects.specs.declared.slot.SlotReply.TheVariants as reply
-use Rattle.sysv_driver.proofs.Staying.{place_sends}
-use Rattle.sysv_driver.proofs.Stepping.{stepped}
+use Rattle.sysv_driver.proofs.KindStays.{place_sends}
+use Rattle.sysv_driver.proofs.StepFromReply.{stepped}
 use Rattle.sysv_driver.specs.Telling.{slot_told}
 use Rattle.sysv_driver.proofs.send.place.Goals as goal
 

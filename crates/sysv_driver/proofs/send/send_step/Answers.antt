@@ -3,9 +3,9 @@ use Rattle.sysv_steps.specs.State.{AtLook, AtReserve, AtSendGiveback, Goes}
 use Rattle.sysv_steps.specs.Seen.{phase_of, state_of, sending, afterwards_of}
 use Rattle.sysv_driver.specs.Kinds.{Sends}
 use Rattle.sysv_driver.specs.Stepping.{StepsOn}
-use Rattle.sysv_driver.proofs.Staying.{given_sends}
+use Rattle.sysv_driver.proofs.KindStays.{given_sends}
 use Rattle.sysv_driver.specs.Stepping.{lifts}
-use Rattle.sysv_driver.proofs.Stepping.{given}
+use Rattle.sysv_driver.proofs.StepFromReply.{given}
 use Rattle.sysv_driver.proofs.send.send_step.Goals as goal
 
 pub returns-in-Look-clause-steps : goal.returns-in-Look-clause-steps

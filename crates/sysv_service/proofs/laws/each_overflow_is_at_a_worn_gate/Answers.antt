@@ -1,5 +1,5 @@
 use Rattle.sysv_driver.specs.Stepping.{no_moment}
-use Rattle.sysv_service.proofs.Overflowing.{each_overflow, each_stop_overflows}
+use Rattle.sysv_service.proofs.OverflowsAtWornGate.{each_overflow, each_stop_overflows}
 use Rattle.sysv_service.proofs.laws.each_overflow_is_at_a_worn_gate.Goals as goal
 
 pub returns-clause-stamped : goal.returns-clause-stamped

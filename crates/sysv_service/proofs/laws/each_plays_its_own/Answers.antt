@@ -1,5 +1,5 @@
 use Rattle.sysv_driver.specs.Stepping.{no_moment}
-use Rattle.sysv_service.proofs.Playing.{each_plays}
+use Rattle.sysv_service.proofs.PlaysOwnTurns.{each_plays}
 use Rattle.sysv_service.proofs.laws.each_plays_its_own.Goals as goal
 
 pub returns-clause-stamped : goal.returns-clause-stamped

@@ -1,4 +1,4 @@
-use Rattle.sysv_service.proofs.Answering.{each_answers_right}
+use Rattle.sysv_service.proofs.ResultIsRight.{each_answers_right}
 use Rattle.sysv_driver.specs.Stepping.{no_moment}
 use Rattle.sysv_service.proofs.laws.each_run_answers_right.Goals as goal
 

@@ -1,5 +1,5 @@
-use Rattle.sysv_service.proofs.Hiring.{every_hiring, every_stop}
-use Rattle.sysv_service.proofs.Living.{at_any, every_service}
+use Rattle.sysv_service.proofs.WorkersOfLife.{every_hiring, every_stop}
+use Rattle.sysv_service.proofs.PassesAreCrew.{at_any, every_service}
 use Rattle.sysv_driver.specs.Stepping.{no_moment}
 use Rattle.sysv_service.proofs.laws.every_hiring_obeys.Goals as goal
 

@@ -1,4 +1,4 @@
-use Rattle.sysv_service.proofs.Emptying.{none_held_at_all, every_pool, every_hired_pool}
+use Rattle.sysv_service.proofs.PoolIsWhole.{none_held_at_all, every_pool, every_hired_pool}
 use Rattle.sysv_service.proofs.laws.every_pool_is_whole.Goals as goal
 
 pub returns-clause-none_held : goal.returns-clause-none_held

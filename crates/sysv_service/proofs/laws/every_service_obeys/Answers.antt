@@ -1,4 +1,4 @@
-use Rattle.sysv_service.proofs.Living.{at_any, every_service}
+use Rattle.sysv_service.proofs.PassesAreCrew.{at_any, every_service}
 use Rattle.sysv_driver.specs.Stepping.{no_moment}
 use Rattle.sysv_service.proofs.laws.every_service_obeys.Goals as goal
 

@@ -1,8 +1,8 @@
 use Rattle.std.proofs.Common.{subst}
 use Rattle.sysv_shared.specs.SeenHistories.{EachKnowsItsOwn, ObeysIfOpen}
 use Rattle.sysv_shared.specs.Banked.{seats_seen}
-use Rattle.sysv_shared.proofs.Obeying.{each_obeys}
-use Rattle.sysv_shared.proofs.Dividing.{seats_know}
+use Rattle.sysv_shared.proofs.SeenObeysLaw.{each_obeys}
+use Rattle.sysv_shared.proofs.SplitJoinEnd.{seats_know}
 use Rattle.sysv_shared.proofs.laws.each_seat_obeys.Goals as goal
 
 pub returns-clause-knows : goal.returns-clause-knows

@@ -2,7 +2,7 @@ use Rattle.std.proofs.Common.{◌+◌, [], sym, subst, arith}
 use Rattle.sysv_queue.specs.StandsFor.{StandsFor}
 use Rattle.sysv_shared.specs.Fresh.{AreFreshUpTo}
 use Rattle.sysv_shared.specs.Gated.{IsSlot, slot_in}
-use Rattle.sysv_shared.proofs.Beginning.{fresh_snoc}
+use Rattle.sysv_shared.proofs.FreshObjects.{fresh_snoc}
 use Rattle.sysv_shared.proofs.opening.fresh_objects.Goals as goal
 
 pub loop-preserved : goal.loop-preserved

@@ -1,4 +1,4 @@
-use Rattle.sysv_steps.proofs.Asking.{each_asked}
+use Rattle.sysv_steps.proofs.EachAsked.{each_asked}
 use Rattle.sysv_steps.proofs.laws.each_deed_is_asked_for.Goals as goal
 
 pub returns : goal.returns

@@ -1,4 +1,4 @@
-use Rattle.sysv_steps.proofs.Acting.{one_effect}
+use Rattle.sysv_steps.proofs.OneEffect.{one_effect}
 use Rattle.sysv_steps.proofs.laws.each_has_one_effect.Goals as goal
 
 pub returns : goal.returns

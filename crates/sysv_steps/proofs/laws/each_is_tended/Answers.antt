@@ -1,4 +1,4 @@
-use Rattle.sysv_steps.proofs.Tending.{each_tended}
+use Rattle.sysv_steps.proofs.TendedByStep.{each_tended}
 use Rattle.sysv_steps.proofs.laws.each_is_tended.Goals as goal
 
 pub returns : goal.returns

@@ -1,4 +1,4 @@
-use Rattle.sysv_steps.proofs.Reading.{each_read}
+use Rattle.sysv_steps.proofs.SendKeepsRead.{each_read}
 use Rattle.sysv_steps.proofs.laws.waits_above_what_it_read.Goals as goal
 
 pub returns : goal.returns

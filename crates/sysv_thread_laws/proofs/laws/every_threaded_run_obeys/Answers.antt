@@ -1,6 +1,6 @@
-use Rattle.sysv_core.proofs.Conserving.{BlockLaws}
-use Rattle.sysv_core.proofs.Obeying.{Laws}
-use Rattle.sysv_thread_laws.proofs.Threading.{run_obeys}
+use Rattle.sysv_core.proofs.BlocksConserved.{BlockLaws}
+use Rattle.sysv_core.proofs.WorldsObey.{Laws}
+use Rattle.sysv_thread_laws.proofs.ThreadsObey.{run_obeys}
 use Rattle.sysv_thread_laws.proofs.laws.every_threaded_run_obeys.Goals as goal
 
 pub returns : goal.returns

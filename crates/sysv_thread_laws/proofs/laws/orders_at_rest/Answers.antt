@@ -1,4 +1,4 @@
-use Rattle.sysv_thread_laws.proofs.Resting as rest
+use Rattle.sysv_thread_laws.proofs.AtRestHoldsNone as rest
 use Rattle.sysv_thread_laws.proofs.laws.orders_at_rest.Goals as goal
 
 pub returns : goal.returns

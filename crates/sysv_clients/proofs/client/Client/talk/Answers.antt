@@ -1,7 +1,9 @@
-use Rattle.std.proofs.Common.{length, arith, refl, ◌∙◌}
+use Rattle.std.proofs.Common.{◌≡◌, length, arith, refl, subst, true, ◌∙◌}
 use Rattle.std.specs.Int.{w32}
 use Rattle.std.proofs.lemmas.Int.{to_z-of_z}
 use Rattle.std.proofs.lemmas.Result.{err_from_is_err_and}
+use Rattle.sysv_clients.specs.declared.style.Style.{Style}
+use Rattle.sysv_clients.specs.Style.{grows}
 use Rattle.sysv_clients.proofs.TalkLemmas.{begins, blamed, breaks_off, goes_on, has_room, no_line, short_head}
 use Rattle.sysv_clients.proofs.TalkLemmas.{stays_within}
 use Rattle.sysv_clients.proofs.client.Client.talk.Goals as goal
@@ -28,6 +30,7 @@ pub loop-ask-preserved : goal.loop-ask-preserved
 loop-ask-preserved g c = record {
   talking = rw (
     c.in_ok-tell.ensures.after,
+    c.of-style.ensures,
     c.told_slots-slots.ensures,
     to_z-of_z w32 c.found-id.result (record { sfits = c.found-id.type_inv }),
     c.found-id.ensures,
@@ -62,7 +65,7 @@ returns-in_err-tell-clause-talks g c =
     (no_line c.args.command.now c.in-Some.ask c.in_ok-answer.answer c.exchange.new.given _ _ _ _ _ _
     c.loop-ask.self.page c.tell.new.self c.loop-ask.self.text c.loop-ask.place _ _
     c.loop-ask.invariant.talking c.in-Some.ensures.ask c.loop-ask.invariant.text c.in_ok-answer.ensures.exchanges
-    c.in_err-tell.ensures.row)
+    (subst (λ (s : Style). grows s c.in_ok-answer.answer ≡ true) c.of-style.ensures c.in_err-tell.ensures.row))
 
 pub returns-in_err-answer-clause-failed : goal.returns-in_err-answer-clause-failed
 returns-in_err-answer-clause-failed g c =

@@ -3,7 +3,7 @@ use Rattle.sysv_objects.specs.Objects.{blocks_in}
 use Rattle.sysv_core.specs.Kept.{states_kept, blocks_held}
 use Rattle.sysv_core.specs.Seen.{Seen, AreAllFree}
 use Rattle.sysv_core.proofs.KeptActors.{weaker}
-use Rattle.sysv_core.proofs.Freeing.{all_free}
+use Rattle.sysv_core.proofs.AllBlocksCounted.{all_free}
 use Rattle.sysv_core.proofs.world.World.end.Goals as goal
 
 pub end-requires : goal.end-requires

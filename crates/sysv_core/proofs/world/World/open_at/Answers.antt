@@ -5,7 +5,7 @@ use Rattle.sysv_core.specs.Seen.{state_in}
 use Rattle.sysv_core.specs.World.{Opening, opening}
 use Rattle.sysv_core.proofs.Lists.{map-replicate}
 use Rattle.sysv_core.proofs.KeptActors.{weaker}
-use Rattle.sysv_core.proofs.Sounding.{opening_sound}
+use Rattle.sysv_core.proofs.SoundStays.{opening_sound}
 use Rattle.sysv_core.proofs.world.World.open_at.Goals as goal
 
 pub returns-in-Ok-clause-opened : goal.returns-in-Ok-clause-opened

@@ -2,7 +2,7 @@ use Rattle.std.proofs.Common.{◌≡◌, IsTrue, true, false, sym, ap, subst, �
 use Rattle.sysv_objects.specs.StandsFor.{StandsFor}
 use Rattle.sysv_core.specs.Seen.{Seen, IsSeenAs}
 use Rattle.sysv_core.specs.Preset.{MakesPreset}
-use Rattle.sysv_core.proofs.Sounding.{vacant_there}
+use Rattle.sysv_core.proofs.SoundStays.{vacant_there}
 use Rattle.sysv_core.proofs.SeenSteps.{preset_unused, preset_used}
 use Rattle.sysv_core.proofs.Runs.{stands_preset}
 use Rattle.sysv_core.proofs.world.World.preset.Goals as goal

@@ -7,7 +7,7 @@ use Rattle.sysv_gate.proofs.door.Door.call.Goals as goal
 
 pub reach-requires-clause-at : goal.reach-requires-clause-at
 reach-requires-clause-at g c =
-    at_after _ c.args.self.now _ _ c.requires.at c.draw.ensures.same (ap (λ m. m.0.opening) c.in-Some.ensures.drawn.0)
+    at_after _ c.args.self.now _ _ c.requires.at c.come.ensures.same (ap (λ m. m.0.opening) c.in-Some.ensures.drawn.0)
 
 pub reach-requires-clause-waits : goal.reach-requires-clause-waits
 reach-requires-clause-waits g c =
@@ -16,7 +16,7 @@ reach-requires-clause-waits g c =
 
 pub serve-reply-requires-clause-at : goal.serve-reply-requires-clause-at
 serve-reply-requires-clause-at g c =
-    let drawn = at_after _ c.args.self.now _ _ c.requires.at c.draw.ensures.same
+    let drawn = at_after _ c.args.self.now _ _ c.requires.at c.come.ensures.same
     (ap (λ m. m.0.opening) c.in-Some.ensures.drawn.0) in
     at_after _ c.args.self.now _ _ drawn c.reach.ensures.same (ap (λ v. v.opening) c.reach.ensures.turn.view)
 
@@ -31,7 +31,7 @@ serve-reply-requires-clause-ticket g c =
 pub serve-reply-requires-clause-named : goal.serve-reply-requires-clause-named
 serve-reply-requires-clause-named g c =
     let came = came_drawn _ _ _ (me_at c.args.self.now.place c.args.token.now.me) _
-    (me_at c.args.self.now.place c.draw.new.token.me) _ c.in-Some.ensures.drawn c.reach.ensures.turn in
+    (me_at c.args.self.now.place c.come.new.token.me) _ c.in-Some.ensures.drawn c.reach.ensures.turn in
     still_named _ _ _ _ _ _ came c.requires.idle.named
 
 pub serve-reply-requires-clause-room : goal.serve-reply-requires-clause-room
@@ -42,16 +42,16 @@ wake_after-requires g c = c.in-Some.ensures.drawn.1
 
 pub returns-clause-same : goal.returns-clause-same
 returns-clause-same g c =
-    same_trans _ _ _ _ c.draw.ensures.same (same_trans _ _ _ _ c.reach.ensures.same c.serve-reply.ensures.same)
+    same_trans _ _ _ _ c.come.ensures.same (same_trans _ _ _ _ c.reach.ensures.same c.serve-reply.ensures.same)
 
 pub returns-clause-order : goal.returns-clause-order
 returns-clause-order g c =
-    order_later _ _ _ _ (same_trans _ _ _ _ c.draw.ensures.same c.reach.ensures.same).2 c.serve-reply.ensures.order
+    order_later _ _ _ _ (same_trans _ _ _ _ c.come.ensures.same c.reach.ensures.same).2 c.serve-reply.ensures.order
 
 pub returns-clause-ok : goal.returns-clause-ok
 returns-clause-ok g c =
     let came = came_drawn _ _ _ (me_at c.args.self.now.place c.args.token.now.me) _
-    (me_at c.args.self.now.place c.draw.new.token.me) _ c.in-Some.ensures.drawn c.reach.ensures.turn in
+    (me_at c.args.self.now.place c.come.new.token.me) _ c.in-Some.ensures.drawn c.reach.ensures.turn in
     called (Moves g.O.Object.meaning g.O.Object.counted) g.O.Object.counted c.args.self.now.opening
     (me_at c.args.self.now.place c.args.token.now.me) _ _ _ _ _ came c.serve-reply.ensures.made
     c.in-Some.ensures.drawn.2

@@ -1,4 +1,4 @@
-use Rattle.std.proofs.Common.{◌≡◌, length, arith, ap, ◌∙◌}
+use Rattle.std.proofs.Common.{◌≡◌, length, arith, ap}
 use Rattle.sysv_pool.specs.Blocks.{contents_of}
 use Rattle.sysv_pool.specs.Chain.{Chained}
 use Rattle.sysv_pool.proofs.Turns.{turn_released, turn_foreign}
@@ -12,13 +12,11 @@ returns-then-chain-self-clause-turn c =
     (turn_foreign c.self.inside.size c.self.inside.count c.self.inside.released c.args.chain.blocks (omega arith))
 
 pub invariant_of-self : goal.invariant_of-self
-invariant_of-self c =
-    let linked : length (contents_of c.take.result) ≡ c.self.inside.count =
-    ap (λ x. length (contents_of x)) c.take.ensures.value ∙ c.self.invariant.0 in (
-      omega (arith, c.shift_all.ensures, c.self.invariant.1, c.self.invariant.2, c.chain.invariant),
-      omega (arith, c.self.invariant.1),
-      c.self.invariant.2,
-    )
+invariant_of-self c = (
+  omega (arith, c.put.ensures, c.self.invariant.0),
+  omega (arith, c.self.invariant.1),
+  c.self.invariant.2,
+)
 
 pub returns-clause-turn : goal.returns-clause-turn
 returns-clause-turn c =

@@ -1,4 +1,4 @@
-use Rattle.std.proofs.Common.{◌≡◌, length, arith, ap, ◌∙◌}
+use Rattle.std.proofs.Common.{◌≡◌, length, arith, ◌∙◌}
 use Rattle.sysv_model.specs.Pool.{blocks_for}
 use Rattle.sysv_pool.specs.Blocks.{contents_of}
 use Rattle.sysv_pool.proofs.Texts.{rounded_up}
@@ -14,7 +14,6 @@ returns-then-count-self-clause-turn c =
 pub returns-clause-turn : goal.returns-clause-turn
 returns-clause-turn c =
     let count : c.div_ceil-count.result ≡ blocks_for c.args.size = c.div_ceil-count.ensures ∙ rounded_up c.args.size in
-    let made : length (contents_of c.replace-link.result) ≡ c.div_ceil-count.result =
-    ap (λ x. length (contents_of x)) c.replace-link.ensures.value ∙ c.cut-rest.ensures.kept in
+    let made : length (contents_of c.take-link.result) ≡ c.div_ceil-count.result = c.take-link.ensures.chain in
     rw (← c.self.view_is, made, count)
     (turn_reserved c.self.inside.size c.self.inside.count c.self.inside.released c.args.size (omega arith))

@@ -1,7 +1,7 @@
 use Rattle.std.proofs.Common.{rules}
 use Rattle.sysv_script.proofs.FaultLemmas.{LeavesBadLine-stream}
-use Rattle.sysv_script.proofs.Scripting.{takes_more, hands_all, read_none, ends_text, stops_part, stops_read}
-use Rattle.sysv_script.proofs.Scripting.{no_end_in_none, exceeds_at}
+use Rattle.sysv_script.proofs.RunSofar.{takes_more, hands_all, read_none, ends_text, stops_part, stops_read}
+use Rattle.sysv_script.proofs.RunSofar.{no_end_in_none, exceeds_at}
 use Rattle.sysv_script.proofs.ScriptEnds.{at_stream_fault}
 use Rattle.sysv_script.proofs.StreamLemmas.{Grows-part}
 use Rattle.sysv_script.proofs.script.Run.expect_end.Goals as goal

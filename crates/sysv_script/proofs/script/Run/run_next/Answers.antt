@@ -4,8 +4,8 @@ use Rattle.sysv_script.specs.declared.lines.Found.{Found}
 use Rattle.sysv_script.specs.Found.{FindsLine, IsNextLine}
 use Rattle.sysv_script.proofs.LineLemmas.{IsNextLine-front, IsNextLine-behind}
 use Rattle.sysv_script.proofs.FaultLemmas.{IfErr-stream}
-use Rattle.sysv_script.proofs.Scripting.{takes_more, hands_more, runs_line, runs_last, ends_text, stops_part}
-use Rattle.sysv_script.proofs.Scripting.{stops_read}
+use Rattle.sysv_script.proofs.RunSofar.{takes_more, hands_more, runs_line, runs_last, ends_text, stops_part}
+use Rattle.sysv_script.proofs.RunSofar.{stops_read}
 use Rattle.sysv_script.proofs.ScriptEnds.{at_stream_fault, at_write_fault, at_line_fault, RunsNext-passed}
 use Rattle.sysv_script.proofs.ScriptEnds.{RunsNext-line}
 use Rattle.sysv_script.proofs.StreamLemmas.{Grows-trans, Grows-handed, Grows-part}

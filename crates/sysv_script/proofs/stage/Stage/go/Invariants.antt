@@ -1,5 +1,5 @@
 use Rattle.std.proofs.Common.{◌-◌}
-use Rattle.sysv_script.proofs.Going.{GoingOn}
+use Rattle.sysv_script.proofs.StepsOfCall.{GoingOn}
 use Rattle.sysv_script.proofs.stage.Stage.go.Given as goal
 
 abbrev pub invariant-loop : goal.invariant-loop

@@ -2,7 +2,7 @@ use Rattle.std.proofs.Common.{Some, sym, ap, subst}
 use Rattle.sysv_core.specs.declared.event.Standing.TheVariants as standing
 use Rattle.sysv_core.specs.World.{actor_at}
 use Rattle.sysv_core.specs.Standing.{state_at, StandsThere}
-use Rattle.sysv_script.proofs.Standing.{told_there, going_way}
+use Rattle.sysv_script.proofs.PositionSeen.{told_there, going_way}
 use Rattle.sysv_script.proofs.stage.Stage.under_way.Goals as goal
 
 pub returns-in-At : goal.returns-in-At

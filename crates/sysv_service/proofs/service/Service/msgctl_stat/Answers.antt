@@ -2,8 +2,8 @@ use Rattle.std.proofs.Common.{[], ap, subst, rules, w32, to_z, of_z}
 use Rattle.sysv_steps.specs.Seen.{phase_of, state_of}
 use Rattle.sysv_driver.specs.Stepping.{no_moment}
 use Rattle.sysv_driver.specs.Kinds.{Stats}
-use Rattle.sysv_service.proofs.Running.{first_at, moved, comes_step}
-use Rattle.sysv_service.proofs.Staying.{begin_stats}
+use Rattle.sysv_service.proofs.ProceedsByStep.{first_at, moved, comes_step}
+use Rattle.sysv_service.proofs.KindStays.{begin_stats}
 use Rattle.sysv_service.proofs.service.Service.msgctl_stat.Goals as goal
 
 pub loop-init : goal.loop-init

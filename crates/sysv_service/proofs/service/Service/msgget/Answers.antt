@@ -2,8 +2,8 @@ use Rattle.std.proofs.Common.{[], ap, subst, rules}
 use Rattle.sysv_steps.specs.State.{Waits}
 use Rattle.sysv_steps.specs.Seen.{phase_of, wait_of, state_of}
 use Rattle.sysv_driver.specs.Kinds.{Gets}
-use Rattle.sysv_service.proofs.Running.{first_at, moved, comes_step, comes_wait}
-use Rattle.sysv_service.proofs.Staying.{ends_wait, wait_gets}
+use Rattle.sysv_service.proofs.ProceedsByStep.{first_at, moved, comes_step, comes_wait}
+use Rattle.sysv_service.proofs.KindStays.{ends_wait, wait_gets}
 use Rattle.sysv_service.proofs.service.Service.msgget.Goals as goal
 
 pub loop-init : goal.loop-init

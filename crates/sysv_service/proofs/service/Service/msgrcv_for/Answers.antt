@@ -4,10 +4,10 @@ use Rattle.sysv_steps.specs.State.{Waits}
 use Rattle.sysv_steps.specs.Seen.{wait_of, ending_of, state_of}
 use Rattle.sysv_driver.specs.Kinds.{Receives, IsSized}
 use Rattle.sysv_driver.specs.Giving.{GivesNothing, nothing_is_sized}
-use Rattle.sysv_service.proofs.Running.{first_at, moved, comes_wait}
-use Rattle.sysv_service.proofs.Delivering.{comes_giving, comes_with_nothing, has_given}
-use Rattle.sysv_service.proofs.Staying.{begin_gives_nothing, wait_gives_nothing, ends_wait, wait_receives}
-use Rattle.sysv_service.proofs.Staying.{begin_receives}
+use Rattle.sysv_service.proofs.ProceedsByStep.{first_at, moved, comes_wait}
+use Rattle.sysv_service.proofs.ReceiveGivesTaken.{comes_giving, comes_with_nothing, has_given}
+use Rattle.sysv_service.proofs.KindStays.{begin_gives_nothing, wait_gives_nothing, ends_wait, wait_receives}
+use Rattle.sysv_service.proofs.KindStays.{begin_receives}
 use Rattle.sysv_service.proofs.service.Service.msgrcv_for.Goals as goal
 
 pub loop-init : goal.loop-init

@@ -10,8 +10,8 @@ use Rattle.sysv_driver.specs.Kinds.{Sends}
 use Rattle.sysv_service.specs.Left.{IsLeft}
 use Rattle.sysv_service.specs.Ran.{Pass, Comes}
 use Rattle.sysv_service.specs.Told.{TellsZero}
-use Rattle.sysv_service.proofs.Running.{none_then}
-use Rattle.sysv_service.proofs.Staying.{begin_sends}
+use Rattle.sysv_service.proofs.ProceedsByStep.{none_then}
+use Rattle.sysv_service.proofs.KindStays.{begin_sends}
 use Rattle.sysv_service.proofs.service.Service.msgsnd_for.Goals as goal
 
 pub send-requires-clause-sends : goal.send-requires-clause-sends

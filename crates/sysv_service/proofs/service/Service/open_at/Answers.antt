@@ -1,6 +1,6 @@
 use Rattle.std.proofs.Common.{sym, subst}
 use Rattle.sysv_shared.specs.Seats.{AreOf}
-use Rattle.sysv_service.proofs.Opening.{first_fits}
+use Rattle.sysv_service.proofs.FirstPassFits.{first_fits}
 use Rattle.sysv_service.proofs.service.Service.open_at.Goals as goal
 
 pub returns-clause-fits : goal.returns-clause-fits

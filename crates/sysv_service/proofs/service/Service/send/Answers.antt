@@ -3,8 +3,8 @@ use Rattle.sysv_steps.specs.State.{Waits}
 use Rattle.sysv_steps.specs.Seen.{phase_of, wait_of, state_of}
 use Rattle.sysv_driver.specs.Kinds.{Sends}
 use Rattle.sysv_service.specs.Left.{IsLeft}
-use Rattle.sysv_service.proofs.Running.{if_none, comes_first, moved, comes_step, comes_wait}
-use Rattle.sysv_service.proofs.Staying.{ends_wait, wait_sends}
+use Rattle.sysv_service.proofs.ProceedsByStep.{if_none, comes_first, moved, comes_step, comes_wait}
+use Rattle.sysv_service.proofs.KindStays.{ends_wait, wait_sends}
 use Rattle.sysv_service.proofs.service.Service.send.Goals as goal
 
 pub loop-init : goal.loop-init

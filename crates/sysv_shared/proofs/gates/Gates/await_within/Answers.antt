@@ -2,8 +2,8 @@ use Rattle.std.proofs.Common.{refl, subst}
 use Rattle.sysv_shared.specs.SharedCounts.{count_of}
 use Rattle.sysv_shared.specs.Reading.{AwaitsWithin}
 use Rattle.sysv_shared.specs.Banked.{seats_seen}
-use Rattle.sysv_shared.proofs.Placing.{of_bank, are_of, sees_more}
-use Rattle.sysv_shared.proofs.Telling.{awaits_within}
+use Rattle.sysv_shared.proofs.PlacesShown.{of_bank, are_of, sees_more}
+use Rattle.sysv_shared.proofs.CountsShown.{awaits_within}
 use Rattle.sysv_shared.proofs.gates.Gates.await_within.Goals as goal
 
 pub await_within-awaited-requires-clause-seat : goal.await_within-awaited-requires-clause-seat

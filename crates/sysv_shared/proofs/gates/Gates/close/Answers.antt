@@ -3,15 +3,15 @@ use Rattle.std.proofs.lemmas.List.{append-nil, append_assoc, length-append, leng
 use Rattle.sysv_keys.specs.declared.identifier.TheConstants.{SLOTS}
 use Rattle.sysv_bank.specs.Banks.{Each2}
 use Rattle.sysv_shared.specs.Sharing.{AllClose}
-use Rattle.sysv_shared.proofs.Closing.{as_long}
+use Rattle.sysv_shared.proofs.ClosedPlaces.{as_long}
 use Rattle.sysv_bank.specs.Banks.{gates_of}
 use Rattle.sysv_shared.specs.Order.{deeds_of}
 use Rattle.sysv_shared.specs.Banked.{seats_seen}
 use Rattle.sysv_shared.proofs.Ordered.{whole, closes}
 use Rattle.sysv_shared.proofs.OrderedHistories.{order_legal}
-use Rattle.sysv_shared.proofs.Placing.{of_bank}
-use Rattle.sysv_shared.proofs.Parting.{all_parts}
-use Rattle.sysv_shared.proofs.Dividing.{GivenBack, all_close, two_left}
+use Rattle.sysv_shared.proofs.PlacesShown.{of_bank}
+use Rattle.sysv_shared.proofs.ClosedParts.{all_parts}
+use Rattle.sysv_shared.proofs.SplitJoinEnd.{GivenBack, all_close, two_left}
 use Rattle.sysv_shared.proofs.gates.Gates.close.Goals as goal
 
 pub close-closings-requires : goal.close-closings-requires

@@ -3,7 +3,7 @@ use Rattle.sysv_keys.specs.declared.identifier.TheConstants.{SLOTS}
 use Rattle.sysv_gate.specs.declared.closing.Closing.{Closing}
 use Rattle.sysv_bank.specs.Banks.{Each2}
 use Rattle.sysv_shared.specs.declared.kinds.Gated.{Gated}
-use Rattle.sysv_shared.proofs.Dividing.{GivenBack}
+use Rattle.sysv_shared.proofs.SplitJoinEnd.{GivenBack}
 use Rattle.sysv_shared.proofs.gates.Gates.close.Given as goal
 
 -- The elements taken from the end so far were moved to the slots, the last one first.

@@ -2,8 +2,8 @@ use Rattle.std.proofs.Common.{refl, subst}
 use Rattle.sysv_shared.specs.SharedCounts.{count_of}
 use Rattle.sysv_shared.specs.Reading.{Reads}
 use Rattle.sysv_shared.specs.Banked.{seats_seen}
-use Rattle.sysv_shared.proofs.Placing.{of_bank, are_of, sees_more}
-use Rattle.sysv_shared.proofs.Telling.{reads}
+use Rattle.sysv_shared.proofs.PlacesShown.{of_bank, are_of, sees_more}
+use Rattle.sysv_shared.proofs.CountsShown.{reads}
 use Rattle.sysv_shared.proofs.gates.Gates.count.Goals as goal
 
 pub count-requires-clause-seat : goal.count-requires-clause-seat

@@ -1,8 +1,8 @@
 use Rattle.std.proofs.Common.{rules, subst}
 use Rattle.sysv_shared.specs.Sharing.{AreJoined}
 use Rattle.sysv_shared.specs.Banked.{seats_seen}
-use Rattle.sysv_shared.proofs.Placing.{of_bank, are_of}
-use Rattle.sysv_shared.proofs.Dividing.{are_joined}
+use Rattle.sysv_shared.proofs.PlacesShown.{of_bank, are_of}
+use Rattle.sysv_shared.proofs.SplitJoinEnd.{are_joined}
 use Rattle.sysv_shared.proofs.gates.Gates.join.Goals as goal
 
 pub join-requires-clause-seat : goal.join-requires-clause-seat

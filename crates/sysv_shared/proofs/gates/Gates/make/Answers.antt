@@ -7,8 +7,8 @@ use Rattle.sysv_gate.specs.History.{Moves}
 use Rattle.sysv_gate.specs.Gates.{marked}
 use Rattle.sysv_bank.specs.Banks.{AcceptsAt, ChangesAt}
 use Rattle.sysv_bank.specs.Passes.{AddsToOrder}
-use Rattle.sysv_shared.proofs.Placing.{of_bank, are_of, accepts_call}
-use Rattle.sysv_shared.proofs.Asking.{Called, called, found_worn}
+use Rattle.sysv_shared.proofs.PlacesShown.{of_bank, are_of, accepts_call}
+use Rattle.sysv_shared.proofs.ObjectAfterCall.{Called, called, found_worn}
 use Rattle.sysv_shared.proofs.gates.Gates.make.Goals.{in-Ok, in-Err}
 use Rattle.sysv_shared.proofs.gates.Gates.make.Goals as goal
 

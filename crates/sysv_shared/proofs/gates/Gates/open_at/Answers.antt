@@ -1,9 +1,9 @@
 use Rattle.std.proofs.Common.{refl, sym, subst, ◌∙◌}
 use Rattle.sysv_bank.specs.Banks.{gates_of}
 use Rattle.sysv_shared.specs.Banked.{AreByKind, seats_at}
-use Rattle.sysv_shared.proofs.Placing.{are_of}
+use Rattle.sysv_shared.proofs.PlacesShown.{are_of}
 use Rattle.sysv_shared.proofs.Ordered.{opens}
-use Rattle.sysv_shared.proofs.Beginning.{fresh_low, fresh_many, opened_kinds, opened_open, first_seats}
+use Rattle.sysv_shared.proofs.FreshObjects.{fresh_low, fresh_many, opened_kinds, opened_open, first_seats}
 use Rattle.sysv_shared.proofs.gates.Gates.open_at.Goals as goal
 
 pub open-requires-clause-counts : goal.open-requires-clause-counts

@@ -1,8 +1,8 @@
 use Rattle.std.proofs.Common.{refl, subst}
 use Rattle.sysv_shared.specs.Sharing.{AreSplit}
 use Rattle.sysv_shared.specs.Banked.{seats_seen}
-use Rattle.sysv_shared.proofs.Placing.{of_bank, are_of}
-use Rattle.sysv_shared.proofs.Dividing.{are_split}
+use Rattle.sysv_shared.proofs.PlacesShown.{of_bank, are_of}
+use Rattle.sysv_shared.proofs.SplitJoinEnd.{are_split}
 use Rattle.sysv_shared.proofs.gates.Gates.split.Goals as goal
 
 pub split-requires : goal.split-requires

@@ -2,9 +2,9 @@ use Rattle.std.proofs.Common.{sym, subst}
 use Rattle.sysv_gate.specs.History.{RiseByOneAtMost}
 use Rattle.sysv_shared.specs.Counts.{slot_counts, registry_counts, pool_counts}
 use Rattle.sysv_shared.specs.Gated.{Stands, gated_counts}
-use Rattle.sysv_shared.proofs.Rising.{slot_stands, slot_rises}
-use Rattle.sysv_shared.proofs.Rising.{registry_stands, registry_rises}
-use Rattle.sysv_shared.proofs.Rising.{pool_stands, pool_rises}
+use Rattle.sysv_shared.proofs.RisesByOne.{slot_stands, slot_rises}
+use Rattle.sysv_shared.proofs.RisesByOne.{registry_stands, registry_rises}
+use Rattle.sysv_shared.proofs.RisesByOne.{pool_stands, pool_rises}
 use Rattle.sysv_shared.proofs.object.SharedObjectObject.apply.Goals.{in-Slot+in-Slot-call, in-Registry+in-Registry-call}
 use Rattle.sysv_shared.proofs.object.SharedObjectObject.apply.Goals.{in-Pool+in-Pool-call}
 use Rattle.sysv_shared.proofs.object.SharedObjectObject.apply.Goals as goal

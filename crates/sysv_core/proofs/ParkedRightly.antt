@@ -1,0 +1,226 @@
+-- A call that waits below its goal has a reason to: its last turn at the slot was a refusal, which
+-- is right as long as the count has not risen.
+use Rattle.std.proofs.Common.{◌≡◌, inl, inr, ℕ, ℤ, ◌+◌, ◌<◌, Bool, List, ◌∷◌, ◌++◌, Option, None, Some, MatchOption}
+use Rattle.std.proofs.Common.{sym, ap, subst, ◌∙◌, arith, length, slice_get}
+use Rattle.sysv_model.specs.declared.attributes.Attributes.{Attributes}
+use Rattle.sysv_model.specs.declared.cred.Cred.{Cred}
+use Rattle.sysv_model.specs.declared.flags.Flags.{Flags}
+use Rattle.sysv_model.specs.declared.selector.Selector.{Selector}
+use Rattle.sysv_model.specs.Message.{Message}
+use Rattle.sysv_model.specs.Selector.{selector_for}
+use Rattle.sysv_model.specs.History.{Who, Call, Look, Place, Take, Reply, Full, NoMatch, History, arrived, freed}
+use Rattle.sysv_model.specs.Live.{live, HasId}
+use Rattle.sysv_model.specs.Waiting.{waiting, waiting_on, held}
+use Rattle.sysv_model.specs.Registry.{settled}
+use Rattle.sysv_model.specs.Pool.{released}
+use Rattle.sysv_model.specs.Turn.{Deed, AtSlot, Turn, slot_history, registry_history, pool_history, deeds_of}
+use Rattle.sysv_queue.specs.Fits.{Fits as FitsOn}
+use Rattle.sysv_queue.specs.Named.{IsNamed}
+use Rattle.sysv_queue.specs.LegalReply.{IsLegalReply, IsLegalHistory}
+use Rattle.sysv_queue.specs.StaysRight.{NoMatchStays, FullStays, FullStaysForLook, CountsNeverFall}
+use Rattle.sysv_keys.specs.Identifier.{slot_of_id}
+use Rattle.sysv_objects.specs.LegalDeed.{AreLegal}
+use Rattle.sysv_steps.specs.Call.{SystemCall, Msgget, Msgsnd, Msgrcv}
+use Rattle.sysv_steps.specs.State.{Getting, Sending, Receiving, Wait, OnSettled, OnFreed, OnReleased, OnArrived, Waits}
+use Rattle.sysv_steps.specs.Resume.{awaited, goal_of}
+use Rattle.sysv_steps.specs.Played.{Plays}
+use Rattle.sysv_steps.specs.HoldsAsked.{IsSend, IsReceive, WaitHolds, EachHoldsWhatItWasAsked}
+use Rattle.sysv_steps.specs.WaitsFor.{WaitsFor, FoundNone, IsLastAtSlot, EachWaitsForItsRefusal}
+use Rattle.sysv_core.specs.World.{World, Started, Doing, begun, value_of}
+use Rattle.sysv_core.specs.Parked.{HasNothingToTake, HasNoRoom, HasTooFewBlocks, IsToBeWoken, IsBeingChanged, HasReason}
+use Rattle.sysv_core.specs.Parked.{AreParkedRightly}
+use Rattle.sysv_core.specs.Removed.{AreRemovedForGood}
+use Rattle.sysv_core.specs.Tending.{AreTended}
+use Rattle.sysv_core.proofs.InstalledBeforeSettled.{SettledOnceInstalled}
+use Rattle.sysv_core.proofs.WaitsForBlocks.{AreShort}
+use Rattle.sysv_core.proofs.SendIsWoken.{AreToBeWoken}
+use Rattle.sysv_core.proofs.GetsParked.{being_changed}
+use Rattle.sysv_core.proofs.TurnInHistory.{Made, made_at, slot_around}
+
+-- The messages of the live queue.
+held_is : (l : Option Attributes) (h : History) (id : ℤ) → HasId l id → waiting_on l h ≡ waiting id h
+held_is None h id lives = absurd lives
+held_is (Some a) h id lives = ap (λ i. waiting i h) lives
+
+crowded_is : (l : Option Attributes) (a : Attributes) (ms : List Message) (size : ℕ) →
+    ¬ MatchOption l ⊥ (λ (b : Attributes). FitsOn b.qbytes ms size) → l ≡ Some a → ¬ FitsOn a.qbytes ms size
+crowded_is l a ms size crowded is =
+    subst (λ (o : Option Attributes). ¬ MatchOption o ⊥ (λ (b : Attributes). FitsOn b.qbytes ms size)) is crowded
+
+-- What such a refusal states.
+nothing_to_take : (h : History) (id : ℤ) (cred : Cred) (selector : Selector) (size : ℕ) (noerror : Bool)
+    (now count : ℕ) → IsLegalReply h (Take id cred selector size noerror now) (NoMatch count) →
+    HasNothingToTake h id cred selector
+nothing_to_take h id cred selector size noerror now count l = record {
+  lives = l.0;
+  may_read = l.1;
+  unnamed = subst (λ (ms : List Message). (place : ℕ) → ¬ IsNamed selector ms place) (held_is (live h) h id l.0) l.2;
+}
+
+no_room : (h : History) (id : ℤ) (cred : Cred) (size count : ℕ) → IsLegalReply h (Look id cred size) (Full count) →
+    HasNoRoom h id cred size
+no_room h id cred size count l = record {
+  lives = l.0;
+  may_write = l.1;
+  crowded = λ a is.
+      subst (λ (ms : List Message). ¬ FitsOn a.qbytes ms size) (held_is (live h) h id l.0)
+      (crowded_is (live h) a (held h) size l.2 is);
+}
+
+-- ---- the refusal is right still
+
+module _ (w : World) (legal : AreLegal w.generation w.blocks w.turns) (who : Who) (slot : ℕ) (call : Call)
+    (reply : Reply) (front later : List Deed) (m : Made who w.turns front (AtSlot slot call reply) later) where
+  -- The history of the slot before that turn, and from that turn on.
+  abbrev earlier : History
+  earlier = slot_history slot m.before
+
+  abbrev since : History
+  since = record { who = m.by; call = call; reply = reply } ∷ slot_history slot m.after
+
+  whole : slot_history slot w.turns ≡ earlier ++ since
+  whole = ap (slot_history slot) m.whole ∙ slot_around slot m.before m.after m.by call reply
+
+  was_legal : IsLegalReply earlier call reply
+  was_legal =
+      legal.slots slot earlier (record { who = m.by; call = call; reply = reply }) (slot_history slot m.after) whole
+
+  all_legal : IsLegalHistory (earlier ++ since)
+  all_legal = subst IsLegalHistory whole (legal.slots slot)
+
+receive_parked : (w : World) → AreLegal w.generation w.blocks w.turns → NoMatchStays → CountsNeverFall → (who : Who)
+    (r : Receiving) (told : ℕ) → FoundNone r told (deeds_of who w.turns) →
+    arrived (slot_history (slot_of_id r.id) w.turns) < told + 1 →
+    HasNothingToTake (slot_history (slot_of_id r.id) w.turns) r.id r.cred r.selector
+receive_parked w legal stays counts who r told f below =
+    let slot = slot_of_id r.id in
+    let call = Take r.id r.cred r.selector r.size r.noerror f.0 in
+    let m = made_at who w.turns f.1.0 (AtSlot slot call (NoMatch told)) f.1.1 f.1.2 in
+    let h = earlier w legal who slot call (NoMatch told) f.1.0 f.1.1 m in
+    let more = since w legal who slot call (NoMatch told) f.1.0 f.1.1 m in
+    let same = whole w legal who slot call (NoMatch told) f.1.0 f.1.1 m in
+    let was = was_legal w legal who slot call (NoMatch told) f.1.0 f.1.1 m in
+    let low : arrived (h ++ more) < told + 1 = subst (λ (k : History). arrived k < told + 1) same below in
+    let is : told ≡ arrived h = was.3 in
+    let kept : arrived (h ++ more) ≡ arrived h = omega (arith, low, is, (counts h more).0) in
+    subst (λ (k : History). HasNothingToTake k r.id r.cred r.selector) (sym same)
+    (nothing_to_take (h ++ more) r.id r.cred r.selector r.size r.noerror f.0 told
+    (stays h more r.id r.cred r.selector r.size r.noerror f.0 f.0 told
+    (all_legal w legal who slot call (NoMatch told) f.1.0 f.1.1 m) kept was))
+
+module _ (w : World) (legal : AreLegal w.generation w.blocks w.turns) (full : FullStays)
+    (full_for_look : FullStaysForLook) (counts : CountsNeverFall) (who : Who) (s : Sending) (told : ℕ)
+    (below : freed (slot_history (slot_of_id s.id) w.turns) < told + 1) where
+  looker_parked : IsLastAtSlot (AtSlot (slot_of_id s.id) (Look s.id s.cred (length s.text)) (Full told))
+      (deeds_of who w.turns) → HasNoRoom (slot_history (slot_of_id s.id) w.turns) s.id s.cred (length s.text)
+  looker_parked f =
+      let slot = slot_of_id s.id in
+      let call = Look s.id s.cred (length s.text) in
+      let m = made_at who w.turns f.0 (AtSlot slot call (Full told)) f.1 f.2 in
+      let h = earlier w legal who slot call (Full told) f.0 f.1 m in
+      let more = since w legal who slot call (Full told) f.0 f.1 m in
+      let same = whole w legal who slot call (Full told) f.0 f.1 m in
+      let was = was_legal w legal who slot call (Full told) f.0 f.1 m in
+      let low : freed (h ++ more) < told + 1 = subst (λ (k : History). freed k < told + 1) same below in
+      let is : told ≡ freed h = was.3 in
+      let kept : freed (h ++ more) ≡ freed h = omega (arith, low, is, (counts h more).1) in
+      subst (λ (k : History). HasNoRoom k s.id s.cred (length s.text)) (sym same)
+      (no_room (h ++ more) s.id s.cred (length s.text) told
+      (full h more s.id s.cred (length s.text) told (all_legal w legal who slot call (Full told) f.0 f.1 m) kept was))
+
+  placer_parked : (now : ℕ) →
+      IsLastAtSlot (AtSlot (slot_of_id s.id) (Place s.id s.cred s.mtype s.text now) (Full told))
+      (deeds_of who w.turns) → HasNoRoom (slot_history (slot_of_id s.id) w.turns) s.id s.cred (length s.text)
+  placer_parked now f =
+      let slot = slot_of_id s.id in
+      let call = Place s.id s.cred s.mtype s.text now in
+      let m = made_at who w.turns f.0 (AtSlot slot call (Full told)) f.1 f.2 in
+      let h = earlier w legal who slot call (Full told) f.0 f.1 m in
+      let more = since w legal who slot call (Full told) f.0 f.1 m in
+      let same = whole w legal who slot call (Full told) f.0 f.1 m in
+      let was = was_legal w legal who slot call (Full told) f.0 f.1 m in
+      let low : freed (h ++ more) < told + 1 = subst (λ (k : History). freed k < told + 1) same below in
+      let is : told ≡ freed h = was.3 in
+      let kept : freed (h ++ more) ≡ freed h = omega (arith, low, is, (counts h more).1) in
+      subst (λ (k : History). HasNoRoom k s.id s.cred (length s.text)) (sym same)
+      (no_room (h ++ more) s.id s.cred (length s.text) told
+      (full_for_look h more s.id s.cred s.mtype s.text now told (all_legal w legal who slot call (Full told) f.0 f.1 m)
+      kept was))
+
+-- ---- in the words of what was asked
+
+a_receive : (turns : List Turn) (cred : Cred) (id : ℤ) (size : ℕ) (mtype : ℤ) (flags : Flags) (r : Receiving) →
+    IsReceive cred id size mtype flags r →
+    HasNothingToTake (slot_history (slot_of_id r.id) turns) r.id r.cred r.selector →
+    HasNothingToTake (slot_history (slot_of_id id) turns) id cred (selector_for mtype flags)
+a_receive turns cred id size mtype flags r is n =
+    subst (λ i. HasNothingToTake (slot_history (slot_of_id i) turns) i cred (selector_for mtype flags)) is.id
+    (subst (λ c. HasNothingToTake (slot_history (slot_of_id r.id) turns) r.id c (selector_for mtype flags)) is.cred
+    (subst (HasNothingToTake (slot_history (slot_of_id r.id) turns) r.id r.cred) is.selector n))
+
+a_send : (turns : List Turn) (cred : Cred) (id mtype : ℤ) (text : List ℕ) (s : Sending) → IsSend cred id mtype text s →
+    HasNoRoom (slot_history (slot_of_id s.id) turns) s.id s.cred (length s.text) →
+    HasNoRoom (slot_history (slot_of_id id) turns) id cred (length text)
+a_send turns cred id mtype text s is n =
+    subst (λ i. HasNoRoom (slot_history (slot_of_id i) turns) i cred (length text)) is.id
+    (subst (λ c. HasNoRoom (slot_history (slot_of_id s.id) turns) s.id c (length text)) is.cred
+    (subst (λ (t : List ℕ). HasNoRoom (slot_history (slot_of_id s.id) turns) s.id s.cred (length t)) is.text n))
+
+-- ---- every wait
+
+-- The same for a wait for blocks.
+abbrev IsShortOf : World → Wait → Type 0
+IsShortOf w (OnReleased goal s) =
+    released (pool_history w.turns) < goal → HasTooFewBlocks w (length s.text) × IsToBeWoken w s.id s.cred
+IsShortOf w wait = Unit {0}
+
+module _ (w : World) (legal : AreLegal w.generation w.blocks w.turns) (no_match : NoMatchStays) (full : FullStays)
+    (full_for_look : FullStaysForLook) (counts : CountsNeverFall) (tended : AreTended w)
+    (good : AreRemovedForGood w.turns) (order : SettledOnceInstalled w.turns) (call : Started) where
+  has_reason : (asked : SystemCall) (wait : Wait) → WaitHolds call.cred asked wait → IsShortOf w wait →
+      WaitsFor wait (deeds_of call.who w.turns) → value_of w.turns (awaited wait) < goal_of wait →
+      HasReason w call.cred asked wait
+  has_reason (Msgrcv id size mtype flags) (OnArrived goal r) holds short (told, is, f) below =
+      a_receive w.turns call.cred id size mtype flags r holds
+      (receive_parked w legal no_match counts call.who r told f
+      (subst (λ n. arrived (slot_history (slot_of_id r.id) w.turns) < n) is below))
+  has_reason (Msgsnd id mtype flags text) (OnFreed goal s) holds short (told, is, inl f) below =
+      a_send w.turns call.cred id mtype text s holds
+      (looker_parked w legal full full_for_look counts call.who s told
+      (subst (λ n. freed (slot_history (slot_of_id s.id) w.turns) < n) is below) f)
+  has_reason (Msgsnd id mtype flags text) (OnFreed goal s) holds short (told, is, inr f) below =
+      a_send w.turns call.cred id mtype text s holds
+      (placer_parked w legal full full_for_look counts call.who s told
+      (subst (λ n. freed (slot_history (slot_of_id s.id) w.turns) < n) is below) f.0 f.1)
+  has_reason (Msgsnd id mtype flags text) (OnReleased goal s) holds short f below =
+      let now = short below in (
+        subst (λ (t : List ℕ). HasTooFewBlocks w (length t)) holds.text now.0,
+        subst (λ i. IsToBeWoken w i call.cred) holds.id (subst (IsToBeWoken w s.id) holds.cred now.1),
+      )
+  has_reason (Msgget key flags) (OnSettled goal get) holds short (told, is, f) below =
+      subst (IsBeingChanged w) (ap (λ (g : Getting). g.key) holds.is)
+      (being_changed w legal tended good order call.who get told
+      (subst (λ n. settled (registry_history w.turns) < n) is below) f)
+  has_reason asked wait holds short f below = absurd holds
+
+pub parked_rightly : (w : World) → AreLegal w.generation w.blocks w.turns →
+    ((place : ℕ) (d : Doing) → slice_get w.actors place ≡ Some (Some d) →
+    Plays (begun d.call) (deeds_of d.call.who w.turns) d.state) →
+    NoMatchStays → FullStays → FullStaysForLook → CountsNeverFall → EachWaitsForItsRefusal → EachHoldsWhatItWasAsked →
+    AreTended w → AreRemovedForGood w.turns → SettledOnceInstalled w.turns → AreShort w → AreToBeWoken w →
+    AreParkedRightly w
+parked_rightly w legal plays no_match full full_for_look counts refused holds tended good order short woken place d wait
+    p =
+    let played : Plays (begun d.call) (deeds_of d.call.who w.turns) (Waits wait) =
+    subst (Plays (begun d.call) (deeds_of d.call.who w.turns)) p.waits (plays place d p.there) in
+    has_reason w legal no_match full full_for_look counts tended good order d.call d.call.asked wait
+    (holds d.call.cred d.call.asked d.call.released (deeds_of d.call.who w.turns) (Waits wait) played)
+    (short_of wait p.waits)
+    (refused d.call.cred d.call.asked d.call.released (deeds_of d.call.who w.turns) wait played) p.below
+  where
+    short_of : (x : Wait) → d.state ≡ Waits x → IsShortOf w x
+    short_of (OnReleased goal send) is = λ below.
+        (short place d goal send p.there is below, woken place d goal send p.there is below)
+    short_of (OnSettled goal get) is = tt
+    short_of (OnFreed goal send) is = tt
+    short_of (OnArrived goal receive) is = tt

@@ -1,0 +1,281 @@
+-- What the sends and receives of a queue report after its removal.
+use Rattle.std.proofs.Common.{◌≡◌, inl, inr, ℕ, zero, suc, ℤ, ◌||◌, Bool, true, false, cond, List, [], ◌∷◌, ◌++◌, refl}
+use Rattle.std.proofs.Common.{sym, ap, subst, ◌∙◌, arith, map, append_assoc, length}
+use Rattle.std.specs.List.{All, Contains, filter, list_any}
+use Rattle.std.specs.Ordering.{int_eq}
+use Rattle.std.proofs.lemmas.Bool.Decides.{Decides-int_eq}
+use Rattle.std.proofs.lemmas.List.{map-append}
+use Rattle.std.proofs.lemmas.List.Elements.{All-contains, All-contains_itself, All-push, All-weaker}
+use Rattle.std.proofs.lemmas.List.Elements.{Contains-append_right, filter-append}
+use Rattle.std.proofs.lemmas.List.Folds.{list_any-append}
+use Rattle.sysv_model.specs.declared.cred.Cred.{Cred}
+use Rattle.sysv_model.specs.declared.errno.Errno.{Errno}
+use Rattle.sysv_model.specs.declared.errno.Errno.TheVariants.{EIDRM, EINVAL}
+use Rattle.sysv_model.specs.declared.flags.TheConstants.Flags.{MSG_NOERROR}
+use Rattle.sysv_model.specs.HasFlag.{has_flag}
+use Rattle.sysv_model.specs.Selector.{selector_for}
+use Rattle.sysv_model.specs.History.{Who, Call, Look, Place, Take, Remove, Gone, Discarded, Entry, History}
+use Rattle.sysv_model.specs.Turn.{OfSlot, Deed, AtSlot, AtRegistry, AtPool, asked_by, Turn, slot_history, is_same}
+use Rattle.sysv_model.specs.Turn.{deeds_of}
+use Rattle.sysv_queue.specs.ForGood.{NamesId, not_live_reply}
+use Rattle.sysv_keys.specs.Identifier.{slot_of_id}
+use Rattle.sysv_steps.specs.Call.{SystemCall, Msgget, Msgsnd, Msgrcv, MsgctlStat, MsgctlSet, MsgctlRmid}
+use Rattle.sysv_steps.specs.State.{Ending, Refused, State, Goes, Waits, Over}
+use Rattle.sysv_steps.specs.Played.{Plays}
+use Rattle.sysv_steps.specs.AsksFor.{AsksFor, AllAskFor}
+use Rattle.sysv_steps.specs.Answers.{is_at_slot, found_gone, some}
+use Rattle.sysv_steps.specs.AfterRemoval.{SendsOrReceives, IsToldOfRemoval, EachIsToldOfRemoval}
+use Rattle.sysv_core.specs.World.{World, Started, Given, begun}
+use Rattle.sysv_core.specs.AnswerLaw.{endings_of, ended, Fate}
+use Rattle.sysv_core.specs.Removed.{AreRemovedForGood}
+use Rattle.sysv_core.specs.LastWords.{IsOfQueue, IsRemoval, IsToldSo}
+use Rattle.sysv_core.proofs.Histories.{turn_of}
+use Rattle.sysv_core.proofs.TurnInHistory.{made_at, slot_around}
+
+-- ---- lists
+
+-- The place of an element in a list.
+pub contained_at : {X : Type 0} (xs : List X) (x : X) → Contains xs x →
+    (front : List X) × (back : List X) × (xs ≡ front ++ x ∷ back)
+contained_at [] x (k, low, is) = absurd (omega (arith, low))
+contained_at (y ∷ xs) x (zero, low, is) = ([], xs, ap (λ z. z ∷ xs) is)
+contained_at (y ∷ xs) x (suc k, low, is) =
+    let r = contained_at xs x (k, omega (arith, low), is) in
+    (y ∷ r.0, r.1, ap (λ zs. y ∷ zs) r.2)
+
+-- The first deed that passes a test.
+record First (p : Deed → Bool) (deeds : List Deed) : Type 0 where
+  front : List Deed
+  deed : Deed
+  back : List Deed
+  whole : deeds ≡ front ++ deed ∷ back
+  passes : p deed ≡ true
+  none_before : list_any p front ≡ false
+
+first_here : (p : Deed → Bool) (d : Deed) (deeds : List Deed) (b : Bool) → p d ≡ b →
+    (list_any p deeds ≡ true → First p deeds) → (b || list_any p deeds) ≡ true → First p (d ∷ deeds)
+first_here p d deeds true is rest e =
+    record { front = []; deed = d; back = deeds; whole = refl; passes = is; none_before = refl }
+first_here p d deeds false is rest e =
+    let f = rest e in
+    record {
+      front = d ∷ f.front;
+      deed = f.deed;
+      back = f.back;
+      whole = ap (λ ds. d ∷ ds) f.whole;
+      passes = f.passes;
+      none_before = ap (λ b. b || list_any p f.front) is ∙ f.none_before;
+    }
+
+first_of : (p : Deed → Bool) (deeds : List Deed) → list_any p deeds ≡ true → First p deeds
+first_of p [] e = absurd cc
+first_of p (d ∷ deeds) e = first_here p d deeds (p d) refl (first_of p deeds) e
+
+either_passes : (a b : Bool) → a ≡ true → (a || b) ≡ true
+either_passes true b e = refl
+either_passes false b e = absurd cc
+
+neither_passes : (a b : Bool) → a ≡ false → b ≡ false → (a || b) ≡ false
+neither_passes false false e f = refl
+neither_passes false true e f = absurd cc
+neither_passes true b e f = absurd cc
+
+-- ---- the deeds of a call around a turn
+
+deeds_both : (who : Who) (xs ys : List Turn) → deeds_of who (xs ++ ys) ≡ deeds_of who xs ++ deeds_of who ys
+deeds_both who xs ys =
+    ap (map (λ (x : Turn). x.deed)) (filter-append (λ (x : Turn). is_same who x.who) xs ys)
+    ∙ map-append (λ (x : Turn). x.deed) (filter (λ (x : Turn). is_same who x.who) xs)
+    (filter (λ (x : Turn). is_same who x.who) ys)
+
+abbrev from_turn : Who → Bool → Turn → List Turn → List Deed
+from_turn who b t ts = map (λ (x : Turn). x.deed)
+    (cond b (t ∷ filter (λ (x : Turn). is_same who x.who) ts) (filter (λ (x : Turn). is_same who x.who) ts))
+
+-- No send and no receive requests a removal.
+not_removal : (id at : ℤ) (slot : ℕ) (cred by : Cred) (asked : SystemCall) → IsOfQueue id asked →
+    AsksFor cred asked (OfSlot slot (Remove at by)) → ⊥
+not_removal id at slot cred by (Msgsnd i mtype flags text) q (inl e) = cc
+not_removal id at slot cred by (Msgsnd i mtype flags text) q (inr (inl e)) = cc
+not_removal id at slot cred by (Msgsnd i mtype flags text) q (inr (inr (inl (now, e)))) = cc
+not_removal id at slot cred by (Msgsnd i mtype flags text) q (inr (inr (inr (blocks, e)))) = cc
+not_removal id at slot cred by (Msgrcv i size mtype flags) q (inl (now, e)) = cc
+not_removal id at slot cred by (Msgrcv i size mtype flags) q (inr (blocks, e)) = cc
+not_removal id at slot cred by (Msgget key flags) q e = q
+not_removal id at slot cred by (MsgctlStat i) q e = q
+not_removal id at slot cred by (MsgctlSet i to) q e = q
+not_removal id at slot cred by (MsgctlRmid i) q e = q
+
+-- What such a call requests of a slot has the identifier, and the reply is Gone if that is not
+-- live.
+record IsAbout (id : ℤ) (slot : ℕ) (call : Call) : Type 0 where
+  there : slot ≡ slot_of_id id
+  names : NamesId id call
+  gone : not_live_reply call ≡ Gone
+
+is_about : (id : ℤ) (slot : ℕ) (call : Call) (cred : Cred) (asked : SystemCall) → IsOfQueue id asked →
+    AsksFor cred asked (OfSlot slot call) → IsAbout id slot call
+is_about id slot call cred (Msgsnd i mtype flags text) q (inl e) =
+    let c : call ≡ Look i cred (length text) = cc in
+    let s : slot ≡ slot_of_id i = cc in
+    record { there = s ∙ ap slot_of_id q; names = subst (NamesId id) (sym c) q; gone = ap not_live_reply c }
+is_about id slot call cred (Msgsnd i mtype flags text) q (inr (inl e)) = absurd cc
+is_about id slot call cred (Msgsnd i mtype flags text) q (inr (inr (inl (now, e)))) =
+    let c : call ≡ Place i cred mtype text now = cc in
+    let s : slot ≡ slot_of_id i = cc in
+    record { there = s ∙ ap slot_of_id q; names = subst (NamesId id) (sym c) q; gone = ap not_live_reply c }
+is_about id slot call cred (Msgsnd i mtype flags text) q (inr (inr (inr (blocks, e)))) = absurd cc
+is_about id slot call cred (Msgrcv i size mtype flags) q (inl (now, e)) =
+    let c : call ≡ Take i cred (selector_for mtype flags) size (has_flag MSG_NOERROR flags) now = cc in
+    let s : slot ≡ slot_of_id i = cc in
+    record { there = s ∙ ap slot_of_id q; names = subst (NamesId id) (sym c) q; gone = ap not_live_reply c }
+is_about id slot call cred (Msgrcv i size mtype flags) q (inr (blocks, e)) = absurd cc
+is_about id slot call cred (Msgget key flags) q e = absurd q
+is_about id slot call cred (MsgctlStat i) q e = absurd q
+is_about id slot call cred (MsgctlSet i to) q e = absurd q
+is_about id slot call cred (MsgctlRmid i) q e = absurd q
+
+-- ---- a removal, and one call
+
+all_empty : (P : Ending → Type 0) → All P []
+all_empty P k d low = absurd (omega (arith, low))
+
+is_one : (asked : SystemCall) (id : ℤ) → IsOfQueue id asked → SendsOrReceives asked
+is_one (Msgsnd i mtype flags text) id q = tt
+is_one (Msgrcv i size mtype flags) id q = tt
+is_one (Msgget key flags) id q = absurd q
+is_one (MsgctlStat i) id q = absurd q
+is_one (MsgctlSet i to) id q = absurd q
+is_one (MsgctlRmid i) id q = absurd q
+
+is_gone : (deed : Deed) → found_gone deed ≡ true → (slot : ℕ) × (call : Call) × (deed ≡ AtSlot slot call Gone)
+is_gone (AtSlot slot call Gone) e = (slot, call, refl)
+is_gone deed e = absurd cc
+
+module _ (w : World) (given : List Given) (call : Started) (fate : Fate w given call) (told : EachIsToldOfRemoval)
+    (all : AllAskFor call.cred call.asked (deeds_of call.who w.turns)) (good : AreRemovedForGood w.turns)
+    (id : ℤ) (before after : List Turn) (t : Turn) (whole : w.turns ≡ before ++ t ∷ after)
+    (removal : IsRemoval id t.deed) (q : IsOfQueue id call.asked) where
+  abbrev earlier : List Deed
+  earlier = deeds_of call.who before
+
+  abbrev since : List Deed
+  since = deeds_of call.who after
+
+  asked_for : (deed : Deed) → Contains (deeds_of call.who w.turns) deed → AsksFor call.cred call.asked (asked_by deed)
+  asked_for deed has =
+      All-contains (λ (d : Deed). AsksFor call.cred call.asked (asked_by d)) (deeds_of call.who w.turns) deed all has
+
+  parted : deeds_of call.who w.turns ≡ earlier ++ from_turn call.who (is_same call.who t.who) t after
+  parted = ap (deeds_of call.who) whole ∙ deeds_both call.who before (t ∷ after)
+
+  -- The removal belongs to another call.
+  another : (b : Bool) → is_same call.who t.who ≡ b → is_same call.who t.who ≡ false
+  another false e = e
+  another true e =
+      let mine : deeds_of call.who w.turns ≡ earlier ++ t.deed ∷ since =
+      parted ∙ ap (λ b. earlier ++ from_turn call.who b t after) e in
+      let has : Contains (deeds_of call.who w.turns) t.deed = subst (λ (ds : List Deed). Contains ds t.deed) (sym mine)
+      (Contains-append_right earlier (t.deed ∷ since) t.deed (0, omega arith, refl)) in
+      absurd (not_removal id id (slot_of_id id) call.cred removal.0 call.asked q
+      (subst (λ (d : Deed). AsksFor call.cred call.asked (asked_by d)) removal.2 (asked_for t.deed has)))
+
+  deeds_are : deeds_of call.who w.turns ≡ earlier ++ since
+  deeds_are = parted ∙ ap (λ b. earlier ++ from_turn call.who b t after) (another (is_same call.who t.who) refl)
+
+  same_int : int_eq id id ≡ true
+  same_int = (Decides-int_eq id id).1 refl
+
+  -- The history of the slot around the removal.
+  abbrev slot : ℕ
+  slot = slot_of_id id
+
+  abbrev entry : Entry
+  entry = record { who = t.who; call = Remove id removal.0; reply = Discarded removal.1 }
+
+  history : slot_history slot w.turns ≡ slot_history slot before ++ entry ∷ slot_history slot after
+  history =
+      ap (slot_history slot) (whole ∙ ap (λ d. before ++ turn_of t.who d ∷ after) removal.2)
+      ∙ slot_around slot before after t.who (Remove id removal.0) (Discarded removal.1)
+
+  told_gone : (e : Entry) → Contains (slot_history slot after) e → NamesId id e.call → e.reply ≡ not_live_reply e.call
+  told_gone e has =
+      All-contains (λ (x : Entry). NamesId id x.call → x.reply ≡ not_live_reply x.call) (slot_history slot after) e
+      (good.gone slot id (slot_history slot before) (slot_history slot after) entry history same_int).told has
+
+  -- A turn of the call at the slot since then.
+  finds_gone : (deed : Deed) → Contains since deed → is_at_slot deed ≡ true → found_gone deed ≡ true
+  finds_gone (AtSlot at c reply) has e =
+      let a = is_about id at c call.cred call.asked q
+      (asked_for (AtSlot at c reply)
+      (subst (λ (ds : List Deed). Contains ds (AtSlot at c reply)) (sym deeds_are)
+      (Contains-append_right earlier since (AtSlot at c reply) has))) in
+      let split = contained_at since (AtSlot at c reply) has in
+      let m = made_at call.who after split.0 (AtSlot at c reply) split.1 split.2 in
+      let x : Entry = record { who = m.by; call = c; reply = reply } in
+      let here : slot_history at after ≡ slot_history at m.before ++ x ∷ slot_history at m.after =
+      ap (slot_history at) m.whole ∙ slot_around at m.before m.after m.by c reply in
+      let among : Contains (slot_history at after) x = subst (λ (h : History). Contains h x) (sym here)
+      (Contains-append_right (slot_history at m.before) (x ∷ slot_history at m.after) x (0, omega arith, refl)) in
+      let gone : reply ≡ Gone =
+      told_gone x (subst (λ n. Contains (slot_history n after) x) a.there among) a.names ∙ a.gone in
+      ap (λ r. found_gone (AtSlot at c r)) gone
+  finds_gone (AtRegistry c reply) has e = absurd cc
+  finds_gone (AtPool c reply) has e = absurd cc
+
+  -- The first of these turns decides the result.
+  module _ (come : some is_at_slot since) where
+    came : First is_at_slot since
+    came = first_of is_at_slot since come
+
+    found : found_gone came.deed ≡ true
+    found = finds_gone came.deed
+        (subst (λ (ds : List Deed). Contains ds came.deed) (sym came.whole)
+        (Contains-append_right came.front (came.deed ∷ came.back) came.deed (0, omega arith, refl))) came.passes
+
+    answer : (ending : Ending) → Plays (begun call) (deeds_of call.who w.turns) (Over ending) →
+        IsToldOfRemoval (earlier ++ came.front) came.back ending
+    answer ending plays =
+        let g = is_gone came.deed found in
+        let split : deeds_of call.who w.turns ≡ (earlier ++ came.front) ++ AtSlot g.0 g.1 Gone ∷ came.back =
+        deeds_are
+        ∙ (ap (λ (ds : List Deed). earlier ++ ds) (came.whole ∙ ap (λ d. came.front ++ d ∷ came.back) g.2)
+        ∙ sym (append_assoc earlier came.front (AtSlot g.0 g.1 Gone ∷ came.back))) in
+        told call.cred call.asked call.released (deeds_of call.who w.turns) ending (is_one call.asked id q) plays
+        (earlier ++ came.front) came.back g.0 g.1 split
+
+    each_ending : (why : Errno) →
+        ((ending : Ending) → Plays (begun call) (deeds_of call.who w.turns) (Over ending) → ending ≡ Refused why) →
+        (state : State) → Plays (begun call) (deeds_of call.who w.turns) state →
+        All (λ (ending : Ending). ending ≡ Refused why) (ended state)
+    each_ending why f (Goes phase) plays = all_empty (λ (ending : Ending). ending ≡ Refused why)
+    each_ending why f (Waits wait) plays = all_empty (λ (ending : Ending). ending ≡ Refused why)
+    each_ending why f (Over ending) plays = All-push (λ (x : Ending). x ≡ Refused why) [] ending
+        (all_empty (λ (x : Ending). x ≡ Refused why)) (f ending plays)
+
+    all_endings : (why : Errno) →
+        ((ending : Ending) → Plays (begun call) (deeds_of call.who w.turns) (Over ending) → ending ≡ Refused why) →
+        All (λ (ending : Ending). ending ≡ Refused why) (endings_of call.who given)
+    all_endings why f = subst (All (λ (ending : Ending). ending ≡ Refused why)) (sym fate.answered)
+        (each_ending why f fate.state fate.plays)
+
+    was_there : some is_at_slot earlier → All (λ (ending : Ending). ending ≡ Refused EIDRM) (endings_of call.who given)
+    was_there there = all_endings EIDRM (λ ending plays.
+        (answer ending plays).removed
+        (list_any-append is_at_slot earlier came.front
+        ∙ either_passes (list_any is_at_slot earlier) (list_any is_at_slot came.front) there))
+
+    was_not : list_any is_at_slot earlier ≡ false →
+        All (λ (ending : Ending). ending ≡ Refused EINVAL) (endings_of call.who given)
+    was_not none = all_endings EINVAL (λ ending plays.
+        (answer ending plays).absent
+        (list_any-append is_at_slot earlier came.front
+        ∙ neither_passes (list_any is_at_slot earlier) (list_any is_at_slot came.front) none came.none_before))
+
+  pub told_so : IsToldSo earlier since (endings_of call.who given)
+  told_so = record {
+    gone = All-weaker (Contains since) (λ (deed : Deed). is_at_slot deed ≡ true → found_gone deed ≡ true) finds_gone
+        since (All-contains_itself since);
+    removed = λ there come. was_there come there;
+    absent = λ none come. was_not come none;
+  }

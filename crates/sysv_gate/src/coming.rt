@@ -1,0 +1,167 @@
+//! Coming to a turn: a call tries to draw a ticket that is served at once, and sleeps without one.
+ghost use Rattle.std.specs.Prelude.{◌≡◌, [], IfSome, IfNone};
+ghost use Rattle.sysv_gate.specs.Turns.{Waits, HasDrawn, HasWorn};
+ghost use Rattle.sysv_gate.specs.Halls.{me_at};
+ghost use Rattle.sysv_gate.specs.Doors.{IsDoorOf, IsAt, IsSame};
+
+use crate::door::Door;
+use crate::hall::{Hall, HallToken};
+use crate::object::Object;
+use crate::words::{LIMIT, SERVING, TICKET};
+use std::hint;
+use std::sync::Wait;
+use std::sync::atomic::Ordering::SeqCst;
+
+/// The number of looks whether no ticket is out before the thread sleeps without a ticket.
+const TRIES: u64 = 128;
+
+/// The greatest number of pauses between two such looks.
+const MOST_PAUSES: u64 = 32;
+
+/// The number of sleeps without a ticket before the thread draws one, whatever tickets are out.
+const ROUNDS: u64 = 16;
+
+/// Lets the processor pause so many times.
+fn pause(times: u64) {
+    for _ in 0..times {
+        hint::spin_loop();
+    }
+}
+
+impl<O: Object> Door<O> {
+    /// Draws a ticket. It draws none while another is out, but looks a number of times and then
+    /// sleeps; only after a number of sleeps it draws one in any case. Returns `None` only if the
+    /// tickets have reached 2^62.
+    pub(crate) fn come(
+        &self,
+        rt: &impl Wait,
+        hall: &Hall<O>,
+        token: &mut HallToken<O>,
+    ) -> Option<u64>
+        requires door { IsDoorOf hall.now.shared.table_id hall.now.shared.key.openings.value.items
+            self.now }
+        requires at { IsAt hall.now.shared.table_id self.now token.old }
+        requires idle { Waits [] (me_at self.now.place token.old.me) }
+        ensures same { IsSame self.now.place token.old token.new }
+        ensures drawn { IfSome result (λ t. HasDrawn (me_at self.now.place token.old.me) t
+            (me_at self.now.place token.new.me)) }
+        ensures worn { IfNone result (HasWorn (me_at self.now.place token.old.me)
+            (me_at self.now.place token.new.me)) }
+    {
+        if let Some(ticket) = self.draw_free(hall, token) {
+            return Some(ticket);
+        }
+        self.come_later(rt, hall, token)
+    }
+
+    /// Draws a ticket like `come`, after a first look.
+    #[inline(never)]
+    fn come_later(&self, rt: &impl Wait, hall: &Hall<O>, token: &mut HallToken<O>) -> Option<u64>
+        requires door { IsDoorOf hall.now.shared.table_id hall.now.shared.key.openings.value.items
+            self.now }
+        requires at { IsAt hall.now.shared.table_id self.now token.old }
+        requires idle { Waits [] (me_at self.now.place token.old.me) }
+        ensures same { IsSame self.now.place token.old token.new }
+        ensures drawn { IfSome result (λ t. HasDrawn (me_at self.now.place token.old.me) t
+            (me_at self.now.place token.new.me)) }
+        ensures worn { IfNone result (HasWorn (me_at self.now.place token.old.me)
+            (me_at self.now.place token.new.me)) }
+    {
+        for _ in 0..ROUNDS {
+            if let Some(ticket) = self.draw_soon(hall, token) {
+                return Some(ticket);
+            }
+            self.doze_outside(rt, hall);
+        }
+        self.draw(rt, hall, token)
+    }
+
+    /// Draws the next ticket as soon as none is out, in a number of looks. Returns `None` if it
+    /// drew none.
+    fn draw_soon(&self, hall: &Hall<O>, token: &mut HallToken<O>) -> Option<u64>
+        requires door { IsDoorOf hall.now.shared.table_id hall.now.shared.key.openings.value.items
+            self.now }
+        requires at { IsAt hall.now.shared.table_id self.now token.old }
+        requires idle { Waits [] (me_at self.now.place token.old.me) }
+        ensures same { IsSame self.now.place token.old token.new }
+        ensures drawn { IfSome result (λ t. HasDrawn (me_at self.now.place token.old.me) t
+            (me_at self.now.place token.new.me)) }
+        ensures still { IfNone result (me_at self.now.place token.new.me
+            ≡ me_at self.now.place token.old.me) }
+    {
+        let mut pauses = 1;
+        for _ in 0..TRIES {
+            pause(pauses);
+            pauses = pauses.saturating_mul(2).min(MOST_PAUSES);
+            if let Some(ticket) = self.draw_free(hall, token) {
+                return Some(ticket);
+            }
+            if self.next_ticket(hall) >= LIMIT {
+                break;
+            }
+        }
+        None
+    }
+
+    /// Draws the next ticket if none is out, so that it is served at once. Returns `None` if it
+    /// drew none.
+    fn draw_free(&self, hall: &Hall<O>, token: &mut HallToken<O>) -> Option<u64>
+        requires door { IsDoorOf hall.now.shared.table_id hall.now.shared.key.openings.value.items
+            self.now }
+        requires at { IsAt hall.now.shared.table_id self.now token.old }
+        requires idle { Waits [] (me_at self.now.place token.old.me) }
+        ensures same { IsSame self.now.place token.old token.new }
+        ensures drawn { IfSome result (λ t. HasDrawn (me_at self.now.place token.old.me) t
+            (me_at self.now.place token.new.me)) }
+        ensures still { IfNone result (me_at self.now.place token.new.me
+            ≡ me_at self.now.place token.old.me) }
+    {
+        let next = self.next_ticket(hall);
+        if next >= LIMIT || self.served_ticket(hall) != next {
+            return None;
+        }
+        if self.draw_next(hall, token, next) != next {
+            return None;
+        }
+        Some(next)
+    }
+
+    /// Sleeps until a turn has ended, if a ticket is out and more can be drawn.
+    fn doze_outside(&self, rt: &impl Wait, hall: &Hall<O>)
+        requires { IsDoorOf hall.now.shared.table_id hall.now.shared.key.openings.value.items
+            self.now }
+    {
+        self.sleepers.fetch_add(1, SeqCst);
+        let rung = self.entrance.enter();
+        if self.is_busy(hall) {
+            self.entrance.sleep(rt, rung);
+        }
+        self.entrance.leave();
+        self.sleepers.fetch_sub(1, SeqCst);
+    }
+
+    /// Returns whether a ticket is out and more can be drawn.
+    fn is_busy(&self, hall: &Hall<O>) -> bool
+        requires { IsDoorOf hall.now.shared.table_id hall.now.shared.key.openings.value.items
+            self.now }
+    {
+        let next = self.next_ticket(hall);
+        next < LIMIT && self.served_ticket(hall) != next
+    }
+
+    /// Loads the ticket that is drawn next, of which the pass learns nothing.
+    fn next_ticket(&self, hall: &Hall<O>) -> u64
+        requires { IsDoorOf hall.now.shared.table_id hall.now.shared.key.openings.value.items
+            self.now }
+    {
+        hall.shared.peek(self.word(TICKET))
+    }
+
+    /// Loads the ticket that is served, of which the pass learns nothing.
+    fn served_ticket(&self, hall: &Hall<O>) -> u64
+        requires { IsDoorOf hall.now.shared.table_id hall.now.shared.key.openings.value.items
+            self.now }
+    {
+        hall.shared.peek(self.word(SERVING))
+    }
+}

@@ -1,0 +1,68 @@
+//! The user, the group and the process that a client states.
+ghost use Rattle.std.specs.Prelude.{◌≡◌};
+ghost use Rattle.sysvmsg.specs.Who.{cred_by};
+
+use std::env;
+use std::env::Env;
+use sysv_model::Cred;
+
+/// The user, the group and the process that the words of a client state.
+#[derive(Clone, Copy, PartialEq, Eq, Debug)]
+pub(crate) struct Who {
+    /// Whether those that are not stated are those of this process.
+    pub(crate) me: bool,
+    /// The user ID, if it is stated.
+    pub(crate) uid: Option<u32>,
+    /// The group ID, if it is stated.
+    pub(crate) gid: Option<u32>,
+    /// The process ID, if it is stated.
+    pub(crate) pid: Option<u32>,
+}
+
+/// What a client states without options.
+const USUAL: Cred = Cred {
+    uid: 1000,
+    gid: 1000,
+    pid: 1,
+};
+
+/// The environment variable that has the effect of `--me` if its value is 1.
+const ME: &str = "SYSVMSG_ME";
+
+/// Returns the credentials that a client states: those of the words, and for the others the
+/// effective IDs of this process, if the words or the environment want them, or the usual ones.
+pub(crate) fn credentials(rt: &(impl Env + AllocGlobal), who: &Who) -> Cred {
+    if who.me || wants_me(rt) {
+        cred_of(who, own())
+    } else {
+        cred_of(who, USUAL)
+    }
+}
+
+/// Returns the credentials of the words, and for the others those of `usual`.
+fn cred_of(who: &Who, usual: Cred) -> Cred
+    ensures { result ≡ cred_by who.now usual }
+{
+    Cred {
+        uid: who.uid.unwrap_or(usual.uid),
+        gid: who.gid.unwrap_or(usual.gid),
+        pid: who.pid.unwrap_or(usual.pid),
+    }
+}
+
+/// Returns whether the environment wants the IDs of this process.
+fn wants_me(rt: &(impl Env + AllocGlobal)) -> bool {
+    match env::var(rt, ME) {
+        Ok(value) => value.as_str() == "1",
+        Err(_) => false,
+    }
+}
+
+/// Returns the effective user and group of this process, and its ID.
+fn own() -> Cred {
+    Cred {
+        uid: libc::geteuid(),
+        gid: libc::getegid(),
+        pid: libc::getpid().unsigned_abs(),
+    }
+}

@@ -1,0 +1,201 @@
+//! What the options and the further commands of clients request and show.
+use super::*;
+use sysv_clients::{Making, Receiving, receive_all};
+
+/// The reply with a message of type -3 and of these four bytes: `a`, LF, NUL, `b`.
+const ODD: &[u8] = b"\0\0\0\x0f\x02\x03\0\xff\xff\xff\xff\xff\xff\xff\xfda\n\0b";
+
+/// `msgget` of key 7 with IPC_CREAT and mode 0640.
+const GET_OR_MAKE: &[u8] = b"\0\0\0\x0a\x02\x01\0\0\0\x07\0\0\x03\xa0";
+
+/// The fields of a receive of any type before its flags.
+const WANTS: &[u8] = b"\0\0\0\x16\x02\x03\0\0\0\x40\0\0\x20\0\0\0\0\0\0\0\0\0";
+
+#[test]
+fn a_message_is_shown_as_the_options_say(rt: HostRuntime) {
+    let table: [(bool, bool, u32, &[u8]); 7] = [
+        (false, false, 8192, b"a\n\0b\n"),
+        (false, true, 8192, b"a\n\0b"),
+        (true, false, 8192, b"-3\ta\n\0b\n"),
+        (true, true, 8192, b"-3\ta\n\0b"),
+        (false, false, 3, b"a\n\0\n"),
+        (true, true, 0, b"-3\t"),
+        (false, false, u32::MAX, b"a\n\0b\n"),
+    ];
+    for (show_type, raw, size, shown) in table {
+        let mut talk = Talk::new(&rt, rt.alloc(), &[WELCOME, GOT, ODD]);
+        let receipt = Receipt {
+            show_type,
+            raw,
+            size,
+            ..ANY
+        };
+        assert_is(&rt, talk.run(&rt, rt.alloc(), Task::Receive(receipt)), 0);
+        assert!(rt; talk.screen.text() == shown, "{size}");
+    }
+}
+
+#[test]
+fn the_longest_message_is_shown_with_its_type(rt: HostRuntime) {
+    let text = [b'y'; 8192];
+    let front = b"\0\0\x20\x0b\x02\x03\0\x80\0\0\0\0\0\0\0";
+    let mut talk = Talk::new(&rt, rt.alloc(), &[WELCOME, GOT, front, &text]);
+    let receipt = Receipt {
+        show_type: true,
+        ..ANY
+    };
+    assert_is(&rt, talk.run(&rt, rt.alloc(), Task::Receive(receipt)), 0);
+    let wanted = joined(&rt, rt.alloc(), &[b"-9223372036854775808\t", &text, b"\n"]);
+    assert!(rt; talk.screen.text() == wanted.text());
+}
+
+#[test]
+fn a_receive_may_except_a_type_and_create_the_queue(rt: HostRuntime) {
+    let table: [(bool, &[u8], bool, bool, &[u8]); 4] = [
+        (false, GET, true, false, b"\0\0\x20\0"),
+        (true, GET_OR_MAKE, false, false, b"\0\0\0\0"),
+        (true, GET_OR_MAKE, true, true, b"\0\0\x30\0"),
+        (false, GET, false, true, b"\0\0\x10\0"),
+    ];
+    for (create, get, except, noerror, flags) in table {
+        let mut talk = Talk::new(&rt, rt.alloc(), &[WELCOME, GOT, MESSAGE]);
+        let receipt = Receipt {
+            create,
+            mode: 0o640,
+            except,
+            noerror,
+            ..ANY
+        };
+        assert_is(&rt, talk.run(&rt, rt.alloc(), Task::Receive(receipt)), 0);
+        let wanted = joined(&rt, rt.alloc(), &[HELLO, get, WANTS, flags]);
+        assert!(rt; talk.requests.text() == wanted.text());
+    }
+}
+
+#[test]
+fn queues_are_listed_as_json(rt: HostRuntime) {
+    let mut talk = listed(&rt, rt.alloc());
+    assert_is(&rt, talk.run(&rt, rt.alloc(), Task::List(Format::Json)), 0);
+    let wanted = joined(
+        &rt,
+        rt.alloc(),
+        &[
+            b"{\"key\":\"0x00000007\",\"msqid\":0,\"owner\":1000,\"perms\":\"640\",\"bytes\":3,\"messages\":1}\n",
+            b"{\"key\":\"0x80000000\",\"msqid\":2147483647,\"owner\":4294967295,\"perms\":\"777\",",
+            b"\"bytes\":4294967295,\"messages\":4294967295}\n",
+        ],
+    );
+    assert!(rt; talk.screen.text() == wanted.text());
+}
+
+#[test]
+fn the_attributes_of_a_queue_are_shown(rt: HostRuntime) {
+    let told: &[u8] =
+        b"\0\0\0\x45\x02\x04\0\0\0\0\x07\0\0\x03\xe8\0\0\x03\xe9\0\0\x03\xea\0\0\x03\xeb\x01\xa0\0\0\0\x03";
+    let more: &[u8] =
+        b"\0\0\0\x01\0\0\x40\0\0\0\0\x65\0\0\0\0\0\0\0\0\0\0\0\x09\0\0\0\0\0\0\0\0\0\0\0\0\0\0\0\x08";
+    let mut talk = Talk::new(&rt, rt.alloc(), &[WELCOME, told, more]);
+    assert_is(&rt, talk.run(&rt, rt.alloc(), Task::Show(64)), 0);
+    let asked = joined(&rt, rt.alloc(), &[HELLO, b"\0\0\0\x06\x02\x04\0\0\0\x40"]);
+    assert!(rt; talk.requests.text() == asked.text());
+    let shown: &[u8] =
+        b"key 0x00000007\nuid 1000\ngid 1001\ncuid 1002\ncgid 1003\nmode 640\ncbytes 3\nqnum 1\nqbytes 16384\nlspid 101\nlrpid 0\nstime 9\nrtime 0\nctime 8\n";
+    assert!(rt; talk.screen.text() == shown);
+}
+
+#[test]
+fn a_queue_is_made(rt: HostRuntime) {
+    let get: &[u8] = b"\0\0\0\x0a\x02\x01\0\0\0\x07\0\0\x07\xa0";
+    let set: &[u8] = b"\0\0\0\x16\x02\x05\0\0\0\x40\0\0\x03\xe8\0\0\x03\xe8\0\0\x01\xa0\0\0\0\x63";
+    let done: &[u8] = b"\0\0\0\x03\x02\x05\0";
+    let making = Making {
+        key: 7,
+        mode: 0o640,
+        qbytes: None,
+    };
+    let mut talk = Talk::new(&rt, rt.alloc(), &[WELCOME, GOT]);
+    assert_is(&rt, talk.run(&rt, rt.alloc(), Task::Make(making)), 0);
+    assert!(rt; talk.requests.text() == joined(&rt, rt.alloc(), &[HELLO, get]).text());
+    assert!(rt; talk.screen.text() == b"64\n".as_slice());
+    let limited = Making {
+        qbytes: Some(99),
+        ..making
+    };
+    let mut talk = Talk::new(&rt, rt.alloc(), &[WELCOME, GOT, done]);
+    assert_is(&rt, talk.run(&rt, rt.alloc(), Task::Make(limited)), 0);
+    assert!(rt; talk.requests.text() == joined(&rt, rt.alloc(), &[HELLO, get, set]).text());
+    assert!(rt; talk.screen.text() == b"64\n".as_slice());
+}
+
+impl Talk {
+    /// Receives this number of messages, and returns the status.
+    fn receive(&mut self, alloc: Global, count: u64) -> i32 {
+        let receiving = Receiving {
+            cred: WHO,
+            receipt: ANY,
+            count,
+        };
+        receive_all(
+            alloc,
+            &receiving,
+            &mut self.replies,
+            &mut self.requests,
+            &mut self.screen,
+        )
+    }
+}
+
+#[test]
+fn each_of_several_messages_is_shown_as_it_comes(rt: HostRuntime) {
+    for count in 0..4 {
+        let mut talk = Talk::new(&rt, rt.alloc(), &[WELCOME, GOT, MESSAGE, MESSAGE, MESSAGE]);
+        if talk.receive(rt.alloc(), count) != 0 {
+            assert!(rt; talk.screen.text() == b"sysvmsg: no memory\n".as_slice());
+            return;
+        }
+        let mut asked = joined(&rt, rt.alloc(), &[HELLO, GET]);
+        let mut shown = Tape::new(&rt, rt.alloc());
+        for _ in 0..count {
+            asked.put(RECEIVE);
+            shown.put(b"abc\n");
+        }
+        assert!(rt; talk.requests.text() == asked.text(), "{count}");
+        assert!(rt; talk.screen.text() == shown.text(), "{count}");
+        assert!(rt; talk.screen.flushed as u64 == count, "{count}");
+    }
+}
+
+#[test]
+fn a_fault_is_shown_after_the_messages_so_far(rt: HostRuntime) {
+    let refused: &[u8] = b"\0\0\0\x03\x02\x03\x2a";
+    let mut talk = Talk::new(&rt, rt.alloc(), &[WELCOME, GOT, MESSAGE, MESSAGE, refused]);
+    assert_is(&rt, talk.receive(rt.alloc(), u64::MAX), 1);
+    let text = talk.screen.text();
+    let refusal = text == b"abc\nabc\nsysvmsg: ENOMSG\n".as_slice();
+    assert!(rt; refusal || text == b"sysvmsg: no memory\n".as_slice());
+    let mut talk = Talk::new(&rt, rt.alloc(), &[WELCOME, GOT, MESSAGE]);
+    assert_is(&rt, talk.receive(rt.alloc(), 2), 1);
+    let text = talk.screen.text();
+    let ended = text == b"abc\nsysvmsg: no reply\n".as_slice();
+    assert!(rt; ended || text == b"sysvmsg: no memory\n".as_slice());
+}
+
+#[test]
+fn a_screen_that_fails_ends_the_receives(rt: HostRuntime) {
+    for room in 4..8 {
+        let mut talk = Talk::new(&rt, rt.alloc(), &[WELCOME, GOT, MESSAGE, MESSAGE, MESSAGE]);
+        talk.screen.good = room;
+        assert_is(&rt, talk.receive(rt.alloc(), 3), 1);
+        if talk.requests.len() == 0 {
+            return;
+        }
+        let asked = joined(&rt, rt.alloc(), &[HELLO, GET, RECEIVE, RECEIVE]);
+        assert!(rt; talk.requests.text() == asked.text(), "{room}");
+        assert!(rt; talk.screen.text() == &b"abc\nabc\n"[..room], "{room}");
+    }
+    let mut talk = Talk::new(&rt, rt.alloc(), &[WELCOME, GOT, MESSAGE, MESSAGE]);
+    talk.screen.flushes = 0;
+    assert_is(&rt, talk.receive(rt.alloc(), 2), 1);
+    let asked = joined(&rt, rt.alloc(), &[HELLO, GET, RECEIVE]);
+    assert!(rt; talk.requests.len() == 0 || talk.requests.text() == asked.text());
+}
