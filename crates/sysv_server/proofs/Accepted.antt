@@ -64,8 +64,10 @@ module _ {T B : Type 0} (incoming outgoing : T → Option (List ℕ)) (closes : 
   sat_each [] (shift ∷ shifts) sat = absurd sat
   sat_each (desk ∷ desks) [] sat = absurd sat
   sat_each (desk ∷ desks) (shift ∷ shifts) sat =
-      let one = length-map shift.talks (λ (talk : Talk). talk.told) ∙ sym (each2_length _ desk.connections shift.talks sat.0.0) in
-      both_lengths _ _ _ _ _ _ one (sat_each desks shifts sat.1) (length-append (reports_of shift.talks) (told_in shifts))
+      let one =
+      length-map shift.talks (λ (talk : Talk). talk.told) ∙ sym (each2_length _ desk.connections shift.talks sat.0.0) in
+      both_lengths _ _ _ _ _ _ one (sat_each desks shifts sat.1)
+      (length-append (reports_of shift.talks) (told_in shifts))
       (length-append desk.connections (all_connections desks))
 
   -- there was one session for each connection
@@ -138,7 +140,8 @@ module _ {I H : Type 0} where
   none_given [] s s' h unopened = refl
   none_given (x ∷ items) s s' h unopened = absurd (true≢false (sym unopened ∙ is_opened x items s s' h))
 
-  has_reason : (m sessions : ℕ) (s last s' : Accepting I H) (items : List Socket) (input : Bool) (reason : Option Reason)
+  has_reason : (m sessions : ℕ) (s last s' : Accepting I H) (items : List Socket) (input : Bool)
+      (reason : Option Reason)
       → s.accepted ≡ 0 → s.most ≡ m → m ≤ 2 ^ 64 - 1 → is_some s.input ≡ input → Given items s last
       → GivesAll Gives s items s' → sessions ≡ capped (length items) → IsSomeAnd reason (HasEnded last)
       → HasReason input m sessions reason

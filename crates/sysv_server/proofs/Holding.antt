@@ -66,7 +66,8 @@ module _ {T B : Type 0} (incoming outgoing : T → Option (List ℕ)) (closes : 
         }
 
   -- One more session was added to the sums.
-  pub handled : (told : Option Served) (before after : Pass) (book book' : B) (sums sums' : Sums) (refused refused' : ℕ) →
+  pub handled : (told : Option Served) (before after : Pass) (book book' : B) (sums sums' : Sums)
+      (refused refused' : ℕ) →
       Holds incoming outgoing closes connection before book told after book' →
       sums' ≡ added sums (one_session (tally_of told)) → refused' ≡ capped (refused + one_refused told) →
       Handles incoming outgoing closes connection before sums refused book after sums' refused' book'

@@ -12,7 +12,8 @@ use Rattle.sysv_server.specs.Talks.{Closing}
 module _ {T B : Type 0} (incoming outgoing : T → Option (List ℕ)) (closes : Closing B) {S W : Type 0}
     (gives : S → Option T → S → Type 0) (source source' : S) (books books' : List B) (runs : W → T → W → Type 0)
     (states after : List W) (same : after ≡ states → books' ≡ books)
-    (led : (parts : List (Part W T)) × Leads runs states parts after → LeavesBooks incoming outgoing closes gives books books') where
+    (led : (parts : List (Part W T)) × Leads runs states parts after →
+    LeavesBooks incoming outgoing closes gives books books') where
   abbrev Leaves : ServeFault → Type 0
   Leaves why = LeavesConnections incoming outgoing closes gives source books why source' books'
 

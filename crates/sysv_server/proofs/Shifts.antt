@@ -18,7 +18,8 @@ use Rattle.sysv_server.specs.declared.fault.ServeFault.{ServeFault}
 use Rattle.sysv_server.specs.declared.sums.Sums.{Sums}
 use Rattle.sysv_server.specs.Added.{added, all_added, capped, one_session}
 use Rattle.sysv_server.specs.Desks.{Desk, Crewed, Sat, all_connections}
-use Rattle.sysv_server.specs.Handled.{Handles, Shift, first_passes, last_passes, one_refused, refused_of, reports_of, sums_of}
+use Rattle.sysv_server.specs.Handled.{Handles, Shift, first_passes, last_passes, one_refused, refused_of, reports_of}
+use Rattle.sysv_server.specs.Handled.{sums_of}
 use Rattle.sysv_server.specs.Handled.{told_in}
 use Rattle.sysv_server.specs.Serving.{FaultOf, IsNew, LeavesBooks, LeavesConnections, WorkedFrom}
 use Rattle.sysv_server.specs.Talks.{Closes, Closing, IsOn, Talk, Talks, tally_of}
@@ -151,7 +152,8 @@ module _ {W T B : Type 0} (incoming outgoing : T → Option (List ℕ)) (closes 
       (All-tail (λ (p : Part W T). New gates p.before) p parts new) in
       record {
         shifts =
-            record { before = pass p.before; talks = one.talks; after = pass p.after; worked = one.folds } ∷ rest.shifts;
+            record { before = pass p.before; talks = one.talks; after = pass p.after; worked = one.folds }
+            ∷ rest.shifts;
         desks = record { connections = p.items; first = book p.before; last = book p.after } ∷ rest.desks;
         passes = ((first.0, first.1), rest.passes);
         sat = ((one.on, one.closed), rest.sat);

@@ -49,7 +49,8 @@ loop-worker-preserved g c =
       sums = adding_one _ _ _ _ _ _ c.loop-worker.invariant.sums fewer
           (c.add.ensures ∙ ap (added c.loop-worker.sums) c.into_parts-theirs.ensures.sums.0);
       refused = ap (λ n. capped (n + sum_by missed c.pop.new.self.items))
-          (c.saturating_add-refused.ensures ∙ ap (λ n. capped (c.loop-worker.refused + n)) c.into_parts-theirs.ensures.sums.1)
+          (c.saturating_add-refused.ensures
+          ∙ ap (λ n. capped (c.loop-worker.refused + n)) c.into_parts-theirs.ensures.sums.1)
           ∙ (counting_one c.loop-worker.refused c.in-Some.worker.refused (sum_by missed c.pop.new.self.items)
           ∙ (ap (λ n. capped (c.loop-worker.refused + n))
           (sym (ap (sum_by missed) is ∙ sum_by_push missed c.pop.new.self.items c.in-Some.worker))

@@ -19,7 +19,8 @@ returns-clause-ok g c =
 
 pub returns-clause-exact : goal.returns-clause-exact
 returns-clause-exact g c =
-    ends_for _ _ c.new-source.result c.serve_all-outcome.new.source c.in-Some.books.items c.serve_all-outcome.new.books.items
+    ends_for _ _ c.new-source.result c.serve_all-outcome.new.source c.in-Some.books.items
+    c.serve_all-outcome.new.books.items
     c.serve_all-outcome.result _ _ c.new-source.ensures.begun.1 c.new-source.ensures.begun.0
     (let same = c.new-source.ensures.begun.0 in let fits = c.new-source.ensures.range in omega arith)
     (ap is_closed c.new-source.ensures.given.0)
