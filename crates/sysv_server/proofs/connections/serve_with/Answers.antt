@@ -16,8 +16,8 @@ run_crowd-requires-send-W g c κs within =
 
 pub run_crowd-requires-sync-J : goal.run_crowd-requires-sync-J
 run_crowd-requires-sync-J g c κs within =
-    let t = sessions_sync (record { mir = lifetime 6; lft = κs.1.1.1.1.1.1.0 })
-    (record { mir = lifetime 8; lft = κs.1.1.1.1.1.1.1.1.0 }) _ c.type_bounds.sync-R in
+    let t = sessions_sync (record { mir = lifetime 8; lft = κs.1.1.1.1.1.1.1.1.0 })
+    (record { mir = lifetime 9; lft = κs.1.1.1.1.1.1.1.1.1.0 }) _ c.type_bounds.sync-R in
     param_sync 3 (lts.arg-3-3 g.row.T g.row.S g.row.R g.row.T-Input g.row.T-Output g.row.T-Book g.T.laws g.S.laws
     g.R.laws g.T.Input.laws g.T.Output.laws g.T.Book.laws g.T.Connection-dict g.T.Input.Read-dict
     g.T.Output.Write-dict g.S.Source-dict g.R.Threads-dict g.R.Wait-dict g.T.Destruct-dict g.T.Input.Destruct-dict
