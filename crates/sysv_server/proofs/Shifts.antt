@@ -1,5 +1,5 @@
 -- The shifts and the desks of workers, from what a run of the workers leads to.
-use Rattle.std.proofs.Common.{◌≡◌, ◌∙◌, ℕ, suc, ◌+◌, ◌<◌, List, [], ◌∷◌, ◌++◌, map, reverse, length, Option, ap, refl}
+use Rattle.std.proofs.Common.{◌≡◌, ◌∙◌, ℕ, ◌+◌, ◌<◌, List, [], ◌∷◌, ◌++◌, map, reverse, length, Option, ap, refl}
 use Rattle.std.proofs.Common.{sym, subst, arith, append_assoc, length-append}
 use Rattle.std.specs.List.{All, AllByRecursion, FoldsTo, flat_map, slice_index_or, sum_by}
 use Rattle.std.specs.List.Sorted.{IsPermutation}
