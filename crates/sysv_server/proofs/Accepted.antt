@@ -2,10 +2,13 @@
 -- accepting.
 use mathlib.Core.Bool.{true≢false}
 use Rattle.std.proofs.Common.{◌≡◌, ◌≢◌, inl, inr, Bool, ℕ, ◌+◌, ◌≤◌, ◌<◌, List, [], ◌∷◌, length, map, Option, Some}
-use Rattle.std.proofs.Common.{None}
-use Rattle.std.proofs.Common.{refl, arith, sym, ap, subst, ◌∙◌}
+use Rattle.std.proofs.Common.{None, refl, arith, sym, ap, subst, ◌∙◌}
 use Rattle.std.specs.Prelude.{Result, Ok, Err, IfOk, IsSomeAnd, ◌^◌, ◌-◌, true, false, is_some, min}
 use Rattle.std.specs.List.{FoldsTo, sum_by}
+use Rattle.std.specs.List.Sorted.{IsPermutation}
+use Rattle.std.proofs.Common.{length-append, suc}
+use Rattle.std.proofs.lemmas.List.{length-map, length-reverse}
+use Rattle.std.proofs.lemmas.List.Sorted.{length_permutation}
 use Rattle.std.proofs.lemmas.List.Sums.{sum_by-cons}
 use Rattle.sysv_session.specs.declared.served.Served.{Served}
 use Rattle.sysv_workers.specs.Sources.{GivesAll}
@@ -17,8 +20,15 @@ use Rattle.sysv_server.specs.declared.sums.Sums.{Sums}
 use Rattle.sysv_server.specs.declared.terms.Ended.{Ended}
 use Rattle.sysv_server.specs.Accepts.{Accepts, HasEnded, is_closed, is_unopened}
 use Rattle.sysv_server.specs.Added.{capped, one_session}
-use Rattle.sysv_server.specs.Handled.{tally_of, told_in}
-use Rattle.sysv_server.specs.Serving.{EndsAll, EndsOn, HasReason, ServesAll, ServesOn}
+use Rattle.sysv_server.specs.declared.socket.Nothing.{Nothing}
+use Rattle.sysv_server.specs.declared.socket.Socket.{Socket}
+use Rattle.sysv_server.specs.Desks.{Crewed, Desk, Sat, all_connections}
+use Rattle.sysv_server.specs.Handled.{Shift, reports_of, told_in}
+use Rattle.sysv_server.specs.Headline.{ServesConnections}
+use Rattle.sysv_server.specs.Serving.{EndsOn, HasReason, ServesOn}
+use Rattle.sysv_server.specs.Talks.{Closing, Talk, leaves_nothing, tally_of, untold}
+use Rattle.sysv_bank.specs.Banks.{Each2}
+use Rattle.sysv_shared.specs.Seats.{Gates}
 
 room : (m a a' n : ℕ) → m ≤ 2 ^ 64 - 1 → a < m → a' ≡ min (a + 1) (2 ^ 64 - 1) → (a' ≤ m → a' + n ≤ m) → a + (n + 1) ≤ m
 room m a a' n small low is rest = omega arith
@@ -36,15 +46,56 @@ all_counted (t ∷ told) =
     let rest = all_counted told in
     omega arith
 
-module _ {I H : Type 0} (T : Type 0) where
-  abbrev pub Gives : Accepting I H → Option T → Accepting I H → Type 0
+-- ---- one session for each connection
+
+each2_length : {X Y : Type 0} (P : X → Y → Type 0) (xs : List X) (ys : List Y) → Each2 P xs ys → length xs ≡ length ys
+each2_length P [] [] each = refl
+each2_length P [] (y ∷ ys) each = absurd each
+each2_length P (x ∷ xs) [] each = absurd each
+each2_length P (x ∷ xs) (y ∷ ys) each = ap suc (each2_length P xs ys each.1)
+
+both_lengths : (a b c d m n : ℕ) → a ≡ b → c ≡ d → m ≡ a + c → n ≡ b + d → m ≡ n
+both_lengths a b c d m n p q r s = omega arith
+
+module _ {T B : Type 0} (incoming outgoing : T → Option (List ℕ)) (closes : Closing B) where
+  sat_each : (desks : List (Desk T B)) (shifts : List Shift) → Each2 (Sat incoming outgoing closes) desks shifts →
+      length (told_in shifts) ≡ length (all_connections desks)
+  sat_each [] [] sat = refl
+  sat_each [] (shift ∷ shifts) sat = absurd sat
+  sat_each (desk ∷ desks) [] sat = absurd sat
+  sat_each (desk ∷ desks) (shift ∷ shifts) sat =
+      let one =
+      length-map shift.talks (λ (talk : Talk). talk.told) ∙ sym (each2_length _ desk.connections shift.talks sat.0.0) in
+      both_lengths _ _ _ _ _ _ one (sat_each desks shifts sat.1)
+      (length-append (reports_of shift.talks) (told_in shifts))
+      (length-append desk.connections (all_connections desks))
+
+  -- there was one session for each connection
+  pub one_each : (desks : List (Desk T B)) (shifts : List Shift) (given : List T) →
+      Each2 (Sat incoming outgoing closes) desks shifts → IsPermutation (all_connections desks) given →
+      length (told_in shifts) ≡ length given
+  one_each desks shifts given sat dealt =
+      sat_each desks shifts sat ∙ sym (length_permutation (all_connections desks) given dealt)
+
+  -- there was one worker for each book
+  pub as_books : (gates : Gates) (books : List B) (desks : List (Desk T B)) (shifts : List Shift) (books' : List B) →
+      Crewed incoming outgoing closes gates books desks shifts books' → length shifts ≡ length books
+  as_books gates books desks shifts books' crewed =
+      sym (each2_length _ desks shifts crewed.sat)
+      ∙ (sym (length-map desks (λ (desk : Desk T B). desk.first))
+      ∙ (sym (length-reverse (map (λ (desk : Desk T B). desk.first) desks)) ∙ ap length crewed.firsts))
+
+-- ---- the connections of a listener
+
+module _ {I H : Type 0} where
+  abbrev pub Gives : Accepting I H → Option Socket → Accepting I H → Type 0
   Gives = Accepts
 
   -- the connections that were given one after the other
-  abbrev Given : List T → Accepting I H → Accepting I H → Type 0
+  abbrev Given : List Socket → Accepting I H → Accepting I H → Type 0
   Given items s s' = FoldsTo (λ s x s'. Gives s (Some x) s') s items s'
 
-  within : (items : List T) (s s' : Accepting I H) → Given items s s' → s.most ≢ 0 → s.most ≤ 2 ^ 64 - 1 →
+  within : (items : List Socket) (s s' : Accepting I H) → Given items s s' → s.most ≢ 0 → s.most ≤ 2 ^ 64 - 1 →
       s.accepted ≤ s.most → s.accepted + length items ≤ s.most
   within [] s s' h some small low = omega arith
   within (x ∷ items) s s' h some small low =
@@ -55,14 +106,14 @@ module _ {I H : Type 0} (T : Type 0) where
       let all = room s.most s.accepted h.0.accepted (length items) small (step.1 some) step.2 rest in
       omega arith
 
-  pub bounded : (items : List T) (s s' : Accepting I H) → GivesAll Gives s items s' → s.accepted ≡ 0 →
+  pub bounded : (items : List Socket) (s s' : Accepting I H) → GivesAll Gives s items s' → s.accepted ≡ 0 →
       s.most ≤ 2 ^ 64 - 1 → s.most ≢ 0 → length items ≤ s.most
   bounded items s s' gave none small some =
       let all = within items s gave.last gave.gave some small (omega arith) in
       omega arith
 
   -- while connections are given, not more are counted than were given
-  stays : (items : List T) (s s' : Accepting I H) → Given items s s'
+  stays : (items : List Socket) (s s' : Accepting I H) → Given items s s'
       → (s'.most ≡ s.most) × (s'.accepted ≤ s.accepted + length items) × (is_some s'.input ≡ is_some s.input)
   stays [] s s' h = rw h (refl, omega arith, refl)
   stays (x ∷ items) s s' h =
@@ -73,23 +124,24 @@ module _ {I H : Type 0} (T : Type 0) where
       (rest.0 ∙ step.0, omega arith, rest.2 ∙ step.5)
 
   -- while connections are given, the listener stays open
-  stays_open : (items : List T) (s s' : Accepting I H) → Given items s s' → is_closed s.listening ≡ false →
+  stays_open : (items : List Socket) (s s' : Accepting I H) → Given items s s' → is_closed s.listening ≡ false →
       is_closed s'.listening ≡ false
   stays_open [] s s' h unclosed = rw (← h) unclosed
   stays_open (x ∷ items) s s' h unclosed = stays_open items h.0 s' h.2 h.1.3
 
   -- once a connection was given, the listener has been opened
-  is_opened : (x : T) (items : List T) (s s' : Accepting I H) → Given (x ∷ items) s s' →
+  is_opened : (x : Socket) (items : List Socket) (s s' : Accepting I H) → Given (x ∷ items) s s' →
       is_unopened s'.listening ≡ false
   is_opened x [] s s' h = rw (← h.2) h.1.4
   is_opened x (y ∷ items) s s' h = is_opened y items h.0 s' h.2
 
-  none_given : (items : List T) (s s' : Accepting I H) → Given items s s' → is_unopened s'.listening ≡ true →
+  none_given : (items : List Socket) (s s' : Accepting I H) → Given items s s' → is_unopened s'.listening ≡ true →
       length items ≡ 0
   none_given [] s s' h unopened = refl
   none_given (x ∷ items) s s' h unopened = absurd (true≢false (sym unopened ∙ is_opened x items s s' h))
 
-  has_reason : (m sessions : ℕ) (s last s' : Accepting I H) (items : List T) (input : Bool) (reason : Option Reason)
+  has_reason : (m sessions : ℕ) (s last s' : Accepting I H) (items : List Socket) (input : Bool)
+      (reason : Option Reason)
       → s.accepted ≡ 0 → s.most ≡ m → m ≤ 2 ^ 64 - 1 → is_some s.input ≡ input → Given items s last
       → GivesAll Gives s items s' → sessions ≡ capped (length items) → IsSomeAnd reason (HasEnded last)
       → HasReason input m sessions reason
@@ -111,54 +163,70 @@ module _ {I H : Type 0} (T : Type 0) where
       count ∙ (ap capped no_item ∙ below 0 (omega arith))
   has_reason m sessions s last s' items input (Some (Accept why)) none same small of_input gave all count failed = tt
 
-  pub serves_on : (blocks workers m : ℕ) (s s' : Accepting I H) (result : Result Sums ServeFault) → s.accepted ≡ 0
-      → s.most ≡ m → m ≤ 2 ^ 64 - 1 → IfOk result (λ total. ServesAll Gives blocks workers s total s')
-      → IfOk result (λ total. ServesOn blocks workers m total)
-  serves_on blocks workers m s s' (Ok total) none same small served = record {
+  abbrev pub Serves : ℕ → Accepting I H → List Nothing → Ended → Accepting I H → List Nothing → Type 0
+  Serves = ServesConnections untold untold leaves_nothing Gives
+
+  pub serves_on : (blocks workers m : ℕ) (s s' : Accepting I H) (books books' : List Nothing) (ended : Ended)
+      → s.accepted ≡ 0 → s.most ≡ m → m ≤ 2 ^ 64 - 1 → length books ≡ workers → Serves blocks s books ended s' books'
+      → ServesOn blocks workers m ended.sums
+  serves_on blocks workers m s s' books books' ended none same small counted served = record {
     gates = served.gates;
     opened = served.opened;
-    shifts = served.all.shifts;
-    worked = served.all.worked;
+    shifts = served.shifts;
+    worked = record {
+      workers = as_books untold untold leaves_nothing served.gates books served.desks served.shifts books' served.crewed
+          ∙ counted;
+      passes = served.crewed.passes;
+      sums = served.sums;
+    };
     bounded = λ some.
         let fits : s.most ≤ 2 ^ 64 - 1 = omega arith in
-        let all = bounded served.all.given s s' served.all.gave none fits (λ z. some (sym same ∙ z)) in
-        let each = served.all.each in omega arith;
-    removed = served.removed;
+        let all = bounded served.given s s' served.gave none fits (λ z. some (sym same ∙ z)) in
+        let each = one_each untold untold leaves_nothing served.desks served.shifts served.given served.crewed.sat
+        served.dealt in
+        omega arith;
+    accepted = served.given;
+    desks = served.desks;
+    dealt = served.dealt;
+    sat = served.crewed.sat;
+    removed = ended.removed;
     lived = served.lived;
   }
-  serves_on blocks workers m s s' (Err why) none same small served = tt
 
-  pub ends_on : (blocks workers m : ℕ) (s s' : Accepting I H) (result : Result Ended ServeFault) → s.accepted ≡ 0
-      → s.most ≡ m → m ≤ 2 ^ 64 - 1 → IfOk result (λ ended. EndsAll Gives blocks workers s ended s')
+  pub ends_on : (blocks workers m : ℕ) (s s' : Accepting I H) (books books' : List Nothing)
+      (result : Result Ended ServeFault) → s.accepted ≡ 0 → s.most ≡ m → m ≤ 2 ^ 64 - 1 → length books ≡ workers
+      → IfOk result (λ ended. Serves blocks s books ended s' books')
       → IfOk result (λ ended. EndsOn blocks workers m ended)
   unfolding serves_on
-  ends_on blocks workers m s s' (Ok ended) none same small all = record {
-    served = serves_on blocks workers m s s' (Ok ended.sums) none same small all.served;
-    stopped = all.stopped;
-    told = all.told;
+  ends_on blocks workers m s s' books books' (Ok ended) none same small counted all = record {
+    served = serves_on blocks workers m s s' books books' ended none same small counted all;
+    refused = all.refused;
+    stopped = all.lived.stopped;
+    told = refl;
     closed = all.closed;
   }
-  ends_on blocks workers m s s' (Err why) none same small all = tt
+  ends_on blocks workers m s s' books books' (Err why) none same small counted all = tt
 
   -- the reason why no more connections were accepted tells how many sessions there were
-  pub ends_for : (blocks workers m : ℕ) (s s' : Accepting I H) (result : Result Ended ServeFault) (input : Bool)
-      (reason : Option Reason) → s.accepted ≡ 0 → s.most ≡ m → m ≤ 2 ^ 64 - 1 → is_closed s.listening ≡ false
+  pub ends_for : (blocks m : ℕ) (s s' : Accepting I H) (books books' : List Nothing)
+      (result : Result Ended ServeFault) (input : Bool) (reason : Option Reason)
+      → s.accepted ≡ 0 → s.most ≡ m → m ≤ 2 ^ 64 - 1 → is_closed s.listening ≡ false
       → is_some s.input ≡ input → s'.reason ≡ reason
-      → IfOk result (λ ended. EndsAll Gives blocks workers s ended s')
+      → IfOk result (λ ended. Serves blocks s books ended s' books')
       → IfOk result (λ ended. HasReason input m ended.sums.sessions reason)
-  ends_for blocks workers m s s' (Ok ended) input reason none same small unclosed of_input of_reason all =
-      let served = all.served in
-      let gave = served.all.gave in
+  ends_for blocks m s s' books books' (Ok ended) input reason none same small unclosed of_input of_reason served =
+      let gave = served.gave in
+      let each = one_each untold untold leaves_nothing served.desks served.shifts served.given served.crewed.sat
+      served.dealt in
       let sums : ended.sums.sessions
-      ≡ capped (sum_by (λ (s : Sums). s.sessions) (map (λ t. one_session (tally_of t)) (told_in served.all.shifts))) =
-      ap (λ (s : Sums). s.sessions) served.all.worked.sums in
-      let counted = all_counted (told_in served.all.shifts) ∙ served.all.each in
+      ≡ capped (sum_by (λ (s : Sums). s.sessions) (map (λ t. one_session (tally_of t)) (told_in served.shifts))) =
+      ap (λ (s : Sums). s.sessions) served.sums in
+      let counted = all_counted (told_in served.shifts) ∙ each in
       elim gave.ended.2 [
-        | inl closed ↦
-            absurd (true≢false (sym closed ∙ stays_open served.all.given s gave.last gave.gave unclosed))
+        | inl closed ↦ absurd (true≢false (sym closed ∙ stays_open served.given s gave.last gave.gave unclosed))
         | inr why ↦
-            has_reason m ended.sums.sessions s gave.last s' served.all.given input reason none same small of_input
+            has_reason m ended.sums.sessions s gave.last s' served.given input reason none same small of_input
             gave.gave gave (sums ∙ ap capped counted)
             (subst (λ r. IsSomeAnd r (HasEnded gave.last)) of_reason why)
       ]
-  ends_for blocks workers m s s' (Err why) input reason none same small unclosed of_input of_reason all = tt
+  ends_for blocks m s s' books books' (Err why) input reason none same small unclosed of_input of_reason all = tt

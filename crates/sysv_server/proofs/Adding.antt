@@ -1,5 +1,6 @@
 -- Sums of sums.
-use Rattle.std.proofs.Common.{◌≡◌, ◌∙◌, ℕ, ◌+◌, ◌≤◌, ◌<◌, List, [], ◌∷◌, ◌++◌, map, Option, ap, refl, sym, arith}
+use Rattle.std.proofs.Common.{◌≡◌, ◌∙◌, ℕ, ◌+◌, ◌≤◌, ◌<◌, List, [], ◌∷◌, ◌++◌, map, length, Option, ap, refl, sym}
+use Rattle.std.proofs.Common.{arith}
 use Rattle.std.specs.Prelude.{◌^◌, ◌-◌}
 use Rattle.std.specs.List.{sum_by}
 use Rattle.std.proofs.lemmas.List.{map-append}
@@ -7,7 +8,8 @@ use Rattle.std.proofs.lemmas.List.Sums.{sum_by-append, sum_by-cons, sum_by_push}
 use Rattle.sysv_session.specs.declared.served.Served.{Served}
 use Rattle.sysv_server.specs.declared.sums.Sums.{Sums}
 use Rattle.sysv_server.specs.Added.{capped, added, all_added, one_session, IsBalanced}
-use Rattle.sysv_server.specs.Handled.{sums_of, tally_of}
+use Rattle.sysv_server.specs.Handled.{one_refused, refused_of, sums_of}
+use Rattle.sysv_server.specs.Talks.{tally_of}
 
 sums_are : (a b : Sums) → a.sessions ≡ b.sessions → a.taken ≡ b.taken → a.written ≡ b.written → a.lost ≡ b.lost → a ≡ b
 sums_are a b p q r s =
@@ -103,6 +105,36 @@ pub told_first : (xs ys : List (Option Served)) (s : Sums) (rest : List Sums) �
 told_first xs ys s rest is same =
     let one : Option Served → Sums = λ t. one_session (tally_of t) in
     added_first (map one xs) rest (map one ys) s is same ∙ ap all_added (sym (map-append one xs ys))
+
+-- ---- sessions whose memory was refused
+
+pub refused_last : (xs : List (Option Served)) (t : Option Served) →
+    capped (refused_of xs + one_refused t) ≡ refused_of (xs ++ t ∷ [])
+refused_last xs t = cap_one (sum_by one_refused xs) (one_refused t) ∙ ap capped (sym (sum_by_push one_refused xs t))
+
+pub refused_first : (xs ys : List (Option Served)) (n rest : ℕ) → n ≡ refused_of xs → capped rest ≡ refused_of ys →
+    capped (n + rest) ≡ refused_of (xs ++ ys)
+refused_first xs ys n rest is same =
+    ap (λ n. capped (n + rest)) is
+    ∙ (cap_both (sum_by one_refused xs) rest (sum_by one_refused ys) same
+    ∙ ap capped (sym (sum_by-append one_refused xs ys)))
+
+pub sum_by_map : {X Y : Type 0} (f : Y → ℕ) (g : X → Y) (xs : List X) → sum_by f (map g xs) ≡ sum_by (λ x. f (g x)) xs
+sum_by_map f g [] = refl
+sum_by_map f g (x ∷ xs) =
+    sum_by-cons f (g x) (map g xs) ∙ (ap (λ n. f (g x) + n) (sum_by_map f g xs) ∙ sym (sum_by-cons (λ x. f (g x)) x xs))
+
+-- One number more was taken from the end of a list, and added.
+pub counting_one : (n x r : ℕ) → capped (capped (n + x) + r) ≡ capped (n + (r + x))
+counting_one n x r = omega arith
+
+-- None is left, so what was added is the sum of all.
+pub all_counted : (n rest all : ℕ) → n ≤ 2 ^ 64 - 1 → rest ≡ 0 → capped (n + rest) ≡ capped all → n ≡ capped all
+all_counted n rest all small none is = omega arith
+
+pub emptied : {A : Type 0} (xs : List A) → length xs ≡ 0 → xs ≡ []
+emptied [] none = refl
+emptied (x ∷ xs) none = absurd (omega arith)
 
 sums_up : (w l t w' l' : ℕ) → t ≡ w' + l' → (w + l) + t ≡ (w + w') + (l + l')
 sums_up w l t w' l' h = omega arith

@@ -1,20 +1,24 @@
--- Workers may be sent to other threads.
+-- Workers may be sent to other threads, and threads may share the job that they run.
 use denote.Hole.{as_row}
 use denote.RattleType.{RattleType}
 use denote.Ref.{NamedLft, ShrRef}
 use denote.Struct.Field.{row_field, shr_ref_field}
-use denote.Param.Send.{IsSend, IsSync, shr_send}
-use denote.Param.SendFields.{declared_send, as_row_send}
+use denote.Param.Send.{IsSend, IsSync, shr_send, shr_sync}
+use denote.Param.SendFields.{declared_send, declared_sync, as_row_send, as_row_sync}
+use Rattle.std.proofs.alloc.Global.TheSendSync as heaps
 use Rattle.std.proofs.option.Option.TheSendSync as options
 use Rattle.sysv_model.specs.contracts.body.Body as body
 use Rattle.sysv_session.specs.contracts.session.Texts as texts
 use Rattle.sysv_service.proofs.Crossing.{crossing, pass_send, service_sync}
+use Rattle.sysv_server.specs.contracts.common.Common as common
 use Rattle.sysv_server.specs.contracts.kernel.ServiceKernel as kernel
+use Rattle.sysv_server.proofs.common.Common.TheSendSync as commons
 use Rattle.sysv_server.proofs.session.Zero.TheSendSync.{the_sync as zero_sync}
 use Rattle.sysv_server.proofs.peer.Peer.TheSendSync as peers
 use Rattle.sysv_server.proofs.sums.Sums.TheSendSync as sum
 use Rattle.sysv_server.specs.contracts.peer.Peer as peer
 use Rattle.sysv_server.specs.contracts.peer.PeerCaller.TheImpl as caller
+use Rattle.sysv_server.specs.contracts.session.Sessions as sessions
 use Rattle.sysv_server.specs.contracts.session.Worker as worker
 use Rattle.sysv_server.specs.contracts.session.Zero as zero
 use Rattle.sysv_server.specs.contracts.session.ZeroClock.TheImpl as clock
@@ -45,8 +49,19 @@ body_send = search crossing depth 30
 texts_send : IsSend texts.the_row
 texts_send = search (crossing, body_send) depth 30
 
-pub worker_send : (l : NamedLft) (R : RattleType) → IsSync R → IsSend (worker.the_row l R)
-worker_send l R y = declared_send (worker.the_type l R) (
+pub worker_send : (l : NamedLft) (R B : RattleType) → IsSync R → IsSend B → IsSend (worker.the_row l R B)
+worker_send l R B y b = declared_send (worker.the_type l R B) (
   kernel_send l zero.the_row R peer.the_row clock.ghosts caller.ghosts zero_sync y peers.the_send,
-  (sum.the_send, (options.the_send _ texts_send, tt)),
+  (sum.the_send, (search crossing depth 10, (options.the_send _ texts_send, (as_row_send (row_field B) b, tt)))),
 )
+
+pub sessions_sync : (l m : NamedLft) (R : RattleType) → IsSync R → IsSync (sessions.the_row l m R)
+sessions_sync l m R y =
+    let served : IsSync (as_row (shr_ref_field l service.the_row tt)) =
+    search (crossing, service_sync, shr_sync) depth 20 in
+    let shared : IsSync (as_row (shr_ref_field m common.the_row tt)) =
+    search (crossing, commons.the_sync, shr_sync) depth 20 in
+    declared_sync (sessions.the_type l m R) (
+      as_row_sync (row_field (ShrRef l.mir l.lft R)) (shr_sync l.mir l.lft R y),
+      (search (crossing, heaps.the_sync) depth 10, (served, (shared, tt))),
+    )

@@ -3,6 +3,7 @@ pub mod Making
 pub mod Accepted
 pub mod Adding
 pub mod Crossing
+pub mod Holding
 pub mod Living
 pub mod Refusing
 pub mod Shifts

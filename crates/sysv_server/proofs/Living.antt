@@ -1,5 +1,5 @@
 -- The life of a server's service is that of a service with workers whose sessions make its calls.
-use Rattle.std.proofs.Common.{◌∙◌, List, [], ◌∷◌, ◌++◌, Option, Some, None, ap, sym, subst}
+use Rattle.std.proofs.Common.{◌∙◌, ℕ, List, [], ◌∷◌, ◌++◌, Option, Some, None, ap, sym, subst}
 use Rattle.std.specs.Prelude.{⊤}
 use Rattle.std.specs.List.{All, AllByRecursion, FoldsTo}
 use Rattle.std.proofs.lemmas.List.{append-nil, append_assoc}
@@ -14,7 +14,8 @@ use Rattle.sysv_service.specs.Ran.{Pass}
 use Rattle.sysv_service.specs.Working as working
 use Rattle.sysv_service.specs.Working.{Works}
 use Rattle.sysv_server.specs.Made.{trail, EachSessionMakesCalls}
-use Rattle.sysv_server.specs.Handled.{zero_moment, Shift, Talks, TalksIn, first_passes, last_passes, AreMadeBy}
+use Rattle.sysv_server.specs.Handled.{Shift, first_passes, last_passes, AreMadeBy}
+use Rattle.sysv_server.specs.Talks.{zero_moment, Talk, TalksAs, Talks, TalksAsIn, TalksIn}
 use Rattle.sysv_server.specs.OneRun.{EachLifeIsOneRun, EachLifeLeavesThePoolWhole, NoLifeLeavesAGateHeld}
 
 -- The call is over or was left at a wait.
@@ -30,43 +31,59 @@ removals_rest [] are = tt
 removals_rest (c ∷ calls) are = (subst Rests (sym are.0.2.1) tt, removals_rest calls are.1)
 
 module _ (law : EachSessionMakesCalls zero_moment ⊤) where
-  -- The calls that were made in further sessions.
-  record InSessions (start old : Pass) (told : List (Option Served)) (new : Pass) (made : List Called) : Type 0 where
+  -- The calls that were made in a session with this report.
+  record InSession (start old : Pass) (told : Option Served) (left rest taken more : Option (List ℕ)) (new : Pass)
+      (made : List Called) : Type 0 where
     calls : List Called
     rests : AllByRecursion Resting calls
     works : Works start (made ++ calls) new
-    talks : FoldsTo TalksIn (trail old made) told (trail new (made ++ calls))
+    talks : TalksAsIn (trail old made) told left rest taken more (trail new (made ++ calls))
 
-  in_sessions : (start old : Pass) (told : List (Option Served)) (new : Pass) (made : List Called) →
-      Works start made old → FoldsTo Talks old told new → InSessions start old told new made
+  in_session : (start old : Pass) (told : Option Served) (left rest taken more : Option (List ℕ)) (new : Pass)
+      (made : List Called) → Works start made old → TalksAs old told left rest taken more new →
+      InSession start old told left rest taken more new made
+  in_session start old None left rest taken more new made works talks = record {
+    calls = [];
+    rests = tt;
+    works = subst (Works start (made ++ [])) (sym talks.0)
+        (subst (λ calls. Works start calls old) (sym (append-nil made)) works);
+    talks = (
+      ap (λ (p : Pass). trail p (made ++ [])) talks.0 ∙ ap (trail old) (append-nil made),
+      talks.1,
+      talks.2,
+    );
+  }
+  in_session start old (Some served) left rest taken more new made works talks =
+      let one = law start old new made served left rest taken more works talks in
+      record { calls = one.0; rests = one.3; works = one.1; talks = one.2 }
+
+  -- The calls that were made in further sessions.
+  record InSessions (start old : Pass) (talks : List Talk) (new : Pass) (made : List Called) : Type 0 where
+    calls : List Called
+    rests : AllByRecursion Resting calls
+    works : Works start (made ++ calls) new
+    folds : FoldsTo TalksIn (trail old made) talks (trail new (made ++ calls))
+
+  in_sessions : (start old : Pass) (talks : List Talk) (new : Pass) (made : List Called) →
+      Works start made old → FoldsTo Talks old talks new → InSessions start old talks new made
   in_sessions start old [] new made works is = record {
     calls = [];
     rests = tt;
     works = subst (Works start (made ++ [])) is (subst (λ calls. Works start calls old) (sym (append-nil made)) works);
-    talks = ap (trail old) (sym (append-nil made)) ∙ ap (λ (p : Pass). trail p (made ++ [])) is;
+    folds = ap (trail old) (sym (append-nil made)) ∙ ap (λ (p : Pass). trail p (made ++ [])) is;
   }
-  in_sessions start old (None ∷ told) new made works folds =
-      let here : Works start made folds.0 = subst (Works start made) (sym folds.1) works in
-      let more = in_sessions start folds.0 told new made here folds.2 in
+  in_sessions start old (talk ∷ talks) new made works folds =
+      let one = in_session start old talk.told talk.left talk.rest talk.taken talk.more folds.0 made works folds.1 in
+      let more = in_sessions start folds.0 talks new (made ++ one.calls) one.works folds.2 in
       record {
-        calls = more.calls;
-        rests = more.rests;
-        works = more.works;
-        talks = (trail folds.0 made, ap (λ (p : Pass). trail p made) folds.1, more.talks);
-      }
-  in_sessions start old (Some served ∷ told) new made works folds =
-      let talks = folds.1 in
-      let one = law start old folds.0 made served talks.0 talks.1 talks.2 talks.3 works talks.4 in
-      let more = in_sessions start folds.0 told new (made ++ one.0) one.1 folds.2 in
-      record {
-        calls = one.0 ++ more.calls;
-        rests = both one.0 more.calls one.3 more.rests;
-        works = subst (λ calls. Works start calls new) (append_assoc made one.0 more.calls) more.works;
-        talks = (
-          trail folds.0 (made ++ one.0),
-          (talks.0, talks.1, talks.2, talks.3, one.2),
-          subst (λ calls. FoldsTo TalksIn (trail folds.0 (made ++ one.0)) told (trail new calls))
-              (append_assoc made one.0 more.calls) more.talks,
+        calls = one.calls ++ more.calls;
+        rests = both one.calls more.calls one.rests more.rests;
+        works = subst (λ calls. Works start calls new) (append_assoc made one.calls more.calls) more.works;
+        folds = (
+          trail folds.0 (made ++ one.calls),
+          one.talks,
+          subst (λ calls. FoldsTo TalksIn (trail folds.0 (made ++ one.calls)) talks (trail new calls))
+              (append_assoc made one.calls more.calls) more.folds,
         );
       }
 
@@ -80,13 +97,13 @@ module _ (law : EachSessionMakesCalls zero_moment ⊤) where
   in_shifts : (shifts : List Shift) → InShifts shifts
   in_shifts [] = record { each = []; rests = tt; works = tt; made = tt }
   in_shifts (shift ∷ shifts) =
-      let one = in_sessions shift.before shift.before shift.told shift.after [] working.begins shift.worked in
+      let one = in_sessions shift.before shift.before shift.talks shift.after [] working.begins shift.worked in
       let rest = in_shifts shifts in
       record {
         each = one.calls ∷ rest.each;
         rests = both one.calls (all_of rest.each) one.rests rest.rests;
         works = (one.works, rest.works);
-        made = (one.talks, rest.made);
+        made = (one.folds, rest.made);
       }
 
   pub each_life : EveryHiringObeys → EveryStopRemoves → EachLifeIsOneRun

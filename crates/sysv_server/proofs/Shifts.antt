@@ -1,21 +1,30 @@
--- The shifts of workers, from what a run of the workers leads to.
-use Rattle.std.proofs.Common.{◌≡◌, ◌∙◌, ℕ, suc, ◌<◌, List, [], ◌∷◌, ◌++◌, map, reverse, length, Option, ap, refl, sym}
-use Rattle.std.proofs.Common.{subst, arith, append_assoc, length-append}
-use Rattle.std.specs.List.{All, AllByRecursion, FoldsTo, flat_map, slice_index_or}
-use Rattle.std.proofs.lemmas.List.{append-nil, length-map, get_or_append_left}
+-- The shifts and the desks of workers, from what a run of the workers leads to.
+use Rattle.std.proofs.Common.{◌≡◌, ◌∙◌, ℕ, ◌+◌, ◌<◌, List, [], ◌∷◌, ◌++◌, map, reverse, length, Option, ap, refl}
+use Rattle.std.proofs.Common.{sym, subst, arith, append_assoc, length-append}
+use Rattle.std.specs.List.{All, AllByRecursion, FoldsTo, flat_map, slice_index_or, sum_by}
+use Rattle.std.specs.List.Sorted.{IsPermutation}
+use Rattle.std.proofs.lemmas.List.{append-nil, get_or_append_left, reverse-append}
 use Rattle.std.proofs.lemmas.List.Elements.{All-head, All-tail, All-cons}
-use Rattle.std.proofs.lemmas.List.Sorted.{length_permutation}
+use Rattle.std.proofs.lemmas.List.Sums.{sum_by-cons}
+use Rattle.sysv_bank.specs.Banks.{Each2}
 use Rattle.sysv_shared.specs.Seats.{Gates, AreOf}
 use Rattle.sysv_service.specs.Hiring.{Gives, TakesIn}
 use Rattle.sysv_service.specs.Ran.{Pass}
 use Rattle.sysv_session.specs.declared.served.Served.{Served}
-use Rattle.sysv_workers.specs.Parts.{Part}
-use Rattle.sysv_workers.specs.Running.{RunsAll}
+use Rattle.sysv_workers.specs.Parts.{Part, Leads}
+use Rattle.sysv_workers.specs.Running.{GivesBack, LeavesSource, RunsAll}
+use Rattle.sysv_workers.specs.declared.refusals.WorkersFault.{WorkersFault}
+use Rattle.sysv_server.specs.declared.fault.ServeFault.{ServeFault}
 use Rattle.sysv_server.specs.declared.sums.Sums.{Sums}
-use Rattle.sysv_server.specs.Added.{added, all_added, one_session}
-use Rattle.sysv_server.specs.Handled.{Handles, Shift, Talks, first_passes, last_passes, sums_of, tally_of, told_in}
-use Rattle.sysv_server.specs.Serving.{IsNew, WorkedFrom}
-use Rattle.sysv_server.proofs.Adding.{told_first, told_last}
+use Rattle.sysv_server.specs.Added.{added, all_added, capped, one_session}
+use Rattle.sysv_server.specs.Desks.{Desk, Crewed, Sat, all_connections}
+use Rattle.sysv_server.specs.Handled.{Handles, Shift, first_passes, last_passes, one_refused, refused_of, reports_of}
+use Rattle.sysv_server.specs.Handled.{sums_of}
+use Rattle.sysv_server.specs.Handled.{told_in}
+use Rattle.sysv_server.specs.Serving.{FaultOf, IsNew, LeavesBooks, LeavesConnections, WorkedFrom}
+use Rattle.sysv_server.specs.Talks.{Closes, Closing, IsOn, Talk, Talks, tally_of}
+use Rattle.sysv_server.proofs.Adding.{refused_first, refused_last, sum_by_map, told_first, told_last}
+use Rattle.sysv_server.proofs.Refusing.{left}
 
 map_map : {X Y Z : Type 0} (g : Y → Z) (f : X → Y) (xs : List X) → map g (map f xs) ≡ map (λ x. g (f x)) xs
 map_map g f [] = refl
@@ -48,110 +57,208 @@ pub folds_last : {P A : Type 0} (R : P → A → P → Type 0) (p : P) (xs : Lis
 folds_last R p [] q x r is step = (r, subst (λ s. R s x r) (sym is) step, refl)
 folds_last R p (y ∷ xs) q x r folds step = (folds.0, folds.1, folds_last R folds.0 xs q x r folds.2 step)
 
-module _ {W T : Type 0} (pass : W → Pass) (sums : W → Sums) where
+-- One step more at the start.
+pub unpopped : {X : Type 0} (books : List X) (book : X) (rest : List X) →
+    (books ++ book ∷ []) ++ rest ≡ books ++ book ∷ rest
+unpopped books book rest = append_assoc books (book ∷ []) rest
+
+-- The last of a list comes first in its reverse.
+pub reverse_last : {X : Type 0} (xs : List X) (x : X) → reverse (xs ++ x ∷ []) ≡ x ∷ reverse xs
+reverse_last xs x = reverse-append xs (x ∷ [])
+
+module _ {W T B : Type 0} (incoming outgoing : T → Option (List ℕ)) (closes : Closing B) (pass : W → Pass)
+    (sums : W → Sums) (refused : W → ℕ) (book : W → B) where
   abbrev pub Runs : W → T → W → Type 0
-  Runs old item new = Handles (pass old) (sums old) (pass new) (sums new)
+  Runs old item new = Handles incoming outgoing closes item (pass old) (sums old) (refused old) (book old) (pass new)
+      (sums new) (refused new) (book new)
 
   -- The sessions of one worker, after others with these reports.
   record Tells (xs : List (Option Served)) (w w' : W) (items : List T) : Type 0 where
-    told : List (Option Served)
-    folds : FoldsTo Talks (pass w) told (pass w')
-    each : length told ≡ length items
-    adds : sums w' ≡ sums_of (xs ++ told)
+    talks : List Talk
+    folds : FoldsTo Talks (pass w) talks (pass w')
+    on : Each2 (IsOn incoming outgoing) items talks
+    closed : FoldsTo (Closes closes) (book w) talks (book w')
+    adds : sums w' ≡ sums_of (xs ++ reports_of talks)
+    counts : refused w' ≡ refused_of (xs ++ reports_of talks)
 
   tells : (items : List T) (w w' : W) (xs : List (Option Served)) → FoldsTo Runs w items w' → sums w ≡ sums_of xs →
-      Tells xs w w' items
-  tells [] w w' xs h same = record {
-    told = [];
+      refused w ≡ refused_of xs → Tells xs w w' items
+  tells [] w w' xs h same counted = record {
+    talks = [];
     folds = ap pass h;
-    each = refl;
+    on = tt;
+    closed = ap book h;
     adds = sym (ap sums h) ∙ (same ∙ ap sums_of (sym (append-nil xs)));
+    counts = sym (ap refused h) ∙ (counted ∙ ap refused_of (sym (append-nil xs)));
   }
-  tells (x ∷ items) w w' xs h same =
+  tells (x ∷ items) w w' xs h same counted =
       let run = h.1 in
-      let next : sums h.0 ≡ sums_of (xs ++ run.0 ∷ []) =
-      run.2 ∙ (ap (λ s. added s (one_session (tally_of run.0))) same ∙ told_last xs run.0) in
-      let more = tells items h.0 w' (xs ++ run.0 ∷ []) h.2 next in
+      let talk : Talk = run.holds.talk in
+      let is : run.told ≡ talk.told = sym run.holds.reports in
+      let next : sums h.0 ≡ sums_of (xs ++ talk.told ∷ []) =
+      subst (λ t. sums h.0 ≡ sums_of (xs ++ t ∷ [])) is
+      (run.adds ∙ (ap (λ s. added s (one_session (tally_of run.told))) same ∙ told_last xs run.told)) in
+      let more_refused : refused h.0 ≡ refused_of (xs ++ talk.told ∷ []) =
+      subst (λ t. refused h.0 ≡ refused_of (xs ++ t ∷ [])) is
+      (run.counts ∙ (ap (λ n. capped (n + one_refused run.told)) counted ∙ refused_last xs run.told)) in
+      let more = tells items h.0 w' (xs ++ talk.told ∷ []) h.2 next more_refused in
       record {
-        told = run.0 ∷ more.told;
-        folds = (pass h.0, run.1, more.folds);
-        each = ap suc more.each;
-        adds = more.adds ∙ ap sums_of (append_assoc xs (run.0 ∷ []) more.told);
+        talks = talk ∷ more.talks;
+        folds = (pass h.0, run.holds.talks, more.folds);
+        on = (run.holds.on, more.on);
+        closed = (book h.0, run.holds.closed, more.closed);
+        adds = more.adds ∙ ap sums_of (append_assoc xs (talk.told ∷ []) (reports_of more.talks));
+        counts = more.counts ∙ ap refused_of (append_assoc xs (talk.told ∷ []) (reports_of more.talks));
       }
 
-  -- The shifts of all workers.
+  -- The shifts and the desks of all workers.
   record Shifted (gates : Gates) (parts : List (Part W T)) : Type 0 where
     shifts : List Shift
-    workers : length shifts ≡ length parts
+    desks : List (Desk T B)
     passes : AllByRecursion (λ (shift : Shift). AreOf gates shift.before.seats × (shift.before.held ≡ 0)) shifts
-    each : length (told_in shifts) ≡ length (flat_map (λ (p : Part W T). p.items) parts)
+    sat : Each2 (Sat incoming outgoing closes) desks shifts
+    served : all_connections desks ≡ flat_map (λ (p : Part W T). p.items) parts
     adds : all_added (map (λ (p : Part W T). sums p.after) parts) ≡ sums_of (told_in shifts)
+    counts : capped (sum_by (λ (p : Part W T). refused p.after) parts) ≡ refused_of (told_in shifts)
     begun : first_passes shifts ≡ map (λ (p : Part W T). pass p.before) parts
     left : last_passes shifts ≡ map (λ (p : Part W T). pass p.after) parts
+    firsts : map (λ (desk : Desk T B). desk.first) desks ≡ map (λ (p : Part W T). book p.before) parts
+    lasts : map (λ (desk : Desk T B). desk.last) desks ≡ map (λ (p : Part W T). book p.after) parts
+
+  abbrev New : Gates → W → Type 0
+  New gates w = IsNew gates (pass w) (sums w) (refused w)
 
   shifted : (gates : Gates) (parts : List (Part W T)) →
       All (λ (p : Part W T). FoldsTo Runs p.before p.items p.after) parts →
-      All (λ (p : Part W T). IsNew gates (pass p.before) (sums p.before)) parts → Shifted gates parts
-  shifted gates [] ran new =
-      record { shifts = []; workers = refl; passes = tt; each = refl; adds = refl; begun = refl; left = refl }
+      All (λ (p : Part W T). New gates p.before) parts → Shifted gates parts
+  shifted gates [] ran new = record {
+    shifts = [];
+    desks = [];
+    passes = tt;
+    sat = tt;
+    served = refl;
+    adds = refl;
+    counts = refl;
+    begun = refl;
+    left = refl;
+    firsts = refl;
+    lasts = refl;
+  }
   shifted gates (p ∷ parts) ran new =
-      let first = All-head (λ (p : Part W T). IsNew gates (pass p.before) (sums p.before)) p parts new in
+      let first = All-head (λ (p : Part W T). New gates p.before) p parts new in
       let one = tells p.items p.before p.after []
-      (All-head (λ (p : Part W T). FoldsTo Runs p.before p.items p.after) p parts ran) first.2 in
+      (All-head (λ (p : Part W T). FoldsTo Runs p.before p.items p.after) p parts ran) first.2 first.3 in
       let rest = shifted gates parts (All-tail (λ (p : Part W T). FoldsTo Runs p.before p.items p.after) p parts ran)
-      (All-tail (λ (p : Part W T). IsNew gates (pass p.before) (sums p.before)) p parts new) in
+      (All-tail (λ (p : Part W T). New gates p.before) p parts new) in
       record {
         shifts =
-            record { before = pass p.before; told = one.told; after = pass p.after; worked = one.folds } ∷ rest.shifts;
-        workers = ap suc rest.workers;
+            record { before = pass p.before; talks = one.talks; after = pass p.after; worked = one.folds }
+            ∷ rest.shifts;
+        desks = record { connections = p.items; first = book p.before; last = book p.after } ∷ rest.desks;
         passes = ((first.0, first.1), rest.passes);
-        each =
-            let e = one.each in
-            let r = rest.each in
-            omega (
-              arith,
-              length-append one.told (told_in rest.shifts),
-              length-append p.items (flat_map (λ (p : Part W T). p.items) parts),
-            );
-        adds = told_first one.told (told_in rest.shifts) (sums p.after) (map (λ (p : Part W T). sums p.after) parts)
-            one.adds rest.adds;
+        sat = ((one.on, one.closed), rest.sat);
+        served = ap (λ l. p.items ++ l) rest.served;
+        adds = told_first (reports_of one.talks) (told_in rest.shifts) (sums p.after)
+            (map (λ (p : Part W T). sums p.after) parts) one.adds rest.adds;
+        counts = ap capped (sum_by-cons (λ (p : Part W T). refused p.after) p parts)
+            ∙ refused_first (reports_of one.talks) (told_in rest.shifts) (refused p.after)
+            (sum_by (λ (p : Part W T). refused p.after) parts) one.counts rest.counts;
         begun = ap (λ passes. pass p.before ∷ passes) rest.begun;
         left = ap (λ passes. pass p.after ∷ passes) rest.left;
+        firsts = ap (λ books. book p.before ∷ books) rest.firsts;
+        lasts = ap (λ books. book p.after ∷ books) rest.lasts;
+      }
+
+  -- What new workers did that have these states after it.
+  pub record Manned (gates : Gates) (states : List W) (parts : List (Part W T)) (after : List W) : Type 0 where
+    pub shifts : List Shift
+    pub desks : List (Desk T B)
+    pub crewed : Crewed incoming outgoing closes gates (reverse (map book states)) desks shifts
+        (reverse (map book after))
+    pub served : all_connections desks ≡ flat_map (λ (p : Part W T). p.items) parts
+    pub adds : all_added (map sums after) ≡ sums_of (told_in shifts)
+    pub counts : capped (sum_by refused after) ≡ refused_of (told_in shifts)
+    pub begun : first_passes shifts ≡ map pass states
+    pub left : last_passes shifts ≡ map pass after
+
+  pub manned : (gates : Gates) (states : List W) (parts : List (Part W T)) (after : List W) →
+      Leads Runs states parts after → All (λ w. New gates w) states → Manned gates states parts after
+  manned gates states parts after leads new_ones =
+      let begun = subst (λ l. All (λ w. New gates w) l) (sym leads.began) new_ones in
+      let done = shifted gates parts leads.ran
+      (All_unmap (λ (p : Part W T). p.before) (λ w. New gates w) parts begun) in
+      let firsts : map (λ (desk : Desk T B). desk.first) done.desks ≡ map book states =
+      done.firsts ∙ (sym (map_map book (λ (p : Part W T). p.before) parts) ∙ ap (map book) leads.began) in
+      let lasts : map (λ (desk : Desk T B). desk.last) done.desks ≡ map book after =
+      done.lasts ∙ (sym (map_map book (λ (p : Part W T). p.after) parts) ∙ ap (map book) leads.left) in
+      record {
+        shifts = done.shifts;
+        desks = done.desks;
+        crewed = record {
+          passes = done.passes;
+          sat = done.sat;
+          firsts = ap reverse firsts;
+          lasts = ap reverse lasts;
+        };
+        served = done.served;
+        adds = ap (λ l. all_added (map sums l)) (sym leads.left)
+            ∙ (ap all_added (map_map sums (λ (p : Part W T). p.after) parts) ∙ done.adds);
+        counts = ap (λ l. capped (sum_by refused l)) (sym leads.left)
+            ∙ (ap capped (sum_by_map refused (λ (p : Part W T). p.after) parts) ∙ done.counts);
+        begun = done.begun ∙ (sym (map_map pass (λ (p : Part W T). p.before) parts) ∙ ap (map pass) leads.began);
+        left = done.left ∙ (sym (map_map pass (λ (p : Part W T). p.after) parts) ∙ ap (map pass) leads.left);
       }
 
   -- What a run of workers does, if their passes were split off before it and joined back after it.
-  pub all_shifted : {S : Type 0} (gives : S → Option T → S → Type 0) (gates : Gates) (count : ℕ) (states after : List W)
-      (source source' : S) (total : Sums) (old kept new : Pass) → RunsAll Runs gives states source after source'
-      → All (λ w. IsNew gates (pass w) (sums w)) states → length states ≡ count → total ≡ all_added (map sums after)
-      → FoldsTo Gives old (map pass states) kept → FoldsTo TakesIn kept (reverse (map pass after)) new
-      → WorkedFrom gives gates count old source total new source'
-  all_shifted gives gates count states after source source' total old kept new ran new_ones counted adds given taken =
-      let begun = subst (λ l. All (λ w. IsNew gates (pass w) (sums w)) l) (sym ran.leads.began) new_ones in
-      let done = shifted gates ran.parts ran.leads.ran
-      (All_unmap (λ (p : Part W T). p.before) (λ w. IsNew gates (pass w) (sums w)) ran.parts begun) in
-      let theirs : first_passes done.shifts ≡ map pass states =
-      done.begun ∙ (sym (map_map pass (λ (p : Part W T). p.before) ran.parts) ∙ ap (map pass) ran.leads.began) in
-      let back : last_passes done.shifts ≡ map pass after =
-      done.left ∙ (sym (map_map pass (λ (p : Part W T). p.after) ran.parts) ∙ ap (map pass) ran.leads.left) in
+  pub all_shifted : {S : Type 0} (gives : S → Option T → S → Type 0) (gates : Gates) (states after : List W)
+      (source source' : S) (books books' : List B) (total : Sums) (missed : ℕ) (old kept new : Pass)
+      → RunsAll Runs gives states source after source' → All (λ w. New gates w) states
+      → books ≡ reverse (map book states) → books' ≡ reverse (map book after) → total ≡ all_added (map sums after)
+      → missed ≡ capped (sum_by refused after) → FoldsTo Gives old (map pass states) kept
+      → FoldsTo TakesIn kept (reverse (map pass after)) new
+      → WorkedFrom incoming outgoing closes gives gates old source books total missed new source' books'
+  all_shifted gives gates states after source source' books books' total missed old kept new ran new_ones books_are
+      books_are' adds counts given taken =
+      let done = manned gates states ran.parts after ran.leads new_ones in
       record {
-        all = record {
-          shifts = done.shifts;
-          worked = record {
-            workers = done.workers
-                ∙ (sym (length-map ran.parts (λ (p : Part W T). p.before)) ∙ (ap length ran.leads.began ∙ counted));
-            passes = done.passes;
-            sums = adds
-                ∙ (ap (λ l. all_added (map sums l)) (sym ran.leads.left)
-                ∙ (ap all_added (map_map sums (λ (p : Part W T). p.after) ran.parts) ∙ done.adds));
-          };
-          given = ran.given;
-          gave = ran.gave;
-          each =
-              done.each ∙ sym (length_permutation (flat_map (λ (p : Part W T). p.items) ran.parts) ran.given ran.dealt);
-        };
+        given = ran.given;
+        gave = ran.gave;
+        desks = done.desks;
+        dealt = subst (λ l. IsPermutation l ran.given) (sym done.served) ran.dealt;
+        shifts = done.shifts;
+        crewed = subst (λ l. Crewed incoming outgoing closes gates l done.desks done.shifts books') (sym books_are)
+            (subst (λ l. Crewed incoming outgoing closes gates (reverse (map book states)) done.desks done.shifts l)
+            (sym books_are') done.crewed);
+        adds = adds ∙ done.adds;
+        counts = counts ∙ done.counts;
         hires = record {
           kept = kept;
-          gives = subst (λ passes. FoldsTo Gives old passes kept) (sym theirs) given;
-          takes = subst (λ passes. FoldsTo TakesIn kept (reverse passes) new) (sym back) taken;
+          gives = subst (λ passes. FoldsTo Gives old passes kept) (sym done.begun) given;
+          takes = subst (λ passes. FoldsTo TakesIn kept (reverse passes) new) (sym done.left) taken;
         };
       }
+
+  -- What a refused run of workers leaves of the source and of the books.
+  pub all_left : {S : Type 0} (gives : S → Option T → S → Type 0) (gates : Gates) (states after : List W)
+      (source source' : S) (books books' : List B) (why : WorkersFault) (told : ServeFault) → FaultOf why told
+      → LeavesSource gives source why source' → GivesBack Runs states why after → All (λ w. New gates w) states
+      → books ≡ reverse (map book states) → books' ≡ reverse (map book after)
+      → LeavesConnections incoming outgoing closes gives source books told source' books'
+  all_left gives gates states after source source' books books' why told named leaves back new_ones books_are
+      books_are' =
+      let same : after ≡ states → books' ≡ books =
+      λ is. books_are' ∙ (ap (λ l. reverse (map book l)) is ∙ sym books_are) in
+      let led : (parts : List (Part W T)) × Leads Runs states parts after →
+      LeavesBooks incoming outgoing closes gives books books' =
+      λ parts.
+      let done = manned gates states parts.0 after parts.1 new_ones in
+      record {
+        gates = gates;
+        desks = done.desks;
+        shifts = done.shifts;
+        crewed = subst (λ l. Crewed incoming outgoing closes gates l done.desks done.shifts books') (sym books_are)
+            (subst (λ l. Crewed incoming outgoing closes gates (reverse (map book states)) done.desks done.shifts l)
+            (sym books_are') done.crewed);
+      } in
+      left incoming outgoing closes gives source source' books books' Runs states after same led why told named leaves
+      back

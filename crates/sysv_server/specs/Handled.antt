@@ -1,48 +1,52 @@
 -- What a worker of a server does with its connections (this project's profile).
-use Rattle.std.specs.Prelude.{◌≡◌, ℕ, ⊤, List, [], Option, None, Some, map, flat_map}
-use Rattle.std.specs.List.{FoldsTo}
-use Rattle.sysv_queue.specs.Tally.{Tallied}
+use Rattle.std.specs.Prelude.{◌≡◌, ◌+◌, ℕ, List, [], Option, None, Some, map, flat_map}
+use Rattle.std.specs.List.{FoldsTo, sum_by}
 use Rattle.sysv_session.specs.declared.served.Served.{Served}
 use Rattle.sysv_service.specs.Ran.{Pass}
 use Rattle.sysv_thread_laws.specs.Order.{Called}
-use Rattle.sysv_server.specs.Asked.{ServesPass}
-use Rattle.sysv_server.specs.Made.{Trail, trail, ServesTrail}
+use Rattle.sysv_server.specs.Made.{trail}
 use Rattle.sysv_server.specs.declared.sums.Sums.{Sums}
-use Rattle.sysv_server.specs.Added.{added, all_added, one_session}
+use Rattle.sysv_server.specs.Added.{added, all_added, capped, one_session}
+use Rattle.sysv_server.specs.Talks.{Talk, Talks, TalksIn, IsOn, Closes, Closing, tally_of}
 
--- Every time in a server is 0.
-abbrev pub zero_moment : ℕ → Type 0
-zero_moment now = now ≡ 0
-
--- A session with this pass reported this. Without a report its memory was refused, and the pass is
--- unchanged. Nothing is known about the bytes that a socket returns and accepts. The session's
--- client may leave a call that waits.
-abbrev pub Talks : Pass → Option Served → Pass → Type 0
-Talks before None after = after ≡ before
-Talks before (Some served) after =
-    (left rest taken more : Option (List ℕ)) × ServesPass zero_moment ⊤ served before after left rest taken more
-
--- The tally of a session: the messages that it wrote and lost.
-abbrev pub tally_of : Option Served → Tallied
-tally_of None = record { written = 0; lost = 0 }
-tally_of (Some served) = served.tally
-
--- One more session was run, and its tally was added to the sums.
-abbrev pub Handles : Pass → Sums → Pass → Sums → Type 0
-Handles before sums after more =
-    (told : Option Served) × Talks before told after × (more ≡ added sums (one_session (tally_of told)))
+-- 1 for a session whose memory was refused, and 0 for one that reported.
+abbrev pub one_refused : Option Served → ℕ
+one_refused None = 1
+one_refused (Some served) = 0
 
 -- The sums of sessions with these reports.
 abbrev pub sums_of : List (Option Served) → Sums
 sums_of told = all_added (map (λ t. one_session (tally_of t)) told)
 
--- One worker: the pass with which it began, the reports of its sessions in order, and the pass with
--- which it ended. Each session begins with the pass with which the session before it ended.
+-- The number of sessions with these reports whose memory was refused.
+abbrev pub refused_of : List (Option Served) → ℕ
+refused_of told = capped (sum_by one_refused told)
+
+module _ {T B : Type 0} (incoming outgoing : T → Option (List ℕ)) (closes : Closing B) where
+  -- One session with this report was held on the connection, which was then closed.
+  pub record Holds (connection : T) (before : Pass) (book : B) (told : Option Served) (after : Pass)
+      (book' : B) : Type 0 where
+    pub talk : Talk
+    pub reports : talk.told ≡ told
+    pub talks : Talks before talk after
+    pub on : IsOn incoming outgoing connection talk
+    pub closed : Closes closes book talk book'
+
+  -- One more session was held, on this connection, and it was added to the sums.
+  pub record Handles (connection : T) (before : Pass) (sums : Sums) (refused : ℕ) (book : B) (after : Pass)
+      (sums' : Sums) (refused' : ℕ) (book' : B) : Type 0 where
+    pub told : Option Served
+    pub holds : Holds connection before book told after book'
+    pub adds : sums' ≡ added sums (one_session (tally_of told))
+    pub counts : refused' ≡ capped (refused + one_refused told)
+
+-- One worker: the pass with which it began, its sessions in order, and the pass with which it ended.
+-- Each session begins with the pass with which the session before it ended.
 pub record Shift : Type 0 where
   pub before : Pass
-  pub told : List (Option Served)
+  pub talks : List Talk
   pub after : Pass
-  pub worked : FoldsTo Talks before told after
+  pub worked : FoldsTo Talks before talks after
 
 -- The passes with which the workers began.
 abbrev pub first_passes : List Shift → List Pass
@@ -52,19 +56,14 @@ first_passes shifts = map (λ (shift : Shift). shift.before) shifts
 abbrev pub last_passes : List Shift → List Pass
 last_passes shifts = map (λ (shift : Shift). shift.after) shifts
 
+-- The reports of these sessions.
+abbrev pub reports_of : List Talk → List (Option Served)
+reports_of talks = map (λ (talk : Talk). talk.told) talks
+
 -- The reports of the sessions of all workers.
 abbrev pub told_in : List Shift → List (Option Served)
-told_in shifts = flat_map (λ (shift : Shift). shift.told) shifts
-
--- ---- the calls of the service
-
--- A session reported this, and these calls were made in it. Without a report the session made no
--- call.
-abbrev pub TalksIn : Trail → Option Served → Trail → Type 0
-TalksIn before None after = after ≡ before
-TalksIn before (Some served) after =
-    (left rest taken more : Option (List ℕ)) × ServesTrail zero_moment ⊤ served before after left rest taken more
+told_in shifts = flat_map (λ (shift : Shift). reports_of shift.talks) shifts
 
 -- All sessions of the worker together made these calls.
 abbrev pub AreMadeBy : Shift → List Called → Type 0
-AreMadeBy shift calls = FoldsTo TalksIn (trail shift.before []) shift.told (trail shift.after calls)
+AreMadeBy shift calls = FoldsTo TalksIn (trail shift.before []) shift.talks (trail shift.after calls)

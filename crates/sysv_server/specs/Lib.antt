@@ -4,7 +4,11 @@ pub mod Requests
 pub mod Asked
 pub mod Made
 pub mod Added
+pub mod Talks
 pub mod Handled
+pub mod Desks
+pub mod Memory
 pub mod Accepts
 pub mod OneRun
 pub mod Serving
+pub mod Headline

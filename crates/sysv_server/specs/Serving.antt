@@ -1,7 +1,10 @@
--- What a server does (this project's profile). Its workers share one service, each worker has a
--- pass of its own, and there is one session for each connection.
+-- How a server serves a listener, what its workers do, and what a fault leaves (this project's
+-- profile). Its workers share one service, each worker has a pass of its own, and there is one
+-- session for each connection.
 use Rattle.std.specs.Prelude.{◌≡◌, ◌≢◌, ◌≤◌, ⊤, ℕ, Bool, true, List, Option, Some, None, Result, length}
 use Rattle.std.specs.List.{AllByRecursion}
+use Rattle.std.specs.List.Sorted.{IsPermutation}
+use Rattle.sysv_bank.specs.Banks.{Each2}
 use Rattle.sysv_shared.specs.Opened.{AreOpen}
 use Rattle.sysv_shared.specs.Seats.{Gates, AreOf}
 use Rattle.sysv_model.specs.declared.errno.Errno.{Errno}
@@ -12,17 +15,21 @@ use Rattle.sysv_workers.specs.declared.refusals.WorkersFault.TheVariants as work
 use Rattle.sysv_workers.specs.Sources.{GivesAll, Gave, Returned}
 use Rattle.sysv_server.specs.declared.fault.ServeFault.{ServeFault}
 use Rattle.sysv_server.specs.declared.fault.ServeFault.TheVariants.{NoMemory, Thread, Worn, Missed}
+use Rattle.sysv_server.specs.declared.socket.Socket.{Socket}
 use Rattle.sysv_server.specs.declared.host.Reason.{Reason}
 use Rattle.sysv_server.specs.declared.host.Reason.TheVariants.{Full, InputOver, NoSocket, Accept}
+use Rattle.sysv_server.specs.declared.socket.Nothing.{Nothing}
 use Rattle.sysv_server.specs.declared.sums.Sums.{Sums}
 use Rattle.sysv_server.specs.declared.terms.Ended.{Ended}
 use Rattle.sysv_server.specs.Added.{nothing}
-use Rattle.sysv_server.specs.Handled.{Shift, first_passes, last_passes, sums_of, told_in}
+use Rattle.sysv_server.specs.Desks.{Desk, Crewed, Sat, all_connections}
+use Rattle.sysv_server.specs.Handled.{Shift, first_passes, last_passes, sums_of, refused_of, told_in}
 use Rattle.sysv_server.specs.OneRun.{Stopped, Lived}
+use Rattle.sysv_server.specs.Talks.{Closing, untold, leaves_nothing}
 
 -- A pass of these gates that holds no chain, with the sums of no sessions.
-abbrev pub IsNew : Gates → Pass → Sums → Type 0
-IsNew gates pass sums = AreOf gates pass.seats × (pass.held ≡ 0) × (sums ≡ nothing)
+abbrev pub IsNew : Gates → Pass → Sums → ℕ → Type 0
+IsNew gates pass sums refused = AreOf gates pass.seats × (pass.held ≡ 0) × (sums ≡ nothing) × (refused ≡ 0)
 
 -- This number of workers worked these shifts at the gates. Each began with a pass of the gates that
 -- holds no chain, and these are the sums of all their sessions.
@@ -31,54 +38,65 @@ pub record Worked (gates : Gates) (count : ℕ) (shifts : List Shift) (all : Sum
   pub passes : AllByRecursion (λ (shift : Shift). AreOf gates shift.before.seats × (shift.before.held ≡ 0)) shifts
   pub sums : all ≡ sums_of (told_in shifts)
 
-module _ {S T : Type 0} where
-  -- The workers did this, and there was one session for each connection that the source returned.
-  pub record WorkedAll (gives : S → Option T → S → Type 0) (gates : Gates) (workers : ℕ) (source : S) (sums : Sums)
-      (source' : S) : Type 0 where
-    pub shifts : List Shift
-    pub worked : Worked gates workers shifts sums
+module _ {S T B : Type 0} (incoming outgoing : T → Option (List ℕ)) (closes : Closing B)
+    (gives : S → Option T → S → Type 0) where
+  -- The workers served the connections that the source returned. They began with passes that were
+  -- split off from the pass `old`, and the passes that they left were joined back into it.
+  pub record WorkedFrom (gates : Gates) (old : Pass) (source : S) (books : List B) (sums : Sums) (refused : ℕ)
+      (new : Pass) (source' : S) (books' : List B) : Type 0 where
     pub given : List T
     pub gave : GivesAll gives source given source'
-    pub each : length (told_in shifts) ≡ length given
+    pub desks : List (Desk T B)
+    pub dealt : IsPermutation (all_connections desks) given
+    pub shifts : List Shift
+    pub crewed : Crewed incoming outgoing closes gates books desks shifts books'
+    pub adds : sums ≡ sums_of (told_in shifts)
+    pub counts : refused ≡ refused_of (told_in shifts)
+    pub hires : Hires old (first_passes shifts) (last_passes shifts) new
 
-  -- The workers did this between these passes: they began with passes that were split off from the
-  -- pass `old`, and the passes that they left were joined back into it.
-  pub record WorkedFrom (gives : S → Option T → S → Type 0) (gates : Gates) (workers : ℕ) (old : Pass) (source : S)
-      (sums : Sums) (new : Pass) (source' : S) : Type 0 where
-    pub all : WorkedAll gives gates workers source sums source'
-    pub hires : Hires old (first_passes all.shifts) (last_passes all.shifts) new
-
-  -- The workers did this at gates that were opened for it with this number of blocks, and that were
-  -- stopped and closed after it.
-  pub record ServesAll (gives : S → Option T → S → Type 0) (blocks workers : ℕ) (source : S) (sums : Sums)
-      (source' : S) : Type 0 where
+  -- The books are those to which some sessions on some connections led.
+  pub record LeavesBooks (books books' : List B) : Type 0 where
     pub gates : Gates
-    pub opened : AreOpen 0 blocks 0 gates
-    pub all : WorkedAll gives gates workers source sums source'
-    pub removed : Result ℕ Errno
-    pub lived : Lived blocks gates all.shifts removed
+    pub desks : List (Desk T B)
+    pub shifts : List Shift
+    pub crewed : Crewed incoming outgoing closes gates books desks shifts books'
 
--- A server on a listener. It ran no more sessions than the maximum, if the maximum is not 0.
+  -- After a fault that keeps the server from running any session, the source of connections and the
+  -- books are unchanged. After `Worn` the source has returned some connections, and may have
+  -- reported its end. After `Missed` it is at its end or was not read. After both, the books are
+  -- those to which sessions led.
+  abbrev pub LeavesConnections : S → List B → ServeFault → S → List B → Type 0
+  LeavesConnections source books NoMemory source' books' = (source' ≡ source) × (books' ≡ books)
+  LeavesConnections source books Thread source' books' = (source' ≡ source) × (books' ≡ books)
+  LeavesConnections source books Worn source' books' =
+      (given : List T) × Returned gives source given source' × LeavesBooks books books'
+  LeavesConnections source books Missed source' books' =
+      (given : List T) × Gave gives source given source' × LeavesBooks books books'
+
+-- The worker of this desk had one session on each of its sockets. A socket tells no bytes, and a
+-- closed one leaves nothing.
+abbrev pub SatOnSockets : Desk Socket Nothing → Shift → Type 0
+SatOnSockets = Sat untold untold leaves_nothing
+
+-- A server on a listener. It ran no more sessions than the maximum, if the maximum is not 0. Each
+-- session was on a connection of its own.
 pub record ServesOn (blocks workers most : ℕ) (sums : Sums) : Type 0 where
   pub gates : Gates
   pub opened : AreOpen 0 blocks 0 gates
   pub shifts : List Shift
   pub worked : Worked gates workers shifts sums
   pub bounded : most ≢ 0 → length (told_in shifts) ≤ most
+  pub accepted : List Socket
+  pub desks : List (Desk Socket Nothing)
+  pub dealt : IsPermutation (all_connections desks) accepted
+  pub sat : Each2 SatOnSockets desks shifts
   pub removed : Result ℕ Errno
   pub lived : Lived blocks gates shifts removed
-
--- A server served the connections of a source, and then removed the queues that were left.
-pub record EndsAll {S T : Type 0} (gives : S → Option T → S → Type 0) (blocks workers : ℕ) (source : S) (ended : Ended)
-    (source' : S) : Type 0 where
-  pub served : ServesAll gives blocks workers source ended.sums source'
-  pub stopped : Stopped served.gates ended.removed
-  pub told : ended.removed ≡ served.removed
-  pub closed : ended.closed ≡ served.lived.closed
 
 -- A server served the connections of a listener, and then removed the queues that were left.
 pub record EndsOn (blocks workers most : ℕ) (ended : Ended) : Type 0 where
   pub served : ServesOn blocks workers most ended.sums
+  pub refused : ended.refused ≡ refused_of (told_in served.shifts)
   pub stopped : Stopped served.gates ended.removed
   pub told : ended.removed ≡ served.removed
   pub closed : ended.closed ≡ served.lived.closed
@@ -91,15 +109,6 @@ HasReason has_input most sessions (Some Full) = (most ≢ 0) × (sessions ≡ mo
 HasReason has_input most sessions (Some InputOver) = has_input ≡ true
 HasReason has_input most sessions (Some (NoSocket why)) = sessions ≡ 0
 HasReason has_input most sessions (Some (Accept why)) = ⊤
-
--- After a fault that keeps the server from running any session, the source of connections is
--- unchanged. After `Worn` it has returned some connections, and may have reported its end. After
--- `Missed` it is at its end or was not read.
-abbrev pub LeavesConnections : {S T : Type 0} → (S → Option T → S → Type 0) → S → ServeFault → S → Type 0
-LeavesConnections gives source NoMemory source' = source' ≡ source
-LeavesConnections gives source Thread source' = source' ≡ source
-LeavesConnections {T = T} gives source Worn source' = (given : List T) × Returned gives source given source'
-LeavesConnections {T = T} gives source Missed source' = (given : List T) × Gave gives source given source'
 
 -- The server's fault has the name of the workers' refusal. A bad count does not occur.
 abbrev pub FaultOf : WorkersFault → ServeFault → Type 0

@@ -6,6 +6,7 @@ use crate::common::Common;
 use crate::host::{Host, Notice, Reason};
 use crate::line::Line;
 use crate::moment::{Moment, NO_DESCRIPTOR, asking, bell_timeout, pause, timeout};
+use crate::socket::Socket;
 use libc::net::{POLLIN, poll};
 use libc::types::pollfd;
 use libc::{EAGAIN, ECONNABORTED, EMFILE, ENOMEM, EPERM};
@@ -162,7 +163,7 @@ impl<'a, I: Read + AsRawFd + Drop, H: Host + Drop> Accepting<'a, I, H> {
     }
 
     /// Accepts the next connection. The error is why no more connections are to be accepted.
-    fn accept(&mut self) -> Result<UnixStream, Reason>
+    fn accept(&mut self) -> Result<Socket, Reason>
         requires { is_closed self.old.listening ≡ false }
         ensures same { (self.new.most ≡ self.old.most) × (self.new.accepted ≡ self.old.accepted) }
         ensures input { is_some self.new.input ≡ is_some self.old.input }
@@ -188,23 +189,24 @@ impl<'a, I: Read + AsRawFd + Drop, H: Host + Drop> Accepting<'a, I, H> {
             host: &self.host,
             accepted: self.accepted,
         };
-        door.accept_next(&mut self.line, &mut self.input, retries)
+        let stream = door.accept_next(&mut self.line, &mut self.input, retries)?;
+        Ok(Socket::new(stream, self.common.limits()))
     }
 }
 
-impl<I: Read + AsRawFd + Drop, H: Host + Drop> Source<UnixStream> for Accepting<'_, I, H> {
+impl<I: Read + AsRawFd + Drop, H: Host + Drop> Source<Socket> for Accepting<'_, I, H> {
     ghost use Rattle.sysv_server.specs.Accepts.{Accepts};
 
     ghost gives = { Accepts };
 
-    fn next(&mut self) -> Option<UnixStream> {
+    fn next(&mut self) -> Option<Socket> {
         if self.listening.is_closed() {
             return None;
         }
         match self.accept() {
-            Ok(stream) => {
+            Ok(socket) => {
                 self.accepted = self.accepted.saturating_add(1);
-                Some(stream)
+                Some(socket)
             }
             Err(why) => {
                 self.reason = Some(why);

@@ -9,6 +9,7 @@ use std::io;
 use std::io::{ErrorKind, Read, Write};
 use std::os::fd::AsRawFd;
 use std::os::unix::net::UnixStream;
+use std::sync::Arc;
 
 /// The limits of a session.
 #[derive(Clone, Copy)]
@@ -27,18 +28,18 @@ impl Limits {
 
 /// A reader of a connection. A read fails if the client lets the time pass that it has.
 #[derive(Drop)]
-pub(crate) struct Patient<'a> {
-    stream: &'a UnixStream,
+pub(crate) struct Patient {
+    stream: Arc<UnixStream>,
     limits: Limits,
     framing: Framing,
     /// The number of the frame that has begun, and when it is to be read whole.
     due: Option<(u64, Moment)>,
 }
 
-impl<'a> Patient<'a> {
+impl Patient {
     /// Creates a reader that has read nothing. With limits, the connection's calls do not wait from
     /// now on: they are made when `poll` says that they need not.
-    pub(crate) fn new(stream: &'a UnixStream, limits: Limits) -> Patient<'a> {
+    pub(crate) fn new(stream: Arc<UnixStream>, limits: Limits) -> Patient {
         if limits.is_any() {
             let _ = stream.set_nonblocking(true);
         }
@@ -71,7 +72,7 @@ impl<'a> Patient<'a> {
     fn read_by(&self, deadline: Option<Moment>, buf: &mut [u8]) -> io::Result<usize>
         ensures { ReadsAtMost result buf.new }
     {
-        let mut stream = self.stream;
+        let mut stream: &UnixStream = &self.stream;
         for _ in 0..u64::MAX {
             await_ready(stream.as_raw_fd(), POLLIN, self.limits.cut, deadline)?;
             match stream.read(buf) {
@@ -83,10 +84,11 @@ impl<'a> Patient<'a> {
     }
 }
 
-impl Read for Patient<'_> {
+impl Read for Patient {
     fn read(&mut self, buf: &mut [u8]) -> io::Result<usize> {
         if !self.limits.is_any() {
-            return self.stream.read(buf);
+            let mut stream: &UnixStream = &self.stream;
+            return stream.read(buf);
         }
         let deadline = self.deadline();
         let count = self.read_by(deadline, buf)?;
@@ -97,16 +99,16 @@ impl Read for Patient<'_> {
 
 /// A writer to a connection. A write fails if the client lets the time pass that it has for a reply.
 #[derive(Drop)]
-pub(crate) struct Patiently<'a> {
-    stream: &'a UnixStream,
+pub(crate) struct Patiently {
+    stream: Arc<UnixStream>,
     limits: Limits,
     /// When the reply whose first byte was to be written is to be written whole.
     due: Option<Moment>,
 }
 
-impl<'a> Patiently<'a> {
+impl Patiently {
     /// Creates a writer that has written nothing, of a connection with a `Patient` reader.
-    pub(crate) fn new(stream: &'a UnixStream, limits: Limits) -> Patiently<'a> {
+    pub(crate) fn new(stream: Arc<UnixStream>, limits: Limits) -> Patiently {
         Patiently {
             stream,
             limits,
@@ -118,7 +120,7 @@ impl<'a> Patiently<'a> {
     fn write_by(&self, buf: &[u8]) -> io::Result<usize>
         ensures { WritesAtMost result buf.now }
     {
-        let mut stream = self.stream;
+        let mut stream: &UnixStream = &self.stream;
         for _ in 0..u64::MAX {
             match stream.write(buf) {
                 Err(why) if is_early(&why) => {}
@@ -130,10 +132,11 @@ impl<'a> Patiently<'a> {
     }
 }
 
-impl Write for Patiently<'_> {
+impl Write for Patiently {
     fn write(&mut self, buf: &[u8]) -> io::Result<usize> {
         if !self.limits.is_any() {
-            return self.stream.write(buf);
+            let mut stream: &UnixStream = &self.stream;
+            return stream.write(buf);
         }
         if self.due.is_none() {
             self.due = Moment::after(self.limits.patience.stall);

@@ -10,7 +10,7 @@ use sysv_service::Caller;
 ///
 /// It has the number of the connection's descriptor, and is used only while the connection is open.
 #[derive(Clone, Copy)]
-pub(crate) struct Peer {
+pub struct Peer {
     fd: i32,
     /// A descriptor that can be read once the session is to end, or a negative number.
     cut: i32,
@@ -18,7 +18,7 @@ pub(crate) struct Peer {
 
 impl Peer {
     /// Returns the peer of no connection. It never leaves.
-    pub(crate) fn none() -> Peer {
+    pub fn none() -> Peer {
         Peer {
             fd: NO_DESCRIPTOR,
             cut: NO_DESCRIPTOR,
@@ -26,7 +26,7 @@ impl Peer {
     }
 
     /// Returns the peer of this connection. It is taken to have left once `cut` can be read.
-    pub(crate) fn of(stream: &UnixStream, cut: i32) -> Peer {
+    pub fn of(stream: &UnixStream, cut: i32) -> Peer {
         Peer {
             fd: stream.as_raw_fd(),
             cut,

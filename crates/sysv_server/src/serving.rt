@@ -1,18 +1,17 @@
 //! The server.
-ghost use Rattle.std.specs.Prelude.{◌≡◌, ◌≢◌, ◌≤◌, IfOk, IfErr, is_some};
+ghost use Rattle.std.specs.Prelude.{◌≡◌, ◌≤◌, IfOk, IsNone, false, is_some};
 ghost use Rattle.sysv_model.specs.declared.limits.TheConstants.{MIN_BLOCKS, MAX_BLOCKS};
 ghost use Rattle.sysv_workers.specs.declared.workers.TheConstants.{MAX_CROWD, MAX_WORKERS};
-ghost use Rattle.sysv_shared.specs.Seats.{AreOf};
+ghost use Rattle.sysv_server.specs.Accepts.{is_closed};
 ghost use Rattle.sysv_server.specs.Added.{IsBalanced};
-ghost use Rattle.sysv_server.specs.Serving.{EndsAll, EndsOn, FaultOf, HasReason, LeavesConnections, ServesAll, ServesOn, WorkedFrom};
+ghost use Rattle.sysv_server.specs.Serving.{EndsOn, HasReason, ServesOn};
 
 use crate::accepting::{Accepting, Listening};
 use crate::common::Common;
-use crate::crew::{dismiss, hire};
+use crate::connections::serve_all;
 use crate::fault::ServeFault;
 use crate::host::{Host, Quiet, Reason};
-use crate::laws::each_life_is_one_run;
-use crate::session::{Sessions, Worker};
+use crate::socket::empty_books;
 use crate::sums::Sums;
 use crate::terms::{Ended, Patience, Terms};
 use std::alloc::Global;
@@ -21,8 +20,6 @@ use std::os::fd::AsRawFd;
 use std::os::unix::net::{UnixListener, UnixStream};
 use std::sync::Wait;
 use std::thread::Threads;
-use sysv_service::{Pass, Service};
-use sysv_workers::{Source, WorkersFault, WorkersRefused, run_crowd};
 
 /// Serves the connections of `listener` on a new service, each as one session, and returns the sums
 /// of the sessions.
@@ -63,9 +60,15 @@ pub fn serve_on<R: Threads + Wait + Sync>(
     ensures ok { IfOk result (λ sums. ServesOn blocks workers sessions sums) }
     ensures balance { IfOk result IsBalanced }
 {
+    let Some(mut books) = empty_books(alloc, workers) else {
+        return Err(ServeFault::NoMemory);
+    };
     let common = Common::new(workers, Patience::UNBOUNDED, 0);
     let mut source = lent(listener, sessions, &common);
-    serve_source(rt, alloc, &mut source, blocks, workers, &common)
+    match serve_all(rt, alloc, &mut source, &mut books, blocks, &common) {
+        Ok(ended) => Ok(ended.sums),
+        Err(why) => Err(why),
+    }
 }
 
 /// Returns a source of connections from a listener that stays open.
@@ -74,7 +77,8 @@ fn lent<'a>(
     sessions: u64,
     common: &'a Common,
 ) -> Accepting<'a, UnixStream, Quiet>
-    ensures { (result.most ≡ sessions) × (result.accepted ≡ 0) }
+    ensures counts { (result.most ≡ sessions) × (result.accepted ≡ 0) }
+    ensures open { (is_closed result.listening ≡ false) × IsNone result.input }
 {
     Accepting::new(Listening::Lent(listener), None, sessions, common, Quiet)
 }
@@ -125,113 +129,11 @@ pub fn serve_listener<I: Read + AsRawFd + Drop, H: Host + Drop, R: Threads + Wai
     if !common.can_cut() {
         return Err(ServeFault::NoMemory);
     }
+    let Some(mut books) = empty_books(alloc, at_once) else {
+        return Err(ServeFault::NoMemory);
+    };
     let mut source = Accepting::new(Listening::Unopened, input, sessions, &common, host);
-    let outcome = serve_all(rt, alloc, &mut source, blocks, at_once, &common);
+    let outcome = serve_all(rt, alloc, &mut source, &mut books, blocks, &common);
     *reason = source.into_reason();
     outcome
-}
-
-/// Serves the connections of a source like `serve_all`, and returns the sums.
-fn serve_source<S: Source<UnixStream>, R: Threads + Wait + Sync>(
-    rt: &R,
-    alloc: Global,
-    source: &mut S,
-    blocks: u32,
-    workers: u32,
-    common: &Common,
-) -> Result<Sums, ServeFault>
-    requires blocks { (MIN_BLOCKS ≤ blocks) × (blocks ≤ MAX_BLOCKS) }
-    requires workers { (1 ≤ workers) × (workers ≤ MAX_CROWD) }
-    ensures ok { IfOk result (λ sums. ServesAll S.gives blocks workers source.old sums source.new) }
-    ensures balance { IfOk result IsBalanced }
-    ensures err { IfErr result (λ why. LeavesConnections S.gives source.old why source.new) }
-{
-    match serve_all(rt, alloc, source, blocks, workers, common) {
-        Ok(ended) => Ok(ended.sums),
-        Err(why) => Err(why),
-    }
-}
-
-/// Serves the connections of a source on a new service, and removes the queues that are left. After
-/// `NoMemory` and `Thread` no connection was requested from the source.
-fn serve_all<S: Source<UnixStream>, R: Threads + Wait + Sync>(
-    rt: &R,
-    alloc: Global,
-    source: &mut S,
-    blocks: u32,
-    workers: u32,
-    common: &Common,
-) -> Result<Ended, ServeFault>
-    requires blocks { (MIN_BLOCKS ≤ blocks) × (blocks ≤ MAX_BLOCKS) }
-    requires workers { (1 ≤ workers) × (workers ≤ MAX_CROWD) }
-    ensures ok { IfOk result (λ ended. EndsAll S.gives blocks workers source.old ended source.new) }
-    ensures balance { IfOk result (λ ended. IsBalanced ended.sums) }
-    ensures err { IfErr result (λ why. LeavesConnections S.gives source.old why source.new) }
-{
-    let Ok((service, mut pass)) = Service::open(alloc, blocks) else {
-        return Err(ServeFault::NoMemory);
-    };
-    let count = workers as usize;
-    let outcome = serve_with(rt, alloc, &service, &mut pass, source, count, common);
-    let removed = service.stop(rt, &mut pass);
-    let closed = service.close(pass);
-    each_life_is_one_run();
-    match outcome {
-        Ok(sums) => Ok(Ended {
-            sums,
-            removed,
-            closed,
-        }),
-        Err(why) => Err(why),
-    }
-}
-
-/// Serves the connections of a source on this service, and takes back the passes of all workers.
-fn serve_with<S: Source<UnixStream>, R: Threads + Wait + Sync>(
-    rt: &R,
-    alloc: Global,
-    service: &Service,
-    pass: &mut Pass,
-    source: &mut S,
-    count: usize,
-    common: &Common,
-) -> Result<Sums, ServeFault>
-    requires pass { AreOf service.now pass.old.seats }
-    requires count { (1 ≤ count) × (count ≤ MAX_CROWD) }
-    ensures pass { AreOf service.now pass.new.seats }
-    ensures ok { IfOk result (λ sums.
-        WorkedFrom S.gives service.now count pass.old source.old sums pass.new source.new) }
-    ensures err { IfErr result (λ why. LeavesConnections S.gives source.old why source.new) }
-{
-    let Ok(mut workers) = Vec::with_capacity(alloc, count) else {
-        return Err(ServeFault::NoMemory);
-    };
-    hire(rt, alloc, service, pass, count, &mut workers);
-    let job = Sessions {
-        alloc,
-        service,
-        common,
-    };
-    match run_crowd(rt, alloc, workers, source, &job) {
-        Ok(workers) => Ok(dismiss(service, pass, workers)),
-        Err(refused) => {
-            let WorkersRefused { why, states } = refused;
-            dismiss(service, pass, states);
-            Err(fault(why))
-        }
-    }
-}
-
-/// Returns the server's fault for a refusal of the workers.
-fn fault(why: WorkersFault) -> ServeFault
-    requires { why ≢ WorkersFault.BadCount }
-    ensures { FaultOf why result }
-{
-    match why {
-        WorkersFault::BadCount => unreachable!(),
-        WorkersFault::NoMemory => ServeFault::NoMemory,
-        WorkersFault::Thread => ServeFault::Thread,
-        WorkersFault::Worn => ServeFault::Worn,
-        WorkersFault::Missed => ServeFault::Missed,
-    }
 }

@@ -1,17 +1,18 @@
 //! One session on a connection, and the workers that run sessions.
-ghost use Rattle.std.specs.Prelude.{◌≡◌, ℕ, List, Option, ⊤, IfSome, IfNone};
+ghost use Rattle.std.specs.Prelude.{◌≡◌, ⊤, IfSome, IfNone};
 ghost use Rattle.sysv_shared.specs.Seats.{AreOf};
 ghost use Rattle.sysv_server.specs.Asked.{ServesPass};
 ghost use Rattle.sysv_server.specs.Added.{nothing};
+ghost use Rattle.sysv_server.specs.Handled.{Holds, one_refused};
+ghost use Rattle.sysv_server.specs.Talks.{tally_of};
 
 use crate::common::Common;
+use crate::connection::Connection;
 use crate::kernel::ServiceKernel;
-use crate::patient::{Limits, Patient, Patiently};
 use crate::peer::Peer;
 use crate::sums::Sums;
 use std::alloc::Global;
-use std::io::{BufReader, BufWriter};
-use std::os::unix::net::UnixStream;
+use std::io::{Read, Write};
 use std::sync::Wait;
 use sysv_queue::Tally;
 use sysv_service::{Clock, Pass, Service};
@@ -34,80 +35,130 @@ pub(crate) const ZERO: Zero = Zero;
 /// A worker of a server.
 ///
 /// It has a kernel with a pass of its own, whose caller is the peer of the session that it runs. It
-/// has the sums of its sessions, and the bodies that its sessions share one after another, once
-/// they are allocated.
-pub(crate) struct Worker<'a, R: Wait> {
+/// has the sums of its sessions, the number of those whose memory was refused, the bodies that its
+/// sessions share one after another, once they are allocated, and its book.
+pub(crate) struct Worker<'a, R: Wait, B> {
     kernel: ServiceKernel<'a, Zero, R, Peer>,
     sums: Sums,
+    refused: u64,
     texts: Option<Texts>,
+    book: B,
 }
 
-impl<'a, R: Wait> Worker<'a, R> {
+impl<'a, R: Wait, B> Worker<'a, R, B> {
     /// Creates a worker that has served no session.
-    pub(crate) fn new(rt: &'a R, service: &'a Service, pass: Pass) -> Worker<'a, R>
+    pub(crate) fn new(rt: &'a R, service: &'a Service, pass: Pass, book: B) -> Worker<'a, R, B>
         requires { AreOf service.now pass.seats }
         ensures service { result.kernel.service.now ≡ service.now }
         ensures pass { result.kernel.pass ≡ pass }
-        ensures sums { result.sums ≡ nothing }
+        ensures sums { (result.sums ≡ nothing) × (result.refused ≡ 0) }
+        ensures book { result.book ≡ book }
     {
         Worker {
             kernel: ServiceKernel::for_caller(rt, service, &ZERO, pass, Peer::none()),
             sums: Sums::open(),
+            refused: 0,
             texts: None,
+            book,
         }
     }
 
-    /// Returns the worker's pass and its sums.
-    pub(crate) fn into_parts(self) -> (Pass, Sums)
+    /// Returns the worker's pass, its sums, the number of its sessions whose memory was refused, and
+    /// its book.
+    pub(crate) fn into_parts(self) -> (Pass, Sums, u64, B)
         ensures pass { result.0 ≡ self.entry.kernel.pass }
         ensures fits { AreOf self.entry.kernel.service.now result.0.seats }
-        ensures sums { result.1 ≡ self.entry.sums }
+        ensures sums { (result.1 ≡ self.entry.sums) × (result.2 ≡ self.entry.refused) }
+        ensures book { result.3 ≡ self.entry.book }
     {
         let Worker {
             kernel,
             sums,
+            refused,
             texts: _texts,
+            book,
         } = self;
-        (kernel.into_pass(), sums)
+        (kernel.into_pass(), sums, refused, book)
     }
 }
 
 /// The job that runs a session on each connection.
 #[derive(Drop)]
-pub(crate) struct Sessions<'a, 'c> {
+pub(crate) struct Sessions<'a, 'c, R> {
+    pub(crate) rt: &'a R,
     pub(crate) alloc: Global,
     pub(crate) service: &'a Service,
     pub(crate) common: &'c Common,
 }
 
-impl<'a, 'c, R: Wait> Job<Worker<'a, R>, UnixStream> for Sessions<'a, 'c> {
+impl<'a, 'c, R: Wait, T: Connection> Job<Worker<'a, R, T::Book>, T> for Sessions<'a, 'c, R> {
     ghost use Rattle.sysv_server.specs.Handled.{Handles};
 
     ghost fits = { λ job worker. worker.kernel.service.now ≡ job.service.now };
 
-    ghost runs = { λ _ old _ new. Handles old.kernel.pass old.sums new.kernel.pass new.sums };
+    ghost runs = { λ _ old connection new. Handles T.incoming T.outgoing T.closes connection
+        old.kernel.pass old.sums old.refused old.book
+        new.kernel.pass new.sums new.refused new.book };
 
-    fn run(&self, worker: &mut Worker<'a, R>, stream: UnixStream) {
+    fn run(&self, worker: &mut Worker<'a, R, T::Book>, connection: T) {
         self.common.begin();
-        let limits = self.common.limits();
         let Worker {
             kernel,
             sums,
+            refused,
             texts,
+            book,
         } = worker;
-        kernel.set_caller(Peer::of(&stream, limits.cut));
-        let tally = match converse(self.alloc, kernel, texts, limits, &stream) {
-            Some(served) => served.tally,
-            None => {
-                self.common.starve();
-                Tally::open()
-            }
-        };
-        kernel.set_caller(Peer::none());
-        sums.add(Sums::of(&tally));
-        drop(stream);
+        let told = hold(self.alloc, kernel, texts, connection, book);
+        if told.is_none() {
+            self.common.starve();
+        }
+        *refused = refused.saturating_add(refusals(&told));
+        sums.add(Sums::of(&tally(&told)));
         self.common.finish();
     }
+}
+
+/// Returns the tally of a session, which is empty if its memory was refused.
+fn tally(told: &Option<Served>) -> Tally
+    ensures { result ≡ tally_of told.now }
+{
+    match told {
+        Some(served) => served.tally,
+        None => Tally::open(),
+    }
+}
+
+/// Returns 1 if the memory of the session was refused, and else 0.
+fn refusals(told: &Option<Served>) -> u64
+    ensures { result ≡ one_refused told.now }
+{
+    match told {
+        Some(_) => 0,
+        None => 1,
+    }
+}
+
+/// Holds one session on the connection, and closes it. Returns `None` if memory for its ends or its
+/// bodies is refused; then nothing was read or written.
+fn hold<T: Connection, R: Wait>(
+    alloc: Global,
+    kernel: &mut ServiceKernel<'_, Zero, R, Peer>,
+    texts: &mut Option<Texts>,
+    connection: T,
+    book: &mut T::Book,
+) -> Option<Served>
+    ensures holds { Holds T.incoming T.outgoing T.closes connection kernel.old.pass book.old result
+        kernel.new.pass book.new }
+    ensures service { kernel.new.service ≡ kernel.old.service }
+    ensures clock { kernel.new.clock ≡ kernel.old.clock }
+{
+    let (mut reader, mut writer, peer) = connection.open(alloc, book)?;
+    kernel.set_caller(peer);
+    let told = converse(alloc, kernel, texts, &mut reader, &mut writer);
+    kernel.set_caller(Peer::none());
+    T::close(reader, writer, book);
+    told
 }
 
 /// Returns the bodies, and allocates them if there are none. Returns `None` if their memory is
@@ -119,23 +170,22 @@ fn opened(alloc: Global, texts: &mut Option<Texts>) -> Option<&mut Texts> {
     texts.as_mut()
 }
 
-/// Runs one session on the connection `stream`. Returns `None` if memory for its buffers or its
-/// bodies is refused; then nothing was read or written.
-fn converse<C: Clock, R: Wait>(
+/// Runs one session over these two ends. Returns `None` if memory for its bodies is refused; then
+/// nothing was read or written.
+fn converse<I: Read, O: Write, C: Clock, R: Wait>(
     alloc: Global,
     kernel: &mut ServiceKernel<'_, C, R, Peer>,
     texts: &mut Option<Texts>,
-    limits: Limits,
-    stream: &UnixStream,
+    reader: &mut I,
+    writer: &mut O,
 ) -> Option<Served>
-    ensures some { IfSome result (λ told. (left rest taken more : Option (List ℕ))
-        × ServesPass (C.may kernel.old.clock.now) ⊤ told kernel.old.pass kernel.new.pass left rest
-        taken more) }
-    ensures none { IfNone result (kernel.new.pass ≡ kernel.old.pass) }
+    ensures some { IfSome result (λ told. ServesPass (C.may kernel.old.clock.now) ⊤ told
+        kernel.old.pass kernel.new.pass (I.remaining reader.old) (I.remaining reader.new)
+        (O.contents writer.old) (O.contents writer.new)) }
+    ensures none { IfNone result ((kernel.new.pass ≡ kernel.old.pass)
+        × (reader.new ≡ reader.old) × (writer.new ≡ writer.old)) }
     ensures service { kernel.new.service ≡ kernel.old.service }
     ensures clock { kernel.new.clock ≡ kernel.old.clock }
 {
-    let mut reader = BufReader::new(alloc, Patient::new(stream, limits)).ok()?;
-    let mut writer = BufWriter::new(alloc, Patiently::new(stream, limits)).ok()?;
-    Some(kernel.serve_with(opened(alloc, texts)?, &mut reader, &mut writer))
+    Some(kernel.serve_with(opened(alloc, texts)?, reader, writer))
 }

@@ -40,6 +40,8 @@ impl Patience {
 pub struct Ended {
     /// The sums of its sessions.
     pub sums: Sums,
+    /// The number of its sessions whose memory was refused, at most 2^64 - 1.
+    pub refused: u64,
     /// The number of queues that were left at the end and were removed, or `EOVERFLOW` if the gate
     /// of a slot was found worn out.
     pub removed: Result<u32, Errno>,

@@ -21,7 +21,7 @@ use sysv_server::{
 use sysv_service::Closed;
 
 /// What is left of a service of 128 blocks when it is closed: no message, all blocks, no held gate.
-const EMPTY: Closed = Closed {
+pub(crate) const EMPTY: Closed = Closed {
     waiting: 0,
     free: 128,
     held: 0,
@@ -70,7 +70,7 @@ pub(crate) const SEND: &[u8] = &[
 pub(crate) const SENT: &[u8] = &[0x00, 0x00, 0x00, 0x03, 0x01, 0x02, 0x00];
 
 /// A receive of at most 100 bytes of any type from queue 0, which waits.
-const RECEIVE: &[u8] = &[
+pub(crate) const RECEIVE: &[u8] = &[
     0x00, 0x00, 0x00, 0x16, 0x01, 0x03, 0x00, 0x00, 0x00, 0x00, 0x00, 0x00, 0x00, 0x64, 0x00, 0x00,
     0x00, 0x00, 0x00, 0x00, 0x00, 0x00, 0x00, 0x00, 0x00, 0x00,
 ];
@@ -82,7 +82,7 @@ const RECEIVE_NOW: &[u8] = &[
 ];
 
 /// The reply to a receive: `abc`, of type 5.
-const RECEIVED: &[u8] = &[
+pub(crate) const RECEIVED: &[u8] = &[
     0x00, 0x00, 0x00, 0x0e, 0x01, 0x03, 0x00, 0x00, 0x00, 0x00, 0x00, 0x00, 0x00, 0x00, 0x05, 0x61,
     0x62, 0x63,
 ];
@@ -396,7 +396,7 @@ fn ends_as<R: Threads + Wait + Net + Files + Abort + Clock + Sync>(
 }
 
 /// Returns the sums of this number of sessions, with these numbers of messages written and lost.
-fn sums(sessions: u64, written: u64, lost: u64) -> Sums {
+pub(crate) fn sums(sessions: u64, written: u64, lost: u64) -> Sums {
     Sums {
         sessions,
         taken: written.saturating_add(lost),
@@ -445,6 +445,7 @@ fn sessions_of_both_versions(rt: HostRuntime) {
 fn the_queue_that_the_last_session_made_is_removed(rt: HostRuntime) {
     let end = Ended {
         sums: sums(2, 0, 0),
+        refused: 0,
         removed: Ok(1),
         closed: EMPTY,
     };
@@ -455,6 +456,7 @@ fn the_queue_that_the_last_session_made_is_removed(rt: HostRuntime) {
 fn no_queue_is_left(rt: HostRuntime) {
     let end = Ended {
         sums: sums(5, 0, 0),
+        refused: 0,
         removed: Ok(0),
         closed: EMPTY,
     };

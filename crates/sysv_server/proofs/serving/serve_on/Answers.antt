@@ -1,11 +1,13 @@
 -- No more connections are accepted than the maximum.
-use Rattle.std.proofs.Common.{arith}
-use Rattle.std.specs.declared.net.unix.UnixStream.{UnixStream}
+use Rattle.std.proofs.Common.{◌≡◌, length, arith}
 use Rattle.sysv_server.proofs.Accepted.{serves_on}
 use Rattle.sysv_server.proofs.serving.serve_on.Goals as goal
 
-pub returns-clause-ok : goal.returns-clause-ok
-returns-clause-ok g c =
-    serves_on UnixStream c.args.blocks c.args.workers c.args.sessions c.lent-source.result c.serve_source.new.source
-    c.serve_source.result c.lent-source.ensures.1 c.lent-source.ensures.0 (let fits = c.ranges.sessions in omega arith)
-    c.serve_source.ensures.ok
+pub returns-in-Ok-clause-ok : goal.returns-in-Ok-clause-ok
+returns-in-Ok-clause-ok g c =
+    let ok = c.in-Some.books.ok in
+    let many = c.in-Some.ensures in
+    let counted : length c.in-Some.books.items ≡ c.args.workers = omega arith in
+    serves_on c.args.blocks c.args.workers c.args.sessions c.lent-source.result c.serve_all.new.source
+    c.in-Some.books.items c.serve_all.new.books.items c.in-Ok.ended c.lent-source.ensures.counts.1
+    c.lent-source.ensures.counts.0 (let fits = c.ranges.sessions in omega arith) counted c.in-Ok.ensures.ok

@@ -1,0 +1,121 @@
+//! Servers over connections in memory, whose sessions and replies were worked out by hand.
+ghost use Rattle.std.specs.Prelude.{◌≡◌, ◌≤◌, vec_len};
+
+use crate::server::{CREATE, EMPTY, FOUND, HELLO, KNOWN, RECEIVE, RECEIVED, SEND, SENT, sums};
+use std::alloc::Global;
+use std::process::Abort;
+use std::sync::Wait;
+use std::thread::Threads;
+use sysv_server::{Ended, MemoryConnection, Replies, serve_connections};
+use sysv_workers::Source;
+use tests_kit::worked::{ANSWERS, SESSION};
+
+/// A source of the connections of a list, the last one first.
+#[derive(Drop)]
+struct Listed<'a> {
+    left: Vec<MemoryConnection<'a>>,
+}
+
+impl<'a> Source<MemoryConnection<'a>> for Listed<'a> {
+    ghost gives = { λ old given new. old.left.items ≡ new.left.items ++ option_to_list given };
+
+    ghost use Rattle.std.specs.Prelude.{◌≡◌, ◌++◌, option_to_list};
+
+    fn next(&mut self) -> Option<MemoryConnection<'a>> {
+        self.left.pop()
+    }
+}
+
+/// Returns these bytes one after another.
+fn joined(rt: &impl Abort, alloc: Global, parts: &[&[u8]]) -> Vec<u8> {
+    let mut all = Vec::new(alloc);
+    for part in parts {
+        all.extend_from_slice(part).expect(rt, "memory");
+    }
+    all
+}
+
+/// Serves connections on which clients write these bytes, with one worker for each book.
+fn served<R: Threads + Wait + Abort + Sync>(
+    rt: &R,
+    alloc: Global,
+    clients: &[&[u8]],
+    books: &mut Vec<Replies>,
+) -> Ended
+    requires { (1 ≤ vec_len books.old) × (vec_len books.old ≤ 2) }
+{
+    let mut source = Listed {
+        left: Vec::new(alloc),
+    };
+    for input in clients {
+        let connection = MemoryConnection::new(alloc, input);
+        source.left.push(connection).expect(rt, "memory");
+    }
+    serve_connections(rt, alloc, &mut source, books, 128).expect(rt, "memory and threads")
+}
+
+/// Returns a book with room for two connections.
+fn book(rt: &impl Abort, alloc: Global) -> Replies {
+    Replies::with_room(alloc, 2).expect(rt, "memory")
+}
+
+/// Returns the number of connections in these books to which these replies were written.
+fn count(books: &[Replies], replies: &[u8]) -> usize {
+    let mut count = 0usize;
+    for book in books {
+        for kept in book.kept() {
+            if kept.as_slice() == replies {
+                count = count.saturating_add(1);
+            }
+        }
+    }
+    count
+}
+
+// The replies of the session are those that were worked out by hand.
+#[test]
+fn a_worked_session_in_memory(rt: HostRuntime) {
+    let alloc = rt.alloc();
+    let mut books = Vec::from_array(alloc, [book(&rt, alloc)]).expect(&rt, "memory");
+    let ended = served(&rt, alloc, &[SESSION], &mut books);
+    assert_eq!(rt;
+        ended,
+        Ended {
+            sums: sums(1, 1, 0),
+            refused: 0,
+            removed: Ok(1),
+            closed: EMPTY,
+        }
+    );
+    assert_eq!(rt; count(books.as_slice(), ANSWERS), 1);
+}
+
+// One client sends a message, and the other waits for it. Either may be first, and either may be
+// with either worker.
+#[test]
+fn two_clients_in_memory(rt: HostRuntime) {
+    let alloc = rt.alloc();
+    let sender = joined(&rt, alloc, &[HELLO, CREATE, SEND]);
+    let receiver = joined(&rt, alloc, &[HELLO, CREATE, RECEIVE]);
+    let sent = joined(&rt, alloc, &[KNOWN, FOUND, SENT]);
+    let received = joined(&rt, alloc, &[KNOWN, FOUND, RECEIVED]);
+    for clients in [
+        [sender.as_slice(), receiver.as_slice()],
+        [receiver.as_slice(), sender.as_slice()],
+    ] {
+        let books = [book(&rt, alloc), book(&rt, alloc)];
+        let mut books = Vec::from_array(alloc, books).expect(&rt, "memory");
+        let ended = served(&rt, alloc, &clients, &mut books);
+        assert_eq!(rt;
+            ended,
+            Ended {
+                sums: sums(2, 1, 0),
+                refused: 0,
+                removed: Ok(1),
+                closed: EMPTY,
+            }
+        );
+        assert_eq!(rt; count(books.as_slice(), sent.as_slice()), 1);
+        assert_eq!(rt; count(books.as_slice(), received.as_slice()), 1);
+    }
+}
