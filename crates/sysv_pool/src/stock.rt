@@ -18,7 +18,7 @@ const SHELVES: u32 = (MESSAGE_BYTES / BLOCK_BYTES) as u32;
 /// The free blocks: whole chains on a shelf for each number of blocks from 1 to 128, and loose
 /// blocks.
 pub(crate) struct Stock {
-    pub(crate) loose: Loose,
+    loose: Loose,
     shelves: Vec<Shelf>,
 }
 
