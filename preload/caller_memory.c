@@ -28,13 +28,13 @@ static size_t sum(const struct iovec *pieces, int count)
     return bytes;
 }
 
-/* Whether the system refuses these copies to everybody, as some sandboxes do. A plain copy is all
- * that is left then. */
+/* Whether the system refuses all such copies, as some sandboxes do. Then only a plain copy is
+ * possible. */
 static int is_refused(ssize_t copied) { return copied < 0 && errno != EFAULT; }
 
-/* Copies within this process by the system, which meets memory that is not there with EFAULT. That
- * it reads the other process and writes its caller, and never the reverse, is what checkers of
- * memory follow. */
+/* Copies within this process through the system, which fails with EFAULT if memory is missing. It
+ * always reads the "other" process and writes to its caller, because memory checkers follow that
+ * direction. */
 static ssize_t copy(
     const struct iovec *to, int to_pieces, const struct iovec *from, int from_pieces)
 {

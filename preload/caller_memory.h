@@ -1,4 +1,4 @@
-/* Copies from and to memory that the caller of a function named, which may not be there. */
+/* Copies from and to memory at an address that the program passed. The memory may be missing. */
 #ifndef CALLER_MEMORY_H
 #define CALLER_MEMORY_H
 

@@ -1,5 +1,6 @@
-/* msgget, msgsnd, msgrcv and msgctl of the C library, over a server's socket. Loaded before a
- * program's own libraries. Without SYSVMSG_PATH each call is the C library's own. */
+/* Replaces msgget, msgsnd, msgrcv and msgctl of the C library by calls to a server. The dynamic
+ * linker loads this library before a program's own ones. If SYSVMSG_PATH is not set, each call goes
+ * to the C library. */
 #define _GNU_SOURCE
 #undef _FILE_OFFSET_BITS /* 64 would make fopen another name of fopen64 */
 #include <dlfcn.h>

@@ -11,8 +11,8 @@
 bool has_server(void);
 
 /* Sends a request and reads its reply into the same frame. Returns 0, or the errno of the call. A
- * call that `may_wait` is a point of cancellation while it waits for its reply. It fails with
- * EINTR, and has no effect, if a signal handler runs meanwhile, unless SYSVMSG_EINTR is 0. */
+ * call that `may_wait` is a cancellation point while it waits for its reply. If a signal handler
+ * runs meanwhile, it fails with EINTR and has no effect, unless SYSVMSG_EINTR is 0. */
 int ask(struct frame *frame, bool may_wait);
 
 #endif

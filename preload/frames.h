@@ -1,6 +1,6 @@
-/* The frames of a session: a request is built in a buffer, and its reply is read into the same
- * buffer. A message's text is not copied: it goes from the caller's memory to the socket, and from
- * the socket to the caller's memory. docs/wire.md has the layout. */
+/* The frames of a session. A request is built in a buffer, and its reply is read into the same
+ * buffer. The body of a message is not copied: it goes from the caller's memory to the socket, or
+ * from the socket to the caller's memory. docs/wire.md has the layout. */
 #ifndef FRAMES_H
 #define FRAMES_H
 
@@ -12,16 +12,16 @@ enum operation { HELLO, GET, SND, RCV, STAT, SET, RM, ROW };
 
 enum {
     TEXT_MAX = 8192,                 /* the longest message */
-    LENGTH_BYTES = 4,                /* what a frame begins with */
+    LENGTH_BYTES = 4,                /* the length at the beginning of a frame */
     REQUEST_HEAD = LENGTH_BYTES + 2, /* a request up to its fields */
     REPLY_HEAD = LENGTH_BYTES + 3,   /* a reply up to its fields */
-    SLOTS_MAX = 65536,               /* the most that a server may say it has */
-    SND_FIELDS = 16,                 /* those of a send without the text */
-    TYPE_BYTES = 8, /* the field of a received message that comes before its text */
+    SLOTS_MAX = 65536,               /* the most that a server may report */
+    SND_FIELDS = 16,                 /* those of a send without the body */
+    TYPE_BYTES = 8, /* the field of a received message that comes before its body */
     STAT_FIELDS = 66,
     ROW_FIELDS = 23,
     MODE_MAX = 0777,
-    FRAME_ROOM = REPLY_HEAD + STAT_FIELDS + 1, /* more than each frame but for a message */
+    FRAME_ROOM = REPLY_HEAD + STAT_FIELDS + 1, /* more than any frame without its message body */
 };
 
 struct frame {
@@ -30,8 +30,8 @@ struct frame {
     size_t read;   /* the bytes of a reply that were taken from it */
     int slots;     /* of a reply: how many slots its server has */
     enum operation operation;
-    struct iovec message; /* in the caller's memory: the text of a send; the room of a receive for
-                             what follows REPLY_HEAD, which is the type and the text */
+    struct iovec message; /* in the caller's memory: the body of a send; the room of a receive for
+                             what follows REPLY_HEAD, which is the type and the body */
 };
 
 void frame_begin(struct frame *frame, enum operation operation);

@@ -1,6 +1,6 @@
-# Completion of sysvmsg(1) and sysvmsg-run(1) for bash. Words that it does not know complete to file names, as PATH does.
+# Completes the command lines of sysvmsg(1) and sysvmsg-run(1) in bash. Other words, as PATH, complete to file names.
 
-# Prints the options of a command, or the commands if it is none.
+# Prints the options of a command, or the commands if the word is not a command.
 _sysvmsg_words() {
     local credentials="--me --uid --gid --pid"
     case $1 in
