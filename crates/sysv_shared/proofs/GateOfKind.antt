@@ -292,16 +292,16 @@ module _ {O C R O' C' R' : Type 0} (kind : Kind O C R O' C' R') (Is : O → Type
         (omega arith, omega arith);
     back = (
       (λ back.
-      let of = from_some kind.object c.object back.0 (sym same.object ∙ back.1) in
-      let long = length-map k.log (turn_as kind) in
-      let ticket = same.next_ticket in
-      let all = k.back.0 (of.0, of.1) in
-      omega arith),
+          let of = from_some kind.object c.object back.0 (sym same.object ∙ back.1) in
+          let long = length-map k.log (turn_as kind) in
+          let ticket = same.next_ticket in
+          let all = k.back.0 (of.0, of.1) in
+          omega arith),
       (λ all.
-      let long = length-map k.log (turn_as kind) in
-      let ticket = same.next_ticket in
-      let was = k.back.1 (omega arith) in
-      (kind.object was.0, same.object ∙ ap (option_map kind.object) was.1)),
+          let long = length-map k.log (turn_as kind) in
+          let ticket = same.next_ticket in
+          let was = k.back.1 (omega arith) in
+          (kind.object was.0, same.object ∙ ap (option_map kind.object) was.1)),
     );
     worn = λ mark. same.next_ticket ∙ k.worn mark;
     alone = λ yes.
