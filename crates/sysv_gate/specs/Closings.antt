@@ -34,8 +34,8 @@ module _ {O C R : Type 0} where
   -- all below 2^62. The object is returned if and only if the ticket that is drawn next is that of
   -- the turn after the last one, so that every drawn ticket was served. If the seat has found the
   -- tickets worn out, the ticket that is drawn next is 2^62: if the object is returned then, the
-  -- gate has had all its turns. If the seat is alone, the history is what the seat has seen, and the
-  -- object is returned.
+  -- gate has had all its turns. If the seat is alone, the history is what the seat has seen, and
+  -- the object is returned.
   pub record Closes (moves : O → C → R → O → Type 0) (seat : Holding O C R) (c : Closing O) : Type 0 where
     pub log : List (Turn O C R)
     pub legal : IsLegal moves seat.gate.opening log
