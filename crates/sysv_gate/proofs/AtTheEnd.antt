@@ -5,6 +5,7 @@ use Rattle.std.specs.Prelude.{Option, Some, None, IfSome, IfNone}
 use mathlib.Core.Logic.{dite}
 use native.Mathlib.Decide.{dec_le, ℕ_discrete}
 use mathlib.Core.Option.{none, some, some-injective, some-ne-none}
+use Rattle.std.proofs.lemmas.Option.{none-some}
 use lib.ListN.{get_elem?}
 use Rattle.atomic_table.specs.Table.{State, Final, Seen}
 use Rattle.atomic_table.specs.Seated.{TableId}
@@ -44,6 +45,7 @@ module _ {O C R : Type 0} (moves : O → C → R → O → Type 0) (counted : O 
     pub numbers : v.numbers ≡ h.numbers
     pub seen : v.seen ≡ h.seen
     pub own : v.own ≡ h.own
+    pub worn : v.worn ≡ h.worn
     pub alone : v.alone ≡ h.alone
     pub no_ticket : v.tickets ≡ []
 
@@ -56,6 +58,8 @@ module _ {O C R : Type 0} (moves : O → C → R → O → Type 0) (counted : O 
     pub few : h.gate.first + length log ≤ 2 ^ 62
     pub whole : served ≡ next → held_object spot ≡ Some (after_all h.gate.opening log)
     pub due : served ≢ next → ATurnIsDue moves h.gate log
+    pub drawn : (h.gate.first + length log ≤ next) × (next ≤ 2 ^ 62)
+    pub worn : h.worn ≡ true → next ≡ 2 ^ 62
     pub alone : h.alone ≡ true → (log ≡ h.seen) × (served ≡ next)
 
   -- A list of one view has no two different views.
@@ -113,6 +117,8 @@ module _ {O C R : Type 0} (moves : O → C → R → O → Type 0) (counted : O 
             let holder = some_part (λ (v : View O C R). times s' v.tickets) s.views
             (omega (arith, once_between-first s' drawn less)) in
             (drawn, s.homes, s.views, kept, holder);
+        drawn = (omega arith, omega arith);
+        worn = λ mark. let reached = (kept.each id v at).worn (same.worn ∙ mark) in omega arith;
         alone = λ mark.
             let one = kept.alone id v at (same.alone ∙ mark) in
             let all = all_served opening first log drawn s.homes s.views kept (λ i u there.
@@ -120,10 +126,16 @@ module _ {O C R : Type 0} (moves : O → C → R → O → Type 0) (counted : O 
             (sym one.1 ∙ same.seen, omega arith);
       }
 
+  drawn_to : (log : List (Turn O C R)) (h : Holding O C R) (served next : ℕ) (spot : Spot O C R) (c : Closing O) →
+      Ended log h served next spot → c.next_ticket ≡ next →
+      (h.gate.first + length log ≤ c.next_ticket) × (c.next_ticket ≤ 2 ^ 62)
+  drawn_to log h served next spot c end ticket =
+      subst (λ n. (h.gate.first + length log ≤ n) × (n ≤ 2 ^ 62)) (sym ticket) end.drawn
+
   closes_whole : (log : List (Turn O C R)) (h : Holding O C R) (served next : ℕ) (spot : Spot O C R) (c : Closing O) →
       Ended log h served next spot → served ≡ next → c.object ≡ held_object spot → c.rest ≡ None →
-      c.turns ≡ served - h.gate.first → (closes : Closes moves h c) × (closes.log ≡ log)
-  closes_whole log h served next spot c end all object rest turns =
+      c.turns ≡ served - h.gate.first → c.next_ticket ≡ next → (closes : Closes moves h c) × (closes.log ≡ log)
+  closes_whole log h served next spot c end all object rest turns ticket =
       let count = end.count in
       let is : c.object ≡ Some (after_all h.gate.opening log) = object ∙ end.whole all in (
         record {
@@ -136,6 +148,9 @@ module _ {O C R : Type 0} (moves : O → C → R → O → Type 0) (counted : O 
           object = subst (λ (x : Option O). IfSome x (λ o. (o ≡ after_all h.gate.opening log) × (c.rest ≡ None)))
               (sym is) (refl, rest);
           due = subst (λ (x : Option O). IfNone x (ATurnIsDue moves h.gate log)) (sym is) tt;
+          drawn = drawn_to log h served next spot c end ticket;
+          back = ((λ back. ticket ∙ sym all ∙ count), (λ same. (after_all h.gate.opening log, is)));
+          worn = λ mark. ticket ∙ end.worn mark;
           alone = λ mark.
               let one = end.alone mark in
               (one.0, is ∙ ap (λ (l : List (Turn O C R)). Some (after_all h.gate.opening l)) one.0);
@@ -145,8 +160,8 @@ module _ {O C R : Type 0} (moves : O → C → R → O → Type 0) (counted : O 
 
   closes_due : (log : List (Turn O C R)) (h : Holding O C R) (served next : ℕ) (spot : Spot O C R) (c : Closing O) →
       Ended log h served next spot → served ≢ next → c.object ≡ None → c.turns ≡ served - h.gate.first →
-      (closes : Closes moves h c) × (closes.log ≡ log)
-  closes_due log h served next spot c end more object turns =
+      c.next_ticket ≡ next → (closes : Closes moves h c) × (closes.log ≡ log)
+  closes_due log h served next spot c end more object turns ticket =
       let count = end.count in (
         record {
           log = log;
@@ -158,6 +173,12 @@ module _ {O C R : Type 0} (moves : O → C → R → O → Type 0) (counted : O 
           object = subst (λ (x : Option O). IfSome x (λ o. (o ≡ after_all h.gate.opening log) × (c.rest ≡ None)))
               (sym object) tt;
           due = subst (λ (x : Option O). IfNone x (ATurnIsDue moves h.gate log)) (sym object) (end.due more);
+          drawn = drawn_to log h served next spot c end ticket;
+          back = (
+            (λ back. absurd (none-some back.0 (sym object ∙ back.1))),
+            (λ same. absurd (more (count ∙ sym same ∙ ticket))),
+          );
+          worn = λ mark. ticket ∙ end.worn mark;
           alone = λ mark. absurd (more (end.alone mark).1);
         },
         refl,
@@ -205,7 +226,7 @@ module _ {O C R : Type 0} (moves : O → C → R → O → Type 0) (counted : O 
       let many : length St.homes ≡ length openings = final.1.0.1.homes in
       ended_by moves counted (holding table first o (view_at place v)) id (view_at place v) (state_at place St)
       (turns_at place Order) read.served read.next read.spot (gated place o opens) (view_there place)
-      (record { numbers = refl; seen = refl; own = refl; alone = refl; no_ticket = empty })
+      (record { numbers = refl; seen = refl; own = refl; worn = refl; alone = refl; no_ticket = empty })
       (word_there place 16 read.served (omega arith) read.at_served)
       (word_there place 32 read.next (omega arith) read.at_next)
       (λ x there.
@@ -224,8 +245,9 @@ module _ {O C R : Type 0} (moves : O → C → R → O → Type 0) (counted : O 
       dite (ℕ_discrete read.served read.next)
       (λ all.
       let w = read.whole all in
-      closes_whole moves counted log h read.served read.next read.spot c end all w.0 w.1 read.turns)
-      (λ more. closes_due moves counted log h read.served read.next read.spot c end more (read.due more) read.turns)
+      closes_whole moves counted log h read.served read.next read.spot c end all w.0 w.1 read.turns read.ticket)
+      (λ more.
+      closes_due moves counted log h read.served read.next read.spot c end more (read.due more) read.turns read.ticket)
 
   -- If the pass has the whole table, the place returns its object.
   pub back_at : (place : ℕ) (o : O) (table : TableId) (c : Closing O) → get_elem? openings place ≡ some o →

@@ -1,5 +1,5 @@
 -- What a gate returns when it is closed. This project's profile.
-use Rattle.std.specs.Prelude.{◌≡◌, ℕ, ◌+◌, ◌^◌, ◌≤◌, true, List, length, Option, Some, None, IfSome, IfNone}
+use Rattle.std.specs.Prelude.{◌≡◌, ℕ, ◌+◌, ◌^◌, ◌≤◌, ◌↔◌, true, List, length, Option, Some, None, IfSome, IfNone}
 use mathlib.Core.Option.{some}
 use lib.ListN.{get_elem?}
 use Rattle.sysv_gate.specs.declared.closing.Closing.{Closing}
@@ -31,8 +31,11 @@ module _ {O C R : Type 0} where
   -- There is one legal history of all turns. It begins with all that the seat had seen, and of the
   -- seat's own turns it has exactly those that the seat knows of. The number of its turns is
   -- returned, and the object after them, unless a turn is still due. The tickets of these turns are
-  -- all below 2^62. If the seat is alone, the history is what the seat has seen, and the object is
-  -- returned.
+  -- all below 2^62. The object is returned if and only if the ticket that is drawn next is that of
+  -- the turn after the last one, so that every drawn ticket was served. If the seat has found the
+  -- tickets worn out, the ticket that is drawn next is 2^62: if the object is returned then, the
+  -- gate has had all its turns. If the seat is alone, the history is what the seat has seen, and
+  -- the object is returned.
   pub record Closes (moves : O → C → R → O → Type 0) (seat : Holding O C R) (c : Closing O) : Type 0 where
     pub log : List (Turn O C R)
     pub legal : IsLegal moves seat.gate.opening log
@@ -42,4 +45,7 @@ module _ {O C R : Type 0} where
     pub few : seat.gate.first + length log ≤ 2 ^ 62
     pub object : IfSome c.object (λ o. (o ≡ after_all seat.gate.opening log) × (c.rest ≡ None))
     pub due : IfNone c.object (ATurnIsDue moves seat.gate log)
+    pub drawn : (seat.gate.first + length log ≤ c.next_ticket) × (c.next_ticket ≤ 2 ^ 62)
+    pub back : IsBack c ↔ (c.next_ticket ≡ seat.gate.first + length log)
+    pub worn : seat.worn ≡ true → c.next_ticket ≡ 2 ^ 62
     pub alone : seat.alone ≡ true → (log ≡ seat.seen) × (c.object ≡ Some (after_all seat.gate.opening seat.seen))

@@ -18,5 +18,6 @@ pub record IsReadAt {O C R : Type 0} (first : ℕ) (words : List ℕ) (slots : L
   pub at_next : get_elem? words (80 * place + 32) ≡ some next
   pub at_spot : get_elem? slots place ≡ some spot
   pub turns : c.turns ≡ served - first
+  pub ticket : c.next_ticket ≡ next
   pub whole : served ≡ next → (c.object ≡ held_object spot) × (c.rest ≡ None)
   pub due : served ≢ next → c.object ≡ None

@@ -61,11 +61,13 @@ pub fn close_place<O: Object>(
             object: None,
             rest: left,
             turns,
+            next_ticket: next,
         };
     }
     Closing {
         object: left,
         rest: None,
         turns,
+        next_ticket: next,
     }
 }

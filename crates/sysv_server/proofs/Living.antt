@@ -107,7 +107,7 @@ module _ (law : EachSessionMakesCalls zero_moment ⊤) where
       }
 
   pub each_life : EveryHiringObeys → EveryStopRemoves → EachLifeIsOneRun
-  each_life obeys stops blocks gates shifts removed stopped closed counted opened fits hires unmarked =
+  each_life obeys stops blocks gates shifts removed stopped closed counted opened fits hires turns_left =
       let done = in_shifts shifts in
       let stop = stops _ stopped.removed stopped.worn stopped.before stopped.after stopped.stops in
       record {
@@ -117,17 +117,17 @@ module _ (law : EachSessionMakesCalls zero_moment ⊤) where
         are_removals = stop.2;
         counted = stop.3;
         served = obeys 0 blocks 0 gates (first_passes shifts) (last_passes shifts) stopped.before stopped.after
-            done.each stop.0 closed opened hires done.works stop.1 unmarked fits counted;
+            done.each stop.0 closed opened hires done.works stop.1 fits counted turns_left;
       }
 
   pub each_whole : EveryHiringLeavesThePoolWhole → EveryStopRemoves → EachLifeLeavesThePoolWhole
-  each_whole home stops blocks gates shifts removed stopped closed counted opened fits hires unmarked =
+  each_whole home stops blocks gates shifts removed stopped closed counted opened fits hires turns_left =
       let done = in_shifts shifts in
       let stop = stops _ stopped.removed stopped.worn stopped.before stopped.after stopped.stops in
       let rest : All Resting (all_of done.each ++ stop.0) = All-from_recursion Resting (all_of done.each ++ stop.0)
       (both (all_of done.each) stop.0 done.rests (removals_rest stop.0 stop.2)) in
       home 0 blocks 0 gates (first_passes shifts) (last_passes shifts) stopped.before stopped.after done.each stop.0
-      closed opened hires done.works stop.1 unmarked fits counted rest
+      closed opened hires done.works stop.1 fits counted turns_left rest
 
   pub each_none_held : NoHiringLeavesAGateHeld → EveryStopRemoves → NoLifeLeavesAGateHeld
   each_none_held none stops gates shifts removed stopped closed counted hires =

@@ -12,10 +12,10 @@ use Rattle.sysv_model.specs.declared.errno.Errno.{Errno}
 use Rattle.sysv_service.specs.declared.closing.Closed.{Closed}
 use Rattle.sysv_service.specs.Closing.{IsCounted}
 use Rattle.sysv_service.specs.Hiring.{first_pass, Hires, all_of, IsRemoval, removed_at}
-use Rattle.sysv_service.specs.Marks.{IsUnmarked}
 use Rattle.sysv_service.specs.PoolWhole.{IsWholeAgain}
 use Rattle.sysv_service.specs.Ran.{Pass}
 use Rattle.sysv_service.specs.Stopped.{Stops, TellsStop}
+use Rattle.sysv_service.specs.TurnsLeft.{EachGateHasTurnsLeft}
 use Rattle.sysv_server.specs.Handled.{Shift, first_passes, last_passes, AreMadeBy}
 
 -- The calls of the sessions, each answered as it ended or left without a reply, and the removals of
@@ -42,29 +42,29 @@ pub record Stopped (gates : Gates) (told : Result ℕ Errno) : Type 0 where
 
 -- What a server did with these gates from their opening to their close. Its first pass gave each
 -- worker a pass and took all passes back, made the stop, and closed the gates. All of it is one run
--- if that pass is unmarked at the close, that is, if no gate was found worn out. Then the pool has
--- all its blocks. No gate is held in either case.
+-- if each gate has turns left at the close, that is, if fewer than 2^62 turns were made at each
+-- object. Then the pool has all its blocks. No gate is held in either case.
 pub record Lived (blocks : ℕ) (gates : Gates) (shifts : List Shift) (removed : Result ℕ Errno) : Type 0 where
   pub stopped : Stopped gates removed
   pub hires : Hires (first_pass gates) (first_passes shifts) (last_passes shifts) stopped.before
   pub closed : Closed
   pub counted : IsCounted stopped.after.seats stopped.after.held closed
-  pub run : IsUnmarked stopped.after.seats → IsOneRun blocks shifts stopped.removed counted.all.order
+  pub run : EachGateHasTurnsLeft 0 counted.all.order → IsOneRun blocks shifts stopped.removed counted.all.order
   pub held : closed.held ≡ 0
-  pub whole : IsUnmarked stopped.after.seats → IsWholeAgain blocks closed
+  pub whole : EachGateHasTurnsLeft 0 counted.all.order → IsWholeAgain blocks closed
 
 -- ---- the laws
 
 -- The gates were opened for a service with this number of blocks. The first pass gave the workers
--- their passes, took them back and made a stop, and the gates were closed with it. If that pass is
--- unmarked, then all of it is one run.
+-- their passes, took them back and made a stop, and the gates were closed with it. If each gate has
+-- turns left at the close, then all of it is one run.
 abbrev pub EachLifeIsOneRun : Type 0
 EachLifeIsOneRun = (blocks : ℕ) (gates : Gates) (shifts : List Shift) (removed : Result ℕ Errno)
     (stopped : Stopped gates removed) (closed : Closed) →
     (counted : IsCounted stopped.after.seats stopped.after.held closed) → AreOpen 0 blocks 0 gates →
     AreOf gates stopped.after.seats →
     Hires (first_pass gates) (first_passes shifts) (last_passes shifts) stopped.before →
-    IsUnmarked stopped.after.seats → IsOneRun blocks shifts stopped.removed counted.all.order
+    EachGateHasTurnsLeft 0 counted.all.order → IsOneRun blocks shifts stopped.removed counted.all.order
 
 -- No gate is held after the close of such gates, also if one was found worn out.
 abbrev pub NoLifeLeavesAGateHeld : Type 0
@@ -73,11 +73,11 @@ NoLifeLeavesAGateHeld = (gates : Gates) (shifts : List Shift) (removed : Result 
     IsCounted stopped.after.seats stopped.after.held closed →
     Hires (first_pass gates) (first_passes shifts) (last_passes shifts) stopped.before → closed.held ≡ 0
 
--- The pool has all its blocks too, if the pass with which they were closed is unmarked.
+-- The pool has all its blocks too, if each gate has turns left at the close.
 abbrev pub EachLifeLeavesThePoolWhole : Type 0
 EachLifeLeavesThePoolWhole = (blocks : ℕ) (gates : Gates) (shifts : List Shift) (removed : Result ℕ Errno)
     (stopped : Stopped gates removed) (closed : Closed) →
-    IsCounted stopped.after.seats stopped.after.held closed → AreOpen 0 blocks 0 gates →
+    (counted : IsCounted stopped.after.seats stopped.after.held closed) → AreOpen 0 blocks 0 gates →
     AreOf gates stopped.after.seats →
     Hires (first_pass gates) (first_passes shifts) (last_passes shifts) stopped.before →
-    IsUnmarked stopped.after.seats → IsWholeAgain blocks closed
+    EachGateHasTurnsLeft 0 counted.all.order → IsWholeAgain blocks closed

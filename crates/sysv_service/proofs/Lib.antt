@@ -12,6 +12,7 @@ pub mod NoneKept
 pub mod Whole
 pub mod PoolIsWhole
 pub mod MarkStays
+pub mod UnwornAtTheEnd
 pub mod PlayedWithWorn
 pub mod PlaysOwnTurns
 pub mod ResultIsRight

@@ -24,7 +24,6 @@ use Rattle.sysv_queue.specs.StandsFor.{StandsFor as SlotStandsFor}
 use Rattle.sysv_core.specs.Conserved.{blocks_waiting}
 use Rattle.sysv_thread_laws.specs.Crew.{EveryServiceIsARun, EveryLastPassIsWhole}
 use Rattle.sysv_gate.specs.declared.closing.Closing.{Closing}
-use Rattle.sysv_gate.specs.declared.view.Turn.{Turn as GateTurn}
 use Rattle.sysv_gate.specs.History.{Moves, after_all}
 use Rattle.sysv_gate.specs.Gates.{Gateway}
 use Rattle.sysv_gate.specs.Closings.{IsBack, Closes}
@@ -40,6 +39,7 @@ use Rattle.sysv_shared.proofs.Histories.{pool_sized}
 use Rattle.sysv_service.specs.Closing.{is_held, all_held, takes_back, with_chain, with_slot, with_slots, free_in}
 use Rattle.sysv_service.specs.PoolWhole.{NoHiringLeavesAGateHeld, EveryPoolIsWhole, EveryHiringLeavesThePoolWhole}
 use Rattle.sysv_service.specs.Hiring.{all_of}
+use Rattle.sysv_service.proofs.UnwornAtTheEnd.{many_entries, unmarked_at_the_end}
 use Rattle.sysv_service.proofs.WorkersOfLife.{hired}
 use Rattle.sysv_service.proofs.PassesAreCrew.{crew_of, opened_so, every_service}
 use Rattle.sysv_service.proofs.NoneKept.{none_kept}
@@ -118,12 +118,6 @@ not_held c back = ap is_held back.1
 all_there : (cs : List (Closing Slot)) → AllByRecursion IsBack cs → all_held cs ≡ 0
 all_there [] back = refl
 all_there (c ∷ cs) back = omega (arith, not_held c back.0, all_there cs back.1)
-
--- There are as many entries as turns.
-many_entries : {O C R E : Type 0} (entry : O → GateTurn O C R → E) (before : O) (log : List (GateTurn O C R)) →
-    length (entries entry before log) ≡ length log
-many_entries entry before [] = refl
-many_entries entry before (t ∷ ts) = ap suc (many_entries entry t.after ts)
 
 -- If a gate is not held, its object is this one.
 is_there : {O : Type 0} (o : Option O) (x : O) (Q : Type 0) → IfSome o (λ y. (y ≡ x) × Q) → is_held o ≡ 0 → o ≡ Some x
@@ -249,6 +243,9 @@ every_pool histories law home generation blocks first gates last calls closed li
 
 pub every_hired_pool : EveryPoolIsWhole → EveryHiringLeavesThePoolWhole
 every_hired_pool law generation blocks first gates theirs left home last each calls closed opened hires works removes
-    none fits end rest =
+    fits end turns_left rest =
+    let whole = last_is_whole gates theirs left home last each calls hires works removes in
+    let none = unmarked_at_the_end generation blocks first gates last.seats end.parts opened fits end.all whole
+    turns_left in
     law generation blocks first gates last (all_of each ++ calls) closed
     (hired generation blocks first gates theirs left home last each calls opened hires works removes none) fits end rest

@@ -25,6 +25,8 @@ use Rattle.sysv_service.specs.Stopped.{Stops, StopsAt, removed_by, superuser}
 use Rattle.sysv_service.specs.Working as working
 use Rattle.sysv_service.specs.Working.{Works}
 use Rattle.sysv_service.proofs.MarkStays.{no_mark_by_read, no_mark_by_row, no_mark_by_join, finds_turns}
+use Rattle.sysv_service.proofs.UnwornAtTheEnd.{unmarked_at_the_end}
+use Rattle.sysv_service.proofs.Whole.{last_is_whole}
 
 -- ---- one pass
 
@@ -160,8 +162,11 @@ hired generation blocks first gates theirs left home last each calls opened hire
     works_there generation blocks first gates [] [] (all_of each) home calls last removes none back
 
 pub every_hiring : EveryServiceObeys → EveryHiringObeys
-every_hiring law generation blocks first gates theirs left home last each calls closed opened hires works removes none
-    fits end =
+every_hiring law generation blocks first gates theirs left home last each calls closed opened hires works removes fits
+    end turns_left =
+    let whole = last_is_whole gates theirs left home last each calls hires works removes in
+    let none = unmarked_at_the_end generation blocks first gates last.seats end.parts opened fits end.all whole
+    turns_left in
     law generation blocks first gates last (all_of each ++ calls) closed
     (hired generation blocks first gates theirs left home last each calls opened hires works removes none) fits end
 

@@ -12,9 +12,9 @@ use Rattle.sysv_shared.specs.Seats.{Gates, AreOf}
 use Rattle.sysv_shared.specs.Sharing.{AreSplit, AreJoined}
 use Rattle.sysv_service.specs.declared.closing.Closed.{Closed}
 use Rattle.sysv_service.specs.Closing.{IsCounted}
-use Rattle.sysv_service.specs.Marks.{IsUnmarked}
 use Rattle.sysv_service.specs.Ran.{Pass}
 use Rattle.sysv_service.specs.Stopped.{Stops, removed_by, superuser}
+use Rattle.sysv_service.specs.TurnsLeft.{EachGateHasTurnsLeft}
 use Rattle.sysv_service.specs.Working.{Works}
 
 -- The pass with which a service is opened.
@@ -44,14 +44,15 @@ all_of each = flat_map (λ calls. calls) each
 
 -- The calls of the workers, and those that the first pass made after them, are all that made the
 -- order that was found at the close, and the order is a run of a world with them, which obeys the
--- headline of threads. This holds if the last pass is unmarked, since then no pass found a gate
--- worn out.
+-- headline of threads. This holds if each gate has turns left after that order, since then no pass
+-- found a gate worn out.
 abbrev pub EveryHiringObeys : Type 0
 EveryHiringObeys = (generation blocks first : ℕ) (gates : Gates) (theirs left : List Pass) (home last : Pass)
     (each : List (List Called)) (calls : List Called) (closed : Closed) →
     AreOpen generation blocks first gates → Hires (first_pass gates) theirs left home → Each3 Works theirs each left →
     Works home calls last →
-    IsUnmarked last.seats → AreOf gates last.seats → (end : IsCounted last.seats last.held closed) →
+    AreOf gates last.seats → (end : IsCounted last.seats last.held closed) →
+    EachGateHasTurnsLeft first end.all.order →
     IsServed generation blocks end.all.order (all_of each ++ calls)
 
 -- A removal of a queue by the superuser, which is over.

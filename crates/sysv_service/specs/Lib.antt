@@ -20,6 +20,7 @@ pub mod Retried
 pub mod Life
 pub mod PoolWhole
 pub mod Marks
+pub mod TurnsLeft
 pub mod PlayedWorn
 pub mod OwnTurns
 pub mod Overflows

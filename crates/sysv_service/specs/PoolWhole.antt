@@ -11,8 +11,8 @@ use Rattle.sysv_service.specs.declared.closing.Closed.{Closed}
 use Rattle.sysv_service.specs.Closing.{IsCounted}
 use Rattle.sysv_service.specs.Hiring.{first_pass, Hires, all_of}
 use Rattle.sysv_service.specs.Life.{Lives}
-use Rattle.sysv_service.specs.Marks.{IsUnmarked}
 use Rattle.sysv_service.specs.Ran.{Pass}
+use Rattle.sysv_service.specs.TurnsLeft.{EachGateHasTurnsLeft}
 use Rattle.sysv_service.specs.Working.{Works}
 
 -- No gate is held, and the pool has all its blocks.
@@ -37,11 +37,12 @@ EveryPoolIsWhole = (generation blocks first : ℕ) (gates : Gates) (last : Pass)
     All (λ (c : Called). Rests c.state) calls → IsWholeAgain blocks closed
 
 -- The same of a service whose first pass gave a pass to each worker and took all of them back, if
--- the last pass is unmarked.
+-- each gate has turns left after the order that was found at the close.
 abbrev pub EveryHiringLeavesThePoolWhole : Type 0
 EveryHiringLeavesThePoolWhole = (generation blocks first : ℕ) (gates : Gates) (theirs left : List Pass)
     (home last : Pass) (each : List (List Called)) (calls : List Called) (closed : Closed) →
     AreOpen generation blocks first gates → Hires (first_pass gates) theirs left home → Each3 Works theirs each left →
     Works home calls last →
-    IsUnmarked last.seats → AreOf gates last.seats → IsCounted last.seats last.held closed →
+    AreOf gates last.seats → (end : IsCounted last.seats last.held closed) →
+    EachGateHasTurnsLeft first end.all.order →
     All (λ (c : Called). Rests c.state) (all_of each ++ calls) → IsWholeAgain blocks closed

@@ -92,6 +92,7 @@ fn end_slot(slot: Closing<QueueSlot>, pool: &mut Option<Pool>) -> Option<u32>
         object,
         rest,
         turns: _,
+        next_ticket: _,
     } = slot;
     if let Some(rest) = rest {
         rest.end().end();
@@ -118,6 +119,7 @@ fn end_pool(pool: Closing<Pool>) -> (Option<Pool>, u32)
         object,
         rest,
         turns: _,
+        next_ticket: _,
     } = pool;
     if let Some(rest) = rest {
         rest.end();

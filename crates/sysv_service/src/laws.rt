@@ -92,8 +92,8 @@ pub fn every_service_obeys<C: Clock>(clock: &C)
 /// States the same of a service whose first pass gave a pass to each worker and took all of them
 /// back. The calls of the workers, and those that the first pass made afterwards, are all that made
 /// the order of turns that is found at the close. That order is a run of a world with them, and it
-/// obeys the headline of threads. This holds if the last pass is unmarked: then no call found a
-/// gate worn out.
+/// obeys the headline of threads. This holds if fewer than 2^62 turns were made at each object,
+/// with tickets from 0 on: then no call found a gate worn out.
 ///
 /// The second clause states that a stop makes removals, and no other call.
 pub fn every_hiring_obeys()
@@ -108,8 +108,9 @@ pub fn every_hiring_obeys()
 /// a gate worn out.
 ///
 /// The clause `hired` states the same of a service whose first pass gave a pass to each worker and
-/// took all of them back, if the last pass is unmarked. The clause `none_held` states that no gate
-/// is held after the close of such a service, also if calls found gates worn out.
+/// took all of them back, if fewer than 2^62 turns were made at each object, with tickets from 0
+/// on. The clause `none_held` states that no gate is held after the close of such a service, also
+/// if calls found gates worn out.
 pub fn every_pool_is_whole()
     ensures whole { EveryPoolIsWhole }
     ensures hired { EveryHiringLeavesThePoolWhole }

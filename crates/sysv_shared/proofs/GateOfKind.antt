@@ -1,6 +1,6 @@
 -- What holds of a gate whose objects stay of one kind also holds of it as a gate of that kind.
 use Rattle.std.proofs.Common.{◌≡◌, ℕ, zero, suc, ◌+◌, ◌^◌, ◌≤◌, Option, Some, None, IfSome, IfNone, List, [], ◌∷◌, ◌++◌}
-use Rattle.std.proofs.Common.{map, length, sum_by, ap, sym, subst, refl, ◌∙◌}
+use Rattle.std.proofs.Common.{map, length, sum_by, ap, sym, subst, refl, ◌∙◌, arith}
 use Rattle.std.specs.Prelude.{option_map}
 use Rattle.std.proofs.lemmas.List.{map-append, length-map}
 use Rattle.std.proofs.lemmas.List.Sums.{sum_by-cons}
@@ -284,6 +284,26 @@ module _ {O C R O' C' R' : Type 0} (kind : Kind O C R O' C' R') (Is : O → Type
         (of.2 ∙ ap kind.object was.0 ∙ after_as kind seat.gate.opening k.log, same.rest was.1));
     due = none_then c'.object _ (λ none.
         due_as seat.gate k.log is (none_of c.object _ (from_none kind.object c.object (sym same.object ∙ none)) k.due));
+    drawn =
+        let long = length-map k.log (turn_as kind) in
+        let ticket = same.next_ticket in
+        let from = k.drawn.0 in
+        let to = k.drawn.1 in
+        (omega arith, omega arith);
+    back = (
+      (λ back.
+          let of = from_some kind.object c.object back.0 (sym same.object ∙ back.1) in
+          let long = length-map k.log (turn_as kind) in
+          let ticket = same.next_ticket in
+          let all = k.back.0 (of.0, of.1) in
+          omega arith),
+      (λ all.
+          let long = length-map k.log (turn_as kind) in
+          let ticket = same.next_ticket in
+          let was = k.back.1 (omega arith) in
+          (kind.object was.0, same.object ∙ ap (option_map kind.object) was.1)),
+    );
+    worn = λ mark. same.next_ticket ∙ k.worn mark;
     alone = λ yes.
         let a = k.alone yes in (
           ap (map (turn_as kind)) a.0,

@@ -39,3 +39,4 @@ module _ {O C R O' C' R' : Type 0} (kind : Kind O C R O' C' R') where
     pub object : c'.object ≡ option_map kind.object c.object
     pub rest : c.rest ≡ None → c'.rest ≡ None
     pub turns : c'.turns ≡ c.turns
+    pub next_ticket : c'.next_ticket ≡ c.next_ticket

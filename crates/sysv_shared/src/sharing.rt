@@ -107,11 +107,13 @@ fn slot_closing(closing: Closing<SharedObject>) -> Closing<QueueSlot>
         object,
         rest,
         turns,
+        next_ticket,
     } = closing;
     Closing {
         object: slot_of(object),
         rest: slot_of(rest),
         turns,
+        next_ticket,
     }
 }
 
@@ -123,11 +125,13 @@ fn registry_closing(closing: Closing<SharedObject>) -> Closing<Registry>
         object,
         rest,
         turns,
+        next_ticket,
     } = closing;
     Closing {
         object: registry_of(object),
         rest: registry_of(rest),
         turns,
+        next_ticket,
     }
 }
 
@@ -139,11 +143,13 @@ fn pool_closing(closing: Closing<SharedObject>) -> Closing<Pool>
         object,
         rest,
         turns,
+        next_ticket,
     } = closing;
     Closing {
         object: pool_of(object),
         rest: pool_of(rest),
         turns,
+        next_ticket,
     }
 }
 

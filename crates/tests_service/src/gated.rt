@@ -121,6 +121,7 @@ fn end_slots(mut closings: Vec<Closing<QueueSlot>>) {
             object,
             rest,
             turns: _,
+            next_ticket: _,
         } = closing;
         end_slot(object);
         end_slot(rest);

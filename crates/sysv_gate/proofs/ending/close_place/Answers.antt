@@ -10,6 +10,7 @@ returns-then-served-next-clause-read g c = record {
   at_next = c.word-next.ensures;
   at_spot = c.take.ensures.value;
   turns = refl;
+  ticket = refl;
   whole = λ all. absurd (c.if-served-next.true all);
   due = λ more. refl;
 }
@@ -23,6 +24,7 @@ returns-clause-read g c = record {
   at_next = c.word-next.ensures;
   at_spot = c.take.ensures.value;
   turns = refl;
+  ticket = refl;
   whole = λ all. (c.object_in-left.ensures, refl);
   due = λ more. absurd (more c.if-served-next.false);
 }

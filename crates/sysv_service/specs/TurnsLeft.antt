@@ -1,0 +1,16 @@
+-- The turns that are left at the gates of a service when it is closed. This project's profile.
+use Rattle.std.specs.Prelude.{ℕ, ◌+◌, ◌^◌, ◌<◌, List, length}
+use Rattle.sysv_model.specs.Turn.{slot_history, registry_history, pool_history}
+use Rattle.sysv_passes.specs.Turns.{Numbered, turns_of}
+use Rattle.sysv_keys.specs.declared.identifier.TheConstants.{SLOTS}
+
+-- A gate has turns left after this number of turns, if its tickets began at `first`.
+abbrev pub HasTurnsLeft : ℕ → ℕ → Type 0
+HasTurnsLeft first turns = first + turns < 2 ^ 62
+
+-- If tickets begin at 0, this order has fewer than 2^62 turns at each slot, at the registry and at
+-- the pool. If they begin at `first`, it has fewer than 2^62 - `first` turns at each.
+pub record EachGateHasTurnsLeft (first : ℕ) (order : List Numbered) : Type 0 where
+  pub slots : (slot : ℕ) → slot < SLOTS → HasTurnsLeft first (length (slot_history slot (turns_of order)))
+  pub registry : HasTurnsLeft first (length (registry_history (turns_of order)))
+  pub pool : HasTurnsLeft first (length (pool_history (turns_of order)))
