@@ -1,137 +1,261 @@
--- Each line of a script goes on with the run that led to its world, or opens a new one.
-use Rattle.std.proofs.Common.{◌≡◌, ℕ, zero, suc, ◌+◌, Bool, true, false, if◌then◌else◌, Option, None, Some, List, []}
-use Rattle.std.proofs.Common.{◌∷◌, ◌++◌, refl, sym, ap, subst, ◌∙◌, append-nil, append_assoc}
-use Rattle.sysv_core.specs.Run.{Leads}
-use Rattle.sysv_core.specs.Seen.{happening_of}
-use Rattle.sysv_core.specs.World.{World, Happening, Given, Preset, Makes, actor_at, opening}
-use Rattle.sysv_steps.specs.declared.call.Call.{Call}
-use Rattle.sysv_core.specs.declared.event.Event.{Event}
-use Rattle.sysv_core.specs.declared.event.Event.TheVariants.{Start, Step}
+-- Each line of a script goes on with the run that led to its world, or opens a new one, and prints
+-- the results of the calls that end.
+use Rattle.std.proofs.Common.{◌≡◌, inl, inr, ℕ, zero, suc, ◌+◌, Bool, true, false, if◌then◌else◌, Option, None, Some}
+use Rattle.std.proofs.Common.{List, [], ◌∷◌, ◌++◌, refl, sym, ap, subst, ◌∙◌, append_assoc}
+use Rattle.std.specs.List.{range_with_len}
+use Rattle.sysv_steps.specs.Call.{SystemCall}
+use Rattle.sysv_core.specs.World.{World, Preset, actor_at, opening}
 use Rattle.sysv_core.specs.declared.event.Stepped.{Stepped}
 use Rattle.sysv_core.specs.declared.event.Stepped.TheVariants as stepped
 use Rattle.sysv_lines.specs.Said.{Said, Nothing, MakesPreset, GivesCred, GivesMoment, Starts, StepsOnce, Continues}
 use Rattle.sysv_lines.specs.Said.{AllContinue, GivesBlocks}
+use Rattle.sysv_lines.specs.Names.{operation_of}
 use Rattle.sysv_lines.specs.declared.actor.TheConstants.{SCRIPT_ACTORS}
 use Rattle.sysv_lines.specs.declared.names.Operation.{Operation}
-use Rattle.sysv_steps.specs.Call.{SystemCall}
-use Rattle.sysv_script.specs.Scene.{Scene, in_world, begun_scene, opening_world, LineActs, Advances, GoesOn, StartsAs}
-use Rattle.sysv_script.specs.Scene.{call_for, most_steps, StartRuns, StepsRun, OneRuns, AllRun, LineRuns, under_way}
-use Rattle.std.specs.List.{range_with_len}
-use Rattle.sysv_script.specs.ScriptText.{LineDoes}
+use Rattle.sysv_script.specs.Scene.{Scene, in_world, begun_scene, opening_scene, opening_world, LineActs}
+use Rattle.sysv_script.specs.Scene.{GoesOn, CallRuns, StartRuns, StepsRun, OneRuns, AllRun, LineRuns, under_way}
+use Rattle.sysv_script.specs.Scene.{most_steps}
+use Rattle.sysv_script.specs.ScriptText.{Ending, Prints, Ends, Exceeds, Fails, Goes}
 use Rattle.sysv_script.specs.Sofar.{PrintsSofar, Here, Past}
-use Rattle.sysv_script.specs.ScriptRun.{IsOfRun, EachScriptIsARun}
+use Rattle.sysv_script.specs.Results.{HasResults, Empty, LeadsPrinting, IsOfRunPrinting}
+use Rattle.sysv_script.specs.ScriptRun.{IsOfRun, FollowsPrinting, last_text, EachScriptIsARun}
+use Rattle.sysv_script.proofs.OwnOperation.{AreOwn, own_leads, own_opening, calls_under_way}
+use Rattle.sysv_script.proofs.ResultsPrinted.{leads_append, print_both, rests, one_makes, without_result, goes_on_to}
+use Rattle.sysv_script.proofs.ResultsPrinted.{call_runs_to, steps_print}
 
 opens : (blocks : ℕ) → IsOfRun (opening_world blocks)
 opens blocks = (record { actors = SCRIPT_ACTORS; blocks = blocks; first = 0; generation = 0 }, [], [], (refl, refl))
 
-leads_more : (w : World) (xs : List Happening) (x : Happening) (given more : List Given) (mid after : World) →
-    Leads w xs given mid → Makes mid x more after → Leads w (xs ++ x ∷ []) (given ++ more) after
-leads_more w [] x given more mid after l g =
-    let none : given ≡ [] = l.0 in
-    let here = subst (λ (v : World). Makes v x more after) l.1 g in
-    (after, more, [], here, (refl, refl), ap (λ gs. gs ++ more) none ∙ sym (append-nil more))
-leads_more w (y ∷ xs) x given more mid after l g =
-    let rest = leads_more l.0 xs x l.2 more mid after l.4 g in
-    (l.0, l.1, l.2 ++ more, l.3, rest, ap (λ gs. gs ++ more) l.5 ∙ append_assoc l.1 l.2 more)
+own_run : (w : World) → IsOfRun w → AreOwn w.actors
+own_run w run = own_leads (opening run.0) run.1 run.2 w (own_opening run.0) run.3
 
--- One more happening.
-goes_on : (w after : World) (x : Happening) (given : List Given) → IsOfRun w → Makes w x given after → IsOfRun after
-goes_on w after x given run makes =
-    (run.0, run.1 ++ x ∷ [], run.2 ++ given, leads_more (opening run.0) run.1 x run.2 given w after run.3 makes)
+run_on : (w : World) (out : List ℕ) (after : World) → IsOfRun w → LeadsPrinting w out after → IsOfRun after
+run_on w out after run l =
+    (run.0, run.1 ++ l.0, run.2 ++ l.1, leads_append (opening run.0) run.1 l.0 run.2 l.1 w after run.3 l.2)
 
--- The scene is another, with the same world.
-same_scene : (s a : Scene) → IsOfRun s.world → a ≡ s → IsOfRun a.world
-same_scene s a run e = subst (λ (m : Scene). IsOfRun m.world) (sym e) run
+-- ---- what a line does
 
-advances_runs : (s : Scene) (event : Event) (given : Stepped) (a : Scene) → IsOfRun s.world → Advances s event given a →
-    IsOfRun a.world
-advances_runs s event given a run h = goes_on s.world a.world (happening_of event) h.0.0 run h.0.1
+-- What a line that is not skipped does to a scene: whether all were skipped stays as it is.
+abbrev Does : Scene → List ℕ → Scene → Type 0
+Does s out a = (a.fresh ≡ s.fresh) × LeadsPrinting s.world out a.world
 
-goes_on_runs : (n : ℕ) (s : Scene) (actor : ℕ) (first given : Stepped) (a : Scene) → IsOfRun s.world →
-    GoesOn n s actor first given a → IsOfRun a.world
-goes_on_runs zero s actor stepped.Nothing given a run h = same_scene s a run h.1
-goes_on_runs zero s actor (stepped.Answer answer) given a run h = same_scene s a run h.1
-goes_on_runs zero s actor stepped.Worn given a run h = same_scene s a run h.1
-goes_on_runs (suc n) s actor stepped.Nothing given a run h =
-    goes_on_runs n h.0 actor h.1 given a (advances_runs s (Step actor s.moment) h.1 h.0 run h.2) h.3
-goes_on_runs (suc n) s actor (stepped.Answer answer) given a run h = same_scene s a run h.1
-goes_on_runs (suc n) s actor stepped.Worn given a run h = same_scene s a run h.1
+-- The scene is another, and nothing was printed.
+unchanged : (s a : Scene) (out : List ℕ) → out ≡ [] → a ≡ s → Does s out a
+unchanged s a out o e = (
+  ap (λ (m : Scene). m.fresh) e,
+  subst (λ out. LeadsPrinting s.world out a.world) (sym o) (rests s.world a.world (ap (λ (m : Scene). m.world) e)),
+)
 
-starts_runs : (s : Scene) (actor : ℕ) (call : Call (List ℕ) (List ℕ)) (given : Stepped) (a : Scene) → IsOfRun s.world →
-    StartsAs s actor call given a → IsOfRun a.world
-starts_runs s actor call given a run h = advances_runs s (Start actor h.0 call) given a run h.2
+-- The scene is as it was, and a line without a result was printed.
+told : (s a : Scene) (out line : List ℕ) → HasResults [] line → out ≡ line → a ≡ s → Does s out a
+told s a out line has o e = (
+  ap (λ (m : Scene). m.fresh) e,
+  ([], [], (refl, ap (λ (m : Scene). m.world) e), subst (HasResults []) (sym o) has),
+)
 
-start_runs : (s : Scene) (actor : ℕ) (asked : SystemCall) (goes : Bool) (o : Option Operation) (out : List ℕ)
-    (a : Scene) → IsOfRun s.world → StartRuns s actor asked goes o out a → IsOfRun a.world
-start_runs s actor asked goes (Some operation) out a run h = same_scene s a run h.1
-start_runs s actor asked goes None out a run h =
-    goes_on_runs (most_steps goes) h.1.0 actor h.1.1 h.0 a (starts_runs s actor (call_for asked) h.1.1 h.1.0 run h.1.2)
-    h.1.3
+goes_on_fresh : (n : ℕ) (s : Scene) (actor : ℕ) (first given : Stepped) (a : Scene) → GoesOn n s actor first given a →
+    a.fresh ≡ s.fresh
+goes_on_fresh zero s actor stepped.Nothing given a h = ap (λ (m : Scene). m.fresh) h.1
+goes_on_fresh zero s actor (stepped.Answer answer) given a h = ap (λ (m : Scene). m.fresh) h.1
+goes_on_fresh zero s actor stepped.Worn given a h = ap (λ (m : Scene). m.fresh) h.1
+goes_on_fresh (suc n) s actor stepped.Nothing given a h =
+    goes_on_fresh n h.0 actor h.1 given a h.3 ∙ ap (λ (m : Scene). m.fresh) h.2.1
+goes_on_fresh (suc n) s actor (stepped.Answer answer) given a h = ap (λ (m : Scene). m.fresh) h.1
+goes_on_fresh (suc n) s actor stepped.Worn given a h = ap (λ (m : Scene). m.fresh) h.1
 
-steps_runs : (n : ℕ) (s : Scene) (actor : ℕ) (o : Option Operation) (out : List ℕ) (a : Scene) → IsOfRun s.world →
-    StepsRun n s actor o out a → IsOfRun a.world
-steps_runs n s actor None out a run h = same_scene s a run h.1
-steps_runs n s actor (Some operation) out a run h = goes_on_runs n s actor stepped.Nothing h.0 a run h.1
+start_does : (s : Scene) (actor : ℕ) (asked : SystemCall) (goes : Bool) (o : Option Operation) (out : List ℕ)
+    (a : Scene) → AreOwn s.world.actors → under_way (actor_at s.world.actors actor) ≡ o →
+    StartRuns s actor asked goes o out a → Does s out a
+start_does s actor asked goes (Some operation) out a own is h =
+    told s a out _ (without_result _ (actor, inr (inl refl))) h.0 h.1
+start_does s actor asked goes None out a own is h =
+    let c : CallRuns s actor asked goes h.0 a = h.1 in (
+      goes_on_fresh (most_steps goes) c.0 actor c.1 h.0 a c.3 ∙ ap (λ (m : Scene). m.fresh) c.2.2.1,
+      steps_print (operation_of asked) s.world h.0 actor out a.world (call_runs_to s actor asked goes h.0 a own is c)
+          h.2,
+    )
 
-one_runs : (s : Scene) (actor : ℕ) (o : Option Operation) (out : List ℕ) (a : Scene) → IsOfRun s.world →
-    OneRuns s actor o out a → IsOfRun a.world
-one_runs s actor None out a run h = same_scene s a run h.1
-one_runs s actor (Some operation) out a run h = steps_runs 16 s actor (Some operation) out a run h
+steps_do : (n : ℕ) (s : Scene) (actor : ℕ) (o : Option Operation) (out : List ℕ) (a : Scene) → AreOwn s.world.actors →
+    under_way (actor_at s.world.actors actor) ≡ o → StepsRun n s actor o out a → Does s out a
+steps_do n s actor None out a own is h = told s a out _ (without_result _ (actor, inr (inr (inl refl)))) h.0 h.1
+steps_do n s actor (Some operation) out a own is h = (
+  goes_on_fresh n s actor stepped.Nothing h.0 a h.1,
+  steps_print operation s.world h.0 actor out a.world
+      (goes_on_to n operation s actor h.0 a own (calls_under_way s.world.actors actor operation own is) h.1) h.2,
+)
 
-all_run : (actors : List ℕ) (s : Scene) (out : List ℕ) (a : Scene) → IsOfRun s.world → AllRun actors s out a →
-    IsOfRun a.world
-all_run [] s out a run h = same_scene s a run h.1
-all_run (actor ∷ actors) s out a run h =
-    all_run actors h.0 h.2 a (one_runs s actor (under_way (actor_at s.world.actors actor)) h.1 h.0 run h.3) h.4
+one_does : (s : Scene) (actor : ℕ) (o : Option Operation) (out : List ℕ) (a : Scene) → AreOwn s.world.actors →
+    under_way (actor_at s.world.actors actor) ≡ o → OneRuns s actor o out a → Does s out a
+one_does s actor None out a own is h = unchanged s a out h.0 h.1
+one_does s actor (Some operation) out a own is h = steps_do 16 s actor (Some operation) out a own is h
 
-act_runs : (s : Scene) (said : Said) (understood : Bool) (out : List ℕ) (a : Scene) → IsOfRun s.world →
-    LineActs s said understood out a → IsOfRun a.world
-act_runs s Nothing understood out a run h = same_scene s a run h.2
-act_runs s (GivesBlocks blocks) understood out a run h = same_scene s a run h.2
-act_runs s MakesPreset understood out a run h = goes_on s.world a.world Preset [] run (refl, (understood, h.0))
-act_runs s (GivesCred actor cred) understood out a run h = subst (λ (m : Scene). IsOfRun m.world) (sym h.2) run
-act_runs s (GivesMoment moment) understood out a run h = subst (λ (m : Scene). IsOfRun m.world) (sym h.2) run
-act_runs s (Starts actor asked goes) understood out a run h =
-    start_runs s actor asked goes (under_way (actor_at s.world.actors actor)) out a run h.1
-act_runs s (StepsOnce actor) understood out a run h =
-    steps_runs 1 s actor (under_way (actor_at s.world.actors actor)) out a run h.1
-act_runs s (Continues actor) understood out a run h =
-    steps_runs 16 s actor (under_way (actor_at s.world.actors actor)) out a run h.1
-act_runs s AllContinue understood out a run h = all_run (range_with_len 1 16) s out a run h.1
+own_after : (s a : Scene) (out : List ℕ) → AreOwn s.world.actors → Does s out a → AreOwn a.world.actors
+own_after s a out own d = own_leads s.world d.1.0 d.1.1 a.world own d.1.2
+
+all_do : (actors : List ℕ) (s : Scene) (out : List ℕ) (a : Scene) → AreOwn s.world.actors → AllRun actors s out a →
+    Does s out a
+all_do [] s out a own h = unchanged s a out h.0 h.1
+all_do (actor ∷ actors) s out a own h =
+    let one = one_does s actor (under_way (actor_at s.world.actors actor)) h.1 h.0 own refl h.3 in
+    let rest = all_do actors h.0 h.2 a (own_after s h.0 h.1 own one) h.4 in (
+      rest.0 ∙ one.0,
+      subst (λ out. LeadsPrinting s.world out a.world) (sym h.5)
+          (print_both s.world h.1 h.2 h.0.world a.world one.1 rest.1),
+    )
+
+act_does : (s : Scene) (said : Said) (understood : Bool) (out : List ℕ) (a : Scene) → AreOwn s.world.actors →
+    LineActs s said understood out a → Does s out a
+act_does s Nothing understood out a own h = unchanged s a out h.1 h.2
+act_does s (GivesBlocks blocks) understood out a own h = unchanged s a out h.1 h.2
+act_does s MakesPreset understood out a own h = (
+  ap (λ (m : Scene). m.fresh) h.2,
+  subst (λ out. LeadsPrinting s.world out a.world) (sym h.1)
+      (Preset ∷ [], [], one_makes s.world a.world Preset [] (refl, (understood, h.0)), Empty),
+)
+act_does s (GivesCred actor cred) understood out a own h = (
+  ap (λ (m : Scene). m.fresh) h.2,
+  subst (λ out. LeadsPrinting s.world out a.world) (sym h.1) (rests s.world a.world (ap (λ (m : Scene). m.world) h.2)),
+)
+act_does s (GivesMoment moment) understood out a own h = (
+  ap (λ (m : Scene). m.fresh) h.2,
+  subst (λ out. LeadsPrinting s.world out a.world) (sym h.1) (rests s.world a.world (ap (λ (m : Scene). m.world) h.2)),
+)
+act_does s (Starts actor asked goes) understood out a own h =
+    start_does s actor asked goes (under_way (actor_at s.world.actors actor)) out a own refl h.1
+act_does s (StepsOnce actor) understood out a own h =
+    steps_do 1 s actor (under_way (actor_at s.world.actors actor)) out a own refl h.1
+act_does s (Continues actor) understood out a own h =
+    steps_do 16 s actor (under_way (actor_at s.world.actors actor)) out a own refl h.1
+act_does s AllContinue understood out a own h = all_do (range_with_len 1 16) s out a own h.1
+
+-- ---- a line
+
+-- A line leads on. If every line so far, this one too, was skipped, it printed nothing.
+record Follows (s : Scene) (out : List ℕ) (a : Scene) : Type 0 where
+  printing : FollowsPrinting s out a.world
+  skipped : a.fresh ≡ true → (out ≡ []) × (s.fresh ≡ true)
+
+-- A line that is not skipped.
+begun : (s : Scene) (out : List ℕ) (a : Scene) → Does (begun_scene s) out a → Follows s out a
+begun s out a d = record {
+  printing = inl d.1;
+  skipped = λ e. let never : true ≡ false = sym e ∙ d.0 in absurd cc;
+}
 
 -- The size of the pool opens a new world, or comes too late.
-pool_runs : (fresh : Bool) (s : Scene) (blocks : ℕ) (a : Scene) → IsOfRun s.world →
-    a ≡ (if fresh then in_world (begun_scene s) (opening_world blocks) else s) → IsOfRun a.world
-pool_runs true s blocks a run e = subst (λ (m : Scene). IsOfRun m.world) (sym e) (opens blocks)
-pool_runs false s blocks a run e = same_scene s a run e
+pool_follows : (fresh : Bool) (s : Scene) (blocks : ℕ) (out : List ℕ) (a : Scene) → s.fresh ≡ fresh → out ≡ [] →
+    a ≡ (if fresh then in_world (begun_scene s) (opening_world blocks) else s) → Follows s out a
+pool_follows true s blocks out a is o e = record {
+  printing = inr (
+    is,
+    (
+      blocks,
+      subst (λ out. LeadsPrinting (opening_world blocks) out a.world) (sym o)
+          (rests (opening_world blocks) a.world (ap (λ (m : Scene). m.world) e)),
+    ),
+  );
+  skipped = λ f. let never : true ≡ false = sym f ∙ ap (λ (m : Scene). m.fresh) e in absurd cc;
+}
+pool_follows false s blocks out a is o e = record {
+  printing = inl (unchanged s a out o e).1;
+  skipped = λ f. (o, sym (ap (λ (m : Scene). m.fresh) e) ∙ f);
+}
 
-line_runs : (s : Scene) (said : Said) (understood : Bool) (out : List ℕ) (a : Scene) →
-    LineRuns s said understood out a → IsOfRun s.world → IsOfRun a.world
-line_runs s Nothing understood out a h run = act_runs s Nothing understood out a run h
-line_runs s (GivesBlocks blocks) understood out a h run = pool_runs s.fresh s blocks a run h.1.1
-line_runs s MakesPreset understood out a h run = act_runs (begun_scene s) MakesPreset understood out a run h
-line_runs s (GivesCred actor cred) understood out a h run =
-    act_runs (begun_scene s) (GivesCred actor cred) understood out a run h
-line_runs s (GivesMoment moment) understood out a h run =
-    act_runs (begun_scene s) (GivesMoment moment) understood out a run h
-line_runs s (Starts actor asked goes) understood out a h run =
-    act_runs (begun_scene s) (Starts actor asked goes) understood out a run h
-line_runs s (StepsOnce actor) understood out a h run = act_runs (begun_scene s) (StepsOnce actor) understood out a run h
-line_runs s (Continues actor) understood out a h run = act_runs (begun_scene s) (Continues actor) understood out a run h
-line_runs s AllContinue understood out a h run = act_runs (begun_scene s) AllContinue understood out a run h
+line_follows : (s : Scene) (said : Said) (understood : Bool) (out : List ℕ) (a : Scene) → AreOwn s.world.actors →
+    LineRuns s said understood out a → Follows s out a
+line_follows s Nothing understood out a own h = record {
+  printing = inl (unchanged s a out h.1 h.2).1;
+  skipped = λ f. (h.1, sym (ap (λ (m : Scene). m.fresh) h.2) ∙ f);
+}
+line_follows s (GivesBlocks blocks) understood out a own h = pool_follows s.fresh s blocks out a refl h.0 h.1.1
+line_follows s MakesPreset understood out a own h =
+    begun s out a (act_does (begun_scene s) MakesPreset understood out a own h)
+line_follows s (GivesCred actor cred) understood out a own h =
+    begun s out a (act_does (begun_scene s) (GivesCred actor cred) understood out a own h)
+line_follows s (GivesMoment moment) understood out a own h =
+    begun s out a (act_does (begun_scene s) (GivesMoment moment) understood out a own h)
+line_follows s (Starts actor asked goes) understood out a own h =
+    begun s out a (act_does (begun_scene s) (Starts actor asked goes) understood out a own h)
+line_follows s (StepsOnce actor) understood out a own h =
+    begun s out a (act_does (begun_scene s) (StepsOnce actor) understood out a own h)
+line_follows s (Continues actor) understood out a own h =
+    begun s out a (act_does (begun_scene s) (Continues actor) understood out a own h)
+line_follows s AllContinue understood out a own h =
+    begun s out a (act_does (begun_scene s) AllContinue understood out a own h)
 
-does_run : (s : Scene) (line out : List ℕ) (a : Scene) → LineDoes s line out a → IsOfRun s.world → IsOfRun a.world
-does_run s line out a h run = line_runs s h.0 true out a h.2 run
+run_after : (s : Scene) (out : List ℕ) (after : World) → IsOfRun s.world → FollowsPrinting s out after → IsOfRun after
+run_after s out after run (inl l) = run_on s.world out after run l
+run_after s out after run (inr l) = run_on (opening_world l.1.0) out after (opens l.1.0) l.1.1
 
-text_runs : (s : Scene) (n : ℕ) (text out left : List ℕ) (there : Scene) → PrintsSofar s n text out left there →
-    IsOfRun s.world → IsOfRun there.world
-text_runs s n text out left there (Here _ _ _) run = run
-text_runs s n text out left there (Past _ _ _ line rest first after more _ _ few begins does p) run =
-    text_runs after (n + 1) rest more left there p (does_run s line first after does run)
+-- ---- a text
+
+-- A line, and what follows on the scene that it leaves.
+past : (s : Scene) (out : List ℕ) (mid : Scene) (more : List ℕ) (after : World) → Follows s out mid →
+    FollowsPrinting mid more after → FollowsPrinting s (out ++ more) after
+past s out mid more after f (inr l) =
+    let skipped = f.skipped l.0 in
+    inr (skipped.1, (l.1.0, subst (λ x. LeadsPrinting (opening_world l.1.0) (x ++ more) after) (sym skipped.0) l.1.1))
+past s out mid more after f (inl l) = elim f.printing [
+  | inl first ↦ inl (print_both s.world out more mid.world after first l)
+  | inr first ↦ inr (first.0, (first.1.0, print_both (opening_world first.1.0) out more mid.world after first.1.1 l))
+]
+
+text_follows : (s : Scene) (n : ℕ) (text out left : List ℕ) (there : Scene) → PrintsSofar s n text out left there →
+    IsOfRun s.world → FollowsPrinting s out there.world
+text_follows s n text out left there (Here _ _ _) run = inl (rests s.world s.world refl)
+text_follows s n text out left there (Past _ _ _ line rest first after more _ _ few begins does p) run =
+    let f = line_follows s does.0 true first after (own_run s.world run) does.2 in
+    past s first after more there.world f
+    (text_follows after (n + 1) rest more left there p (run_after s first after.world run f.printing))
+
+-- A whole text, but for what it prints last.
+record PrintsUpTo (s : Scene) (n : ℕ) (text out : List ℕ) (ending : Ending) : Type 0 where
+  told : List ℕ
+  left : List ℕ
+  there : Scene
+  whole : out ≡ told ++ last_text ending
+  sofar : PrintsSofar s n text told left there
+
+up_to : (s : Scene) (n : ℕ) (text out : List ℕ) (ending : Ending) → Prints s n text out ending →
+    PrintsUpTo s n text out ending
+up_to s n text out ending (Ends _ _) =
+    record { told = []; left = []; there = s; whole = refl; sofar = Here s n [] }
+up_to s n text out ending (Exceeds _ _ _ many some) =
+    record { told = []; left = text; there = s; whole = refl; sofar = Here s n text }
+up_to s n text out ending (Fails _ _ _ line rest few begins bad) =
+    record { told = []; left = text; there = s; whole = refl; sofar = Here s n text }
+up_to s n text out ending (Goes _ _ _ line rest first after more _ few begins does p) =
+    let u = up_to after (n + 1) rest more ending p in
+    record {
+      told = first ++ u.told;
+      left = u.left;
+      there = u.there;
+      whole = ap (λ x. first ++ x) u.whole ∙ sym (append_assoc first u.told (last_text ending));
+      sofar = Past s n text line rest first after u.told u.left u.there few begins does u.sofar;
+    }
+
+-- ---- the law
+
+from_opening : (out : List ℕ) (after : World) → FollowsPrinting opening_scene out after → IsOfRunPrinting out after
+from_opening out after (inl l) = (record { actors = SCRIPT_ACTORS; blocks = 1024; first = 0; generation = 0 }, l)
+from_opening out after (inr l) =
+    (record { actors = SCRIPT_ACTORS; blocks = l.1.0; first = 0; generation = 0 }, l.1.1)
+
+sofar_prints : (text out left : List ℕ) (there : Scene) → PrintsSofar opening_scene 1 text out left there →
+    IsOfRunPrinting out there.world
+sofar_prints text out left there p =
+    from_opening out there.world (text_follows opening_scene 1 text out left there p (opens 1024))
 
 pub each_script_is_a_run : EachScriptIsARun
 each_script_is_a_run = record {
   opens = opens 1024;
-  line = λ s said understood out after h run. line_runs s said understood out after h run;
-  text = λ s n text out left there h run. text_runs s n text out left there h run;
+  line = λ s said understood out after h run.
+      let f = line_follows s said understood out after (own_run s.world run) h in
+      (run_after s out after.world run f.printing, f.printing);
+  text = λ s n text out left there h run.
+      let f = text_follows s n text out left there h run in (run_after s out there.world run f, f);
+  sofar = λ text out left there h. sofar_prints text out left there h;
+  whole = λ text out ending h.
+      let u = up_to opening_scene 1 text out ending h in
+      (u.told, u.there.world, u.whole, sofar_prints text u.told u.left u.there u.sofar);
 }

@@ -17,4 +17,5 @@ pub mod OneText
 pub mod EachText
 pub mod Written
 pub mod ScriptSofar
+pub mod Results
 pub mod ScriptRun

@@ -2,6 +2,7 @@
 ghost use Rattle.std.specs.Prelude.{◌≡◌};
 
 mod no_wakes;
+mod passed_over;
 
 use super::opened;
 use crate::parts::{LIMIT, millis};
