@@ -3,12 +3,8 @@
 use mathlib.Core.Bool.{true≢false}
 use Rattle.std.proofs.Common.{◌≡◌, ◌≢◌, inl, inr, Bool, ℕ, ◌+◌, ◌≤◌, ◌<◌, List, [], ◌∷◌, length, map, Option, Some}
 use Rattle.std.proofs.Common.{None, refl, arith, sym, ap, subst, ◌∙◌}
-use Rattle.std.specs.Prelude.{Result, Ok, Err, IfOk, IsSomeAnd, ◌^◌, ◌-◌, true, false, is_some, min}
+use Rattle.std.specs.Prelude.{Result, Ok, Err, IfErr, IfOk, IsSomeAnd, ◌^◌, ◌-◌, true, false, is_some, min}
 use Rattle.std.specs.List.{FoldsTo, sum_by}
-use Rattle.std.specs.List.Sorted.{IsPermutation}
-use Rattle.std.proofs.Common.{length-append, suc}
-use Rattle.std.proofs.lemmas.List.{length-map, length-reverse}
-use Rattle.std.proofs.lemmas.List.Sorted.{length_permutation}
 use Rattle.std.proofs.lemmas.List.Sums.{sum_by-cons}
 use Rattle.sysv_session.specs.declared.served.Served.{Served}
 use Rattle.sysv_workers.specs.Sources.{GivesAll}
@@ -22,13 +18,12 @@ use Rattle.sysv_server.specs.Accepts.{Accepts, HasEnded, is_closed, is_unopened}
 use Rattle.sysv_server.specs.Added.{capped, one_session}
 use Rattle.sysv_server.specs.declared.socket.Nothing.{Nothing}
 use Rattle.sysv_server.specs.declared.socket.Socket.{Socket}
-use Rattle.sysv_server.specs.Desks.{Crewed, Desk, Sat, all_connections}
-use Rattle.sysv_server.specs.Handled.{Shift, reports_of, told_in}
+use Rattle.sysv_server.specs.Handled.{told_in}
 use Rattle.sysv_server.specs.Headline.{ServesConnections}
-use Rattle.sysv_server.specs.Serving.{EndsOn, HasReason, ServesOn}
-use Rattle.sysv_server.specs.Talks.{Closing, Talk, leaves_nothing, tally_of, untold}
-use Rattle.sysv_bank.specs.Banks.{Each2}
-use Rattle.sysv_shared.specs.Seats.{Gates}
+use Rattle.sysv_server.specs.declared.fault.ServeFault.TheVariants as faults
+use Rattle.sysv_server.specs.Serving.{EndsOn, FailsOn, HasLived, HasReason, LeavesConnections, ServesOn}
+use Rattle.sysv_server.specs.Talks.{leaves_nothing, tally_of, untold}
+use Rattle.sysv_server.proofs.SessionsPerConnection.{as_books, one_each}
 
 room : (m a a' n : ℕ) → m ≤ 2 ^ 64 - 1 → a < m → a' ≡ min (a + 1) (2 ^ 64 - 1) → (a' ≤ m → a' + n ≤ m) → a + (n + 1) ≤ m
 room m a a' n small low is rest = omega arith
@@ -45,45 +40,6 @@ all_counted (t ∷ told) =
     let one = sum_by-cons (λ (s : Sums). s.sessions) (one_session (tally_of t)) more in
     let rest = all_counted told in
     omega arith
-
--- ---- one session for each connection
-
-each2_length : {X Y : Type 0} (P : X → Y → Type 0) (xs : List X) (ys : List Y) → Each2 P xs ys → length xs ≡ length ys
-each2_length P [] [] each = refl
-each2_length P [] (y ∷ ys) each = absurd each
-each2_length P (x ∷ xs) [] each = absurd each
-each2_length P (x ∷ xs) (y ∷ ys) each = ap suc (each2_length P xs ys each.1)
-
-both_lengths : (a b c d m n : ℕ) → a ≡ b → c ≡ d → m ≡ a + c → n ≡ b + d → m ≡ n
-both_lengths a b c d m n p q r s = omega arith
-
-module _ {T B : Type 0} (incoming outgoing : T → Option (List ℕ)) (closes : Closing B) where
-  sat_each : (desks : List (Desk T B)) (shifts : List Shift) → Each2 (Sat incoming outgoing closes) desks shifts →
-      length (told_in shifts) ≡ length (all_connections desks)
-  sat_each [] [] sat = refl
-  sat_each [] (shift ∷ shifts) sat = absurd sat
-  sat_each (desk ∷ desks) [] sat = absurd sat
-  sat_each (desk ∷ desks) (shift ∷ shifts) sat =
-      let one =
-      length-map shift.talks (λ (talk : Talk). talk.told) ∙ sym (each2_length _ desk.connections shift.talks sat.0.0) in
-      both_lengths _ _ _ _ _ _ one (sat_each desks shifts sat.1)
-      (length-append (reports_of shift.talks) (told_in shifts))
-      (length-append desk.connections (all_connections desks))
-
-  -- there was one session for each connection
-  pub one_each : (desks : List (Desk T B)) (shifts : List Shift) (given : List T) →
-      Each2 (Sat incoming outgoing closes) desks shifts → IsPermutation (all_connections desks) given →
-      length (told_in shifts) ≡ length given
-  one_each desks shifts given sat dealt =
-      sat_each desks shifts sat ∙ sym (length_permutation (all_connections desks) given dealt)
-
-  -- there was one worker for each book
-  pub as_books : (gates : Gates) (books : List B) (desks : List (Desk T B)) (shifts : List Shift) (books' : List B) →
-      Crewed incoming outgoing closes gates books desks shifts books' → length shifts ≡ length books
-  as_books gates books desks shifts books' crewed =
-      sym (each2_length _ desks shifts crewed.sat)
-      ∙ (sym (length-map desks (λ (desk : Desk T B). desk.first))
-      ∙ (sym (length-reverse (map (λ (desk : Desk T B). desk.first) desks)) ∙ ap length crewed.firsts))
 
 -- ---- the connections of a listener
 
@@ -178,6 +134,7 @@ module _ {I H : Type 0} where
           ∙ counted;
       passes = served.crewed.passes;
       sums = served.sums;
+      lost = served.lost;
     };
     bounded = λ some.
         let fits : s.most ≤ 2 ^ 64 - 1 = omega arith in
@@ -201,8 +158,7 @@ module _ {I H : Type 0} where
   ends_on blocks workers m s s' books books' (Ok ended) none same small counted all = record {
     served = serves_on blocks workers m s s' books books' ended none same small counted all;
     refused = all.refused;
-    stopped = all.lived.stopped;
-    told = refl;
+    removed = refl;
     closed = all.closed;
   }
   ends_on blocks workers m s s' books books' (Err why) none same small counted all = tt
@@ -230,3 +186,25 @@ module _ {I H : Type 0} where
             (subst (λ r. IsSomeAnd r (HasEnded gave.last)) of_reason why)
       ]
   ends_for blocks m s s' books books' (Err why) input reason none same small unclosed of_input of_reason all = tt
+
+  -- what a fault leaves of the service on a listener
+  pub fails_on : (blocks workers : ℕ) (s s' : Accepting I H) (books books' : List Nothing) (why : ServeFault)
+      → length books ≡ workers
+      → LeavesConnections untold untold leaves_nothing Gives (HasLived blocks) s books why s' books'
+      → FailsOn blocks workers why
+  fails_on blocks workers s s' books books' faults.NoMemory counted left = tt
+  fails_on blocks workers s s' books books' faults.Thread counted left =
+      (record { before = books; after = books'; count = counted; left = left.2.left }, left.2.none)
+  fails_on blocks workers s s' books books' faults.Worn counted left =
+      record { before = books; after = books'; count = counted; left = left.2 }
+  fails_on blocks workers s s' books books' faults.Missed counted left =
+      record { before = books; after = books'; count = counted; left = left.2 }
+
+  pub all_fail_on : (blocks workers : ℕ) (s s' : Accepting I H) (books books' : List Nothing)
+      (result : Result Ended ServeFault) → length books ≡ workers
+      → IfErr result (λ why. LeavesConnections untold untold leaves_nothing Gives (HasLived blocks) s books why s'
+      books')
+      → IfErr result (FailsOn blocks workers)
+  all_fail_on blocks workers s s' books books' (Ok ended) counted left = tt
+  all_fail_on blocks workers s s' books books' (Err why) counted left =
+      fails_on blocks workers s s' books books' why counted left

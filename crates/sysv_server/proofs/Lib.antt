@@ -1,9 +1,12 @@
 pub mod Sessions
-pub mod Making
+pub mod SessionMakesCalls
+pub mod SessionsPerConnection
 pub mod Accepted
-pub mod Adding
+pub mod SumsOfSessions
 pub mod Crossing
-pub mod Holding
-pub mod Living
-pub mod Refusing
+pub mod OneSession
+pub mod LifeIsOneRun
+pub mod GatesHaveLived
+pub mod FaultLeaves
+pub mod LostByFailedWrites
 pub mod Shifts

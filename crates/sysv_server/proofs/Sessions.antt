@@ -13,7 +13,7 @@ module _ {K S C L : Type 0} (service : K → S) (clock : K → C) (pass : K → 
   -- service mean.
   abbrev pub ByPass : Meaning K
   ByPass old cred request text outcome given new =
-      (service new ≡ service old) × (clock new ≡ clock old) × (caller new ≡ caller old)
+      ((service new ≡ service old) × (clock new ≡ clock old) × (caller new ≡ caller old))
       × asks_with (may (clock old)) (may_leave (caller old)) (pass old) cred request text outcome given (pass new)
 
   leads : (cred : Cred) (old : K) (calls : List Call) (new : K) → Leads ByPass cred old calls new →
@@ -22,11 +22,12 @@ module _ {K S C L : Type 0} (service : K → S) (clock : K → C) (pass : K → 
   leads cred old [] new h = (ap service h, ap clock h, ap caller h, ap pass h)
   leads cred old (call ∷ calls) new h =
       let rest = leads cred h.0 calls new h.2 in
+      let same = h.1.0 in
       let at_clock : Leads (asks_with (may (clock old)) (may_leave (caller h.0))) cred (pass h.0) calls (pass new) =
-      subst (λ c. Leads (asks_with (may c) (may_leave (caller h.0))) cred (pass h.0) calls (pass new)) h.1.1 rest.3 in
+      subst (λ c. Leads (asks_with (may c) (may_leave (caller h.0))) cred (pass h.0) calls (pass new)) same.1 rest.3 in
       let onward : Leads (asks_with (may (clock old)) (may_leave (caller old))) cred (pass h.0) calls (pass new) =
-      subst (λ k. Leads (asks_with (may (clock old)) (may_leave k)) cred (pass h.0) calls (pass new)) h.1.2 at_clock in
-      (rest.0 ∙ h.1.0, rest.1 ∙ h.1.1, rest.2 ∙ h.1.2, (pass h.0, h.1.3, onward))
+      subst (λ k. Leads (asks_with (may (clock old)) (may_leave k)) cred (pass h.0) calls (pass new)) same.2 at_clock in
+      (rest.0 ∙ same.0, rest.1 ∙ same.1, rest.2 ∙ same.2, (pass h.0, h.1.1, onward))
 
   pub serves : (slots : ℕ) (served : Served) (old new : K) (left rest taken more : Option (List ℕ)) →
       Serves ByPass slots served old new left rest taken more →

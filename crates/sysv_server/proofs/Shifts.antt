@@ -21,10 +21,12 @@ use Rattle.sysv_server.specs.Desks.{Desk, Crewed, Sat, all_connections}
 use Rattle.sysv_server.specs.Handled.{Handles, Shift, first_passes, last_passes, one_refused, refused_of, reports_of}
 use Rattle.sysv_server.specs.Handled.{sums_of}
 use Rattle.sysv_server.specs.Handled.{told_in}
-use Rattle.sysv_server.specs.Serving.{FaultOf, IsNew, LeavesBooks, LeavesConnections, WorkedFrom}
+use Rattle.sysv_server.specs.Serving.{FaultOf, HiredFrom, IsNew, LeavesBooks, LeavesConnections, LeavesUnused}
+use Rattle.sysv_server.specs.Serving.{WorkedFrom}
 use Rattle.sysv_server.specs.Talks.{Closes, Closing, IsOn, Talk, Talks, tally_of}
-use Rattle.sysv_server.proofs.Adding.{refused_first, refused_last, sum_by_map, told_first, told_last}
-use Rattle.sysv_server.proofs.Refusing.{left}
+use Rattle.sysv_server.proofs.SumsOfSessions.{emptied, refused_first, refused_last, sum_by_map, told_first, told_last}
+use Rattle.sysv_server.proofs.FaultLeaves.{left}
+use Rattle.sysv_server.proofs.SessionsPerConnection.{sat_each}
 
 map_map : {X Y Z : Type 0} (g : Y → Z) (f : X → Y) (xs : List X) → map g (map f xs) ≡ map (λ x. g (f x)) xs
 map_map g f [] = refl
@@ -238,27 +240,89 @@ module _ {W T B : Type 0} (incoming outgoing : T → Option (List ℕ)) (closes 
         };
       }
 
-  -- What a refused run of workers leaves of the source and of the books.
-  pub all_left : {S : Type 0} (gives : S → Option T → S → Type 0) (gates : Gates) (states after : List W)
-      (source source' : S) (books books' : List B) (why : WorkersFault) (told : ServeFault) → FaultOf why told
-      → LeavesSource gives source why source' → GivesBack Runs states why after → All (λ w. New gates w) states
-      → books ≡ reverse (map book states) → books' ≡ reverse (map book after)
-      → LeavesConnections incoming outgoing closes gives source books told source' books'
-  all_left gives gates states after source source' books books' why told named leaves back new_ones books_are
-      books_are' =
-      let same : after ≡ states → books' ≡ books =
-      λ is. books_are' ∙ (ap (λ l. reverse (map book l)) is ∙ sym books_are) in
-      let led : (parts : List (Part W T)) × Leads Runs states parts after →
-      LeavesBooks incoming outgoing closes gives books books' =
-      λ parts.
-      let done = manned gates states parts.0 after parts.1 new_ones in
-      record {
-        gates = gates;
-        desks = done.desks;
-        shifts = done.shifts;
-        crewed = subst (λ l. Crewed incoming outgoing closes gates l done.desks done.shifts books') (sym books_are)
-            (subst (λ l. Crewed incoming outgoing closes gates (reverse (map book states)) done.desks done.shifts l)
-            (sym books_are') done.crewed);
-      } in
-      left incoming outgoing closes gives source source' books books' Runs states after same led why told named leaves
-      back
+  -- ---- a refused run
+
+  -- The parts of workers that ran nothing.
+  idle : List W → List (Part W T)
+  idle [] = []
+  idle (w ∷ ws) = record { before = w; items = []; after = w } ∷ idle ws
+
+  idle_before : (ws : List W) → map (λ (p : Part W T). p.before) (idle ws) ≡ ws
+  unfolding idle
+  idle_before [] = refl
+  idle_before (w ∷ ws) = ap (λ l. w ∷ l) (idle_before ws)
+
+  idle_after : (ws : List W) → map (λ (p : Part W T). p.after) (idle ws) ≡ ws
+  unfolding idle
+  idle_after [] = refl
+  idle_after (w ∷ ws) = ap (λ l. w ∷ l) (idle_after ws)
+
+  idle_items : (ws : List W) → flat_map (λ (p : Part W T). p.items) (idle ws) ≡ []
+  unfolding idle
+  idle_items [] = refl
+  idle_items (w ∷ ws) = idle_items ws
+
+  idle_ran : (ws : List W) → All (λ (p : Part W T). FoldsTo Runs p.before p.items p.after) (idle ws)
+  unfolding idle
+  idle_ran [] = λ k d low. absurd (omega arith)
+  idle_ran (w ∷ ws) =
+      All-cons (λ (p : Part W T). FoldsTo Runs p.before p.items p.after)
+      (record { before = w; items = []; after = w }) (idle ws) refl (idle_ran ws)
+
+  idle_leads : (ws after : List W) → after ≡ ws → Leads Runs ws (idle ws) after
+  idle_leads ws after is = record {
+    began = idle_before ws;
+    left = idle_after ws ∙ sym is;
+    ran = idle_ran ws;
+  }
+
+  module _ {S : Type 0} (gives : S → Option T → S → Type 0) (gates : Gates) (states after : List W) (source source' : S)
+      (books books' : List B) (old kept new : Pass) (new_ones : All (λ w. New gates w) states)
+      (books_are : books ≡ reverse (map book states)) (books_are' : books' ≡ reverse (map book after))
+      (given : FoldsTo Gives old (map pass states) kept)
+      (taken : FoldsTo TakesIn kept (reverse (map pass after)) new) where
+    -- The books to which the parts of a refused run led.
+    record Led (parts : List (Part W T)) : Type 0 where
+      left : LeavesBooks incoming outgoing closes (HiredFrom gates old new) books books'
+      served : all_connections left.desks ≡ flat_map (λ (p : Part W T). p.items) parts
+
+    led : (parts : List (Part W T)) → Leads Runs states parts after → Led parts
+    led parts leads =
+        let done = manned gates states parts after leads new_ones in
+        record {
+          left = record {
+            gates = gates;
+            desks = done.desks;
+            shifts = done.shifts;
+            crewed =
+                subst (λ l. Crewed incoming outgoing closes gates l done.desks done.shifts books') (sym books_are)
+                (subst (λ l. Crewed incoming outgoing closes gates (reverse (map book states)) done.desks done.shifts
+                l) (sym books_are') done.crewed);
+            ran = (
+              refl,
+              record {
+                kept = kept;
+                gives = subst (λ passes. FoldsTo Gives old passes kept) (sym done.begun) given;
+                takes = subst (λ passes. FoldsTo TakesIn kept (reverse passes) new) (sym done.left) taken;
+              },
+            );
+          };
+          served = done.served;
+        }
+
+    unused : after ≡ states → LeavesUnused incoming outgoing closes (HiredFrom gates old new) books books'
+    unused is =
+        let none = led (idle states) (idle_leads states after is) in
+        let each = sat_each incoming outgoing closes none.left.desks none.left.shifts none.left.crewed.sat in
+        let count : length (told_in none.left.shifts) ≡ 0 = each ∙ ap length (none.served ∙ idle_items states) in
+        record { left = none.left; none = emptied (told_in none.left.shifts) count }
+
+    -- What a refused run of workers leaves of the source and of the books.
+    pub all_left : (why : WorkersFault) (told : ServeFault) → FaultOf why told → LeavesSource gives source why source'
+        → GivesBack Runs states why after
+        → LeavesConnections incoming outgoing closes gives (HiredFrom gates old new) source books told source' books'
+    all_left why told named leaves back =
+        let same : after ≡ states → books' ≡ books =
+        λ is. books_are' ∙ (ap (λ l. reverse (map book l)) is ∙ sym books_are) in
+        left incoming outgoing closes gives source source' books books' (HiredFrom gates old new) Runs states after same
+        unused (λ parts. (led parts.0 parts.1).left) why told named leaves back

@@ -2,6 +2,7 @@
 pub mod Replies
 pub mod Requests
 pub mod Asked
+pub mod KernelHandles
 pub mod Made
 pub mod Added
 pub mod Talks

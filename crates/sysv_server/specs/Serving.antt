@@ -1,7 +1,7 @@
 -- How a server serves a listener, what its workers do, and what a fault leaves (this project's
 -- profile). Its workers share one service, each worker has a pass of its own, and there is one
 -- session for each connection.
-use Rattle.std.specs.Prelude.{◌≡◌, ◌≢◌, ◌≤◌, ⊤, ℕ, Bool, true, List, Option, Some, None, Result, length}
+use Rattle.std.specs.Prelude.{◌≡◌, ◌≢◌, ◌≤◌, ⊤, ℕ, Bool, true, List, [], Option, Some, None, Result, length}
 use Rattle.std.specs.List.{AllByRecursion}
 use Rattle.std.specs.List.Sorted.{IsPermutation}
 use Rattle.sysv_bank.specs.Banks.{Each2}
@@ -23,8 +23,8 @@ use Rattle.sysv_server.specs.declared.sums.Sums.{Sums}
 use Rattle.sysv_server.specs.declared.terms.Ended.{Ended}
 use Rattle.sysv_server.specs.Added.{nothing}
 use Rattle.sysv_server.specs.Desks.{Desk, Crewed, Sat, all_connections}
-use Rattle.sysv_server.specs.Handled.{Shift, first_passes, last_passes, sums_of, refused_of, told_in}
-use Rattle.sysv_server.specs.OneRun.{Stopped, Lived}
+use Rattle.sysv_server.specs.Handled.{Shift, failed_of, first_passes, last_passes, sums_of, refused_of, told_in}
+use Rattle.sysv_server.specs.OneRun.{Lived}
 use Rattle.sysv_server.specs.Talks.{Closing, untold, leaves_nothing}
 
 -- A pass of these gates that holds no chain, with the sums of no sessions.
@@ -32,11 +32,40 @@ abbrev pub IsNew : Gates → Pass → Sums → ℕ → Type 0
 IsNew gates pass sums refused = AreOf gates pass.seats × (pass.held ≡ 0) × (sums ≡ nothing) × (refused ≡ 0)
 
 -- This number of workers worked these shifts at the gates. Each began with a pass of the gates that
--- holds no chain, and these are the sums of all their sessions.
+-- holds no chain, and these are the sums of all their sessions. A message was lost only in a session
+-- that ended because its writer failed, and at most one in each of them.
 pub record Worked (gates : Gates) (count : ℕ) (shifts : List Shift) (all : Sums) : Type 0 where
   pub workers : length shifts ≡ count
   pub passes : AllByRecursion (λ (shift : Shift). AreOf gates shift.before.seats × (shift.before.held ≡ 0)) shifts
   pub sums : all ≡ sums_of (told_in shifts)
+  pub lost : all.lost ≤ failed_of (told_in shifts)
+
+-- The workers of these shifts had passes that were split off from the pass `old` of these gates, and
+-- the passes that they left were joined back into it.
+abbrev pub HiredFrom : Gates → Pass → Pass → Gates → List Shift → Type 0
+HiredFrom own old new gates shifts = (gates ≡ own) × Hires old (first_passes shifts) (last_passes shifts) new
+
+-- These gates were opened for a service with this number of blocks, these shifts were worked at them,
+-- and then they were stopped and closed. A fault does not return what the stop and the close told.
+pub record HasLived (blocks : ℕ) (gates : Gates) (shifts : List Shift) : Type 0 where
+  pub opened : AreOpen 0 blocks 0 gates
+  pub removed : Result ℕ Errno
+  pub lived : Lived blocks gates shifts removed
+
+module _ {T B : Type 0} (incoming outgoing : T → Option (List ℕ)) (closes : Closing B) where
+  -- Sessions on connections led from the books `books` to the others. Each worker had one session on
+  -- each of its connections, in order. `Ran` is so of the gates and of the shifts.
+  pub record LeavesBooks (Ran : Gates → List Shift → Type 0) (books books' : List B) : Type 0 where
+    pub gates : Gates
+    pub desks : List (Desk T B)
+    pub shifts : List Shift
+    pub crewed : Crewed incoming outgoing closes gates books desks shifts books'
+    pub ran : Ran gates shifts
+
+  -- The same, and there was no session.
+  pub record LeavesUnused (Ran : Gates → List Shift → Type 0) (books books' : List B) : Type 0 where
+    pub left : LeavesBooks Ran books books'
+    pub none : told_in left.shifts ≡ []
 
 module _ {S T B : Type 0} (incoming outgoing : T → Option (List ℕ)) (closes : Closing B)
     (gives : S → Option T → S → Type 0) where
@@ -54,24 +83,22 @@ module _ {S T B : Type 0} (incoming outgoing : T → Option (List ℕ)) (closes 
     pub counts : refused ≡ refused_of (told_in shifts)
     pub hires : Hires old (first_passes shifts) (last_passes shifts) new
 
-  -- The books are those to which some sessions on some connections led.
-  pub record LeavesBooks (books books' : List B) : Type 0 where
-    pub gates : Gates
-    pub desks : List (Desk T B)
-    pub shifts : List Shift
-    pub crewed : Crewed incoming outgoing closes gates books desks shifts books'
-
-  -- After a fault that keeps the server from running any session, the source of connections and the
-  -- books are unchanged. After `Worn` the source has returned some connections, and may have
-  -- reported its end. After `Missed` it is at its end or was not read. After both, the books are
-  -- those to which sessions led.
-  abbrev pub LeavesConnections : S → List B → ServeFault → S → List B → Type 0
-  LeavesConnections source books NoMemory source' books' = (source' ≡ source) × (books' ≡ books)
-  LeavesConnections source books Thread source' books' = (source' ≡ source) × (books' ≡ books)
-  LeavesConnections source books Worn source' books' =
-      (given : List T) × Returned gives source given source' × LeavesBooks books books'
-  LeavesConnections source books Missed source' books' =
-      (given : List T) × Gave gives source given source' × LeavesBooks books books'
+  -- What a server leaves that ended by this fault, if `Ran` is so of its gates and its shifts.
+  --
+  -- After `NoMemory` the source of connections and the books are unchanged; nothing more is stated,
+  -- since memory may be refused before the gates are opened. After `Thread` they are unchanged too,
+  -- and there was no session. After `Worn` the source has returned some connections, and may have
+  -- reported its end. After `Missed` it is at its end or was not read. After both, sessions led to
+  -- the books. It is not stated that their connections are those of the source, since a refused run
+  -- of workers does not tell which of the items that were put into its buffer the workers took.
+  abbrev pub LeavesConnections : (Gates → List Shift → Type 0) → S → List B → ServeFault → S → List B → Type 0
+  LeavesConnections Ran source books NoMemory source' books' = (source' ≡ source) × (books' ≡ books)
+  LeavesConnections Ran source books Thread source' books' =
+      (source' ≡ source) × (books' ≡ books) × LeavesUnused incoming outgoing closes Ran books books'
+  LeavesConnections Ran source books Worn source' books' =
+      (given : List T) × Returned gives source given source' × LeavesBooks incoming outgoing closes Ran books books'
+  LeavesConnections Ran source books Missed source' books' =
+      (given : List T) × Gave gives source given source' × LeavesBooks incoming outgoing closes Ran books books'
 
 -- The worker of this desk had one session on each of its sockets. A socket tells no bytes, and a
 -- closed one leaves nothing.
@@ -93,13 +120,31 @@ pub record ServesOn (blocks workers most : ℕ) (sums : Sums) : Type 0 where
   pub removed : Result ℕ Errno
   pub lived : Lived blocks gates shifts removed
 
--- A server served the connections of a listener, and then removed the queues that were left.
+-- A server served the connections of a listener, and then removed the queues that were left. It
+-- returns what its stop and its close told.
 pub record EndsOn (blocks workers most : ℕ) (ended : Ended) : Type 0 where
   pub served : ServesOn blocks workers most ended.sums
   pub refused : ended.refused ≡ refused_of (told_in served.shifts)
-  pub stopped : Stopped served.gates ended.removed
-  pub told : ended.removed ≡ served.removed
+  pub removed : ended.removed ≡ served.removed
   pub closed : ended.closed ≡ served.lived.closed
+
+-- A server on a listener with this number of workers. Each worker had one session on each of its
+-- sockets, in order. `Ran` is so of the gates and of the shifts.
+pub record LeavesSockets (workers : ℕ) (Ran : Gates → List Shift → Type 0) : Type 0 where
+  pub before : List Nothing
+  pub after : List Nothing
+  pub count : length before ≡ workers
+  pub left : LeavesBooks {T = Socket} untold untold leaves_nothing Ran before after
+
+-- A server on a listener ended by this fault, with this number of blocks and of workers. After
+-- `NoMemory` nothing is stated, since memory may be refused before the gates are opened. After
+-- `Thread` there was no session.
+abbrev pub FailsOn : (blocks workers : ℕ) → ServeFault → Type 0
+FailsOn blocks workers NoMemory = ⊤
+FailsOn blocks workers Thread =
+    (sockets : LeavesSockets workers (HasLived blocks)) × (told_in sockets.left.shifts ≡ [])
+FailsOn blocks workers Worn = LeavesSockets workers (HasLived blocks)
+FailsOn blocks workers Missed = LeavesSockets workers (HasLived blocks)
 
 -- A server that may have an input, that was to run this maximum number of sessions, 0 for no limit,
 -- and that ran this number of them, accepted no more connections for this reason.

@@ -5,7 +5,7 @@ ghost use Rattle.sysv_workers.specs.declared.workers.TheConstants.{MAX_CROWD};
 ghost use Rattle.sysv_shared.specs.Seats.{AreOf};
 ghost use Rattle.sysv_server.specs.Added.{IsBalanced};
 ghost use Rattle.sysv_server.specs.Headline.{ServesConnections};
-ghost use Rattle.sysv_server.specs.Serving.{FaultOf, LeavesConnections, WorkedFrom};
+ghost use Rattle.sysv_server.specs.Serving.{FaultOf, HasLived, HiredFrom, LeavesConnections, WorkedFrom};
 
 use crate::common::Common;
 use crate::connection::Connection;
@@ -33,7 +33,7 @@ use sysv_workers::{Source, WorkersFault, WorkersRefused, run_crowd};
 ///
 /// The errors are those of `serve_on`. After `NoMemory` and `Thread` no connection was requested
 /// from the source, and the books are unchanged. After `Worn` and `Missed` the books have the
-/// connections that were closed.
+/// connections that were closed. The queues that are left are removed after a fault too.
 ///
 /// # Conditions
 ///
@@ -56,7 +56,7 @@ where
         blocks source.old books.old.items ended source.new books.new.items) }
     ensures balance { IfOk result (λ ended. IsBalanced ended.sums) }
     ensures err { IfErr result (λ why. LeavesConnections T.incoming T.outgoing T.closes S.gives
-        source.old books.old.items why source.new books.new.items) }
+        (HasLived blocks) source.old books.old.items why source.new books.new.items) }
 {
     let count = books.len() as u32;
     let common = Common::new(count, Patience::UNBOUNDED, 0);
@@ -83,7 +83,7 @@ where
         blocks source.old books.old.items ended source.new books.new.items) }
     ensures balance { IfOk result (λ ended. IsBalanced ended.sums) }
     ensures err { IfErr result (λ why. LeavesConnections T.incoming T.outgoing T.closes S.gives
-        source.old books.old.items why source.new books.new.items) }
+        (HasLived blocks) source.old books.old.items why source.new books.new.items) }
 {
     let Ok((service, mut pass)) = Service::open(alloc, blocks) else {
         return Err(ServeFault::NoMemory);
@@ -124,7 +124,8 @@ where
     ensures ok { IfOk result (λ told. WorkedFrom T.incoming T.outgoing T.closes S.gives service.now
         pass.old source.old books.old.items told.0 told.1 pass.new source.new books.new.items) }
     ensures err { IfErr result (λ why. LeavesConnections T.incoming T.outgoing T.closes S.gives
-        source.old books.old.items why source.new books.new.items) }
+        (HiredFrom service.now pass.old pass.new) source.old books.old.items why source.new
+        books.new.items) }
 {
     let Ok(mut workers) = Vec::with_capacity(alloc, books.len()) else {
         return Err(ServeFault::NoMemory);

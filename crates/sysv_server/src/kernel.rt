@@ -1,9 +1,11 @@
 //! The kernel of a session over a service.
 
 ghost use Rattle.std.specs.Prelude.{◌≡◌, ◌≢◌, ◌≤◌, ℕ, List, [], Some};
+ghost use Rattle.sysv_model.specs.Watched.{stream_of, KeepsStream};
 ghost use Rattle.sysv_shared.specs.Seats.{AreOf};
 ghost use Rattle.sysv_session.specs.Answers.{MayAnswer};
 ghost use Rattle.sysv_session.specs.Course.{Course, Follows, Takes};
+ghost use Rattle.sysv_session.specs.Failing.{is_failed_read, is_failed_write};
 ghost use Rattle.sysv_server.specs.Asked.{Gets, Sends, Receives, Stats, Sets, Removes, ServesPass, Shows};
 ghost use Rattle.sysv_server.specs.Replies.{reply as the_reply, shown_stat as stat_shown, shown_row as row_shown};
 
@@ -11,9 +13,9 @@ use std::alloc::Global;
 use std::io::{Read, Write};
 use std::sync::Wait;
 use sysv_keys::SLOTS;
-use sysv_model::{Body, Cred, Flags, Row, SetTo, Stat};
+use sysv_model::{Body, Cred, Flags, Row, SetTo, Stat, Watched};
 use sysv_service::{Caller, Clock, Pass, Service, Stays};
-use sysv_session::{End, Kernel, RequestOutcome, Served, Texts, serve, serve_with};
+use sysv_session::{End, Kernel, RequestOutcome, Served, Texts, serve, serve_watched};
 use sysv_wire::{Ask, MAX_MODE, Op, Reply, ReplyContent, Request, Version};
 
 /// The kernel of one session over a service. Each request, except one for a row, is one call of the
@@ -48,6 +50,8 @@ impl<'a, C: Clock, R: Wait> ServiceKernel<'a, C, R, Stays> {
 }
 
 impl<'a, C: Clock, R: Wait, K: Caller + Copy> ServiceKernel<'a, C, R, K> {
+    ghost use Rattle.sysv_server.specs.KernelHandles.{KeepsHandles};
+
     /// Creates a kernel that calls `service` with `pass`, for a caller that may leave.
     ///
     /// A call that the caller leaves while it waits takes no message and sends none. It has no
@@ -106,34 +110,37 @@ impl<'a, C: Clock, R: Wait, K: Caller + Copy> ServiceKernel<'a, C, R, K> {
             Takes input course → Follows course result }
         ensures memory { result.«end» ≡ End.NoMemory → (reader.new ≡ reader.old)
             × (writer.new ≡ writer.old) }
-        ensures service { self.new.service ≡ self.old.service }
-        ensures clock { self.new.clock ≡ self.old.clock }
-        ensures caller { self.new.caller ≡ self.old.caller }
+        ensures handles { KeepsHandles self.old self.new }
     {
         serve(alloc, reader, writer, self)
     }
 
-    /// Runs one session like `serve`, but with two bodies that exist already. Allocates nothing for
-    /// the session.
-    pub fn serve_with<I: Read, O: Write>(
+    /// Runs one session like `serve`, but with two bodies that exist already, and records which
+    /// stream failed. Allocates nothing for the session.
+    ///
+    /// The reader fails if and only if the session ends with `Fault(Read)`, and the writer fails if
+    /// and only if it ends with `Write`.
+    pub fn serve_watched<I: Read, O: Write>(
         &mut self,
         texts: &mut Texts,
-        reader: &mut I,
-        writer: &mut O,
+        reader: &mut Watched<'_, I>,
+        writer: &mut Watched<'_, O>,
     ) -> Served
         ensures serves { ServesPass (C.may self.old.clock.now)
             (K.may_leave self.old.caller) result self.old.pass self.new.pass
-            (I.remaining reader.old) (I.remaining reader.new)
-            (O.contents writer.old) (O.contents writer.new) }
+            (I.remaining (stream_of reader.old)) (I.remaining (stream_of reader.new))
+            (O.contents (stream_of writer.old)) (O.contents (stream_of writer.new)) }
         // The session ends as its input determines, unless it is cut short.
-        ensures only { (input : List ℕ) (course : Course) → I.remaining reader.old ≡ Some input →
-            Takes input course → Follows course result }
+        ensures only { (input : List ℕ) (course : Course) →
+            I.remaining (stream_of reader.old) ≡ Some input → Takes input course →
+            Follows course result }
         ensures memory { result.«end» ≢ End.NoMemory }
-        ensures service { self.new.service ≡ self.old.service }
-        ensures clock { self.new.clock ≡ self.old.clock }
-        ensures caller { self.new.caller ≡ self.old.caller }
+        // The streams stay the same, and each fails in this call if and only if the end says so.
+        ensures reader { KeepsStream reader.old reader.new (is_failed_read result.«end») }
+        ensures writer { KeepsStream writer.old writer.new (is_failed_write result.«end») }
+        ensures handles { KeepsHandles self.old self.new }
     {
-        serve_with(texts, reader, writer, self)
+        serve_watched(texts, reader, writer, self)
     }
 
     /// Ends the kernel and returns its pass.
@@ -156,9 +163,7 @@ impl<'a, C: Clock, R: Wait, K: Caller + Copy> ServiceKernel<'a, C, R, K> {
         ensures gets { Gets (C.may self.old.clock.now) version cred key flags self.old.pass result
             self.new.pass }
         ensures answer { MayAnswer version (Ask.Get key flags) result [] }
-        ensures service { self.new.service ≡ self.old.service }
-        ensures clock { self.new.clock ≡ self.old.clock }
-        ensures caller { self.new.caller ≡ self.old.caller }
+        ensures handles { KeepsHandles self.old self.new }
     {
         let told = self
             .service
@@ -184,9 +189,7 @@ impl<'a, C: Clock, R: Wait, K: Caller + Copy> ServiceKernel<'a, C, R, K> {
             (K.may_leave self.old.caller) version cred id mtype flags text.now self.old.pass result
             self.new.pass }
         ensures answer { MayAnswer version (Ask.Snd id mtype flags) result [] }
-        ensures service { self.new.service ≡ self.old.service }
-        ensures clock { self.new.clock ≡ self.old.clock }
-        ensures caller { self.new.caller ≡ self.old.caller }
+        ensures handles { KeepsHandles self.old self.new }
     {
         let (pass, caller) = (&mut self.pass, &self.caller);
         let told = self.service.msgsnd_for(
@@ -217,9 +220,7 @@ impl<'a, C: Clock, R: Wait, K: Caller + Copy> ServiceKernel<'a, C, R, K> {
             (K.may_leave self.old.caller) version cred id size mtype flags self.old.pass result
             given.new self.new.pass }
         ensures answer { MayAnswer version (Ask.Rcv id size mtype flags) result given.new }
-        ensures service { self.new.service ≡ self.old.service }
-        ensures clock { self.new.clock ≡ self.old.clock }
-        ensures caller { self.new.caller ≡ self.old.caller }
+        ensures handles { KeepsHandles self.old self.new }
     {
         let (pass, caller) = (&mut self.pass, &self.caller);
         let told = self.service.msgrcv_for(
@@ -238,9 +239,7 @@ impl<'a, C: Clock, R: Wait, K: Caller + Copy> ServiceKernel<'a, C, R, K> {
     fn stat(&mut self, version: Version, cred: Cred, id: i32) -> RequestOutcome
         ensures stats { Stats version cred id self.old.pass result self.new.pass }
         ensures answer { MayAnswer version (Ask.Stat id) result [] }
-        ensures service { self.new.service ≡ self.old.service }
-        ensures clock { self.new.clock ≡ self.old.clock }
-        ensures caller { self.new.caller ≡ self.old.caller }
+        ensures handles { KeepsHandles self.old self.new }
     {
         let told = self.service.msgctl_stat(self.rt, &mut self.pass, cred, id);
         match told {
@@ -254,9 +253,7 @@ impl<'a, C: Clock, R: Wait, K: Caller + Copy> ServiceKernel<'a, C, R, K> {
         ensures sets { Sets (C.may self.old.clock.now) version cred id to self.old.pass result
             self.new.pass }
         ensures answer { MayAnswer version (Ask.Set id to) result [] }
-        ensures service { self.new.service ≡ self.old.service }
-        ensures clock { self.new.clock ≡ self.old.clock }
-        ensures caller { self.new.caller ≡ self.old.caller }
+        ensures handles { KeepsHandles self.old self.new }
     {
         let told = self
             .service
@@ -271,9 +268,7 @@ impl<'a, C: Clock, R: Wait, K: Caller + Copy> ServiceKernel<'a, C, R, K> {
     fn remove(&mut self, version: Version, cred: Cred, id: i32) -> RequestOutcome
         ensures removes { Removes version cred id self.old.pass result self.new.pass }
         ensures answer { MayAnswer version (Ask.Rm id) result [] }
-        ensures service { self.new.service ≡ self.old.service }
-        ensures clock { self.new.clock ≡ self.old.clock }
-        ensures caller { self.new.caller ≡ self.old.caller }
+        ensures handles { KeepsHandles self.old self.new }
     {
         let told = self.service.msgctl_rmid(self.rt, &mut self.pass, cred, id);
         match told {
@@ -286,9 +281,7 @@ impl<'a, C: Clock, R: Wait, K: Caller + Copy> ServiceKernel<'a, C, R, K> {
     fn row(&mut self, version: Version, slot: u32) -> RequestOutcome
         ensures shows { Shows version slot self.old.pass result self.new.pass }
         ensures answer { MayAnswer version (Ask.Row slot) result [] }
-        ensures service { self.new.service ≡ self.old.service }
-        ensures clock { self.new.clock ≡ self.old.clock }
-        ensures caller { self.new.caller ≡ self.old.caller }
+        ensures handles { KeepsHandles self.old self.new }
     {
         let told = self.service.list_row(self.rt, &mut self.pass, slot);
         match told {
@@ -300,13 +293,11 @@ impl<'a, C: Clock, R: Wait, K: Caller + Copy> ServiceKernel<'a, C, R, K> {
 }
 
 impl<C: Clock, R: Wait, K: Caller + Copy> Kernel for ServiceKernel<'_, C, R, K> {
-    ghost use Rattle.std.specs.Prelude.{◌≡◌};
     ghost use Rattle.sysv_keys.specs.declared.identifier.TheConstants.{SLOTS};
     ghost use Rattle.sysv_server.specs.Asked.{Asks};
+    ghost use Rattle.sysv_server.specs.KernelHandles.{KeepsHandles};
 
-    ghost meaning = { λ old cred request text outcome given new. (new.service ≡ old.service)
-        × (new.clock ≡ old.clock)
-        × (new.caller ≡ old.caller)
+    ghost meaning = { λ old cred request text outcome given new. KeepsHandles old new
         × Asks (C.may old.clock.now) (K.may_leave old.caller) request.version cred request.ask text
         old.pass outcome given new.pass };
 

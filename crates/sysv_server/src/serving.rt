@@ -1,10 +1,10 @@
 //! The server.
-ghost use Rattle.std.specs.Prelude.{◌≡◌, ◌≤◌, IfOk, IsNone, false, is_some};
+ghost use Rattle.std.specs.Prelude.{◌≡◌, ◌≤◌, IfErr, IfOk, IsNone, false, is_some};
 ghost use Rattle.sysv_model.specs.declared.limits.TheConstants.{MIN_BLOCKS, MAX_BLOCKS};
 ghost use Rattle.sysv_workers.specs.declared.workers.TheConstants.{MAX_CROWD, MAX_WORKERS};
 ghost use Rattle.sysv_server.specs.Accepts.{is_closed};
 ghost use Rattle.sysv_server.specs.Added.{IsBalanced};
-ghost use Rattle.sysv_server.specs.Serving.{EndsOn, HasReason, ServesOn};
+ghost use Rattle.sysv_server.specs.Serving.{EndsOn, FailsOn, HasReason, ServesOn};
 
 use crate::accepting::{Accepting, Listening};
 use crate::common::Common;
@@ -59,6 +59,7 @@ pub fn serve_on<R: Threads + Wait + Sync>(
     requires workers { (1 ≤ workers) × (workers ≤ MAX_WORKERS) }
     ensures ok { IfOk result (λ sums. ServesOn blocks workers sessions sums) }
     ensures balance { IfOk result IsBalanced }
+    ensures err { IfErr result (FailsOn blocks workers) }
 {
     let Some(mut books) = empty_books(alloc, workers) else {
         return Err(ServeFault::NoMemory);
@@ -116,6 +117,7 @@ pub fn serve_listener<I: Read + AsRawFd + Drop, H: Host + Drop, R: Threads + Wai
     ensures exact { IfOk result (λ ended.
         HasReason (is_some input) terms.sessions ended.sums.sessions reason.new) }
     ensures balance { IfOk result (λ ended. IsBalanced ended.sums) }
+    ensures err { IfErr result (FailsOn terms.blocks terms.at_once) }
 {
     let Terms {
         blocks,

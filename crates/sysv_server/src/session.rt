@@ -1,8 +1,11 @@
 //! One session on a connection, and the workers that run sessions.
 ghost use Rattle.std.specs.Prelude.{◌≡◌, ⊤, IfSome, IfNone};
+ghost use Rattle.sysv_model.specs.Watched.{stream_of, KeepsStream};
+ghost use Rattle.sysv_session.specs.Failing.{is_failed_read, is_failed_write};
 ghost use Rattle.sysv_shared.specs.Seats.{AreOf};
 ghost use Rattle.sysv_server.specs.Asked.{ServesPass};
 ghost use Rattle.sysv_server.specs.Added.{nothing};
+ghost use Rattle.sysv_server.specs.KernelHandles.{KeepsHandles};
 ghost use Rattle.sysv_server.specs.Handled.{Holds, one_refused};
 ghost use Rattle.sysv_server.specs.Talks.{tally_of};
 
@@ -14,6 +17,7 @@ use crate::sums::Sums;
 use std::alloc::Global;
 use std::io::{Read, Write};
 use std::sync::Wait;
+use sysv_model::Watched;
 use sysv_queue::Tally;
 use sysv_service::{Clock, Pass, Service};
 use sysv_session::{Served, Texts};
@@ -157,8 +161,15 @@ fn hold<T: Connection, R: Wait>(
     kernel.set_caller(peer);
     let told = converse(alloc, kernel, texts, &mut reader, &mut writer);
     kernel.set_caller(Peer::none());
-    T::close(reader, writer, book);
+    close_into::<T>(reader, writer, book);
     told
+}
+
+/// Closes the connection that has these ends, and leaves in the book what is kept of it.
+fn close_into<T: Connection>(reader: T::Input, writer: T::Output, book: &mut T::Book)
+    ensures { T.closes book.old (T.Input.remaining reader) (T.Output.contents writer) book.new }
+{
+    T::close(reader, writer, book);
 }
 
 /// Returns the bodies, and allocates them if there are none. Returns `None` if their memory is
@@ -184,8 +195,39 @@ fn converse<I: Read, O: Write, C: Clock, R: Wait>(
         (O.contents writer.old) (O.contents writer.new)) }
     ensures none { IfNone result ((kernel.new.pass ≡ kernel.old.pass)
         × (reader.new ≡ reader.old) × (writer.new ≡ writer.old)) }
-    ensures service { kernel.new.service ≡ kernel.old.service }
-    ensures clock { kernel.new.clock ≡ kernel.old.clock }
+    ensures handles { KeepsHandles kernel.old kernel.new }
 {
-    Some(kernel.serve_with(opened(alloc, texts)?, reader, writer))
+    watch(
+        alloc,
+        kernel,
+        texts,
+        &mut Watched::new(reader),
+        &mut Watched::new(writer),
+    )
+}
+
+/// Runs one session like `converse`, and records which end failed.
+///
+/// The session ends with `Fault(Read)` if and only if a read of the connection failed, and with
+/// `Write` if and only if a write or a flush failed.
+fn watch<I: Read, O: Write, C: Clock, R: Wait>(
+    alloc: Global,
+    kernel: &mut ServiceKernel<'_, C, R, Peer>,
+    texts: &mut Option<Texts>,
+    reader: &mut Watched<'_, I>,
+    writer: &mut Watched<'_, O>,
+) -> Option<Served>
+    ensures some { IfSome result (λ told. ServesPass (C.may kernel.old.clock.now) ⊤ told
+        kernel.old.pass kernel.new.pass
+        (I.remaining (stream_of reader.old)) (I.remaining (stream_of reader.new))
+        (O.contents (stream_of writer.old)) (O.contents (stream_of writer.new))) }
+    ensures none { IfNone result ((kernel.new.pass ≡ kernel.old.pass)
+        × (reader.new ≡ reader.old) × (writer.new ≡ writer.old)) }
+    ensures reader { IfSome result (λ told.
+        KeepsStream reader.old reader.new (is_failed_read told.«end»)) }
+    ensures writer { IfSome result (λ told.
+        KeepsStream writer.old writer.new (is_failed_write told.«end»)) }
+    ensures handles { KeepsHandles kernel.old kernel.new }
+{
+    Some(kernel.serve_watched(opened(alloc, texts)?, reader, writer))
 }

@@ -51,9 +51,11 @@ returns-in-Err-clause-err g c =
     let book : W → g.row.T-Book.Denot = λ w. w.book in
     all_left t.incoming t.outgoing t.closes pass sums refused book g.S.Source.gives c.args.service.now
     c.hire.new.workers.items c.in-Err.refused.states.items c.args.source.now c.run_crowd.new.source
-    c.args.books.now.items c.dismiss-in-Err.new.books.items c.in-Err.refused.why c.fault.result c.fault.ensures
-    c.in-Err.ensures.asked c.in-Err.ensures.err.0
+    c.args.books.now.items c.dismiss-in-Err.new.books.items c.args.pass.now c.hire.new.pass
+    c.dismiss-in-Err.new.pass
     (λ (k : ℕ) (d : W) (low : k < length c.hire.new.workers.items). (c.hire.ensures.workers k d low).1)
     c.hire.ensures.books
     (c.dismiss-in-Err.ensures.books
     ∙ ap (λ l. l ++ reverse (map book c.in-Err.refused.states.items)) c.hire.ensures.taken.0)
+    c.hire.ensures.gives c.dismiss-in-Err.ensures.takes c.in-Err.refused.why c.fault.result c.fault.ensures
+    c.in-Err.ensures.asked c.in-Err.ensures.err.0

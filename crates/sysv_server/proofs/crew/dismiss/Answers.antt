@@ -9,7 +9,7 @@ use Rattle.sysv_service.specs.Ran.{Pass}
 use Rattle.sysv_server.specs.declared.session.Worker.{Worker}
 use Rattle.sysv_server.specs.declared.sums.Sums.{Sums}
 use Rattle.sysv_server.specs.Added.{added, capped}
-use Rattle.sysv_server.proofs.Adding.{adding_one, all_counted, counting_one, emptied}
+use Rattle.sysv_server.proofs.SumsOfSessions.{adding_one, all_counted, counting_one, emptied}
 use Rattle.sysv_server.proofs.Shifts.{but_last, reverse_last, the_last, unpopped}
 use Rattle.sysv_server.proofs.crew.dismiss.Goals as goal
 

@@ -5,7 +5,7 @@ use Rattle.sysv_shared.specs.Seats.{AreOf}
 use Rattle.sysv_service.specs.Hiring.{TakesIn}
 use Rattle.sysv_service.specs.Ran.{Pass}
 use Rattle.sysv_server.specs.Added.{capped}
-use Rattle.sysv_server.proofs.Adding.{Adding}
+use Rattle.sysv_server.proofs.SumsOfSessions.{Adding}
 use Rattle.sysv_server.proofs.crew.dismiss.Given as goal
 
 -- The sums of the dismissed workers and those of the remaining ones are the sums of all. The passes

@@ -1,4 +1,4 @@
-use Rattle.sysv_server.proofs.Living.{each_life, each_none_held, each_whole}
+use Rattle.sysv_server.proofs.LifeIsOneRun.{each_life, each_none_held, each_whole}
 use Rattle.sysv_server.proofs.laws.each_life_is_one_run.Goals as goal
 
 pub returns-clause-run : goal.returns-clause-run

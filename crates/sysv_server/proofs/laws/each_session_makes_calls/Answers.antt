@@ -1,4 +1,4 @@
-use Rattle.sysv_server.proofs.Making.{each_session}
+use Rattle.sysv_server.proofs.SessionMakesCalls.{each_session}
 use Rattle.sysv_server.proofs.laws.each_session_makes_calls.Goals as goal
 
 pub returns : goal.returns

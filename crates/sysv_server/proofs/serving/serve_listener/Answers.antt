@@ -3,7 +3,7 @@
 use Rattle.std.proofs.Common.{◌≡◌, length, ap, sym, arith}
 use Rattle.std.specs.Prelude.{is_some}
 use Rattle.sysv_server.specs.Accepts.{is_closed}
-use Rattle.sysv_server.proofs.Accepted.{ends_for, ends_on}
+use Rattle.sysv_server.proofs.Accepted.{all_fail_on, ends_for, ends_on}
 use Rattle.sysv_server.proofs.serving.serve_listener.Goals as goal
 
 pub returns-clause-ok : goal.returns-clause-ok
@@ -25,3 +25,12 @@ returns-clause-exact g c =
     (let same = c.new-source.ensures.begun.0 in let fits = c.new-source.ensures.range in omega arith)
     (ap is_closed c.new-source.ensures.given.0)
     (ap is_some c.new-source.ensures.given.1) (sym c.into_reason.ensures) c.serve_all-outcome.ensures.ok
+
+pub returns-clause-err : goal.returns-clause-err
+returns-clause-err g c =
+    let ok = c.in-Some.books.ok in
+    let many = c.in-Some.ensures in
+    let counted : length c.in-Some.books.items ≡ c.args.terms.at_once = omega arith in
+    all_fail_on _ _ c.new-source.result c.serve_all-outcome.new.source
+    c.in-Some.books.items c.serve_all-outcome.new.books.items c.serve_all-outcome.result counted
+    c.serve_all-outcome.ensures.err

@@ -21,7 +21,5 @@ returns g c =
       serves = done.3;
       only = c.serve.ensures.only;
       memory = c.serve.ensures.memory;
-      service = done.0;
-      clock = done.1;
-      caller = done.2;
+      handles = (done.0, done.1, done.2);
     }

@@ -7,37 +7,36 @@ pub returns-in-Get-clause-meaning : goal.returns-in-Get-clause-meaning
 returns-in-Get-clause-meaning g c =
     let key : FitsSigned w32 c.in-Get.key = search rules in
     let gets = simp to_z-of_z at c.get.ensures.gets in
-    rw c.in-Get.is (c.get.ensures.service, c.get.ensures.clock, c.get.ensures.caller, (gets, c.requires.empty))
+    rw c.in-Get.is (c.get.ensures.handles, (gets, c.requires.empty))
 
 pub returns-in-Snd-clause-meaning : goal.returns-in-Snd-clause-meaning
 returns-in-Snd-clause-meaning g c =
     let id : FitsSigned w32 c.in-Snd.id = search rules in
     let mtype : FitsSigned w64 c.in-Snd.mtype = search rules in
     let sends = simp to_z-of_z at c.send.ensures.sends in
-    rw c.in-Snd.is (c.send.ensures.service, c.send.ensures.clock, c.send.ensures.caller, (sends, c.requires.empty))
+    rw c.in-Snd.is (c.send.ensures.handles, (sends, c.requires.empty))
 
 pub returns-in-Rcv-clause-meaning : goal.returns-in-Rcv-clause-meaning
 returns-in-Rcv-clause-meaning g c =
     let id : FitsSigned w32 c.in-Rcv.id = search rules in
     let mtype : FitsSigned w64 c.in-Rcv.mtype = search rules in
     let receives = simp to_z-of_z at c.receive.ensures.receives in
-    rw c.in-Rcv.is (c.receive.ensures.service, c.receive.ensures.clock, c.receive.ensures.caller, receives)
+    rw c.in-Rcv.is (c.receive.ensures.handles, receives)
 
 pub returns-in-Stat-clause-meaning : goal.returns-in-Stat-clause-meaning
 returns-in-Stat-clause-meaning g c =
     let id : FitsSigned w32 c.in-Stat.id = search rules in
     let stats = simp to_z-of_z at c.stat.ensures.stats in
-    rw c.in-Stat.is (c.stat.ensures.service, c.stat.ensures.clock, c.stat.ensures.caller, (stats, c.requires.empty))
+    rw c.in-Stat.is (c.stat.ensures.handles, (stats, c.requires.empty))
 
 pub returns-in-Set-clause-meaning : goal.returns-in-Set-clause-meaning
 returns-in-Set-clause-meaning g c =
     let id : FitsSigned w32 c.in-Set.id = search rules in
     let sets = simp to_z-of_z at c.set.ensures.sets in
-    rw c.in-Set.is (c.set.ensures.service, c.set.ensures.clock, c.set.ensures.caller, (sets, c.requires.empty))
+    rw c.in-Set.is (c.set.ensures.handles, (sets, c.requires.empty))
 
 pub returns-in-Rm-clause-meaning : goal.returns-in-Rm-clause-meaning
 returns-in-Rm-clause-meaning g c =
     let id : FitsSigned w32 c.in-Rm.id = search rules in
     let removes = simp to_z-of_z at c.remove.ensures.removes in
-    rw c.in-Rm.is
-    (c.remove.ensures.service, c.remove.ensures.clock, c.remove.ensures.caller, (removes, c.requires.empty))
+    rw c.in-Rm.is (c.remove.ensures.handles, (removes, c.requires.empty))

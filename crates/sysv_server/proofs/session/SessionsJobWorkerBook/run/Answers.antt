@@ -1,7 +1,7 @@
 -- The session that was held is added to the sums.
 use Rattle.std.proofs.Common.{◌∙◌, ◌+◌, ap}
 use Rattle.sysv_server.specs.Added.{added, capped, one_session}
-use Rattle.sysv_server.proofs.Holding.{handled}
+use Rattle.sysv_server.proofs.OneSession.{handled}
 use Rattle.sysv_server.proofs.session.SessionsJobWorkerBook.run.Goals as goal
 
 pub returns-clause-runs : goal.returns-clause-runs

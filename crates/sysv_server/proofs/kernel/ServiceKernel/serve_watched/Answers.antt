@@ -1,9 +1,10 @@
 -- The kernel's calls are those of the service with its pass.
 use Rattle.std.proofs.Common.{Bor}
 use Rattle.sysv_keys.specs.declared.identifier.TheConstants.{SLOTS}
+use Rattle.sysv_model.specs.Watched.{stream_of}
 use Rattle.sysv_server.specs.declared.kernel.ServiceKernel.{ServiceKernel}
 use Rattle.sysv_server.proofs.Sessions.{serves}
-use Rattle.sysv_server.proofs.kernel.ServiceKernel.serve_with.Goals as goal
+use Rattle.sysv_server.proofs.kernel.ServiceKernel.serve_watched.Goals as goal
 
 pub returns : goal.returns
 returns g c =
@@ -14,14 +15,16 @@ returns g c =
     (λ (k : ServiceKernel g.row.C.Denot g.row.R.Denot g.row.K.Denot g.C.Clock g.K.Caller). k.caller)
     (λ (clock : Bor g.row.C.Denot). g.C.Clock.may clock.now)
     g.K.Caller.may_leave
-    SLOTS c.serve_with.result c.args.self.now c.serve_with.new.kernel (g.I.Read.remaining c.args.reader.now)
-    (g.I.Read.remaining c.serve_with.new.reader)
-    (g.O.Write.contents c.args.writer.now) (g.O.Write.contents c.serve_with.new.writer) c.serve_with.ensures.serves in
+    SLOTS c.serve_watched.result c.args.self.now c.serve_watched.new.kernel
+    (g.I.Read.remaining (stream_of c.args.reader.now))
+    (g.I.Read.remaining (stream_of c.serve_watched.new.reader))
+    (g.O.Write.contents (stream_of c.args.writer.now)) (g.O.Write.contents (stream_of c.serve_watched.new.writer))
+    c.serve_watched.ensures.serves in
     record {
       serves = done.3;
-      only = c.serve_with.ensures.only;
-      memory = c.serve_with.ensures.memory;
-      service = done.0;
-      clock = done.1;
-      caller = done.2;
+      only = c.serve_watched.ensures.only;
+      memory = c.serve_watched.ensures.memory;
+      reader = c.serve_watched.ensures.reader;
+      writer = c.serve_watched.ensures.writer;
+      handles = (done.0, done.1, done.2);
     }
