@@ -9,6 +9,7 @@ ghost use Rattle.sysv_service.specs.PoolWhole.{EveryHiringLeavesThePoolWhole, Ev
 ghost use Rattle.sysv_service.specs.RightAnswers.{EachRunAnswersRight};
 ghost use Rattle.sysv_driver.specs.Stepping.{no_moment};
 ghost use Rattle.sysv_service.specs.Retried.{EachRetryIsAtItsGoal, EachRunRetriesAtItsGoal};
+ghost use Rattle.sysv_service.specs.TurnsLeft.{NoMarkWithTurnsLeft};
 
 use crate::pass::Pass;
 use sysv_driver::Clock;
@@ -95,10 +96,13 @@ pub fn every_service_obeys<C: Clock>(clock: &C)
 /// obeys the headline of threads. This holds if fewer than 2^62 turns were made at each object,
 /// with tickets from 0 on: then no call found a gate worn out.
 ///
-/// The second clause states that a stop makes removals, and no other call.
+/// The clause `stops` states that a stop makes removals, and no other call. The clause `unmarked`
+/// states that after so few turns no seat with which the service is closed is marked, if these
+/// seats have the whole service.
 pub fn every_hiring_obeys()
     ensures obeys { EveryHiringObeys }
     ensures stops { EveryStopRemoves }
+    ensures unmarked { NoMarkWithTurnsLeft }
 {
     every_service_that_came_home_is_a_run();
 }

@@ -1,3 +1,4 @@
+use Rattle.sysv_service.proofs.UnwornAtTheEnd.{unmarked_at_the_end}
 use Rattle.sysv_service.proofs.WorkersOfLife.{every_hiring, every_stop}
 use Rattle.sysv_service.proofs.PassesAreCrew.{at_any, every_service}
 use Rattle.sysv_driver.specs.Stepping.{no_moment}
@@ -8,3 +9,6 @@ returns-clause-obeys c = every_hiring (every_service c.every_service_that_came_h
 
 pub returns-clause-stops : goal.returns-clause-stops
 returns-clause-stops c = every_stop (at_any no_moment)
+
+pub returns-clause-unmarked : goal.returns-clause-unmarked
+returns-clause-unmarked c = unmarked_at_the_end
