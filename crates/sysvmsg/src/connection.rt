@@ -1,5 +1,5 @@
 //! Clients over a socket.
-ghost use Rattle.std.specs.Prelude.{◌≡◌, ◌≤◌, ⊥, length};
+ghost use Rattle.std.specs.Prelude.{◌≡◌, ◌≤◌, length};
 ghost use Rattle.sysv_clients.specs.Run.{HasShortText};
 ghost use Rattle.sysvmsg.specs.Bodies.{with_text};
 ghost use Rattle.sysvmsg.specs.Ends.{IsStatus, Succeeds, SucceedsOnly};

@@ -1,7 +1,6 @@
 //! `sysvmsg`, System V message queues from the command line.
 #![tactic(auto)]
 
-ghost use Rattle.std.specs.Prelude.{⊥};
 ghost use Rattle.sysvmsg.specs.Ends.{Succeeds};
 
 mod asked;
