@@ -6,3 +6,4 @@ pub mod Who
 pub mod Tasks
 pub mod Servers
 pub mod Requests
+pub mod Ends

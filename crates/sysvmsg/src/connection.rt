@@ -2,6 +2,7 @@
 ghost use Rattle.std.specs.Prelude.{◌≡◌, ◌≤◌, length};
 ghost use Rattle.sysv_clients.specs.Run.{HasShortText};
 ghost use Rattle.sysvmsg.specs.Bodies.{with_text};
+ghost use Rattle.sysvmsg.specs.Ends.{IsStatus, Succeeds, SucceedsOnly};
 
 use crate::asked::How;
 use crate::input::{Unread, read_body};
@@ -221,6 +222,7 @@ fn run_over<S: Write>(
     screen: &mut S,
 ) -> ExitCode
     requires { HasShortText command.now.task }
+    ensures { SucceedsOnly command.now (S.contents screen.old) (S.contents screen.new) result }
 {
     let (Ok(mut reader), Ok(mut writer)) = (
         BufReader::new(alloc, stream),
@@ -232,7 +234,9 @@ fn run_over<S: Write>(
 }
 
 /// Returns the status of a client as that of the program.
-fn ended(status: i32) -> ExitCode {
+fn ended(status: i32) -> ExitCode
+    ensures { IsStatus status result }
+{
     match status {
         0 => ExitCode::SUCCESS,
         _ => ExitCode::from(FAULT),
@@ -240,7 +244,9 @@ fn ended(status: i32) -> ExitCode {
 }
 
 /// Reports that memory was refused before anything was requested.
-fn no_memory<S: Write>(screen: &mut S) -> ExitCode {
+fn no_memory<S: Write>(screen: &mut S) -> ExitCode
+    ensures { Succeeds result → ⊥ }
+{
     let _ = screen.write_all(ClientFault::NoMemory.line().as_bytes());
     ExitCode::from(FAULT)
 }

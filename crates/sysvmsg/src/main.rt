@@ -1,6 +1,8 @@
 //! `sysvmsg`, System V message queues from the command line.
 #![tactic(auto)]
 
+ghost use Rattle.sysvmsg.specs.Ends.{Succeeds};
+
 mod asked;
 mod commands;
 mod connection;
@@ -98,7 +100,9 @@ fn tell(rt: &impl Print, error: &Error) -> ExitCode {
 }
 
 /// Prints the one line of a fault.
-fn say(rt: &impl Print, fault: &str) -> ExitCode {
+fn say(rt: &impl Print, fault: &str) -> ExitCode
+    ensures { Succeeds result → ⊥ }
+{
     let _ = println!(rt; "sysvmsg: {fault}");
     ExitCode::from(FAULT)
 }

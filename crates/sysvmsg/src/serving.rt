@@ -1,12 +1,15 @@
 //! The server.
+ghost use Rattle.std.specs.Prelude.{IfOk};
+ghost use Rattle.sysv_server.specs.Serving.{HasReason};
 ghost use Rattle.sysvmsg.specs.Asked.{HasLimits};
+ghost use Rattle.sysvmsg.specs.Ends.{SucceedsWithSums};
 
 use crate::asked::Serving;
 use crate::plain::complain;
 use crate::socket::listen_at;
 use crate::{FAULT, say};
 use std::io;
-use std::io::{Eprint, ErrorKind, Read};
+use std::io::{Eprint, ErrorKind, Read, Write};
 use std::net::Net;
 use std::os::fd::AsRawFd;
 use std::os::unix::net::UnixListener;
@@ -14,7 +17,7 @@ use std::process::ExitCode;
 use std::rt::Files;
 use std::sync::Wait;
 use std::thread::Threads;
-use sysv_server::{Host, Notice, Reason, ServeFault, Sums, Terms, serve_listener};
+use sysv_server::{Ended, Host, Notice, Reason, ServeFault, Sums, Terms, serve_listener};
 
 /// The host of a server: it opens the socket, and reports on standard error.
 #[derive(Drop)]
@@ -65,16 +68,33 @@ pub(crate) fn serve_at<
 >(rt: &R, input: I, serving: &Serving<'_>) -> ExitCode
     requires { HasLimits serving.now }
 {
-    let host = Reporter { rt, serving };
-    let input = serving.until_eof.then_some(input);
     let mut reason = None;
-    match serve_listener(rt, rt.alloc(), host, input, serving.terms, &mut reason) {
+    match run_server(rt, input, serving, &mut reason) {
         Ok(ended) => end(rt, &ended.sums, reason),
         Err(fault) => {
             explain(rt, fault, &serving.terms);
             say(rt, "no memory")
         }
     }
+}
+
+/// Runs a server. It ends after its input has ended only if the command line says so.
+fn run_server<
+    I: Read + AsRawFd + Drop,
+    R: Files + Net + Threads + Wait + Sync + Eprint + AllocGlobal + Clone + Drop,
+>(
+    rt: &R,
+    input: I,
+    serving: &Serving<'_>,
+    reason: &mut Option<Reason>,
+) -> Result<Ended, ServeFault>
+    requires { HasLimits serving.now }
+    ensures { IfOk result (λ ended. HasReason serving.now.until_eof serving.now.terms.sessions
+        ended.sums.sessions reason.new) }
+{
+    let host = Reporter { rt, serving };
+    let input = serving.until_eof.then_some(input);
+    serve_listener(rt, rt.alloc(), host, input, serving.terms, reason)
 }
 
 /// Prints how a server ended that accepted no more connections for this reason. If an accept
@@ -87,10 +107,10 @@ fn end<R: Print + Eprint + AllocGlobal>(rt: &R, sums: &Sums, reason: Option<Reas
         Some(Reason::NoSocket(_)) => say(rt, "cannot bind"),
         Some(Reason::Accept(why)) => {
             complain(rt, "cannot accept", &why, "");
-            tell(rt, sums);
+            tell(&mut io::writer(rt), sums);
             ExitCode::from(FAULT)
         }
-        _ => tell(rt, sums),
+        _ => tell(&mut io::writer(rt), sums),
     }
 }
 
@@ -113,14 +133,16 @@ fn explain(rt: &impl Eprint, fault: ServeFault, terms: &Terms) {
 }
 
 /// Prints the sums.
-fn tell(rt: &impl Print, sums: &Sums) -> ExitCode {
+fn tell<S: Write>(screen: &mut S, sums: &Sums) -> ExitCode
+    ensures { SucceedsWithSums sums.now (S.contents screen.old) (S.contents screen.new) result }
+{
     let Sums {
         sessions,
         taken,
         written,
         lost,
     } = *sums;
-    match println!(rt; "sessions {sessions} taken {taken} written {written} lost {lost}") {
+    match writeln!(screen, "sessions {sessions} taken {taken} written {written} lost {lost}") {
         Ok(()) => ExitCode::SUCCESS,
         Err(_) => ExitCode::from(FAULT),
     }
