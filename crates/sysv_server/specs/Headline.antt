@@ -2,7 +2,8 @@
 -- new service. Each connection has one session, over the very bytes of that connection, and is then
 -- closed with what the session left. The calls of all sessions, each with the reply that was written
 -- to it or left without one, and the removals of the stop are one run of the service, and that run
--- obeys the headline of threads, unless a gate was found worn out (this project's profile).
+-- obeys the headline of threads, if fewer than 2^62 turns were made at each object (this project's
+-- profile).
 --
 -- ServesConnections is this statement. The bytes of a connection are those that it tells: a
 -- connection in memory tells them all, and a socket tells none, since no contract speaks of what the

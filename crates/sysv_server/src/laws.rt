@@ -17,7 +17,8 @@ pub fn each_session_makes_calls<C: Clock, K: Caller>(clock: &C, caller: &K)
     every_service_obeys(clock);
 }
 
-/// States that the sessions of a server are one run of its service if no gate was found worn out.
+/// States that the sessions of a server are one run of its service, if fewer than 2^62 turns were
+/// made at each object.
 ///
 /// The calls of all sessions, each answered as it ended or left without a reply, and the removals
 /// of the stop are all the calls that made the order of turns of the service. That order is a run
