@@ -1,4 +1,5 @@
 pub mod TalkLemmas
 pub mod WordLemmas
 pub mod Courses
+pub mod CallLemmas
 pub mod StreamLemmas

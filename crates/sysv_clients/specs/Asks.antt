@@ -6,7 +6,7 @@ use Rattle.std.specs.List.{range_with_len}
 use Rattle.std.specs.Int.RustNames.{bit_or}
 use Rattle.sysv_clients.specs.declared.command.Command.{Command}
 use Rattle.sysv_clients.specs.declared.command.Target.{Target}
-use Rattle.sysv_clients.specs.declared.command.Target.TheVariants.{Id, Key}
+use Rattle.sysv_clients.specs.declared.command.Target.TheVariants.{Id, Key, All}
 use Rattle.sysv_clients.specs.declared.command.Making.{Making}
 use Rattle.sysv_clients.specs.declared.command.Receipt.{Receipt}
 use Rattle.sysv_clients.specs.declared.command.Task.{Task}
@@ -61,10 +61,11 @@ flags_to_receive nowait noerror except =
 unfoldable pub row_asks : ℕ → List Ask
 row_asks slots = map (λ slot. Row slot) (range_with_len 0 (min slots MAX_ROWS))
 
--- The requests of an ipcrm.
+-- The requests of an ipcrm of one queue. An ipcrm of all queues is a session of its own.
 abbrev pub remove_asks : Target → ℤ → List Ask
 remove_asks (Id id) found = Rm id ∷ []
 remove_asks (Key key) found = Get key no_flags ∷ Rm found ∷ []
+remove_asks All found = []
 
 -- The request that sets the limit of a new queue, if it is to be set.
 abbrev pub limit_asks : Cred → Making → ℤ → Option ℕ → List Ask
