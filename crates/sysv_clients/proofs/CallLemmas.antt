@@ -1,17 +1,14 @@
 -- Calls of a plan, one more of them, and what ends a session.
-use Rattle.std.proofs.Common.{◌≡◌, ℕ, ℤ, pos, ◌+◌, List, [], ◌∷◌, ◌++◌, length, Option, Some, Ok, Err}
+use Rattle.std.proofs.Common.{◌≡◌, ℕ, ℤ, pos, ◌+◌, List, [], ◌∷◌, ◌++◌, length, Option, Some, Ok}
 use Rattle.std.proofs.Common.{sym, ap, subst, ◌∙◌, append_assoc, append-nil, length-append}
 use Rattle.std.proofs.lemmas.List.Concat.{flat_map-append}
 use Rattle.std.proofs.lemmas.List.Sums.{fold-append}
 use Rattle.std.specs.Io.KnownBytes.{Appends, Consumes}
 use Rattle.std.proofs.KnownBytes.{Appends-nil, Appends-trans, Consumes-nil, Consumes-trans}
-use Rattle.sysv_clients.specs.declared.fault.ClientFault.TheVariants.{Refused}
 use Rattle.sysv_clients.specs.Asks.{request_of}
 use Rattle.sysv_clients.specs.Calls.{Call, FollowsPlan, IsCallDone, Made, Plan, id_in, read_by, written_by}
 use Rattle.sysv_clients.specs.Talk.{Exchanges, id_after, reply_to}
-use Rattle.sysv_model.specs.declared.errno.Errno.{Errno}
 use Rattle.sysv_wire.specs.declared.reply.ReplyContent.{ReplyContent}
-use Rattle.sysv_wire.specs.declared.reply.ReplyContent.TheVariants as content
 use Rattle.sysv_wire.specs.declared.request.Ask.{Ask}
 use Rattle.sysv_wire.specs.Replies.{reply_spelling}
 use Rattle.sysv_wire.specs.Requests.{request_spelling}

@@ -3,3 +3,5 @@ pub mod WordLemmas
 pub mod Courses
 pub mod CallLemmas
 pub mod StreamLemmas
+pub mod SendLemmas
+pub mod ClearLemmas

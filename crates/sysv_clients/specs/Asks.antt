@@ -12,7 +12,6 @@ use Rattle.sysv_clients.specs.declared.command.Receipt.{Receipt}
 use Rattle.sysv_clients.specs.declared.command.Task.{Task}
 use Rattle.sysv_clients.specs.declared.command.Task.TheVariants.{List as Table, Show, Remove, Make, Send, Receive}
 use Rattle.sysv_clients.specs.declared.command.TheConstants.{MAX_ROWS}
-use Rattle.sysv_model.specs.declared.attributes.SetTo.{SetTo}
 use Rattle.sysv_model.specs.declared.cred.Cred.{Cred}
 use Rattle.sysv_model.specs.declared.flags.Flags.{Flags}
 use Rattle.sysv_model.specs.declared.flags.TheConstants.Flags.{IPC_CREAT, IPC_EXCL, IPC_NOWAIT, MSG_EXCEPT}

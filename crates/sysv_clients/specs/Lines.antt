@@ -1,6 +1,6 @@
 -- The lines of an input (this project's programs): each ends with an LF, which is not part of it,
 -- and the last may lack it.
-use Rattle.std.specs.Prelude.{◌≡◌, ◌≢◌, ◌≤◌, ◌+◌, ◌⊎◌, ⊤, ℕ, List, [], ◌∷◌, ◌++◌, length, All, Option, None, Some}
+use Rattle.std.specs.Prelude.{◌≡◌, ◌≢◌, ◌≤◌, ◌+◌, ◌⊎◌, ⊤, ℕ, Bool, true, false, List, [], ◌∷◌, ◌++◌, length, All, Option, None, Some}
 use Rattle.std.specs.Prelude.{Result, Ok, Err}
 use Rattle.std.specs.Io.KnownBytes.{Consumes, IsAtEnd}
 use Rattle.sysv_clients.specs.declared.lines.Fetched.{Fetched}
@@ -34,6 +34,18 @@ HasNone left rest = Consumes left rest [] × IsAtEnd rest
 abbrev pub ReadsByte : Option ℕ → (left rest : Option (List ℕ)) → Type 0
 ReadsByte (Some byte) left rest = Consumes left rest (byte ∷ [])
 ReadsByte None left rest = HasNone left rest
+
+-- Nothing was read, since the input is at its end.
+abbrev pub is_nothing : Fetched → Bool
+is_nothing Nothing = true
+is_nothing Line = false
+is_nothing Last = false
+
+-- The last line was read, which has no LF.
+abbrev pub is_last : Fetched → Bool
+is_last Last = true
+is_last Line = false
+is_last Nothing = false
 
 -- What was read as the next line.
 abbrev pub Fetches : Result Fetched Unsent → (left rest : Option (List ℕ)) → List ℕ → Type 0

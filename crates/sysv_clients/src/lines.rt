@@ -1,8 +1,9 @@
 //! Lines of an input.
-ghost use Rattle.std.specs.Prelude.{◌≡◌, length, IfOk};
+ghost use Rattle.std.specs.Prelude.{◌≡◌, ◌<◌, ◌∷◌, ◌++◌, [], length, IfOk};
 ghost use Rattle.std.specs.Io.{ReadsAtMost};
 ghost use Rattle.std.specs.Io.KnownBytes.{ReadConsumes};
-ghost use Rattle.sysv_clients.specs.Lines.{Fetches, ReadsByte};
+ghost use Rattle.sysv_clients.specs.Lines.{Fetches, ReadsByte, is_last, is_nothing};
+ghost use Rattle.sysv_model.specs.declared.limits.TheConstants.{BODY_ROOM};
 
 use crate::sending::Unsent;
 use std::io;
@@ -23,6 +24,28 @@ pub(crate) enum Fetched {
     Nothing,
 }
 
+impl Fetched {
+    /// Returns whether the input is at its end, and nothing was read.
+    pub(crate) fn is_nothing(self) -> bool
+        ensures { result ≡ is_nothing self }
+    {
+        match self {
+            Fetched::Nothing => true,
+            Fetched::Line | Fetched::Last => false,
+        }
+    }
+
+    /// Returns whether it is the last line, which has no LF.
+    pub(crate) fn is_last(self) -> bool
+        ensures { result ≡ is_last self }
+    {
+        match self {
+            Fetched::Last => true,
+            Fetched::Line | Fetched::Nothing => false,
+        }
+    }
+}
+
 /// Reads a line, without its LF.
 ///
 /// # Errors
@@ -33,18 +56,24 @@ pub(crate) fn fetch<I: Read>(input: &mut I, line: &mut Body) -> Result<Fetched, 
     ensures { Fetches result (I.remaining input.old) (I.remaining input.new) line.new }
 {
     line.clear();
-    for _ in 0..=MESSAGE_BYTES {
+    while line.len() <= MESSAGE_BYTES {
         match read_byte(input) {
             Ok(Some(LF)) => return Ok(Fetched::Line),
-            Ok(Some(byte)) => {
-                line.push_piece(&[byte]);
-            }
+            Ok(Some(byte)) => put(line, byte),
             Ok(None) if line.len() == 0 => return Ok(Fetched::Nothing),
             Ok(None) => return Ok(Fetched::Last),
             Err(why) => return Err(Unsent::Input(why)),
         }
     }
     Err(Unsent::Long)
+}
+
+/// Appends a byte, for which there is space.
+fn put(line: &mut Body, byte: u8)
+    requires { length line.old < BODY_ROOM }
+    ensures { line.new ≡ line.old ++ byte ∷ [] }
+{
+    line.push_piece(&[byte]);
 }
 
 /// Reads a byte, or `None` at the end of the input. An interrupted read is made again.

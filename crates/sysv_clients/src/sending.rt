@@ -8,7 +8,7 @@ use crate::client::found;
 use crate::command::{create_flags, wait_flags};
 use crate::exchange::exchange;
 use crate::fault::ClientFault;
-use crate::lines::{Fetched, fetch};
+use crate::lines::fetch;
 use std::alloc::Global;
 use std::io;
 use std::io::{ErrorKind, Read, Write};
@@ -184,12 +184,18 @@ impl Sender {
         let mut id = found(found(0, &welcome), &got);
         for _ in 0..u64::MAX {
             let fetched = fetch(input, &mut self.text)?;
-            if fetched == Fetched::Nothing {
+            if fetched.is_nothing() {
                 return Ok(());
             }
-            let answer = exchange(reader, writer, sending.send(id), &self.text, &mut self.given)?;
+            let answer = exchange(
+                reader,
+                writer,
+                sending.send(id),
+                &self.text,
+                &mut self.given,
+            )?;
             id = found(id, &answer);
-            if fetched == Fetched::Last {
+            if fetched.is_last() {
                 return Ok(());
             }
         }

@@ -353,7 +353,11 @@ Example:
             "The queue's identifier, 0 to 2147483647",
         ),
         ("key", Form::Letter('Q', "KEY"), KEY_HELP),
-        ("all", Form::Flag, "Removes each queue that the caller may remove"),
+        (
+            "all",
+            Form::Flag,
+            "Removes each queue that the caller may remove",
+        ),
         ME,
         USER,
         GROUP,

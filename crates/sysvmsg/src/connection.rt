@@ -222,7 +222,11 @@ fn no_memory<S: Write>(screen: &mut S) -> ExitCode {
 }
 
 /// Reports that no connection can be made.
-pub(crate) fn no_server(rt: &(impl Print + Eprint + AllocGlobal), path: &str, why: &io::Error) -> ExitCode {
+pub(crate) fn no_server(
+    rt: &(impl Print + Eprint + AllocGlobal),
+    path: &str,
+    why: &io::Error,
+) -> ExitCode {
     complain(rt, path, why, "");
     say(rt, "no server")
 }

@@ -2,11 +2,11 @@
 ghost use Rattle.std.specs.Prelude.{◌≡◌};
 ghost use Rattle.sysvmsg.specs.Several.{is_of_stream, receiving_of};
 
+use crate::FAULT;
 use crate::asked::How;
 use crate::connection::no_server;
 use crate::leaver::{Leaver, Outgoing};
 use crate::plain::{complain, report};
-use crate::FAULT;
 use std::alloc::Global;
 use std::io;
 use std::io::{BufReader, BufWriter, Eprint, Read, Write};
@@ -185,10 +185,7 @@ fn remove_over(
     cred: Cred,
     refusals: &mut Vec<Refusal>,
 ) -> Result<(), ClientFault> {
-    match (
-        BufReader::new(alloc, stream),
-        BufWriter::new(alloc, stream),
-    ) {
+    match (BufReader::new(alloc, stream), BufWriter::new(alloc, stream)) {
         (Ok(mut reader), Ok(mut writer)) => {
             remove_all(alloc, cred, &mut reader, &mut writer, refusals)
         }

@@ -1,9 +1,7 @@
 //! A client whose growth of memory may be refused. It then reports that, and nothing was read or
 //! written.
 use super::*;
-use sysv_clients::{
-    ClientFault, Receiving, Sending, Stop, receive_all, remove_all, send_lines,
-};
+use sysv_clients::{ClientFault, Receiving, Sending, Stop, receive_all, remove_all, send_lines};
 use tests_kit::mark;
 
 #[test]

@@ -109,10 +109,7 @@ fn a_line_has_8192_bytes_at_most(rt: HostRuntime) {
 
 #[test]
 fn nothing_is_sent_after_a_fault(rt: HostRuntime) {
-    let table: [(&[u8], &str); 2] = [
-        (UNSENT, "sysvmsg: EPERM\n"),
-        (b"", "sysvmsg: no reply\n"),
-    ];
+    let table: [(&[u8], &str); 2] = [(UNSENT, "sysvmsg: EPERM\n"), (b"", "sysvmsg: no reply\n")];
     for (reply, line) in table {
         let mut input = joined(&rt, rt.alloc(), &[b"a\nb\nc\n"]);
         let mut talk = Talk::new(&rt, rt.alloc(), &[WELCOME, GOT, SENT, reply]);
@@ -167,8 +164,11 @@ const REFUSAL: Refusal = Refusal {
 fn all_queues_are_removed(rt: HostRuntime) {
     let welcome: &[u8] = b"\0\0\0\x07\x02\0\0\0\0\0\x02";
     let gone: &[u8] = b"\0\0\0\x03\x02\x06\x16";
-    let table: [(&[u8], Option<Refusal>); 3] =
-        [(REMOVED, None), (gone, None), (DENIED, Some(REFUSAL))];
+    let table: [(&[u8], Option<Refusal>); 3] = [
+        (REMOVED, None),
+        (gone, None),
+        (DENIED, Some(REFUSAL)),
+    ];
     for (reply, refusal) in table {
         let mut talk = Talk::new(&rt, rt.alloc(), &[welcome, ROW, reply, WIDE, REMOVED]);
         let mut refusals = Vec::new(rt.alloc());
