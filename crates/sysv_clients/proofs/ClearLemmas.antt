@@ -195,8 +195,8 @@ ends_by : (cred : Cred) (calls : List Call) (why : ClientFault) (ask : Ask) (tex
 ends_by cred calls (Refused error) ask text given left rest taken more next is exchange = (
   ask,
   next,
-  subst (λ (l : List ℕ). Exchanges (request_spelling (request_of ask) l) ask (Err (Refused error)) left rest taken more [])
-      is exchange,
+  subst (λ (l : List ℕ).
+      Exchanges (request_spelling (request_of ask) l) ask (Err (Refused error)) left rest taken more []) is exchange,
 )
 ends_by cred calls NoReply ask text given left rest taken more next is exchange = (
   ask,

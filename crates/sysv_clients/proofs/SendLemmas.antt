@@ -204,7 +204,8 @@ breaks_off sending why given text left mid rest taken more most fed unsent now i
     }
 
 -- The hello has a fault.
-pub no_hello : (sending : Sending) (why : ClientFault) (given text : List ℕ) (left rest taken more fed : Option (List ℕ))
+pub no_hello : (sending : Sending) (why : ClientFault) (given text : List ℕ)
+    (left rest taken more fed : Option (List ℕ))
     → text ≡ []
     → Exchanges (request_spelling (request_of (Hello sending.cred)) text) (Hello sending.cred) (Err why) left rest
     taken more given

@@ -56,7 +56,8 @@ is_next receiving left rest taken more shown after place id found so_far asked =
 
 pub goes_on : (receiving : Receiving) (ask : Ask) (answer : ReplyContent) (given : List ℕ)
     (left mid rest taken more most shown so after : Option (List ℕ)) (text : List ℕ) (place : ℕ) (id : ℤ)
-    → Streaming receiving left mid taken more shown so place id → Some ask ≡ slice_get (receiving_asks receiving id) place
+    → Streaming receiving left mid taken more shown so place id
+    → Some ask ≡ slice_get (receiving_asks receiving id) place
     → Exchanges (request_spelling (request_of ask) text) ask (Ok answer) mid rest more most given
     → Appends so after (received_text (style_of_receipt receiving.receipt) answer given)
     → Streaming receiving left rest taken most shown after (place + 1) (id_after id answer)
@@ -98,8 +99,8 @@ ends_by : (plan : Plan) (calls : List Call) (why : ClientFault) (ask : Ask) (tex
 ends_by plan calls (Refused error) ask text given left rest taken more next is exchange = (
   ask,
   next,
-  subst (λ (l : List ℕ). Exchanges (request_spelling (request_of ask) l) ask (Err (Refused error)) left rest taken more [])
-      is exchange,
+  subst (λ (l : List ℕ).
+      Exchanges (request_spelling (request_of ask) l) ask (Err (Refused error)) left rest taken more []) is exchange,
 )
 ends_by plan calls NoReply ask text given left rest taken more next is exchange = (
   ask,
