@@ -8,8 +8,8 @@ _sysvmsg_words() {
     serve) echo "--mode --replace --blocks --workers --at-once --sessions --until-eof --idle --stall --drain --help --version" ;;
     ipcs) echo "-i --json $credentials --help --version" ;;
     ipcmk) echo "--mode --qbytes $credentials --help --version" ;;
-    ipcrm) echo "-q -Q $credentials --help --version" ;;
-    snd) echo "--stdin --type --nowait --wait $credentials --help --version" ;;
+    ipcrm) echo "-q -Q --all $credentials --help --version" ;;
+    snd) echo "--stdin --lines --type --nowait --wait $credentials --help --version" ;;
     rcv)
         echo "--type --upto --except --size --nowait --noerror --wait --count --follow --show-type --raw --create --mode"
         echo "$credentials --help --version"

@@ -1,4 +1,7 @@
 pub mod TalkLemmas
 pub mod WordLemmas
 pub mod Courses
+pub mod CallLemmas
 pub mod StreamLemmas
+pub mod SendLemmas
+pub mod ClearLemmas

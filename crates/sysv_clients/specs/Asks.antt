@@ -6,13 +6,12 @@ use Rattle.std.specs.List.{range_with_len}
 use Rattle.std.specs.Int.RustNames.{bit_or}
 use Rattle.sysv_clients.specs.declared.command.Command.{Command}
 use Rattle.sysv_clients.specs.declared.command.Target.{Target}
-use Rattle.sysv_clients.specs.declared.command.Target.TheVariants.{Id, Key}
+use Rattle.sysv_clients.specs.declared.command.Target.TheVariants.{Id, Key, All}
 use Rattle.sysv_clients.specs.declared.command.Making.{Making}
 use Rattle.sysv_clients.specs.declared.command.Receipt.{Receipt}
 use Rattle.sysv_clients.specs.declared.command.Task.{Task}
 use Rattle.sysv_clients.specs.declared.command.Task.TheVariants.{List as Table, Show, Remove, Make, Send, Receive}
 use Rattle.sysv_clients.specs.declared.command.TheConstants.{MAX_ROWS}
-use Rattle.sysv_model.specs.declared.attributes.SetTo.{SetTo}
 use Rattle.sysv_model.specs.declared.cred.Cred.{Cred}
 use Rattle.sysv_model.specs.declared.flags.Flags.{Flags}
 use Rattle.sysv_model.specs.declared.flags.TheConstants.Flags.{IPC_CREAT, IPC_EXCL, IPC_NOWAIT, MSG_EXCEPT}
@@ -61,10 +60,11 @@ flags_to_receive nowait noerror except =
 unfoldable pub row_asks : ℕ → List Ask
 row_asks slots = map (λ slot. Row slot) (range_with_len 0 (min slots MAX_ROWS))
 
--- The requests of an ipcrm.
+-- The requests of an ipcrm of one queue. An ipcrm of all queues is a session of its own.
 abbrev pub remove_asks : Target → ℤ → List Ask
 remove_asks (Id id) found = Rm id ∷ []
 remove_asks (Key key) found = Get key no_flags ∷ Rm found ∷ []
+remove_asks All found = []
 
 -- The request that sets the limit of a new queue, if it is to be set.
 abbrev pub limit_asks : Cred → Making → ℤ → Option ℕ → List Ask

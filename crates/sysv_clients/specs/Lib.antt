@@ -10,4 +10,8 @@ pub mod Run
 pub mod Words
 pub mod Course
 pub mod Blame
+pub mod Calls
 pub mod Stream
+pub mod Lines
+pub mod Sending
+pub mod Clearing

@@ -144,7 +144,7 @@ pub(crate) fn found(id: i32, answer: &ReplyContent) -> i32
 }
 
 /// Returns the number of slots that the reply to the hello states, after one more result.
-fn told_slots(slots: u32, answer: &ReplyContent) -> u32
+pub(crate) fn told_slots(slots: u32, answer: &ReplyContent) -> u32
     ensures { result ≡ slots_after slots answer.now }
 {
     match answer {

@@ -103,6 +103,8 @@ pub enum Target {
     Id(i32),
     /// The queue with this key.
     Key(i32),
+    /// All queues. `run_client` removes none of them; `remove_all` does.
+    All,
 }
 
 impl Command<'_> {
@@ -160,7 +162,7 @@ impl Task<'_> {
 
 /// Returns the request for the row of a slot, or `None` if the slot is not below both `slots` and
 /// `MAX_ROWS`.
-fn row(slot: u32, slots: u32) -> Option<Ask>
+pub(crate) fn row(slot: u32, slots: u32) -> Option<Ask>
     ensures ask { result ≡ slice_get (row_asks slots) slot }
     ensures few { IfSome result (λ _. slot < MAX_ROWS) }
     ensures receive { IfSome result (λ ask. is_receive ask ≡ false) }

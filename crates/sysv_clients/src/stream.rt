@@ -1,13 +1,13 @@
 //! A `rcv` of several messages: a session that shows each message as it comes.
 ghost use Rattle.std.specs.Prelude.{◌≡◌, ◌+◌, ◌<◌, ◌≤◌, [], length, slice_get, IfOk, IfSome, OnOk, OnErr};
 ghost use Rattle.std.specs.Io.KnownBytes.{Appends};
-ghost use Rattle.sysv_clients.specs.Stream.{Receives, TakesAll, calling_asks, message_asks, received_text};
-ghost use Rattle.sysv_clients.specs.Stream.{receiving_asks};
+ghost use Rattle.sysv_clients.specs.Stream.{TakesAll, calling_asks, message_asks, received_text};
+ghost use Rattle.sysv_clients.specs.Stream.{receiving_asks, stop_line};
 ghost use Rattle.sysv_model.specs.Watched.{stream_name, stream_of};
 ghost use Rattle.sysv_model.specs.Writing.{AppendsPrefix};
 ghost use Rattle.sysv_model.specs.declared.limits.TheConstants.{MESSAGE_BYTES};
 
-use crate::client::{found, show_fault};
+use crate::client::found;
 use crate::command::Receipt;
 use crate::exchange::exchange;
 use crate::fault::ClientFault;
@@ -74,7 +74,7 @@ impl Receiving {
 
 /// Why a session of several messages ends early.
 #[derive(Clone, Copy, PartialEq, Eq, Debug)]
-pub(crate) enum Stop {
+pub enum Stop {
     /// A request ends it, or memory was refused.
     Fault(ClientFault),
     /// The screen failed.
@@ -91,6 +91,18 @@ impl From<ClientFault> for Stop {
     }
 }
 
+impl Stop {
+    /// Returns the line that reports the fault to a user. It is empty if the screen failed.
+    pub fn line(self) -> &'static str
+        ensures { result.now ≡ stop_line self }
+    {
+        match self {
+            Stop::Fault(fault) => fault.line(),
+            Stop::Screen => "",
+        }
+    }
+}
+
 impl From<WriteFault> for Stop {
     ghost use Rattle.sysv_clients.specs.declared.stream.Stop.TheVariants as stops;
 
@@ -101,25 +113,27 @@ impl From<WriteFault> for Stop {
     }
 }
 
-/// Receives messages over one session, and shows each on `screen` as it comes. Returns the exit
-/// status: 0 if all messages were received and shown, otherwise 1.
+/// Receives messages over one session, and shows each on `screen` as it comes.
 ///
 /// The client writes a hello, the request that finds the queue, and a request for each message, all
 /// of version 2. Each request is flushed before its reply is read, and each message is written and
-/// flushed before the next one is requested. If the screen fails, nothing more is requested; it has
-/// taken a prefix of the messages so far.
+/// flushed before the next one is requested. Only messages are written to the screen.
 ///
-/// The first request that the server refuses, that cannot be written or that has no reply ends the
-/// session: the line of the fault is shown after the messages so far. Memory is allocated first; if
-/// it is refused, nothing is written to the server or read.
+/// # Errors
+///
+/// - `Fault`: a request that the server refuses, that cannot be written or that has no reply ends
+///   the session; the messages before it were shown. Or memory was refused; it is allocated first,
+///   so nothing was written to the server or read.
+/// - `Screen`: the screen failed, and nothing more was requested. It has taken a prefix of the
+///   messages so far.
 pub fn receive_all<R: Read, W: Write, S: Write>(
     alloc: Global,
     receiving: &Receiving,
     reader: &mut R,
     writer: &mut W,
     screen: &mut S,
-) -> i32
-    ensures { Receives receiving.now result (R.remaining reader.old) (R.remaining reader.new)
+) -> Result<(), Stop>
+    ensures { TakesAll receiving.now result (R.remaining reader.old) (R.remaining reader.new)
         (W.contents writer.old) (W.contents writer.new)
         (S.contents screen.old) (S.contents screen.new) }
 {
@@ -139,8 +153,8 @@ fn receive_watched<R: Read, W: Write, S: Write>(
     reader: &mut Watched<'_, R>,
     writer: &mut Watched<'_, W>,
     screen: &mut S,
-) -> i32
-    ensures receives { Receives receiving.now result
+) -> Result<(), Stop>
+    ensures takes { TakesAll receiving.now result
         (R.remaining (stream_of reader.old)) (R.remaining (stream_of reader.new))
         (W.contents (stream_of writer.old)) (W.contents (stream_of writer.new))
         (S.contents screen.old) (S.contents screen.new) }
@@ -148,12 +162,8 @@ fn receive_watched<R: Read, W: Write, S: Write>(
     ensures same_writer { stream_name writer.new ≡ stream_name writer.old }
 {
     match Taker::open(alloc) {
-        Ok(mut taker) => match taker.take_all(receiving, reader, writer, screen) {
-            Ok(()) => 0,
-            Err(Stop::Fault(fault)) => show_fault(screen, fault),
-            Err(Stop::Screen) => 1,
-        },
-        Err(NoMemory) => show_fault(screen, ClientFault::NoMemory),
+        Ok(mut taker) => taker.take_all(receiving, reader, writer, screen),
+        Err(NoMemory) => Err(Stop::Fault(ClientFault::NoMemory)),
     }
 }
 

@@ -1,6 +1,7 @@
 -- The definitions of the command line.
 pub mod Asked
 pub mod Bodies
+pub mod Several
 pub mod Words
 pub mod Who
 pub mod Tasks

@@ -7,7 +7,7 @@ use Rattle.sysv_clients.specs.declared.command.Format.TheVariants.{Table as AsTa
 use Rattle.sysv_clients.specs.declared.command.Making.{Making}
 use Rattle.sysv_clients.specs.declared.command.Receipt.{Receipt}
 use Rattle.sysv_clients.specs.declared.command.Target.{Target}
-use Rattle.sysv_clients.specs.declared.command.Target.TheVariants.{Id, Key}
+use Rattle.sysv_clients.specs.declared.command.Target.TheVariants.{Id, Key, All}
 use Rattle.sysv_clients.specs.declared.command.Task.{Task}
 use Rattle.sysv_clients.specs.declared.command.Task.TheVariants.{List as Table, Show, Remove, Make, Send, Receive}
 use Rattle.sysv_clients.specs.Words.{IsId, IsKey, IsType}
@@ -27,6 +27,7 @@ pub record StatesWho (words : List Row) (who : Who) : Type 0 where
 -- A task of a command with these words is run like this.
 pub record HasHow (words : List Row) (how : How) : Type 0 where
   pub from_input : HasFlag words (codes "stdin") how.from_input
+  pub lines : HasFlag words (codes "lines") how.lines
   pub follow : HasFlag words (codes "follow") how.follow
   pub count : HasMaybe IsNat32 (word_of words (codes "count")) how.count
   pub wait : HasMaybe IsNat32 (word_of words (codes "wait")) how.wait
@@ -51,17 +52,24 @@ Lists id words (Receive receipt) = ⊥
 abbrev pub AsksToList : List Row → Task → Type 0
 AsksToList words task = Lists (word_of words (codes "id")) words task
 
--- The words after `-q` and `-Q` of an `ipcrm` name this queue: that of the identifier, or that of
--- the key if there is no identifier.
-abbrev pub NamesTarget : (id key : Option (List ℕ)) → Target → Type 0
-NamesTarget (Some word) key (Id named) = IsId word named
-NamesTarget (Some word) key (Key named) = ⊥
-NamesTarget None key (Id named) = ⊥
-NamesTarget None key (Key named) = Has IsKey key named
+-- clap found this flag as `true`.
+abbrev pub IsOn : Option (List ℕ) → Type 0
+IsOn flag = flag ≡ Some (codes "true")
+
+-- The words after `-q` and `-Q` of an `ipcrm` and its flag `--all` name this queue: that of the
+-- identifier, or all queues if there is none and the flag is on, or else that of the key.
+abbrev pub NamesTarget : (id key all : Option (List ℕ)) → Target → Type 0
+NamesTarget (Some word) key all (Id named) = IsId word named
+NamesTarget (Some word) key all (Key named) = ⊥
+NamesTarget (Some word) key all All = ⊥
+NamesTarget None key all (Id named) = ⊥
+NamesTarget None key all (Key named) = ¬ IsOn all × Has IsKey key named
+NamesTarget None key all All = IsOn all
 
 -- An `ipcrm` with these words has this task.
 abbrev pub AsksToRemove : List Row → Task → Type 0
-AsksToRemove words (Remove target) = NamesTarget (word_of words (codes "id")) (word_of words (codes "key")) target
+AsksToRemove words (Remove target) =
+    NamesTarget (word_of words (codes "id")) (word_of words (codes "key")) (word_of words (codes "all")) target
 AsksToRemove words (Table format) = ⊥
 AsksToRemove words (Show id) = ⊥
 AsksToRemove words (Make making) = ⊥

@@ -6,7 +6,7 @@ ghost use Rattle.sysvmsg.specs.Requests.{AsksFor, ClientAsks, IsAskedBy, IsMeant
 ghost use Rattle.sysvmsg.specs.Servers.{AsksForAtOnce, AsksForBlocks, AsksForFile, AsksForTerms};
 ghost use Rattle.sysvmsg.specs.Servers.{AsksForWorkers, AsksToServe, HasPath};
 ghost use Rattle.sysvmsg.specs.Tasks.{AsksToList, AsksToMake, AsksToReceive, AsksToRemove, AsksToSend, HasTask};
-ghost use Rattle.sysvmsg.specs.Tasks.{HasHow, Receives, StatesWho, is_json};
+ghost use Rattle.sysvmsg.specs.Tasks.{HasHow, NamesTarget, Receives, StatesWho, is_json};
 ghost use Rattle.sysvmsg.specs.Words.{Has, HasFlag, HasMaybe, HasOr, IsMode, IsOctalMode, IsRead};
 ghost use Rattle.sysvmsg.specs.Words.{WantsType, word_of, words_in};
 ghost use Rattle.sysv_words.specs.Words.{IsNat32, IsNat64};
@@ -45,11 +45,13 @@ pub(crate) enum Asked<'a> {
 pub(crate) struct How {
     /// Whether the body of a `snd` is the standard input, in place of that of the task.
     pub(crate) from_input: bool,
+    /// Whether a `snd` sends each line of the standard input, in place of the body of the task.
+    pub(crate) lines: bool,
     /// Whether a `rcv` receives messages until it is ended.
     pub(crate) follow: bool,
     /// The number of messages that a `rcv` receives.
     pub(crate) count: Option<u32>,
-    /// The number of seconds that a `snd` or a `rcv` waits at most.
+    /// The number of seconds that each send or receive waits at most.
     pub(crate) wait: Option<u32>,
 }
 
@@ -211,6 +213,7 @@ fn how_of(words: &ArgMatches<'_>) -> Result<How, Bad>
 {
     Ok(How {
         from_input: has_flag(words, "stdin"),
+        lines: has_flag(words, "lines"),
         follow: has_flag(words, "follow"),
         count: number_if(words, "count")?,
         wait: number_if(words, "wait")?,
@@ -429,11 +432,20 @@ fn removal<'a>(words: &ArgMatches<'a>) -> Result<Task<'a>, Bad>
     ensures limits { IfOk result HasShortText }
     ensures meaning { IsRead result (AsksToRemove (words_in words.now)) }
 {
-    let target = match word_in(words, "id") {
-        Some(id) => Target::Id(id_of(id.as_bytes()).ok_or(BAD_ID)?),
-        None => Target::Key(key(words)?),
-    };
-    Ok(Task::Remove(target))
+    Ok(Task::Remove(target_of(words)?))
+}
+
+/// Returns the queue that an `ipcrm` removes, or all queues.
+fn target_of(words: &ArgMatches<'_>) -> Result<Target, Bad>
+    ensures { IsRead result (NamesTarget (word_of (words_in words.now) (codes "id"))
+        (word_of (words_in words.now) (codes "key"))
+        (word_of (words_in words.now) (codes "all"))) }
+{
+    match (word_in(words, "id"), word_in(words, "all")) {
+        (Some(id), _) => Ok(Target::Id(id_of(id.as_bytes()).ok_or(BAD_ID)?)),
+        (None, Some("true")) => Ok(Target::All),
+        (None, _) => Ok(Target::Key(key(words)?)),
+    }
 }
 
 /// Returns the task of a `snd`.

@@ -185,6 +185,11 @@ Example:
         ),
         ("stdin", Form::Flag, "Sends the bytes of standard input"),
         (
+            "lines",
+            Form::Flag,
+            "Sends each line of standard input as a message",
+        ),
+        (
             "type",
             Form::Value("N"),
             "The type, 1 to 9223372036854775807 [default: 1]",
@@ -197,7 +202,7 @@ Example:
         (
             "wait",
             Form::Value("SECONDS"),
-            "Waits at most that long, and then fails with EAGAIN",
+            "Waits at most that long per message, else EAGAIN",
         ),
         ME,
         USER,
@@ -206,7 +211,7 @@ Example:
     ],
     groups: &[
         Group {
-            of: &["text", "stdin"],
+            of: &["text", "stdin", "lines"],
             required: true,
         },
         Group {
@@ -214,7 +219,7 @@ Example:
             required: false,
         },
     ],
-    usage: Some("sysvmsg snd [OPTIONS] <PATH> <KEY> <TEXT|--stdin>"),
+    usage: Some("sysvmsg snd [OPTIONS] <PATH> <KEY> <TEXT|--stdin|--lines>"),
 };
 
 const RCV: Known = Known {
@@ -277,7 +282,7 @@ Example:
         (
             "wait",
             Form::Value("SECONDS"),
-            "Waits at most that long, and then fails with ENOMSG",
+            "Waits at most that long per message, else ENOMSG",
         ),
         (
             "noerror",
@@ -295,7 +300,7 @@ Example:
             required: false,
         },
         Group {
-            of: &["count", "follow", "wait"],
+            of: &["count", "follow"],
             required: false,
         },
         Group {
@@ -336,7 +341,7 @@ Example:
 
 const IPCRM: Known = Known {
     name: "ipcrm",
-    about: "Removes a queue and discards its messages",
+    about: "Removes a queue, or all, and discards the messages",
     example: "\
 Example:
   $ sysvmsg ipcrm ./q -Q 7",
@@ -348,13 +353,18 @@ Example:
             "The queue's identifier, 0 to 2147483647",
         ),
         ("key", Form::Letter('Q', "KEY"), KEY_HELP),
+        (
+            "all",
+            Form::Flag,
+            "Removes each queue that the caller may remove",
+        ),
         ME,
         USER,
         GROUP,
         PROCESS,
     ],
     groups: &[Group {
-        of: &["id", "key"],
+        of: &["id", "key", "all"],
         required: true,
     }],
     usage: None,

@@ -8,6 +8,7 @@ use crate::asked::How;
 use crate::input::{Unread, read_body};
 use crate::leaver::Leaver;
 use crate::plain::complain;
+use crate::several::{is_stream, receive_at, receiving, remove_at, send_at};
 use crate::{FAULT, say};
 use std::alloc::Global;
 use std::io;
@@ -15,8 +16,8 @@ use std::io::{BufReader, BufWriter, Eprint, Read, Write};
 use std::net::Net;
 use std::os::unix::net::UnixStream;
 use std::process::ExitCode;
-use sysv_clients::{ClientFault, Command, Receipt, Receiving, Task, receive_all, run_client};
-use sysv_model::{BODY_ROOM, Cred, Errno};
+use sysv_clients::{ClientFault, Command, Sending, Target, Task, run_client};
+use sysv_model::{BODY_ROOM, Errno};
 
 /// More bytes than a client shows of one message.
 const PAGE_ROOM: usize = 8_300;
@@ -35,54 +36,29 @@ pub(crate) fn run_as<I: Read>(
 ) -> ExitCode
     requires { HasShortText command.now.task }
 {
+    let cred = command.cred;
     match command.task {
-        Task::Receive(receipt) if how.follow || how.count.is_some() => {
-            receive_at(rt, path, &receiving(command.cred, receipt, how.count))
+        Task::Receive(receipt) if is_stream(&receipt, how) => {
+            receive_at(rt, path, &receiving(cred, receipt, how), how.wait)
+        }
+        Task::Remove(Target::All) => remove_at(rt, path, cred),
+        Task::Send {
+            key,
+            mtype,
+            nowait,
+            ..
+        } if how.lines => {
+            let sending = Sending {
+                cred,
+                key,
+                mtype,
+                nowait,
+            };
+            send_at(rt, input, path, &sending, how.wait)
         }
         _ if how.from_input => run_with_input(rt, input, path, command, how.wait),
         _ => run_at(rt, path, command, how.wait),
     }
-}
-
-/// Returns the receives of this number of messages, or of all messages without a number.
-fn receiving(cred: Cred, receipt: Receipt, count: Option<u32>) -> Receiving {
-    let count = match count {
-        Some(count) => u64::from(count),
-        None => u64::MAX,
-    };
-    Receiving {
-        cred,
-        receipt,
-        count,
-    }
-}
-
-/// Connects to the server at `path` and receives messages there, like `run_at`.
-fn receive_at(
-    rt: &(impl Net + Print + Eprint + AllocGlobal),
-    path: &str,
-    receiving: &Receiving,
-) -> ExitCode {
-    match UnixStream::connect(rt, path) {
-        Ok(stream) => receive_over(rt.alloc(), &stream, receiving, &mut io::writer(rt)),
-        Err(why) => no_server(rt, path, &why),
-    }
-}
-
-/// Receives messages over a connection, with one write per request.
-fn receive_over<S: Write>(
-    alloc: Global,
-    stream: &UnixStream,
-    receiving: &Receiving,
-    screen: &mut S,
-) -> ExitCode {
-    let (Ok(mut reader), Ok(mut writer)) = (
-        BufReader::new(alloc, stream),
-        BufWriter::new(alloc, stream),
-    ) else {
-        return no_memory(screen);
-    };
-    ended(receive_all(alloc, receiving, &mut reader, &mut writer, screen))
 }
 
 /// Reads `input` to its end and then runs a command like `run_at`, with the bytes as the body of a
@@ -181,7 +157,7 @@ fn run_within<S: Write>(
 ) -> ExitCode
     requires { HasShortText command.now.task }
 {
-    let mut leaver = Leaver::new(stream, seconds);
+    let mut leaver = Leaver::new(stream, Some(seconds));
     let Ok(mut page) = Vec::with_capacity(alloc, PAGE_ROOM) else {
         return no_memory(screen);
     };
@@ -252,7 +228,11 @@ fn no_memory<S: Write>(screen: &mut S) -> ExitCode
 }
 
 /// Reports that no connection can be made.
-fn no_server(rt: &(impl Print + Eprint + AllocGlobal), path: &str, why: &io::Error) -> ExitCode {
+pub(crate) fn no_server(
+    rt: &(impl Print + Eprint + AllocGlobal),
+    path: &str,
+    why: &io::Error,
+) -> ExitCode {
     complain(rt, path, why, "");
     say(rt, "no server")
 }

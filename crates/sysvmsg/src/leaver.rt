@@ -1,7 +1,7 @@
 //! Calls that are left after some time.
 
 use std::io;
-use std::io::{ErrorKind, Read};
+use std::io::{ErrorKind, Read, Write};
 use std::net::Shutdown;
 use std::os::unix::net::UnixStream;
 use std::time::Duration;
@@ -21,13 +21,12 @@ pub(crate) struct Leaver<'a> {
 }
 
 impl<'a> Leaver<'a> {
-    /// Returns the reader of a connection on which a read waits at most this number of seconds.
-    pub(crate) fn new(stream: &'a UnixStream, seconds: u32) -> Leaver<'a> {
-        let limit = match seconds {
-            0 => Duration::from_millis(1),
-            _ => Duration::from_secs(u64::from(seconds)),
-        };
-        let _ = stream.set_read_timeout(Some(limit));
+    /// Returns the reader of a connection on which a read waits at most this number of seconds, or
+    /// without end if there is none.
+    pub(crate) fn new(stream: &'a UnixStream, seconds: Option<u32>) -> Leaver<'a> {
+        if let Some(seconds) = seconds {
+            let _ = stream.set_read_timeout(Some(limit(seconds)));
+        }
         Leaver {
             stream,
             is_leaving: false,
@@ -40,6 +39,13 @@ impl<'a> Leaver<'a> {
         self.has_left
     }
 
+    /// Returns whether the time was over and the last call had no effect: it was left and the
+    /// session then ended without a reply, or a reply came after all and a later request could not
+    /// be written.
+    pub(crate) fn is_over(&self, writer: &Outgoing<'_>) -> bool {
+        self.has_left || (self.is_leaving && writer.has_failed)
+    }
+
     /// Leaves the call that waits.
     fn leave(&mut self) {
         self.is_leaving = true;
@@ -47,6 +53,44 @@ impl<'a> Leaver<'a> {
             .stream
             .set_read_timeout(Some(Duration::from_secs(TO_END)));
         let _ = self.stream.shutdown(Shutdown::Write);
+    }
+}
+
+/// Returns the time of this number of seconds, or a short one for 0.
+fn limit(seconds: u32) -> Duration {
+    match seconds {
+        0 => Duration::from_millis(1),
+        _ => Duration::from_secs(u64::from(seconds)),
+    }
+}
+
+/// The writer of a connection, which records whether a write failed.
+#[derive(Drop)]
+pub(crate) struct Outgoing<'a> {
+    stream: &'a UnixStream,
+    has_failed: bool,
+}
+
+impl<'a> Outgoing<'a> {
+    /// Returns the writer of a connection.
+    pub(crate) fn new(stream: &'a UnixStream) -> Outgoing<'a> {
+        Outgoing {
+            stream,
+            has_failed: false,
+        }
+    }
+}
+
+impl Write for Outgoing<'_> {
+    fn write(&mut self, buf: &[u8]) -> io::Result<usize> {
+        let mut stream = self.stream;
+        let outcome = stream.write(buf);
+        self.has_failed |= outcome.is_err();
+        outcome
+    }
+
+    fn flush(&mut self) -> io::Result<()> {
+        Ok(())
     }
 }
 

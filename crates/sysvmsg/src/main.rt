@@ -9,7 +9,9 @@ mod connection;
 mod input;
 mod leaver;
 mod plain;
+mod room;
 mod serving;
+mod several;
 mod socket;
 mod who;
 

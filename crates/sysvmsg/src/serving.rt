@@ -6,6 +6,7 @@ ghost use Rattle.sysvmsg.specs.Ends.{SucceedsWithSums};
 
 use crate::asked::Serving;
 use crate::plain::complain;
+use crate::room::room;
 use crate::socket::listen_at;
 use crate::{FAULT, say};
 use std::io;
@@ -27,14 +28,21 @@ struct Reporter<'a, R> {
 }
 
 impl<R: Files + Net + Eprint + AllocGlobal + Clone + Drop> Host for Reporter<'_, R> {
-    /// Opens the socket, and reports that the server listens, or why it does not.
+    /// Opens the socket, and reports that the server listens, or why it does not. If there are
+    /// fewer descriptors than sessions at once, that is reported too.
     fn listen(&self) -> io::Result<UnixListener> {
         let Reporter { rt, serving } = *self;
         let listener = listen_at(rt, &serving.file)?;
         let at_once = serving.terms.at_once;
+        let room = room(rt.alloc(), at_once);
         let sessions = if at_once == 1 { "session" } else { "sessions" };
         let path = serving.file.path;
         let _ = eprintln!(*rt; "sysvmsg: serving {path}, up to {at_once} {sessions} at once");
+        if room < at_once {
+            let _ = eprintln!(*rt;
+                "sysvmsg: descriptors for {room} sessions at once: raise the limit of open files"
+            );
+        }
         Ok(listener)
     }
 

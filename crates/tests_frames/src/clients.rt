@@ -1,6 +1,7 @@
 //! Clients over bytes that were worked out by hand.
 mod growths;
 mod options;
+mod several;
 
 use crate::parts::assert_is;
 use std::alloc::Global;

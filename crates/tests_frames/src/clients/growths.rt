@@ -1,7 +1,7 @@
 //! A client whose growth of memory may be refused. It then reports that, and nothing was read or
 //! written.
 use super::*;
-use sysv_clients::{Receiving, receive_all};
+use sysv_clients::{ClientFault, Receiving, Sending, Stop, receive_all, remove_all, send_lines};
 use tests_kit::mark;
 
 #[test]
@@ -38,19 +38,72 @@ fn receives_of_client(rt: HostRuntime) {
         count: 2,
     };
     let _marked = mark(rt.alloc());
-    let status = receive_all(
+    let outcome = receive_all(
         rt.alloc(),
         &receiving,
         &mut talk.replies,
         &mut talk.requests,
         &mut talk.screen,
     );
-    if status == 0 {
+    if outcome.is_ok() {
         assert!(rt; talk.screen.text() == b"abc\nabc\n".as_slice());
         assert_is(&rt, talk.replies.read, talk.replies.len());
     } else {
-        assert_is(&rt, status, 1);
-        assert!(rt; talk.screen.text() == b"sysvmsg: no memory\n".as_slice());
+        assert!(rt; outcome == Err(Stop::Fault(ClientFault::NoMemory)));
         assert_is(&rt, (talk.replies.read, talk.requests.len()), (0, 0));
+        assert_is(&rt, talk.screen.len(), 0);
+    }
+}
+
+#[test]
+fn sends_of_client(rt: HostRuntime) {
+    let mut talk = Talk::new(&rt, rt.alloc(), &[WELCOME, GOT, SENT, SENT]);
+    let mut input = joined(&rt, rt.alloc(), &[b"one\ntwo\n"]);
+    let sending = Sending {
+        cred: WHO,
+        key: 7,
+        mtype: 1,
+        nowait: false,
+    };
+    let _marked = mark(rt.alloc());
+    let outcome = send_lines(
+        rt.alloc(),
+        &sending,
+        &mut input,
+        &mut talk.replies,
+        &mut talk.requests,
+    );
+    match outcome {
+        Ok(()) => assert_is(&rt, talk.replies.read, talk.replies.len()),
+        Err(unsent) => {
+            assert!(rt; unsent.line() == ClientFault::NoMemory.line());
+            assert_is(&rt, (talk.replies.read, talk.requests.len()), (0, 0));
+            assert_is(&rt, input.read, 0);
+        }
+    }
+}
+
+#[test]
+fn removals_of_client(rt: HostRuntime) {
+    let welcome: &[u8] = b"\0\0\0\x07\x02\0\0\0\0\0\x01";
+    let denied: &[u8] = b"\0\0\0\x03\x02\x06\x01";
+    let mut talk = Talk::new(&rt, rt.alloc(), &[welcome, ROW, denied]);
+    let mut refusals = Vec::new(rt.alloc());
+    let _marked = mark(rt.alloc());
+    let outcome = remove_all(
+        rt.alloc(),
+        WHO,
+        &mut talk.replies,
+        &mut talk.requests,
+        &mut refusals,
+    );
+    if outcome.is_ok() {
+        assert_is(&rt, refusals.len(), 1);
+        assert_is(&rt, talk.replies.read, talk.replies.len());
+    } else {
+        assert!(rt; outcome == Err(ClientFault::NoMemory));
+        assert!(rt; refusals.is_empty());
+        let read = talk.replies.read;
+        assert!(rt; read == 0 || read == talk.replies.len());
     }
 }

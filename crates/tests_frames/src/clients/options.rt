@@ -1,6 +1,7 @@
 //! What the options and the further commands of clients request and show.
 use super::*;
-use sysv_clients::{Making, Receiving, receive_all};
+use sysv_clients::{ClientFault, Making, Receiving, Stop, receive_all};
+use sysv_model::Errno;
 
 /// The reply with a message of type -3 and of these four bytes: `a`, LF, NUL, `b`.
 const ODD: &[u8] = b"\0\0\0\x0f\x02\x03\0\xff\xff\xff\xff\xff\xff\xff\xfda\n\0b";
@@ -128,8 +129,8 @@ fn a_queue_is_made(rt: HostRuntime) {
 }
 
 impl Talk {
-    /// Receives this number of messages, and returns the status.
-    fn receive(&mut self, alloc: Global, count: u64) -> i32 {
+    /// Receives this number of messages.
+    fn receive(&mut self, alloc: Global, count: u64) -> Result<(), Stop> {
         let receiving = Receiving {
             cred: WHO,
             receipt: ANY,
@@ -149,8 +150,8 @@ impl Talk {
 fn each_of_several_messages_is_shown_as_it_comes(rt: HostRuntime) {
     for count in 0..4 {
         let mut talk = Talk::new(&rt, rt.alloc(), &[WELCOME, GOT, MESSAGE, MESSAGE, MESSAGE]);
-        if talk.receive(rt.alloc(), count) != 0 {
-            assert!(rt; talk.screen.text() == b"sysvmsg: no memory\n".as_slice());
+        if talk.receive(rt.alloc(), count).is_err() {
+            assert_is(&rt, (talk.requests.len(), talk.screen.len()), (0, 0));
             return;
         }
         let mut asked = joined(&rt, rt.alloc(), &[HELLO, GET]);
@@ -166,18 +167,23 @@ fn each_of_several_messages_is_shown_as_it_comes(rt: HostRuntime) {
 }
 
 #[test]
-fn a_fault_is_shown_after_the_messages_so_far(rt: HostRuntime) {
+fn only_the_messages_before_a_fault_are_shown(rt: HostRuntime) {
     let refused: &[u8] = b"\0\0\0\x03\x02\x03\x2a";
-    let mut talk = Talk::new(&rt, rt.alloc(), &[WELCOME, GOT, MESSAGE, MESSAGE, refused]);
-    assert_is(&rt, talk.receive(rt.alloc(), u64::MAX), 1);
-    let text = talk.screen.text();
-    let refusal = text == b"abc\nabc\nsysvmsg: ENOMSG\n".as_slice();
-    assert!(rt; refusal || text == b"sysvmsg: no memory\n".as_slice());
-    let mut talk = Talk::new(&rt, rt.alloc(), &[WELCOME, GOT, MESSAGE]);
-    assert_is(&rt, talk.receive(rt.alloc(), 2), 1);
-    let text = talk.screen.text();
-    let ended = text == b"abc\nsysvmsg: no reply\n".as_slice();
-    assert!(rt; ended || text == b"sysvmsg: no memory\n".as_slice());
+    let table: [(&[u8], ClientFault); 2] = [
+        (refused, ClientFault::Refused(Errno::ENOMSG)),
+        (b"", ClientFault::NoReply),
+    ];
+    for (last, fault) in table {
+        let mut talk = Talk::new(&rt, rt.alloc(), &[WELCOME, GOT, MESSAGE, MESSAGE, last]);
+        let outcome = talk.receive(rt.alloc(), u64::MAX);
+        if outcome == Err(Stop::Fault(ClientFault::NoMemory)) {
+            return;
+        }
+        assert!(rt; outcome == Err(Stop::Fault(fault)));
+        assert!(rt; talk.screen.text() == b"abc\nabc\n".as_slice());
+        assert!(rt; Stop::Fault(fault).line() == fault.line());
+    }
+    assert!(rt; Stop::Screen.line().is_empty());
 }
 
 #[test]
@@ -185,7 +191,7 @@ fn a_screen_that_fails_ends_the_receives(rt: HostRuntime) {
     for room in 4..8 {
         let mut talk = Talk::new(&rt, rt.alloc(), &[WELCOME, GOT, MESSAGE, MESSAGE, MESSAGE]);
         talk.screen.good = room;
-        assert_is(&rt, talk.receive(rt.alloc(), 3), 1);
+        assert!(rt; talk.receive(rt.alloc(), 3).is_err());
         if talk.requests.len() == 0 {
             return;
         }
@@ -195,7 +201,7 @@ fn a_screen_that_fails_ends_the_receives(rt: HostRuntime) {
     }
     let mut talk = Talk::new(&rt, rt.alloc(), &[WELCOME, GOT, MESSAGE, MESSAGE]);
     talk.screen.flushes = 0;
-    assert_is(&rt, talk.receive(rt.alloc(), 2), 1);
+    assert!(rt; talk.receive(rt.alloc(), 2).is_err());
     let asked = joined(&rt, rt.alloc(), &[HELLO, GET, RECEIVE]);
     assert!(rt; talk.requests.len() == 0 || talk.requests.text() == asked.text());
 }

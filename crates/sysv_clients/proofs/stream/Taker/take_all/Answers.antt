@@ -1,18 +1,17 @@
-use Rattle.std.proofs.Common.{◌≡◌, ℕ, List, [], arith, refl, subst, ap, ◌∙◌}
+use Rattle.std.proofs.Common.{arith, refl, subst, ◌∙◌}
 use Rattle.std.specs.Int.{w32}
 use Rattle.std.specs.Io.KnownBytes.{Appends}
 use Rattle.std.proofs.lemmas.Int.{to_z-of_z}
 use Rattle.std.proofs.lemmas.Result.{err_from_is_err_and}
 use Rattle.sysv_model.specs.Writing.{AppendsPrefix}
 use Rattle.sysv_clients.specs.declared.style.Style.{Style}
-use Rattle.sysv_clients.specs.Stream.{receiving_plan, received_text}
-use Rattle.sysv_clients.specs.Style.{style_of_receipt}
+use Rattle.sysv_clients.specs.Stream.{received_text}
 use Rattle.sysv_clients.proofs.StreamLemmas.{breaks_off, goes_on, screen_fails, starts}
 use Rattle.sysv_clients.proofs.stream.Taker.take_all.Goals as goal
 
 pub loop-ask-init : goal.loop-ask-init
 loop-ask-init g c = record {
-  streaming = starts (receiving_plan c.args.receiving.now) (style_of_receipt c.args.receiving.now.receipt) _ _ _;
+  streaming = starts c.args.receiving.now _ _ _;
   text = c.requires;
   few = omega arith;
   same_reader = refl;
@@ -21,14 +20,13 @@ loop-ask-init g c = record {
 
 pub loop-ask-preserved : goal.loop-ask-preserved
 loop-ask-preserved g c =
-    let style = style_of_receipt c.args.receiving.now.receipt in
     let given = c.exchange.new.given in
     let shown = subst (λ (s : Style).
     Appends (g.S.Write.contents c.loop-ask.screen) (g.S.Write.contents c.show.new.screen)
     (received_text s c.in_ok-answer.answer given)) c.of_receipt-style.ensures c.in_ok-show.ensures.ok in
     record {
       streaming = rw (to_z-of_z w32 c.found-id.result (record { sfits = c.found-id.type_inv }), c.found-id.ensures)
-          (goes_on (receiving_plan c.args.receiving.now) style c.in-Some.ask c.in_ok-answer.answer given _ _ _ _ _ _ _ _
+          (goes_on c.args.receiving.now c.in-Some.ask c.in_ok-answer.answer given _ _ _ _ _ _ _ _
           _
           c.loop-ask.self.text c.loop-ask.place _ c.loop-ask.invariant.streaming c.in-Some.ensures.ask
           c.in_ok-answer.ensures.exchanges shown);
@@ -44,7 +42,7 @@ returns-in_err-answer-clause-takes g c =
     rw (p.1, p.2)
     (breaks_off c.args.receiving.now c.in_err-answer.field-0.0 c.in-Some.ask c.exchange.new.given _ _ _ _ _ _ _ _
     c.loop-ask.self.text c.loop-ask.place _ c.loop-ask.invariant.streaming c.in-Some.ensures.ask
-    c.in_err-answer.ensures.exchanges)
+    c.loop-ask.invariant.text c.in_err-answer.ensures.exchanges)
 
 pub returns-in_err-show-clause-takes : goal.returns-in_err-show-clause-takes
 returns-in_err-show-clause-takes g c =

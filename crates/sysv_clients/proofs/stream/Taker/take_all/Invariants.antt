@@ -1,15 +1,13 @@
 -- The calls so far, and what was shown of them.
 use Rattle.std.proofs.Common.{◌≡◌, ◌+◌, ◌-◌, ◌≤◌, []}
 use Rattle.sysv_clients.specs.declared.stream.TheConstants.{MAX_MESSAGES}
-use Rattle.sysv_clients.specs.Stream.{receiving_plan}
-use Rattle.sysv_clients.specs.Style.{style_of_receipt}
 use Rattle.sysv_model.specs.Watched.{stream_name, stream_of}
 use Rattle.sysv_clients.proofs.StreamLemmas.{Streaming}
 use Rattle.sysv_clients.proofs.stream.Taker.take_all.Given as goal
 
 abbrev pub invariant-loop-ask : goal.invariant-loop-ask
 invariant-loop-ask g l = record {
-  streaming : Streaming (receiving_plan l.receiving) (style_of_receipt l.receiving.receipt)
+  streaming : Streaming l.receiving
       (g.R.Read.remaining (stream_of l.initial.reader)) (g.R.Read.remaining (stream_of l.reader))
       (g.W.Write.contents (stream_of l.initial.writer)) (g.W.Write.contents (stream_of l.writer))
       (g.S.Write.contents l.initial.screen) (g.S.Write.contents l.screen) l.place l.id;

@@ -1,0 +1,57 @@
+-- The lines of an input (this project's programs): each ends with an LF, which is not part of it,
+-- and the last may lack it.
+use Rattle.std.specs.Prelude.{◌≡◌, ◌≢◌, ◌≤◌, ◌+◌, ◌⊎◌, ⊤, ℕ, Bool, true, false, List, [], ◌∷◌, ◌++◌}
+use Rattle.std.specs.Prelude.{length, All, Option, None, Some, Result, Ok, Err}
+use Rattle.std.specs.Io.KnownBytes.{Consumes, IsAtEnd}
+use Rattle.sysv_clients.specs.declared.lines.Fetched.{Fetched}
+use Rattle.sysv_clients.specs.declared.lines.Fetched.TheVariants.{Line, Last, Nothing}
+use Rattle.sysv_clients.specs.declared.sending.Unsent.{Unsent}
+use Rattle.sysv_clients.specs.declared.sending.Unsent.TheVariants.{Fault, Long, Input}
+use Rattle.sysv_model.specs.declared.limits.TheConstants.{MESSAGE_BYTES}
+
+-- No byte is an LF.
+abbrev pub HasNoEnd : List ℕ → Type 0
+HasNoEnd text = All (λ byte. byte ≢ 10) text
+
+-- The body of a message may be this line.
+abbrev pub IsText : List ℕ → Type 0
+IsText text = HasNoEnd text × (length text ≤ MESSAGE_BYTES)
+
+-- The next line is this one, with an LF, or as the last one without.
+abbrev pub IsNext : List ℕ → (left rest : Option (List ℕ)) → Type 0
+IsNext text left rest =
+    IsText text × (Consumes left rest (text ++ 10 ∷ []) ⊎ ((text ≢ []) × Consumes left rest text × IsAtEnd rest))
+
+-- The next line begins with these bytes, and they are more than a message may have.
+abbrev pub IsTooLong : List ℕ → (left rest : Option (List ℕ)) → Type 0
+IsTooLong text left rest = HasNoEnd text × (length text ≡ MESSAGE_BYTES + 1) × Consumes left rest text
+
+-- The input has no further line.
+abbrev pub HasNone : (left rest : Option (List ℕ)) → Type 0
+HasNone left rest = Consumes left rest [] × IsAtEnd rest
+
+-- What was read as the next byte.
+abbrev pub ReadsByte : Option ℕ → (left rest : Option (List ℕ)) → Type 0
+ReadsByte (Some byte) left rest = Consumes left rest (byte ∷ [])
+ReadsByte None left rest = HasNone left rest
+
+-- Nothing was read, since the input is at its end.
+abbrev pub is_nothing : Fetched → Bool
+is_nothing Nothing = true
+is_nothing Line = false
+is_nothing Last = false
+
+-- The last line was read, which has no LF.
+abbrev pub is_last : Fetched → Bool
+is_last Last = true
+is_last Line = false
+is_last Nothing = false
+
+-- What was read as the next line.
+abbrev pub Fetches : Result Fetched Unsent → (left rest : Option (List ℕ)) → List ℕ → Type 0
+Fetches (Ok Line) left rest text = IsText text × Consumes left rest (text ++ 10 ∷ [])
+Fetches (Ok Last) left rest text = IsText text × (text ≢ []) × Consumes left rest text × IsAtEnd rest
+Fetches (Ok Nothing) left rest text = (text ≡ []) × HasNone left rest
+Fetches (Err Long) left rest text = IsTooLong text left rest
+Fetches (Err (Input why)) left rest text = ⊤
+Fetches (Err (Fault why)) left rest text = ⊥

@@ -1,0 +1,211 @@
+//! Lines that are sent as messages, and the removal of all queues.
+use super::*;
+use sysv_clients::{ClientFault, Refusal, Sending, Unsent, remove_all, send_lines};
+use sysv_model::Errno;
+
+/// `msgget` of key 7 with IPC_CREAT and mode 0600.
+const MAKE: &[u8] = b"\0\0\0\x0a\x02\x01\0\0\0\x07\0\0\x03\x80";
+
+/// The fields of a send of type 5 to identifier 64 after its length.
+const SENDS: &[u8] = b"\x02\x02\0\0\0\x40\0\0\0\0\0\0\0\x05\0\0\0\0";
+
+/// The reply that a send or a removal is refused with EPERM.
+const UNSENT: &[u8] = b"\0\0\0\x03\x02\x02\x01";
+
+const DENIED: &[u8] = b"\0\0\0\x03\x02\x06\x01";
+
+/// What ended a session of sends, by its line. It is empty if nothing did.
+fn line_of(outcome: &Result<(), Unsent>) -> &'static str {
+    match outcome {
+        Ok(()) => "",
+        Err(unsent) => unsent.line(),
+    }
+}
+
+/// Sends the lines of `input`, and returns what ended that.
+fn send(talk: &mut Talk, alloc: Global, input: &mut Tape) -> &'static str {
+    let sending = Sending {
+        cred: WHO,
+        key: 7,
+        mtype: 5,
+        nowait: false,
+    };
+    let outcome = send_lines(
+        alloc,
+        &sending,
+        input,
+        &mut talk.replies,
+        &mut talk.requests,
+    );
+    line_of(&outcome)
+}
+
+const NO_MEMORY: &str = "sysvmsg: no memory\n";
+
+/// Appends the send of a text, which is short.
+fn put_send(asked: &mut Tape, text: &[u8]) {
+    let len = text.len().min(99) as u8;
+    asked.put(&[0, 0, 0, 18 + len]);
+    asked.put(SENDS);
+    asked.put(text);
+}
+
+#[test]
+fn each_line_is_a_message(rt: HostRuntime) {
+    let table: [(&[u8], &[&[u8]]); 6] = [
+        (b"", &[]),
+        (b"\n", &[b""]),
+        (b"a", &[b"a"]),
+        (b"a\n", &[b"a"]),
+        (b"a\n\nbc", &[b"a", b"", b"bc"]),
+        (b"\0\xff\n\nbc\n", &[b"\0\xff", b"", b"bc"]),
+    ];
+    for (lines, texts) in table {
+        let mut input = joined(&rt, rt.alloc(), &[lines]);
+        input.piece = 2;
+        let mut talk = Talk::new(&rt, rt.alloc(), &[WELCOME, GOT, SENT, SENT, SENT]);
+        let ended = send(&mut talk, rt.alloc(), &mut input);
+        if ended == NO_MEMORY {
+            return;
+        }
+        assert!(rt; ended.is_empty());
+        let mut asked = joined(&rt, rt.alloc(), &[HELLO, MAKE]);
+        for text in texts {
+            put_send(&mut asked, text);
+        }
+        assert!(rt; talk.requests.text() == asked.text(), "{lines:?}");
+        assert!(rt; talk.requests.flushed == texts.len().min(9) + 2);
+        assert_is(&rt, input.read, lines.len());
+    }
+}
+
+#[test]
+fn a_line_has_8192_bytes_at_most(rt: HostRuntime) {
+    let text = [b'x'; 8192];
+    let table: [(&[u8], &str); 4] = [
+        (b"", ""),
+        (b"\n", ""),
+        (b"x", "sysvmsg: EINVAL\n"),
+        (b"x\nmore\n", "sysvmsg: EINVAL\n"),
+    ];
+    for (end, line) in table {
+        let mut input = joined(&rt, rt.alloc(), &[b"a\n", &text, end]);
+        let mut talk = Talk::new(&rt, rt.alloc(), &[WELCOME, GOT, SENT, SENT, SENT]);
+        let ended = send(&mut talk, rt.alloc(), &mut input);
+        if ended == NO_MEMORY {
+            return;
+        }
+        assert!(rt; ended == line, "{end:?}");
+        let mut asked = joined(&rt, rt.alloc(), &[HELLO, MAKE]);
+        put_send(&mut asked, b"a");
+        if line.is_empty() {
+            asked.put(b"\0\0\x20\x12");
+            asked.put(SENDS);
+            asked.put(&text);
+        }
+        assert!(rt; talk.requests.text() == asked.text(), "{end:?}");
+    }
+}
+
+#[test]
+fn nothing_is_sent_after_a_fault(rt: HostRuntime) {
+    let table: [(&[u8], &str); 2] = [(UNSENT, "sysvmsg: EPERM\n"), (b"", "sysvmsg: no reply\n")];
+    for (reply, line) in table {
+        let mut input = joined(&rt, rt.alloc(), &[b"a\nb\nc\n"]);
+        let mut talk = Talk::new(&rt, rt.alloc(), &[WELCOME, GOT, SENT, reply]);
+        let ended = send(&mut talk, rt.alloc(), &mut input);
+        if ended == NO_MEMORY {
+            return;
+        }
+        assert!(rt; ended == line);
+        let mut asked = joined(&rt, rt.alloc(), &[HELLO, MAKE]);
+        put_send(&mut asked, b"a");
+        put_send(&mut asked, b"b");
+        assert!(rt; talk.requests.text() == asked.text());
+    }
+}
+
+#[test]
+fn an_input_that_fails_ends_the_sends(rt: HostRuntime) {
+    for good in 0..4 {
+        let mut input = joined(&rt, rt.alloc(), &[b"a\nb\n"]);
+        input.good = good;
+        let mut talk = Talk::new(&rt, rt.alloc(), &[WELCOME, GOT, SENT, SENT]);
+        let ended = send(&mut talk, rt.alloc(), &mut input);
+        if ended == NO_MEMORY {
+            return;
+        }
+        assert!(rt; ended == "sysvmsg: cannot read\n");
+        let mut asked = joined(&rt, rt.alloc(), &[HELLO, MAKE]);
+        if good >= 2 {
+            put_send(&mut asked, b"a");
+        }
+        assert!(rt; talk.requests.text() == asked.text(), "{good}");
+    }
+}
+
+/// The row of slot 0 or 1.
+const FIRST: &[u8] = b"\0\0\0\x06\x02\x07\0\0\0\0";
+
+const SECOND: &[u8] = b"\0\0\0\x06\x02\x07\0\0\0\x01";
+
+/// The removal of identifier 0 or 2147483647.
+const REMOVE_FIRST: &[u8] = b"\0\0\0\x06\x02\x06\0\0\0\0";
+
+const REMOVE_SECOND: &[u8] = b"\0\0\0\x06\x02\x06\x7f\xff\xff\xff";
+
+/// A refusal to remove the queue in slot 0.
+const REFUSAL: Refusal = Refusal {
+    id: 0,
+    error: Errno::EPERM,
+};
+
+#[test]
+fn all_queues_are_removed(rt: HostRuntime) {
+    let welcome: &[u8] = b"\0\0\0\x07\x02\0\0\0\0\0\x02";
+    let gone: &[u8] = b"\0\0\0\x03\x02\x06\x16";
+    let table: [(&[u8], Option<Refusal>); 3] = [
+        (REMOVED, None),
+        (gone, None),
+        (DENIED, Some(REFUSAL)),
+    ];
+    for (reply, refusal) in table {
+        let mut talk = Talk::new(&rt, rt.alloc(), &[welcome, ROW, reply, WIDE, REMOVED]);
+        let mut refusals = Vec::new(rt.alloc());
+        let outcome = remove_all(
+            rt.alloc(),
+            WHO,
+            &mut talk.replies,
+            &mut talk.requests,
+            &mut refusals,
+        );
+        if outcome == Err(ClientFault::NoMemory) {
+            return;
+        }
+        assert!(rt; outcome == Ok(()));
+        assert!(rt; refusals.first().copied() == refusal);
+        assert!(rt; refusals.len() < 2);
+        let asked: &[&[u8]] = &[HELLO, FIRST, REMOVE_FIRST, SECOND, REMOVE_SECOND];
+        assert!(rt; talk.requests.text() == joined(&rt, rt.alloc(), asked).text());
+    }
+}
+
+#[test]
+fn a_removal_without_a_reply_ends_it(rt: HostRuntime) {
+    let welcome: &[u8] = b"\0\0\0\x07\x02\0\0\0\0\0\x02";
+    let mut talk = Talk::new(&rt, rt.alloc(), &[welcome, VACANT, WIDE]);
+    let mut refusals = Vec::new(rt.alloc());
+    let outcome = remove_all(
+        rt.alloc(),
+        WHO,
+        &mut talk.replies,
+        &mut talk.requests,
+        &mut refusals,
+    );
+    if outcome == Err(ClientFault::NoMemory) {
+        return;
+    }
+    assert!(rt; outcome == Err(ClientFault::NoReply));
+    let asked: &[&[u8]] = &[HELLO, FIRST, SECOND, REMOVE_SECOND];
+    assert!(rt; talk.requests.text() == joined(&rt, rt.alloc(), asked).text());
+}
