@@ -95,7 +95,7 @@ fn a_line_has_8192_bytes_at_most(rt: HostRuntime) {
         if ended == NO_MEMORY {
             return;
         }
-        assert!(rt; ended == line, "{end:?}");
+        assert!(rt; ended == line);
         let mut asked = joined(&rt, rt.alloc(), &[HELLO, MAKE]);
         put_send(&mut asked, b"a");
         if line.is_empty() {
@@ -103,7 +103,7 @@ fn a_line_has_8192_bytes_at_most(rt: HostRuntime) {
             asked.put(SENDS);
             asked.put(&text);
         }
-        assert!(rt; talk.requests.text() == asked.text(), "{end:?}");
+        assert!(rt; talk.requests.text() == asked.text(), "{line}");
     }
 }
 
