@@ -90,12 +90,7 @@ pub(crate) fn serve_at<
 fn run_server<
     I: Read + AsRawFd + Drop,
     R: Files + Net + Threads + Wait + Sync + Eprint + AllocGlobal + Clone + Drop,
->(
-    rt: &R,
-    input: I,
-    serving: &Serving<'_>,
-    reason: &mut Option<Reason>,
-) -> Result<Ended, ServeFault>
+>(rt: &R, input: I, serving: &Serving<'_>, reason: &mut Option<Reason>) -> Result<Ended, ServeFault>
     requires { HasLimits serving.now }
     ensures { IfOk result (λ ended. HasReason serving.now.until_eof serving.now.terms.sessions
         ended.sums.sessions reason.new) }
@@ -150,7 +145,10 @@ fn tell<S: Write>(screen: &mut S, sums: &Sums) -> ExitCode
         written,
         lost,
     } = *sums;
-    match writeln!(screen, "sessions {sessions} taken {taken} written {written} lost {lost}") {
+    match writeln!(
+        screen,
+        "sessions {sessions} taken {taken} written {written} lost {lost}"
+    ) {
         Ok(()) => ExitCode::SUCCESS,
         Err(_) => ExitCode::from(FAULT),
     }
