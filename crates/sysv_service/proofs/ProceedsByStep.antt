@@ -23,9 +23,11 @@ module _ (may : ℕ → Type 0) (from : State) (old : Pass) where
   comes_wait wait mid state new ran (inr e) =
       subst (λ s. Comes may from old s new) (sym e.4) (ran.0, gives_up e.0 new ran.1 e.1 e.2 e.3)
 
--- ---- one step
+-- ---- from the start
 
--- ---- by a result
+pub from_start : {may : ℕ → Type 0} {from begun state : State} {old new : Pass} → from ≡ begun →
+    Comes may begun old state new → Comes may from old state new
+from_start {may} {from} {begun} {state} {old} {new} is = subst (λ s. Comes may s old state new) (sym is)
 
 -- ---- if there may be no result
 

@@ -1,9 +1,10 @@
 -- How a wait of a call ends. This project's profile.
 use Rattle.std.specs.Prelude.{◌≡◌, ℕ, ◌^◌, ◌-◌, ◌<◌, ◌≤◌, ◌⊎◌, min}
-use Rattle.sysv_steps.specs.State.{Wait, State, Goes, Waits, Over, Refused}
+use Rattle.sysv_steps.specs.State.{Wait, OnSettled, OnFreed, OnReleased, OnArrived, State, Goes, Waits, Over, Refused}
 use Rattle.sysv_model.specs.declared.errno.Errno.TheVariants.{EOVERFLOW}
 use Rattle.sysv_steps.specs.Resume.{awaited, goal_of, resume}
 use Rattle.sysv_shared.specs.Reading.{Reads, GivesUp}
+use Rattle.sysv_driver.specs.Kinds.{Gets, Sends}
 use Rattle.sysv_service.specs.Ran.{Pass}
 
 -- The goal, as a number of 64 bits.
@@ -22,3 +23,17 @@ EndsWait wait before state after =
     × (((goal_of wait ≤ value) × (state ≡ Goes (resume wait value))) ⊎ (state ≡ Waits wait)))
     ⊎ ((value : ℕ) × (value < goal_of wait) × GivesUp (awaited wait) value before.seats after.seats
     × (after.held ≡ before.held) × (state ≡ Over (Refused EOVERFLOW)))
+
+-- ---- a call after its wait is a call of the same kind
+
+pub wait_gets : (wait : Wait) (value : ℕ) → Gets (Waits wait) → Gets (Goes (resume wait value))
+wait_gets (OnSettled goal get) value k = tt
+wait_gets (OnFreed goal send) value k = absurd k
+wait_gets (OnReleased goal send) value k = absurd k
+wait_gets (OnArrived goal receive) value k = absurd k
+
+pub wait_sends : (wait : Wait) (value : ℕ) → Sends (Waits wait) → Sends (Goes (resume wait value))
+wait_sends (OnFreed goal send) value k = k
+wait_sends (OnReleased goal send) value k = k
+wait_sends (OnSettled goal get) value k = absurd k
+wait_sends (OnArrived goal receive) value k = absurd k

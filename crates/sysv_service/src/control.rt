@@ -3,15 +3,16 @@
 ghost use Rattle.std.specs.Prelude.{◌≡◌, ℕ, []};
 ghost use Rattle.sysv_steps.specs.Call.{MsgctlStat, MsgctlSet, MsgctlRmid};
 ghost use Rattle.sysv_steps.specs.Begin.{begin as begins};
-ghost use Rattle.sysv_steps.specs.State.{Goes, Over, Ending as Ends};
-ghost use Rattle.sysv_steps.specs.Seen.{phase_of, state_of, ending_of};
+ghost use Rattle.sysv_steps.specs.State.{Over, Ending as Ends};
+ghost use Rattle.sysv_steps.specs.Seen.{ending_of};
 ghost use Rattle.sysv_shared.specs.Seats.{AreOf};
 ghost use Rattle.sysv_driver.specs.Stepping.{no_moment};
-ghost use Rattle.sysv_service.specs.Ran.{StepsOn, Comes};
+ghost use Rattle.sysv_service.specs.Ran.{Comes};
 ghost use Rattle.sysv_driver.specs.Kinds.{Stats, Sets, Removes};
 ghost use Rattle.sysv_service.specs.Told.{TellsZero, TellsStat, TellsRow};
 
 use crate::pass::Pass;
+use crate::running::Stepper;
 use crate::service::Service;
 use crate::waiting::zero_of;
 use std::sync::Wait as MayWait;
@@ -50,28 +51,7 @@ impl Service {
             × Comes no_moment (begins cred (MsgctlStat id) 0) pass.old (Over ending) pass.new
             × TellsStat ending result }
     {
-        let mut state = begin_stat(cred, id);
-        for _ in rt.forever() {
-            state = match state {
-                State::Goes(phase) => self.stat_step(rt, pass, phase),
-                State::Waits(_wait) => unreachable!(),
-                State::Over(ending) => return stat_of(ending),
-            };
-        }
-        unreachable!()
-    }
-
-    /// Makes one step of an IPC_STAT.
-    fn stat_step(&self, rt: &impl MayWait, pass: &mut Pass, phase: Phase) -> State
-        requires pass { AreOf self.now pass.old.seats }
-        requires stats { Stats (Goes (phase_of phase [])) }
-        ensures pass { AreOf self.now pass.new.seats }
-        ensures stats { Stats (state_of result []) }
-        ensures steps { StepsOn no_moment (phase_of phase []) pass.old
-            (state_of result []) pass.new }
-    {
-        let gates = AtGates::of(rt, &self.gates);
-        stat_step(&gates, &mut pass.seats, phase)
+        stat_of(self.run(rt, pass, &StatStepper, begin_stat(cred, id)))
     }
 
     /// Sets the owner, the mode and the limit `qbytes` of the queue `id`, and its time of change
@@ -105,34 +85,8 @@ impl Service {
             × Comes (C.may clock.now) (begins cred (MsgctlSet id to) 0) pass.old
             (Over ending) pass.new × TellsZero ending result }
     {
-        let mut state = begin_set(cred, id, to);
-        for _ in rt.forever() {
-            state = match state {
-                State::Goes(phase) => self.set_step(rt, pass, clock, phase),
-                State::Waits(_wait) => unreachable!(),
-                State::Over(ending) => return zero_of(ending),
-            };
-        }
-        unreachable!()
-    }
-
-    /// Makes one step of an IPC_SET.
-    fn set_step<C: Clock>(
-        &self,
-        rt: &impl MayWait,
-        pass: &mut Pass,
-        clock: &C,
-        phase: Phase,
-    ) -> State
-        requires pass { AreOf self.now pass.old.seats }
-        requires sets { Sets (Goes (phase_of phase [])) }
-        ensures pass { AreOf self.now pass.new.seats }
-        ensures sets { Sets (state_of result []) }
-        ensures steps { StepsOn (C.may clock.now) (phase_of phase []) pass.old
-            (state_of result []) pass.new }
-    {
-        let gates = AtGates::of(rt, &self.gates);
-        set_step(&gates, &mut pass.seats, &mut pass.held, clock, phase)
+        let stepper = SetStepper { clock };
+        zero_of(self.run(rt, pass, &stepper, begin_set(cred, id, to)))
     }
 
     /// Removes the queue `id` and discards its queued messages (POSIX.1-2017, `msgctl`, IPC_RMID).
@@ -162,28 +116,7 @@ impl Service {
             × Comes no_moment (begins cred (MsgctlRmid id) 0) pass.old (Over ending) pass.new
             × TellsZero ending result }
     {
-        let mut state = begin_remove(cred, id);
-        for _ in rt.forever() {
-            state = match state {
-                State::Goes(phase) => self.remove_step(rt, pass, phase),
-                State::Waits(_wait) => unreachable!(),
-                State::Over(ending) => return zero_of(ending),
-            };
-        }
-        unreachable!()
-    }
-
-    /// Makes one step of an IPC_RMID.
-    fn remove_step(&self, rt: &impl MayWait, pass: &mut Pass, phase: Phase) -> State
-        requires pass { AreOf self.now pass.old.seats }
-        requires removes { Removes (Goes (phase_of phase [])) }
-        ensures pass { AreOf self.now pass.new.seats }
-        ensures removes { Removes (state_of result []) }
-        ensures steps { StepsOn no_moment (phase_of phase []) pass.old
-            (state_of result []) pass.new }
-    {
-        let gates = AtGates::of(rt, &self.gates);
-        remove_step(&gates, &mut pass.seats, &mut pass.held, phase)
+        zero_of(self.run(rt, pass, &RemoveStepper, begin_remove(cred, id)))
     }
 
     /// Returns the row of the live queue in this slot, or `None` if no queue is live there (this
@@ -220,6 +153,59 @@ impl Service {
             }
             _other => unreachable!(),
         }
+    }
+}
+
+/// The steps of an IPC_STAT.
+struct StatStepper;
+
+impl Stepper for StatStepper {
+    ghost kind = { Stats };
+
+    ghost resumes = { λ _ _ waits. absurd waits };
+
+    ghost is_refused = { λ _. tt };
+
+    fn step(&self, rt: &impl MayWait, service: &Service, pass: &mut Pass, phase: Phase) -> State {
+        let gates = AtGates::of(rt, &service.gates);
+        stat_step(&gates, &mut pass.seats, phase)
+    }
+}
+
+/// The steps of an IPC_SET.
+#[derive(Drop)]
+struct SetStepper<'a, C> {
+    clock: &'a C,
+}
+
+impl<'a, C: Clock> Stepper for SetStepper<'a, C> {
+    ghost kind = { Sets };
+
+    ghost may = { λ s. C.may s.clock.now };
+
+    ghost resumes = { λ _ _ waits. absurd waits };
+
+    ghost is_refused = { λ _. tt };
+
+    fn step(&self, rt: &impl MayWait, service: &Service, pass: &mut Pass, phase: Phase) -> State {
+        let gates = AtGates::of(rt, &service.gates);
+        set_step(&gates, &mut pass.seats, &mut pass.held, self.clock, phase)
+    }
+}
+
+/// The steps of an IPC_RMID.
+struct RemoveStepper;
+
+impl Stepper for RemoveStepper {
+    ghost kind = { Removes };
+
+    ghost resumes = { λ _ _ waits. absurd waits };
+
+    ghost is_refused = { λ _. tt };
+
+    fn step(&self, rt: &impl MayWait, service: &Service, pass: &mut Pass, phase: Phase) -> State {
+        let gates = AtGates::of(rt, &service.gates);
+        remove_step(&gates, &mut pass.seats, &mut pass.held, phase)
     }
 }
 

@@ -3,14 +3,15 @@
 ghost use Rattle.std.specs.Prelude.{◌≡◌, []};
 ghost use Rattle.sysv_steps.specs.Call.{Msgget};
 ghost use Rattle.sysv_steps.specs.Begin.{begin as begins};
-ghost use Rattle.sysv_steps.specs.State.{Goes, Over, Ending as Ends};
-ghost use Rattle.sysv_steps.specs.Seen.{phase_of, state_of, ending_of};
+ghost use Rattle.sysv_steps.specs.State.{Over, Ending as Ends};
+ghost use Rattle.sysv_steps.specs.Seen.{ending_of};
 ghost use Rattle.sysv_driver.specs.Kinds.{Gets};
 ghost use Rattle.sysv_shared.specs.Seats.{AreOf};
-ghost use Rattle.sysv_service.specs.Ran.{StepsOn, Comes};
+ghost use Rattle.sysv_service.specs.Ran.{Comes};
 ghost use Rattle.sysv_service.specs.Told.{TellsId};
 
 use crate::pass::Pass;
+use crate::running::Stepper;
 use crate::service::Service;
 use std::sync::Wait as MayWait;
 use sysv_driver::{Clock, get_step};
@@ -54,34 +55,31 @@ impl Service {
             × Comes (C.may clock.now) (begins cred (Msgget key flags) 0) pass.old
             (Over ending) pass.new × TellsId ending result }
     {
-        let mut state = Getting::begin(cred, key, flags);
-        for _ in rt.forever() {
-            state = match state {
-                State::Goes(phase) => self.get_step(rt, pass, clock, phase),
-                State::Waits(wait) => self.wait_on(rt, pass, wait),
-                State::Over(ending) => return id_of(ending),
-            };
-        }
-        unreachable!()
+        let stepper = GetStepper { clock };
+        id_of(self.run(rt, pass, &stepper, Getting::begin(cred, key, flags)))
     }
+}
 
-    /// Makes one step of a `msgget`.
-    fn get_step<C: Clock>(
-        &self,
-        rt: &impl MayWait,
-        pass: &mut Pass,
-        clock: &C,
-        phase: Phase,
-    ) -> State
-        requires pass { AreOf self.now pass.old.seats }
-        requires gets { Gets (Goes (phase_of phase [])) }
-        ensures pass { AreOf self.now pass.new.seats }
-        ensures gets { Gets (state_of result []) }
-        ensures steps { StepsOn (C.may clock.now) (phase_of phase []) pass.old
-            (state_of result []) pass.new }
-    {
-        let gates = AtGates::of(rt, &self.gates);
-        get_step(&gates, &mut pass.seats, clock, phase)
+/// The steps of a `msgget`.
+#[derive(Drop)]
+struct GetStepper<'a, C> {
+    clock: &'a C,
+}
+
+impl<'a, C: Clock> Stepper for GetStepper<'a, C> {
+    ghost use Rattle.sysv_service.specs.Waited.{wait_gets};
+
+    ghost kind = { Gets };
+
+    ghost may = { λ s. C.may s.clock.now };
+
+    ghost resumes = { wait_gets };
+
+    ghost is_refused = { λ _. tt };
+
+    fn step(&self, rt: &impl MayWait, service: &Service, pass: &mut Pass, phase: Phase) -> State {
+        let gates = AtGates::of(rt, &service.gates);
+        get_step(&gates, &mut pass.seats, self.clock, phase)
     }
 }
 

@@ -19,6 +19,7 @@ mod get;
 mod laws;
 mod pass;
 mod receive;
+mod running;
 mod send;
 mod service;
 mod stopping;

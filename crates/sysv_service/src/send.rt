@@ -3,18 +3,18 @@
 ghost use Rattle.std.specs.Prelude.{◌≡◌, ℕ, IfNone, IfSome};
 ghost use Rattle.sysv_steps.specs.Call.{Msgsnd};
 ghost use Rattle.sysv_steps.specs.Begin.{begin as begins};
-ghost use Rattle.sysv_steps.specs.State.{Goes, Over, Ending as Ends};
-ghost use Rattle.sysv_steps.specs.Seen.{phase_of, state_of};
+ghost use Rattle.sysv_steps.specs.State.{Over, Ending as Ends};
 ghost use Rattle.sysv_steps.specs.Resume.{Released};
 ghost use Rattle.sysv_shared.specs.Seats.{AreOf};
 ghost use Rattle.sysv_shared.specs.Reading.{Reads};
-ghost use Rattle.sysv_service.specs.Ran.{Pass as Seen, StepsOn, Comes};
+ghost use Rattle.sysv_service.specs.Ran.{Pass as Seen, Comes};
 ghost use Rattle.sysv_service.specs.Left.{IsLeft};
 ghost use Rattle.sysv_driver.specs.Kinds.{Sends};
 ghost use Rattle.sysv_service.specs.Told.{TellsZero};
 
 use crate::caller::{Caller, Stays};
 use crate::pass::Pass;
+use crate::running::Stepper;
 use crate::service::Service;
 use crate::waiting::zero_of;
 use std::sync::Wait as MayWait;
@@ -111,57 +111,41 @@ impl Service {
     {
         let released = self.gates.count(&mut pass.seats, SharedCount::Released);
         let begun = Sending::begin(cred, id, mtype, flags, text.len(), released);
-        self.send(rt, pass, clock, caller, text, begun)
+        let stepper = SendStepper { clock, text };
+        Some(zero_of(self.run_for(rt, pass, &stepper, caller, begun)?))
     }
+}
 
-    /// Runs a send that has begun until it is over, or until its caller has left.
-    fn send<C: Clock, K: Caller>(
-        &self,
-        rt: &impl MayWait,
-        pass: &mut Pass,
-        clock: &C,
-        caller: &K,
-        text: &Body,
-        begun: State,
-    ) -> Option<Result<(), Errno>>
-        requires pass { AreOf self.now pass.old.seats }
-        requires sends { Sends (state_of begun text.now) }
-        ensures pass { AreOf self.now pass.new.seats }
-        ensures ran { IfSome result (λ told. (ending : Ends)
-            × Comes (C.may clock.now) (state_of begun text.now) pass.old (Over ending) pass.new
-            × TellsZero ending told) }
-        ensures left { IfNone result (IsLeft (K.may_leave caller.now) (C.may clock.now)
-            (state_of begun text.now) pass.old pass.new) }
-    {
-        let mut state = begun;
-        for _ in rt.forever() {
-            state = match state {
-                State::Goes(phase) => self.send_step(rt, pass, clock, text, phase),
-                State::Waits(wait) => self.wait_for(rt, pass, caller, wait)?,
-                State::Over(ending) => return Some(zero_of(ending)),
-            };
-        }
-        unreachable!()
-    }
+/// The steps of a `msgsnd`.
+#[derive(Drop)]
+struct SendStepper<'a, C> {
+    clock: &'a C,
+    text: &'a Body,
+}
 
-    /// Makes one step of a send with this body.
+impl<'a, C: Clock> Stepper for SendStepper<'a, C> {
+    ghost use Rattle.sysv_service.specs.Waited.{wait_sends};
+
+    ghost kind = { Sends };
+
+    ghost may = { λ s. C.may s.clock.now };
+
+    ghost text = { λ s. s.text.now };
+
+    ghost resumes = { wait_sends };
+
+    ghost is_refused = { λ _. tt };
+
     #[inline(always)]
-    fn send_step<C: Clock>(
-        &self,
-        rt: &impl MayWait,
-        pass: &mut Pass,
-        clock: &C,
-        text: &Body,
-        phase: Phase,
-    ) -> State
-        requires pass { AreOf self.now pass.old.seats }
-        requires sends { Sends (Goes (phase_of phase text.now)) }
-        ensures pass { AreOf self.now pass.new.seats }
-        ensures sends { Sends (state_of result text.now) }
-        ensures steps { StepsOn (C.may clock.now) (phase_of phase text.now) pass.old
-            (state_of result text.now) pass.new }
-    {
-        let gates = AtGates::of(rt, &self.gates);
-        send_step(&gates, &mut pass.seats, &mut pass.held, clock, text, phase)
+    fn step(&self, rt: &impl MayWait, service: &Service, pass: &mut Pass, phase: Phase) -> State {
+        let gates = AtGates::of(rt, &service.gates);
+        send_step(
+            &gates,
+            &mut pass.seats,
+            &mut pass.held,
+            self.clock,
+            self.text,
+            phase,
+        )
     }
 }

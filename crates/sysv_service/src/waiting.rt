@@ -11,7 +11,7 @@ ghost use Rattle.sysv_driver.specs.Kinds.{EndsInZero};
 ghost use Rattle.sysv_service.specs.Told.{TellsZero};
 ghost use Rattle.sysv_service.specs.Waited.{EndsWait, IsUnmet, goal_seen};
 
-use crate::caller::{Caller, Stays};
+use crate::caller::Caller;
 use crate::pass::Pass;
 use crate::service::Service;
 use std::mem;
@@ -42,23 +42,8 @@ impl Pass {
 
 impl Service {
     /// Waits for a quarter of a second at most. Returns the state of the call afterwards: it goes
-    /// on, still waits, or is over because a gate is worn out.
-    pub(crate) fn wait_on(&self, rt: &impl MayWait, pass: &mut Pass, wait: Wait) -> State
-        requires { AreOf self.now pass.old.seats }
-        ensures pass { AreOf self.now pass.new.seats }
-        ensures ended { (text : List ℕ) →
-            EndsWait (wait_of wait text) pass.old (state_of result text) pass.new }
-        ensures unmet { result ≡ State.Waits wait → (text : List ℕ) →
-            IsUnmet (wait_of wait text) pass.old pass.new }
-    {
-        match self.wait_for(rt, pass, &Stays, wait) {
-            Some(state) => state,
-            None => unreachable!(),
-        }
-    }
-
-    /// Like `wait_on`, but for a caller that may leave. Returns `None` if the caller has left,
-    /// which is checked at the end of the wait.
+    /// on, still waits, or is over because a gate is worn out. Returns `None` if the caller has
+    /// left, which is checked at the end of the wait.
     pub(crate) fn wait_for<K: Caller>(
         &self,
         rt: &impl MayWait,

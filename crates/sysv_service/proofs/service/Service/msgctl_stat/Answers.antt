@@ -1,28 +1,18 @@
-use Rattle.std.proofs.Common.{[], ap, subst, rules, w32, to_z, of_z}
-use Rattle.sysv_steps.specs.Seen.{phase_of, state_of}
-use Rattle.sysv_driver.specs.Stepping.{no_moment}
+use Rattle.std.proofs.Common.{[], subst, w32, to_z, of_z}
+use Rattle.std.proofs.lemmas.Int.{to_z-of_z}
+use Rattle.sysv_steps.specs.Seen.{ending_of}
 use Rattle.sysv_driver.specs.Kinds.{Stats}
-use Rattle.sysv_service.proofs.ProceedsByStep.{first_at, moved, comes_step}
+use Rattle.sysv_service.proofs.ProceedsByStep.{from_start}
 use Rattle.sysv_service.proofs.KindStays.{begin_stats}
 use Rattle.sysv_service.proofs.service.Service.msgctl_stat.Goals as goal
 
-pub loop-init : goal.loop-init
-loop-init g c =
-    let starts = c.begin_stat-state.ensures [] 0 in
-    record {
-      pass = c.requires;
-      stats = subst Stats starts (begin_stats c.args.cred (to_z w32 (of_z w32 c.args.id)));
-      comes = first_at no_moment _ _ _ starts;
-      goes_on = search rules;
-    }
+pub run-requires-clause-kind : goal.run-requires-clause-kind
+run-requires-clause-kind g c =
+    subst Stats (c.begin_stat.ensures [] 0) (begin_stats c.args.cred (to_z w32 (of_z w32 c.args.id)))
 
-pub loop-preserved : goal.loop-preserved
-loop-preserved g c =
-    let there = moved no_moment _ _ _ _ c.loop.pass (ap (λ s. state_of s []) c.in-Goes.is) c.loop.invariant.comes in
-    record {
-      pass = c.stat_step.ensures.pass;
-      stats = c.stat_step.ensures.stats;
-      comes = comes_step no_moment _ _ (phase_of c.in-Goes.phase []) c.loop.pass _ c.stat_step.new.pass there
-          c.stat_step.ensures.steps;
-      goes_on = search rules;
-    }
+pub returns-clause-ran : goal.returns-clause-ran
+returns-clause-ran g c =
+    let id = c.ranges.id in
+    let ran = from_start (c.begin_stat.ensures [] 0) c.run.ensures.ran in
+    let comes = simp to_z-of_z at ran in
+    (ending_of c.run.result [], comes, c.stat_of.ensures)
