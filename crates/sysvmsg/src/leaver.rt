@@ -10,10 +10,13 @@ use std::time::Duration;
 const TO_END: u64 = 60;
 
 /// The reader of a connection. A read that waits too long leaves the call that waits: it shuts down
-/// the writing half of the connection, and then reads what the server still sends.
+/// the writing half of the connection, and then reads what the server still sends. If the server has
+/// sent nothing at all, no call was made, and the read does not wait for an end of the session.
 #[derive(Drop)]
 pub(crate) struct Leaver<'a> {
     stream: &'a UnixStream,
+    /// Whether the server has sent anything.
+    is_served: bool,
     /// Whether the call was left.
     is_leaving: bool,
     /// Whether the session ended after that.
@@ -29,6 +32,7 @@ impl<'a> Leaver<'a> {
         }
         Leaver {
             stream,
+            is_served: false,
             is_leaving: false,
             has_left: false,
         }
@@ -99,9 +103,16 @@ impl Read for Leaver<'_> {
         let mut stream = self.stream;
         match stream.read(buf) {
             Err(why) if why.kind() == ErrorKind::WouldBlock && !self.is_leaving => self.leave(),
-            outcome => return outcome,
+            outcome => {
+                self.is_served |= outcome.is_ok();
+                return outcome;
+            }
         }
-        let outcome = stream.read(buf);
+        let outcome = if self.is_served {
+            stream.read(buf)
+        } else {
+            Ok(0)
+        };
         self.has_left = matches!(outcome, Ok(0));
         outcome
     }
