@@ -35,10 +35,6 @@ pub if_none : {T P : Type 0} (o : Option T) → P → IfNone o P
 if_none None p = p
 if_none (Some x) p = tt
 
-pub none_then : {T P Q : Type 0} (o : Option T) → IfNone o P → (P → Q) → IfNone o Q
-none_then None p f = f p
-none_then (Some x) p f = tt
-
 -- ---- the loop of a call
 
 module _ (may : ℕ → Type 0) (from : State) (old : Pass) where
