@@ -80,30 +80,43 @@ fn each_line_is_a_message(rt: HostRuntime) {
 }
 
 #[test]
-fn a_line_has_8192_bytes_at_most(rt: HostRuntime) {
-    let text = [b'x'; 8192];
-    let table: [(&[u8], &str); 4] = [
-        (b"", ""),
-        (b"\n", ""),
-        (b"x", "sysvmsg: EINVAL\n"),
-        (b"x\nmore\n", "sysvmsg: EINVAL\n"),
-    ];
-    for (end, line) in table {
-        let mut input = joined(&rt, rt.alloc(), &[b"a\n", &text, end]);
-        let mut talk = Talk::new(&rt, rt.alloc(), &[WELCOME, GOT, SENT, SENT, SENT]);
+fn a_line_of_8192_bytes_is_sent(rt: HostRuntime) {
+    let bytes = [b'x'; 8192];
+    let text: &[u8] = &bytes;
+    let ends: [&[u8]; 2] = [b"", b"\n"];
+    for end in ends {
+        let mut input = joined(&rt, rt.alloc(), &[b"a\n", text, end]);
+        let mut talk = Talk::new(&rt, rt.alloc(), &[WELCOME, GOT, SENT, SENT]);
         let ended = send(&mut talk, rt.alloc(), &mut input);
         if ended == NO_MEMORY {
             return;
         }
-        assert!(rt; ended == line);
+        assert!(rt; ended.is_empty());
         let mut asked = joined(&rt, rt.alloc(), &[HELLO, MAKE]);
         put_send(&mut asked, b"a");
-        if line.is_empty() {
-            asked.put(b"\0\0\x20\x12");
-            asked.put(SENDS);
-            asked.put(&text);
+        asked.put(b"\0\0\x20\x12");
+        asked.put(SENDS);
+        asked.put(text);
+        assert!(rt; talk.requests.text() == asked.text());
+    }
+}
+
+#[test]
+fn a_longer_line_is_not_sent(rt: HostRuntime) {
+    let bytes = [b'x'; 8193];
+    let text: &[u8] = &bytes;
+    let ends: [&[u8]; 2] = [b"", b"\nmore\n"];
+    for end in ends {
+        let mut input = joined(&rt, rt.alloc(), &[b"a\n", text, end]);
+        let mut talk = Talk::new(&rt, rt.alloc(), &[WELCOME, GOT, SENT, SENT]);
+        let ended = send(&mut talk, rt.alloc(), &mut input);
+        if ended == NO_MEMORY {
+            return;
         }
-        assert!(rt; talk.requests.text() == asked.text(), "{line}");
+        assert!(rt; ended == "sysvmsg: EINVAL\n");
+        let mut asked = joined(&rt, rt.alloc(), &[HELLO, MAKE]);
+        put_send(&mut asked, b"a");
+        assert!(rt; talk.requests.text() == asked.text());
     }
 }
 
