@@ -7,7 +7,8 @@ const VERSION: &str = "0.2.0";
 
 /// The end of the help of the whole program.
 const SESSION: &str = "\
-Errors of commands are printed on standard output, as `sysvmsg: ENOMSG`.
+Errors of commands are printed on standard output, as `sysvmsg: ENOMSG`; those
+of an `rcv` with --count, --follow, --raw or --show-type on standard error.
 Exit status: 0 if all is done, 1 after an error, 2 if the command line is not
 understood.
 
