@@ -19,13 +19,21 @@ returns-clause-ran g c =
     let id = c.ranges.id in
     let mtype = c.ranges.mtype in
     let ending = ending_of c.in_ok-run_for.field-0 c.args.text.now in
-    let ran = from_start (c.begin-begun.ensures c.args.text.now (sym c.len.ensures.value)) c.in_ok-run_for.ensures.ran in
+    let ran =
+    from_start (c.begin-begun.ensures c.args.text.now (sym c.len.ensures.value)) c.in_ok-run_for.ensures.ran in
     let comes = simp to_z-of_z at ran in
     subst (λ (b : Pass).
     (released : ℕ) × (m : Pass) × Reads Released released b.seats m.seats × (m.held ≡ b.held) × (ending : Ending)
     × Comes may (begins c.args.cred (Msgsnd c.args.id c.args.mtype c.args.flags c.args.text.now) released) m
-    (Over ending) c.run_for.new.pass × TellsZero ending c.zero_of.result) c.pass.view_is
-    (c.count-released.result, mid, c.count-released.ensures.read, refl, ending, comes, c.zero_of.ensures c.args.text.now)
+    (Over ending) c.run_for.new.pass × TellsZero ending c.zero_of.result) c.pass.view_is (
+      c.count-released.result,
+      mid,
+      c.count-released.ensures.read,
+      refl,
+      ending,
+      comes,
+      c.zero_of.ensures c.args.text.now,
+    )
 
 pub returns-in_err-run_for-clause-left : goal.returns-in_err-run_for-clause-left
 returns-in_err-run_for-clause-left g c =
