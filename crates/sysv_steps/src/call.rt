@@ -1,3 +1,5 @@
+//! The calls with their arguments.
+
 use sysv_model::{Body, Flags, SetTo};
 
 /// A call with its arguments. `S` is the body that a send brings, and `R` is what a receive brings

@@ -1,3 +1,5 @@
+//! What a call returns to its caller.
+
 use sysv_model::{Errno, Stat};
 
 /// How a call ended, as its caller is told. The body that a receive brought is beside it.
