@@ -8,3 +8,4 @@ pub mod Tasks
 pub mod Servers
 pub mod Requests
 pub mod Ends
+pub mod Clients

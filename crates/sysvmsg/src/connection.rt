@@ -1,20 +1,21 @@
-//! Clients over a socket.
-ghost use Rattle.std.specs.Prelude.{◌≡◌, ◌≤◌, length};
+//! Clients over a connection.
+ghost use Rattle.std.specs.Prelude.{◌≡◌, ◌≤◌, pos, length};
+ghost use Rattle.std.specs.Io.KnownBytes.{Appends};
 ghost use Rattle.sysv_clients.specs.Run.{HasShortText};
 ghost use Rattle.sysvmsg.specs.Bodies.{with_text};
-ghost use Rattle.sysvmsg.specs.Ends.{IsStatus, Succeeds, SucceedsOnly};
+ghost use Rattle.sysvmsg.specs.Clients.{HasRun, HasRunFrom, IsDone, IsRun};
+ghost use Rattle.sysvmsg.specs.Ends.{Succeeds, SucceedsIf, SucceedsOnlyIf};
 
 use crate::asked::How;
 use crate::input::{Unread, read_body};
 use crate::leaver::Leaver;
+use crate::place::{Leave, Place};
 use crate::plain::complain;
 use crate::several::{is_stream, receive_at, receiving, remove_at, send_at};
 use crate::{FAULT, say};
 use std::alloc::Global;
 use std::io;
 use std::io::{BufReader, BufWriter, Eprint, Read, Write};
-use std::net::Net;
-use std::os::unix::net::UnixStream;
 use std::process::ExitCode;
 use sysv_clients::{ClientFault, Command, Sending, Target, Task, run_client};
 use sysv_model::{BODY_ROOM, Errno};
@@ -27,21 +28,26 @@ const PAGE_ROOM: usize = 8_300;
 /// # Conditions
 ///
 /// - The body of a `snd` has at most 8,256 bytes.
-pub(crate) fn run_as<I: Read>(
-    rt: &(impl Net + Print + Eprint + AllocGlobal),
+pub(crate) fn run_as<I: Read, P: Place, S: Write>(
+    rt: &(impl Print + Eprint + AllocGlobal),
     input: &mut I,
+    place: P,
     path: &str,
     command: &Command<'_>,
     how: &How,
+    screen: &mut S,
 ) -> ExitCode
     requires { HasShortText command.now.task }
+    ensures { SucceedsOnlyIf (IsDone command.now.cred command.now.task how.now
+        (P.incoming place) (P.outgoing place) (I.remaining input.old)
+        (S.contents screen.old) (S.contents screen.new)) result }
 {
     let cred = command.cred;
     match command.task {
         Task::Receive(receipt) if is_stream(&receipt, how) => {
-            receive_at(rt, path, &receiving(cred, receipt, how), how.wait)
+            receive_at(rt, place, path, &receiving(cred, receipt, how), how.wait, screen)
         }
-        Task::Remove(Target::All) => remove_at(rt, path, cred),
+        Task::Remove(Target::All) => remove_at(rt, place, path, cred),
         Task::Send {
             key,
             mtype,
@@ -54,25 +60,56 @@ pub(crate) fn run_as<I: Read>(
                 mtype,
                 nowait,
             };
-            send_at(rt, input, path, &sending, how.wait)
+            send_at(rt, input, place, path, &sending, how.wait)
         }
-        _ if how.from_input => run_with_input(rt, input, path, command, how.wait),
-        _ => run_at(rt, path, command, how.wait),
+        _ => run_one(rt, input, place, path, command, how, screen),
+    }
+}
+
+/// Runs a command like `run_at`, with the input as the body of a `snd` if the options say so.
+///
+/// # Conditions
+///
+/// - The body of a `snd` has at most 8,256 bytes.
+fn run_one<I: Read, P: Place, S: Write>(
+    rt: &(impl Print + Eprint + AllocGlobal),
+    input: &mut I,
+    place: P,
+    path: &str,
+    command: &Command<'_>,
+    how: &How,
+    screen: &mut S,
+) -> ExitCode
+    requires { HasShortText command.now.task }
+    ensures { SucceedsOnlyIf (IsRun command.now.cred command.now.task how.now
+        (P.incoming place) (P.outgoing place) (I.remaining input.old)
+        (S.contents screen.old) (S.contents screen.new)) result }
+{
+    if how.from_input {
+        run_with_input(rt, input, place, path, command, how.wait, screen)
+    } else {
+        run_at(rt, place, path, command, how.wait, screen)
     }
 }
 
 /// Reads `input` to its end and then runs a command like `run_at`, with the bytes as the body of a
 /// `snd`. Of a longer input, the body is the first 8,256 bytes. If a read fails, no connection is
 /// made, and the reason is reported on standard error.
-fn run_with_input<I: Read>(
-    rt: &(impl Net + Print + Eprint + AllocGlobal),
+fn run_with_input<I: Read, P: Place, S: Write>(
+    rt: &(impl Print + Eprint + AllocGlobal),
     input: &mut I,
+    place: P,
     path: &str,
     command: &Command<'_>,
     wait: Option<u32>,
-) -> ExitCode {
+    screen: &mut S,
+) -> ExitCode
+    ensures { SucceedsOnlyIf (HasRunFrom command.now.cred command.now.task
+        (P.incoming place) (P.outgoing place) (I.remaining input.old)
+        (S.contents screen.old) (S.contents screen.new)) result }
+{
     match read_body(rt.alloc(), input) {
-        Ok(body) => run_at(rt, path, &with_body(command, &body), wait),
+        Ok(body) => run_at(rt, place, path, &with_body(command, &body), wait, screen),
         Err(Unread::NoMemory) => say(rt, "no memory"),
         Err(Unread::Failed(why)) => {
             complain(rt, "standard input", &why, "");
@@ -123,20 +160,23 @@ fn with_body<'a>(command: &Command<'_>, body: &'a [u8]) -> Command<'a>
 /// # Conditions
 ///
 /// - The body of a `snd` has at most 8,256 bytes.
-fn run_at(
-    rt: &(impl Net + Print + Eprint + AllocGlobal),
+fn run_at<P: Place, S: Write>(
+    rt: &(impl Print + Eprint + AllocGlobal),
+    place: P,
     path: &str,
     command: &Command<'_>,
     wait: Option<u32>,
+    screen: &mut S,
 ) -> ExitCode
     requires { HasShortText command.now.task }
+    ensures { SucceedsOnlyIf (HasRun command.now (pos 0) (P.incoming place) (P.outgoing place)
+        (S.contents screen.old) (S.contents screen.new)) result }
 {
-    let mut screen = io::writer(rt);
-    match (UnixStream::connect(rt, path), wait) {
-        (Ok(stream), Some(seconds)) => {
-            run_within(rt.alloc(), &stream, command, seconds, &mut screen)
+    match (place.connect(), wait) {
+        (Ok((reader, writer)), Some(seconds)) => {
+            run_within(rt.alloc(), reader, writer, command, seconds, screen)
         }
-        (Ok(stream), None) => run_over(rt.alloc(), &stream, command, &mut screen),
+        (Ok((reader, writer)), None) => run_over(rt.alloc(), reader, writer, command, screen),
         (Err(why), _) => no_server(rt, path, &why),
     }
 }
@@ -148,70 +188,109 @@ fn run_at(
 /// # Conditions
 ///
 /// - The body of a `snd` has at most 8,256 bytes.
-fn run_within<S: Write>(
+fn run_within<R: Leave + Drop, W: Write + Drop, S: Write>(
     alloc: Global,
-    stream: &UnixStream,
+    reader: R,
+    writer: W,
     command: &Command<'_>,
     seconds: u32,
     screen: &mut S,
 ) -> ExitCode
     requires { HasShortText command.now.task }
+    ensures { SucceedsOnlyIf (HasRun command.now (pos 0) (R.remaining reader)
+        (W.contents writer) (S.contents screen.old) (S.contents screen.new)) result }
 {
-    let mut leaver = Leaver::new(stream, Some(seconds));
+    let mut leaver = Leaver::new(reader, Some(seconds));
     let Ok(mut page) = Vec::with_capacity(alloc, PAGE_ROOM) else {
         return no_memory(screen);
     };
-    let status = match (
-        BufReader::new(alloc, &mut leaver),
-        BufWriter::new(alloc, stream),
-    ) {
-        (Ok(mut reader), Ok(mut writer)) => {
-            run_client(alloc, command, &mut reader, &mut writer, &mut page)
-        }
-        _ => return no_memory(screen),
-    };
-    let shown = match command.task {
-        Task::Send { .. } if leaver.has_left() => ClientFault::Refused(Errno::EAGAIN).line(),
-        _ if leaver.has_left() => ClientFault::Refused(Errno::ENOMSG).line(),
-        _ => "",
-    };
-    let text = if status == 0 || shown.is_empty() {
-        page.as_slice()
-    } else {
-        shown.as_bytes()
-    };
-    match screen.write_all(text).and_then(|()| screen.flush()) {
-        Ok(()) => ended(status),
-        Err(_) => ExitCode::from(FAULT),
-    }
+    let status = run_through(alloc, &mut leaver, writer, command, &mut page);
+    let text = text_within(command, status, page.as_slice(), leaver.has_left());
+    show(screen, text, status)
 }
 
-/// Runs a command over a connection, with one write per request.
+/// Returns what is shown of a command that ended with this status: the page, or the line of an error
+/// if the call was left.
+fn text_within<'a>(
+    command: &Command<'_>,
+    status: i32,
+    page: &'a [u8],
+    has_left: bool,
+) -> &'a [u8]
+    ensures { status ≡ pos 0 → result.now ≡ page.now }
+{
+    if status == 0 || !has_left {
+        return page;
+    }
+    let error = match command.task {
+        Task::Send { .. } => Errno::EAGAIN,
+        _ => Errno::ENOMSG,
+    };
+    ClientFault::Refused(error).line().as_bytes()
+}
+
+/// Writes `text` to the screen and flushes it. Returns the status of a client as that of the
+/// program, or that of a fault if the screen fails.
+fn show<S: Write>(screen: &mut S, text: &[u8], status: i32) -> ExitCode
+    ensures { SucceedsOnlyIf ((status ≡ pos 0) × Appends (S.contents screen.old)
+        (S.contents screen.new) text.now) result }
+{
+    if screen.write_all(text).is_err() || screen.flush().is_err() {
+        return ExitCode::from(FAULT);
+    }
+    ended(status)
+}
+
+/// Runs a command over a connection.
 ///
 /// # Conditions
 ///
 /// - The body of a `snd` has at most 8,256 bytes.
-fn run_over<S: Write>(
+fn run_over<R: Read + Drop, W: Write + Drop, S: Write>(
     alloc: Global,
-    stream: &UnixStream,
+    reader: R,
+    writer: W,
     command: &Command<'_>,
     screen: &mut S,
 ) -> ExitCode
     requires { HasShortText command.now.task }
-    ensures { SucceedsOnly command.now (S.contents screen.old) (S.contents screen.new) result }
+    ensures { SucceedsOnlyIf (HasRun command.now (pos 0) (R.remaining reader)
+        (W.contents writer) (S.contents screen.old) (S.contents screen.new)) result }
 {
-    let (Ok(mut reader), Ok(mut writer)) = (
-        BufReader::new(alloc, stream),
-        BufWriter::new(alloc, stream),
-    ) else {
-        return no_memory(screen);
-    };
-    ended(run_client(alloc, command, &mut reader, &mut writer, screen))
+    ended(run_through(alloc, reader, writer, command, screen))
+}
+
+/// Runs a command through buffers, so that a request is one write. Returns the status of the client,
+/// or 1 if there is no memory for the buffers.
+///
+/// # Conditions
+///
+/// - The body of a `snd` has at most 8,256 bytes.
+fn run_through<R: Read + Drop, W: Write + Drop, S: Write>(
+    alloc: Global,
+    reader: R,
+    writer: W,
+    command: &Command<'_>,
+    screen: &mut S,
+) -> i32
+    requires { HasShortText command.now.task }
+    ensures { result ≡ pos 0 → HasRun command.now (pos 0) (R.remaining reader)
+        (W.contents writer) (S.contents screen.old) (S.contents screen.new) }
+{
+    match (BufReader::new(alloc, reader), BufWriter::new(alloc, writer)) {
+        (Ok(mut reader), Ok(mut writer)) => {
+            run_client(alloc, command, &mut reader, &mut writer, screen)
+        }
+        _ => {
+            no_memory(screen);
+            1
+        }
+    }
 }
 
 /// Returns the status of a client as that of the program.
 fn ended(status: i32) -> ExitCode
-    ensures { IsStatus status result }
+    ensures { SucceedsIf (status ≡ pos 0) result }
 {
     match status {
         0 => ExitCode::SUCCESS,
@@ -232,7 +311,9 @@ pub(crate) fn no_server(
     rt: &(impl Print + Eprint + AllocGlobal),
     path: &str,
     why: &io::Error,
-) -> ExitCode {
+) -> ExitCode
+    ensures { Succeeds result → ⊥ }
+{
     complain(rt, path, why, "");
     say(rt, "no server")
 }

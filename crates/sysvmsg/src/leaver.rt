@@ -1,9 +1,9 @@
 //! Calls that are left after some time.
+ghost use Rattle.std.specs.Prelude.{◌≡◌};
 
+use crate::place::Leave;
 use std::io;
 use std::io::{ErrorKind, Read, Write};
-use std::net::Shutdown;
-use std::os::unix::net::UnixStream;
 use std::time::Duration;
 
 /// The number of seconds that a server has to end a session that was left.
@@ -13,8 +13,8 @@ const TO_END: u64 = 60;
 /// the writing half of the connection, and then reads what the server still sends. If the server has
 /// sent nothing at all, no call was made, and the read does not wait for an end of the session.
 #[derive(Drop)]
-pub(crate) struct Leaver<'a> {
-    stream: &'a UnixStream,
+pub(crate) struct Leaver<R> {
+    reader: R,
     /// Whether the server has sent anything.
     is_served: bool,
     /// Whether the call was left.
@@ -23,15 +23,17 @@ pub(crate) struct Leaver<'a> {
     has_left: bool,
 }
 
-impl<'a> Leaver<'a> {
+impl<R: Leave> Leaver<R> {
     /// Returns the reader of a connection on which a read waits at most this number of seconds, or
     /// without end if there is none.
-    pub(crate) fn new(stream: &'a UnixStream, seconds: Option<u32>) -> Leaver<'a> {
+    pub(crate) fn new(reader: R, seconds: Option<u32>) -> Leaver<R>
+        ensures { result.reader ≡ reader }
+    {
         if let Some(seconds) = seconds {
-            let _ = stream.set_read_timeout(Some(limit(seconds)));
+            reader.limit(limit(seconds));
         }
         Leaver {
-            stream,
+            reader,
             is_served: false,
             is_leaving: false,
             has_left: false,
@@ -46,17 +48,8 @@ impl<'a> Leaver<'a> {
     /// Returns whether the time was over and the last call had no effect: it was left and the
     /// session then ended without a reply, or a reply came after all and a later request could not
     /// be written.
-    pub(crate) fn is_over(&self, writer: &Outgoing<'_>) -> bool {
+    pub(crate) fn is_over<W: Write>(&self, writer: &Outgoing<W>) -> bool {
         self.has_left || (self.is_leaving && writer.has_failed)
-    }
-
-    /// Leaves the call that waits.
-    fn leave(&mut self) {
-        self.is_leaving = true;
-        let _ = self
-            .stream
-            .set_read_timeout(Some(Duration::from_secs(TO_END)));
-        let _ = self.stream.shutdown(Shutdown::Write);
     }
 }
 
@@ -68,52 +61,59 @@ fn limit(seconds: u32) -> Duration {
     }
 }
 
+impl<R: Leave> Read for Leaver<R> {
+    ghost remaining = { λ leaver. R.remaining leaver.reader };
+
+    fn read(&mut self, buf: &mut [u8]) -> io::Result<usize> {
+        let why = match self.reader.read(buf) {
+            Err(why) if why.kind() == ErrorKind::WouldBlock && !self.is_leaving => why,
+            outcome => {
+                self.is_served |= outcome.is_ok();
+                return outcome;
+            }
+        };
+        self.is_leaving = true;
+        self.reader.limit(Duration::from_secs(TO_END));
+        self.reader.leave();
+        if !self.is_served {
+            self.has_left = true;
+            return Err(why);
+        }
+        let outcome = self.reader.read(buf);
+        self.has_left = matches!(outcome, Ok(0));
+        outcome
+    }
+}
+
 /// The writer of a connection, which records whether a write failed.
 #[derive(Drop)]
-pub(crate) struct Outgoing<'a> {
-    stream: &'a UnixStream,
+pub(crate) struct Outgoing<W> {
+    writer: W,
     has_failed: bool,
 }
 
-impl<'a> Outgoing<'a> {
+impl<W: Write> Outgoing<W> {
     /// Returns the writer of a connection.
-    pub(crate) fn new(stream: &'a UnixStream) -> Outgoing<'a> {
+    pub(crate) fn new(writer: W) -> Outgoing<W>
+        ensures { result.writer ≡ writer }
+    {
         Outgoing {
-            stream,
+            writer,
             has_failed: false,
         }
     }
 }
 
-impl Write for Outgoing<'_> {
+impl<W: Write> Write for Outgoing<W> {
+    ghost contents = { λ outgoing. W.contents outgoing.writer };
+
     fn write(&mut self, buf: &[u8]) -> io::Result<usize> {
-        let mut stream = self.stream;
-        let outcome = stream.write(buf);
+        let outcome = self.writer.write(buf);
         self.has_failed |= outcome.is_err();
         outcome
     }
 
     fn flush(&mut self) -> io::Result<()> {
-        Ok(())
-    }
-}
-
-impl Read for Leaver<'_> {
-    fn read(&mut self, buf: &mut [u8]) -> io::Result<usize> {
-        let mut stream = self.stream;
-        match stream.read(buf) {
-            Err(why) if why.kind() == ErrorKind::WouldBlock && !self.is_leaving => self.leave(),
-            outcome => {
-                self.is_served |= outcome.is_ok();
-                return outcome;
-            }
-        }
-        let outcome = if self.is_served {
-            stream.read(buf)
-        } else {
-            Ok(0)
-        };
-        self.has_left = matches!(outcome, Ok(0));
-        outcome
+        self.writer.flush()
     }
 }

@@ -8,6 +8,7 @@ mod commands;
 mod connection;
 mod input;
 mod leaver;
+mod place;
 mod plain;
 mod room;
 mod serving;
@@ -19,6 +20,7 @@ use asked::{Asked, no_text, read_words};
 use clap::Error;
 use clap::error::ErrorKind;
 use connection::run_as;
+use place::Socket;
 use serving::serve_at;
 use std::fs::File;
 use std::os::fd::{AsRawFd, RawFd};
@@ -72,7 +74,11 @@ fn main(rt: HostRuntime) -> ExitCode {
             },
         ) => {
             let cred = credentials(&rt, &who);
-            run_as(&rt, &mut rt.stdin(), path, &Command { cred, task }, &how)
+            let command = Command { cred, task };
+            let mut stream = None;
+            let place = Socket::new(&rt, path, &mut stream);
+            let mut screen = io::writer(&rt);
+            run_as(&rt, &mut rt.stdin(), place, path, &command, &how, &mut screen)
         }
         Err(error) => tell(&rt, &error),
     }

@@ -1,17 +1,21 @@
 //! Clients that make several calls over one connection.
-ghost use Rattle.std.specs.Prelude.{◌≡◌};
+ghost use Rattle.std.specs.Prelude.{◌≡◌, ⊤, [], is_ok, List, Ok, Result};
+ghost use Rattle.sysv_clients.specs.declared.clearing.Refusal.{Refusal as ARefusal};
+ghost use Rattle.sysv_clients.specs.declared.fault.ClientFault.{ClientFault as AFault};
+ghost use Rattle.sysv_clients.specs.declared.sending.Unsent.{Unsent as AnUnsent};
+ghost use Rattle.sysv_clients.specs.declared.stream.Stop.{Stop as AStop};
+ghost use Rattle.sysvmsg.specs.Clients.{HasCleared, HasReceived, HasSent};
+ghost use Rattle.sysvmsg.specs.Ends.{SucceedsIf, SucceedsOnlyIf};
 ghost use Rattle.sysvmsg.specs.Several.{is_of_stream, receiving_of};
 
 use crate::FAULT;
 use crate::asked::How;
 use crate::connection::no_server;
 use crate::leaver::{Leaver, Outgoing};
+use crate::place::{Leave, Place};
 use crate::plain::{complain, report};
 use std::alloc::Global;
-use std::io;
 use std::io::{BufReader, BufWriter, Eprint, Read, Write};
-use std::net::Net;
-use std::os::unix::net::UnixStream;
 use std::process::ExitCode;
 use sysv_clients::{
     ClientFault, Receipt, Receiving, Refusal, Sending, Stop, Unsent, receive_all, remove_all,
@@ -49,21 +53,42 @@ pub(crate) fn receiving(cred: Cred, receipt: Receipt, how: &How) -> Receiving
 
 /// Connects to the server at `path` and receives messages there, each of which is waited for no
 /// longer than this number of seconds, if there is one. Faults are reported on standard error.
-pub(crate) fn receive_at(
-    rt: &(impl Net + Print + Eprint + AllocGlobal),
+pub(crate) fn receive_at<P: Place, S: Write>(
+    rt: &(impl Eprint + AllocGlobal),
+    place: P,
     path: &str,
     receiving: &Receiving,
     wait: Option<u32>,
-) -> ExitCode {
-    let stream = match UnixStream::connect(rt, path) {
-        Ok(stream) => stream,
+    screen: &mut S,
+) -> ExitCode
+    ensures { SucceedsOnlyIf (HasReceived receiving.now (Ok tt) (P.incoming place)
+        (P.outgoing place) (S.contents screen.old) (S.contents screen.new)) result }
+{
+    let (reader, writer) = match place.connect() {
+        Ok(ends) => ends,
         Err(why) => {
             complain(rt, path, &why, "");
             report(rt, "sysvmsg: no server\n");
             return ExitCode::from(FAULT);
         }
     };
-    match receive_over(rt.alloc(), &stream, receiving, wait, &mut io::writer(rt)) {
+    receive_on(rt, reader, writer, receiving, wait, screen)
+}
+
+/// Receives messages over a connection like `receive_at`.
+fn receive_on<R: Leave + Drop, W: Write + Drop, S: Write>(
+    rt: &(impl Eprint + AllocGlobal),
+    reader: R,
+    writer: W,
+    receiving: &Receiving,
+    wait: Option<u32>,
+    screen: &mut S,
+) -> ExitCode
+    ensures { (ended : Result ⊤ AStop) × HasReceived receiving.now ended
+        (R.remaining reader) (W.contents writer) (S.contents screen.old) (S.contents screen.new)
+        × SucceedsIf (ended ≡ Ok tt) result }
+{
+    match receive_over(rt.alloc(), reader, writer, receiving, wait, screen) {
         Ok(()) => ExitCode::SUCCESS,
         Err(stop) => {
             report(rt, stop.line());
@@ -72,26 +97,22 @@ pub(crate) fn receive_at(
     }
 }
 
-/// Receives messages over a connection, with one write per request. A receive that is left after
-/// this number of seconds fails with ENOMSG.
-fn receive_over<S: Write>(
+/// Receives messages over a connection. A receive that is left after this number of seconds fails
+/// with ENOMSG.
+fn receive_over<R: Leave + Drop, W: Write + Drop, S: Write>(
     alloc: Global,
-    stream: &UnixStream,
+    reader: R,
+    writer: W,
     receiving: &Receiving,
     wait: Option<u32>,
     screen: &mut S,
-) -> Result<(), Stop> {
-    let (mut leaver, mut outgoing) = (Leaver::new(stream, wait), Outgoing::new(stream));
-    let outcome = match (
-        BufReader::new(alloc, &mut leaver),
-        BufWriter::new(alloc, &mut outgoing),
-    ) {
-        (Ok(mut reader), Ok(mut writer)) => {
-            receive_all(alloc, receiving, &mut reader, &mut writer, screen)
-        }
-        _ => Err(Stop::Fault(NO_MEMORY)),
-    };
-    match outcome {
+) -> Result<(), Stop>
+    ensures { (ended : Result ⊤ AStop) × HasReceived receiving.now ended
+        (R.remaining reader) (W.contents writer) (S.contents screen.old) (S.contents screen.new)
+        × (is_ok result ≡ is_ok ended) }
+{
+    let (mut leaver, mut outgoing) = (Leaver::new(reader, wait), Outgoing::new(writer));
+    match receive_through(alloc, &mut leaver, &mut outgoing, receiving, screen) {
         Err(Stop::Fault(ClientFault::NoReply)) if leaver.is_over(&outgoing) => {
             Err(Stop::Fault(ClientFault::Refused(Errno::ENOMSG)))
         }
@@ -99,21 +120,59 @@ fn receive_over<S: Write>(
     }
 }
 
+/// Receives messages through buffers, so that a request is one write.
+fn receive_through<R: Read + Drop, W: Write + Drop, S: Write>(
+    alloc: Global,
+    reader: R,
+    writer: W,
+    receiving: &Receiving,
+    screen: &mut S,
+) -> Result<(), Stop>
+    ensures { HasReceived receiving.now result (R.remaining reader) (W.contents writer)
+        (S.contents screen.old) (S.contents screen.new) }
+{
+    match (BufReader::new(alloc, reader), BufWriter::new(alloc, writer)) {
+        (Ok(mut reader), Ok(mut writer)) => {
+            receive_all(alloc, receiving, &mut reader, &mut writer, screen)
+        }
+        _ => Err(Stop::Fault(NO_MEMORY)),
+    }
+}
+
 /// Connects to the server at `path` and sends each line of `input` there. Each send waits no longer
 /// than this number of seconds, if there is one. If the input cannot be read, the reason is reported
 /// on standard error.
-pub(crate) fn send_at<I: Read>(
-    rt: &(impl Net + Print + Eprint + AllocGlobal),
+pub(crate) fn send_at<I: Read, P: Place>(
+    rt: &(impl Print + Eprint + AllocGlobal),
     input: &mut I,
+    place: P,
     path: &str,
     sending: &Sending,
     wait: Option<u32>,
-) -> ExitCode {
-    let stream = match UnixStream::connect(rt, path) {
-        Ok(stream) => stream,
-        Err(why) => return no_server(rt, path, &why),
-    };
-    let unsent = match send_over(rt.alloc(), input, &stream, sending, wait) {
+) -> ExitCode
+    ensures { SucceedsOnlyIf (HasSent sending.now (Ok tt) (P.incoming place)
+        (P.outgoing place) (I.remaining input.old)) result }
+{
+    match place.connect() {
+        Ok((reader, writer)) => send_on(rt, input, reader, writer, sending, wait),
+        Err(why) => no_server(rt, path, &why),
+    }
+}
+
+/// Sends lines over a connection like `send_at`.
+fn send_on<I: Read, R: Leave + Drop, W: Write + Drop>(
+    rt: &(impl Print + Eprint + AllocGlobal),
+    input: &mut I,
+    reader: R,
+    writer: W,
+    sending: &Sending,
+    wait: Option<u32>,
+) -> ExitCode
+    ensures { (ended : Result ⊤ AnUnsent) × HasSent sending.now ended
+        (R.remaining reader) (W.contents writer) (I.remaining input.old)
+        × SucceedsIf (ended ≡ Ok tt) result }
+{
+    let unsent = match send_over(rt.alloc(), input, reader, writer, sending, wait) {
         Ok(()) => return ExitCode::SUCCESS,
         Err(unsent) => unsent,
     };
@@ -124,27 +183,22 @@ pub(crate) fn send_at<I: Read>(
     ExitCode::from(FAULT)
 }
 
-/// Sends lines over a connection, with one write per request. A send that is left after this number
-/// of seconds fails with EAGAIN.
-fn send_over<I: Read>(
+/// Sends lines over a connection. A send that is left after this number of seconds fails with
+/// EAGAIN.
+fn send_over<I: Read, R: Leave + Drop, W: Write + Drop>(
     alloc: Global,
     input: &mut I,
-    stream: &UnixStream,
+    reader: R,
+    writer: W,
     sending: &Sending,
     wait: Option<u32>,
-) -> Result<(), Unsent> {
-    let (mut leaver, mut outgoing) = (Leaver::new(stream, wait), Outgoing::new(stream));
-    let outcome = match (
-        BufReader::new(alloc, input),
-        BufReader::new(alloc, &mut leaver),
-        BufWriter::new(alloc, &mut outgoing),
-    ) {
-        (Ok(mut lines), Ok(mut reader), Ok(mut writer)) => {
-            send_lines(alloc, sending, &mut lines, &mut reader, &mut writer)
-        }
-        _ => Err(Unsent::Fault(NO_MEMORY)),
-    };
-    match outcome {
+) -> Result<(), Unsent>
+    ensures { (ended : Result ⊤ AnUnsent) × HasSent sending.now ended
+        (R.remaining reader) (W.contents writer) (I.remaining input.old)
+        × (is_ok result ≡ is_ok ended) }
+{
+    let (mut leaver, mut outgoing) = (Leaver::new(reader, wait), Outgoing::new(writer));
+    match send_through(alloc, input, &mut leaver, &mut outgoing, sending) {
         Err(Unsent::Fault(ClientFault::NoReply)) if leaver.is_over(&outgoing) => {
             Err(Unsent::Fault(ClientFault::Refused(Errno::EAGAIN)))
         }
@@ -152,19 +206,59 @@ fn send_over<I: Read>(
     }
 }
 
+/// Sends lines through buffers, so that a request is one write.
+fn send_through<I: Read, R: Read + Drop, W: Write + Drop>(
+    alloc: Global,
+    input: &mut I,
+    reader: R,
+    writer: W,
+    sending: &Sending,
+) -> Result<(), Unsent>
+    ensures { HasSent sending.now result (R.remaining reader) (W.contents writer)
+        (I.remaining input.old) }
+{
+    let Ok(mut lines) = BufReader::new(alloc, input) else {
+        return Err(Unsent::Fault(NO_MEMORY));
+    };
+    let (Ok(mut reader), Ok(mut writer)) = (
+        BufReader::new(alloc, reader),
+        BufWriter::new(alloc, writer),
+    ) else {
+        return Err(Unsent::Fault(NO_MEMORY));
+    };
+    send_lines(alloc, sending, &mut lines, &mut reader, &mut writer)
+}
+
 /// Connects to the server at `path` and removes all queues there that the caller may remove. Each
 /// other queue is named on standard error, and the status is that of a fault then.
-pub(crate) fn remove_at(
-    rt: &(impl Net + Print + Eprint + AllocGlobal),
+pub(crate) fn remove_at<P: Place>(
+    rt: &(impl Print + Eprint + AllocGlobal),
+    place: P,
     path: &str,
     cred: Cred,
-) -> ExitCode {
-    let stream = match UnixStream::connect(rt, path) {
-        Ok(stream) => stream,
-        Err(why) => return no_server(rt, path, &why),
-    };
+) -> ExitCode
+    ensures { SucceedsOnlyIf (HasCleared cred (Ok tt) (P.incoming place)
+        (P.outgoing place) [] []) result }
+{
+    match place.connect() {
+        Ok((reader, writer)) => remove_on(rt, reader, writer, cred),
+        Err(why) => no_server(rt, path, &why),
+    }
+}
+
+/// Removes queues over a connection like `remove_at`.
+fn remove_on<R: Read + Drop, W: Write + Drop>(
+    rt: &(impl Print + Eprint + AllocGlobal),
+    reader: R,
+    writer: W,
+    cred: Cred,
+) -> ExitCode
+    ensures { (ended : Result ⊤ AFault) × (refusals : List ARefusal)
+        × HasCleared cred ended (R.remaining reader) (W.contents writer) [] refusals
+        × SucceedsIf ((ended ≡ Ok tt) × (refusals ≡ [])) result }
+{
     let mut refusals = Vec::new(rt.alloc());
-    let outcome = remove_over(rt.alloc(), &stream, cred, &mut refusals);
+    let outcome = remove_through(rt.alloc(), reader, writer, cred, &mut refusals);
     for Refusal { id, error } in &refusals {
         let _ = eprintln!(rt; "sysvmsg: queue {id}: {error}");
     }
@@ -178,14 +272,18 @@ pub(crate) fn remove_at(
     ExitCode::from(FAULT)
 }
 
-/// Removes queues over a connection, with one write per request.
-fn remove_over(
+/// Removes queues through buffers, so that a request is one write.
+fn remove_through<R: Read + Drop, W: Write + Drop>(
     alloc: Global,
-    stream: &UnixStream,
+    reader: R,
+    writer: W,
     cred: Cred,
     refusals: &mut Vec<Refusal>,
-) -> Result<(), ClientFault> {
-    match (BufReader::new(alloc, stream), BufWriter::new(alloc, stream)) {
+) -> Result<(), ClientFault>
+    ensures { HasCleared cred result (R.remaining reader) (W.contents writer)
+        refusals.old.items refusals.new.items }
+{
+    match (BufReader::new(alloc, reader), BufWriter::new(alloc, writer)) {
         (Ok(mut reader), Ok(mut writer)) => {
             remove_all(alloc, cred, &mut reader, &mut writer, refusals)
         }
