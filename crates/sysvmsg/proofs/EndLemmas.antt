@@ -1,15 +1,20 @@
 -- A buffer in front of a stream, and how a client's outcome becomes that of the program.
 use Rattle.std.proofs.Common.{◌≡◌, ◌∙◌, ℕ, List, [], ◌++◌, Option, None, Some, ap, refl, subst, append-nil}
-use Rattle.std.proofs.Common.{ℤ, pos, inl, inr}
+use Rattle.std.proofs.Common.{◌<◌, ◌≤◌, ℤ, pos, inl, inr, length, sym}
+use Rattle.std.specs.Borrow.{Bor}
 use Rattle.std.proofs.Common.{◌==◌, if◌then◌else◌}
 use Rattle.std.specs.declared.io.BufReader.{BufReader}
 use Rattle.std.specs.declared.io.BufWriter.{BufWriter}
 use Rattle.std.specs.Io.Buffered.{reader_buffer, reader_capacity, reader_inner, reader_remaining}
 use Rattle.std.specs.Io.Buffered.{writer_buffer, writer_contents, writer_inner}
-use Rattle.std.specs.Io.KnownBytes.{Appends, append_known, prepend_known}
+use Rattle.std.specs.Io.KnownBytes.{Appends, Consumes, IsAtEnd, append_known, prepend_known}
 use Rattle.sysv_clients.specs.declared.command.Command.{Command}
+use Rattle.sysv_clients.specs.declared.command.Task.{Task}
 use Rattle.sysv_clients.specs.Run.{Shows}
-use Rattle.sysvmsg.specs.Clients.{HasRun}
+use Rattle.sysv_model.specs.declared.cred.Cred.{Cred}
+use Rattle.sysv_model.specs.declared.limits.TheConstants.{BODY_ROOM}
+use Rattle.sysvmsg.specs.Bodies.{with_text}
+use Rattle.sysvmsg.specs.Clients.{HasRun, HasRunFrom, IsBodyOf}
 
 prepend_nothing : (known : Option (List ℕ)) → prepend_known [] known ≡ known
 prepend_nothing None = refl
@@ -58,14 +63,36 @@ pub shown_again : (command : Command) (left same taken shown after : Option (Lis
     → HasRun command (pos 0) same taken shown after
 shown_again command left same taken shown after before page text is empty whole_page ran appends =
     let clean = subst (λ bytes. HasRun command (pos 0) left taken (Some bytes) (Some page)) empty ran in
-    subst (λ bytes. HasRun command (pos 0) bytes taken shown after) is
-    (clean.0, clean.1, record {
-      exchanges = clean.2.exchanges;
-      ended = clean.2.ended;
-      talks = clean.2.talks;
-      shows = again clean.2.shows;
-    })
+    subst (λ bytes. HasRun command (pos 0) bytes taken shown after) is (
+      clean.0,
+      clean.1,
+      record {
+        exchanges = clean.2.exchanges;
+        ended = clean.2.ended;
+        talks = clean.2.talks;
+        shows = again clean.2.shows;
+      },
+    )
   where
     again : {due : ℤ} {text : List ℕ} → Shows (pos 0) due text (Some []) (Some page) → Shows (pos 0) due text shown after
     again (inl whole) = inl (whole.0, subst (λ bytes. Appends shown after bytes) (whole_page ∙ whole.1) appends)
     again (inr failed) = cc
+
+-- A client ran a task with a body from an input.
+pub ran_from : (cred : Cred) (task : Task) (command : Command) (body : Bor (List ℕ)) (items : List ℕ)
+    (size : ℕ) (left taken fed unfed shown after : Option (List ℕ)) → command.cred ≡ cred → command.task ≡ with_text task body
+    → body.now ≡ items → size ≡ length items → Consumes fed unfed items → size ≤ BODY_ROOM
+    → (size < BODY_ROOM → IsAtEnd unfed) → HasRun command (pos 0) left taken shown after
+    → HasRunFrom cred task left taken fed shown after
+ran_from cred task command body items size left taken fed unfed shown after is_cred is_task is_body long bytes few whole
+    ran = (
+      body,
+      subst (λ l. IsBodyOf l fed) (sym is_body) (
+        unfed,
+        bytes,
+        subst (λ n. n ≤ BODY_ROOM) long few,
+        subst (λ n. n < BODY_ROOM → IsAtEnd unfed) long whole,
+      ),
+      subst (λ t. HasRun (record { cred = cred; task = t }) (pos 0) left taken shown after) is_task
+          (subst (λ c. HasRun (record { cred = c; task = command.task }) (pos 0) left taken shown after) is_cred ran),
+    )

@@ -5,9 +5,7 @@ use Rattle.std.specs.Borrow.{Bor}
 use Rattle.std.specs.Io.KnownBytes.{Consumes, IsAtEnd}
 use Rattle.sysv_clients.specs.declared.clearing.Refusal.{Refusal}
 use Rattle.sysv_clients.specs.declared.command.Command.{Command}
-use Rattle.sysv_clients.specs.declared.command.Target.TheVariants.{Id, Key, All}
 use Rattle.sysv_clients.specs.declared.command.Task.{Task}
-use Rattle.sysv_clients.specs.declared.command.Task.TheVariants.{List as Table, Show, Remove, Make, Send, Receive}
 use Rattle.sysv_clients.specs.declared.fault.ClientFault.{ClientFault}
 use Rattle.sysv_clients.specs.declared.sending.Sending.{Sending}
 use Rattle.sysv_clients.specs.declared.sending.Unsent.{Unsent}
@@ -21,7 +19,8 @@ use Rattle.sysv_model.specs.declared.cred.Cred.{Cred}
 use Rattle.sysv_model.specs.declared.limits.TheConstants.{BODY_ROOM}
 use Rattle.sysvmsg.specs.declared.asked.How.{How}
 use Rattle.sysvmsg.specs.Bodies.{with_text}
-use Rattle.sysvmsg.specs.Several.{is_of_stream, receiving_of}
+use Rattle.sysvmsg.specs.declared.several.Way.{Way}
+use Rattle.sysvmsg.specs.declared.several.Way.TheVariants.{Stream, Lines, Clear, Once}
 
 -- A client ran this command and ended with this status.
 abbrev pub HasRun : Command → ℤ → (left taken shown after : Option (List ℕ)) → Type 0
@@ -66,20 +65,10 @@ IsRun cred task how left taken fed shown after = ByFlag how.from_input
     (HasRunFrom cred task left taken fed shown after)
     (HasRun (record { cred = cred; task = task }) (pos 0) left taken shown after)
 
--- The task was done as the options state: a `rcv` as a stream, an `ipcrm` of all queues, a `snd` of
--- lines, or else by a client that runs one command.
-abbrev pub IsDone : Cred → Task → How → (left taken fed shown after : Option (List ℕ)) → Type 0
-IsDone cred (Receive receipt) how left taken fed shown after = ByFlag (is_of_stream receipt how)
-    (HasReceived (receiving_of cred receipt how) (Ok tt) left taken shown after)
-    (IsRun cred (Receive receipt) how left taken fed shown after)
-IsDone cred (Send key text mtype nowait) how left taken fed shown after = ByFlag how.lines
-    (HasSent (record { cred = cred; key = key; mtype = mtype; nowait = nowait }) (Ok tt) left taken fed)
-    (IsRun cred (Send key text mtype nowait) how left taken fed shown after)
-IsDone cred (Remove All) how left taken fed shown after = HasCleared cred (Ok tt) left taken [] []
-IsDone cred (Remove (Id id)) how left taken fed shown after =
-    IsRun cred (Remove (Id id)) how left taken fed shown after
-IsDone cred (Remove (Key key)) how left taken fed shown after =
-    IsRun cred (Remove (Key key)) how left taken fed shown after
-IsDone cred (Table format) how left taken fed shown after = IsRun cred (Table format) how left taken fed shown after
-IsDone cred (Show id) how left taken fed shown after = IsRun cred (Show id) how left taken fed shown after
-IsDone cred (Make making) how left taken fed shown after = IsRun cred (Make making) how left taken fed shown after
+-- A command was done in this way.
+abbrev pub IsDone : Way → Cred → Task → How → (left taken fed shown after : Option (List ℕ)) → Type 0
+IsDone (Stream receiving) cred task how left taken fed shown after =
+    HasReceived receiving (Ok tt) left taken shown after
+IsDone (Lines sending) cred task how left taken fed shown after = HasSent sending (Ok tt) left taken fed
+IsDone Clear cred task how left taken fed shown after = HasCleared cred (Ok tt) left taken [] []
+IsDone Once cred task how left taken fed shown after = IsRun cred task how left taken fed shown after

@@ -1,9 +1,14 @@
--- A rcv of several messages (this project's programs), by its options.
-use Rattle.std.specs.Prelude.{ℕ, ◌-◌, ◌^◌, Bool, true, false, Option, None, Some, is_some, ◌||◌}
+-- Commands that make several calls over one connection (this project's programs), by their options.
+use Rattle.std.specs.Prelude.{ℕ, ◌-◌, ◌^◌, Bool, true, false, Option, None, Some, is_some, ◌||◌, if◌then◌else◌}
 use Rattle.sysv_clients.specs.declared.command.Receipt.{Receipt}
+use Rattle.sysv_clients.specs.declared.command.Target.TheVariants.{Id, Key, All}
+use Rattle.sysv_clients.specs.declared.command.Task.{Task}
+use Rattle.sysv_clients.specs.declared.command.Task.TheVariants.{List as Table, Show, Remove, Make, Send, Receive}
 use Rattle.sysv_clients.specs.declared.stream.Receiving.{Receiving}
 use Rattle.sysv_model.specs.declared.cred.Cred.{Cred}
 use Rattle.sysvmsg.specs.declared.asked.How.{How}
+use Rattle.sysvmsg.specs.declared.several.Way.{Way}
+use Rattle.sysvmsg.specs.declared.several.Way.TheVariants.{Stream, Lines, Clear, Once}
 
 -- The number of messages by the number that is stated, if one is, and whether all are wanted.
 abbrev pub count_by : Option ℕ → Bool → ℕ
@@ -19,3 +24,16 @@ receiving_of cred receipt how =
 -- A rcv with these options shows its messages as a stream.
 abbrev pub is_of_stream : Receipt → How → Bool
 is_of_stream receipt how = how.follow || (is_some how.count || (receipt.raw || receipt.show_type))
+
+-- How a task with these options is done.
+abbrev pub way_by : Cred → Task → How → Way
+way_by cred (Receive receipt) how =
+    if is_of_stream receipt how then Stream (receiving_of cred receipt how) else Once
+way_by cred (Send key text mtype nowait) how =
+    if how.lines then Lines (record { cred = cred; key = key; mtype = mtype; nowait = nowait }) else Once
+way_by cred (Remove All) how = Clear
+way_by cred (Remove (Id id)) how = Once
+way_by cred (Remove (Key key)) how = Once
+way_by cred (Table format) how = Once
+way_by cred (Show id) how = Once
+way_by cred (Make making) how = Once

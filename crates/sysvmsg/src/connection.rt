@@ -4,6 +4,7 @@ ghost use Rattle.std.specs.Io.KnownBytes.{Appends};
 ghost use Rattle.sysv_clients.specs.Run.{HasShortText};
 ghost use Rattle.sysvmsg.specs.Bodies.{with_text};
 ghost use Rattle.sysvmsg.specs.Clients.{HasRun, HasRunFrom, IsDone, IsRun};
+ghost use Rattle.sysvmsg.specs.Several.{way_by};
 ghost use Rattle.sysvmsg.specs.Ends.{Succeeds, SucceedsIf, SucceedsOnlyIf};
 
 use crate::asked::How;
@@ -11,13 +12,13 @@ use crate::input::{Unread, read_body};
 use crate::leaver::Leaver;
 use crate::place::{Leave, Place};
 use crate::plain::complain;
-use crate::several::{is_stream, receive_at, receiving, remove_at, send_at};
+use crate::several::{Way, receive_at, remove_at, send_at, way_of};
 use crate::{FAULT, say};
 use std::alloc::Global;
 use std::io;
 use std::io::{BufReader, BufWriter, Eprint, Read, Write};
 use std::process::ExitCode;
-use sysv_clients::{ClientFault, Command, Sending, Target, Task, run_client};
+use sysv_clients::{ClientFault, Command, Task, run_client};
 use sysv_model::{BODY_ROOM, Errno};
 
 /// More bytes than a client shows of one message.
@@ -38,31 +39,16 @@ pub(crate) fn run_as<I: Read, P: Place, S: Write>(
     screen: &mut S,
 ) -> ExitCode
     requires { HasShortText command.now.task }
-    ensures { SucceedsOnlyIf (IsDone command.now.cred command.now.task how.now
+    ensures { SucceedsOnlyIf (IsDone (way_by command.now.cred command.now.task how.now)
+        command.now.cred command.now.task how.now
         (P.incoming place) (P.outgoing place) (I.remaining input.old)
         (S.contents screen.old) (S.contents screen.new)) result }
 {
-    let cred = command.cred;
-    match command.task {
-        Task::Receive(receipt) if is_stream(&receipt, how) => {
-            receive_at(rt, place, path, &receiving(cred, receipt, how), how.wait, screen)
-        }
-        Task::Remove(Target::All) => remove_at(rt, place, path, cred),
-        Task::Send {
-            key,
-            mtype,
-            nowait,
-            ..
-        } if how.lines => {
-            let sending = Sending {
-                cred,
-                key,
-                mtype,
-                nowait,
-            };
-            send_at(rt, input, place, path, &sending, how.wait)
-        }
-        _ => run_one(rt, input, place, path, command, how, screen),
+    match way_of(command.cred, &command.task, how) {
+        Way::Stream(receiving) => receive_at(rt, place, path, &receiving, how.wait, screen),
+        Way::Lines(sending) => send_at(rt, input, place, path, &sending, how.wait),
+        Way::Clear => remove_at(rt, place, path, command.cred),
+        Way::Once => run_one(rt, input, place, path, command, how, screen),
     }
 }
 
@@ -211,12 +197,7 @@ fn run_within<R: Leave + Drop, W: Write + Drop, S: Write>(
 
 /// Returns what is shown of a command that ended with this status: the page, or the line of an error
 /// if the call was left.
-fn text_within<'a>(
-    command: &Command<'_>,
-    status: i32,
-    page: &'a [u8],
-    has_left: bool,
-) -> &'a [u8]
+fn text_within<'a>(command: &Command<'_>, status: i32, page: &'a [u8], has_left: bool) -> &'a [u8]
     ensures { status ≡ pos 0 → result.now ≡ page.now }
 {
     if status == 0 || !has_left {

@@ -78,7 +78,15 @@ fn main(rt: HostRuntime) -> ExitCode {
             let mut stream = None;
             let place = Socket::new(&rt, path, &mut stream);
             let mut screen = io::writer(&rt);
-            run_as(&rt, &mut rt.stdin(), place, path, &command, &how, &mut screen)
+            run_as(
+                &rt,
+                &mut rt.stdin(),
+                place,
+                path,
+                &command,
+                &how,
+                &mut screen,
+            )
         }
         Err(error) => tell(&rt, &error),
     }

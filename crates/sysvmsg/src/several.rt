@@ -6,7 +6,7 @@ ghost use Rattle.sysv_clients.specs.declared.sending.Unsent.{Unsent as AnUnsent}
 ghost use Rattle.sysv_clients.specs.declared.stream.Stop.{Stop as AStop};
 ghost use Rattle.sysvmsg.specs.Clients.{HasCleared, HasReceived, HasSent};
 ghost use Rattle.sysvmsg.specs.Ends.{SucceedsIf, SucceedsOnlyIf};
-ghost use Rattle.sysvmsg.specs.Several.{is_of_stream, receiving_of};
+ghost use Rattle.sysvmsg.specs.Several.{is_of_stream, receiving_of, way_by};
 
 use crate::FAULT;
 use crate::asked::How;
@@ -18,17 +18,54 @@ use std::alloc::Global;
 use std::io::{BufReader, BufWriter, Eprint, Read, Write};
 use std::process::ExitCode;
 use sysv_clients::{
-    ClientFault, Receipt, Receiving, Refusal, Sending, Stop, Unsent, receive_all, remove_all,
-    send_lines,
+    ClientFault, Receipt, Receiving, Refusal, Sending, Stop, Target, Task, Unsent, receive_all,
+    remove_all, send_lines,
 };
 use sysv_model::{Cred, Errno};
 
 /// No memory for what a connection needs.
 const NO_MEMORY: ClientFault = ClientFault::NoMemory;
 
+/// How a command is done.
+#[derive(Clone, Copy, PartialEq, Eq, Debug)]
+pub(crate) enum Way {
+    /// By a client that receives messages and shows them as a stream.
+    Stream(Receiving),
+    /// By a client that sends each line of an input as a message.
+    Lines(Sending),
+    /// By a client that removes all queues.
+    Clear,
+    /// By a client that runs this one command.
+    Once,
+}
+
+/// Returns how a task with these options is done.
+pub(crate) fn way_of(cred: Cred, task: &Task<'_>, how: &How) -> Way
+    ensures { result ≡ way_by cred task.now how.now }
+{
+    match *task {
+        Task::Receive(receipt) if is_stream(&receipt, how) => {
+            Way::Stream(receiving(cred, receipt, how))
+        }
+        Task::Send {
+            key,
+            mtype,
+            nowait,
+            ..
+        } if how.lines => Way::Lines(Sending {
+            cred,
+            key,
+            mtype,
+            nowait,
+        }),
+        Task::Remove(Target::All) => Way::Clear,
+        _ => Way::Once,
+    }
+}
+
 /// Returns whether a `rcv` shows its messages as a stream. Standard output then has only messages,
 /// and faults are reported on standard error.
-pub(crate) fn is_stream(receipt: &Receipt, how: &How) -> bool
+fn is_stream(receipt: &Receipt, how: &How) -> bool
     ensures { result ≡ is_of_stream receipt.now how.now }
 {
     how.follow || how.count.is_some() || receipt.raw || receipt.show_type
@@ -36,7 +73,7 @@ pub(crate) fn is_stream(receipt: &Receipt, how: &How) -> bool
 
 /// Returns the receives of a `rcv` with these options: as many as `--count` states, or all with
 /// `--follow`, or one.
-pub(crate) fn receiving(cred: Cred, receipt: Receipt, how: &How) -> Receiving
+fn receiving(cred: Cred, receipt: Receipt, how: &How) -> Receiving
     ensures { result ≡ receiving_of cred receipt how.now }
 {
     let count = match how.count {

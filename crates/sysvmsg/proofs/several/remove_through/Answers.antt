@@ -6,11 +6,11 @@ use Rattle.sysvmsg.proofs.several.remove_through.Goals as goal
 pub returns-in-Ok-Ok : goal.returns-in-Ok-Ok
 returns-in-Ok-Ok g c =
     let reads = new_reader g.R.Read.remaining c.in-Ok-Ok.reader c.args.reader c.in-Ok-Ok.ensures.inner
-        c.in-Ok-Ok.ensures.empty c.in-Ok-Ok.ensures.capacity in
+    c.in-Ok-Ok.ensures.empty c.in-Ok-Ok.ensures.capacity in
     let writes = new_writer g.W.Write.contents c.in-Ok-Ok.writer c.args.writer c.in-Ok-Ok.ensures'.inner
-        c.in-Ok-Ok.ensures'.empty in
+    c.in-Ok-Ok.ensures'.empty in
     at_both (λ left taken. HasCleared c.args.cred c.remove_all.result left taken c.args.refusals.now.items
-        c.remove_all.new.refusals.items) _ _ _ _ reads writes (_, _, c.remove_all.ensures)
+    c.remove_all.new.refusals.items) _ _ _ _ reads writes (_, _, c.remove_all.ensures)
 
 pub returns-in_default : goal.returns-in_default
 returns-in_default g c = (_, _, refused _ _ _ _)
