@@ -74,14 +74,16 @@ shown_again command left same taken shown after before page text is empty whole_
       },
     )
   where
-    again : {due : ℤ} {text : List ℕ} → Shows (pos 0) due text (Some []) (Some page) → Shows (pos 0) due text shown after
+    again : {due : ℤ} {text : List ℕ} → Shows (pos 0) due text (Some []) (Some page)
+        → Shows (pos 0) due text shown after
     again (inl whole) = inl (whole.0, subst (λ bytes. Appends shown after bytes) (whole_page ∙ whole.1) appends)
     again (inr failed) = cc
 
 -- A client ran a task with a body from an input.
 pub ran_from : (cred : Cred) (task : Task) (command : Command) (body : Bor (List ℕ)) (items : List ℕ)
-    (size : ℕ) (left taken fed unfed shown after : Option (List ℕ)) → command.cred ≡ cred → command.task ≡ with_text task body
-    → body.now ≡ items → size ≡ length items → Consumes fed unfed items → size ≤ BODY_ROOM
+    (size : ℕ) (left taken fed unfed shown after : Option (List ℕ))
+    → command.cred ≡ cred → command.task ≡ with_text task body → body.now ≡ items → size ≡ length items
+    → Consumes fed unfed items → size ≤ BODY_ROOM
     → (size < BODY_ROOM → IsAtEnd unfed) → HasRun command (pos 0) left taken shown after
     → HasRunFrom cred task left taken fed shown after
 ran_from cred task command body items size left taken fed unfed shown after is_cred is_task is_body long bytes few whole
