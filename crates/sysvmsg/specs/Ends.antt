@@ -1,10 +1,12 @@
--- How the program ends: its exit status, and the line with the sums of a server (this project's
--- programs).
-use Rattle.std.specs.Prelude.{◌≡◌, ◌↔◌, ℕ, List, [], ◌∷◌, ◌++◌, codes, Option}
+-- How the program ends: its exit status, and how a server ends (this project's programs).
+use Rattle.std.specs.Prelude.{◌≡◌, ◌↔◌, ⊤, ℕ, Bool, List, [], ◌∷◌, ◌++◌, codes, Option, None, Some}
 use Rattle.std.specs.Fmt.{decimal}
 use Rattle.std.specs.Io.KnownBytes.{Appends}
 use Rattle.std.specs.Process.{exit_status}
 use Rattle.std.specs.declared.process.ExitCode.{ExitCode}
+use Rattle.sysv_server.specs.Serving.{HasReason}
+use Rattle.sysv_server.specs.declared.host.Reason.{Reason}
+use Rattle.sysv_server.specs.declared.host.Reason.TheVariants.{Full, InputOver, NoSocket, Accept}
 use Rattle.sysv_server.specs.declared.sums.Sums.{Sums}
 
 -- The program succeeds.
@@ -25,6 +27,21 @@ sums_line sums =
     codes "sessions " ++ decimal sums.sessions ++ codes " taken " ++ decimal sums.taken ++ codes " written "
     ++ decimal sums.written ++ codes " lost " ++ decimal sums.lost ++ 10 ∷ []
 
--- The program succeeds only if the line was printed whole, and nothing else was.
-abbrev pub SucceedsWithSums : Sums → (shown after : Option (List ℕ)) → ExitCode → Type 0
-SucceedsWithSums sums shown after exit = SucceedsOnlyIf (Appends shown after (sums_line sums)) exit
+-- A server accepted no more connections because it was to accept no more, if it gives this reason.
+abbrev pub IsMeantToEnd : Option Reason → Type 0
+IsMeantToEnd (Some Full) = ⊤
+IsMeantToEnd (Some InputOver) = ⊤
+IsMeantToEnd (Some (NoSocket why)) = ⊥
+IsMeantToEnd (Some (Accept why)) = ⊥
+IsMeantToEnd None = ⊤
+
+-- A server that accepted no more connections for this reason was to accept no more, and the line
+-- with its sums was printed whole, and nothing else was.
+abbrev pub HasServed : Sums → Option Reason → (shown after : Option (List ℕ)) → Type 0
+HasServed sums reason shown after = IsMeantToEnd reason × Appends shown after (sums_line sums)
+
+-- A server that may have an input, and that was to run this maximum number of sessions, 0 for no
+-- limit, served until the input was over or that number was reached, and its sums were printed.
+abbrev pub HasServedAll : Bool → (most : ℕ) → (shown after : Option (List ℕ)) → Type 0
+HasServedAll has_input most shown after = (sums : Sums) × (reason : Option Reason)
+    × HasReason has_input most sums.sessions reason × HasServed sums reason shown after

@@ -64,7 +64,7 @@ fn main(rt: HostRuntime) -> ExitCode {
                 }
             }
         }
-        Ok(Asked::Serve(serving)) => serve_at(&rt, rt.stdin(), &serving),
+        Ok(Asked::Serve(serving)) => serve_at(&rt, rt.stdin(), &serving, &mut io::writer(&rt)),
         Ok(
             Asked::Client {
                 path,

@@ -1,8 +1,9 @@
 //! The server.
 ghost use Rattle.std.specs.Prelude.{IfOk};
+ghost use Rattle.std.specs.Io.KnownBytes.{Appends};
 ghost use Rattle.sysv_server.specs.Serving.{HasReason};
 ghost use Rattle.sysvmsg.specs.Asked.{HasLimits};
-ghost use Rattle.sysvmsg.specs.Ends.{SucceedsWithSums};
+ghost use Rattle.sysvmsg.specs.Ends.{HasServed, HasServedAll, SucceedsOnlyIf, sums_line};
 
 use crate::asked::Serving;
 use crate::plain::complain;
@@ -73,12 +74,15 @@ impl<R: Files + Net + Eprint + AllocGlobal + Clone + Drop> Host for Reporter<'_,
 pub(crate) fn serve_at<
     I: Read + AsRawFd + Drop,
     R: Files + Net + Threads + Wait + Sync + Print + Eprint + AllocGlobal + Clone + Drop,
->(rt: &R, input: I, serving: &Serving<'_>) -> ExitCode
+    S: Write,
+>(rt: &R, input: I, serving: &Serving<'_>, screen: &mut S) -> ExitCode
     requires { HasLimits serving.now }
+    ensures { SucceedsOnlyIf (HasServedAll serving.now.until_eof serving.now.terms.sessions
+        (S.contents screen.old) (S.contents screen.new)) result }
 {
     let mut reason = None;
     match run_server(rt, input, serving, &mut reason) {
-        Ok(ended) => end(rt, &ended.sums, reason),
+        Ok(ended) => end(rt, &ended.sums, reason, screen),
         Err(fault) => {
             explain(rt, fault, &serving.terms);
             say(rt, "no memory")
@@ -102,7 +106,15 @@ fn run_server<
 
 /// Prints how a server ended that accepted no more connections for this reason. If an accept
 /// failed, that is reported on standard error.
-fn end<R: Print + Eprint + AllocGlobal>(rt: &R, sums: &Sums, reason: Option<Reason>) -> ExitCode {
+fn end<R: Print + Eprint + AllocGlobal, S: Write>(
+    rt: &R,
+    sums: &Sums,
+    reason: Option<Reason>,
+    screen: &mut S,
+) -> ExitCode
+    ensures { SucceedsOnlyIf (HasServed sums.now reason (S.contents screen.old)
+        (S.contents screen.new)) result }
+{
     match reason {
         Some(Reason::NoSocket(why)) if why.kind() == ErrorKind::OutOfMemory => {
             say(rt, "no memory")
@@ -110,10 +122,10 @@ fn end<R: Print + Eprint + AllocGlobal>(rt: &R, sums: &Sums, reason: Option<Reas
         Some(Reason::NoSocket(_)) => say(rt, "cannot bind"),
         Some(Reason::Accept(why)) => {
             complain(rt, "cannot accept", &why, "");
-            tell(&mut io::writer(rt), sums);
+            tell(screen, sums);
             ExitCode::from(FAULT)
         }
-        _ => tell(&mut io::writer(rt), sums),
+        Some(Reason::Full | Reason::InputOver) | None => tell(screen, sums),
     }
 }
 
@@ -137,7 +149,8 @@ fn explain(rt: &impl Eprint, fault: ServeFault, terms: &Terms) {
 
 /// Prints the sums.
 fn tell<S: Write>(screen: &mut S, sums: &Sums) -> ExitCode
-    ensures { SucceedsWithSums sums.now (S.contents screen.old) (S.contents screen.new) result }
+    ensures { SucceedsOnlyIf (Appends (S.contents screen.old) (S.contents screen.new)
+        (sums_line sums.now)) result }
 {
     let Sums {
         sessions,
