@@ -2,7 +2,7 @@
 ghost use Rattle.std.specs.Prelude.{◌≡◌, IfOk, IfErr, OnOk};
 ghost use Rattle.sysv_gate.specs.History.{Moves, IsAccepted};
 ghost use Rattle.sysv_gate.specs.Turns.{HasWorn};
-ghost use Rattle.sysv_gate.specs.Halls.{me_at};
+ghost use Rattle.sysv_gate.specs.Halls.{me_at, ReadsInOrder};
 ghost use Rattle.sysv_gate.specs.Doors.{IsDoorOf, IsAt, IsSame, EndsOrder, Idles, HasCalled, HasTried};
 
 use crate::door::Door;
@@ -14,7 +14,8 @@ use std::sync::Wait;
 
 impl<O: Object> Door<O> {
     /// Makes the call in a turn of the pass's own, like `Gate::call`. Afterwards the turn is the
-    /// last one in the order that the pass has seen.
+    /// last one in the order that the pass has seen, and the pass has read at most one more of any
+    /// count at any place than that count has after this order.
     ///
     /// # Errors
     ///
@@ -38,6 +39,8 @@ impl<O: Object> Door<O> {
         requires fits { IsAccepted (Moves O.meaning O.counted) O.accepts self.now.opening call }
         ensures same { IsSame self.now.place token.old token.new }
         ensures order { OnOk result (EndsOrder self.now.place token.old.me token.new.me) }
+        ensures reads { OnOk result (ReadsInOrder (Moves O.meaning O.counted) O.counted
+            token.new.me.0) }
         ensures ok { IfOk result (λ r. HasCalled (Moves O.meaning O.counted) O.counted
             self.now.opening (me_at self.now.place token.old.me) call r
             (me_at self.now.place token.new.me)) }
@@ -80,6 +83,8 @@ impl<O: Object> Door<O> {
         requires fits { IsAccepted (Moves O.meaning O.counted) O.accepts self.now.opening call }
         ensures same { IsSame self.now.place token.old token.new }
         ensures order { OnOk result (EndsOrder self.now.place token.old.me token.new.me) }
+        ensures reads { OnOk result (ReadsInOrder (Moves O.meaning O.counted) O.counted
+            token.new.me.0) }
         ensures ok { IfOk result (λ r. HasCalled (Moves O.meaning O.counted) O.counted
             self.now.opening (me_at self.now.place token.old.me) call r
             (me_at self.now.place token.new.me)) }

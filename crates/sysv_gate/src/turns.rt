@@ -6,7 +6,7 @@ ghost use Rattle.sysv_gate.specs.Rule.{put};
 ghost use Rattle.sysv_gate.specs.History.{Moves, IsAccepted, AreBelow};
 ghost use Rattle.sysv_gate.specs.Steps.{HasTurn};
 ghost use Rattle.sysv_gate.specs.Turns.{Waits, HasDrawn, HasWorn, SawMore, TurnCame, HasMade, Entered, Applied};
-ghost use Rattle.sysv_gate.specs.Halls.{me_at};
+ghost use Rattle.sysv_gate.specs.Halls.{me_at, ReadsInOrder};
 ghost use Rattle.sysv_gate.specs.Doors.{IsDoorOf, IsAt, IsSame, EndsOrder};
 ghost use Rattle.sysv_lists.specs.Numbers.{times};
 
@@ -240,13 +240,14 @@ impl<O: Object> Door<O> {
         ensures made { HasMade (Moves O.meaning O.counted) self.now.opening
             (me_at self.now.place token.old.me).0 call result.0
             (me_at self.now.place token.new.me) }
+        ensures reads { ReadsInOrder (Moves O.meaning O.counted) O.counted token.new.me.0 }
     {
         let spot = token.slot_mut(&hall.shared, self.place);
         let (reply, rose) = apply_in(spot, call);
         self.announce(hall, token, Count::Arrived, rose.arrived);
         self.announce(hall, token, Count::Freed, rose.freed);
         hall.shared
-            .fetch_add::<Ending>(token, self.word(SERVING), 1);
+            .fetch_add::<Ending<O>>(token, self.word(SERVING), 1);
         (reply, rose)
     }
 
