@@ -3,7 +3,7 @@ ghost use Rattle.std.specs.Prelude.{◌≡◌, IfOk, IfErr, OnOk};
 ghost use Rattle.sysv_gate.specs.History.{Moves, IsAccepted};
 ghost use Rattle.sysv_gate.specs.Turns.{HasWorn};
 ghost use Rattle.sysv_gate.specs.Halls.{me_at, ReadsInOrder};
-ghost use Rattle.sysv_gate.specs.Doors.{IsDoorOf, IsAt, IsSame, EndsOrder, Idles, HasCalled, HasTried};
+ghost use Rattle.sysv_gate.specs.Doors.{IsDoorIn, IsPassAt, IsSame, EndsOrder, Idles, HasCalled, HasTried};
 
 use crate::door::Door;
 use crate::hall::{Hall, HallToken};
@@ -32,9 +32,8 @@ impl<O: Object> Door<O> {
         token: &mut HallToken<O>,
         call: O::Call,
     ) -> Result<O::Reply, Worn<O::Call>>
-        requires door { IsDoorOf hall.now.shared.table_id hall.now.shared.key.openings.value.items
-            self.now }
-        requires at { IsAt hall.now.shared.table_id self.now token.old }
+        requires door { IsDoorIn hall.now.shared self.now }
+        requires at { IsPassAt hall.now.shared self.now token.old }
         requires idle { Idles (me_at self.now.place token.old.me) }
         requires fits { IsAccepted (Moves O.meaning O.counted) O.accepts self.now.opening call }
         ensures same { IsSame self.now.place token.old token.new }
@@ -76,9 +75,8 @@ impl<O: Object> Door<O> {
         token: &mut HallToken<O>,
         call: O::Call,
     ) -> Result<O::Reply, TryRefused<O::Call>>
-        requires door { IsDoorOf hall.now.shared.table_id hall.now.shared.key.openings.value.items
-            self.now }
-        requires at { IsAt hall.now.shared.table_id self.now token.old }
+        requires door { IsDoorIn hall.now.shared self.now }
+        requires at { IsPassAt hall.now.shared self.now token.old }
         requires idle { Idles (me_at self.now.place token.old.me) }
         requires fits { IsAccepted (Moves O.meaning O.counted) O.accepts self.now.opening call }
         ensures same { IsSame self.now.place token.old token.new }
