@@ -1,18 +1,25 @@
--- Items whose numbers rise are in the order of the source.
-use Rattle.std.proofs.Common.{◌≡◌, inl, inr, ℕ, zero, suc, ◌+◌, ◌≤◌, List, [], ◌∷◌, ◌++◌, length, replicate}
+-- Items that are taken from later and later places are in the order in which they were put.
+use Rattle.std.proofs.Common.{◌≡◌, inl, inr, ℕ, zero, suc, ◌<◌, ◌≤◌, List, [], ◌∷◌, ◌++◌, length}
 use Rattle.std.proofs.Common.{refl, sym, ap, ◌∙◌, subst, arith}
-use Rattle.std.specs.Prelude.{◌^◌, ◌-◌}
-use Rattle.std.specs.List.{FoldsTo, flat_map}
+use Rattle.std.specs.List.{flat_map}
 use Rattle.std.specs.List.Sorted.{IsPermutation}
 use Rattle.std.proofs.lemmas.List.{append-nil}
 use Rattle.std.proofs.lemmas.List.Sorted.{length_permutation}
+use mathlib.Core.Logic.{dite}
+use native.Mathlib.Decide.{dec_le}
 use mathlib.Core.Option.{some, some-injective, some-ne-none}
 use lib.ListN.{get_elem?}
 use Rattle.sysv_workers.specs.declared.feed.Feed.{Feed}
 use Rattle.sysv_workers.specs.declared.feed.Feed.TheVariants.{Item, End}
-use Rattle.sysv_workers.specs.Doing.{Follows, Rises}
-use Rattle.sysv_workers.specs.Feeding.{counted, Reads, items_in, numbered, fed}
+use Rattle.sysv_workers.specs.Feeding.{Reads, Rises, items_in}
+use Rattle.sysv_lists.specs.Numbers.{times}
+use Rattle.sysv_lists.specs.Prefix.{IsPrefixOf}
+use Rattle.sysv_lists.proofs.Counting.{times-append, times-same, the-one}
+use Rattle.sysv_workers.proofs.Feeds.{items_in-append}
 use Rattle.sysv_workers.specs.Parts.{Part, IsSubsequenceOf, AreInOrder}
+
+first_there : (k : ℕ) (ks : List ℕ) → 1 ≤ times k (k ∷ ks)
+first_there k ks = let parts = times-append k (k ∷ []) ks in let one = times-same k in omega arith
 
 module _ {A : Type 0} where
   -- The list from this place on.
@@ -30,6 +37,26 @@ module _ {A : Type 0} where
   subsequence_at (y ∷ list) (suc n) zero x xs low at s = absurd (omega arith)
   subsequence_at (y ∷ list) (suc n) (suc k) x xs low at s = subsequence_at list n k x xs (omega arith) at s
 
+  -- Values that were read at rising places are in the order of the list.
+  reads_rising : (list : List A) (n : ℕ) (ks : List ℕ) (xs : List A) → Reads list ks xs → Rises ks →
+      ((k : ℕ) → 1 ≤ times k ks → n ≤ k) → IsSubsequenceOf xs (from_place n list)
+  reads_rising list n [] [] r up low = tt
+  reads_rising list n [] (x ∷ xs) r up low = absurd r
+  reads_rising list n (k ∷ ks) [] r up low = absurd r
+  reads_rising list n (k ∷ ks) (x ∷ xs) r up low =
+      subsequence_at list n k x xs (low k (first_there k ks)) r.0
+      (reads_rising list (suc k) ks xs r.1 up.1 (λ j h. let later = up.0 j h in omega arith))
+
+  one_more : (xs ys : List A) (y : A) → IsSubsequenceOf xs ys → IsSubsequenceOf xs (y ∷ ys)
+  one_more [] ys y s = tt
+  one_more (x ∷ xs) ys y s = inr s
+
+  longer : (xs ys zs : List A) → IsSubsequenceOf xs ys → IsSubsequenceOf xs (ys ++ zs)
+  longer [] ys zs s = tt
+  longer (x ∷ xs) [] zs s = absurd s
+  longer (x ∷ xs) (y ∷ ys) zs (inl s) = inl (s.0, longer xs ys zs s.1)
+  longer (x ∷ xs) (y ∷ ys) zs (inr s) = inr (longer (x ∷ xs) ys zs s)
+
   shorter : (xs ys : List A) → IsSubsequenceOf xs ys → length xs ≤ length ys
   shorter [] ys s = omega arith
   shorter (x ∷ xs) [] s = absurd s
@@ -44,51 +71,45 @@ module _ {A : Type 0} where
       ap (λ z. z ∷ xs) s.0 ∙ ap (λ l. y ∷ l) (all_of_it xs ys s.1 (omega arith))
   all_of_it (x ∷ xs) (y ∷ ys) (inr s) long = let low = shorter (x ∷ xs) ys s in absurd (omega arith)
 
+-- One more place, after all others.
+pub rises_push : (ks : List ℕ) (p : ℕ) → Rises ks → ((k : ℕ) → 1 ≤ times k ks → k < p) → Rises (ks ++ p ∷ [])
+rises_push [] p up low = ((λ j h. absurd (omega arith)), tt)
+rises_push (k ∷ ks) p up low = (
+  (λ j h.
+      let parts = times-append j ks (p ∷ []) in
+      let first = low k (first_there k ks) in
+      dite (dec_le 1 (times j ks)) (λ d. up.0 j d) (λ nd. let same = the-one j p (omega (arith, nd)) in omega arith)),
+  rises_push ks p up.1 (λ j h. low j (let parts = times-append j (k ∷ []) ks in omega arith)),
+)
+
 module _ {T : Type 0} where
-  no_item : (marks j k : ℕ) (x : T) → get_elem? {A = Feed T} (replicate marks End) j ≡ some (Item k x) → ⊥
-  no_item zero j k x at = some-ne-none (Item k x) (sym at)
-  no_item (suc marks) zero k x at = let e : End ≡ Item k x = some-injective End (Item k x) at in cc
-  no_item (suc marks) (suc j) k x at = no_item marks j k x at
+  same_one : (x y : T) → Item x ≡ Item y → x ≡ y
+  same_one x y e = cc
 
-  -- The number of an item is that of its place.
-  numbered_at : (n : ℕ) (xs : List T) (marks j k : ℕ) (x : T) →
-      get_elem? (numbered n xs ++ replicate marks End) j ≡ some (Item k x) →
-      (k ≡ counted (n + j)) × (get_elem? xs j ≡ some x)
-  numbered_at n [] marks j k x at = absurd (no_item marks j k x at)
-  numbered_at n (y ∷ xs) marks zero k x at =
-      let e : Item (counted n) y ≡ Item k x = some-injective (Item (counted n) y) (Item k x) at in
-      let one : counted n ≡ k = cc in
-      let two : y ≡ x = cc in
-      (sym one ∙ ap counted (omega arith), ap some two)
-  numbered_at n (y ∷ xs) marks (suc j) k x at =
-      let r = numbered_at (n + 1) xs marks j k x at in (r.0 ∙ ap counted (omega arith), r.1)
+  without_marks : (fs gs : List (Feed T)) → IsSubsequenceOf fs gs → IsSubsequenceOf (items_in fs) (items_in gs)
+  without_marks [] gs s = tt
+  without_marks (f ∷ fs) [] s = absurd s
+  without_marks (Item x ∷ fs) (Item y ∷ gs) (inl s) = inl (same_one x y s.0, without_marks fs gs s.1)
+  without_marks (Item x ∷ fs) (End ∷ gs) (inl s) = let e : Item x ≡ End = s.0 in cc
+  without_marks (End ∷ fs) (Item y ∷ gs) (inl s) = let e : End ≡ Item y = s.0 in cc
+  without_marks (End ∷ fs) (End ∷ gs) (inl s) = without_marks fs gs s.1
+  without_marks (f ∷ fs) (Item y ∷ gs) (inr s) =
+      one_more (items_in (f ∷ fs)) (items_in gs) y (without_marks (f ∷ fs) gs s)
+  without_marks (f ∷ fs) (End ∷ gs) (inr s) = without_marks (f ∷ fs) gs s
 
-  within : (xs : List T) (j : ℕ) (x : T) → get_elem? xs j ≡ some x → suc j ≤ length xs
-  within [] j x at = absurd (some-ne-none x (sym at))
-  within (y ∷ xs) zero x at = omega arith
-  within (y ∷ xs) (suc j) x at = let low = within xs j x at in omega arith
-
-  follow_in_order : (given : List T) (marks : ℕ) (feeds : List (Feed T)) (places : List ℕ) (n next : ℕ) →
-      length given ≤ 2 ^ 64 - 1 → Reads (fed given marks) places feeds → FoldsTo Follows n feeds next →
-      IsSubsequenceOf (items_in feeds) (from_place n given)
-  follow_in_order given marks [] places n next few r f = tt
-  follow_in_order given marks (Item k x ∷ feeds) [] n next few r f = absurd r
-  follow_in_order given marks (Item k x ∷ feeds) (j ∷ places) n next few r f =
-      let at = numbered_at 0 given marks j k x r.0 in
-      let low = within given j x at.1 in
-      let same : j ≡ k = (let e = at.0 in omega arith) in
-      let one = f.1 in
-      let later : f.0 ≡ suc k = (let e = one.1 in omega arith) in
-      let rest = follow_in_order given marks feeds places f.0 next few r.1 f.2 in
-      subsequence_at given n k x (items_in feeds) one.0 (subst (λ (i : ℕ). get_elem? given i ≡ some x) same at.1)
-      (subst (λ (i : ℕ). IsSubsequenceOf (items_in feeds) (from_place i given)) later rest)
-  follow_in_order given marks (End ∷ feeds) places n next few r f = absurd f.1
-
-  pub rises_in_order : (given : List T) (marks : ℕ) (items : List T) (next : ℕ) → length given ≤ 2 ^ 64 - 1 →
-      Rises (fed given marks) items next → IsSubsequenceOf items given
+  -- Items that were read at rising places are in the order in which they were put.
+  pub in_order_put : (list : List (Feed T)) (ks : List ℕ) (fs : List (Feed T)) (items : List T) → Reads list ks fs →
+      Rises ks → items_in fs ≡ items → IsSubsequenceOf items (items_in list)
   unfolding from_place
-  rises_in_order given marks items next few r = subst (λ (l : List T). IsSubsequenceOf l given) r.those
-      (follow_in_order given marks r.feeds r.places 0 next few r.reads r.rising)
+  in_order_put list ks fs items r up same = subst (λ (l : List T). IsSubsequenceOf l (items_in list)) same
+      (without_marks fs list (reads_rising list 0 ks fs r up (λ k h. omega arith)))
+
+  -- They still are if more was put.
+  pub still_in_order : (items : List T) (list list' : List (Feed T)) → IsPrefixOf list list' →
+      IsSubsequenceOf items (items_in list) → IsSubsequenceOf items (items_in list')
+  still_in_order items list list' p s =
+      subst (λ (l : List T). IsSubsequenceOf items l) (sym (ap items_in p.1 ∙ items_in-append list p.0))
+      (longer items (items_in list) (items_in p.0) s)
 
 module _ {W T : Type 0} where
   -- One worker alone has all items in their order.

@@ -1,6 +1,6 @@
 mod Feeds
+mod InOrder
 mod Works
 mod RunningThreads
 mod AllPlacesRead
-mod InOrder
 mod EndedRun
