@@ -1,5 +1,5 @@
 -- If as many places were read as there are, and none twice, all were read.
-use Rattle.std.proofs.Common.{◌≡◌, ◌≢◌, ℕ, zero, suc, ◌+◌, ◌≤◌, ◌==◌, cond, List, [], ◌∷◌, ◌++◌, length, map, refl, sym}
+use Rattle.std.proofs.Common.{◌≡◌, ◌≢◌, ℕ, zero, suc, ◌+◌, ◌≤◌, ◌==◌, cond, List, [], ◌∷◌, ◌++◌, length, map, replicate, refl, sym}
 use Rattle.std.proofs.Common.{ap, ◌∙◌, subst, arith, length-append}
 use Rattle.std.specs.List.Sorted.{IsPermutation}
 use Rattle.std.proofs.lemmas.List.Sorted.{IsPermutation-refl, IsPermutation-cons, IsPermutation-middle}
@@ -11,8 +11,8 @@ use lib.ListN.{get_elem?}
 use Rattle.sysv_lists.specs.Numbers.{times}
 use Rattle.sysv_workers.specs.declared.feed.Feed.{Feed}
 use Rattle.sysv_workers.specs.declared.feed.Feed.TheVariants.{Item, End}
-use Rattle.sysv_workers.specs.Feeding.{Reads, items_in, fed}
-use Rattle.sysv_workers.proofs.Feeds.{nil_of}
+use Rattle.sysv_workers.specs.Feeding.{Reads, items_in, numbered, fed}
+use Rattle.sysv_workers.proofs.Feeds.{nil_of, items_in-append}
 
 -- The number is none of these.
 abbrev Away : ℕ → List ℕ → Type 0
@@ -112,21 +112,22 @@ module _ {A : Type 0} where
   map_length f (x ∷ xs) = ap suc (map_length f xs)
 
 module _ {T : Type 0} where
-  pub items_in-append : (fs gs : List (Feed T)) → items_in (fs ++ gs) ≡ items_in fs ++ items_in gs
-  items_in-append [] gs = refl
-  items_in-append (Item x ∷ fs) gs = ap (λ l. x ∷ l) (items_in-append fs gs)
-  items_in-append (End ∷ fs) gs = items_in-append fs gs
+  no_items : (n : ℕ) → items_in {T = T} (replicate n End) ≡ []
+  no_items zero = refl
+  no_items (suc n) = no_items n
+
+  those_numbered : (k : ℕ) (xs : List T) (n : ℕ) → items_in (numbered k xs ++ replicate n End) ≡ xs
+  those_numbered k [] n = no_items n
+  those_numbered k (x ∷ xs) n = ap (λ l. x ∷ l) (those_numbered (k + 1) xs n)
 
   pub items_fed : (xs : List T) (n : ℕ) → items_in (fed xs n) ≡ xs
-  items_fed [] zero = refl
-  items_fed [] (suc n) = items_fed [] n
-  items_fed (x ∷ xs) n = ap (λ l. x ∷ l) (items_fed xs n)
+  items_fed xs n = those_numbered 0 xs n
 
   one_dealt : (f : Feed T) (fs a b : List (Feed T)) → IsPermutation (items_in fs) (items_in (a ++ b)) →
       IsPermutation (items_in (f ∷ fs)) (items_in (a ++ f ∷ b))
-  one_dealt (Item x) fs a b p =
+  one_dealt (Item k x) fs a b p =
       let all : items_in (a ++ b) ≡ items_in a ++ items_in b = items_in-append a b in
-      let all' : items_in (a ++ Item x ∷ b) ≡ items_in a ++ x ∷ items_in b = items_in-append a (Item x ∷ b) in
+      let all' : items_in (a ++ Item k x ∷ b) ≡ items_in a ++ x ∷ items_in b = items_in-append a (Item k x ∷ b) in
       let first : IsPermutation (x ∷ items_in fs) (x ∷ (items_in a ++ items_in b)) =
       IsPermutation-cons x _ _ (subst (IsPermutation (items_in fs)) all p) in
       let second : IsPermutation (x ∷ (items_in a ++ items_in b)) (items_in a ++ x ∷ items_in b) =
@@ -135,10 +136,10 @@ module _ {T : Type 0} where
   one_dealt End fs a b p =
       subst (IsPermutation (items_in fs)) (items_in-append a b ∙ sym (items_in-append a (End ∷ b))) p
 
-  pub all_dealt : (fs list : List (Feed T)) (js : List ℕ) → Reads list js fs → Apart js → length list ≡ length js →
+  pub all_dealt : (fs list : List (Feed T)) (js : List ℕ) → Reads list js fs → Apart js → length list ≤ length js →
       IsPermutation (items_in fs) (items_in list)
   all_dealt [] list [] r all long =
-      subst (λ (l : List (Feed T)). IsPermutation [] (items_in l)) (sym (nil_of list long)) (IsPermutation-refl [])
+      subst (λ (l : List (Feed T)). IsPermutation [] (items_in l)) (sym (nil_of list (omega arith))) (IsPermutation-refl [])
   all_dealt [] list (j ∷ js) r all long = absurd r
   all_dealt (f ∷ fs) list [] r all long = absurd r
   all_dealt (f ∷ fs) list (j ∷ js) r all long =

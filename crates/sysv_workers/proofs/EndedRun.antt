@@ -6,20 +6,23 @@ use mathlib.Core.Bool.{true≢false}
 use Rattle.std.specs.List.{All, FoldsTo, flat_map}
 use Rattle.std.specs.List.Sorted.{IsPermutation}
 use Rattle.std.proofs.lemmas.List.{append-nil, map-append}
+use Rattle.std.proofs.lemmas.List.Sorted.{length_permutation}
 use Rattle.std.proofs.lemmas.List.Elements.{All-append, All-cons, All-tail}
 use Rattle.sysv_buffer.specs.ManyEnds.{Holding, HasItsOwn, Looks}
 use Rattle.sysv_workers.specs.declared.feed.Feed.{Feed}
-use Rattle.sysv_workers.specs.Doing.{Gathered}
+use Rattle.sysv_workers.specs.Doing.{Rises, Gathered}
 use Rattle.sysv_workers.specs.Feeding.{counted, Reads, items_in, HasFed}
-use Rattle.sysv_workers.specs.Parts.{Part, Leads}
+use Rattle.sysv_workers.specs.Parts.{Part, Leads, AreInOrder}
 use Rattle.sysv_workers.specs.Causes.{Told, HasCause}
 use Rattle.sysv_workers.specs.Running.{GivesBack, LeavesSource, Ends, Fails}
 use Rattle.sysv_workers.specs.Sources.{GivesAll, Returned}
 use Rattle.sysv_workers.specs.declared.refusals.WorkersFault.{WorkersFault}
 use Rattle.sysv_workers.specs.declared.refusals.WorkersFault.TheVariants.{BadCount, NoMemory, Thread, Worn, Missed}
-use Rattle.sysv_workers.proofs.Feeds.{reads_longer, reads_length, looks_longer}
+use Rattle.sysv_workers.proofs.Feeds.{reads_longer, reads_length, rises_seen, looks_longer}
 use Rattle.sysv_workers.proofs.RunningThreads.{map_length}
 use Rattle.sysv_workers.proofs.AllPlacesRead.{apart, all_dealt, items_fed}
+use lib.ListN.{get_or}
+use Rattle.sysv_workers.proofs.InOrder.{rises_in_order, one_in_order}
 
 pub at_some : {A : Type 0} (P : A → Type 0) (o : Option A) (x : A) → o ≡ Some x → IfSome o P → P x
 at_some P o x is p = subst (λ (r : Option _). IfSome r P) is p
@@ -41,7 +44,9 @@ module _ {W T : Type 0} (runs : W → T → W → Type 0) (fits : W → Type 0) 
     still = subst (All fits) (sym same) all;
     feeds = [];
     reads = subst (λ (ks : List ℕ). Reads h.seen ks []) (sym none) tt;
-    items = refl;
+    most = omega arith;
+    all = λ _. refl;
+    rises = λ k d low. absurd (omega arith);
     count = λ _. refl;
     worn = λ e. absurd (true≢false (sym not ∙ e));
     total = zero;
@@ -59,7 +64,9 @@ module _ {W T : Type 0} (runs : W → T → W → Type 0) (fits : W → Type 0) 
     reads = subst (λ (ks : List ℕ). Reads h'.seen ks g.feeds) (sym l.takes)
         (subst (λ (m : List (Feed T)). Reads m h.takes g.feeds) (sym l.seen)
         (reads_longer h.seen l.more h.takes g.feeds g.reads));
-    items = g.items;
+    most = g.most;
+    all = g.all;
+    rises = λ k p low. let r = g.rises k p low in (r.0, rises_seen h h' (l.more, l.seen) _ r.0 r.1);
     count = g.count;
     worn = λ e. let far = g.worn e in let low = looks_longer h h' l in omega arith;
     total = g.total;
@@ -76,13 +83,29 @@ module _ {W T : Type 0} (runs : W → T → W → Type 0) (fits : W → Type 0) 
       let total = g.total in
       let long : length h.seen ≡ length given + n = omega arith in
       let whole = f.all long in
-      let feeds : length g.feeds ≡ length flat + length parts = g.count all in
+      let feeds : length g.feeds ≡ length (items_in g.feeds) + length parts = g.count all in
+      let low = g.most in
       let read = reads_length h.seen h.takes g.feeds g.reads in
       let apart' = apart h.takes own.1.once in
       let p : IsPermutation (items_in g.feeds) (items_in h.seen) =
       all_dealt g.feeds h.seen h.takes g.reads apart' (omega arith) in
-      subst (λ (l : List T). IsPermutation flat l) (ap items_in whole ∙ items_fed given n)
-      (subst (λ (l : List T). IsPermutation l (items_in h.seen)) g.items p)
+      let same : items_in h.seen ≡ given = ap items_in whole ∙ items_fed given n in
+      let many = length_permutation (items_in g.feeds) (items_in h.seen) p in
+      let many' = ap length same in
+      subst (λ (l : List T). IsPermutation flat l) same
+      (subst (λ (l : List T). IsPermutation l (items_in h.seen)) (g.all (omega arith)) p)
+
+  -- Each worker ran over its items in the order of the source.
+  pub in_order : (parts : List (Part W T)) (h : Holding (Feed T)) (states : List W) (ran : ℕ) (ended : Bool)
+      (given : List T) (n put : ℕ) → Gathered runs fits [] parts h states ran ended → HasFed given n h → 1 ≤ n →
+      ran ≡ counted (length given) → put ≡ length h.seen → put ≡ min (ran + n) (2 ^ 64 - 1) → AreInOrder given parts
+  in_order parts h states ran ended given n put g f some same is most k p low =
+      let fed_most = f.most in
+      let long : length h.seen ≡ length given + n = omega arith in
+      let r = g.rises k p low in
+      let items = (get_or parts k p).items in
+      rises_in_order given n items r.0 (omega arith)
+      (subst (λ (l : List (Feed T)). Rises l items r.0) (f.all long) r.1)
 
   -- If no item was run, no state has changed.
   unchanged : (parts : List (Part W T)) → length (flat_map (λ p. p.items) parts) ≡ 0 → All RanBy parts →
@@ -280,13 +303,17 @@ module _ {W T : Type 0} (runs : W → T → W → Type 0) (fits : W → Type 0) 
   ends gives before after source source' parts given h ran ended n put g began long some gave fed own all ran_all is
       most =
       let count : length parts ≡ n = sym (map_length (λ (p : Part W T). p.before) parts) ∙ (ap length began ∙ long) in
+      let deal = dealt parts h after ran ended given n put g fed own all count some ran_all is most in
+      let ordered = in_order parts h after ran ended given n put g fed some ran_all is most in
       record {
         all = record {
           parts = parts;
           given = given;
           leads = record { began = began; left = sym g.left; ran = g.folds };
           gave = gave;
-          dealt = dealt parts h after ran ended given n put g fed own all count some ran_all is most;
+          dealt = deal;
+          ordered = ordered;
+          alone = λ one. one_in_order given parts (omega arith) deal ordered;
         };
         still = g.still;
       }

@@ -1,14 +1,16 @@
 -- How the list of items put grows, and what is read of it.
 use Rattle.std.proofs.Common.{◌≡◌, inl, inr, ℕ, zero, suc, ◌+◌, ◌≤◌, Bool, false, true, List, [], ◌∷◌, ◌++◌, length}
-use Rattle.std.proofs.Common.{map, replicate, refl, sym, ap, ◌∙◌, arith, add-one, length-append, append_assoc}
-use Rattle.std.proofs.lemmas.List.{append-nil, map-append}
+use Rattle.std.proofs.Common.{replicate, refl, sym, ap, subst, ◌∙◌, arith, add-one, length-append, append_assoc}
+use Rattle.std.proofs.lemmas.List.{append-nil}
 use mathlib.Core.Option.{some, some-ne-none}
 use lib.ListN.{get_elem?}
 use Rattle.sysv_buffer.specs.ManyEnds.{Holding, Puts, Looks}
 use Rattle.sysv_workers.specs.declared.feed.Feed.{Feed}
 use Rattle.sysv_workers.specs.declared.feed.Feed.TheVariants.{Item, End}
 use Rattle.std.specs.Prelude.{◌^◌}
-use Rattle.sysv_workers.specs.Feeding.{Reads, fed, HasFed, IsMarked}
+use Rattle.sysv_lists.specs.Prefix.{IsPrefixOf}
+use Rattle.sysv_workers.specs.Doing.{Rises}
+use Rattle.sysv_workers.specs.Feeding.{counted, Reads, items_in, numbered, fed, HasFed, IsMarked}
 
 module _ {A : Type 0} where
   pub nil_of : (xs : List A) → length xs ≡ 0 → xs ≡ []
@@ -45,14 +47,43 @@ module _ {A : Type 0} where
   replicate_push (suc n) x = ap (λ l. x ∷ l) (replicate_push n x)
 
 module _ {T : Type 0} where
-  item_at_end : (xs : List T) (x : T) → (fed xs 0 ++ []) ++ Item x ∷ [] ≡ fed (xs ++ x ∷ []) 0
-  item_at_end xs x = simp (append-nil, map-append)
+  pub items_in-append : (fs gs : List (Feed T)) → items_in (fs ++ gs) ≡ items_in fs ++ items_in gs
+  items_in-append [] gs = refl
+  items_in-append (Item n x ∷ fs) gs = ap (λ l. x ∷ l) (items_in-append fs gs)
+  items_in-append (End ∷ fs) gs = items_in-append fs gs
+
+  -- Items that rise still do so if more was put.
+  pub rises_seen : (h h' : Holding (Feed T)) → IsPrefixOf h.seen h'.seen → (items : List T) (next : ℕ) →
+      Rises h.seen items next → Rises h'.seen items next
+  rises_seen h h' p items next r = record {
+    feeds = r.feeds;
+    those = r.those;
+    rising = r.rising;
+    places = r.places;
+    reads = subst (λ (l : List (Feed T)). Reads l r.places r.feeds) (sym p.1)
+        (reads_longer h.seen p.0 r.places r.feeds r.reads);
+  }
+
+  numbered-append : (n : ℕ) (xs : List T) (x : T) →
+      numbered n (xs ++ x ∷ []) ≡ numbered n xs ++ Item (counted (n + length xs)) x ∷ []
+  numbered-append n [] x = ap (λ (k : ℕ). Item (counted k) x ∷ []) (omega arith)
+  numbered-append n (y ∷ xs) x =
+      ap (λ l. Item (counted n) y ∷ l) (numbered-append (n + 1) xs x
+      ∙ ap (λ (k : ℕ). numbered (n + 1) xs ++ Item (counted k) x ∷ []) (omega arith))
+
+  item_at_end : (xs : List T) (x : T) →
+      (fed xs 0 ++ []) ++ Item (counted (length xs)) x ∷ [] ≡ fed (xs ++ x ∷ []) 0
+  item_at_end xs x =
+      let start : 0 + length xs ≡ length xs = omega arith in
+      ap (λ l. l ++ Item (counted (length xs)) x ∷ []) (append-nil (fed xs 0) ∙ append-nil (numbered 0 xs))
+      ∙ (ap (λ k. numbered 0 xs ++ Item (counted k) x ∷ []) (sym start)
+      ∙ (sym (numbered-append 0 xs x) ∙ sym (append-nil (numbered 0 (xs ++ x ∷ [])))))
 
   mark_at_end : (xs : List T) (n : ℕ) → (fed xs n ++ []) ++ End ∷ [] ≡ fed xs (n + 1)
   mark_at_end xs n =
       ap (λ l. l ++ End ∷ []) (append-nil (fed xs n))
-      ∙ (append_assoc (map Item xs) (replicate n End) (End ∷ [])
-      ∙ ap (λ l. map Item xs ++ l) (replicate_push n End ∙ ap (λ k. replicate k End) (sym (add-one n))))
+      ∙ (append_assoc (numbered 0 xs) (replicate n End) (End ∷ [])
+      ∙ ap (λ l. numbered 0 xs ++ l) (replicate_push n End ∙ ap (λ k. replicate k End) (sym (add-one n))))
 
   -- A seat has seen no less afterwards.
   pub grown_longer : (h h' : Holding (Feed T)) (more : List (Feed T)) → h'.seen ≡ h.seen ++ more →
@@ -63,10 +94,10 @@ module _ {T : Type 0} where
   looks_longer h h' l = let long = ap length l.seen ∙ length-append h.seen l.more in omega arith
 
   -- One more item was put.
-  pub fed_item : (xs : List T) (x : T) (h h' : Holding (Feed T)) → HasFed xs 0 h → Puts (Item x) h h' →
-      HasFed (xs ++ x ∷ []) 0 h'
-  fed_item xs x h h' f p =
-      let long = ap length p.seen ∙ length-append (h.seen ++ p.others) (Item x ∷ []) in
+  pub fed_item : (xs : List T) (x : T) (k : ℕ) (h h' : Holding (Feed T)) → k ≡ counted (length xs) → HasFed xs 0 h →
+      Puts (Item k x) h h' → HasFed (xs ++ x ∷ []) 0 h'
+  fed_item xs x k h h' is f p =
+      let long = ap length p.seen ∙ length-append (h.seen ++ p.others) (Item k x ∷ []) in
       let before = length-append h.seen p.others in
       let most = f.most in
       let one = length-append xs (x ∷ []) in
@@ -76,8 +107,9 @@ module _ {T : Type 0} where
             let none : p.others ≡ [] = nil_of p.others (omega arith) in
             let whole : h.seen ≡ fed xs 0 = f.all (omega arith) in
             p.seen
-            ∙ (ap (λ l. (h.seen ++ l) ++ Item x ∷ []) none
-            ∙ (ap (λ l. (l ++ []) ++ Item x ∷ []) whole ∙ item_at_end xs x));
+            ∙ (ap (λ l. (h.seen ++ l) ++ Item k x ∷ []) none
+            ∙ (ap (λ l. (l ++ []) ++ Item k x ∷ []) whole
+            ∙ (ap (λ j. (fed xs 0 ++ []) ++ Item j x ∷ []) is ∙ item_at_end xs x)));
       }
 
   -- One more end mark was put.

@@ -2,4 +2,5 @@ mod Feeds
 mod Works
 mod RunningThreads
 mod AllPlacesRead
+mod InOrder
 mod EndedRun

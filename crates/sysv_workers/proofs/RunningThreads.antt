@@ -11,14 +11,13 @@ use Rattle.std.specs.declared.thread.PromisedHandle.{PromisedHandle}
 use Rattle.sysv_buffer.specs.Ends.{Buffered}
 use Rattle.sysv_buffer.specs.ManyEnds.{Holding, Joins}
 use Rattle.sysv_workers.specs.declared.feed.Feed.{Feed}
-use Rattle.sysv_workers.specs.declared.feed.Feed.TheVariants.{Item, End}
 use Rattle.sysv_workers.specs.declared.worker.Done.{Done}
 use Rattle.sysv_workers.specs.declared.worker.Working.{Working}
 use Rattle.sysv_workers.specs.Crews.{Assigned, assigned_to, AreOn}
-use Rattle.sysv_workers.specs.Doing.{Did, Gathered}
-use Rattle.sysv_workers.specs.Feeding.{Reads, items_in, mark}
+use Rattle.sysv_workers.specs.Doing.{Did, Rises, Gathered}
+use Rattle.sysv_workers.specs.Feeding.{Reads, items_in}
 use Rattle.sysv_workers.specs.Parts.{Part}
-use Rattle.sysv_workers.proofs.Feeds.{reads_longer, reads_both}
+use Rattle.sysv_workers.proofs.Feeds.{reads_longer, reads_both, rises_seen, items_in-append}
 
 pub map_length : {A B : Type 0} (f : A → B) (xs : List A) → length (map f xs) ≡ length xs
 map_length f [] = refl
@@ -116,21 +115,6 @@ both_true true true is = (refl, refl)
 both_true true false is = cc
 both_true false b is = cc
 
-module _ {T : Type 0} where
-  items_in-append : (fs gs : List (Feed T)) → items_in (fs ++ gs) ≡ items_in fs ++ items_in gs
-  items_in-append [] gs = refl
-  items_in-append (Item x ∷ fs) gs = ap (λ l. x ∷ l) (items_in-append fs gs)
-  items_in-append (End ∷ fs) gs = items_in-append fs gs
-
-  items_of_worker : (xs : List T) (b : Bool) → items_in (map Item xs ++ mark b) ≡ xs
-  items_of_worker [] true = refl
-  items_of_worker [] false = refl
-  items_of_worker (x ∷ xs) b = ap (λ l. x ∷ l) (items_of_worker xs b)
-
-  feeds_of_worker : (xs : List T) (b : Bool) → b ≡ true → length (map Item xs ++ mark b) ≡ length xs + 1
-  feeds_of_worker xs b is = ap (λ (v : Bool). length (map Item xs ++ mark v)) is
-      ∙ (length-append (map Item xs) (End ∷ []) ∙ ap (λ n. n + 1) (map_length Item xs))
-
 module _ {W T : Type 0} where
   -- The part of one more worker is collected.
   pub gathers : (runs : W → T → W → Type 0) (fits : W → Type 0) (buffer : Buffered) (others : List W)
@@ -144,7 +128,7 @@ module _ {W T : Type 0} where
   gathers runs fits buffer others parts h theirs h' states states' ran ran' its ended ended' end before after g d j more
       tally =
       let part : Part W T = record { before = before; items = d.items; after = after } in
-      let own : List (Feed T) = map Item d.items ++ mark end in
+      let own : List (Feed T) = d.took.feeds in
       let ran_by : Part W T → Type 0 = λ p. FoldsTo runs p.before p.items p.after in
       let flat : flat_map (λ (p : Part W T). p.items) (parts ++ part ∷ [])
       ≡ flat_map (λ (p : Part W T). p.items) parts ++ d.items =
@@ -155,7 +139,11 @@ module _ {W T : Type 0} where
       let first : Reads h'.seen h.takes g.feeds = subst (λ (l : List (Feed T)). Reads l h.takes g.feeds)
       (sym j.begins_one.1) (reads_longer h.seen j.begins_one.0 h.takes g.feeds g.reads) in
       let second : Reads h'.seen theirs.takes own = subst (λ (l : List (Feed T)). Reads l theirs.takes own)
-      (sym j.begins_two.1) (reads_longer theirs.seen j.begins_two.0 theirs.takes own d.reads) in (
+      (sym j.begins_two.1) (reads_longer theirs.seen j.begins_two.0 theirs.takes own d.took.reads) in
+      let kept : Part W T → Type 0 = λ p. (next : ℕ) × Rises h'.seen p.items next in
+      let both = ap length (items_in-append g.feeds own) ∙ length-append (items_in g.feeds) (items_in own) in
+      let most = g.most in
+      let their_most = d.took.most in (
         part,
         refl,
         record {
@@ -168,13 +156,19 @@ module _ {W T : Type 0} where
           feeds = g.feeds ++ own;
           reads = subst (λ (ks : List ℕ). Reads h'.seen ks (g.feeds ++ own)) (sym j.takes)
               (reads_both h'.seen h.takes theirs.takes g.feeds own first second);
-          items = items_in-append g.feeds own
-              ∙ (ap (λ l. l ++ items_in own) g.items
-              ∙ (ap (λ l. flat_map (λ (p : Part W T). p.items) parts ++ l) (items_of_worker d.items end) ∙ sym flat));
+          most = omega arith;
+          all = λ e.
+              items_in-append g.feeds own
+              ∙ (ap (λ l. l ++ items_in own) (g.all (omega arith))
+              ∙ (ap (λ l. flat_map (λ (p : Part W T). p.items) parts ++ l) (d.took.all (omega arith)) ∙ sym flat));
+          rises = All-push kept parts part
+              (λ k p low. let r = g.rises k p low in (r.0, rises_seen h h' j.begins_one _ r.0 r.1))
+              (d.next, rises_seen theirs h' j.begins_two d.items d.next d.took.rises);
           count = λ is.
               let t = both_true ended end (sym tally.1 ∙ is) in
               let a = g.count t.0 in
-              let b = feeds_of_worker d.items end t.1 in
+              let b = d.took.marked in
+              let one = d.marked t.1 in
               omega (arith, length-append g.feeds own, length-append parts (part ∷ []));
           worn = λ is. ⊎_elim
               (λ one.

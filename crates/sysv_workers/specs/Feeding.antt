@@ -1,6 +1,6 @@
 -- What is in the buffer that feeds the workers: the items of the source, and then one end mark per
 -- worker. This project's profile.
-use Rattle.std.specs.Prelude.{◌≡◌, ℕ, ◌+◌, ◌-◌, ◌^◌, ◌≤◌, ◌⊎◌, min, Bool, true, false, List, [], ◌∷◌, ◌++◌, length, map}
+use Rattle.std.specs.Prelude.{◌≡◌, ℕ, ◌+◌, ◌-◌, ◌^◌, ◌≤◌, ◌⊎◌, min, List, [], ◌∷◌, ◌++◌, length}
 use Rattle.std.specs.Prelude.{replicate}
 use mathlib.Core.Option.{some}
 use lib.ListN.{get_elem?}
@@ -24,17 +24,17 @@ module _ {T : Type 0} where
   -- The items, without the end marks.
   abbrev pub items_in : List (Feed T) → List T
   items_in [] = []
-  items_in (Item x ∷ fs) = x ∷ items_in fs
+  items_in (Item n x ∷ fs) = x ∷ items_in fs
   items_in (End ∷ fs) = items_in fs
 
-  -- One end mark, or none.
-  abbrev pub mark : Bool → List (Feed T)
-  mark true = End ∷ []
-  mark false = []
+  -- The items with their numbers, of which this is the first.
+  abbrev pub numbered : ℕ → List T → List (Feed T)
+  numbered n [] = []
+  numbered n (x ∷ xs) = Item (counted n) x ∷ numbered (n + 1) xs
 
-  -- These items, followed by this number of end marks.
+  -- These items, numbered from 0, followed by this number of end marks.
   abbrev pub fed : List T → ℕ → List (Feed T)
-  fed items marks = map Item items ++ replicate marks End
+  fed items marks = numbered 0 items ++ replicate marks End
 
   -- The seat has seen at least as many puts as there are items and end marks. If it has seen no
   -- more, it has seen exactly these items and end marks.

@@ -11,7 +11,8 @@ use sysv_buffer::{ManyBuffer, Seat};
 /// What the buffer holds between the source and the workers.
 #[derive(Drop)]
 pub(crate) enum Feed<T> {
-    Item(T),
+    /// An item and its number. The items of the source are numbered from 0.
+    Item(u64, T),
     /// An end mark. The worker that takes it ends.
     End,
 }
@@ -39,7 +40,7 @@ pub(crate) fn put_all<T: Drop, S: Source<T>, R: Wait>(
         let Some(item) = source.next() else {
             return Some(items);
         };
-        match buffer.put(rt, seat, Feed::Item(item)) {
+        match buffer.put(rt, seat, Feed::Item(items, item)) {
             Ok(()) => items = items.saturating_add(1),
             Err(_) => return None,
         }

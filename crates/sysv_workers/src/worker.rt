@@ -41,6 +41,7 @@ impl<W, T, J: Job<W, T>> Promise<Done<W, T>> for Working<W, T, J> {
 }
 
 /// Runs the job over the items that it takes, until it takes an end mark or the buffer is worn out.
+/// An item whose number is not larger than that of the last one is dropped. So it would be missed.
 pub(crate) fn work<W, T: Drop, J: Job<W, T>, R: Wait>(
     rt: &R,
     buffer: &ManyBuffer<Feed<T>>,
@@ -55,11 +56,15 @@ pub(crate) fn work<W, T: Drop, J: Job<W, T>, R: Wait>(
         (manually_drop_value result.state) result.seat result.ran }
 {
     let mut ran = 0_u64;
+    let mut next = 0_u64;
     for _ in rt.forever() {
         match buffer.take(rt, &mut seat) {
-            Ok(Feed::Item(item)) => {
-                job.run(&mut state, item);
-                ran = ran.saturating_add(1);
+            Ok(Feed::Item(number, item)) => {
+                if number >= next {
+                    job.run(&mut state, item);
+                    ran = ran.saturating_add(1);
+                    next = number.saturating_add(1);
+                }
             }
             Ok(Feed::End) => return left_by(state, seat, ran, true),
             Err(_) => return left_by(state, seat, ran, false),

@@ -16,7 +16,7 @@ loop-preserved g c =
       (
         given ++ x ∷ [],
         FoldsTo-push _ _ given _ x _ i.4.1 c.in-Some-next.ensures,
-        fed_item given x _ _ i.4.2 p,
+        fed_item given x _ _ _ i.4.3 i.4.2 p,
         let n = i.4.3 in omega (arith, length-append given (x ∷ [])),
       ),
     )
