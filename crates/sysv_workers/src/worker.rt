@@ -41,7 +41,9 @@ impl<W, T, J: Job<W, T>> Promise<Done<W, T>> for Working<W, T, J> {
 }
 
 /// Runs the job over the items that it takes, until it takes an end mark or the buffer is worn out.
-/// An item whose number is not larger than that of the last one is dropped. So it would be missed.
+/// The buffer returns its items in order, but the contract of a seat does not say so. An item whose
+/// number is not larger than that of the last one is therefore dropped, and the run ends with
+/// `Missed`.
 pub(crate) fn work<W, T: Drop, J: Job<W, T>, R: Wait>(
     rt: &R,
     buffer: &ManyBuffer<Feed<T>>,
