@@ -4,8 +4,8 @@ use Rattle.std.specs.Prelude.{◌≡◌, ◌⊎◌, ⊤, List, [], ◌∷◌, ma
 use Rattle.std.specs.List.{All, FoldsTo, flat_map}
 use Rattle.std.specs.List.Sorted.{IsPermutation}
 
--- The first list is the second without some of its elements. So its elements are in the order in
--- which the second list has them.
+-- The first list is what is left of the second if any of its elements are removed. So its elements
+-- are in the order in which the second list has them.
 abbrev pub IsSubsequenceOf : {A : Type 0} → List A → List A → Type 0
 IsSubsequenceOf [] ys = ⊤
 IsSubsequenceOf (x ∷ xs) [] = ⊥

@@ -161,19 +161,14 @@ fn run_scoped<W: Send, T: Drop + Send, S: Source<T>, J: Job<W, T> + Sync, R>(
 ) -> Result<Vec<W>, WorkersRefused<W>>
 where
     R: Threads + Wait + Sync,
-    requires seat { (seat.old.buffer ≡ buffer.now) × (seat.old.takes ≡ []) }
     requires cells { buffer.now.room ≡ vec_len states }
-    requires fits { All (J.fits job.now) states.items }
     requires handles { handles.items ≡ [] }
-    requires room { (1 ≤ vec_len states) × (vec_len states ≤ MAX_CROWD)
-        × (vec_len states ≤ vec_capacity handles) }
+    requires start { CanStart (J.fits job.now) buffer.now seat.old states.items (vec_len states)
+        (vec_capacity handles) }
     ensures ok { IfOk result (λ v.
         Ends (J.runs job.now) (J.fits job.now) S.gives states.items source.old v.items source.new) }
     ensures err { IfErr result (λ e.
-        Fails (J.runs job.now) (J.fits job.now) S.gives states.items source.old e.why e.states.items
-        source.new) }
-    ensures cause { IfErr result (λ e.
-        HasCause (J.runs job.now) S.gives states.items source.old
+        FailsBy (J.runs job.now) (J.fits job.now) S.gives states.items source.old
         (vec_len states) e.why e.states.items source.new seat.new) }
 {
     let kept = unsafe { ManuallyDrop::new_unchecked(states) };
