@@ -1,5 +1,6 @@
 -- If as many places were read as there are, and none twice, all were read.
-use Rattle.std.proofs.Common.{◌≡◌, ◌≢◌, ℕ, zero, suc, ◌+◌, ◌≤◌, ◌==◌, cond, List, [], ◌∷◌, ◌++◌, length, map, replicate, refl, sym}
+use Rattle.std.proofs.Common.{◌≡◌, ◌≢◌, ℕ, zero, suc, ◌+◌, ◌≤◌, ◌==◌, cond, List, [], ◌∷◌, ◌++◌, length, map, replicate}
+use Rattle.std.proofs.Common.{refl, sym}
 use Rattle.std.proofs.Common.{ap, ◌∙◌, subst, arith, length-append}
 use Rattle.std.specs.List.Sorted.{IsPermutation}
 use Rattle.std.proofs.lemmas.List.Sorted.{IsPermutation-refl, IsPermutation-cons, IsPermutation-middle}
@@ -139,7 +140,8 @@ module _ {T : Type 0} where
   pub all_dealt : (fs list : List (Feed T)) (js : List ℕ) → Reads list js fs → Apart js → length list ≤ length js →
       IsPermutation (items_in fs) (items_in list)
   all_dealt [] list [] r all long =
-      subst (λ (l : List (Feed T)). IsPermutation [] (items_in l)) (sym (nil_of list (omega arith))) (IsPermutation-refl [])
+      subst (λ (l : List (Feed T)). IsPermutation [] (items_in l)) (sym (nil_of list (omega arith)))
+      (IsPermutation-refl [])
   all_dealt [] list (j ∷ js) r all long = absurd r
   all_dealt (f ∷ fs) list [] r all long = absurd r
   all_dealt (f ∷ fs) list (j ∷ js) r all long =
