@@ -1,10 +1,10 @@
 -- The headline of the server. It serves the connections that its source returns, each once, over a
 -- new service. Each worker serves its connections in the order in which the source returned them, so
--- a server with one worker serves all of them in that order. Each connection has one session, over the very bytes of that connection, and is then
--- closed with what the session left. The calls of all sessions, each with the reply that was written
--- to it or left without one, and the removals of the stop are one run of the service, and that run
--- obeys the headline of threads, if fewer than 2^62 turns were made at each object (this project's
--- profile).
+-- a server with one worker serves all of them in that order. Each connection has one session, over
+-- the very bytes of that connection, and is then closed with what the session left. The calls of all
+-- sessions, each with the reply that was written to it or left without one, and the removals of the
+-- stop are one run of the service, and that run obeys the headline of threads, if fewer than 2^62
+-- turns were made at each object (this project's profile).
 --
 -- ServesConnections is this statement. The bytes of a connection are those that it tells: a
 -- connection in memory tells them all, and a socket tells none, since no contract speaks of what the
