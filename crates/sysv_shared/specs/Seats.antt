@@ -102,10 +102,9 @@ object_of seat = after_all seat.gate.opening seat.seen
 
 -- ---- what was read of the counts
 
--- Of each count, the seats have read at most one more than the turns of the order show that the
--- member has seen, if nothing had happened at the object when its gate was opened. The one is a rise
--- that another seat has announced in a turn that has not ended. A seat that read the count after
--- these turns could have read more.
+-- Of each count, the seats have read at most one more than it is after the turns that the member has
+-- seen, if nothing had happened at the object when its gate was opened. The one is a rise that
+-- another seat has announced in a turn that has not ended. A read after these turns can find more.
 pub record KnowWhatTheyRead (seats : Seats) : Type 0 where
   pub slots : (slot : ℕ) (seat : SlotSeat) → get_elem? seats.slots slot ≡ some seat →
       SlotStandsFor [] seat.gate.opening →
