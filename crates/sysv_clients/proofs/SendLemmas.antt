@@ -1,6 +1,7 @@
 -- A session of sends in progress, and how it ends.
 use Rattle.std.proofs.Common.{◌≡◌, ℕ, ℤ, pos, List, [], ◌∷◌, ◌++◌, Option, Some, Ok, Err, inl, inr, refl, sym, ap}
-use Rattle.std.proofs.Common.{Result, true, false, subst, ◌∙◌}
+use Rattle.std.proofs.Common.{Result, true, false, subst, ◌∙◌, length, suc, ◌+◌, ◌-◌, ◌^◌}
+use Rattle.std.proofs.lemmas.List.{length-append}
 use Rattle.std.specs.Prelude.{⊤}
 use Rattle.std.specs.Io.KnownBytes.{Consumes, IsAtEnd}
 use Rattle.std.proofs.KnownBytes.{Consumes-nil, Consumes-trans}
@@ -8,7 +9,7 @@ use Rattle.sysv_clients.specs.declared.fault.ClientFault.{ClientFault}
 use Rattle.sysv_clients.specs.declared.fault.ClientFault.TheVariants.{Refused, NoReply, NoMemory}
 use Rattle.sysv_clients.specs.declared.sending.Sending.{Sending}
 use Rattle.sysv_clients.specs.declared.sending.Unsent.{Unsent}
-use Rattle.sysv_clients.specs.declared.sending.Unsent.TheVariants.{Fault, Long, Input}
+use Rattle.sysv_clients.specs.declared.sending.Unsent.TheVariants.{Fault, Long, Many, Input}
 use Rattle.sysv_clients.specs.declared.lines.Fetched.{Fetched}
 use Rattle.sysv_clients.specs.declared.lines.Fetched.TheVariants.{Line, Last, Nothing}
 use Rattle.sysv_clients.specs.Asks.{request_of}
@@ -23,13 +24,15 @@ use Rattle.sysv_wire.specs.declared.request.Ask.TheVariants.{Hello}
 use Rattle.sysv_wire.specs.Requests.{request_spelling}
 
 -- The queue was found, and lines were sent.
-pub record Sends (sending : Sending) (left rest taken more fed unsent : Option (List ℕ)) (id : ℤ) : Type 0 where
+pub record Sends (sending : Sending) (left rest taken more fed unsent : Option (List ℕ)) (id : ℤ) (sent : ℕ) :
+    Type 0 where
   pub first : Call
   pub second : Call
   pub sends : List Call
   pub made : Made IsCallDone (sending_plan sending) (first ∷ second ∷ sends) left rest taken more
   pub finds : id ≡ id_in (first ∷ second ∷ sends)
   pub lines : AreLines sends fed unsent
+  pub many : length sends ≡ sent
 
 -- The hello was done.
 greets : (sending : Sending) (welcome : ReplyContent) (given text : List ℕ) (left rest taken more : Option (List ℕ))
@@ -54,7 +57,7 @@ pub opens : (sending : Sending) (welcome got : ReplyContent) (greeted given text
     taken more greeted
     → ask ≡ find_to_send sending
     → Exchanges (request_spelling (request_of ask) text) ask (Ok got) mid rest more most given
-    → Sends sending left rest taken most fed fed (id_after (id_after (pos 0) welcome) got)
+    → Sends sending left rest taken most fed fed (id_after (id_after (pos 0) welcome) got) 0
 opens sending welcome got greeted given text left mid rest taken more most fed ask hello is find =
     let one = call_of (Hello sending.cred) text welcome greeted in
     let two = call_of (find_to_send sending) text got given in
@@ -67,6 +70,7 @@ opens sending welcome got greeted given text left mid rest taken more most fed a
           (as_ask ask (find_to_send sending) text (Ok got) mid rest more most given is find);
       finds = refl;
       lines = Consumes-nil fed;
+      many = refl;
     }
 
 -- The next line after nothing more was read.
@@ -85,11 +89,11 @@ lines_more (first ∷ others) one fed mid rest lines next =
 
 -- One more line was sent.
 pub sends_more : (sending : Sending) (answer : ReplyContent) (given text : List ℕ)
-    (left mid rest taken more most fed unsent now : Option (List ℕ)) (id : ℤ) (ask : Ask)
-    → Sends sending left mid taken more fed unsent id → IsNext text unsent now → ask ≡ send_ask sending id
+    (left mid rest taken more most fed unsent now : Option (List ℕ)) (id : ℤ) (sent : ℕ) (ask : Ask)
+    → Sends sending left mid taken more fed unsent id sent → IsNext text unsent now → ask ≡ send_ask sending id
     → Exchanges (request_spelling (request_of ask) text) ask (Ok answer) mid rest more most given
-    → Sends sending left rest taken most fed now (id_after id answer)
-sends_more sending answer given text left mid rest taken more most fed unsent now id ask so_far next is exchange =
+    → Sends sending left rest taken most fed now (id_after id answer) (sent + 1)
+sends_more sending answer given text left mid rest taken more most fed unsent now id sent ask so_far next is exchange =
     let one = call_of (send_ask sending id) text answer given in
     record {
       first = so_far.first;
@@ -102,6 +106,7 @@ sends_more sending answer given text left mid rest taken more most fed unsent no
       finds = ap (λ (i : ℤ). id_after i answer) so_far.finds
           ∙ sym (id_more (so_far.first ∷ so_far.second ∷ so_far.sends) one);
       lines = lines_more so_far.sends one fed unsent now so_far.lines next;
+      many = length-append so_far.sends (one ∷ []) ∙ ap (λ (n : ℕ). n + 1) so_far.many;
     }
 
 -- What was read is the next line.
@@ -127,9 +132,10 @@ at_end Nothing left rest text is h = cc
 
 -- All lines were sent.
 pub finishes : (sending : Sending) (done : ⊤) (left rest taken more fed unsent now : Option (List ℕ)) (id : ℤ)
-    → Sends sending left rest taken more fed unsent id → HasNone unsent now
+    (sent : ℕ)
+    → Sends sending left rest taken more fed unsent id sent → HasNone unsent now
     → SendsAll sending (Ok done) left rest taken more fed now
-finishes sending done left rest taken more fed unsent now id so_far none = record {
+finishes sending done left rest taken more fed unsent now id sent so_far none = record {
   calls = so_far.first ∷ so_far.second ∷ so_far.sends;
   unread = rest;
   written = more;
@@ -141,17 +147,18 @@ finishes sending done left rest taken more fed unsent now id so_far none = recor
 
 -- The last line, which has no LF, was sent.
 pub finishes_last : (sending : Sending) (done : ⊤) (left rest taken more fed now : Option (List ℕ)) (id : ℤ)
-    → Sends sending left rest taken more fed now id → IsAtEnd now
+    (sent : ℕ)
+    → Sends sending left rest taken more fed now id sent → IsAtEnd now
     → SendsAll sending (Ok done) left rest taken more fed now
-finishes_last sending done left rest taken more fed now id so_far end =
-    finishes sending done left rest taken more fed now now id so_far (Consumes-nil now, end)
+finishes_last sending done left rest taken more fed now id sent so_far end =
+    finishes sending done left rest taken more fed now now id sent so_far (Consumes-nil now, end)
 
 -- No line was read: the next one is too long, or the input could not be read.
 pub unfetched : (sending : Sending) (why : Unsent) (text : List ℕ)
-    (left rest taken more fed unsent now : Option (List ℕ)) (id : ℤ)
-    → Sends sending left rest taken more fed unsent id → Fetches (Err why) unsent now text
+    (left rest taken more fed unsent now : Option (List ℕ)) (id : ℤ) (sent : ℕ)
+    → Sends sending left rest taken more fed unsent id sent → Fetches (Err why) unsent now text
     → SendsAll sending (Err why) left rest taken more fed now
-unfetched sending Long text left rest taken more fed unsent now id so_far long = record {
+unfetched sending Long text left rest taken more fed unsent now id sent so_far long = record {
   calls = so_far.first ∷ so_far.second ∷ so_far.sends;
   unread = rest;
   written = more;
@@ -160,7 +167,7 @@ unfetched sending Long text left rest taken more fed unsent now id so_far long =
   lines = so_far.lines;
   ends = (refl, refl, text, long);
 }
-unfetched sending (Input why) text left rest taken more fed unsent now id so_far failed = record {
+unfetched sending (Input why) text left rest taken more fed unsent now id sent so_far failed = record {
   calls = so_far.first ∷ so_far.second ∷ so_far.sends;
   unread = rest;
   written = more;
@@ -169,7 +176,24 @@ unfetched sending (Input why) text left rest taken more fed unsent now id so_far
   lines = so_far.lines;
   ends = (refl, refl);
 }
-unfetched sending (Fault why) text left rest taken more fed unsent now id so_far failed = absurd failed
+unfetched sending Many text left rest taken more fed unsent now id sent so_far failed = absurd failed
+unfetched sending (Fault why) text left rest taken more fed unsent now id sent so_far failed = absurd failed
+
+-- As many lines were sent as one session sends.
+pub no_more : (sending : Sending) (left rest taken more fed now : Option (List ℕ)) (id : ℤ) (sent : ℕ)
+    → Sends sending left rest taken more fed now id sent → sent ≡ 2 ^ 64 - 1
+    → SendsAll sending (Err Many) left rest taken more fed now
+no_more sending left rest taken more fed now id sent so_far all =
+    let full : suc (suc (length so_far.sends)) ≡ 2 ^ 64 + 1 = ap (λ (n : ℕ). suc (suc n)) (so_far.many ∙ all) in
+    record {
+      calls = so_far.first ∷ so_far.second ∷ so_far.sends;
+      unread = rest;
+      written = more;
+      unsent = now;
+      made = so_far.made;
+      lines = so_far.lines;
+      ends = (refl, refl, refl, full);
+    }
 
 -- A fault in what was read or written last.
 ends_by : (sending : Sending) (calls : List Call) (why : ClientFault) (ask : Ask) (text given : List ℕ)
@@ -185,11 +209,11 @@ ends_by sending calls NoMemory ask text given left rest taken more fed unfed nex
 
 -- The send of the next line has a fault.
 pub breaks_off : (sending : Sending) (why : ClientFault) (given text : List ℕ)
-    (left mid rest taken more most fed unsent now : Option (List ℕ)) (id : ℤ) (ask : Ask)
-    → Sends sending left mid taken more fed unsent id → IsNext text unsent now → ask ≡ send_ask sending id
+    (left mid rest taken more most fed unsent now : Option (List ℕ)) (id : ℤ) (sent : ℕ) (ask : Ask)
+    → Sends sending left mid taken more fed unsent id sent → IsNext text unsent now → ask ≡ send_ask sending id
     → Exchanges (request_spelling (request_of ask) text) ask (Err why) mid rest more most given
     → SendsAll sending (Err (Fault why)) left rest taken most fed now
-breaks_off sending why given text left mid rest taken more most fed unsent now id ask so_far next is exchange =
+breaks_off sending why given text left mid rest taken more most fed unsent now id sent ask so_far next is exchange =
     let calls = so_far.first ∷ so_far.second ∷ so_far.sends in
     record {
       calls = calls;

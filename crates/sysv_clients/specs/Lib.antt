@@ -12,6 +12,7 @@ pub mod Course
 pub mod Blame
 pub mod Calls
 pub mod Stream
+pub mod Feed
 pub mod Lines
 pub mod Sending
 pub mod Clearing

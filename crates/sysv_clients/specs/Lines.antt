@@ -3,10 +3,12 @@
 use Rattle.std.specs.Prelude.{◌≡◌, ◌≢◌, ◌≤◌, ◌+◌, ◌⊎◌, ⊤, ℕ, Bool, true, false, List, [], ◌∷◌, ◌++◌}
 use Rattle.std.specs.Prelude.{length, All, Option, None, Some, Result, Ok, Err}
 use Rattle.std.specs.Io.KnownBytes.{Consumes, IsAtEnd}
+use Rattle.std.specs.IoError.{error_kind}
+use Rattle.std.specs.declared.io.ErrorKind.{ErrorKind}
 use Rattle.sysv_clients.specs.declared.lines.Fetched.{Fetched}
 use Rattle.sysv_clients.specs.declared.lines.Fetched.TheVariants.{Line, Last, Nothing}
 use Rattle.sysv_clients.specs.declared.sending.Unsent.{Unsent}
-use Rattle.sysv_clients.specs.declared.sending.Unsent.TheVariants.{Fault, Long, Input}
+use Rattle.sysv_clients.specs.declared.sending.Unsent.TheVariants.{Fault, Long, Many, Input}
 use Rattle.sysv_model.specs.declared.limits.TheConstants.{MESSAGE_BYTES}
 
 -- No byte is an LF.
@@ -54,4 +56,13 @@ Fetches (Ok Last) left rest text = IsText text × (text ≢ []) × Consumes left
 Fetches (Ok Nothing) left rest text = (text ≡ []) × HasNone left rest
 Fetches (Err Long) left rest text = IsTooLong text left rest
 Fetches (Err (Input why)) left rest text = ⊤
+Fetches (Err Many) left rest text = ⊥
 Fetches (Err (Fault why)) left rest text = ⊥
+
+-- If the input could not be read, its last read failed, with an error of this kind.
+abbrev pub FailsBy : {T : Type 0} → Result T Unsent → Option ErrorKind → Type 0
+FailsBy (Err (Input why)) failure = failure ≡ Some (error_kind why)
+FailsBy (Err Long) failure = ⊤
+FailsBy (Err Many) failure = ⊤
+FailsBy (Err (Fault why)) failure = ⊤
+FailsBy (Ok done) failure = ⊤

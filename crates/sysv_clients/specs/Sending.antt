@@ -1,11 +1,12 @@
 -- A snd of several messages (this project's programs): each line of an input is a message.
-use Rattle.std.specs.Prelude.{◌≡◌, ⊤, ℕ, ℤ, List, [], ◌∷◌, codes, ◌++◌, Option, Some, Result, Ok, Err}
+use Rattle.std.specs.Prelude.{◌≡◌, ⊤, ℕ, ℤ, ◌+◌, ◌^◌, List, [], ◌∷◌, codes, ◌++◌, length, Option, Some, Result, Ok}
+use Rattle.std.specs.Prelude.{Err}
 use Rattle.std.specs.Io.KnownBytes.{Consumes}
 use Rattle.sysv_clients.specs.declared.fault.ClientFault.{ClientFault}
 use Rattle.sysv_clients.specs.declared.fault.ClientFault.TheVariants as fault
 use Rattle.sysv_clients.specs.declared.sending.Sending.{Sending}
 use Rattle.sysv_clients.specs.declared.sending.Unsent.{Unsent}
-use Rattle.sysv_clients.specs.declared.sending.Unsent.TheVariants.{Fault, Long, Input}
+use Rattle.sysv_clients.specs.declared.sending.Unsent.TheVariants.{Fault, Long, Many, Input}
 use Rattle.sysv_clients.specs.Asks.{flags_to_create, flags_to_wait}
 use Rattle.sysv_clients.specs.Calls.{BreaksPlan, Call, IsCallDone, Made, Plan, id_in}
 use Rattle.sysv_clients.specs.Faults.{fault_line}
@@ -52,14 +53,16 @@ BreaksSends sending calls why left rest taken more fed unfed =
     × BreaksPlan (sending_plan sending) calls text why left rest taken more
 
 -- How a session ends after these calls: the input has no further line, or the next line is too
--- long, or the input could not be read, or the next request ends it, or memory was refused before
--- the first request.
+-- long, or 2^64 - 1 lines were sent, or the input could not be read, or the next request ends it, or
+-- memory was refused before the first request.
 abbrev pub EndsSends : Sending → List Call → Result ⊤ Unsent → (left rest taken more fed unfed : Option (List ℕ)) →
     Type 0
 EndsSends sending calls (Ok done) left rest taken more fed unfed =
     (rest ≡ left) × (more ≡ taken) × HasNone fed unfed
 EndsSends sending calls (Err Long) left rest taken more fed unfed =
     (rest ≡ left) × (more ≡ taken) × (text : List ℕ) × IsTooLong text fed unfed
+EndsSends sending calls (Err Many) left rest taken more fed unfed =
+    (rest ≡ left) × (more ≡ taken) × (unfed ≡ fed) × (length calls ≡ 2 ^ 64 + 1)
 EndsSends sending calls (Err (Input why)) left rest taken more fed unfed = (rest ≡ left) × (more ≡ taken)
 EndsSends sending calls (Err (Fault (fault.Refused error))) left rest taken more fed unfed =
     BreaksSends sending calls (fault.Refused error) left rest taken more fed unfed
@@ -85,4 +88,5 @@ pub record SendsAll (sending : Sending) (ended : Result ⊤ Unsent) (left rest t
 abbrev pub unsent_line : Unsent → List ℕ
 unsent_line (Fault why) = fault_line why
 unsent_line Long = codes "sysvmsg: EINVAL" ++ 10 ∷ []
+unsent_line Many = codes "sysvmsg: too many lines" ++ 10 ∷ []
 unsent_line (Input why) = codes "sysvmsg: cannot read" ++ 10 ∷ []

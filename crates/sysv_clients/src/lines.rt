@@ -1,10 +1,13 @@
 //! Lines of an input.
-ghost use Rattle.std.specs.Prelude.{◌≡◌, ◌<◌, ◌∷◌, ◌++◌, [], length, IfOk};
+ghost use Rattle.std.specs.Prelude.{◌≡◌, ◌<◌, ◌∷◌, ◌++◌, [], length, Some, IfOk, IfErr};
 ghost use Rattle.std.specs.Io.{ReadsAtMost};
 ghost use Rattle.std.specs.Io.KnownBytes.{ReadConsumes};
-ghost use Rattle.sysv_clients.specs.Lines.{Fetches, ReadsByte, is_last, is_nothing};
+ghost use Rattle.std.specs.IoError.{error_kind};
+ghost use Rattle.sysv_clients.specs.Feed.{failure_of, feed_name, feed_stream};
+ghost use Rattle.sysv_clients.specs.Lines.{FailsBy, Fetches, ReadsByte, is_last, is_nothing};
 ghost use Rattle.sysv_model.specs.declared.limits.TheConstants.{BODY_ROOM};
 
+use crate::feed::Feed;
 use crate::sending::Unsent;
 use std::io;
 use std::io::{ErrorKind, Read};
@@ -52,8 +55,11 @@ impl Fetched {
 ///
 /// - `Long` if the line has more than `MESSAGE_BYTES` bytes.
 /// - `Input` if a read fails, except that an interrupted read is made again.
-pub(crate) fn fetch<I: Read>(input: &mut I, line: &mut Body) -> Result<Fetched, Unsent>
-    ensures { Fetches result (I.remaining input.old) (I.remaining input.new) line.new }
+pub(crate) fn fetch<I: Read>(input: &mut Feed<'_, I>, line: &mut Body) -> Result<Fetched, Unsent>
+    ensures fetches { Fetches result (I.remaining (feed_stream input.old))
+        (I.remaining (feed_stream input.new)) line.new }
+    ensures same { feed_name input.new ≡ feed_name input.old }
+    ensures failed { FailsBy result (failure_of input.new) }
 {
     line.clear();
     while line.len() <= MESSAGE_BYTES {
@@ -77,9 +83,11 @@ fn put(line: &mut Body, byte: u8)
 }
 
 /// Reads a byte, or `None` at the end of the input. An interrupted read is made again.
-fn read_byte<I: Read>(input: &mut I) -> io::Result<Option<u8>>
-    ensures { IfOk result (λ found.
-        ReadsByte found (I.remaining input.old) (I.remaining input.new)) }
+fn read_byte<I: Read>(input: &mut Feed<'_, I>) -> io::Result<Option<u8>>
+    ensures byte { IfOk result (λ found. ReadsByte found
+        (I.remaining (feed_stream input.old)) (I.remaining (feed_stream input.new))) }
+    ensures same { feed_name input.new ≡ feed_name input.old }
+    ensures failed { IfErr result (λ why. failure_of input.new ≡ Some (error_kind why)) }
 {
     let mut byte = [0];
     match read_some(input, &mut byte)? {
@@ -89,11 +97,13 @@ fn read_byte<I: Read>(input: &mut I) -> io::Result<Option<u8>>
 }
 
 /// Reads once, like `Read::read`. An interrupted read is made again.
-fn read_some<I: Read>(input: &mut I, buffer: &mut [u8]) -> io::Result<usize>
+fn read_some<I: Read>(input: &mut Feed<'_, I>, buffer: &mut [u8]) -> io::Result<usize>
     ensures bound { ReadsAtMost result buffer.new }
-    ensures bytes { ReadConsumes (I.remaining input.old) (I.remaining input.new)
-        result buffer.new }
+    ensures bytes { ReadConsumes (I.remaining (feed_stream input.old))
+        (I.remaining (feed_stream input.new)) result buffer.new }
     ensures len { length buffer.new ≡ length buffer.old }
+    ensures same { feed_name input.new ≡ feed_name input.old }
+    ensures failed { IfErr result (λ why. failure_of input.new ≡ Some (error_kind why)) }
 {
     for _ in 0..u64::MAX {
         match input.read(buffer) {
@@ -101,5 +111,5 @@ fn read_some<I: Read>(input: &mut I, buffer: &mut [u8]) -> io::Result<usize>
             outcome => return outcome,
         }
     }
-    Err(io::Error::from(ErrorKind::Interrupted))
+    input.read(buffer)
 }

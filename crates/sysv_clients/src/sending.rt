@@ -1,5 +1,7 @@
 //! A `snd` of several messages: a session that sends each line of an input as a message.
 ghost use Rattle.std.specs.Prelude.{◌≡◌, [], IfOk};
+ghost use Rattle.sysv_clients.specs.Feed.{failure_of, feed_name, feed_stream};
+ghost use Rattle.sysv_clients.specs.Lines.{FailsBy};
 ghost use Rattle.sysv_clients.specs.Sending.{SendsAll, unsent_line};
 ghost use Rattle.sysv_clients.specs.Sending.{find_to_send, send_ask};
 ghost use Rattle.sysv_model.specs.Watched.{stream_name, stream_of};
@@ -8,10 +10,11 @@ use crate::client::found;
 use crate::command::{create_flags, wait_flags};
 use crate::exchange::exchange;
 use crate::fault::ClientFault;
+use crate::feed::Feed;
 use crate::lines::fetch;
 use std::alloc::Global;
 use std::io;
-use std::io::{ErrorKind, Read, Write};
+use std::io::{Read, Write};
 use sysv_model::{Body, Cred, Errno, NoMemory, Watched};
 use sysv_wire::Ask;
 
@@ -35,6 +38,8 @@ pub enum Unsent {
     Fault(ClientFault),
     /// A line is longer than the body of a message may be.
     Long,
+    /// 2^64 - 1 lines were sent, each with its LF, and no more are.
+    Many,
     /// The input could not be read.
     Input(io::Error),
 }
@@ -57,6 +62,7 @@ impl Unsent {
         match self {
             Unsent::Fault(fault) => fault.line(),
             Unsent::Long => ClientFault::Refused(Errno::EINVAL).line(),
+            Unsent::Many => "sysvmsg: too many lines\n",
             Unsent::Input(_) => "sysvmsg: cannot read\n",
         }
     }
@@ -100,6 +106,7 @@ impl Sending {
 ///   the session. Or memory was refused; it is allocated first, so nothing was written to the server
 ///   or read.
 /// - `Long`: the next line has more than 8,192 bytes.
+/// - `Many`: 2^64 - 1 lines were sent. Whether there are more is not looked at.
 /// - `Input`: a read of the input failed.
 pub fn send_lines<I: Read, R: Read, W: Write>(
     alloc: Global,
@@ -112,6 +119,29 @@ pub fn send_lines<I: Read, R: Read, W: Write>(
         (W.contents writer.old) (W.contents writer.new)
         (I.remaining input.old) (I.remaining input.new) }
 {
+    send_feed(alloc, sending, &mut Feed::new(input), reader, writer)
+}
+
+/// Sends lines like `send_lines`. If the input could not be read, then the last read of it failed,
+/// and the feed states the kind of the error that is returned.
+///
+/// # Errors
+///
+/// Those of `send_lines`.
+pub fn send_feed<I: Read, R: Read, W: Write>(
+    alloc: Global,
+    sending: &Sending,
+    input: &mut Feed<'_, I>,
+    reader: &mut R,
+    writer: &mut W,
+) -> Result<(), Unsent>
+    ensures sends { SendsAll sending.now result (R.remaining reader.old) (R.remaining reader.new)
+        (W.contents writer.old) (W.contents writer.new)
+        (I.remaining (feed_stream input.old)) (I.remaining (feed_stream input.new)) }
+    ensures failed { FailsBy result (failure_of input.new) }
+    // The input stays the same.
+    ensures same { feed_name input.new ≡ feed_name input.old }
+{
     send_watched(
         alloc,
         sending,
@@ -121,18 +151,20 @@ pub fn send_lines<I: Read, R: Read, W: Write>(
     )
 }
 
-/// Sends lines like `send_lines`.
+/// Sends lines like `send_feed`.
 fn send_watched<I: Read, R: Read, W: Write>(
     alloc: Global,
     sending: &Sending,
-    input: &mut I,
+    input: &mut Feed<'_, I>,
     reader: &mut Watched<'_, R>,
     writer: &mut Watched<'_, W>,
 ) -> Result<(), Unsent>
     ensures sends { SendsAll sending.now result
         (R.remaining (stream_of reader.old)) (R.remaining (stream_of reader.new))
         (W.contents (stream_of writer.old)) (W.contents (stream_of writer.new))
-        (I.remaining input.old) (I.remaining input.new) }
+        (I.remaining (feed_stream input.old)) (I.remaining (feed_stream input.new)) }
+    ensures failed { FailsBy result (failure_of input.new) }
+    ensures same_input { feed_name input.new ≡ feed_name input.old }
     ensures same_reader { stream_name reader.new ≡ stream_name reader.old }
     ensures same_writer { stream_name writer.new ≡ stream_name writer.old }
 {
@@ -166,7 +198,7 @@ impl Sender {
     fn send_all<I: Read, R: Read, W: Write>(
         &mut self,
         sending: &Sending,
-        input: &mut I,
+        input: &mut Feed<'_, I>,
         reader: &mut Watched<'_, R>,
         writer: &mut Watched<'_, W>,
     ) -> Result<(), Unsent>
@@ -174,7 +206,9 @@ impl Sender {
         ensures sends { SendsAll sending.now result
             (R.remaining (stream_of reader.old)) (R.remaining (stream_of reader.new))
             (W.contents (stream_of writer.old)) (W.contents (stream_of writer.new))
-            (I.remaining input.old) (I.remaining input.new) }
+            (I.remaining (feed_stream input.old)) (I.remaining (feed_stream input.new)) }
+        ensures failed { FailsBy result (failure_of input.new) }
+        ensures same_input { feed_name input.new ≡ feed_name input.old }
         ensures same_reader { stream_name reader.new ≡ stream_name reader.old }
         ensures same_writer { stream_name writer.new ≡ stream_name writer.old }
     {
@@ -182,7 +216,8 @@ impl Sender {
         let welcome = exchange(reader, writer, hello, &self.text, &mut self.given)?;
         let got = exchange(reader, writer, sending.find(), &self.text, &mut self.given)?;
         let mut id = found(found(0, &welcome), &got);
-        for _ in 0..u64::MAX {
+        let mut sent = 0;
+        while sent < u64::MAX {
             let fetched = fetch(input, &mut self.text)?;
             if fetched.is_nothing() {
                 return Ok(());
@@ -198,7 +233,8 @@ impl Sender {
             if fetched.is_last() {
                 return Ok(());
             }
+            sent += 1;
         }
-        Err(Unsent::Input(io::Error::from(ErrorKind::Interrupted)))
+        Err(Unsent::Many)
     }
 }
