@@ -1,6 +1,6 @@
 -- What a call at one place does to a seat of a bank.
-use Rattle.std.proofs.Common.{◌≡◌, ◌≢◌, ℕ, zero, suc, ◌<◌, ◌≤◌, List, [], ◌∷◌, ◌++◌, map, length, set, get_or, refl}
-use Rattle.std.proofs.Common.{sym, ap, ◌∙◌, subst, arith, length-append, get_or-set_other}
+use Rattle.std.proofs.Common.{◌≡◌, ◌≢◌, ℕ, zero, suc, ◌+◌, ◌<◌, ◌≤◌, List, [], ◌∷◌, ◌++◌, map, length, set}
+use Rattle.std.proofs.Common.{get_or, refl, sym, ap, ◌∙◌, subst, arith, length-append, get_or-set_other}
 use Rattle.std.proofs.lemmas.List.{length-map}
 use mathlib.Core.Logic.{dite}
 use native.Mathlib.Decide.{ℕ_discrete}
@@ -22,7 +22,8 @@ use Rattle.sysv_gate.specs.History.{IsLegal, after_all}
 use Rattle.sysv_gate.specs.Gates.{Gateway, Holding, KnowsItsOwn}
 use Rattle.sysv_gate.specs.History.{made_at}
 use Rattle.sysv_gate.specs.Orders.{turns_at, AreBelow, NoneMadeUnder}
-use Rattle.sysv_gate.specs.Halls.{view_at, me_at}
+use Rattle.sysv_gate.specs.Counts.{of_count}
+use Rattle.sysv_gate.specs.Halls.{view_at, ReadsInOrder, me_at}
 use Rattle.sysv_gate.specs.Doors.{Doorway, IsDoorOf, IsAt, IsSame, Idles, EndsOrder}
 use Rattle.sysv_gate.proofs.OrderByPlace.{turns_append, turns_here, turns_longer, below_front}
 use Rattle.sysv_bank.specs.declared.seat.BankSeat.TheInside.{Inside}
@@ -30,6 +31,7 @@ use Rattle.sysv_bank.specs.declared.bank.Bank.TheInside.{Inside as BankInside}
 use Rattle.sysv_bank.specs.Banks.{ChangesAt, gates_of, EachKnowsItsOwn}
 use Rattle.sysv_gate.specs.Held.{holding, RestsAt}
 use Rattle.sysv_bank.specs.Passes.{Pass, holdings, GoesOn, AddsToOrder, SeenInOrder, IsOfPass, KnowsItsTurns}
+use Rattle.sysv_bank.specs.Passes.{KnowsItsReads}
 use Rattle.sysv_bank.specs.Resting.{IsNamedAs, pass_of, Rests, gateways, IsOpen}
 use Rattle.sysv_lists.proofs.Places.{at_below, there}
 use Rattle.sysv_bank.proofs.OwnTurns.{made_at-longer, before_last, goes_without}
@@ -419,6 +421,27 @@ module _ {O C R : Type 0} (moves : O → C → R → O → Type 0) (s : Inside O
             (subst (λ (l : List ℕ). 1 ≤ times (view_at place s.token.me.0).number l) named.1 r.named);
         own = ((λ p. own_named moves s rest place p few), r.own.1);
       })
+
+  pub knows_reads : (counted : O → ℕ × ℕ) → ReadsInOrder moves counted s.token.me.0 →
+      KnowsItsReads moves counted (pass_of s)
+  knows_reads counted known = record {
+    legal = λ place h at.
+        let from = from_view place h at in
+        let less = at_below s.key.value.openings.value.items place from.0 from.1 in
+        let many = rest.many in
+        let opens = (rest.each place from.0 from.1).0.opening in
+        subst (λ (x : Holding O C R). IsLegal moves x.gate.opening (turns_at place s.token.me.0.seen)) from.2
+        (known.legal place from.0 (omega arith) opens);
+    reads = λ place h at count.
+        let from = from_view place h at in
+        let less = at_below s.key.value.openings.value.items place from.0 from.1 in
+        let many = rest.many in
+        let opens = (rest.each place from.0 from.1).0.opening in
+        subst (λ (x : Holding O C R).
+        of_count count x.read
+        ≤ of_count count (counted (after_all x.gate.opening (turns_at place s.token.me.0.seen))) + 1) from.2
+        (known.reads place from.0 (omega arith) opens count);
+  }
 
 -- Two states of one seat belong to the same gates.
 pub gates_same : {O C R : Type 0} (moves : O → C → R → O → Type 0) (s : Inside O C R)

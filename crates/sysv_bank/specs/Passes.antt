@@ -1,6 +1,6 @@
 -- What contracts see of a bank's seat, and how the order that it has seen grows. This project's
 -- profile.
-use Rattle.std.specs.Prelude.{◌≡◌, ℕ, ◌≤◌, List, [], ◌∷◌, ◌++◌}
+use Rattle.std.specs.Prelude.{◌≡◌, ℕ, ◌+◌, ◌≤◌, List, [], ◌∷◌, ◌++◌}
 use mathlib.Core.Option.{some}
 use lib.ListN.{get_elem?}
 use Rattle.atomic_table.specs.Seated.{TableId}
@@ -9,9 +9,11 @@ use Rattle.sysv_lists.specs.Prefix.{IsPrefixOf}
 use Rattle.sysv_gate.specs.declared.view.View.{View}
 use Rattle.sysv_gate.specs.declared.view.Turn.{Turn}
 use Rattle.sysv_gate.specs.declared.view.Placed.{Placed}
+use Rattle.sysv_gate.specs.declared.count.Count.{Count}
 use Rattle.sysv_gate.specs.Gates.{Holding}
 use Rattle.sysv_gate.specs.Held.{holding}
-use Rattle.sysv_gate.specs.History.{HasItsOwn}
+use Rattle.sysv_gate.specs.History.{HasItsOwn, IsLegal, after_all}
+use Rattle.sysv_gate.specs.Counts.{of_count}
 use Rattle.sysv_gate.specs.Shares.{half}
 use Rattle.sysv_gate.specs.Orders.{turns_at, NoneMadeUnder, GoesOnWithout}
 
@@ -92,3 +94,12 @@ module _ {O C R : Type 0} where
   -- This holds at each place.
   abbrev pub KnowsItsTurns : Pass O C R → Type 0
   KnowsItsTurns pass = (place : ℕ) (h : Holding O C R) → get_elem? pass.seats place ≡ some h → IsOfPass pass place h
+
+  -- At each place, the turns of the order that the pass has seen are legal. Of each count there, the
+  -- pass has read at most one more than the object has after these turns: the one is a rise that
+  -- another pass has announced in a turn that has not ended.
+  pub record KnowsItsReads (moves : O → C → R → O → Type 0) (counted : O → ℕ × ℕ) (pass : Pass O C R) : Type 0 where
+    pub legal : (place : ℕ) (h : Holding O C R) → get_elem? pass.seats place ≡ some h →
+        IsLegal moves h.gate.opening (turns_at place pass.order)
+    pub reads : (place : ℕ) (h : Holding O C R) → get_elem? pass.seats place ≡ some h → (count : Count) →
+        of_count count h.read ≤ of_count count (counted (after_all h.gate.opening (turns_at place pass.order))) + 1

@@ -5,7 +5,7 @@ ghost use Rattle.sysv_gate.specs.Gates.{Answers, Learns, read_to, marked};
 ghost use Rattle.sysv_gate.specs.Refusals.{Refuses};
 ghost use Rattle.sysv_gate.specs.Waits.{Waited, WaitedWithin};
 ghost use Rattle.sysv_bank.specs.Banks.{gates_of, ChangesAt, AcceptsAt};
-ghost use Rattle.sysv_bank.specs.Passes.{GoesOn, AddsToOrder};
+ghost use Rattle.sysv_bank.specs.Passes.{GoesOn, AddsToOrder, KnowsItsReads};
 
 use crate::bank::Bank;
 use crate::seat::BankSeat;
@@ -14,7 +14,8 @@ use sysv_gate::{Awaited, Count, Object, TryRefused, Worn};
 
 impl<O: Object> Bank<O> {
     /// Makes the call at `place` in a turn of the seat's own, like `Gate::call`. Afterwards the
-    /// turn is the last one in the order that the seat has seen.
+    /// turn is the last one in the order that the seat has seen, and the seat has read at most one
+    /// more of any count at any place than that count has after this order.
     ///
     /// # Errors
     ///
@@ -37,6 +38,7 @@ impl<O: Object> Bank<O> {
         requires fits { AcceptsAt (Moves O.meaning O.counted) O.accepts place self.now call }
         ensures gates { gates_of seat.new.seats ≡ self.now }
         ensures order { OnOk result (AddsToOrder place seat.old seat.new) }
+        ensures reads { OnOk result (KnowsItsReads (Moves O.meaning O.counted) O.counted seat.new) }
         ensures longer { OnErr result (GoesOn seat.old seat.new) }
         ensures ok { IfOk result (λ r. ChangesAt place seat.old.seats seat.new.seats
             (λ before after. Answers (Moves O.meaning O.counted) O.counted before call r after
@@ -73,6 +75,7 @@ impl<O: Object> Bank<O> {
         requires fits { AcceptsAt (Moves O.meaning O.counted) O.accepts place self.now call }
         ensures gates { gates_of seat.new.seats ≡ self.now }
         ensures order { OnOk result (AddsToOrder place seat.old seat.new) }
+        ensures reads { OnOk result (KnowsItsReads (Moves O.meaning O.counted) O.counted seat.new) }
         ensures longer { OnErr result (GoesOn seat.old seat.new) }
         ensures ok { IfOk result (λ r. ChangesAt place seat.old.seats seat.new.seats
             (λ before after. Answers (Moves O.meaning O.counted) O.counted before call r after

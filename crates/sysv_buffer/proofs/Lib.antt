@@ -2,6 +2,7 @@ pub mod CellsOutAndBack
 pub mod StepKeepsRule
 pub mod OpenedMeetsRule
 pub mod ConsumerAfterTake
+pub mod SeatAfterTake
 pub mod TakenIsPrefix
 pub mod ManySeats
 pub mod ManyStepKeepsRule

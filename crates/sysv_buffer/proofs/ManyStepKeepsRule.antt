@@ -694,7 +694,7 @@ module _ {T : Type 0} where
               fills = λ h. inr (h, omega arith);
               empties = λ h. absurd (true≢false (sym h));
             })),
-        refl,
+        (refl, λ j i h h'. let below = know.own_taken j h in let from = know.waits_to_take i h' in omega arith),
       )
 
   pub removes : (slots id : ℕ) (m : Own T) (v : Sight T) (k t : ℕ) → m ≡ (v, (k, None) ∷ []) → v.empties ≡ true

@@ -9,6 +9,7 @@ use Rattle.sysv_buffer.specs.declared.refusals.ManyPutRefused.{ManyPutRefused}
 use Rattle.sysv_buffer.specs.declared.refusals.ManyPutRefused.TheVariants as refused
 use Rattle.sysv_buffer.specs.declared.refusals.ManyTakeRefused.{ManyTakeRefused}
 use Rattle.sysv_buffer.specs.declared.refusals.ManyTakeRefused.TheVariants as missed
+use Rattle.sysv_lists.specs.Numbers.{times}
 use Rattle.sysv_lists.specs.Prefix.{IsPrefixOf}
 
 -- A seat: its buffer, the items put, as far as it has seen them, the number of items that it has
@@ -61,14 +62,15 @@ module _ {T : Type 0} where
     pub puts : after.puts ≡ before.puts ++ length (before.seen ++ others) ∷ []
     pub takes : after.takes ≡ before.takes
 
-  -- The item is at a place in the list of items put, and that place is the last that the seat took
-  -- from.
+  -- The item is at a place in the list of items put. That place is the last that the seat took from,
+  -- and it is later than each that the seat took from before.
   pub record Takes (item : T) (before after : Holding T) : Type 0 where
     pub more : List T
     pub seen : after.seen ≡ before.seen ++ more
     pub puts : after.puts ≡ before.puts
     pub place : ℕ
     pub takes : after.takes ≡ before.takes ++ place ∷ []
+    pub later : (k : ℕ) → 1 ≤ times k before.takes → k < place
     pub at : get_elem? after.seen place ≡ some item
 
   -- The refusal holds the item. It describes the buffer by the counts that were loaded. It is

@@ -89,10 +89,12 @@ module _ {T : Type 0} where
   abbrev pub Places : At T → Own T → ℕ → Own T → Type 0
   Places st m n m' = m' ≡ (placed m.0 m.1, rest m.1)
 
-  -- The addition to OUT, which returns the empty cell to the table.
+  -- The addition to OUT, which returns the empty cell to the table. The ticket was for a place
+  -- after all those that the seat took from before.
   abbrev pub Removes : At T → Own T → ℕ → Own T → Type 0
   Removes st m n m' =
-      m' ≡ (record m.0 { takes = m.0.takes ++ m.0.take_ticket; take_ticket = []; empties = false }, rest m.1)
+      (m' ≡ (record m.0 { takes = m.0.takes ++ m.0.take_ticket; take_ticket = []; empties = false }, rest m.1))
+      × ((k j : ℕ) → 1 ≤ times k m.0.takes → 1 ≤ times j m.0.take_ticket → k < j)
 
   -- What a split makes: a seat that has seen the same, and has put and taken nothing.
   abbrev pub beside : Sight T → Sight T

@@ -12,6 +12,7 @@ use Rattle.sysv_buffer.specs.declared.many_turns.Next.{Next}
 use Rattle.sysv_buffer.specs.declared.many_turns.Next.TheVariants as next
 use Rattle.sysv_buffer.specs.Ends.{Buffered}
 use Rattle.sysv_buffer.specs.ManySteps.{Own}
+use Rattle.sysv_lists.specs.Numbers.{times}
 
 module _ {T : Type 0} where
   -- The token belongs to this buffer.
@@ -91,9 +92,11 @@ module _ {T : Type 0} where
     pub puts : m.0.puts ≡ v.puts ++ length v.seen ∷ []
     pub takes : m.0.takes ≡ v.takes
 
-  -- The item was taken, and its cell is back in the table.
+  -- The item was taken, and its cell is back in the table. The ticket was for a place after all
+  -- those that the seat took from before.
   pub record HasTaken (item : T) (v : Sight T) (m : Own T) : Type 0 where
     pub waits : Waits [] [] m
     pub seen : m.0.seen ≡ v.seen
     pub puts : m.0.puts ≡ v.puts
     pub takes : m.0.takes ≡ v.takes ++ v.take_ticket
+    pub later : (k j : ℕ) → 1 ≤ times k v.takes → 1 ≤ times j v.take_ticket → k < j

@@ -47,7 +47,8 @@ impl<T: Drop> ManyBuffer<T> {
         Ok(())
     }
 
-    /// Waits for its turn and for an item, and takes that item.
+    /// Waits for its turn and for an item, and takes that item. A seat takes from later and later
+    /// places.
     ///
     /// # Errors
     ///

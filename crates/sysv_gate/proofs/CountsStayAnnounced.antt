@@ -87,11 +87,13 @@ module _ {O C R : Type 0} where
       → value' + known + of_count count v.announced ≡ value + known' + of_count count w.announced
       → (w.in_turn ≡ false → of_count count w.announced ≡ 0)
       → of_count count w.read ≤ value'
+      → value' ≤ known' + 1
       → IsAnnounced count known' value' (set views id w)
-  counts_on count known known' value value' id views v w told at more balance quiet read =
+  counts_on count known known' value value' id views v w told at more balance quiet read few =
       let before = told.value in
       let sums = sum_by-set_at (λ (u : View O C R). of_count count u.announced) views id v w at in record {
         value = omega arith;
+        few = few;
         quiet = each_set (λ (u : View O C R). u.in_turn ≡ false → of_count count u.announced ≡ 0)
             (λ (u : View O C R). u.in_turn ≡ false → of_count count u.announced ≡ 0) views id w told.quiet
             (λ k u _ _ q. q) quiet;
@@ -111,7 +113,7 @@ module _ {O C R : Type 0} where
       let known : ℕ = of_count count (counted object) in
       let value : ℕ = get_or words (word_of count) 0 in
       counts_on count known known value value id views v w (told count) at (omega arith) (omega arith)
-      (λ still. added ∙ (told count).quiet id v at (idle still)) (omega arith)
+      (λ still. added ∙ (told count).quiet id v at (idle still)) (omega arith) (told count).few
 
   -- A new view is added that has added nothing to the counts, and has read no more of them than
   -- another view.
@@ -126,6 +128,7 @@ module _ {O C R : Type 0} where
       let seen : of_count count w.read ≡ of_count count v.read = ap (of_count count) read in
       let high = (told count).read id v at in record {
         value = omega arith;
+        few = (told count).few;
         quiet = λ k u there idle.
             ⊎_elim (λ t. (told count).quiet k u t idle)
             (λ t. subst (λ (x : View O C R). of_count count x.announced ≡ 0) t added) (at_snoc views w u k there);

@@ -78,6 +78,7 @@ module _ {O C R : Type 0} (moves : O → C → R → O → Type 0) (counted : O 
   told_one count o first value is =
       let none = none_yet count in record {
         value = is ∙ (omega arith);
+        few = omega arith;
         quiet = λ i v at _.
             ⊎_elim (λ t. absurd (some-ne-none v (sym t)))
             (λ t. subst (λ (u : View O C R). of_count count u.announced ≡ 0) t none)

@@ -301,8 +301,8 @@ module _ {O C R : Type 0} (moves : O → C → R → O → Type 0) (counted : O 
       let none = none_yet count in
       counts_on count known known value value other (set s.views id b) w spent
       (counts_on count known known value value id s.views v b before at (omega arith) (omega arith) (λ _. quiet)
-      (larger_up_to count v.read w.read value read read'))
-      still (omega arith) (omega arith) (λ _. none) (omega arith) in (
+      (larger_up_to count v.read w.read value read read') before.few)
+      still (omega arith) (omega arith) (λ _. none) (omega arith) before.few in (
         held.0,
         held.1,
         held.2,

@@ -1,6 +1,7 @@
 -- Proves that a step of a gate is a step at a place of a table with several places.
-use Rattle.std.proofs.Common.{◌≡◌, ◌≢◌, inr, ⊎_elim, ℕ, zero, suc, ◌+◌, ◌*◌, ◌<◌, List, [], ◌∷◌, ◌++◌, map, length, set}
-use Rattle.std.proofs.Common.{get_or, sym, refl, ap, ◌∙◌, subst, arith, length-set, get_or-set_same, get_or-set_other}
+use Rattle.std.proofs.Common.{◌≡◌, ◌≢◌, inr, ⊎_elim, ℕ, zero, suc, ◌+◌, ◌*◌, ◌<◌, ◌≤◌, List, [], ◌∷◌, ◌++◌, map}
+use Rattle.std.proofs.Common.{length, set, get_or, sym, refl, ap, ◌∙◌, subst, arith, length-set, get_or-set_same}
+use Rattle.std.proofs.Common.{get_or-set_other}
 use mathlib.Core.Logic.{dite}
 use native.Mathlib.Decide.{ℕ_discrete}
 use mathlib.Core.Option.{none, some}
@@ -16,10 +17,12 @@ use Rattle.sysv_gate.specs.declared.view.Sight.{Sight}
 use Rattle.sysv_lists.specs.Prefix.{IsPrefixOf}
 use Rattle.sysv_lists.proofs.Prefixes.{prefix_longer}
 use Rattle.sysv_lists.proofs.Places.{at_below, set_at, there}
+use Rattle.sysv_gate.specs.History.{after_all, IsLegal}
+use Rattle.sysv_gate.specs.Counts.{of_count}
 use Rattle.sysv_gate.specs.Rule.{Spot, GatedBy}
 use Rattle.sysv_gate.specs.Steps.{Mine, At, spent}
 use Rattle.sysv_gate.specs.Orders.{turns_at, placed, AreBelow}
-use Rattle.sysv_gate.specs.Halls.{block, view_at, state_at, IsFull, InOrder, Passing, me_at, Carries}
+use Rattle.sysv_gate.specs.Halls.{block, view_at, state_at, ReadsInOrder, IsFull, InOrder, Passing, me_at, Carries}
 use Rattle.sysv_gate.specs.Plays.{StepsAt, AtAPlace}
 use Rattle.sysv_gate.proofs.Blocks.{block_read, block_set, block_else}
 use Rattle.sysv_gate.proofs.OrderByPlace.{turns_append, turns_here, turns_else, below_more, below_placed}
@@ -106,12 +109,13 @@ module _ {O C R : Type 0} (moves : O → C → R → O → Type 0) (counted : O 
   adds_none o id me i f then each log =
       subst (λ (l : Log). AllowsTo (By o log) (By o l) 1 id me i f then) (sym (append-nil log)) (each log)
 
-  pub lift : (place : ℕ) (o : O) (added : Log) (slots id : ℕ) (m : Passing O C R) (i : ℕ) (f : ℕ → ℕ)
+  -- After any step at a place the whole order is seen, so what the pass has read is bounded by it.
+  lift : (place : ℕ) (o : O) (added : Log) (slots id : ℕ) (m : Passing O C R) (i : ℕ) (f : ℕ → ℕ)
       (then : ℕ → Mine O C R → Type 0)
       → get_elem? openings place ≡ some o → i < 80 → place < length m.0.views → Carries place m
       → ((log : Log) → AllowsTo (By o log) (By o (log ++ added)) 1 id (me_at place m) i f then)
       → Allows (InOrder moves counted openings first) slots id m (80 * place + i) f
-      (λ n m'. StepsAt place added (then n) m m')
+      (λ n m'. StepsAt place added (then n) m m' × ReadsInOrder moves counted m'.0)
   lift place o added slots id m i f then opens inside known all each s held one at low =
       let order : List (Placed O C R) = held.0 in
       let kept = held.1 in
@@ -207,28 +211,52 @@ module _ {O C R : Type 0} (moves : O → C → R → O → Type 0) (counted : O 
             shared = still_whole s.views id m.0 sight at refl kept.shared;
           },
         ),
-        record {
-          order = order;
-          longer = longer;
-          seen = refl;
-          also = refl;
-          shares = refl;
-          views = ap (set m.0.views place) (sym sees);
-          within = (now.3.each id (view_at place sight) mine).seen;
-          turn = λ turn. ((here.3.each id (view_at place m.0) (at_map (view_at place) s.views id m.0 at)).turn turn).1;
-          owns = record {
-            below = subst (λ (c : ℕ). AreBelow c next) (sym long) below;
-            own = λ other p less.
+        (
+          record {
+            order = order;
+            longer = longer;
+            seen = refl;
+            also = refl;
+            shares = refl;
+            views = ap (set m.0.views place) (sym sees);
+            within = (now.3.each id (view_at place sight) mine).seen;
+            turn = λ turn.
+                ((here.3.each id (view_at place m.0) (at_map (view_at place) s.views id m.0 at)).turn turn).1;
+            owns = record {
+              below = subst (λ (c : ℕ). AreBelow c next) (sym long) below;
+              own = λ other p less.
+                  let there' = there openings other (omega arith) in
+                  let seen' : get_elem? (map (view_at other) (set s.views id sight)) id ≡ some (view_at other sight) =
+                  at_map (view_at other) (set s.views id sight) id sight (set_at s.views id m.0 sight at) in
+                  ((each other there'.0 there'.1).3.each id (view_at other sight) seen').own p;
+            };
+            carries = touch_all place a m.1 all;
+            there = subst (λ (k : ℕ). then k (me_at place (sight, carried_after m.1 (act_at place a)))) read
+                (subst (λ (x : Mine O C R). then (get_or (block place s.words) i 0) x)
+                (λ j. (sym sees j, sym (touch_carried place a m.1) j)) went.4);
+          },
+          record {
+            legal = λ other p less knows.
                 let there' = there openings other (omega arith) in
                 let seen' : get_elem? (map (view_at other) (set s.views id sight)) id ≡ some (view_at other sight) =
                 at_map (view_at other) (set s.views id sight) id sight (set_at s.views id m.0 sight at) in
-                ((each other there'.0 there'.1).3.each id (view_at other sight) seen').own p;
-          };
-          carries = touch_all place a m.1 all;
-          there = subst (λ (k : ℕ). then k (me_at place (sight, carried_after m.1 (act_at place a)))) read
-              (subst (λ (x : Mine O C R). then (get_or (block place s.words) i 0) x)
-              (λ j. (sym sees j, sym (touch_carried place a m.1) j)) went.4);
-        },
+                let by = each other there'.0 there'.1 in
+                let same : p ≡ there'.0 = ((by.3.each id (view_at other sight) seen').start p knows).0 in
+                subst (λ (q : O). IsLegal moves q (turns_at other next)) (sym same) by.3.legal;
+            reads = λ other p less knows count.
+                let there' = there openings other (omega arith) in
+                let seen' : get_elem? (map (view_at other) (set s.views id sight)) id ≡ some (view_at other sight) =
+                at_map (view_at other) (set s.views id sight) id sight (set_at s.views id m.0 sight at) in
+                let by = each other there'.0 there'.1 in
+                let told = by.4 count in
+                let read = told.read id (view_at other sight) seen' in
+                let few = told.few in
+                let same : p ≡ there'.0 = ((by.3.each id (view_at other sight) seen').start p knows).0 in
+                subst (λ (q : O).
+                of_count count (view_at other sight).read
+                ≤ of_count count (counted (after_all q (turns_at other next))) + 1) (sym same) (omega arith);
+          },
+        ),
       )
 
   -- The place is the one whose word it is.
@@ -245,6 +273,30 @@ module _ {O C R : Type 0} (moves : O → C → R → O → Type 0) (counted : O 
       StepsAt place (added (me_at place m)) (play (step 1 w st.first st.second none) (me_at place m) n) m m') word told)
 
   -- A step on a word whose number is known by an equation.
+  pub lifted_told : (place : ℕ) (o : O) (added : Mine O C R → Log)
+      (play : At O C R → Mine O C R → ℕ → Mine O C R → Type 0) (slots id : ℕ) (m : Passing O C R) (i word a b : ℕ)
+      (f : ℕ → ℕ)
+      → word ≡ 80 * place + i → get_elem? openings place ≡ some o → i < 80 → place < length m.0.views → Carries place m
+      → ((log : Log)
+      → AllowsTo (By o log) (By o (log ++ added (me_at place m))) 1 id (me_at place m) i f
+      (play (step 1 i a b none) (me_at place m)))
+      → Allows (InOrder moves counted openings first) slots id m word f
+      (λ n m'. AtAPlace added play (step slots word a b none) m n m' × ReadsInOrder moves counted m'.0)
+  lifted_told place o added play slots id m i word a b f is opens inside known all each =
+      subst (λ (k : ℕ).
+      Allows (InOrder moves counted openings first) slots id m k f
+      (λ n m'. AtAPlace added play (step slots k a b none) m n m' × ReadsInOrder moves counted m'.0)) (sym is)
+      (λ s held one at low.
+      let went = lift place o (added (me_at place m)) slots id m i f (play (step 1 i a b none) (me_at place m)) opens
+      inside known all each s held one at low in (
+        went.0,
+        went.1,
+        went.2,
+        went.3,
+        (at_its_place added play (step slots (80 * place + i) a b none) m _ _ place i refl inside went.4.0, went.4.1),
+      ))
+
+  -- The same, without what the pass learns of its reads.
   pub lifted : (place : ℕ) (o : O) (added : Mine O C R → Log) (play : At O C R → Mine O C R → ℕ → Mine O C R → Type 0)
       (slots id : ℕ) (m : Passing O C R) (i word a b : ℕ) (f : ℕ → ℕ)
       → word ≡ 80 * place + i → get_elem? openings place ≡ some o → i < 80 → place < length m.0.views → Carries place m
@@ -253,19 +305,9 @@ module _ {O C R : Type 0} (moves : O → C → R → O → Type 0) (counted : O 
       (play (step 1 i a b none) (me_at place m)))
       → Allows (InOrder moves counted openings first) slots id m word f
       (AtAPlace added play (step slots word a b none) m)
-  lifted place o added play slots id m i word a b f is opens inside known all each =
-      subst (λ (k : ℕ).
-      Allows (InOrder moves counted openings first) slots id m k f (AtAPlace added play (step slots k a b none) m))
-      (sym is)
-      (λ s held one at low.
-      let went = lift place o (added (me_at place m)) slots id m i f (play (step 1 i a b none) (me_at place m)) opens
-      inside known all each s held one at low in (
-        went.0,
-        went.1,
-        went.2,
-        went.3,
-        at_its_place added play (step slots (80 * place + i) a b none) m _ _ place i refl inside went.4,
-      ))
+  lifted place o added play slots id m i word a b f is opens inside known all each s held one at low =
+      let went = lifted_told place o added play slots id m i word a b f is opens inside known all each s held one at low
+      in (went.0, went.1, went.2, went.3, went.4.0)
 
   -- The same for a step that adds no turn.
   pub lifted_none : (place : ℕ) (o : O) (play : At O C R → Mine O C R → ℕ → Mine O C R → Type 0) (slots id : ℕ)

@@ -408,10 +408,11 @@ module _ {O C R : Type 0} (moves : O → C → R → O → Type 0) (counted : O 
       later ≡ of_count count (counted (after_all opening l)) + of_count count v.announced) whole (announced count) in
       let none = none_yet count in
       let read = (told count).read id v at in
+      let few = (told count).few in
       subst (λ (o : O). IsAnnounced count (of_count count (counted o)) value (set views id w))
       (sym (after_all-snoc opening log (turn_of v call reply after)))
       (counts_on count known later value value id views v w (told count) at (omega arith) (omega arith) (λ _. none)
-      read)
+      read (omega arith))
 
   ends_at : (log : Log) (slots id : ℕ) (v : V) (o : O) (ticket : ℕ) (after : O) (done : Done C R) → v.opening ≡ Some o
       → v.tickets ≡ ticket ∷ [] → v.in_turn ≡ true → 1 ≤ times v.number v.numbers
@@ -506,7 +507,7 @@ module _ {O C R : Type 0} (moves : O → C → R → O → Type 0) (counted : O 
       let added = stay.0 in
       let seen = stay.1 in
       counts_on other known known value value id s.views v w (told other) at (omega arith) (omega arith)
-      (λ still. added ∙ (told other).quiet id v at (idle still)) (omega arith)
+      (λ still. added ∙ (told other).quiet id v at (idle still)) (omega arith) (told other).few
 
   pub announces : (log : Log) (slots id : ℕ) (me : M) (count : Count) (o : O) → me.0.opening ≡ Some o
       → me.0.in_turn ≡ true → of_count count me.0.announced ≡ 0
@@ -554,7 +555,7 @@ module _ {O C R : Type 0} (moves : O → C → R → O → Type 0) (counted : O 
               worn = fits.worn;
             }) (kept.alone id v at))
             (counts_on count known known n (n + 1) id s.views v w (told count) at (omega arith) (omega arith)
-            (λ idle. absurd (true≢false (sym turn ∙ idle))) (omega arith))
+            (λ idle. absurd (true≢false (sym turn ∙ idle))) (omega arith) (omega arith))
             (told_but s log count id v w told at (λ idle. idle)
             (λ other apart. (of_other count other 1 v.announced apart, refl)))),
         λ c is.
@@ -599,7 +600,7 @@ module _ {O C R : Type 0} (moves : O → C → R → O → Type 0) (counted : O 
               worn = fits.worn;
             }) (kept.alone id v at))
             (counts_on count known known n n id s.views v w (told count) at (omega arith) (omega arith)
-            (λ _. (told count).quiet id v at idle) (omega arith))
+            (λ _. (told count).quiet id v at idle) (omega arith) (told count).few)
             (told_but s log count id v w told at (λ _. idle)
             (λ other apart. (refl, of_other count other n v.read apart))),
         λ c is o opens.

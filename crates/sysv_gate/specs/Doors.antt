@@ -5,6 +5,9 @@ use mathlib.Core.Option.{some}
 use lib.ListN.{get_elem?}
 use Rattle.atomic_table.specs.Seated.{TableId}
 use Rattle.atomic_table.specs.declared.shared.Seat.{Seat}
+use Rattle.atomic_table.specs.declared.shared.Shared.{Shared}
+use Rattle.sysv_gate.specs.declared.hall.HallKey.{HallKey}
+use Rattle.sysv_gate.specs.declared.hall.HallRule.{HallRule}
 use Rattle.sysv_gate.specs.declared.view.Turn.{Turn}
 use Rattle.sysv_gate.specs.declared.view.Placed.{Placed}
 use Rattle.sysv_gate.specs.declared.view.Sight.{Sight}
@@ -33,6 +36,10 @@ abbrev pub IsDoorOf : {O : Type 0} → TableId → List O → Doorway O → Type
 IsDoorOf table openings door =
     (get_elem? openings door.place ≡ some door.opening) × (80 * door.place + 80 ≤ table.words)
 
+-- What contracts see of a table.
+abbrev pub HallSeen : Type 0 → Type 0 → Type 0 → Type 0
+HallSeen O C R = Shared (Spot O C R) (Sight O C R) (HallKey O) (HallRule O)
+
 module _ {O C R : Type 0} where
   -- The pass is one of the table, and knows the object that was first at the place. It holds no
   -- slot except that of the place, and the order that it has seen contains all turns that it has
@@ -43,6 +50,22 @@ module _ {O C R : Type 0} where
       × ((me_at door.place token.me).0.opening ≡ Some door.opening)
       × Carries door.place token.me
       × IsPrefixOf (view_at door.place token.me.0).seen (turns_at door.place token.me.0.seen)
+
+  -- The table has at least one place.
+  abbrev pub HasPlaces : HallSeen O C R → Type 0
+  HasPlaces hall = 80 ≤ hall.table_id.words
+
+  -- The door is a place of this table.
+  abbrev pub IsDoorIn : HallSeen O C R → Doorway O → Type 0
+  IsDoorIn hall door = IsDoorOf hall.table_id hall.key.openings.value.items door
+
+  -- The pass is one of this table, and knows the place, as in `IsAt`.
+  abbrev pub IsPassAt : HallSeen O C R → Doorway O → Seat (Spot O C R) (Sight O C R) → Type 0
+  IsPassAt hall door token = IsAt hall.table_id door token
+
+  -- The pass is one of the table.
+  abbrev pub IsPassOf : HallSeen O C R → Seat (Spot O C R) (Sight O C R) → Type 0
+  IsPassOf hall token = token.table_id ≡ hall.table_id
 
   -- Only what the pass has at the place has changed, and the pass has seen no less of the order. If
   -- it knew exactly its own turns in what it had seen, it still does.
@@ -124,3 +147,7 @@ module _ {O C R : Type 0} where
   KnowsAll openings sight = (length sight.views ≡ length openings)
       × ((place : ℕ) (o : O) → get_elem? openings place ≡ some o →
       ((view_at place sight).opening ≡ Some o) × Idling (view_at place sight))
+
+  -- The pass knows the object that was first at each place of the table, and is at rest there.
+  abbrev pub RestsIn : HallSeen O C R → Seat (Spot O C R) (Sight O C R) → Type 0
+  RestsIn hall token = KnowsAll hall.key.openings.value.items token.me.0

@@ -2,17 +2,19 @@
 -- from 80 p on and slot p. A pass has a view of each place, and has seen a prefix of the one order
 -- of all turns. At each place the rule of a gate holds for the turns of the order that were made
 -- there. This project's profile.
-use Rattle.std.specs.Prelude.{◌≡◌, ◌⊎◌, ℕ, ◌*◌, ◌^◌, ◌<◌, List, [], ◌∷◌, map, take, drop, length, slice_index_or}
-use Rattle.std.specs.Prelude.{sum_by}
+use Rattle.std.specs.Prelude.{◌≡◌, ◌⊎◌, ℕ, ◌+◌, ◌*◌, ◌^◌, ◌<◌, ◌≤◌, List, [], ◌∷◌, map, take, drop, length}
+use Rattle.std.specs.Prelude.{slice_index_or, sum_by, Some}
 use mathlib.Core.Option.{none, some}
 use lib.ListN.{get_elem?}
 use Rattle.atomic_table.specs.Table.{State, Me}
 use Rattle.sysv_gate.specs.declared.view.View.{View}
 use Rattle.sysv_gate.specs.declared.view.Placed.{Placed}
 use Rattle.sysv_gate.specs.declared.view.Sight.{Sight}
+use Rattle.sysv_gate.specs.declared.count.Count.{Count}
 use Rattle.sysv_lists.specs.Numbers.{times}
 use Rattle.sysv_lists.specs.Prefix.{IsPrefixOf}
-use Rattle.sysv_gate.specs.History.{made_at}
+use Rattle.sysv_gate.specs.History.{made_at, after_all, IsLegal}
+use Rattle.sysv_gate.specs.Counts.{of_count}
 use Rattle.sysv_gate.specs.Orders.{turns_at, AreBelow}
 use Rattle.sysv_gate.specs.Shares.{AreWithin, parts}
 use Rattle.sysv_gate.specs.Rule.{Spot, GatedBy, start}
@@ -41,6 +43,16 @@ module _ {O C R : Type 0} where
     pub below : AreBelow (length sight.views) sight.seen
     pub own : (place p : ℕ) → place < length sight.views →
         times p (view_at place sight).own ≡ made_at (view_at place sight).numbers (turns_at place sight.seen) p
+
+  -- At each of the pass's places, the turns of the order that the pass has seen are legal. Of each
+  -- count there, the pass has read at most one more than the object has after these turns.
+  pub record ReadsInOrder (moves : O → C → R → O → Type 0) (counted : O → ℕ × ℕ) (sight : Sight O C R) : Type 0 where
+    pub legal : (place : ℕ) (opening : O) → place < length sight.views →
+        (view_at place sight).opening ≡ Some opening → IsLegal moves opening (turns_at place sight.seen)
+    pub reads : (place : ℕ) (opening : O) → place < length sight.views →
+        (view_at place sight).opening ≡ Some opening → (count : Count) →
+        of_count count (view_at place sight).read
+        ≤ of_count count (counted (after_all opening (turns_at place sight.seen))) + 1
 
   -- A pass has a view of each place, or it was joined into another and has no view. A pass without
   -- a share of the table has no view.

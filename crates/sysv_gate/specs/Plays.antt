@@ -14,8 +14,8 @@ use Rattle.sysv_gate.specs.History.{made_at}
 use Rattle.sysv_gate.specs.Orders.{turns_at, placed}
 use Rattle.sysv_gate.specs.Shares.{half}
 use Rattle.sysv_gate.specs.Steps as gate
-use Rattle.sysv_gate.specs.Steps.{Mine, At, turn_of, Gathers}
-use Rattle.sysv_gate.specs.Halls.{view_at, OwnsInOrder, Passing, me_at, Carries}
+use Rattle.sysv_gate.specs.Steps.{Mine, At, turn_of, Ends, Gathers}
+use Rattle.sysv_gate.specs.Halls.{view_at, OwnsInOrder, ReadsInOrder, Passing, me_at, Carries}
 
 module _ {O C R : Type 0} where
   -- A step at this place, from which the pass learns `told`. Nothing changes at another place. The
@@ -57,6 +57,11 @@ module _ {O C R : Type 0} where
   turns_told (v, []) = []
   turns_told (v, (k, None) ∷ xs) = []
   turns_told (v, (k, Some place) ∷ xs) = turn_told v place.object place.last
+
+  -- The addition that ends a turn. It shows the whole order, and so bounds what the pass has read.
+  abbrev pub EndsInOrder : (O → C → R → O → Type 0) → (O → ℕ × ℕ) → At O C R → Passing O C R → ℕ → Passing O C R →
+      Type 0
+  EndsInOrder moves counted st m n m' = AtAPlace turns_told Ends st m n m' × ReadsInOrder moves counted m'.0
 
   -- A change of the view of each place.
   abbrev pub at_each : (View O C R → View O C R) → Sight O C R → Sight O C R

@@ -76,10 +76,11 @@ module _ {O C R : Type 0} where
         (length views ≡ 1) × (v.seen ≡ log)
 
   -- One count is announced: its word has the count after the log, plus what the seat in its turn
-  -- has already added. A seat that is not in its turn has added nothing, and no seat has read more
-  -- than the word has.
+  -- has already added, and that is at most one. A seat that is not in its turn has added nothing,
+  -- and no seat has read more than the word has.
   pub record IsAnnounced (count : Count) (after_log word : ℕ) (views : List (View O C R)) : Type 0 where
     pub value : word ≡ after_log + sum_by (λ v. of_count count v.announced) views
+    pub few : word ≤ after_log + 1
     pub quiet : (i : ℕ) (v : View O C R) → get_elem? views i ≡ some v → v.in_turn ≡ false →
         of_count count v.announced ≡ 0
     pub read : (i : ℕ) (v : View O C R) → get_elem? views i ≡ some v → of_count count v.read ≤ word

@@ -2,8 +2,8 @@
 ghost use Rattle.std.specs.Prelude.{◌≡◌, IfOk, IfErr, OnOk};
 ghost use Rattle.sysv_gate.specs.History.{Moves, IsAccepted};
 ghost use Rattle.sysv_gate.specs.Turns.{HasWorn};
-ghost use Rattle.sysv_gate.specs.Halls.{me_at};
-ghost use Rattle.sysv_gate.specs.Doors.{IsDoorOf, IsAt, IsSame, EndsOrder, Idles, HasCalled, HasTried};
+ghost use Rattle.sysv_gate.specs.Halls.{me_at, ReadsInOrder};
+ghost use Rattle.sysv_gate.specs.Doors.{IsDoorIn, IsPassAt, IsSame, EndsOrder, Idles, HasCalled, HasTried};
 
 use crate::door::Door;
 use crate::hall::{Hall, HallToken};
@@ -14,7 +14,8 @@ use std::sync::Wait;
 
 impl<O: Object> Door<O> {
     /// Makes the call in a turn of the pass's own, like `Gate::call`. Afterwards the turn is the
-    /// last one in the order that the pass has seen.
+    /// last one in the order that the pass has seen, and the pass has read at most one more of any
+    /// count at any place than that count has after this order.
     ///
     /// # Errors
     ///
@@ -31,13 +32,14 @@ impl<O: Object> Door<O> {
         token: &mut HallToken<O>,
         call: O::Call,
     ) -> Result<O::Reply, Worn<O::Call>>
-        requires door { IsDoorOf hall.now.shared.table_id hall.now.shared.key.openings.value.items
-            self.now }
-        requires at { IsAt hall.now.shared.table_id self.now token.old }
+        requires door { IsDoorIn hall.now.shared self.now }
+        requires at { IsPassAt hall.now.shared self.now token.old }
         requires idle { Idles (me_at self.now.place token.old.me) }
         requires fits { IsAccepted (Moves O.meaning O.counted) O.accepts self.now.opening call }
         ensures same { IsSame self.now.place token.old token.new }
         ensures order { OnOk result (EndsOrder self.now.place token.old.me token.new.me) }
+        ensures reads { OnOk result (ReadsInOrder (Moves O.meaning O.counted) O.counted
+            token.new.me.0) }
         ensures ok { IfOk result (λ r. HasCalled (Moves O.meaning O.counted) O.counted
             self.now.opening (me_at self.now.place token.old.me) call r
             (me_at self.now.place token.new.me)) }
@@ -73,13 +75,14 @@ impl<O: Object> Door<O> {
         token: &mut HallToken<O>,
         call: O::Call,
     ) -> Result<O::Reply, TryRefused<O::Call>>
-        requires door { IsDoorOf hall.now.shared.table_id hall.now.shared.key.openings.value.items
-            self.now }
-        requires at { IsAt hall.now.shared.table_id self.now token.old }
+        requires door { IsDoorIn hall.now.shared self.now }
+        requires at { IsPassAt hall.now.shared self.now token.old }
         requires idle { Idles (me_at self.now.place token.old.me) }
         requires fits { IsAccepted (Moves O.meaning O.counted) O.accepts self.now.opening call }
         ensures same { IsSame self.now.place token.old token.new }
         ensures order { OnOk result (EndsOrder self.now.place token.old.me token.new.me) }
+        ensures reads { OnOk result (ReadsInOrder (Moves O.meaning O.counted) O.counted
+            token.new.me.0) }
         ensures ok { IfOk result (λ r. HasCalled (Moves O.meaning O.counted) O.counted
             self.now.opening (me_at self.now.place token.old.me) call r
             (me_at self.now.place token.new.me)) }

@@ -2,7 +2,7 @@
 ghost use Rattle.std.specs.Prelude.{◌≡◌, [], IfSome, IfNone};
 ghost use Rattle.sysv_gate.specs.Turns.{Waits, HasDrawn, HasWorn};
 ghost use Rattle.sysv_gate.specs.Halls.{me_at};
-ghost use Rattle.sysv_gate.specs.Doors.{IsDoorOf, IsAt, IsSame};
+ghost use Rattle.sysv_gate.specs.Doors.{IsDoorIn, IsPassAt, IsSame};
 
 use crate::door::Door;
 use crate::hall::{Hall, HallToken};
@@ -38,9 +38,8 @@ impl<O: Object> Door<O> {
         hall: &Hall<O>,
         token: &mut HallToken<O>,
     ) -> Option<u64>
-        requires door { IsDoorOf hall.now.shared.table_id hall.now.shared.key.openings.value.items
-            self.now }
-        requires at { IsAt hall.now.shared.table_id self.now token.old }
+        requires door { IsDoorIn hall.now.shared self.now }
+        requires at { IsPassAt hall.now.shared self.now token.old }
         requires idle { Waits [] (me_at self.now.place token.old.me) }
         ensures same { IsSame self.now.place token.old token.new }
         ensures drawn { IfSome result (λ t. HasDrawn (me_at self.now.place token.old.me) t
@@ -57,9 +56,8 @@ impl<O: Object> Door<O> {
     /// Draws a ticket like `come`, after a first look.
     #[inline(never)]
     fn come_later(&self, rt: &impl Wait, hall: &Hall<O>, token: &mut HallToken<O>) -> Option<u64>
-        requires door { IsDoorOf hall.now.shared.table_id hall.now.shared.key.openings.value.items
-            self.now }
-        requires at { IsAt hall.now.shared.table_id self.now token.old }
+        requires door { IsDoorIn hall.now.shared self.now }
+        requires at { IsPassAt hall.now.shared self.now token.old }
         requires idle { Waits [] (me_at self.now.place token.old.me) }
         ensures same { IsSame self.now.place token.old token.new }
         ensures drawn { IfSome result (λ t. HasDrawn (me_at self.now.place token.old.me) t
@@ -79,9 +77,8 @@ impl<O: Object> Door<O> {
     /// Draws the next ticket as soon as none is out, in a number of looks. Returns `None` if it
     /// drew none.
     fn draw_soon(&self, hall: &Hall<O>, token: &mut HallToken<O>) -> Option<u64>
-        requires door { IsDoorOf hall.now.shared.table_id hall.now.shared.key.openings.value.items
-            self.now }
-        requires at { IsAt hall.now.shared.table_id self.now token.old }
+        requires door { IsDoorIn hall.now.shared self.now }
+        requires at { IsPassAt hall.now.shared self.now token.old }
         requires idle { Waits [] (me_at self.now.place token.old.me) }
         ensures same { IsSame self.now.place token.old token.new }
         ensures drawn { IfSome result (λ t. HasDrawn (me_at self.now.place token.old.me) t
@@ -106,9 +103,8 @@ impl<O: Object> Door<O> {
     /// Draws the next ticket if none is out, so that it is served at once. Returns `None` if it
     /// drew none.
     fn draw_free(&self, hall: &Hall<O>, token: &mut HallToken<O>) -> Option<u64>
-        requires door { IsDoorOf hall.now.shared.table_id hall.now.shared.key.openings.value.items
-            self.now }
-        requires at { IsAt hall.now.shared.table_id self.now token.old }
+        requires door { IsDoorIn hall.now.shared self.now }
+        requires at { IsPassAt hall.now.shared self.now token.old }
         requires idle { Waits [] (me_at self.now.place token.old.me) }
         ensures same { IsSame self.now.place token.old token.new }
         ensures drawn { IfSome result (λ t. HasDrawn (me_at self.now.place token.old.me) t
@@ -128,8 +124,7 @@ impl<O: Object> Door<O> {
 
     /// Sleeps until a turn has ended, if a ticket is out and more can be drawn.
     fn doze_outside(&self, rt: &impl Wait, hall: &Hall<O>)
-        requires { IsDoorOf hall.now.shared.table_id hall.now.shared.key.openings.value.items
-            self.now }
+        requires { IsDoorIn hall.now.shared self.now }
     {
         self.sleepers.fetch_add(1, SeqCst);
         let rung = self.entrance.enter();
@@ -142,8 +137,7 @@ impl<O: Object> Door<O> {
 
     /// Returns whether a ticket is out and more can be drawn.
     fn is_busy(&self, hall: &Hall<O>) -> bool
-        requires { IsDoorOf hall.now.shared.table_id hall.now.shared.key.openings.value.items
-            self.now }
+        requires { IsDoorIn hall.now.shared self.now }
     {
         let next = self.next_ticket(hall);
         next < LIMIT && self.served_ticket(hall) != next
@@ -151,16 +145,14 @@ impl<O: Object> Door<O> {
 
     /// Loads the ticket that is drawn next, of which the pass learns nothing.
     fn next_ticket(&self, hall: &Hall<O>) -> u64
-        requires { IsDoorOf hall.now.shared.table_id hall.now.shared.key.openings.value.items
-            self.now }
+        requires { IsDoorIn hall.now.shared self.now }
     {
         hall.shared.peek(self.word(TICKET))
     }
 
     /// Loads the ticket that is served, of which the pass learns nothing.
     fn served_ticket(&self, hall: &Hall<O>) -> u64
-        requires { IsDoorOf hall.now.shared.table_id hall.now.shared.key.openings.value.items
-            self.now }
+        requires { IsDoorIn hall.now.shared self.now }
     {
         hall.shared.peek(self.word(SERVING))
     }

@@ -7,7 +7,7 @@ ghost use Rattle.sysv_gate.specs.Counts.{of_count};
 ghost use Rattle.sysv_gate.specs.Steps.{Weighs, Draws, Enters, announced_by};
 ghost use Rattle.sysv_gate.specs.Turns.{Waits, Looked, HasRead};
 ghost use Rattle.sysv_gate.specs.Halls.{me_at};
-ghost use Rattle.sysv_gate.specs.Doors.{IsDoorOf, IsAt, IsSame};
+ghost use Rattle.sysv_gate.specs.Doors.{IsDoorIn, IsPassAt, IsSame};
 
 use crate::bell::{Bell, Entrance, TurnBells};
 use crate::count::Count;
@@ -89,9 +89,8 @@ impl<O: Object> Door<O> {
 
     /// Loads the ticket that is drawn next.
     pub(crate) fn weigh(&self, hall: &Hall<O>, token: &mut HallToken<O>) -> u64
-        requires door { IsDoorOf hall.now.shared.table_id hall.now.shared.key.openings.value.items
-            self.now }
-        requires at { IsAt hall.now.shared.table_id self.now token.old }
+        requires door { IsDoorIn hall.now.shared self.now }
+        requires at { IsPassAt hall.now.shared self.now token.old }
         ensures same { IsSame self.now.place token.old token.new }
         ensures weighed { Weighs (step 1 32 0 0 none) (me_at self.now.place token.old.me) result
             (me_at self.now.place token.new.me) }
@@ -101,9 +100,8 @@ impl<O: Object> Door<O> {
 
     /// Draws `ticket` if it is the next one. Returns the next ticket that was found.
     pub(crate) fn draw_next(&self, hall: &Hall<O>, token: &mut HallToken<O>, ticket: u64) -> u64
-        requires door { IsDoorOf hall.now.shared.table_id hall.now.shared.key.openings.value.items
-            self.now }
-        requires at { IsAt hall.now.shared.table_id self.now token.old }
+        requires door { IsDoorIn hall.now.shared self.now }
+        requires at { IsPassAt hall.now.shared self.now token.old }
         requires idle { Waits [] (me_at self.now.place token.old.me) }
         requires low { ticket < 2 ^ 62 }
         ensures same { IsSame self.now.place token.old token.new }
@@ -117,9 +115,8 @@ impl<O: Object> Door<O> {
     /// Draws `ticket` and begins its turn, if it is the next ticket. It is known to be the served
     /// one. Returns the next ticket that was found.
     pub(crate) fn enter_next(&self, hall: &Hall<O>, token: &mut HallToken<O>, ticket: u64) -> u64
-        requires door { IsDoorOf hall.now.shared.table_id hall.now.shared.key.openings.value.items
-            self.now }
-        requires at { IsAt hall.now.shared.table_id self.now token.old }
+        requires door { IsDoorIn hall.now.shared self.now }
+        requires at { IsPassAt hall.now.shared self.now token.old }
         requires idle { Waits [] (me_at self.now.place token.old.me) }
         requires low { ticket < 2 ^ 62 }
         requires served { ticket ≡ (me_at self.now.place token.old.me).0.first
@@ -135,9 +132,8 @@ impl<O: Object> Door<O> {
 
     /// Loads the ticket that is served. If the pass holds that ticket, its turn begins.
     pub(crate) fn look(&self, hall: &Hall<O>, token: &mut HallToken<O>) -> u64
-        requires door { IsDoorOf hall.now.shared.table_id hall.now.shared.key.openings.value.items
-            self.now }
-        requires at { IsAt hall.now.shared.table_id self.now token.old }
+        requires door { IsDoorIn hall.now.shared self.now }
+        requires at { IsPassAt hall.now.shared self.now token.old }
         requires idle { Waits (me_at self.now.place token.old.me).0.tickets
             (me_at self.now.place token.old.me) }
         ensures same { IsSame self.now.place token.old token.new }
@@ -153,9 +149,8 @@ impl<O: Object> Door<O> {
     ///
     /// - The door belongs to the table, and so does the pass, which is at rest at the place.
     pub fn count(&self, hall: &Hall<O>, token: &mut HallToken<O>, count: Count) -> u64
-        requires door { IsDoorOf hall.now.shared.table_id hall.now.shared.key.openings.value.items
-            self.now }
-        requires at { IsAt hall.now.shared.table_id self.now token.old }
+        requires door { IsDoorIn hall.now.shared self.now }
+        requires at { IsPassAt hall.now.shared self.now token.old }
         requires idle { Waits [] (me_at self.now.place token.old.me) }
         ensures same { IsSame self.now.place token.old token.new }
         ensures read { HasRead O.counted self.now.opening count (me_at self.now.place token.old.me)
@@ -173,9 +168,8 @@ impl<O: Object> Door<O> {
         count: Count,
         rose: bool,
     )
-        requires door { IsDoorOf hall.now.shared.table_id hall.now.shared.key.openings.value.items
-            self.now }
-        requires at { IsAt hall.now.shared.table_id self.now token.old }
+        requires door { IsDoorIn hall.now.shared self.now }
+        requires at { IsPassAt hall.now.shared self.now token.old }
         requires turn { (me_at self.now.place token.old.me).0.in_turn ≡ true }
         requires quiet { of_count count (me_at self.now.place token.old.me).0.announced ≡ 0 }
         requires low { of_count count (O.counted

@@ -127,14 +127,17 @@ impl<O: Object> Play<Option<Place<O, O::Call, O::Reply>>, Sight<O, O::Call, O::R
 }
 
 /// The addition that ends a turn. It enters the turn into the history and returns the object to its
-/// slot.
-pub(crate) struct Ending;
+/// slot. It shows the whole order, and so bounds what the pass has read of the counts.
+pub(crate) struct Ending<O> {
+    object: PhantomData<O>,
+}
 
-impl<O, C, R> Play<Option<Place<O, C, R>>, Sight<O, C, R>> for Ending {
-    ghost use Rattle.sysv_gate.specs.Steps.{Ends};
-    ghost use Rattle.sysv_gate.specs.Plays.{AtAPlace, turns_told};
+impl<O: Object> Play<Option<Place<O, O::Call, O::Reply>>, Sight<O, O::Call, O::Reply>>
+    for Ending<O> {
+    ghost use Rattle.sysv_gate.specs.History.{Moves};
+    ghost use Rattle.sysv_gate.specs.Plays.{EndsInOrder};
 
-    ghost then = { AtAPlace turns_told Ends };
+    ghost then = { EndsInOrder (Moves O.meaning O.counted) O.counted };
 }
 
 /// A load that assigns a new seat its number.

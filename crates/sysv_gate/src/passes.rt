@@ -2,7 +2,7 @@
 ghost use Rattle.std.specs.Prelude.{◌≡◌, ◌≤◌, []};
 ghost use Rattle.sysv_gate.specs.History.{Moves};
 ghost use Rattle.sysv_gate.specs.Plays.{halved, both_of, Merges};
-ghost use Rattle.sysv_gate.specs.Doors.{IsNewcomer, KnowsAll};
+ghost use Rattle.sysv_gate.specs.Doors.{IsNewcomer, IsPassOf, HasPlaces, RestsIn};
 
 use crate::hall::{Gathering, Hall, HallToken, Merging, Naming, Sharing};
 use crate::object::Object;
@@ -17,9 +17,8 @@ use crate::words::SERVING;
 /// - The table has at least one place.
 /// - `token` is a pass of this table, and is at rest at every place.
 pub fn split_pass<O: Object>(hall: &Hall<O>, token: &mut HallToken<O>) -> HallToken<O>
-    requires table { (token.old.table_id ≡ hall.now.shared.table_id)
-        × (80 ≤ hall.now.shared.table_id.words) }
-    requires rest { KnowsAll hall.now.shared.key.openings.value.items token.old.me.0 }
+    requires table { IsPassOf hall.now.shared token.old × HasPlaces hall.now.shared }
+    requires rest { RestsIn hall.now.shared token.old }
     ensures same { (token.new.table_id ≡ token.old.table_id)
         × (token.new.me ≡ (halved token.old.me.0, token.old.me.1)) }
     ensures new { (result.table_id ≡ token.old.table_id) × IsNewcomer token.old.me.0 result.me }
@@ -36,11 +35,10 @@ pub fn split_pass<O: Object>(hall: &Hall<O>, token: &mut HallToken<O>) -> HallTo
 /// - The table has at least one place.
 /// - `token` and `other` are passes of this table, and both are at rest at every place.
 pub fn join_pass<O: Object>(hall: &Hall<O>, token: &mut HallToken<O>, other: HallToken<O>)
-    requires table { (token.old.table_id ≡ hall.now.shared.table_id)
-        × (80 ≤ hall.now.shared.table_id.words) }
-    requires other { (other.table_id ≡ hall.now.shared.table_id) × (other.me.1 ≡ []) }
-    requires rest { KnowsAll hall.now.shared.key.openings.value.items token.old.me.0 }
-    requires other_rest { KnowsAll hall.now.shared.key.openings.value.items other.me.0 }
+    requires table { IsPassOf hall.now.shared token.old × HasPlaces hall.now.shared }
+    requires other { IsPassOf hall.now.shared other × (other.me.1 ≡ []) }
+    requires rest { RestsIn hall.now.shared token.old }
+    requires other_rest { RestsIn hall.now.shared other }
     ensures same { token.new.table_id ≡ token.old.table_id }
     ensures joined { Merges (Moves O.meaning O.counted)
         (both_of token.old.me.0 other.me.0, token.old.me.1) token.new.me }

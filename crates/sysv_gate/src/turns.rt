@@ -6,8 +6,8 @@ ghost use Rattle.sysv_gate.specs.Rule.{put};
 ghost use Rattle.sysv_gate.specs.History.{Moves, IsAccepted, AreBelow};
 ghost use Rattle.sysv_gate.specs.Steps.{HasTurn};
 ghost use Rattle.sysv_gate.specs.Turns.{Waits, HasDrawn, HasWorn, SawMore, TurnCame, HasMade, Entered, Applied};
-ghost use Rattle.sysv_gate.specs.Halls.{me_at};
-ghost use Rattle.sysv_gate.specs.Doors.{IsDoorOf, IsAt, IsSame, EndsOrder};
+ghost use Rattle.sysv_gate.specs.Halls.{me_at, ReadsInOrder};
+ghost use Rattle.sysv_gate.specs.Doors.{IsDoorIn, IsPassAt, IsSame, EndsOrder};
 ghost use Rattle.sysv_lists.specs.Numbers.{times};
 
 use crate::bell::Sleep;
@@ -85,9 +85,8 @@ impl<O: Object> Door<O> {
         hall: &Hall<O>,
         token: &mut HallToken<O>,
     ) -> Option<u64>
-        requires door { IsDoorOf hall.now.shared.table_id hall.now.shared.key.openings.value.items
-            self.now }
-        requires at { IsAt hall.now.shared.table_id self.now token.old }
+        requires door { IsDoorIn hall.now.shared self.now }
+        requires at { IsPassAt hall.now.shared self.now token.old }
         requires idle { Waits [] (me_at self.now.place token.old.me) }
         ensures same { IsSame self.now.place token.old token.new }
         ensures drawn { IfSome result (λ t. HasDrawn (me_at self.now.place token.old.me) t
@@ -110,9 +109,8 @@ impl<O: Object> Door<O> {
 
     /// Draws the ticket that is served, if no other pass holds it, and so begins the turn.
     pub(crate) fn enter(&self, hall: &Hall<O>, token: &mut HallToken<O>) -> Entry
-        requires door { IsDoorOf hall.now.shared.table_id hall.now.shared.key.openings.value.items
-            self.now }
-        requires at { IsAt hall.now.shared.table_id self.now token.old }
+        requires door { IsDoorIn hall.now.shared self.now }
+        requires at { IsPassAt hall.now.shared self.now token.old }
         requires idle { Waits [] (me_at self.now.place token.old.me) }
         ensures same { IsSame self.now.place token.old token.new }
         ensures entered { Entered (Moves O.meaning O.counted) O.counted self.now.opening
@@ -141,9 +139,8 @@ impl<O: Object> Door<O> {
         token: &mut HallToken<O>,
         ticket: u64,
     )
-        requires door { IsDoorOf hall.now.shared.table_id hall.now.shared.key.openings.value.items
-            self.now }
-        requires at { IsAt hall.now.shared.table_id self.now token.old }
+        requires door { IsDoorIn hall.now.shared self.now }
+        requires at { IsPassAt hall.now.shared self.now token.old }
         requires waits { Waits (ticket ∷ []) (me_at self.now.place token.old.me) }
         ensures same { IsSame self.now.place token.old token.new }
         ensures turn { TurnCame (Moves O.meaning O.counted) O.counted self.now.opening
@@ -169,9 +166,8 @@ impl<O: Object> Door<O> {
         token: &mut HallToken<O>,
         ticket: u64,
     ) -> u64
-        requires door { IsDoorOf hall.now.shared.table_id hall.now.shared.key.openings.value.items
-            self.now }
-        requires at { IsAt hall.now.shared.table_id self.now token.old }
+        requires door { IsDoorIn hall.now.shared self.now }
+        requires at { IsPassAt hall.now.shared self.now token.old }
         requires waits { Waits (ticket ∷ []) (me_at self.now.place token.old.me) }
         ensures same { IsSame self.now.place token.old token.new }
         ensures turn { result ≡ ticket → TurnCame (Moves O.meaning O.counted) O.counted
@@ -194,9 +190,8 @@ impl<O: Object> Door<O> {
 
     /// Looks a number of times whether the ticket is served, and returns the ticket that is.
     fn spin(&self, hall: &Hall<O>, token: &mut HallToken<O>, ticket: u64) -> u64
-        requires door { IsDoorOf hall.now.shared.table_id hall.now.shared.key.openings.value.items
-            self.now }
-        requires at { IsAt hall.now.shared.table_id self.now token.old }
+        requires door { IsDoorIn hall.now.shared self.now }
+        requires at { IsPassAt hall.now.shared self.now token.old }
         requires waits { Waits (ticket ∷ []) (me_at self.now.place token.old.me) }
         ensures same { IsSame self.now.place token.old token.new }
         ensures turn { result ≡ ticket → TurnCame (Moves O.meaning O.counted) O.counted
@@ -224,9 +219,8 @@ impl<O: Object> Door<O> {
         token: &mut HallToken<O>,
         call: O::Call,
     ) -> (O::Reply, Rose)
-        requires door { IsDoorOf hall.now.shared.table_id hall.now.shared.key.openings.value.items
-            self.now }
-        requires at { IsAt hall.now.shared.table_id self.now token.old }
+        requires door { IsDoorIn hall.now.shared self.now }
+        requires at { IsPassAt hall.now.shared self.now token.old }
         requires turn { HasTurn (Moves O.meaning O.counted) O.counted self.now.opening
             (me_at self.now.place token.old.me) }
         requires ticket { (t : ℕ) × ((me_at self.now.place token.old.me).0.tickets ≡ t ∷ [])
@@ -240,13 +234,14 @@ impl<O: Object> Door<O> {
         ensures made { HasMade (Moves O.meaning O.counted) self.now.opening
             (me_at self.now.place token.old.me).0 call result.0
             (me_at self.now.place token.new.me) }
+        ensures reads { ReadsInOrder (Moves O.meaning O.counted) O.counted token.new.me.0 }
     {
         let spot = token.slot_mut(&hall.shared, self.place);
         let (reply, rose) = apply_in(spot, call);
         self.announce(hall, token, Count::Arrived, rose.arrived);
         self.announce(hall, token, Count::Freed, rose.freed);
         hall.shared
-            .fetch_add::<Ending>(token, self.word(SERVING), 1);
+            .fetch_add::<Ending<O>>(token, self.word(SERVING), 1);
         (reply, rose)
     }
 

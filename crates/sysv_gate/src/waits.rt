@@ -2,7 +2,7 @@
 ghost use Rattle.std.specs.Prelude.{◌≡◌, IfSome, IfNone, IsTrue, true, false, []};
 ghost use Rattle.sysv_gate.specs.Turns.{Waits, HasWorn, HasRead, HasReadBelow, ReadMore, HasWaited, HasWaitedWithin};
 ghost use Rattle.sysv_gate.specs.Halls.{me_at};
-ghost use Rattle.sysv_gate.specs.Doors.{IsDoorOf, IsAt, IsSame};
+ghost use Rattle.sysv_gate.specs.Doors.{IsDoorIn, IsPassAt, IsSame};
 
 use crate::awaited::Awaited;
 use crate::bell::{Bell, Sleep};
@@ -22,9 +22,8 @@ impl<O: Object> Door<O> {
     /// Reads the count a number of times, until it is at least the goal. Returns the value that it
     /// read last.
     fn count_to(&self, hall: &Hall<O>, token: &mut HallToken<O>, count: Count, goal: u64) -> u64
-        requires door { IsDoorOf hall.now.shared.table_id hall.now.shared.key.openings.value.items
-            self.now }
-        requires at { IsAt hall.now.shared.table_id self.now token.old }
+        requires door { IsDoorIn hall.now.shared self.now }
+        requires at { IsPassAt hall.now.shared self.now token.old }
         requires idle { Waits [] (me_at self.now.place token.old.me) }
         ensures same { IsSame self.now.place token.old token.new }
         ensures read { HasRead O.counted self.now.opening count (me_at self.now.place token.old.me)
@@ -43,9 +42,8 @@ impl<O: Object> Door<O> {
 
     /// Returns whether the tickets have reached 2^62.
     fn is_worn(&self, hall: &Hall<O>, token: &mut HallToken<O>) -> bool
-        requires door { IsDoorOf hall.now.shared.table_id hall.now.shared.key.openings.value.items
-            self.now }
-        requires at { IsAt hall.now.shared.table_id self.now token.old }
+        requires door { IsDoorIn hall.now.shared self.now }
+        requires at { IsPassAt hall.now.shared self.now token.old }
         requires idle { Waits [] (me_at self.now.place token.old.me) }
         ensures same { IsSame self.now.place token.old token.new }
         ensures worn { IsTrue result → HasWorn (me_at self.now.place token.old.me)
@@ -64,9 +62,8 @@ impl<O: Object> Door<O> {
         count: Count,
         goal: u64,
     ) -> Option<Awaited>
-        requires door { IsDoorOf hall.now.shared.table_id hall.now.shared.key.openings.value.items
-            self.now }
-        requires at { IsAt hall.now.shared.table_id self.now token.old }
+        requires door { IsDoorIn hall.now.shared self.now }
+        requires at { IsPassAt hall.now.shared self.now token.old }
         requires idle { Waits [] (me_at self.now.place token.old.me) }
         ensures same { IsSame self.now.place token.old token.new }
         ensures over { IfSome result (λ a. HasWaited O.counted self.now.opening count goal
@@ -104,9 +101,8 @@ impl<O: Object> Door<O> {
         goal: u64,
         sleep: Sleep,
     ) -> Option<Awaited>
-        requires door { IsDoorOf hall.now.shared.table_id hall.now.shared.key.openings.value.items
-            self.now }
-        requires at { IsAt hall.now.shared.table_id self.now token.old }
+        requires door { IsDoorIn hall.now.shared self.now }
+        requires at { IsPassAt hall.now.shared self.now token.old }
         requires idle { Waits [] (me_at self.now.place token.old.me) }
         ensures same { IsSame self.now.place token.old token.new }
         ensures over { IfSome result (λ a. HasWaited O.counted self.now.opening count goal
@@ -140,9 +136,8 @@ impl<O: Object> Door<O> {
         count: Count,
         goal: u64,
     ) -> Awaited
-        requires door { IsDoorOf hall.now.shared.table_id hall.now.shared.key.openings.value.items
-            self.now }
-        requires at { IsAt hall.now.shared.table_id self.now token.old }
+        requires door { IsDoorIn hall.now.shared self.now }
+        requires at { IsPassAt hall.now.shared self.now token.old }
         requires idle { Waits [] (me_at self.now.place token.old.me) }
         ensures same { IsSame self.now.place token.old token.new }
         ensures waited { HasWaited O.counted self.now.opening count goal
@@ -174,9 +169,8 @@ impl<O: Object> Door<O> {
         count: Count,
         goal: u64,
     ) -> Option<Awaited>
-        requires door { IsDoorOf hall.now.shared.table_id hall.now.shared.key.openings.value.items
-            self.now }
-        requires at { IsAt hall.now.shared.table_id self.now token.old }
+        requires door { IsDoorIn hall.now.shared self.now }
+        requires at { IsPassAt hall.now.shared self.now token.old }
         requires idle { Waits [] (me_at self.now.place token.old.me) }
         ensures same { IsSame self.now.place token.old token.new }
         ensures waited { HasWaitedWithin O.counted self.now.opening count goal

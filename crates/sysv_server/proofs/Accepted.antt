@@ -145,6 +145,8 @@ module _ {I H : Type 0} where
     accepted = served.given;
     desks = served.desks;
     dealt = served.dealt;
+    ordered = served.ordered;
+    alone = λ one. served.alone (counted ∙ one);
     sat = served.crewed.sat;
     removed = ended.removed;
     lived = served.lived;

@@ -3,7 +3,7 @@ use Rattle.std.proofs.Common.{◌≡◌, ◌∙◌, ℕ, ◌+◌, ◌<◌, List,
 use Rattle.std.proofs.Common.{sym, subst, arith, append_assoc, length-append}
 use Rattle.std.specs.List.{All, AllByRecursion, FoldsTo, flat_map, slice_index_or, sum_by}
 use Rattle.std.specs.List.Sorted.{IsPermutation}
-use Rattle.std.proofs.lemmas.List.{append-nil, get_or_append_left, reverse-append}
+use Rattle.std.proofs.lemmas.List.{append-nil, get_or_append_left, length-map, length-reverse, reverse-append}
 use Rattle.std.proofs.lemmas.List.Elements.{All-head, All-tail, All-cons}
 use Rattle.std.proofs.lemmas.List.Sums.{sum_by-cons}
 use Rattle.sysv_bank.specs.Banks.{Each2}
@@ -11,13 +11,13 @@ use Rattle.sysv_shared.specs.Seats.{Gates, AreOf}
 use Rattle.sysv_service.specs.Hiring.{Gives, TakesIn}
 use Rattle.sysv_service.specs.Ran.{Pass}
 use Rattle.sysv_session.specs.declared.served.Served.{Served}
-use Rattle.sysv_workers.specs.Parts.{Part, Leads}
+use Rattle.sysv_workers.specs.Parts.{Part, Leads, AreInOrder, IsSubsequenceOf}
 use Rattle.sysv_workers.specs.Running.{GivesBack, LeavesSource, RunsAll}
 use Rattle.sysv_workers.specs.declared.refusals.WorkersFault.{WorkersFault}
 use Rattle.sysv_server.specs.declared.fault.ServeFault.{ServeFault}
 use Rattle.sysv_server.specs.declared.sums.Sums.{Sums}
 use Rattle.sysv_server.specs.Added.{added, all_added, capped, one_session}
-use Rattle.sysv_server.specs.Desks.{Desk, Crewed, Sat, all_connections}
+use Rattle.sysv_server.specs.Desks.{Desk, Crewed, Sat, AreServedInOrder, all_connections}
 use Rattle.sysv_server.specs.Handled.{Handles, Shift, first_passes, last_passes, one_refused, refused_of, reports_of}
 use Rattle.sysv_server.specs.Handled.{sums_of}
 use Rattle.sysv_server.specs.Handled.{told_in}
@@ -120,6 +120,7 @@ module _ {W T B : Type 0} (incoming outgoing : T → Option (List ℕ)) (closes 
     passes : AllByRecursion (λ (shift : Shift). AreOf gates shift.before.seats × (shift.before.held ≡ 0)) shifts
     sat : Each2 (Sat incoming outgoing closes) desks shifts
     served : all_connections desks ≡ flat_map (λ (p : Part W T). p.items) parts
+    ordered : (given : List T) → AreInOrder given parts → AreServedInOrder given desks
     adds : all_added (map (λ (p : Part W T). sums p.after) parts) ≡ sums_of (told_in shifts)
     counts : capped (sum_by (λ (p : Part W T). refused p.after) parts) ≡ refused_of (told_in shifts)
     begun : first_passes shifts ≡ map (λ (p : Part W T). pass p.before) parts
@@ -139,6 +140,7 @@ module _ {W T B : Type 0} (incoming outgoing : T → Option (List ℕ)) (closes 
     passes = tt;
     sat = tt;
     served = refl;
+    ordered = λ given all. tt;
     adds = refl;
     counts = refl;
     begun = refl;
@@ -160,6 +162,9 @@ module _ {W T B : Type 0} (incoming outgoing : T → Option (List ℕ)) (closes 
         passes = ((first.0, first.1), rest.passes);
         sat = ((one.on, one.closed), rest.sat);
         served = ap (λ l. p.items ++ l) rest.served;
+        ordered = λ given all.
+            let P : Part W T → Type 0 = λ q. IsSubsequenceOf q.items given in
+            (All-head P p parts all, rest.ordered given (All-tail P p parts all));
         adds = told_first (reports_of one.talks) (told_in rest.shifts) (sums p.after)
             (map (λ (p : Part W T). sums p.after) parts) one.adds rest.adds;
         counts = ap capped (sum_by-cons (λ (p : Part W T). refused p.after) p parts)
@@ -178,6 +183,7 @@ module _ {W T B : Type 0} (incoming outgoing : T → Option (List ℕ)) (closes 
     pub crewed : Crewed incoming outgoing closes gates (reverse (map book states)) desks shifts
         (reverse (map book after))
     pub served : all_connections desks ≡ flat_map (λ (p : Part W T). p.items) parts
+    pub ordered : (given : List T) → AreInOrder given parts → AreServedInOrder given desks
     pub adds : all_added (map sums after) ≡ sums_of (told_in shifts)
     pub counts : capped (sum_by refused after) ≡ refused_of (told_in shifts)
     pub begun : first_passes shifts ≡ map pass states
@@ -203,6 +209,7 @@ module _ {W T B : Type 0} (incoming outgoing : T → Option (List ℕ)) (closes 
           lasts = ap reverse lasts;
         };
         served = done.served;
+        ordered = done.ordered;
         adds = ap (λ l. all_added (map sums l)) (sym leads.left)
             ∙ (ap all_added (map_map sums (λ (p : Part W T). p.after) parts) ∙ done.adds);
         counts = ap (λ l. capped (sum_by refused l)) (sym leads.left)
@@ -222,11 +229,15 @@ module _ {W T B : Type 0} (incoming outgoing : T → Option (List ℕ)) (closes 
   all_shifted gives gates states after source source' books books' total missed old kept new ran new_ones books_are
       books_are' adds counts given taken =
       let done = manned gates states ran.parts after ran.leads new_ones in
+      let workers : length books ≡ length states =
+      ap length books_are ∙ (length-reverse (map book states) ∙ length-map states book) in
       record {
         given = ran.given;
         gave = ran.gave;
         desks = done.desks;
         dealt = subst (λ l. IsPermutation l ran.given) (sym done.served) ran.dealt;
+        ordered = done.ordered ran.given ran.ordered;
+        alone = λ one. done.served ∙ ran.alone (sym workers ∙ one);
         shifts = done.shifts;
         crewed = subst (λ l. Crewed incoming outgoing closes gates l done.desks done.shifts books') (sym books_are)
             (subst (λ l. Crewed incoming outgoing closes gates (reverse (map book states)) done.desks done.shifts l)

@@ -3,6 +3,7 @@ use Rattle.std.specs.Prelude.{◌≡◌, ℕ, List, Option, map, reverse, flat_m
 use Rattle.std.specs.List.{AllByRecursion, FoldsTo}
 use Rattle.sysv_bank.specs.Banks.{Each2}
 use Rattle.sysv_shared.specs.Seats.{Gates, AreOf}
+use Rattle.sysv_workers.specs.Parts.{IsSubsequenceOf}
 use Rattle.sysv_server.specs.Talks.{IsOn, Closes, Closing}
 use Rattle.sysv_server.specs.Handled.{Shift}
 
@@ -16,6 +17,11 @@ module _ {T B : Type 0} where
   -- The connections of all workers.
   abbrev pub all_connections : List (Desk T B) → List T
   all_connections desks = flat_map (λ (desk : Desk T B). desk.connections) desks
+
+  -- The connections of each worker are in the order of the list.
+  abbrev pub AreServedInOrder : List T → List (Desk T B) → Type 0
+  AreServedInOrder given desks =
+      AllByRecursion (λ (desk : Desk T B). IsSubsequenceOf desk.connections given) desks
 
   -- The books of the workers, in the order of the server's list, which is the reverse of theirs.
   abbrev pub first_books : List (Desk T B) → List B

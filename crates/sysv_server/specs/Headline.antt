@@ -1,21 +1,22 @@
 -- The headline of the server. It serves the connections that its source returns, each once, over a
--- new service. Each connection has one session, over the very bytes of that connection, and is then
--- closed with what the session left. The calls of all sessions, each with the reply that was written
--- to it or left without one, and the removals of the stop are one run of the service, and that run
--- obeys the headline of threads, if fewer than 2^62 turns were made at each object (this project's
--- profile).
+-- new service. Each worker serves its connections in the order in which the source returned them, so
+-- a server with one worker serves all of them in that order. Each connection has one session, over
+-- the very bytes of that connection, and is then closed with what the session left. The calls of all
+-- sessions, each with the reply that was written to it or left without one, and the removals of the
+-- stop are one run of the service, and that run obeys the headline of threads, if fewer than 2^62
+-- turns were made at each object (this project's profile).
 --
 -- ServesConnections is this statement. The bytes of a connection are those that it tells: a
 -- connection in memory tells them all, and a socket tells none, since no contract speaks of what the
 -- system does with them. What is kept of a connection when it is closed is in the book of the
 -- worker that served it.
-use Rattle.std.specs.Prelude.{◌≡◌, ◌≤◌, ℕ, List, Option}
+use Rattle.std.specs.Prelude.{◌≡◌, ◌≤◌, ℕ, List, Option, length}
 use Rattle.std.specs.List.Sorted.{IsPermutation}
 use Rattle.sysv_shared.specs.Opened.{AreOpen}
 use Rattle.sysv_shared.specs.Seats.{Gates}
 use Rattle.sysv_workers.specs.Sources.{GivesAll}
 use Rattle.sysv_server.specs.declared.terms.Ended.{Ended}
-use Rattle.sysv_server.specs.Desks.{Desk, Crewed, all_connections}
+use Rattle.sysv_server.specs.Desks.{Desk, Crewed, AreServedInOrder, all_connections}
 use Rattle.sysv_server.specs.Handled.{Shift, failed_of, sums_of, refused_of, told_in}
 use Rattle.sysv_server.specs.OneRun.{Lived}
 use Rattle.sysv_server.specs.Talks.{Closing}
@@ -29,6 +30,10 @@ pub record ServesConnections {S T B : Type 0} (incoming outgoing : T → Option 
   -- The workers had these connections, and no others. Each was with one worker, once.
   pub desks : List (Desk T B)
   pub dealt : IsPermutation (all_connections desks) given
+  -- Each worker had its connections in the order in which the source returned them. So one worker
+  -- alone had just the connections of the source, in that order.
+  pub ordered : AreServedInOrder given desks
+  pub alone : length books ≡ 1 → all_connections desks ≡ given
   -- The service was opened with this number of blocks.
   pub gates : Gates
   pub opened : AreOpen 0 blocks 0 gates

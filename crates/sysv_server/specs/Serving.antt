@@ -22,7 +22,7 @@ use Rattle.sysv_server.specs.declared.socket.Nothing.{Nothing}
 use Rattle.sysv_server.specs.declared.sums.Sums.{Sums}
 use Rattle.sysv_server.specs.declared.terms.Ended.{Ended}
 use Rattle.sysv_server.specs.Added.{nothing}
-use Rattle.sysv_server.specs.Desks.{Desk, Crewed, Sat, all_connections}
+use Rattle.sysv_server.specs.Desks.{Desk, Crewed, Sat, AreServedInOrder, all_connections}
 use Rattle.sysv_server.specs.Handled.{Shift, failed_of, first_passes, last_passes, sums_of, refused_of, told_in}
 use Rattle.sysv_server.specs.OneRun.{Lived}
 use Rattle.sysv_server.specs.Talks.{Closing, untold, leaves_nothing}
@@ -77,6 +77,8 @@ module _ {S T B : Type 0} (incoming outgoing : T → Option (List ℕ)) (closes 
     pub gave : GivesAll gives source given source'
     pub desks : List (Desk T B)
     pub dealt : IsPermutation (all_connections desks) given
+    pub ordered : AreServedInOrder given desks
+    pub alone : length books ≡ 1 → all_connections desks ≡ given
     pub shifts : List Shift
     pub crewed : Crewed incoming outgoing closes gates books desks shifts books'
     pub adds : sums ≡ sums_of (told_in shifts)
@@ -106,7 +108,8 @@ abbrev pub SatOnSockets : Desk Socket Nothing → Shift → Type 0
 SatOnSockets = Sat untold untold leaves_nothing
 
 -- A server on a listener. It ran no more sessions than the maximum, if the maximum is not 0. Each
--- session was on a connection of its own.
+-- session was on a connection of its own. Each worker had its connections in the order in which they
+-- were accepted, and a worker that was alone had all of them, in that order.
 pub record ServesOn (blocks workers most : ℕ) (sums : Sums) : Type 0 where
   pub gates : Gates
   pub opened : AreOpen 0 blocks 0 gates
@@ -116,6 +119,8 @@ pub record ServesOn (blocks workers most : ℕ) (sums : Sums) : Type 0 where
   pub accepted : List Socket
   pub desks : List (Desk Socket Nothing)
   pub dealt : IsPermutation (all_connections desks) accepted
+  pub ordered : AreServedInOrder accepted desks
+  pub alone : workers ≡ 1 → all_connections desks ≡ accepted
   pub sat : Each2 SatOnSockets desks shifts
   pub removed : Result ℕ Errno
   pub lived : Lived blocks gates shifts removed

@@ -24,10 +24,12 @@ use sysv_workers::{Source, WorkersFault, WorkersRefused, run_crowd};
 /// Serves the connections of a source on a new service, each as one session, and removes the queues
 /// that are left.
 ///
-/// There is a worker thread for each book. A worker opens a connection, runs its session, and closes
-/// it into its book. `blocks` is the number of blocks in the pool. The server ends when the source
-/// has ended and the sessions of its connections are over. Every timestamp of its queues is 0. A
-/// session whose memory is refused is counted; nothing was read or written in it.
+/// There is a worker thread for each book. A worker opens a connection, runs its session, and
+/// closes it into its book. Each worker serves its connections in the order in which the source
+/// returned them, so a worker that is alone serves all of them in that order. `blocks` is the
+/// number of blocks in the pool. The server ends when the source has ended and the sessions of its
+/// connections are over. Every timestamp of its queues is 0. A session whose memory is refused is
+/// counted; nothing was read or written in it.
 ///
 /// # Errors
 ///

@@ -59,7 +59,7 @@ module _ {O C R E : Type 0} (kind : Kind Gated ObjectCall ObjectReply O C R) (Is
 
 -- ---- places
 
-opened_there : (hs : List Mark) (k : ℕ) (h : Mark) → get_elem? hs k ≡ some h →
+pub opened_there : (hs : List Mark) (k : ℕ) (h : Mark) → get_elem? hs k ≡ some h →
     opening_at (gates_of hs) k ≡ h.gate.opening
 opened_there [] k h at = absurd (some-ne-none h (sym at))
 opened_there (x ∷ hs) zero h at = ap (λ (m : Mark). m.gate.opening) (some-injective x h at)

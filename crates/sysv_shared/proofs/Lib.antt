@@ -14,3 +14,4 @@ pub mod Ordered
 pub mod OrderedTurns
 pub mod OrderedHistories
 pub mod ClosedParts
+pub mod ReadsInOrder

@@ -27,7 +27,7 @@ use Rattle.sysv_shared.specs.Counts.{pool_counts}
 use Rattle.sysv_shared.specs.Gated.{IsSlot, IsRegistry, IsPool, slot_in, as_slot, as_registry, as_pool, GatedMoves}
 use Rattle.sysv_shared.specs.Gated.{gated_counts, place_of}
 use Rattle.sysv_shared.specs.Kinds.{turn_as, seat_as}
-use Rattle.sysv_shared.specs.Seats.{SlotSeat, MakesTurnAt, FindsWorn}
+use Rattle.sysv_shared.specs.Seats.{SlotSeat, KnowWhatTheyRead, MakesTurnAt, FindsWorn}
 use Rattle.sysv_shared.specs.Order.{GatedPass, member_of}
 use Rattle.sysv_objects.specs.Turns.{ask_of_call, Takes}
 use Rattle.sysv_shared.specs.Banked.{AreByKind, seats_seen}
@@ -51,8 +51,9 @@ pub slot_called : (bank : List (Gateway Gated)) (before after : GatedPass) (call
     AreByKind (gates_of before.seats) → gates_of before.seats ≡ bank → gates_of after.seats ≡ bank →
     AddsToOrder (slot_asked call + 2) before after →
     ChangesAt (slot_asked call + 2) before.seats after.seats (Called (asked.Slot call) (told.Slot reply)) →
+    KnowWhatTheyRead (seats_seen after) →
     Takes MakesTurnAt (seats_seen before) (asked.Slot call) (told.Slot reply) (seats_seen after)
-slot_called bank before after call reply kinds one two adds mine =
+slot_called bank before after call reply kinds one two adds mine reads =
     let slot = slot_asked call in
     let o : Gated = object_was (slot + 2) before (asked.Slot call) (told.Slot reply) after mine in
     let m = (seats_seen before).member in
@@ -82,6 +83,7 @@ slot_called bank before after call reply kinds one two adds mine =
     (subst (λ gs.
     MakesTurn (member_of (gates_of before.seats) before) (AtSlot slot (slot_call call) (slot_reply (slot_in o) reply))
     (member_of gs after)) (one ∙ sym two) made)
+    reads
 
 pub slot_worn : (bank : List (Gateway Gated)) (before after : GatedPass) (call : SlotCall) →
     AreByKind (gates_of before.seats) → gates_of before.seats ≡ bank → gates_of after.seats ≡ bank →
@@ -100,8 +102,9 @@ pub registry_called : (bank : List (Gateway Gated)) (before after : GatedPass) (
     (reply : RegistryReply) → AreByKind (gates_of before.seats) → gates_of before.seats ≡ bank →
     gates_of after.seats ≡ bank → AddsToOrder 0 before after →
     ChangesAt 0 before.seats after.seats (Called (asked.Registry call) (told.Registry reply)) →
+    KnowWhatTheyRead (seats_seen after) →
     Takes MakesTurnAt (seats_seen before) (asked.Registry call) (told.Registry reply) (seats_seen after)
-registry_called bank before after call reply kinds one two adds mine =
+registry_called bank before after call reply kinds one two adds mine reads =
     let went = changes_registry (seats_seen before).member (seats_seen after).member before.seats after.seats
     (Called (asked.Registry call) (told.Registry reply))
     (λ b a. Answers (Moves RegistryMoves registry_counts) registry_counts b call reply a × (b.worn ≡ false)) kinds
@@ -115,6 +118,7 @@ registry_called bank before after call reply kinds one two adds mine =
     (subst (λ gs.
     MakesTurn (member_of (gates_of before.seats) before) (AtRegistry (registry_call call) (registry_reply reply))
     (member_of gs after)) (one ∙ sym two) (registry_made before after call reply adds mine))
+    reads
 
 pub registry_worn : (bank : List (Gateway Gated)) (before after : GatedPass) (call : RegistryCall) →
     AreByKind (gates_of before.seats) → gates_of before.seats ≡ bank → gates_of after.seats ≡ bank →
@@ -131,8 +135,9 @@ pub pool_called : (bank : List (Gateway Gated)) (before after : GatedPass) (call
     AreByKind (gates_of before.seats) → gates_of before.seats ≡ bank → gates_of after.seats ≡ bank →
     AddsToOrder 1 before after →
     ChangesAt 1 before.seats after.seats (Called (asked.Pool call) (told.Pool reply)) →
+    KnowWhatTheyRead (seats_seen after) →
     Takes MakesTurnAt (seats_seen before) (asked.Pool call) (told.Pool reply) (seats_seen after)
-pool_called bank before after call reply kinds one two adds mine =
+pool_called bank before after call reply kinds one two adds mine reads =
     let went = changes_pool (seats_seen before).member (seats_seen after).member before.seats after.seats
     (Called (asked.Pool call) (told.Pool reply))
     (λ b a. Answers (Moves PoolMoves pool_counts) pool_counts b call reply a × (b.worn ≡ false)) kinds
@@ -145,6 +150,7 @@ pool_called bank before after call reply kinds one two adds mine =
     (subst (λ gs.
     MakesTurn (member_of (gates_of before.seats) before) (AtPool (pool_call call) (pool_reply reply))
     (member_of gs after)) (one ∙ sym two) (pool_made before after call reply adds mine))
+    reads
 
 pub pool_worn : (bank : List (Gateway Gated)) (before after : GatedPass) (call : PoolCall) →
     AreByKind (gates_of before.seats) → gates_of before.seats ≡ bank → gates_of after.seats ≡ bank →
@@ -161,24 +167,25 @@ pool_worn bank before after call kinds one two goes c =
 pub called : (bank : List (Gateway Gated)) (before after : GatedPass) (call : ObjectCall) (reply : ObjectReply) →
     AreByKind (gates_of before.seats) → gates_of before.seats ≡ bank → gates_of after.seats ≡ bank →
     AddsToOrder (place_of call) before after → ChangesAt (place_of call) before.seats after.seats (Called call reply) →
+    KnowWhatTheyRead (seats_seen after) →
     Takes MakesTurnAt (seats_seen before) call reply (seats_seen after)
-called bank before after (asked.Slot call) (told.Slot reply) kinds one two adds c =
-    slot_called bank before after call reply kinds one two adds c
-called bank before after (asked.Registry call) (told.Registry reply) kinds one two adds c =
-    registry_called bank before after call reply kinds one two adds c
-called bank before after (asked.Pool call) (told.Pool reply) kinds one two adds c =
-    pool_called bank before after call reply kinds one two adds c
-called bank before after (asked.Slot call) (told.Registry reply) kinds one two adds c =
+called bank before after (asked.Slot call) (told.Slot reply) kinds one two adds c reads =
+    slot_called bank before after call reply kinds one two adds c reads
+called bank before after (asked.Registry call) (told.Registry reply) kinds one two adds c reads =
+    registry_called bank before after call reply kinds one two adds c reads
+called bank before after (asked.Pool call) (told.Pool reply) kinds one two adds c reads =
+    pool_called bank before after call reply kinds one two adds c reads
+called bank before after (asked.Slot call) (told.Registry reply) kinds one two adds c reads =
     absurd (meant _ _ c.was c.is c.change)
-called bank before after (asked.Slot call) (told.Pool reply) kinds one two adds c =
+called bank before after (asked.Slot call) (told.Pool reply) kinds one two adds c reads =
     absurd (meant _ _ c.was c.is c.change)
-called bank before after (asked.Registry call) (told.Slot reply) kinds one two adds c =
+called bank before after (asked.Registry call) (told.Slot reply) kinds one two adds c reads =
     absurd (meant _ _ c.was c.is c.change)
-called bank before after (asked.Registry call) (told.Pool reply) kinds one two adds c =
+called bank before after (asked.Registry call) (told.Pool reply) kinds one two adds c reads =
     absurd (meant _ _ c.was c.is c.change)
-called bank before after (asked.Pool call) (told.Slot reply) kinds one two adds c =
+called bank before after (asked.Pool call) (told.Slot reply) kinds one two adds c reads =
     absurd (meant _ _ c.was c.is c.change)
-called bank before after (asked.Pool call) (told.Registry reply) kinds one two adds c =
+called bank before after (asked.Pool call) (told.Registry reply) kinds one two adds c reads =
     absurd (meant _ _ c.was c.is c.change)
 
 pub found_worn : (bank : List (Gateway Gated)) (before after : GatedPass) (call : ObjectCall) →

@@ -20,7 +20,7 @@ use Rattle.sysv_shared.specs.Counts.{slot_counts, registry_counts, pool_counts}
 use Rattle.sysv_objects.specs.declared.object.ObjectCall.TheVariants as asked
 use Rattle.sysv_objects.specs.declared.object.ObjectReply.TheVariants as told
 use Rattle.sysv_objects.specs.Turns.{Takes}
-use Rattle.sysv_shared.specs.Seats.{Seats, MakesTurnAt}
+use Rattle.sysv_shared.specs.Seats.{Seats, KnowWhatTheyRead, MakesTurnAt}
 
 -- The last turn of a legal history is allowed by the meaning of the object after the turns before
 -- it.
@@ -57,8 +57,9 @@ pub slot_answers : (before : Seats) (call : SlotCall) (reply : SlotReply) (after
     × (object_before SlotMoves slot_counts b call reply a answered.0 ≡ slot)) →
     after.registry ≡ before.registry → after.pool ≡ before.pool →
     MakesTurn before.member (AtSlot (slot_asked call) (slot_call call) (slot_reply slot reply)) after.member →
+    KnowWhatTheyRead after →
     Takes MakesTurnAt before (asked.Slot call) (told.Slot reply) after
-slot_answers before call reply after slot c registry pool made =
+slot_answers before call reply after slot c registry pool made reads =
     let b = c.was in
     let answered = c.change.0 in
     let meant = turn_meant SlotMoves slot_counts b call reply c.is answered.0 in (
@@ -76,6 +77,7 @@ slot_answers before call reply after slot c registry pool made =
         subst (λ s.
             MakesTurn before.member (AtSlot (slot_asked call) (slot_call call) (slot_reply s reply)) after.member)
             (sym c.change.1) made,
+        reads,
       ),
       meant.fits,
     )
@@ -84,9 +86,10 @@ pub registry_answers : (before : Seats) (call : RegistryCall) (reply : RegistryR
     Answers (Moves RegistryMoves registry_counts) registry_counts before.registry call reply after.registry →
     before.registry.worn ≡ false → after.slots ≡ before.slots → after.pool ≡ before.pool →
     MakesTurn before.member (AtRegistry (registry_call call) (registry_reply reply)) after.member →
+    KnowWhatTheyRead after →
     Takes MakesTurnAt before (asked.Registry call) (told.Registry reply) after
-registry_answers before call reply after a fresh slots pool made = (
-  (record { call = call; reply = reply; answers = a; fresh = fresh; entered = refl }, slots, pool, made),
+registry_answers before call reply after a fresh slots pool made reads = (
+  (record { call = call; reply = reply; answers = a; fresh = fresh; entered = refl }, slots, pool, made, reads),
   (turn_meant RegistryMoves registry_counts before.registry call reply after.registry a).fits,
 )
 
@@ -94,8 +97,9 @@ pub pool_answers : (before : Seats) (call : PoolCall) (reply : PoolReply) (after
     Answers (Moves PoolMoves pool_counts) pool_counts before.pool call reply after.pool → before.pool.worn ≡ false →
     after.slots ≡ before.slots → after.registry ≡ before.registry →
     MakesTurn before.member (AtPool (pool_call call) (pool_reply reply)) after.member →
+    KnowWhatTheyRead after →
     Takes MakesTurnAt before (asked.Pool call) (told.Pool reply) after
-pool_answers before call reply after a fresh slots registry made = (
-  (record { call = call; reply = reply; answers = a; fresh = fresh; entered = refl }, slots, registry, made),
+pool_answers before call reply after a fresh slots registry made reads = (
+  (record { call = call; reply = reply; answers = a; fresh = fresh; entered = refl }, slots, registry, made, reads),
   (turn_meant PoolMoves pool_counts before.pool call reply after.pool a).fits,
 )

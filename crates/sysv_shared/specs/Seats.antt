@@ -1,14 +1,20 @@
 -- What contracts see of the gates of all objects and of a seat at each of them, and what a turn of
 -- a seat's own is. This project's profile.
-use Rattle.std.specs.Prelude.{◌≡◌, ℕ, false, List, [], ◌∷◌, ◌++◌}
-use Rattle.sysv_model.specs.History.{Seat, Entry, History}
-use Rattle.sysv_model.specs.Registry.{RegistryEntry, RegistryHistory}
-use Rattle.sysv_model.specs.Pool.{PoolEntry, PoolHistory}
-use Rattle.sysv_model.specs.Turn.{Ask, OfSlot, OfRegistry, OfPool, Deed, AtSlot, AtRegistry, AtPool}
+use Rattle.std.specs.Prelude.{◌≡◌, ℕ, ◌+◌, ◌≤◌, false, List, [], ◌∷◌, ◌++◌}
+use mathlib.Core.Option.{some}
+use lib.ListN.{get_elem?}
+use Rattle.sysv_model.specs.History.{Seat, Entry, History, arrived, freed}
+use Rattle.sysv_model.specs.Registry.{RegistryEntry, RegistryHistory, settled}
+use Rattle.sysv_model.specs.Pool.{PoolEntry, PoolHistory, released}
+use Rattle.sysv_model.specs.Turn.{Ask, OfSlot, OfRegistry, OfPool, Deed, AtSlot, AtRegistry, AtPool, slot_history}
+use Rattle.sysv_model.specs.Turn.{registry_history, pool_history}
+use Rattle.sysv_passes.specs.Turns.{turns_of}
 use Rattle.sysv_passes.specs.Members.{Member, SeesMore, MakesTurn}
 use Rattle.sysv_queue.specs.Slot.{Slot}
-use Rattle.sysv_keys.specs.StandsFor.{Registry}
+use Rattle.sysv_queue.specs.StandsFor.{StandsFor as SlotStandsFor}
+use Rattle.sysv_keys.specs.StandsFor.{Registry, StandsFor as RegistryStandsFor}
 use Rattle.sysv_pool.specs.State.{State}
+use Rattle.sysv_pool.specs.StandsFor.{StandsFor as PoolStandsFor}
 use Rattle.sysv_gate.specs.declared.view.Turn.{Turn}
 use Rattle.sysv_gate.specs.History.{Moves, after_all}
 use Rattle.sysv_gate.specs.Gates.{Gateway, Holding, Answers, marked}
@@ -94,6 +100,21 @@ pool_seen seat = entries pool_entry seat.gate.opening seat.seen
 abbrev pub object_of : {O C R : Type 0} → Holding O C R → O
 object_of seat = after_all seat.gate.opening seat.seen
 
+-- ---- what was read of the counts
+
+-- Of each count, the seats have read at most one more than it is after the turns that the member has
+-- seen, if nothing had happened at the object when its gate was opened. The one is a rise that
+-- another seat has announced in a turn that has not ended. A read after these turns can find more.
+pub record KnowWhatTheyRead (seats : Seats) : Type 0 where
+  pub slots : (slot : ℕ) (seat : SlotSeat) → get_elem? seats.slots slot ≡ some seat →
+      SlotStandsFor [] seat.gate.opening →
+      (seat.read.0 ≤ arrived (slot_history slot (turns_of seats.member.order)) + 1)
+      × (seat.read.1 ≤ freed (slot_history slot (turns_of seats.member.order)) + 1)
+  pub registry : (generation : ℕ) → RegistryStandsFor generation [] seats.registry.gate.opening →
+      seats.registry.read.0 ≤ settled (registry_history (turns_of seats.member.order)) + 1
+  pub pool : PoolStandsFor [] seats.pool.gate.opening →
+      seats.pool.read.0 ≤ released (pool_history (turns_of seats.member.order)) + 1
+
 -- ---- turns
 
 -- A turn of the seat's own was made. The history that the seat has seen has grown by turns of
@@ -108,23 +129,23 @@ pub record TakesTurn {O C R E : Type 0} (moves : O → C → R → O → Type 0)
       (record { by = before.number; call = call; reply = reply; after = answers.object }) ≡ e
 
 -- The turn was made at its object, and nothing was done at any other. It is the last of the order
--- that was seen.
+-- that was seen, and what was read of the counts is bounded by this order.
 abbrev pub MakesTurnAt : Seats → Deed → Seats → Type 0
 MakesTurnAt before (AtSlot slot call reply) after =
     ChangesAt slot before.slots after.slots
     (λ b a. TakesTurn SlotMoves slot_counts slot_entry (record { who = Seat b.number; call = call; reply = reply }) b a)
     × (after.registry ≡ before.registry) × (after.pool ≡ before.pool)
-    × MakesTurn before.member (AtSlot slot call reply) after.member
+    × MakesTurn before.member (AtSlot slot call reply) after.member × KnowWhatTheyRead after
 MakesTurnAt before (AtRegistry call reply) after =
     TakesTurn RegistryMoves registry_counts registry_entry
     (record { who = Seat before.registry.number; call = call; reply = reply }) before.registry after.registry
     × (after.slots ≡ before.slots) × (after.pool ≡ before.pool)
-    × MakesTurn before.member (AtRegistry call reply) after.member
+    × MakesTurn before.member (AtRegistry call reply) after.member × KnowWhatTheyRead after
 MakesTurnAt before (AtPool call reply) after =
     TakesTurn PoolMoves pool_counts pool_entry (record { who = Seat before.pool.number; call = call; reply = reply })
     before.pool after.pool
     × (after.slots ≡ before.slots) × (after.registry ≡ before.registry)
-    × MakesTurn before.member (AtPool call reply) after.member
+    × MakesTurn before.member (AtPool call reply) after.member × KnowWhatTheyRead after
 
 -- The gate of the object that the call is for was found worn out, and nothing was done at any
 -- object.

@@ -12,7 +12,7 @@ use Rattle.sysv_lists.specs.Numbers.{times}
 use Rattle.sysv_workers.specs.declared.feed.Feed.{Feed}
 use Rattle.sysv_workers.specs.declared.feed.Feed.TheVariants.{Item, End}
 use Rattle.sysv_workers.specs.Feeding.{Reads, items_in, fed}
-use Rattle.sysv_workers.proofs.Feeds.{nil_of}
+use Rattle.sysv_workers.proofs.Feeds.{nil_of, items_in-append}
 
 -- The number is none of these.
 abbrev Away : ℕ → List ℕ → Type 0
@@ -112,11 +112,6 @@ module _ {A : Type 0} where
   map_length f (x ∷ xs) = ap suc (map_length f xs)
 
 module _ {T : Type 0} where
-  pub items_in-append : (fs gs : List (Feed T)) → items_in (fs ++ gs) ≡ items_in fs ++ items_in gs
-  items_in-append [] gs = refl
-  items_in-append (Item x ∷ fs) gs = ap (λ l. x ∷ l) (items_in-append fs gs)
-  items_in-append (End ∷ fs) gs = items_in-append fs gs
-
   pub items_fed : (xs : List T) (n : ℕ) → items_in (fed xs n) ≡ xs
   items_fed [] zero = refl
   items_fed [] (suc n) = items_fed [] n

@@ -11,7 +11,7 @@ use Rattle.sysv_buffer.specs.ManyEnds.{Holding, HasItsOwn, Looks}
 use Rattle.sysv_workers.specs.declared.feed.Feed.{Feed}
 use Rattle.sysv_workers.specs.Doing.{Gathered}
 use Rattle.sysv_workers.specs.Feeding.{counted, Reads, items_in, HasFed}
-use Rattle.sysv_workers.specs.Parts.{Part, Leads}
+use Rattle.sysv_workers.specs.Parts.{Part, Leads, AreInOrder}
 use Rattle.sysv_workers.specs.Causes.{Told, HasCause}
 use Rattle.sysv_workers.specs.Running.{GivesBack, LeavesSource, Ends, Fails}
 use Rattle.sysv_workers.specs.Sources.{GivesAll, Returned}
@@ -20,6 +20,7 @@ use Rattle.sysv_workers.specs.declared.refusals.WorkersFault.TheVariants.{BadCou
 use Rattle.sysv_workers.proofs.Feeds.{reads_longer, reads_length, looks_longer}
 use Rattle.sysv_workers.proofs.RunningThreads.{map_length}
 use Rattle.sysv_workers.proofs.AllPlacesRead.{apart, all_dealt, items_fed}
+use Rattle.sysv_workers.proofs.InOrder.{still_in_order, one_in_order}
 
 pub at_some : {A : Type 0} (P : A → Type 0) (o : Option A) (x : A) → o ≡ Some x → IfSome o P → P x
 at_some P o x is p = subst (λ (r : Option _). IfSome r P) is p
@@ -42,6 +43,7 @@ module _ {W T : Type 0} (runs : W → T → W → Type 0) (fits : W → Type 0) 
     feeds = [];
     reads = subst (λ (ks : List ℕ). Reads h.seen ks []) (sym none) tt;
     items = refl;
+    ordered = λ k p low. absurd (omega arith);
     count = λ _. refl;
     worn = λ e. absurd (true≢false (sym not ∙ e));
     total = zero;
@@ -60,16 +62,19 @@ module _ {W T : Type 0} (runs : W → T → W → Type 0) (fits : W → Type 0) 
         (subst (λ (m : List (Feed T)). Reads m h.takes g.feeds) (sym l.seen)
         (reads_longer h.seen l.more h.takes g.feeds g.reads));
     items = g.items;
+    ordered = λ k p low. still_in_order _ h.seen h'.seen (l.more, l.seen) (g.ordered k p low);
     count = g.count;
     worn = λ e. let far = g.worn e in let low = looks_longer h h' l in omega arith;
     total = g.total;
   }
 
-  -- All items of the source were run, each once.
+  -- All items of the source were run, each once. Each worker ran its items in the order of the
+  -- source.
   pub dealt : (parts : List (Part W T)) (h : Holding (Feed T)) (states : List W) (ran : ℕ) (ended : Bool)
       (given : List T) (n put : ℕ) → Gathered runs fits [] parts h states ran ended → HasFed given n h → HasItsOwn h
       → ended ≡ true → length parts ≡ n → 1 ≤ n → ran ≡ counted (length given) → put ≡ length h.seen
-      → put ≡ min (ran + n) (2 ^ 64 - 1) → IsPermutation (flat_map (λ p. p.items) parts) given
+      → put ≡ min (ran + n) (2 ^ 64 - 1)
+      → IsPermutation (flat_map (λ p. p.items) parts) given × AreInOrder given parts
   dealt parts h states ran ended given n put g f own all parts_n some same is most =
       let flat : List T = flat_map (λ (p : Part W T). p.items) parts in
       let fed_most = f.most in
@@ -81,8 +86,11 @@ module _ {W T : Type 0} (runs : W → T → W → Type 0) (fits : W → Type 0) 
       let apart' = apart h.takes own.1.once in
       let p : IsPermutation (items_in g.feeds) (items_in h.seen) =
       all_dealt g.feeds h.seen h.takes g.reads apart' (omega arith) in
-      subst (λ (l : List T). IsPermutation flat l) (ap items_in whole ∙ items_fed given n)
-      (subst (λ (l : List T). IsPermutation l (items_in h.seen)) g.items p)
+      let same : items_in h.seen ≡ given = ap items_in whole ∙ items_fed given n in (
+        subst (λ (l : List T). IsPermutation flat l) same
+            (subst (λ (l : List T). IsPermutation l (items_in h.seen)) g.items p),
+        subst (λ (l : List T). AreInOrder l parts) same g.ordered,
+      )
 
   -- If no item was run, no state has changed.
   unchanged : (parts : List (Part W T)) → length (flat_map (λ p. p.items) parts) ≡ 0 → All RanBy parts →
@@ -280,13 +288,16 @@ module _ {W T : Type 0} (runs : W → T → W → Type 0) (fits : W → Type 0) 
   ends gives before after source source' parts given h ran ended n put g began long some gave fed own all ran_all is
       most =
       let count : length parts ≡ n = sym (map_length (λ (p : Part W T). p.before) parts) ∙ (ap length began ∙ long) in
+      let deal = dealt parts h after ran ended given n put g fed own all count some ran_all is most in
       record {
         all = record {
           parts = parts;
           given = given;
           leads = record { began = began; left = sym g.left; ran = g.folds };
           gave = gave;
-          dealt = dealt parts h after ran ended given n put g fed own all count some ran_all is most;
+          dealt = deal.0;
+          ordered = deal.1;
+          alone = λ one. one_in_order given parts (omega arith) deal.0 deal.1;
         };
         still = g.still;
       }

@@ -8,7 +8,7 @@ use Rattle.sysv_buffer.specs.ManyEnds.{Holding, Puts, Looks}
 use Rattle.sysv_workers.specs.declared.feed.Feed.{Feed}
 use Rattle.sysv_workers.specs.declared.feed.Feed.TheVariants.{Item, End}
 use Rattle.std.specs.Prelude.{◌^◌}
-use Rattle.sysv_workers.specs.Feeding.{Reads, fed, HasFed, IsMarked}
+use Rattle.sysv_workers.specs.Feeding.{Reads, items_in, mark, fed, HasFed, IsMarked}
 
 module _ {A : Type 0} where
   pub nil_of : (xs : List A) → length xs ≡ 0 → xs ≡ []
@@ -45,6 +45,16 @@ module _ {A : Type 0} where
   replicate_push (suc n) x = ap (λ l. x ∷ l) (replicate_push n x)
 
 module _ {T : Type 0} where
+  pub items_in-append : (fs gs : List (Feed T)) → items_in (fs ++ gs) ≡ items_in fs ++ items_in gs
+  items_in-append [] gs = refl
+  items_in-append (Item x ∷ fs) gs = ap (λ l. x ∷ l) (items_in-append fs gs)
+  items_in-append (End ∷ fs) gs = items_in-append fs gs
+
+  pub items_of_worker : (xs : List T) (b : Bool) → items_in (map Item xs ++ mark b) ≡ xs
+  items_of_worker [] true = refl
+  items_of_worker [] false = refl
+  items_of_worker (x ∷ xs) b = ap (λ l. x ∷ l) (items_of_worker xs b)
+
   item_at_end : (xs : List T) (x : T) → (fed xs 0 ++ []) ++ Item x ∷ [] ≡ fed (xs ++ x ∷ []) 0
   item_at_end xs x = simp (append-nil, map-append)
 

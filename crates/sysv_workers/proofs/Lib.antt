@@ -1,4 +1,5 @@
 mod Feeds
+mod InOrder
 mod Works
 mod RunningThreads
 mod AllPlacesRead

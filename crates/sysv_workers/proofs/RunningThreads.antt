@@ -17,8 +17,9 @@ use Rattle.sysv_workers.specs.declared.worker.Working.{Working}
 use Rattle.sysv_workers.specs.Crews.{Assigned, assigned_to, AreOn}
 use Rattle.sysv_workers.specs.Doing.{Did, Gathered}
 use Rattle.sysv_workers.specs.Feeding.{Reads, items_in, mark}
-use Rattle.sysv_workers.specs.Parts.{Part}
-use Rattle.sysv_workers.proofs.Feeds.{reads_longer, reads_both}
+use Rattle.sysv_workers.specs.Parts.{Part, IsSubsequenceOf}
+use Rattle.sysv_workers.proofs.Feeds.{reads_longer, reads_both, items_in-append, items_of_worker}
+use Rattle.sysv_workers.proofs.InOrder.{still_in_order}
 
 pub map_length : {A B : Type 0} (f : A → B) (xs : List A) → length (map f xs) ≡ length xs
 map_length f [] = refl
@@ -117,16 +118,6 @@ both_true true false is = cc
 both_true false b is = cc
 
 module _ {T : Type 0} where
-  items_in-append : (fs gs : List (Feed T)) → items_in (fs ++ gs) ≡ items_in fs ++ items_in gs
-  items_in-append [] gs = refl
-  items_in-append (Item x ∷ fs) gs = ap (λ l. x ∷ l) (items_in-append fs gs)
-  items_in-append (End ∷ fs) gs = items_in-append fs gs
-
-  items_of_worker : (xs : List T) (b : Bool) → items_in (map Item xs ++ mark b) ≡ xs
-  items_of_worker [] true = refl
-  items_of_worker [] false = refl
-  items_of_worker (x ∷ xs) b = ap (λ l. x ∷ l) (items_of_worker xs b)
-
   feeds_of_worker : (xs : List T) (b : Bool) → b ≡ true → length (map Item xs ++ mark b) ≡ length xs + 1
   feeds_of_worker xs b is = ap (λ (v : Bool). length (map Item xs ++ mark v)) is
       ∙ (length-append (map Item xs) (End ∷ []) ∙ ap (λ n. n + 1) (map_length Item xs))
@@ -146,6 +137,7 @@ module _ {W T : Type 0} where
       let part : Part W T = record { before = before; items = d.items; after = after } in
       let own : List (Feed T) = map Item d.items ++ mark end in
       let ran_by : Part W T → Type 0 = λ p. FoldsTo runs p.before p.items p.after in
+      let kept : Part W T → Type 0 = λ p. IsSubsequenceOf p.items (items_in h'.seen) in
       let flat : flat_map (λ (p : Part W T). p.items) (parts ++ part ∷ [])
       ≡ flat_map (λ (p : Part W T). p.items) parts ++ d.items =
       flat_map-append (λ (p : Part W T). p.items) parts (part ∷ [])
@@ -171,6 +163,9 @@ module _ {W T : Type 0} where
           items = items_in-append g.feeds own
               ∙ (ap (λ l. l ++ items_in own) g.items
               ∙ (ap (λ l. flat_map (λ (p : Part W T). p.items) parts ++ l) (items_of_worker d.items end) ∙ sym flat));
+          ordered = All-push kept parts part
+              (λ k p low. still_in_order _ h.seen h'.seen j.begins_one (g.ordered k p low))
+              (still_in_order d.items theirs.seen h'.seen j.begins_two d.ordered);
           count = λ is.
               let t = both_true ended end (sym tally.1 ∙ is) in
               let a = g.count t.0 in

@@ -7,6 +7,7 @@ use Rattle.sysv_buffer.specs.ManyEnds.{Holding}
 use Rattle.sysv_workers.specs.declared.feed.Feed.{Feed}
 use Rattle.sysv_workers.specs.Feeding.{counted}
 use Rattle.sysv_workers.specs.Parts.{Part, Leads}
+use Rattle.sysv_workers.specs.Running.{Fails}
 use Rattle.sysv_workers.specs.Sources.{Gave}
 use Rattle.sysv_workers.specs.declared.refusals.WorkersFault.{WorkersFault}
 use Rattle.sysv_workers.specs.declared.refusals.WorkersFault.TheVariants.{BadCount, NoMemory, Thread, Worn, Missed}
@@ -46,3 +47,10 @@ module _ {W T S : Type 0} where
   HasCause runs gives before source marks Worn after source' seat = 2 ^ 62 ≤ length seat.seen
   HasCause runs gives before source marks Missed after source' seat =
       Differs runs gives before source marks after source' seat
+
+  -- The result of a run that was refused after the buffer was made, and its cause.
+  abbrev pub FailsBy : (W → T → W → Type 0) → (W → Type 0) → (S → Option T → S → Type 0) → List W → S → ℕ →
+      WorkersFault → List W → S → Holding (Feed T) → Type 0
+  FailsBy runs fits gives before source marks why after source' seat =
+      Fails runs fits gives before source why after source'
+      × HasCause runs gives before source marks why after source' seat

@@ -5,12 +5,12 @@ use Rattle.sysv_buffer.specs.Ends.{Buffered}
 use Rattle.sysv_buffer.specs.ManyEnds.{Holding}
 use Rattle.sysv_workers.specs.declared.feed.Feed.{Feed}
 use Rattle.sysv_workers.specs.declared.feed.Feed.TheVariants.{Item}
-use Rattle.sysv_workers.specs.Feeding.{counted, Reads, items_in, mark}
-use Rattle.sysv_workers.specs.Parts.{Part}
+use Rattle.sysv_workers.specs.Feeding.{counted, Reads, Rises, items_in, mark}
+use Rattle.sysv_workers.specs.Parts.{Part, IsSubsequenceOf, AreInOrder}
 
 module _ {W T : Type 0} where
-  -- With its seat a worker has taken these items so far. The job's runs over them led from the
-  -- first state to the second.
+  -- With its seat a worker has taken these items so far, from later and later places. The job's
+  -- runs over them led from the first state to the second.
   pub record Doing (runs : W → T → W → Type 0) (fits : W → Type 0) (buffer : Buffered) (before after : W)
       (seat : Holding (Feed T)) (ran : ℕ) : Type 0 where
     pub items : List T
@@ -18,11 +18,12 @@ module _ {W T : Type 0} where
     pub still : fits after
     pub place : seat.buffer ≡ buffer
     pub reads : Reads seat.seen seat.takes (map Item items)
+    pub rises : Rises seat.takes
     pub count : ran ≡ counted (length items)
 
-  -- With its seat a worker took these items, and then an end mark if it has ended. If it has not
-  -- ended, it has seen that the buffer is worn out. The job's runs over the items led from the
-  -- first state to the second.
+  -- With its seat a worker took these items, in the order in which they were put, and then an end
+  -- mark if it has ended. If it has not ended, it has seen that the buffer is worn out. The job's
+  -- runs over the items led from the first state to the second.
   pub record Did (runs : W → T → W → Type 0) (fits : W → Type 0) (buffer : Buffered) (before : W) (ended : Bool)
       (after : W) (seat : Holding (Feed T)) (ran : ℕ) : Type 0 where
     pub items : List T
@@ -30,6 +31,7 @@ module _ {W T : Type 0} where
     pub still : fits after
     pub place : seat.buffer ≡ buffer
     pub reads : Reads seat.seen seat.takes (map Item items ++ mark ended)
+    pub ordered : IsSubsequenceOf items (items_in seat.seen)
     pub count : ran ≡ counted (length items)
     pub worn : ended ≡ false → 2 ^ 62 ≤ seat.gone
 
@@ -43,6 +45,7 @@ module _ {W T : Type 0} where
     pub feeds : List (Feed T)
     pub reads : Reads seat.seen seat.takes feeds
     pub items : items_in feeds ≡ flat_map (λ p. p.items) parts
+    pub ordered : AreInOrder (items_in seat.seen) parts
     pub count : ended ≡ true → length feeds ≡ length (flat_map (λ p. p.items) parts) + length parts
     pub worn : ended ≡ false → 2 ^ 62 ≤ length seat.seen
     pub total : ran ≡ counted (length (flat_map (λ p. p.items) parts))

@@ -1,10 +1,11 @@
 -- What is in the buffer that feeds the workers: the items of the source, and then one end mark per
 -- worker. This project's profile.
-use Rattle.std.specs.Prelude.{◌≡◌, ℕ, ◌+◌, ◌-◌, ◌^◌, ◌≤◌, ◌⊎◌, min, Bool, true, false, List, [], ◌∷◌, ◌++◌, length, map}
-use Rattle.std.specs.Prelude.{replicate}
+use Rattle.std.specs.Prelude.{◌≡◌, ℕ, ◌+◌, ◌-◌, ◌^◌, ◌<◌, ◌≤◌, ◌⊎◌, ⊤, min, Bool, true, false, List, []}
+use Rattle.std.specs.Prelude.{◌∷◌, ◌++◌, length, map, replicate}
 use mathlib.Core.Option.{some}
 use lib.ListN.{get_elem?}
 use Rattle.sysv_buffer.specs.ManyEnds.{Holding}
+use Rattle.sysv_lists.specs.Numbers.{times}
 use Rattle.sysv_workers.specs.declared.feed.Feed.{Feed}
 use Rattle.sysv_workers.specs.declared.feed.Feed.TheVariants.{Item, End}
 
@@ -19,6 +20,11 @@ module _ {A : Type 0} where
   Reads list [] (x ∷ xs) = ⊥
   Reads list (k ∷ ks) [] = ⊥
   Reads list (k ∷ ks) (x ∷ xs) = (get_elem? list k ≡ some x) × Reads list ks xs
+
+-- Each place is before those after it.
+abbrev pub Rises : List ℕ → Type 0
+Rises [] = ⊤
+Rises (k ∷ ks) = ((j : ℕ) → 1 ≤ times j ks → k < j) × Rises ks
 
 module _ {T : Type 0} where
   -- The items, without the end marks.

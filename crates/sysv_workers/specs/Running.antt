@@ -1,7 +1,7 @@
 -- What a run of workers does, and what is handed back if it is refused. This project's profile.
 use Rattle.std.specs.Prelude.{◌≡◌, ◌≢◌, ◌≤◌, List, length, Option}
 use Rattle.std.specs.List.{All, flat_map}
-use Rattle.sysv_workers.specs.Parts.{Part, Leads, AreDealt}
+use Rattle.sysv_workers.specs.Parts.{Part, Leads, AreDealt, AreInOrder}
 use Rattle.sysv_workers.specs.Sources.{GivesAll, Gave, Returned}
 use Rattle.sysv_workers.specs.declared.refusals.WorkersFault.{WorkersFault}
 use Rattle.sysv_workers.specs.declared.refusals.WorkersFault.TheVariants.{BadCount, NoMemory, Thread, Worn, Missed}
@@ -9,7 +9,8 @@ use Rattle.sysv_workers.specs.declared.refusals.WorkersFault.TheVariants.{BadCou
 module _ {W T : Type 0} where
   -- The workers have run over all items of the source. Each worker has a list of items, and leaves
   -- a state to which the job's runs over that list lead. Together, the lists are the items that the
-  -- source returned, each once.
+  -- source returned, each once. Each list is in the order in which the source returned them; so one
+  -- worker alone ran over just the items of the source, in their order.
   pub record RunsAll {S : Type 0} (runs : W → T → W → Type 0) (gives : S → Option T → S → Type 0) (before : List W)
       (source : S) (after : List W) (source' : S) : Type 0 where
     pub parts : List (Part W T)
@@ -17,6 +18,8 @@ module _ {W T : Type 0} where
     pub leads : Leads runs before parts after
     pub gave : GivesAll gives source given source'
     pub dealt : AreDealt given parts
+    pub ordered : AreInOrder given parts
+    pub alone : length before ≡ 1 → flat_map (λ p. p.items) parts ≡ given
 
   -- What a refused run hands back. After `BadCount`, `NoMemory` and `Thread` the states are
   -- unchanged. After `Worn` and `Missed` each state is one to which runs over some items lead.

@@ -3,8 +3,8 @@ ghost use Rattle.std.specs.Prelude.{◌≡◌, ◌+◌, ◌-◌, ◌^◌, ◌<�
 ghost use Rattle.std.specs.List.{All};
 ghost use Rattle.std.specs.Mem.{manually_drop_value};
 ghost use Rattle.std.specs.Thread.{IsSync};
-ghost use Rattle.sysv_workers.specs.Crews.{AreOn, HasDone};
-ghost use Rattle.sysv_workers.specs.Causes.{Told, HasCause};
+ghost use Rattle.sysv_workers.specs.Crews.{AreOn, CanStart, HasDone};
+ghost use Rattle.sysv_workers.specs.Causes.{Told, HasCause, FailsBy};
 ghost use Rattle.sysv_workers.specs.Running.{RunsAll, GivesBack, GivesUp, LeavesSource, Ends, Fails};
 ghost use Rattle.sysv_workers.specs.declared.workers.TheConstants.{MAX_WORKERS, MAX_CROWD};
 
@@ -33,7 +33,8 @@ pub const MAX_CROWD: usize = 256;
 /// The calling thread alone reads the source, after all threads have started. Each item goes to the
 /// next free worker, through a buffer with one cell per worker. Each worker has a list of items,
 /// its state is one to which the job's runs over that list lead, and together the lists are the
-/// items of the source, each once.
+/// items of the source, each once. Each list is in the order in which the source returned its items,
+/// so a worker that is alone runs over all items in that order.
 ///
 /// # Errors
 ///
@@ -184,24 +185,19 @@ where
             &mut S,
             &mut Seat<Feed<T>>,
         )
-            requires { IsSync R.row × (seat.now.buffer ≡ buffer.now) × (seat.now.takes ≡ [])
-                × All (J.fits job.now) (manually_drop_value kept).items × (handles.items ≡ [])
-                × (1 ≤ vec_len (manually_drop_value kept))
-                × (vec_len (manually_drop_value kept) ≤ MAX_CROWD)
-                × (vec_len (manually_drop_value kept) ≤ vec_capacity handles) }
-            ensures source { result.1.ghost_name ≡ source.entry.ghost_name }
-            ensures seat { result.2.ghost_name ≡ seat.entry.ghost_name }
+            requires { IsSync R.row × (handles.items ≡ [])
+                × CanStart (J.fits job.now) buffer.now seat.now (manually_drop_value kept).items
+                (vec_len (manually_drop_value kept)) (vec_capacity handles) }
+            ensures lent { (result.1.ghost_name ≡ source.entry.ghost_name)
+                × (result.2.ghost_name ≡ seat.entry.ghost_name) }
             ensures ok { IfOk result.0 (λ v.
                 Ends (J.runs job.entry.now) (J.fits job.entry.now) S.gives
                 (manually_drop_value kept).items source.entry.now v.items result.1.now) }
             ensures err { IfErr result.0 (λ e.
-                Fails (J.runs job.entry.now) (J.fits job.entry.now) S.gives
-                (manually_drop_value kept).items source.entry.now e.why e.states.items
-                result.1.now) }
-            ensures cause { IfErr result.0 (λ e.
-                HasCause (J.runs job.entry.now) S.gives (manually_drop_value kept).items
-                source.entry.now (vec_len (manually_drop_value kept)) e.why e.states.items
-                result.1.now result.2.now) }
+                FailsBy (J.runs job.entry.now) (J.fits job.entry.now) S.gives
+                (manually_drop_value kept).items source.entry.now
+                (vec_len (manually_drop_value kept)) e.why e.states.items result.1.now
+                result.2.now) }
         {
             let states = ManuallyDrop::into_inner(kept);
             let outcome = run_in(rt, scope, buffer, job, source, seat, states, handles);

@@ -119,3 +119,30 @@ fn two_clients_in_memory(rt: HostRuntime) {
         assert_eq!(rt; count(books.as_slice(), received.as_slice()), 1);
     }
 }
+
+// With one worker, the replies are in the order of the connections. The source returns the last
+// client first: the message is there when the other client receives it.
+#[test]
+fn one_worker_serves_in_order(rt: HostRuntime) {
+    let alloc = rt.alloc();
+    let sender = joined(&rt, alloc, &[HELLO, CREATE, SEND]);
+    let receiver = joined(&rt, alloc, &[HELLO, CREATE, RECEIVE]);
+    let sent = joined(&rt, alloc, &[KNOWN, FOUND, SENT]);
+    let received = joined(&rt, alloc, &[KNOWN, FOUND, RECEIVED]);
+    let mut books = Vec::from_array(alloc, [book(&rt, alloc)]).expect(&rt, "memory");
+    let clients = [receiver.as_slice(), sender.as_slice()];
+    let ended = served(&rt, alloc, &clients, &mut books);
+    assert_eq!(rt;
+        ended,
+        Ended {
+            sums: sums(2, 1, 0),
+            refused: 0,
+            removed: Ok(1),
+            closed: EMPTY,
+        }
+    );
+    let kept = books[0].kept();
+    assert_eq!(rt; kept.len(), 2);
+    assert_eq!(rt; kept[0].as_slice(), sent.as_slice());
+    assert_eq!(rt; kept[1].as_slice(), received.as_slice());
+}

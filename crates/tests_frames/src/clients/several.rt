@@ -1,6 +1,8 @@
 //! Lines that are sent as messages, and the removal of all queues.
 use super::*;
-use sysv_clients::{ClientFault, Refusal, Sending, Unsent, remove_all, send_lines};
+use sysv_clients::{
+    ClientFault, Feed, Refusal, Sending, Unsent, remove_all, send_feed, send_lines,
+};
 use sysv_model::Errno;
 
 /// `msgget` of key 7 with IPC_CREAT and mode 0600.
@@ -22,17 +24,19 @@ fn line_of(outcome: &Result<(), Unsent>) -> &'static str {
     }
 }
 
+/// Sends with type 5 to the queue of key 7.
+const SENDING: Sending = Sending {
+    cred: WHO,
+    key: 7,
+    mtype: 5,
+    nowait: false,
+};
+
 /// Sends the lines of `input`, and returns what ended that.
 fn send(talk: &mut Talk, alloc: Global, input: &mut Tape) -> &'static str {
-    let sending = Sending {
-        cred: WHO,
-        key: 7,
-        mtype: 5,
-        nowait: false,
-    };
     let outcome = send_lines(
         alloc,
-        &sending,
+        &SENDING,
         input,
         &mut talk.replies,
         &mut talk.requests,
@@ -154,6 +158,30 @@ fn an_input_that_fails_ends_the_sends(rt: HostRuntime) {
             put_send(&mut asked, b"a");
         }
         assert!(rt; talk.requests.text() == asked.text(), "{good}");
+    }
+}
+
+#[test]
+fn a_feed_has_the_failure_that_ended_the_sends(rt: HostRuntime) {
+    for good in [1, 9] {
+        let mut input = joined(&rt, rt.alloc(), &[b"a\n"]);
+        input.good = good;
+        let mut feed = Feed::new(&mut input);
+        assert!(rt; feed.failure().is_none());
+        let mut talk = Talk::new(&rt, rt.alloc(), &[WELCOME, GOT, SENT]);
+        let outcome = send_feed(
+            rt.alloc(),
+            &SENDING,
+            &mut feed,
+            &mut talk.replies,
+            &mut talk.requests,
+        );
+        let ended = line_of(&outcome);
+        if ended == NO_MEMORY {
+            return;
+        }
+        assert!(rt; ended.is_empty() == (good == 9));
+        assert!(rt; feed.failure().is_none() == ended.is_empty());
     }
 }
 

@@ -3,11 +3,11 @@ use Rattle.sysv_gate.specs.History.{Moves}
 use Rattle.sysv_gate.specs.Gates.{Answers, marked}
 use Rattle.sysv_gate.specs.Halls.{me_at}
 use Rattle.sysv_bank.specs.Banks.{ChangesAt}
-use Rattle.sysv_bank.specs.Passes.{GoesOn, AddsToOrder}
+use Rattle.sysv_bank.specs.Passes.{GoesOn, AddsToOrder, KnowsItsReads}
 use Rattle.sysv_bank.specs.Resting.{pass_of}
-use Rattle.sysv_bank.proofs.Places.{if_ok, if_err, both_ok, on_err}
+use Rattle.sysv_bank.proofs.Places.{if_ok, if_err, on_ok, both_ok, on_err}
 use Rattle.sysv_bank.proofs.Passes.{door_there, door_of, is_at, idles, accepted, rests_there, gates_after, changes}
-use Rattle.sysv_bank.proofs.Passes.{goes_on, rests_after, adds_to_order}
+use Rattle.sysv_bank.proofs.Passes.{goes_on, rests_after, adds_to_order, knows_reads}
 use Rattle.sysv_gate.proofs.SeenAfterCall.{bare, call_rests, answers, worn}
 use Rattle.sysv_bank.proofs.PassAfterCall.{call_names, adds, stays_worn}
 use Rattle.sysv_bank.proofs.bank.Bank.call.Goals as goal
@@ -77,6 +77,23 @@ returns-clause-ok g c =
     (me_at c.index.result.now.place c.call.new.token.me)
     (rests_there _ _ _ _ _ _ c.self.invariant c.seat.invariant c.self.view_is c.seat.view_is c.requires.seat _ _
     c.requires.place c.index.ensures) _ _ called))
+
+pub returns-clause-reads : goal.returns-clause-reads
+returns-clause-reads g c =
+    on_ok _ _ (KnowsItsReads (Moves g.O.Object.meaning g.O.Object.counted) g.O.Object.counted
+    (pass_of (record { token = c.call.new.token; key = c.seat.inside.key }))) c.call.ensures.reads
+    (knows_reads (Moves g.O.Object.meaning g.O.Object.counted)
+    (record { token = c.call.new.token; key = c.seat.inside.key }) (
+    let rests = call_rests _ g.O.Object.counted _ _ _ _
+    (rests_there _ _ _ _ _ _ c.self.invariant c.seat.invariant c.self.view_is c.seat.view_is c.requires.seat _ _
+    c.requires.place c.index.ensures)
+    c.seat.inside.token.table_id c.args.call c.call.result c.call.ensures.ok c.call.ensures.worn in
+    rests_after _ _ _ _ _ _ c.self.invariant c.seat.invariant c.self.view_is c.seat.view_is c.requires.seat _ _
+    c.requires.place c.index.ensures c.call.new.token c.call.ensures.same
+    (bare c.index.result.now.place c.call.new.token.me rests.0) rests.1
+    (call_names (Moves g.O.Object.meaning g.O.Object.counted) g.O.Object.counted c.index.result.now.opening
+    (me_at c.index.result.now.place c.seat.inside.token.me) (me_at c.index.result.now.place c.call.new.token.me)
+    c.args.call c.call.result c.call.ensures.ok c.call.ensures.worn)) g.O.Object.counted)
 
 pub returns-clause-order : goal.returns-clause-order
 returns-clause-order g c = both_ok _ _ _

@@ -4,11 +4,11 @@ use Rattle.sysv_gate.specs.Gates.{Answers}
 use Rattle.sysv_gate.specs.Refusals.{Refuses}
 use Rattle.sysv_gate.specs.Halls.{me_at}
 use Rattle.sysv_bank.specs.Banks.{ChangesAt}
-use Rattle.sysv_bank.specs.Passes.{GoesOn, AddsToOrder}
+use Rattle.sysv_bank.specs.Passes.{GoesOn, AddsToOrder, KnowsItsReads}
 use Rattle.sysv_bank.specs.Resting.{pass_of}
-use Rattle.sysv_bank.proofs.Places.{if_ok, if_err, both_ok, on_err}
+use Rattle.sysv_bank.proofs.Places.{if_ok, if_err, on_ok, both_ok, on_err}
 use Rattle.sysv_bank.proofs.Passes.{door_there, door_of, is_at, idles, accepted, rests_there, gates_after, changes}
-use Rattle.sysv_bank.proofs.Passes.{goes_on, rests_after, adds_to_order}
+use Rattle.sysv_bank.proofs.Passes.{goes_on, rests_after, adds_to_order, knows_reads}
 use Rattle.sysv_gate.proofs.SeenAfterCall.{bare, try_rests, answers, refused}
 use Rattle.sysv_bank.proofs.PassAfterCall.{try_names, adds, stays_tried}
 use Rattle.sysv_bank.proofs.bank.Bank.try_call.Goals as goal
@@ -78,6 +78,23 @@ returns-clause-ok g c =
     (me_at c.index.result.now.place c.try_call.new.token.me)
     (rests_there _ _ _ _ _ _ c.self.invariant c.seat.invariant c.self.view_is c.seat.view_is c.requires.seat _ _
     c.requires.place c.index.ensures) _ _ called))
+
+pub returns-clause-reads : goal.returns-clause-reads
+returns-clause-reads g c =
+    on_ok _ _ (KnowsItsReads (Moves g.O.Object.meaning g.O.Object.counted) g.O.Object.counted
+    (pass_of (record { token = c.try_call.new.token; key = c.seat.inside.key }))) c.try_call.ensures.reads
+    (knows_reads (Moves g.O.Object.meaning g.O.Object.counted)
+    (record { token = c.try_call.new.token; key = c.seat.inside.key }) (
+    let rests = try_rests _ g.O.Object.counted _ _ _ _
+    (rests_there _ _ _ _ _ _ c.self.invariant c.seat.invariant c.self.view_is c.seat.view_is c.requires.seat _ _
+    c.requires.place c.index.ensures)
+    c.seat.inside.token.table_id c.args.call c.try_call.result c.try_call.ensures.ok c.try_call.ensures.err in
+    rests_after _ _ _ _ _ _ c.self.invariant c.seat.invariant c.self.view_is c.seat.view_is c.requires.seat _ _
+    c.requires.place c.index.ensures c.try_call.new.token c.try_call.ensures.same
+    (bare c.index.result.now.place c.try_call.new.token.me rests.0) rests.1
+    (try_names (Moves g.O.Object.meaning g.O.Object.counted) g.O.Object.counted c.index.result.now.opening
+    (me_at c.index.result.now.place c.seat.inside.token.me) (me_at c.index.result.now.place c.try_call.new.token.me)
+    c.args.call c.try_call.result c.try_call.ensures.ok c.try_call.ensures.err)) g.O.Object.counted)
 
 pub returns-clause-order : goal.returns-clause-order
 returns-clause-order g c = both_ok _ _ _

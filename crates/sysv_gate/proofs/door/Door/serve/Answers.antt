@@ -7,7 +7,7 @@ use Rattle.sysv_gate.specs.Steps.{announced_by, after_turn, Ends}
 use Rattle.sysv_gate.specs.Halls.{view_at, me_at}
 use Rattle.sysv_gate.specs.Plays.{turns_told}
 use Rattle.sysv_gate.specs.declared.count.Count.TheVariants.{Arrived, Freed}
-use Rattle.sysv_gate.proofs.StepAtPlace.{lifted}
+use Rattle.sysv_gate.proofs.StepAtPlace.{lifted_told}
 use Rattle.sysv_gate.proofs.PassUnchanged.{only_trans, stepped_only}
 use Rattle.sysv_gate.proofs.SlotToOrder.{out_there, lent_there, written_there, refilled_only, ends_told, ends_order}
 use Rattle.sysv_gate.proofs.LearnedInCall.{made_turn, counts_low, handed, told_move, announced_all}
@@ -126,8 +126,8 @@ fetch_add-requires g c =
     let at = c.announce-2.ensures.same.2 in (
       search rules,
       omega (arith, c.word.ensures, c.requires.door.1),
-      lifted _ counted _ _ p _ turns_told Ends _ _ _ 16 _ 1 0 (λ n. (n + 1) % 2 ^ 64) c.word.ensures c.requires.door.0
-          (omega arith)
+      lifted_told _ counted _ _ p _ turns_told Ends _ _ _ 16 _ 1 0 (λ n. (n + 1) % 2 ^ 64) c.word.ensures
+          c.requires.door.0 (omega arith)
           (omega (arith, c.requires.at.1, at.many, c.announce.ensures.same.2.many, ap (λ n. length n.0.views) filled))
           at.carries
           (λ log.
@@ -147,7 +147,7 @@ returns-clause-same g c =
     let there = out_there p m s c.requires.at.3 out.1 ∙ ap (λ k. (k, s) ∷ []) (sym same) in
     let left = c.apply_in-reply.new.spot in
     let filled = written_there c.self.inside.place m s left there ∙ ap (λ k. (m.0, (k, left) ∷ [])) same in
-    let went = c.fetch_add.ensures.2 p 16 c.word.ensures (omega arith) in (
+    let went = c.fetch_add.ensures.2.0 p 16 c.word.ensures (omega arith) in (
       search rules,
       search rules,
       only_trans p _ _ _ (refilled_only p m _ _ filled c.requires.at.4)
@@ -177,7 +177,7 @@ returns-clause-order g c =
     let two = c.announce-2.ensures.announced ∙ ap (λ n. (announced_by Freed (cond rose.freed 1 0) n.0, n.1)) one in
     let v' = announced_by Freed (cond rose.freed 1 0) (announced_by Arrived (cond rose.arrived 1 0) v) in
     let has = two ∙ ap (λ x. (v', (0, x) ∷ [])) (served.1 ∙ handed moves counted _ _ _ _ _ served.2) in
-    let went = c.fetch_add.ensures.2 p 16 c.word.ensures (omega arith) in
+    let went = c.fetch_add.ensures.2.0 p 16 c.word.ensures (omega arith) in
     let only = only_trans p _ _ _ (refilled_only p m _ _ filled c.requires.at.4)
     (only_trans p _ _ _ c.announce.ensures.same.2 c.announce-2.ensures.same.2) in
     ends_order p m _ _ _ v' _ _ _ _ only went (ap turns_told has) (ap (λ n. n.0) has) c.requires.ticket.2
@@ -205,7 +205,10 @@ returns-clause-made g c =
     let two = c.announce-2.ensures.announced ∙ ap (λ n. (announced_by Freed (cond rose.freed 1 0) n.0, n.1)) one in
     let v' = announced_by Freed (cond rose.freed 1 0) (announced_by Arrived (cond rose.arrived 1 0) v) in
     let has = two ∙ ap (λ x. (v', (0, x) ∷ [])) (served.1 ∙ handed moves counted _ _ _ _ _ served.2) in
-    let went = c.fetch_add.ensures.2 p 16 c.word.ensures (omega arith) in
+    let went = c.fetch_add.ensures.2.0 p 16 c.word.ensures (omega arith) in
     let made = made_turn moves o v' _ _ _ served.2.last _ _ has served.2.asked served.2.answered went.there.0
     went.there.1 c.requires.turn.legal served.2.move in
     record { object = made.object; is = made.is; legal = made.legal; own = made.own }
+
+pub returns-clause-reads : goal.returns-clause-reads
+returns-clause-reads g c = c.fetch_add.ensures.2.1

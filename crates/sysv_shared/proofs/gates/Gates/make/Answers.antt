@@ -1,6 +1,6 @@
 use Rattle.std.proofs.Common.{IfOk, IfErr, ◌≡◌, refl, sym, subst}
 use Rattle.sysv_objects.specs.Turns.{ask_of_call, Takes}
-use Rattle.sysv_shared.specs.Banked.{seats_seen}
+use Rattle.sysv_shared.specs.Banked.{AreByKind, seats_seen}
 use Rattle.sysv_shared.specs.Gated.{Accepts, GatedMoves, gated_counts}
 use Rattle.sysv_shared.specs.Seats.{MakesTurnAt, FindsWorn}
 use Rattle.sysv_gate.specs.History.{Moves}
@@ -9,6 +9,7 @@ use Rattle.sysv_bank.specs.Banks.{AcceptsAt, ChangesAt}
 use Rattle.sysv_bank.specs.Passes.{AddsToOrder}
 use Rattle.sysv_shared.proofs.PlacesShown.{of_bank, are_of, accepts_call}
 use Rattle.sysv_shared.proofs.ObjectAfterCall.{Called, called, found_worn}
+use Rattle.sysv_shared.proofs.ReadsInOrder.{know_what_they_read}
 use Rattle.sysv_shared.proofs.gates.Gates.make.Goals.{in-Ok, in-Err}
 use Rattle.sysv_shared.proofs.gates.Gates.make.Goals as goal
 
@@ -38,7 +39,9 @@ returns-clause-ok g c =
           (of_bank c.self.inside.bank before _ _ c.self.invariant.0 c.seats.invariant c.self.view_is c.seats.view_is
           c.requires.seats) c.call.ensures.gates
           (subst (λ p. AddsToOrder p before after) place w.in-Ok.ensures.order)
-          (subst (λ p. ChangesAt p before.seats after.seats (Called call w.in-Ok.reply)) place w.in-Ok.ensures.ok)))
+          (subst (λ p. ChangesAt p before.seats after.seats (Called call w.in-Ok.reply)) place w.in-Ok.ensures.ok)
+          (know_what_they_read after (subst AreByKind (sym c.call.ensures.gates) c.self.invariant.0)
+          w.in-Ok.ensures.reads)))
       | in-Err w ↦
           subst (λ s. IfOk s (λ r. Takes MakesTurnAt c.args.seats.now call r (seats_seen after))) (sym w.result-is) tt
     ]
