@@ -141,7 +141,7 @@ fn one_worker_serves_in_order(rt: HostRuntime) {
             closed: EMPTY,
         }
     );
-    let kept = books[0].kept();
+    let kept = books.first().expect(&rt, "a book").kept();
     assert_eq!(rt; kept.len(), 2);
     assert_eq!(rt; kept[0].as_slice(), sent.as_slice());
     assert_eq!(rt; kept[1].as_slice(), received.as_slice());
