@@ -1,6 +1,6 @@
 -- A session of several messages (this project's programs): what is requested, how it ends, and what
 -- is shown as the messages come.
-use Rattle.std.specs.Prelude.{◌≡◌, ⊤, ℕ, ℤ, List, [], ◌∷◌, length, Option, None, Result, Ok, Err}
+use Rattle.std.specs.Prelude.{◌≡◌, ⊤, ℕ, ℤ, Bool, true, false, List, [], ◌∷◌, length, Option, None, Result, Ok, Err}
 use Rattle.std.specs.Prelude.{flat_map, min, replicate, slice_get}
 use Rattle.std.specs.Io.KnownBytes.{Appends}
 use Rattle.sysv_clients.specs.declared.fault.ClientFault.TheVariants as fault
@@ -55,6 +55,12 @@ abbrev pub ShowsCalls : Result ⊤ Stop → List ℕ → (shown after : Option (
 ShowsCalls (Ok done) text shown after = Appends shown after text
 ShowsCalls (Err (Fault why)) text shown after = Appends shown after text
 ShowsCalls (Err Screen) text shown after = AppendsPrefix shown after text
+
+-- The screen ended the session.
+abbrev pub is_of_screen : Result ⊤ Stop → Bool
+is_of_screen (Ok done) = false
+is_of_screen (Err (Fault why)) = false
+is_of_screen (Err Screen) = true
 
 -- The requests for the messages of a rcv of several, from the queue with this identifier.
 unfoldable pub message_asks : Receiving → ℤ → List Ask

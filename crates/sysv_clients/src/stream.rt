@@ -1,9 +1,10 @@
 //! A `rcv` of several messages: a session that shows each message as it comes.
-ghost use Rattle.std.specs.Prelude.{◌≡◌, ◌+◌, ◌<◌, ◌≤◌, [], length, slice_get, IfOk, IfSome, OnOk, OnErr};
+ghost use Rattle.std.specs.Prelude.{◌≡◌, ◌+◌, ◌<◌, ◌≤◌, [], length, slice_get, is_err, IfOk, IfSome};
+ghost use Rattle.std.specs.Prelude.{OnOk, OnErr};
 ghost use Rattle.std.specs.Io.KnownBytes.{Appends};
-ghost use Rattle.sysv_clients.specs.Stream.{TakesAll, calling_asks, message_asks, received_text};
-ghost use Rattle.sysv_clients.specs.Stream.{receiving_asks, stop_line};
-ghost use Rattle.sysv_model.specs.Watched.{stream_name, stream_of};
+ghost use Rattle.sysv_clients.specs.Stream.{TakesAll, calling_asks, is_of_screen, message_asks};
+ghost use Rattle.sysv_clients.specs.Stream.{received_text, receiving_asks, stop_line};
+ghost use Rattle.sysv_model.specs.Watched.{KeepsStream, stream_name, stream_of};
 ghost use Rattle.sysv_model.specs.Writing.{AppendsPrefix};
 ghost use Rattle.sysv_model.specs.declared.limits.TheConstants.{MESSAGE_BYTES};
 
@@ -12,7 +13,7 @@ use crate::command::Receipt;
 use crate::exchange::exchange;
 use crate::fault::ClientFault;
 use crate::page::Page;
-use crate::screen::print;
+use crate::screen::print_watched;
 use crate::style::Style;
 use std::alloc::Global;
 use std::io::{Read, Write};
@@ -142,22 +143,29 @@ pub fn receive_all<R: Read, W: Write, S: Write>(
         receiving,
         &mut Watched::new(reader),
         &mut Watched::new(writer),
-        screen,
+        &mut Watched::new(screen),
     )
 }
 
-/// Receives messages like `receive_all`.
-fn receive_watched<R: Read, W: Write, S: Write>(
+/// Receives messages like `receive_all`. The result is `Screen` exactly if the screen failed, and it
+/// failed at most once.
+///
+/// # Errors
+///
+/// Those of `receive_all`.
+pub fn receive_watched<R: Read, W: Write, S: Write>(
     alloc: Global,
     receiving: &Receiving,
     reader: &mut Watched<'_, R>,
     writer: &mut Watched<'_, W>,
-    screen: &mut S,
+    screen: &mut Watched<'_, S>,
 ) -> Result<(), Stop>
     ensures takes { TakesAll receiving.now result
         (R.remaining (stream_of reader.old)) (R.remaining (stream_of reader.new))
         (W.contents (stream_of writer.old)) (W.contents (stream_of writer.new))
-        (S.contents screen.old) (S.contents screen.new) }
+        (S.contents (stream_of screen.old)) (S.contents (stream_of screen.new)) }
+    ensures screen { KeepsStream screen.old screen.new (is_of_screen result) }
+    // The streams stay the same.
     ensures same_reader { stream_name reader.new ≡ stream_name reader.old }
     ensures same_writer { stream_name writer.new ≡ stream_name writer.old }
 {
@@ -196,13 +204,14 @@ impl Taker {
         receiving: &Receiving,
         reader: &mut Watched<'_, R>,
         writer: &mut Watched<'_, W>,
-        screen: &mut S,
+        screen: &mut Watched<'_, S>,
     ) -> Result<(), Stop>
         requires { self.old.text ≡ [] }
         ensures takes { TakesAll receiving.now result
             (R.remaining (stream_of reader.old)) (R.remaining (stream_of reader.new))
             (W.contents (stream_of writer.old)) (W.contents (stream_of writer.new))
-            (S.contents screen.old) (S.contents screen.new) }
+            (S.contents (stream_of screen.old)) (S.contents (stream_of screen.new)) }
+        ensures screen { KeepsStream screen.old screen.new (is_of_screen result) }
         ensures same_reader { stream_name reader.new ≡ stream_name reader.old }
         ensures same_writer { stream_name writer.new ≡ stream_name writer.old }
     {
@@ -223,20 +232,23 @@ impl Taker {
         &mut self,
         style: &Style,
         answer: &ReplyContent,
-        screen: &mut S,
+        screen: &mut Watched<'_, S>,
     ) -> Result<(), WriteFault>
         requires { length self.old.given ≤ MESSAGE_BYTES }
         ensures text { self.new.text ≡ self.old.text }
-        ensures ok { OnOk result (Appends (S.contents screen.old) (S.contents screen.new)
+        ensures ok { OnOk result (Appends (S.contents (stream_of screen.old))
+            (S.contents (stream_of screen.new))
             (received_text style.now answer.now self.old.given)) }
-        ensures err { OnErr result (AppendsPrefix (S.contents screen.old)
-            (S.contents screen.new) (received_text style.now answer.now self.old.given)) }
+        ensures err { OnErr result (AppendsPrefix (S.contents (stream_of screen.old))
+            (S.contents (stream_of screen.new))
+            (received_text style.now answer.now self.old.given)) }
+        ensures kept { KeepsStream screen.old screen.new (is_err result) }
     {
         match answer {
             ReplyContent::Rcv { mtype } => {
                 self.page.clear();
                 self.page.message(style, *mtype, &mut self.given);
-                print(screen, self.page.bytes())
+                print_watched(screen, self.page.bytes())
             }
             _ => Ok(()),
         }

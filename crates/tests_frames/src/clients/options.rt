@@ -1,7 +1,7 @@
 //! What the options and the further commands of clients request and show.
 use super::*;
-use sysv_clients::{ClientFault, Making, Receiving, Stop, receive_all};
-use sysv_model::Errno;
+use sysv_clients::{ClientFault, Making, Receiving, Stop, receive_all, receive_watched};
+use sysv_model::{Errno, Watched};
 
 /// The reply with a message of type -3 and of these four bytes: `a`, LF, NUL, `b`.
 const ODD: &[u8] = b"\0\0\0\x0f\x02\x03\0\xff\xff\xff\xff\xff\xff\xff\xfda\n\0b";
@@ -204,4 +204,31 @@ fn a_screen_that_fails_ends_the_receives(rt: HostRuntime) {
     assert!(rt; talk.receive(rt.alloc(), 2).is_err());
     let asked = joined(&rt, rt.alloc(), &[HELLO, GET, RECEIVE]);
     assert!(rt; talk.requests.len() == 0 || talk.requests.text() == asked.text());
+}
+
+#[test]
+fn a_watched_screen_has_failed_if_it_ended_the_receives(rt: HostRuntime) {
+    for room in [4, 8] {
+        let mut talk = Talk::new(&rt, rt.alloc(), &[WELCOME, GOT, MESSAGE, MESSAGE]);
+        talk.screen.good = room;
+        let receiving = Receiving {
+            cred: WHO,
+            receipt: ANY,
+            count: 2,
+        };
+        let mut screen = Watched::new(&mut talk.screen);
+        let outcome = receive_watched(
+            rt.alloc(),
+            &receiving,
+            &mut Watched::new(&mut talk.replies),
+            &mut Watched::new(&mut talk.requests),
+            &mut screen,
+        );
+        if outcome == Err(Stop::Fault(ClientFault::NoMemory)) {
+            return;
+        }
+        let failures = u64::from(room == 4);
+        assert!(rt; outcome.is_ok() == (failures == 0));
+        assert_eq!(rt; screen.failures(), failures);
+    }
 }
