@@ -51,19 +51,7 @@ fn main(rt: HostRuntime) -> ExitCode {
         return say(&rt, "no memory");
     };
     match read_words(rt.alloc(), words.as_slice()) {
-        Ok(Asked::Script) => {
-            let mut script = rt.stdin();
-            let mut answers = rt.stdout();
-            let mut reader = Watched::new(&mut script);
-            let mut writer = Watched::new(&mut answers);
-            match run_script(rt.alloc(), &mut reader, &mut writer) {
-                Ok(()) => ExitCode::SUCCESS,
-                Err(fault) => {
-                    let _ = eprintln!(rt; "sysvmsg: {fault}");
-                    ExitCode::from(FAULT)
-                }
-            }
-        }
+        Ok(Asked::Script) => answer_script(&rt),
         Ok(Asked::Serve(serving)) => serve_at(&rt, rt.stdin(), &serving, &mut io::writer(&rt)),
         Ok(
             Asked::Client {
@@ -89,6 +77,21 @@ fn main(rt: HostRuntime) -> ExitCode {
             )
         }
         Err(error) => tell(&rt, &error),
+    }
+}
+
+/// Runs the script on standard input, and prints its results on standard output.
+fn answer_script(rt: &HostRuntime) -> ExitCode {
+    let mut script = rt.stdin();
+    let mut answers = rt.stdout();
+    let mut reader = Watched::new(&mut script);
+    let mut writer = Watched::new(&mut answers);
+    match run_script(rt.alloc(), &mut reader, &mut writer) {
+        Ok(()) => ExitCode::SUCCESS,
+        Err(fault) => {
+            let _ = eprintln!(rt; "sysvmsg: {fault}");
+            ExitCode::from(FAULT)
+        }
     }
 }
 
