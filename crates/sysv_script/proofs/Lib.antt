@@ -1,3 +1,7 @@
+pub mod CallNames
+pub mod LineKinds
+pub mod CallsReadOnce
+pub mod OneSaying
 pub mod CredLemmas
 pub mod PositionSeen
 pub mod StepsOfCall

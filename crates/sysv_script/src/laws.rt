@@ -4,8 +4,8 @@ ghost use Rattle.sysv_script.specs.EachText.{EachTextPrints};
 ghost use Rattle.sysv_script.specs.OneText.{OneText};
 ghost use Rattle.sysv_script.specs.ScriptRun.{EachScriptIsARun};
 
+use crate::{each_line_is_decided, one_saying};
 use sysv_core::{each_world_is_sound, one_step, some_step};
-use sysv_lines::{each_line_is_decided, one_saying};
 use sysv_words::one_split;
 
 /// States that a text prints one thing only from a scene, which is a world with its actors'

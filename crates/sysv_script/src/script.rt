@@ -13,17 +13,17 @@ ghost use Rattle.sysv_script.specs.Staged.{IsSceneOf};
 ghost use Rattle.sysv_script.specs.Found.{IsFirstLine};
 ghost use Rattle.sysv_script.specs.declared.fault.TheConstants.{SCRIPT_LINES};
 ghost use Rattle.sysv_script.specs.declared.output.TheConstants.{MOST_COMPOSED};
-ghost use Rattle.sysv_lines.specs.declared.line.TheConstants.{LINE_BYTES};
+ghost use Rattle.sysv_script.specs.declared.line.TheConstants.{LINE_BYTES};
 
 use crate::fault::{SCRIPT_LINES, ScriptFault};
 use crate::input::Input;
 use crate::laws::{each_text_prints, one_text};
-use crate::lines::{Found, next_line, read_on};
+use crate::line_reader::{Found, next_line, read_on};
 use crate::output::Output;
 use crate::stage::Stage;
+use crate::{Head, LINE_BYTES, line_of};
 use std::alloc::Global;
 use std::io::{Read, Write};
-use sysv_lines::{Head, LINE_BYTES, line_of};
 use sysv_model::{NoMemory, Watched};
 use sysv_words::one_split;
 

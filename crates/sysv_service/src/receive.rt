@@ -6,22 +6,21 @@ ghost use Rattle.sysv_steps.specs.Call.{Msgrcv};
 ghost use Rattle.sysv_steps.specs.Begin.{begin as begins};
 ghost use Rattle.sysv_steps.specs.State.{Goes, Over, Ending as Ends};
 ghost use Rattle.sysv_steps.specs.Seen.{phase_of, state_of, ending_of};
-ghost use Rattle.sysv_shared.specs.Seats.{AreOf};
+ghost use Rattle.sysv_service.specs.Seats.{AreOf};
 ghost use Rattle.sysv_service.specs.Ran.{Comes};
-ghost use Rattle.sysv_driver.specs.Kinds.{Receives, IsSized};
+ghost use Rattle.sysv_steps.specs.Kinds.{Receives, IsSized};
 ghost use Rattle.sysv_service.specs.Told.{TellsGot};
 ghost use Rattle.sysv_service.specs.Left.{IsLeft};
 ghost use Rattle.sysv_service.specs.Delivered.{HasGiven, StepsGiving};
 
+use crate::AtGates;
 use crate::caller::{Caller, Stays};
 use crate::pass::Pass;
 use crate::service::Service;
 use std::sync::Wait as MayWait;
-use sysv_driver::{Clock, receive_step};
 use sysv_model::{Body, Cred, Errno, Flags};
 use sysv_queue::Delivery;
-use sysv_shared::AtGates;
-use sysv_steps::{Ending, Phase, Receiving, State};
+use sysv_steps::{Clock, Ending, Phase, Receiving, State, receive_step};
 
 impl Service {
     /// Takes a message from the queue `id` and writes its body to `out` (POSIX.1-2017, `msgrcv`).

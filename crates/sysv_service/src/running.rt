@@ -5,8 +5,8 @@ ghost use Rattle.sysv_model.specs.declared.errno.Errno.{Errno as Why};
 ghost use Rattle.sysv_steps.specs.State.{State as StateSeen, Wait as WaitSeen, Goes, Waits, Over, Refused};
 ghost use Rattle.sysv_steps.specs.Resume.{resume};
 ghost use Rattle.sysv_steps.specs.Seen.{phase_of, state_of, ending_of};
-ghost use Rattle.sysv_driver.specs.Stepping.{no_moment};
-ghost use Rattle.sysv_shared.specs.Seats.{AreOf};
+ghost use Rattle.sysv_steps.specs.Stepping.{no_moment};
+ghost use Rattle.sysv_service.specs.Seats.{AreOf};
 ghost use Rattle.sysv_service.specs.Ran.{StepsOn, Comes};
 ghost use Rattle.sysv_service.specs.Left.{IsLeft};
 

@@ -2,8 +2,8 @@ use Rattle.std.proofs.Common.{ap, subst, rules, w32, w64, to_z, of_z}
 use Rattle.std.proofs.lemmas.Int.{to_z-of_z}
 use Rattle.sysv_steps.specs.State.{Waits}
 use Rattle.sysv_steps.specs.Seen.{wait_of, ending_of, state_of}
-use Rattle.sysv_driver.specs.Kinds.{Receives, IsSized}
-use Rattle.sysv_driver.specs.Giving.{GivesNothing, nothing_is_sized}
+use Rattle.sysv_steps.specs.Kinds.{Receives, IsSized}
+use Rattle.sysv_steps.specs.Giving.{GivesNothing, nothing_is_sized}
 use Rattle.sysv_service.proofs.ProceedsByStep.{first_at, moved, comes_wait}
 use Rattle.sysv_service.proofs.ReceiveGivesTaken.{comes_giving, comes_with_nothing, has_given}
 use Rattle.sysv_service.proofs.KindStays.{begin_gives_nothing, wait_gives_nothing, ends_wait, wait_receives}

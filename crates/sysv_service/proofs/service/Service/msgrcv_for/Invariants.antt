@@ -1,9 +1,9 @@
 use Rattle.sysv_steps.specs.Call.{Msgrcv}
 use Rattle.sysv_steps.specs.Begin.{begin as begins}
 use Rattle.sysv_steps.specs.Seen.{state_of}
-use Rattle.sysv_shared.specs.Seats.{AreOf}
+use Rattle.sysv_service.specs.Seats.{AreOf}
 use Rattle.sysv_service.specs.Delivered.{ComesGiving}
-use Rattle.sysv_driver.specs.Kinds.{Receives, IsSized}
+use Rattle.sysv_steps.specs.Kinds.{Receives, IsSized}
 use Rattle.sysv_service.proofs.service.Service.msgrcv_for.Given as goal
 
 -- The state of the call so far.
