@@ -2,14 +2,17 @@
 
 ghost use Rattle.std.specs.Prelude.{true, false, ◌≡◌, ◌+◌, ◌^◌, ◌<◌, ◌≤◌, ◌↔◌, [], ◌∷◌, ◌++◌, length, IfOk, IfErr, OnOk, OnErr, Some, IsTrue, MatchOption, option_map};
 ghost use Rattle.sysv_model.specs.declared.limits.TheConstants.{QUEUE_MESSAGES, MESSAGE_BYTES as most_bytes};
-ghost use Rattle.sysv_model.specs.History.{Install, Place, Take, ReadStat, ReadRow, Set, Remove, Installed, Shown, Probe as ProbeCall, Look as LookCall};
+ghost use Rattle.sysv_model.specs.History.{Install, Place, Take, ReadStat, ReadRow, Set, Remove, Installed, Shown};
+ghost use Rattle.sysv_model.specs.History.{Probe as ProbeCall};
+ghost use Rattle.sysv_model.specs.History.{Look as LookCall};
 ghost use Rattle.sysv_model.specs.Live.{HasId, sent_to, received_from};
 ghost use Rattle.sysv_model.specs.Pool.{blocks_for};
 ghost use Rattle.sysv_rules.specs.Digits.{digits};
 ghost use Rattle.sysv_messages.specs.Probes.{IsFoundByFew};
 ghost use Rattle.sysv_messages.specs.Taking.{IsTaken, IsRefused};
 ghost use Rattle.sysv_queue.specs.Blocks.{blocks_of};
-ghost use Rattle.sysv_queue.specs.Fits.{bytes_of, Fits as FitsOn};
+ghost use Rattle.sysv_queue.specs.Fits.{bytes_of};
+ghost use Rattle.sysv_queue.specs.Fits.{Fits as FitsOn};
 ghost use Rattle.sysv_queue.specs.Granted.{IsGranted, MayAsAsked, MayControl};
 ghost use Rattle.sysv_queue.specs.Barred.{Bars, BarsControl};
 ghost use Rattle.sysv_queue.specs.Probes.{IsBarred};
