@@ -23,6 +23,13 @@ returns-clause-prints g c = λ text known.
     (script_runs c.run_lines-ended.result _ _ text _ _ _ _ _ c.in-Ok.ensures.0 c.in-Ok.ensures.1 known
     c.run_lines-ended.ensures.prints))
 
+pub returns-in_default-clause-obeys : goal.returns-in_default-clause-obeys
+returns-in_default-clause-obeys g c = λ text known.
+    c.each_script_obeys.ensures _ _ _ _ _ (returns-in_default-clause-prints g c text known)
+
+pub returns-clause-obeys : goal.returns-clause-obeys
+returns-clause-obeys g c = λ text known. c.each_script_obeys.ensures _ _ _ _ _ (returns-clause-prints g c text known)
+
 pub returns-clause-grows : goal.returns-clause-grows
 returns-clause-grows g c =
     grows_end c.end.result _ _ _ _ c.run_lines-ended.ensures.grows c.end.ensures.ok c.end.ensures.err
