@@ -1,5 +1,5 @@
 -- What a script writes are the results of a run that obeys the laws.
-use Rattle.std.proofs.Common.{◌≡◌, ℕ, List, Option, Result, Ok, Err, ⊤}
+use Rattle.std.specs.Prelude.{◌≡◌, ℕ, List, Option, Result, Ok, Err, ⊤}
 use Rattle.sysv_core.specs.Headline.{EveryRunObeys}
 use Rattle.sysv_core.specs.World.{World}
 use Rattle.sysv_script.specs.declared.fault.ScriptFault.{ScriptFault}
@@ -13,7 +13,7 @@ use Rattle.sysv_script.specs.ObeyingRun.{WritesRunAtFault, EachScriptObeys}
 
 module _ (every : EveryRunObeys) (is_run : EachScriptIsARun) where
   obeying : (out : List ℕ) (w : World) → IsOfRunPrinting out w → IsOfObeyingRun out w
-  obeying out w (o, list, given, leads, results) = record {
+  obeying out w (o, (list, given, leads, results)) = record {
     opened = o;
     list = list;
     given = given;
