@@ -47,7 +47,8 @@ part_length : (bytes : List ℕ) → length bytes < 4 → RequestAt bytes nothin
 part_length [] short = inl refl
 part_length (b ∷ bytes) short = inr (inl (inl (omega arith, short)))
 
-part_answer : (n : ℕ) (bytes : List ℕ) → EndsWithin n bytes → RequestAt bytes nothing ⊎ RequestAt bytes (refused Truncated)
+part_answer : (n : ℕ) (bytes : List ℕ) → EndsWithin n bytes →
+    RequestAt bytes nothing ⊎ RequestAt bytes (refused Truncated)
 part_answer n bytes (inl h) = part_length bytes h.0
 part_answer n bytes (inr (inl h)) = inr (inl (inr h.0))
 part_answer n bytes (inr (inr h)) = inr (inr h.0)

@@ -1,6 +1,7 @@
 -- Bytes with the head of a request, and as many after it as its length says, are its spelling.
 use Rattle.std.proofs.Common.{◌≡◌, ◌⊎◌, ℕ, ◌+◌, ◌-◌, ◌^◌, ◌<◌, ◌≤◌, List, [], ◌∷◌, ◌++◌, length, get_or, take, drop}
-use Rattle.std.proofs.Common.{refl, sym, subst, ap, ◌∙◌, append_assoc, append-nil, arith, length-append, length-drop, inl, inr}
+use Rattle.std.proofs.Common.{refl, sym, subst, ap, ◌∙◌, append_assoc, append-nil, arith, length-append, length-drop}
+use Rattle.std.proofs.Common.{inl, inr}
 use Rattle.std.specs.Int.{w32, w64, from_be_bytes, to_be_bytes, cast_signed}
 use Rattle.std.specs.Int.RustNames.{FitsSigned}
 use Rattle.std.proofs.Math.Facts.{Fits-of_lt, sfits_to_z}
@@ -169,7 +170,8 @@ parts k m behind =
     ∙ sym (append_assoc (take k behind) (take m (drop k behind)) (drop m (drop k behind)))
 
 -- The content of a frame that is as long as its length field says.
-taken_frame : (n : ℕ) (content rest : List ℕ) → n ≡ length content → take (4 + n) (u32_bytes n ++ (content ++ rest)) ≡ frame content
+taken_frame : (n : ℕ) (content rest : List ℕ) → n ≡ length content →
+    take (4 + n) (u32_bytes n ++ (content ++ rest)) ≡ frame content
 unfolding u32_bytes
 taken_frame n content rest len =
     ap (take (4 + n)) (sym (append_assoc (u32_bytes n) content rest))

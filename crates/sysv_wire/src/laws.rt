@@ -39,25 +39,25 @@ pub fn one_answer_to_replies()
     ensures { OneAnswerToReplies }
 {}
 
-/// States that `frame_in` has one result for the same bytes. So it is `Whole` exactly if a request's
-/// frame begins them, `Refused` exactly if they alone cause a fault, and otherwise `More`.
+/// States that at most one result of `frame_in` fits the same bytes: `Whole` if a request's frame
+/// begins them, `Refused` if they alone cause a fault, and otherwise `More`.
 pub fn one_frame()
     ensures { OneFrame }
 {}
 
-/// States that the result of `frame_in` stays the same for the same bytes with others after them: a
-/// result `More` until `least` bytes are there, and any other result always.
+/// States that the result of `frame_in` stays the same if bytes follow: `More` until `least` bytes
+/// have arrived, and `Whole` and `Refused` always.
 pub fn frame_stays()
     ensures { FrameStays }
 {}
 
-/// States that `frame_in` finds a whole frame to be one without the bytes after it too.
+/// States that a whole frame is still whole without the bytes after it.
 pub fn frame_is_alone()
     ensures { FrameAlone }
 {}
 
-/// States that reading a request from bytes with a whole frame takes this frame, and no byte after
-/// it.
+/// States that reading a request from bytes that begin with a whole frame takes this frame and no
+/// byte after it, unless the reader fails.
 pub fn frame_is_taken()
     ensures { FrameTaken }
 {}
