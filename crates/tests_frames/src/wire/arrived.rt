@@ -72,6 +72,7 @@ fn the_longest_request(rt: HostRuntime) {
     let mut bytes = [0; 8279];
     bytes[..6].copy_from_slice(&[0x00, 0x00, 0x20, 0x52, 0x02, 0x02]);
     for count in [6, 8277, 8278, 8279] {
+        assert!(rt; count <= bytes.len());
         assert_eq!(rt; frame_in(&bytes[..count]), first(count, 8278), "{count}");
     }
 }
