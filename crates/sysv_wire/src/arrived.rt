@@ -33,11 +33,13 @@ pub enum FrameIn {
 ///
 /// - `Whole` if and only if they begin with a request's frame. Whatever follows them,
 ///   `read_request` returns this request, and takes no byte after its `length` bytes.
-/// - `Refused` if and only if they alone decide that `read_request` fails with `fault`, whatever
-///   follows them.
+/// - `Refused` if and only if they alone decide that `read_request` fails with `fault`. It does,
+///   whatever follows them.
 /// - `More` otherwise. This stays the result until `least` bytes have arrived. If the input ends
 ///   here, `read_request` returns `None` if there are no bytes, and otherwise fails with
 ///   `Truncated`.
+///
+/// This is what `read_request` does unless its reader fails.
 ///
 /// All that is examined is the first six bytes and the number of bytes. No value of a field or a
 /// body is refused, so a request whose frame is whole has no fault.
