@@ -166,7 +166,7 @@ def write_all(path, when, groups, note):
 class Front:
     """The picture of a few figures: bars from 0 on, on a linear axis, with a line at the peer's speed."""
 
-    WIDTH, LEFT, RIGHT, EDGE, HEAD = 760, 320, 60, 20, 96
+    WIDTH, LEFT, RIGHT, EDGE, HEAD = 760, 320, 100, 20, 96
     ROW, BAR = 50, 24
     MOST_TICKS = 8
 
