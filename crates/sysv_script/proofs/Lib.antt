@@ -25,3 +25,4 @@ pub mod StepKeepsOperation
 pub mod OwnOperation
 pub mod ResultsPrinted
 pub mod ScriptRun
+pub mod ObeyingRun

@@ -25,3 +25,4 @@ pub mod Written
 pub mod ScriptSofar
 pub mod Results
 pub mod ScriptRun
+pub mod ObeyingRun

@@ -34,7 +34,7 @@ pub use call::Text;
 pub use fault::ScriptFault;
 pub use head::Head;
 pub use input::Input;
-pub use laws::{each_script_is_a_run, each_text_prints, one_text};
+pub use laws::{each_script_is_a_run, each_script_obeys, each_text_prints, one_text};
 pub use line::{LINE_BYTES, Line, line_of};
 pub use line_laws::{each_line_is_decided, numerals_of_lines, one_saying};
 pub use line_reader::{Found, next_line, read_on};

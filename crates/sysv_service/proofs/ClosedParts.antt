@@ -25,7 +25,8 @@ use Rattle.sysv_objects.specs.RegistryTurns.{RegistryMoves}
 use Rattle.sysv_service.specs.Counts.{registry_counts}
 use Rattle.sysv_objects.specs.PoolTurns.{PoolMoves}
 use Rattle.sysv_service.specs.Counts.{pool_counts}
-use Rattle.sysv_service.specs.Gated.{IsSlot, IsRegistry, IsPool, as_slot, as_registry, as_pool, GatedMoves, gated_counts}
+use Rattle.sysv_service.specs.Gated.{IsSlot, IsRegistry, IsPool, as_slot, as_registry, as_pool, GatedMoves}
+use Rattle.sysv_service.specs.Gated.{gated_counts}
 use Rattle.sysv_service.specs.ObjectKinds.{Kind, turn_as, seat_as, IsClosingAs}
 use Rattle.sysv_service.specs.Seats.{SlotSeat, entries, slot_entry, registry_entry, pool_entry}
 use Rattle.sysv_service.specs.Sharing.{ClosesAfter, ClosesAfterEach}

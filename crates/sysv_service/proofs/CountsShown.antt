@@ -32,7 +32,8 @@ use Rattle.sysv_objects.specs.RegistryTurns.{RegistryMoves}
 use Rattle.sysv_service.specs.Counts.{registry_counts}
 use Rattle.sysv_objects.specs.PoolTurns.{PoolMoves}
 use Rattle.sysv_service.specs.Counts.{pool_counts}
-use Rattle.sysv_service.specs.Gated.{IsSlot, IsRegistry, IsPool, as_slot, as_registry, as_pool, GatedMoves, gated_counts}
+use Rattle.sysv_service.specs.Gated.{IsSlot, IsRegistry, IsPool, as_slot, as_registry, as_pool, GatedMoves}
+use Rattle.sysv_service.specs.Gated.{gated_counts}
 use Rattle.sysv_service.specs.ObjectKinds.{Kind, seat_as}
 use Rattle.sysv_service.specs.declared.shared_count.SharedCount.{SharedCount}
 use Rattle.sysv_service.specs.declared.shared_count.SharedCount.TheVariants as shared

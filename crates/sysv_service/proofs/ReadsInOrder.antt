@@ -28,7 +28,8 @@ use Rattle.sysv_objects.specs.RegistryTurns.{RegistryMoves}
 use Rattle.sysv_objects.specs.PoolTurns.{PoolMoves}
 use Rattle.sysv_service.specs.declared.kinds.Gated.{Gated}
 use Rattle.sysv_service.specs.Counts.{slot_counts, registry_counts, pool_counts}
-use Rattle.sysv_service.specs.Gated.{IsSlot, IsRegistry, IsPool, as_slot, as_registry, as_pool, GatedMoves, gated_counts}
+use Rattle.sysv_service.specs.Gated.{IsSlot, IsRegistry, IsPool, as_slot, as_registry, as_pool, GatedMoves}
+use Rattle.sysv_service.specs.Gated.{gated_counts}
 use Rattle.sysv_service.specs.ObjectKinds.{turn_as, seat_as}
 use Rattle.sysv_service.specs.Seats.{SlotSeat, KnowWhatTheyRead, entries, slot_entry, registry_entry, pool_entry}
 use Rattle.sysv_service.specs.Order.{GatedPlaced, GatedPass, opening_at, deeds_of}

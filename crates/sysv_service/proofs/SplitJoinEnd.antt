@@ -21,7 +21,8 @@ use Rattle.sysv_objects.specs.RegistryTurns.{RegistryMoves}
 use Rattle.sysv_service.specs.Counts.{registry_counts}
 use Rattle.sysv_objects.specs.PoolTurns.{PoolMoves}
 use Rattle.sysv_service.specs.Counts.{pool_counts}
-use Rattle.sysv_service.specs.Gated.{IsSlot, IsRegistry, IsPool, as_slot, as_registry, as_pool, GatedMoves, gated_counts}
+use Rattle.sysv_service.specs.Gated.{IsSlot, IsRegistry, IsPool, as_slot, as_registry, as_pool, GatedMoves}
+use Rattle.sysv_service.specs.Gated.{gated_counts}
 use Rattle.sysv_service.specs.ObjectKinds.{Kind, seat_as, IsClosingAs}
 use Rattle.sysv_service.specs.Seats.{SlotSeat}
 use Rattle.sysv_service.specs.SeenHistories.{EachKnowsItsOwn as EachSeatKnows}

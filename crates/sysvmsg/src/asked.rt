@@ -132,7 +132,7 @@ const NO_COMMAND: Bad = "a command is missing";
 /// the words request it.
 pub(crate) fn read_words<'a, S: AsStr>(alloc: Global, words: &'a [S]) -> Result<Asked<'a>, Error>
     ensures limits { IfOk result IsWithinLimits }
-    ensures meaning { IfOk result IsMeant }
+    ensures meaning { IfOk result (IsMeant (map S.text words.entry.now)) }
 {
     let mut line: CommandLine<'a> = command(alloc)?;
     read_line(alloc, &mut line, words)

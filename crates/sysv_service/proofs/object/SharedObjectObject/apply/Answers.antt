@@ -5,7 +5,8 @@ use Rattle.sysv_service.specs.Gated.{Stands, gated_counts}
 use Rattle.sysv_service.proofs.RisesByOne.{slot_stands, slot_rises}
 use Rattle.sysv_service.proofs.RisesByOne.{registry_stands, registry_rises}
 use Rattle.sysv_service.proofs.RisesByOne.{pool_stands, pool_rises}
-use Rattle.sysv_service.proofs.object.SharedObjectObject.apply.Goals.{in-Slot+in-Slot-call, in-Registry+in-Registry-call}
+use Rattle.sysv_service.proofs.object.SharedObjectObject.apply.Goals.{in-Slot+in-Slot-call}
+use Rattle.sysv_service.proofs.object.SharedObjectObject.apply.Goals.{in-Registry+in-Registry-call}
 use Rattle.sysv_service.proofs.object.SharedObjectObject.apply.Goals.{in-Pool+in-Pool-call}
 use Rattle.sysv_service.proofs.object.SharedObjectObject.apply.Goals as goal
 
