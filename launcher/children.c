@@ -29,10 +29,10 @@ static _Noreturn void give_up(const char *name)
 }
 
 /* The server ends by its input or is killed. A signal that reaches it beside this process, as that
- * of Ctrl-C does, has no effect on it. */
+ * of Ctrl-C does, has no effect on it. SIGHUP is ignored here already. */
 static void ignore_ends(void)
 {
-    static const int ends[] = {SIGTERM, SIGINT, SIGQUIT, SIGHUP};
+    static const int ends[] = {SIGTERM, SIGINT, SIGQUIT};
     for (size_t i = 0; i < sizeof ends / sizeof *ends; i++)
         signal(ends[i], SIG_IGN);
 }
