@@ -55,30 +55,35 @@ struct call {
 
 /* The connections of all threads, so that a child of fork can close its copies of them. */
 static struct connection connections[CONNECTIONS];
-static __thread struct connection *mine __attribute__((tls_model("initial-exec")));
-static __thread volatile sig_atomic_t in_call __attribute__((tls_model("initial-exec")));
+static __thread struct connection *own_connection __attribute__((tls_model("initial-exec")));
+/* Whether a call of this thread uses that connection. */
+static __thread volatile sig_atomic_t current_call __attribute__((tls_model("initial-exec")));
 
-static pthread_key_t at_thread_end;
+/* What is known from the start of the process on. */
+static struct {
+    bool has_server;        /* SYSVMSG_PATH names one */
+    bool keeps_connections; /* after a call */
+    bool ends_waits;        /* if a signal handler runs */
+    bool has_standard_error;
+} settings;
+
+static pthread_key_t thread_end;
 static pid_t process; /* the process whose connections these are */
-static bool serves;
-static bool keeps; /* connections after a call */
-static bool ends_by_signals;
 static struct sockaddr_un server = {.sun_family = AF_UNIX}; /* without a path if that is too long */
 
-/* Standard error as it was when the library was loaded. */
-static bool has_standard_error;
+/* Standard error as it was when the library was loaded, if it was open. */
 static struct file standard_error;
 
 /* Held while a descriptor is opened or closed and `connections` is told. fork waits for it, so that
  * its child finds all its copies there. Signals are blocked meanwhile: a handler may fork. */
-static pthread_mutex_t descriptors = PTHREAD_MUTEX_INITIALIZER;
+static pthread_mutex_t descriptor_lock = PTHREAD_MUTEX_INITIALIZER;
 
 struct hold {
     bool is_held;
     sigset_t mask; /* before it */
 };
 
-static __thread struct hold at_fork __attribute__((tls_model("initial-exec")));
+static __thread struct hold fork_hold __attribute__((tls_model("initial-exec")));
 
 /* A child that was made without the handlers of fork doesn't hold. It closes no copies, and a
  * thread that it doesn't have may have held when it was made. */
@@ -89,7 +94,7 @@ static struct hold hold_descriptors(void)
     if (hold.is_held) {
         sigfillset(&all);
         pthread_sigmask(SIG_SETMASK, &all, &hold.mask);
-        pthread_mutex_lock(&descriptors);
+        pthread_mutex_lock(&descriptor_lock);
     }
     return hold;
 }
@@ -98,7 +103,7 @@ static void release_descriptors(const struct hold *hold)
 {
     if (!hold->is_held)
         return;
-    pthread_mutex_unlock(&descriptors);
+    pthread_mutex_unlock(&descriptor_lock);
     pthread_sigmask(SIG_SETMASK, &hold->mask, NULL);
 }
 
@@ -149,16 +154,16 @@ static void close_copy(struct connection *connection)
 
 static void end_thread(void *connection)
 {
-    in_call = 1;
+    current_call = 1;
     end_session(connection);
-    mine = NULL;
+    own_connection = NULL;
     atomic_store(&((struct connection *)connection)->taken, false);
-    in_call = 0;
+    current_call = 0;
 }
 
-static void before_fork(void) { at_fork = hold_descriptors(); }
+static void before_fork(void) { fork_hold = hold_descriptors(); }
 
-static void after_fork(void) { release_descriptors(&at_fork); }
+static void after_fork(void) { release_descriptors(&fork_hold); }
 
 /* Closes a forked child's copies of its parent's connections, and frees the places of the threads
  * that it doesn't have. */
@@ -169,33 +174,33 @@ static void begin_child(void)
         if (!atomic_load(&each->taken))
             continue;
         close_copy(each);
-        if (each != mine)
+        if (each != own_connection)
             atomic_store(&each->taken, false);
     }
-    release_descriptors(&at_fork);
+    release_descriptors(&fork_hold);
 }
 
 static void begin(void)
 {
     const char *word = secure_getenv("SYSVMSG_EINTR");
-    ends_by_signals = !word || strcmp(word, "0") != 0;
+    settings.ends_waits = !word || strcmp(word, "0") != 0;
     word = secure_getenv("SYSVMSG_PATH");
     if (!word || !*word)
         return;
     if (strlen(word) < sizeof server.sun_path)
         strcpy(server.sun_path, word);
-    has_standard_error = note_file(STDERR_FILENO, &standard_error);
+    settings.has_standard_error = note_file(STDERR_FILENO, &standard_error);
     process = getpid();
-    keeps = pthread_key_create(&at_thread_end, end_thread) == 0
-            && pthread_atfork(before_fork, after_fork, begin_child) == 0;
-    serves = true;
+    settings.keeps_connections = pthread_key_create(&thread_end, end_thread) == 0
+                                 && pthread_atfork(before_fork, after_fork, begin_child) == 0;
+    settings.has_server = true;
 }
 
 bool has_server(void)
 {
     static pthread_once_t begun = PTHREAD_ONCE_INIT;
     pthread_once(&begun, begin);
-    return serves;
+    return settings.has_server;
 }
 
 /* Writes to standard error. If that is a pipe without a reader, the SIGPIPE is taken back. */
@@ -219,7 +224,7 @@ static struct iovec piece(const char *text) { return (struct iovec){(void *)text
 static void say_once(const char *why)
 {
     static atomic_flag said = ATOMIC_FLAG_INIT;
-    if (atomic_flag_test_and_set(&said) || !has_standard_error
+    if (atomic_flag_test_and_set(&said) || !settings.has_standard_error
         || !is_file(STDERR_FILENO, &standard_error))
         return;
     struct iovec line[] = {piece("libsysvmsg_preload: "),
@@ -249,8 +254,8 @@ static int broken(struct connection *connection, const struct call *call, const 
 static void abandon(void *connection)
 {
     end_session(connection);
-    if (connection == mine)
-        in_call = 0;
+    if (connection == own_connection)
+        current_call = 0;
 }
 
 /* Takes bytes off the front of two pieces. */
@@ -344,7 +349,7 @@ static bool has_handler(void)
 /* Notes that a signal handler ran during a call. */
 static void note_signal(struct call *call)
 {
-    call->is_interrupted = (call->may_wait && ends_by_signals) || is_in_child(call);
+    call->is_interrupted = (call->may_wait && settings.ends_waits) || is_in_child(call);
 }
 
 /* Waits on for a reply after a first recv ended early, `by_signal` or by its limit of time. The
@@ -516,7 +521,8 @@ static bool connect_server(int fd, struct call *call)
     int status;
     do {
         status = connect(fd, (const struct sockaddr *)&server, sizeof server);
-        call->is_interrupted = status < 0 && errno == EINTR && call->may_wait && ends_by_signals;
+        call->is_interrupted =
+            status < 0 && errno == EINTR && call->may_wait && settings.ends_waits;
     } while (status < 0 && errno == EINTR && !call->is_interrupted);
     return status == 0;
 }
@@ -601,9 +607,9 @@ static void take_place(void)
     for (struct connection *each = connections; each < connections + CONNECTIONS; each++) {
         if (atomic_exchange(&each->taken, true))
             continue;
-        if (pthread_setspecific(at_thread_end, each) == 0) {
+        if (pthread_setspecific(thread_end, each) == 0) {
             each->fd = -1;
-            mine = each;
+            own_connection = each;
         } else {
             atomic_store(&each->taken, false);
         }
@@ -616,13 +622,13 @@ static void take_place(void)
  * descriptors, and a thread that found no place. */
 static struct connection *borrow(struct connection *single, const struct call *call)
 {
-    if (keeps && call->process == process && !in_call) {
-        in_call = 1;
-        if (!mine)
+    if (settings.keeps_connections && call->process == process && !current_call) {
+        current_call = 1;
+        if (!own_connection)
             take_place();
-        if (mine)
-            return mine;
-        in_call = 0;
+        if (own_connection)
+            return own_connection;
+        current_call = 0;
     }
     return single;
 }
@@ -632,7 +638,7 @@ static void give_back(struct connection *connection, struct connection *single)
     if (connection == single)
         end_session(single);
     else
-        in_call = 0;
+        current_call = 0;
 }
 
 int ask(struct frame *frame, bool may_wait)
