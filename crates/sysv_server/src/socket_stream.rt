@@ -1,5 +1,6 @@
 //! Connections on Unix sockets that never wait. No contract says what a socket reads and writes, so
 //! they tell no bytes and leave nothing in a book.
+ghost use Rattle.std.specs.Prelude.{◌≡◌, None, false, IfOk};
 ghost use Rattle.std.specs.Io.{ReadsAtMost, WritesAtMost};
 
 use crate::non_blocking::{Drained, Filled, NonBlocking, Over};
@@ -25,7 +26,13 @@ impl SocketStream {
     /// # Errors
     ///
     /// - The system's error if the stream cannot be made non-blocking. The stream is closed.
-    pub fn new(stream: UnixStream) -> io::Result<SocketStream> {
+    pub fn new(stream: UnixStream) -> io::Result<SocketStream>
+        ensures { IfOk result (λ socket. socket ≡ record {
+          stream = stream;
+          over = None;
+          refuses = false;
+        }) }
+    {
         stream.set_nonblocking(true)?;
         Ok(SocketStream {
             stream,
