@@ -32,6 +32,8 @@ pub mod Stopped
 pub mod Closing
 pub mod RightAnswers
 pub mod Delivered
+pub mod UnderWay
+pub mod Pieces
 pub mod Retried
 pub mod Marks
 pub mod TurnsLeft

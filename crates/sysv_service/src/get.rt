@@ -61,8 +61,8 @@ impl Service {
 
 /// The steps of a `msgget`.
 #[derive(Drop)]
-struct GetStepper<'a, C> {
-    clock: &'a C,
+pub(crate) struct GetStepper<'a, C> {
+    pub(crate) clock: &'a C,
 }
 
 impl<'a, C: Clock> Stepper for GetStepper<'a, C> {
@@ -83,7 +83,7 @@ impl<'a, C: Clock> Stepper for GetStepper<'a, C> {
 }
 
 /// Returns the result of a `msgget`.
-fn id_of(ending: Ending) -> Result<i32, Errno>
+pub(crate) fn id_of(ending: Ending) -> Result<i32, Errno>
     requires { Gets (Over (ending_of ending [])) }
     ensures { TellsId (ending_of ending []) result }
 {

@@ -18,17 +18,22 @@ mod control;
 mod counts;
 mod gates;
 mod get;
+mod getting;
 mod kinds;
 mod laws;
+mod looking;
 mod making;
 mod object;
 mod opening;
 mod pass;
+mod progress;
 mod receive;
+mod receiving;
 mod running;
 mod seat_laws;
 mod seats;
 mod send;
+mod sending;
 mod service;
 mod shared_count;
 mod sharing;
@@ -45,6 +50,7 @@ pub use laws::{
 pub use making::AtGates;
 pub use opening::{GatesClosed, OpenRefused};
 pub use pass::Pass;
+pub use progress::{GetWait, Progress, ReceiveWait, SendWait};
 pub use seat_laws::{
     each_seat_obeys, orders_are_of_crews, own_turns_are_last, seen_histories, seen_histories_obey,
 };
@@ -55,4 +61,4 @@ pub use shared_count::SharedCount;
 // The types that the signatures use.
 pub use sysv_model::{Body, Cred, Errno, Flags, NoMemory, Perm, Row, SetTo, Stat};
 pub use sysv_queue::{Delivery, Tally};
-pub use sysv_steps::Clock;
+pub use sysv_steps::{Clock, Getting, Receiving, Sending};

@@ -16,11 +16,12 @@ ghost use Rattle.sysv_service.specs.Delivered.{HasGiven, StepsGiving};
 use crate::AtGates;
 use crate::caller::{Caller, Stays};
 use crate::pass::Pass;
+use crate::progress::Progress;
 use crate::service::Service;
 use std::sync::Wait as MayWait;
 use sysv_model::{Body, Cred, Errno, Flags};
 use sysv_queue::Delivery;
-use sysv_steps::{Clock, Ending, Phase, Receiving, State, receive_step};
+use sysv_steps::{Clock, Ending, Phase, Receiving, State, Wait, receive_step};
 
 impl Service {
     /// Takes a message from the queue `id` and writes its body to `out` (POSIX.1-2017, `msgrcv`).
@@ -120,17 +121,18 @@ impl Service {
     {
         let mut state = Receiving::begin(cred, id, size, mtype, flags);
         for _ in rt.forever() {
-            state = match state {
-                State::Goes(phase) => self.receive_step(rt, pass, clock, out, phase),
-                State::Waits(wait) => match self.wait_for(rt, pass, caller, wait) {
-                    Some(next) => next,
-                    None => {
-                        self.gates.pass_arrived_on(id);
-                        out.clear();
-                        return None;
+            state = match self.receive_on(rt, pass, clock, out, state) {
+                Progress::Waits(wait) => {
+                    let (above, receive) = (wait.above, wait.receive);
+                    match self.wait_for(rt, pass, caller, Wait::Arrived { above, receive }) {
+                        Some(next) => next,
+                        None => {
+                            self.gates.pass_arrived_on(id);
+                            return None;
+                        }
                     }
-                },
-                State::Over(ending) => return Some(given_of(ending, out)),
+                }
+                Progress::Over(told) => return Some(told),
             };
         }
         unreachable!()
@@ -140,7 +142,7 @@ impl Service {
     /// wait, so a receive that has waited and takes nothing wakes the next one. A receive that has
     /// not waited was not woken, and need not wake another.
     #[inline(always)]
-    fn receive_step<C: Clock>(
+    pub(crate) fn receive_step<C: Clock>(
         &self,
         rt: &impl MayWait,
         pass: &mut Pass,
@@ -173,7 +175,7 @@ impl Service {
 }
 
 /// Returns the result of a receive. After an error it empties the body.
-fn given_of(ending: Ending, out: &mut Body) -> Result<Delivery, Errno>
+pub(crate) fn given_of(ending: Ending, out: &mut Body) -> Result<Delivery, Errno>
     requires receives { Receives (Over (ending_of ending out.old)) }
     requires sized { IsSized (State.Over ending) out.old }
     ensures told { TellsGot (ending_of ending out.old) result out.new }

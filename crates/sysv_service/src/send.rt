@@ -117,9 +117,9 @@ impl Service {
 
 /// The steps of a `msgsnd`.
 #[derive(Drop)]
-struct SendStepper<'a, C> {
-    clock: &'a C,
-    text: &'a Body,
+pub(crate) struct SendStepper<'a, C> {
+    pub(crate) clock: &'a C,
+    pub(crate) text: &'a Body,
 }
 
 impl<'a, C: Clock> Stepper for SendStepper<'a, C> {

@@ -97,7 +97,7 @@ impl Service {
 }
 
 /// Returns the count of the wait, and the value above which it must rise.
-fn awaited_by(wait: &Wait) -> (SharedCount, u64)
+pub(crate) fn awaited_by(wait: &Wait) -> (SharedCount, u64)
     ensures count { (text : List ℕ) → count_of result.0 ≡ awaited (wait_of wait.now text) }
     ensures above { (text : List ℕ) → goal_of (wait_of wait.now text) ≡ result.1 + 1 }
 {
