@@ -3,3 +3,4 @@ pub mod SessionLemmas
 pub mod Whole
 pub mod LaterLemmas
 pub mod Courses
+pub mod OutboxLemmas

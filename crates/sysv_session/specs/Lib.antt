@@ -8,3 +8,4 @@ pub mod Session
 pub mod Parts
 pub mod Course
 pub mod Failing
+pub mod Outbox

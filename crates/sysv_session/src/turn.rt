@@ -104,7 +104,7 @@ pub(crate) fn send<W: Write>(
 }
 
 /// Returns the reply that carries the message.
-fn message_reply(version: Version, delivery: &Delivery) -> Reply
+pub(crate) fn message_reply(version: Version, delivery: &Delivery) -> Reply
     ensures { result ≡ the_reply version delivery.now.mtype }
 {
     Reply {
