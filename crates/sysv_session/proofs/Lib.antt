@@ -4,3 +4,4 @@ pub mod Whole
 pub mod LaterLemmas
 pub mod Courses
 pub mod OutboxLemmas
+pub mod GatheredLemmas

@@ -9,3 +9,4 @@ pub mod Parts
 pub mod Course
 pub mod Failing
 pub mod Outbox
+pub mod Gathered

@@ -12,7 +12,7 @@ mod session;
 mod turn;
 
 pub use kernel::{Kernel, RequestOutcome};
-pub use laws::numeral_of_requests;
+pub use laws::{gathered_replies, numeral_of_requests};
 pub use outbox::Outbox;
 pub use served::{End, Served};
 pub use session::{Texts, serve, serve_watched, serve_with};
