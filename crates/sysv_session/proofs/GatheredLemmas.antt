@@ -1,6 +1,6 @@
 -- What an outbox stands for, after each of its calls.
-use Rattle.std.proofs.Common.{◌≡◌, ℕ, ◌+◌, ◌-◌, ◌<◌, ◌≤◌, Bool, true, false, not, nat_le, List, [], ◌∷◌, ◌++◌, Option, None, Some}
-use Rattle.std.proofs.Common.{length, take, drop, map, flat_map, refl, sym, ap, ap₂, subst, ◌∙◌, arith, append_assoc, append-nil}
+use Rattle.std.proofs.Common.{◌≡◌, ℕ, ◌+◌, ◌-◌, ◌<◌, false, not, nat_le, List, [], ◌∷◌, ◌++◌}
+use Rattle.std.proofs.Common.{length, take, drop, map, refl, sym, ap, ap₂, ◌∙◌, arith, append_assoc, append-nil}
 use Rattle.std.proofs.Common.{length-append, length-take-le, take-append-drop, zero-add}
 use Rattle.std.proofs.KnownBytes.{Appends-trans}
 use Rattle.std.proofs.lemmas.Bool.Decides.{nat_tests}
@@ -8,19 +8,16 @@ use Rattle.std.proofs.lemmas.List.{map-append}
 use Rattle.std.proofs.lemmas.List.Concat.{flat_map-append}
 use Rattle.std.proofs.lemmas.List.Elements.{filter-append}
 use Rattle.std.specs.List.{concat, filter}
-use Rattle.sysv_model.specs.Writing.{AppendsPrefix}
 use Rattle.sysv_queue.specs.Delivery.{Given}
-use Rattle.sysv_queue.specs.Tally.{Tallied, taken_in}
-use Rattle.sysv_session.specs.Gathered.{BreaksOffWithin, Closes, ClosesAll, Gathered, Gathers, GathersMessage, GathersNone}
+use Rattle.sysv_session.specs.Gathered.{BreaksOffWithin, ClosesAll, Gathered, GathersMessage, GathersNone}
 use Rattle.sysv_session.specs.Gathered.{GathersOn, GathersReply, all_bytes, marks_at, marks_from, message_frame, message_of, plain}
-use Rattle.sysv_session.specs.Outbox.{Mark, Unsent, beyond, is_within, mark_at, more_lost, more_written, nearer, with_frame}
-use Rattle.sysv_session.specs.Outbox.{with_message, within, without}
+use Rattle.sysv_session.specs.Outbox.{Mark, beyond, is_within, mark_at, nearer}
+use Rattle.sysv_session.specs.Outbox.{within}
 use Rattle.sysv_session.proofs.ListLemmas.{concat_more}
 use Rattle.sysv_session.proofs.OutboxLemmas.{beyond-add, each_once, within-add}
 use Rattle.sysv_wire.specs.declared.frame.Version.{Version}
 use Rattle.sysv_wire.specs.Frames.{frame}
 use Rattle.sysv_wire.specs.Numbers.{u32_bytes}
-use Rattle.sysv_wire.specs.Replies.{reply_spelling}
 
 pub gathers_none : GathersNone
 gathers_none tally = record { bytes = refl; marks = refl; written = omega arith; lost = refl }
