@@ -10,3 +10,4 @@ pub mod Course
 pub mod Failing
 pub mod Outbox
 pub mod Gathered
+pub mod TakenUp

@@ -15,4 +15,5 @@ pub use kernel::{Kernel, RequestOutcome};
 pub use laws::{gathered_replies, numeral_of_requests};
 pub use outbox::Outbox;
 pub use served::{End, Served};
-pub use session::{Texts, serve, serve_watched, serve_with};
+pub use session::{Session, TakenUp, Texts, serve, serve_watched, serve_with};
+pub use turn::hello_reply;

@@ -45,7 +45,7 @@ pub(crate) fn read_hello<R: Read>(
 }
 
 /// Returns the reply to a hello of this version.
-pub(crate) fn hello_reply(version: Version, slots: u32) -> Reply
+pub fn hello_reply(version: Version, slots: u32) -> Reply
     ensures reply { result ≡ the_hello_reply version slots }
     ensures answer { IsAnswer result.version result.op result.result }
 {
