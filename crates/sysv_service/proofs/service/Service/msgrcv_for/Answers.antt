@@ -21,7 +21,8 @@ loop-init g c =
           (begin_receives c.args.cred (to_z w32 (of_z w32 c.args.id)) c.args.size (to_z w64 (of_z w64 c.args.mtype))
           c.args.flags);
       nothing = subst GivesNothing starts
-          (begin_gives_nothing c.args.cred (to_z w32 (of_z w32 c.args.id)) c.args.size (to_z w64 (of_z w64 c.args.mtype))
+          (begin_gives_nothing c.args.cred (to_z w32 (of_z w32 c.args.id)) c.args.size
+          (to_z w64 (of_z w64 c.args.mtype))
           c.args.flags);
       comes = first_at may _ _ _ starts;
       goes_on = search rules;
@@ -31,7 +32,8 @@ pub loop-preserved : goal.loop-preserved
 loop-preserved g c =
     let may = g.C.Clock.may c.args.clock.now in
     let wait = receive_wait c.in-Waits.wait in
-    let on = subst (λ p. ReceivesOn may (state_of c.loop.state c.loop.out) c.loop.pass p c.receive_on.new.out c.receive_on.new.pass)
+    let on = subst (λ p.
+    ReceivesOn may (state_of c.loop.state c.loop.out) c.loop.pass p c.receive_on.new.out c.receive_on.new.pass)
     c.in-Waits.is c.receive_on.ensures.ran in
     let there = comes_on may _ _ _ _ (Waits wait) c.receive_on.new.pass c.loop.invariant.comes on.0 in
     let ended = c.in-Some-wait_for.ensures.ended c.receive_on.new.out in
@@ -49,7 +51,8 @@ returns-in-None-wait_for-clause-left g c =
     let may = g.C.Clock.may c.args.clock.now in
     let wait = receive_wait c.in-Waits.wait in
     let on =
-    subst (λ p. ReceivesOn may (state_of c.loop.state c.loop.out) c.loop.pass p c.receive_on.new.out c.receive_on.new.pass)
+    subst (λ p.
+    ReceivesOn may (state_of c.loop.state c.loop.out) c.loop.pass p c.receive_on.new.out c.receive_on.new.pass)
     c.in-Waits.is c.receive_on.ensures.ran in
     let there = comes_on may _ _ _ _ (Waits wait) c.receive_on.new.pass c.loop.invariant.comes on.0 in
     let still = c.in-None-wait_for.ensures.still c.receive_on.new.out in
@@ -63,7 +66,8 @@ pub returns-in-None-wait_for-clause-empty : goal.returns-in-None-wait_for-clause
 returns-in-None-wait_for-clause-empty g c =
     let may = g.C.Clock.may c.args.clock.now in
     let on =
-    subst (λ p. ReceivesOn may (state_of c.loop.state c.loop.out) c.loop.pass p c.receive_on.new.out c.receive_on.new.pass)
+    subst (λ p.
+    ReceivesOn may (state_of c.loop.state c.loop.out) c.loop.pass p c.receive_on.new.out c.receive_on.new.pass)
     c.in-Waits.is c.receive_on.ensures.ran in
     on.1
 
@@ -71,7 +75,8 @@ pub returns-in-Over-clause-ran : goal.returns-in-Over-clause-ran
 returns-in-Over-clause-ran g c =
     let may = g.C.Clock.may c.args.clock.now in
     let on =
-    subst (λ p. ReceivesOn may (state_of c.loop.state c.loop.out) c.loop.pass p c.receive_on.new.out c.receive_on.new.pass)
+    subst (λ p.
+    ReceivesOn may (state_of c.loop.state c.loop.out) c.loop.pass p c.receive_on.new.out c.receive_on.new.pass)
     c.in-Over.is c.receive_on.ensures.ran in
     let comes = comes_on may _ _ _ _ _ c.receive_on.new.pass c.loop.invariant.comes on.0.1 in
     let id = c.ranges.id in
@@ -83,7 +88,8 @@ pub returns-in-Over-clause-given : goal.returns-in-Over-clause-given
 returns-in-Over-clause-given g c =
     let may = g.C.Clock.may c.args.clock.now in
     let on =
-    subst (λ p. ReceivesOn may (state_of c.loop.state c.loop.out) c.loop.pass p c.receive_on.new.out c.receive_on.new.pass)
+    subst (λ p.
+    ReceivesOn may (state_of c.loop.state c.loop.out) c.loop.pass p c.receive_on.new.out c.receive_on.new.pass)
     c.in-Over.is c.receive_on.ensures.ran in
     let given = if_given may _ _ _ _ c.in-Over.told c.receive_on.new.pass c.loop.invariant.comes on.1 in
     let id = c.ranges.id in

@@ -15,7 +15,8 @@ module _ (w x : SendWait) (before after : Pass) (is : w ≡ x) where
 
   reached : (s : Sending) → ((text : List ℕ) → IsReached (send_wait x text) before (AtLook (sending s text)) after) →
       (text : List ℕ) → IsReached (send_wait w text) before (AtLook (sending s text)) after
-  reached s = subst (λ y. (text : List ℕ) → IsReached (send_wait y text) before (AtLook (sending s text)) after) (sym is)
+  reached s =
+      subst (λ y. (text : List ℕ) → IsReached (send_wait y text) before (AtLook (sending s text)) after) (sym is)
 
 pub returns-in_err-look-in-Room-clause-below : goal.returns-in_err-look-in-Room-clause-below
 returns-in_err-look-in-Room-clause-below c =

@@ -45,7 +45,8 @@ returns-in-Over-clause-ran g c =
     let may = g.C.Clock.may c.args.clock.now in
     let came = c.loop.invariant.comes in
     let there = moved may _ _ _ _ c.loop.pass (ap (λ s. state_of s c.loop.out) c.in-Over.is) (came.0, came.1) in
-    let given = has_given may _ _ c.in-Over.ending c.loop.state c.loop.out c.loop.pass c.given_of.result c.in-Over.is came
+    let given =
+    has_given may _ _ c.in-Over.ending c.loop.state c.loop.out c.loop.pass c.given_of.result c.in-Over.is came
     c.given_of.ensures.given in
     ((ending_of c.in-Over.ending c.loop.out, there, c.given_of.ensures.told), given)
 
