@@ -10,7 +10,8 @@ use Rattle.std.proofs.lemmas.List.Elements.{filter-append}
 use Rattle.std.specs.List.{concat, filter}
 use Rattle.sysv_queue.specs.Delivery.{Given}
 use Rattle.sysv_session.specs.Gathered.{BreaksOffWithin, ClosesAll, Gathered, GathersMessage, GathersNone}
-use Rattle.sysv_session.specs.Gathered.{GathersOn, GathersReply, all_bytes, marks_at, marks_from, message_frame, message_of, plain}
+use Rattle.sysv_session.specs.Gathered.{GathersOn, GathersReply, all_bytes, marks_at, marks_from, message_frame}
+use Rattle.sysv_session.specs.Gathered.{message_of, plain}
 use Rattle.sysv_session.specs.Outbox.{Mark, beyond, is_within, mark_at, nearer}
 use Rattle.sysv_session.specs.Outbox.{within}
 use Rattle.sysv_session.proofs.ListLemmas.{concat_more}
@@ -39,19 +40,23 @@ marks_more start (first ∷ more) reply =
     let place : start + length first.frame + length (all_bytes (more ++ reply ∷ []))
     ≡ start + length (all_bytes (first ∷ (more ++ reply ∷ []))) =
     omega (arith, length-append first.frame (all_bytes (more ++ reply ∷ []))) in
-    ap (λ l. marks_at (start + length first.frame) first.message ++ l) (marks_more (start + length first.frame) more reply)
-    ∙ sym (append_assoc (marks_at (start + length first.frame) first.message) (marks_from (start + length first.frame) more)
+    ap (λ l. marks_at (start + length first.frame) first.message ++ l)
+    (marks_more (start + length first.frame) more reply)
+    ∙ sym (append_assoc (marks_at (start + length first.frame) first.message)
+    (marks_from (start + length first.frame) more)
     (marks_at (start + length first.frame + length (all_bytes (more ++ reply ∷ []))) reply.message))
     ∙ ap (λ (n : ℕ). marks_from start (first ∷ more) ++ marks_at n reply.message) place
 
 pub beyond-append : (n : ℕ) (xs ys : List Mark) → beyond n (xs ++ ys) ≡ beyond n xs ++ beyond n ys
 beyond-append n xs ys =
     ap (map (nearer n)) (filter-append (λ (mark : Mark). not (is_within n mark)) xs ys)
-    ∙ map-append (nearer n) (filter (λ (mark : Mark). not (is_within n mark)) xs) (filter (λ (mark : Mark). not (is_within n mark)) ys)
+    ∙ map-append (nearer n) (filter (λ (mark : Mark). not (is_within n mark)) xs)
+    (filter (λ (mark : Mark). not (is_within n mark)) ys)
 
 pub within-append : (n : ℕ) (xs ys : List Mark) → within n (xs ++ ys) ≡ within n xs + within n ys
 within-append n xs ys =
-    ap (length {A = Mark}) (filter-append (is_within n) xs ys) ∙ length-append (filter (is_within n) xs) (filter (is_within n) ys)
+    ap (length {A = Mark}) (filter-append (is_within n) xs ys)
+    ∙ length-append (filter (is_within n) xs) (filter (is_within n) ys)
 
 -- A mark that ends behind the first n bytes.
 one_beyond : (n place : ℕ) (given : Given) → n < place →

@@ -1,6 +1,8 @@
 -- Marks as bytes are taken.
-use Rattle.std.proofs.Common.{◌≡◌, ℕ, suc, ◌+◌, ◌-◌, ◌^◌, ◌<◌, ◌≤◌, Bool, true, false, cond, nat_le, List, [], ◌∷◌, ◌++◌, length}
-use Rattle.std.proofs.Common.{take, drop, refl, sym, ap, ap₂, subst, subst₂, ◌∙◌, arith, append_assoc, append-nil, length-append, le_refl}
+use Rattle.std.proofs.Common.{◌≡◌, ℕ, suc, ◌+◌, ◌-◌, ◌^◌, ◌<◌, ◌≤◌, Bool, true, false, cond, nat_le, List, [], ◌∷◌}
+use Rattle.std.proofs.Common.{◌++◌, length}
+use Rattle.std.proofs.Common.{take, drop, refl, sym, ap, ap₂, subst, subst₂, ◌∙◌, arith, append_assoc, append-nil}
+use Rattle.std.proofs.Common.{length-append, le_refl}
 use Rattle.std.proofs.Common.{le_of_suc-le-suc}
 use Rattle.std.proofs.Math.Seq.{drop-length, take-length}
 use Rattle.std.proofs.lemmas.Bool.Decides.{nat_tests}
@@ -65,7 +67,8 @@ within-add k n [] = refl
 within-add k n (x ∷ xs) = within-add_at (nat_le x.ends k) k n x xs refl (within-add k n xs)
 
 -- All marks were looked at but the first `left`. Those of them that are kept are at the back.
-pub record Spending (n left : ℕ) (all : List Mark) (before : Tallied) (marks : List Mark) (tally : Tallied) : Type 0 where
+pub record Spending (n left : ℕ) (all : List Mark) (before : Tallied) (marks : List Mark)
+    (tally : Tallied) : Type 0 where
   pub few : left ≤ length marks
   pub kept : drop left marks ++ beyond n (take left marks) ≡ beyond n all
   pub spent : tally.written + within n (take left marks) ≡ before.written + within n all
@@ -125,7 +128,8 @@ has_room_for n left all before x xs tally is room old =
     omega (arith, first_within true n x (take left xs) is, each_once n all, old.spent, old.lost, room)
 
 -- The same, for the values of the loop.
-module _ (n few less : ℕ) (all : List Mark) (before : Tallied) (marks rest : List Mark) (x : Mark) (tally : Tallied) where
+module _ (n few less : ℕ) (all : List Mark) (before : Tallied) (marks rest : List Mark) (x : Mark)
+    (tally : Tallied) where
   one_less : marks ≡ x ∷ rest → few ≡ suc less → Spending n few all before marks tally →
       Spending n (suc less) all before (x ∷ rest) tally
   one_less first next old =

@@ -1,4 +1,5 @@
-use Rattle.sysv_session.proofs.GatheredLemmas.{breaks_off, closes, gathers_message, gathers_none, gathers_on, gathers_reply}
+use Rattle.sysv_session.proofs.GatheredLemmas.{breaks_off, closes, gathers_message, gathers_none, gathers_on}
+use Rattle.sysv_session.proofs.GatheredLemmas.{gathers_reply}
 use Rattle.sysv_session.proofs.laws.gathered_replies.Goals as goal
 
 pub returns-clause-none : goal.returns-clause-none

@@ -26,13 +26,15 @@ loop-preserved c =
     omega (arith, c.loop-test.true) in
     elim c.if-ends-n.branch [
       | then-ends-n w ↦ record {
-        spending = spent_step c.args.n _ _ _ _ _ c.pop_front.new.self.items x c.loop.tally _ _ first next w.if-ends-n.true
+        spending =
+            spent_step c.args.n _ _ _ _ _ c.pop_front.new.self.items x c.loop.tally _ _ first next w.if-ends-n.true
             (ap (λ (box : Inside). box.marks.items) w.self-inside-is)
             (w.tally-is ∙ w.written.ensures) c.loop.invariant.spending;
         bytes = ap (λ (box : Inside). box.bytes.items) w.self-inside-is ∙ c.loop.invariant.bytes;
       }
       | else-ends-n w ↦ record {
-        spending = kept_step c.args.n _ _ _ _ _ c.pop_front.new.self.items x c.loop.tally _ _ first next w.if-ends-n.false
+        spending =
+            kept_step c.args.n _ _ _ _ _ c.pop_front.new.self.items x c.loop.tally _ _ first next w.if-ends-n.false
             (ap (λ (box : Inside). box.marks.items) w.self-inside-is ∙ w.push_back_reserved.ensures.items)
             w.tally-is c.loop.invariant.spending;
         bytes = ap (λ (box : Inside). box.bytes.items) w.self-inside-is ∙ c.loop.invariant.bytes;
