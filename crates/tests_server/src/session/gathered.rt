@@ -2,16 +2,20 @@
 ghost use Rattle.std.specs.Prelude.{◌≡◌, ◌≢◌, ◌≤◌, ◌+◌, length};
 ghost use Rattle.sysv_model.specs.declared.limits.TheConstants.{MESSAGE_BYTES};
 ghost use Rattle.sysv_queue.specs.Tally.{taken_in};
+ghost use Rattle.sysv_session.specs.Answers.{HasAnswer};
+ghost use Rattle.sysv_wire.specs.Replies.{IsAnswer};
 ghost use Rattle.sysv_wire.specs.Requests.{op_of};
 
+use super::served::counts_of;
 use super::shelf::Shelf;
 use std::alloc::AllocFailed;
 use std::process::Abort;
-use sysv_model::Body;
+use sysv_model::{Body, Watched};
 use sysv_queue::{Delivery, Tally};
-use sysv_session::{Kernel, Outbox, RequestOutcome};
+use sysv_session::{End, Kernel, Outbox, RequestOutcome, Session, TakenUp, hello_reply};
 use sysv_wire::{Ask, Op, Reply, ReplyContent, Request, Version};
-use tests_kit::{USER, creating, flags, open_body};
+use tests_kit::worked::{ANSWERS, SESSION};
+use tests_kit::{Pieces, USER, creating, flags, open_body};
 
 /// The frames of the reply to a send and of two replies to receives of `hi` with type 5.
 const GATHERED: &[u8] = &[
@@ -59,32 +63,34 @@ fn received(rt: &impl Abort, kernel: &mut Shelf, text: &Body, given: &mut Body) 
     }
 }
 
-/// Gathers the reply to a send. Tolerates one refusal of memory, after which nothing was gathered.
-fn put(rt: &impl Abort, outbox: &mut Outbox, text: &Body)
-    requires { length text.now ≤ MESSAGE_BYTES }
+/// Gathers a reply. Tolerates one refusal of memory, after which nothing was gathered.
+fn put(rt: &impl Abort, outbox: &mut Outbox, reply: &Reply, text: &Body)
+    requires answer { IsAnswer reply.now.version reply.now.op reply.now.result }
+    requires text { length text.now ≤ MESSAGE_BYTES }
     ensures { length outbox.new.marks ≡ length outbox.old.marks }
 {
-    let reply = Reply {
-        version: Version::One,
-        op: Op::Snd.number(),
-        result: ReplyContent::Snd,
-    };
     let before = outbox.unsent().len();
-    if outbox.put(&reply, text).is_err() {
+    if outbox.put(reply, text).is_err() {
         assert_eq!(rt; outbox.unsent().len(), before);
-        outbox.put(&reply, text).expect(rt, "a second try");
+        outbox.put(reply, text).expect(rt, "a second try");
     }
 }
 
 /// Gathers a message. Tolerates one refusal of memory, after which nothing was gathered.
-fn put_message(rt: &impl Abort, outbox: &mut Outbox, delivery: Delivery, given: &Body)
+fn put_message(
+    rt: &impl Abort,
+    outbox: &mut Outbox,
+    version: Version,
+    delivery: Delivery,
+    given: &Body,
+)
     requires { length given.now ≤ MESSAGE_BYTES }
     ensures { length outbox.new.marks ≡ length outbox.old.marks + 1 }
 {
     let before = outbox.unsent().len();
-    if let Err(AllocFailed { value }) = outbox.put_message(Version::One, delivery, given) {
+    if let Err(AllocFailed { value }) = outbox.put_message(version, delivery, given) {
         assert_eq!(rt; outbox.unsent().len(), before);
-        if let Err(AllocFailed { value: _value }) = outbox.put_message(Version::One, value, given) {
+        if let Err(AllocFailed { value: _value }) = outbox.put_message(version, value, given) {
             panic!(rt; "a second try");
         }
     }
@@ -123,11 +129,16 @@ fn a_message_is_written_once_its_frame_was_taken(rt: HostRuntime) {
     text.push_piece(b"hi");
     let mut tally = Tally::open();
     let mut outbox = Outbox::open(rt.alloc());
-    put(&rt, &mut outbox, &text);
+    let sent = Reply {
+        version: Version::One,
+        op: Op::Snd.number(),
+        result: ReplyContent::Snd,
+    };
+    put(&rt, &mut outbox, &sent, &text);
     let first = received(&rt, &mut kernel, &text, &mut given);
-    put_message(&rt, &mut outbox, first, &given);
+    put_message(&rt, &mut outbox, Version::One, first, &given);
     let second = received(&rt, &mut kernel, &text, &mut given);
-    put_message(&rt, &mut outbox, second, &given);
+    put_message(&rt, &mut outbox, Version::One, second, &given);
     assert_eq!(rt; outbox.unsent(), GATHERED);
     take(&rt, &mut outbox, 7, &mut tally, &GATHERED[7..], 0);
     take(&rt, &mut outbox, 16, &mut tally, &GATHERED[23..], 0);
@@ -135,5 +146,90 @@ fn a_message_is_written_once_its_frame_was_taken(rt: HostRuntime) {
     take(&rt, &mut outbox, 16, &mut tally, &GATHERED[40..], 1);
     outbox.end(&mut tally);
     assert_eq!(rt; (tally.written(), tally.lost()), (1, 1));
+    assert_eq!(rt; kernel.end(), 128);
+}
+
+/// A session whose replies are gathered, and its two bodies.
+struct Gathering {
+    session: Session,
+    outbox: Outbox,
+    text: Body,
+    given: Body,
+}
+
+impl Gathering {
+    /// Gathers the outcome of a request.
+    fn answer(&mut self, rt: &impl Abort, version: Version, outcome: RequestOutcome)
+        requires reply { HasAnswer outcome }
+        requires text { length self.old.given ≤ MESSAGE_BYTES }
+        ensures session { self.new.session ≡ self.old.session }
+        ensures marks { length self.new.outbox.marks ≤ length self.old.outbox.marks + 1 }
+    {
+        match outcome {
+            RequestOutcome::Reply(reply) => put(rt, &mut self.outbox, &reply, &self.given),
+            RequestOutcome::Got(delivery) => {
+                put_message(rt, &mut self.outbox, version, delivery, &self.given);
+            }
+            RequestOutcome::Left => panic!(rt; "nothing waits"),
+        }
+    }
+
+    /// Takes up what the input holds next, and gathers its reply.
+    fn step(
+        &mut self,
+        rt: &impl Abort,
+        reader: &mut Watched<'_, Pieces<'_>>,
+        kernel: &mut Shelf,
+    ) -> Result<(), End>
+        ensures tally { self.new.session.tally ≡ self.old.session.tally }
+        ensures marks { length self.new.outbox.marks ≤ length self.old.outbox.marks + 1 }
+    {
+        let taken = self.session.take_up(reader, &mut self.text)?;
+        self.given.clear();
+        match taken {
+            TakenUp::Hello(version) => {
+                let reply = hello_reply(version, kernel.slots());
+                put(rt, &mut self.outbox, &reply, &self.given);
+            }
+            TakenUp::Request(cred, request) => {
+                let outcome = kernel.call(cred, &request, &self.text, &mut self.given);
+                self.answer(rt, request.version, outcome);
+            }
+        }
+        Ok(())
+    }
+}
+
+// All replies are gathered before the connection takes any of them.
+#[test]
+fn a_session_is_taken_up_step_by_step(rt: HostRuntime) {
+    let mut kernel = Shelf::open(&rt, rt.alloc());
+    let mut pieces = Pieces::new(SESSION, usize::MAX);
+    let mut reader = Watched::new(&mut pieces);
+    let mut gathering = Gathering {
+        session: Session::open(),
+        outbox: Outbox::open(rt.alloc()),
+        text: open_body(rt.alloc()).expect(&rt, "a second try"),
+        given: open_body(rt.alloc()).expect(&rt, "a second try"),
+    };
+    assert_eq!(rt; gathering.step(&rt, &mut reader, &mut kernel), Ok(()));
+    assert_eq!(rt; gathering.step(&rt, &mut reader, &mut kernel), Ok(()));
+    assert_eq!(rt; gathering.step(&rt, &mut reader, &mut kernel), Ok(()));
+    assert_eq!(rt; gathering.step(&rt, &mut reader, &mut kernel), Ok(()));
+    assert_eq!(rt; gathering.step(&rt, &mut reader, &mut kernel), Ok(()));
+    let end = gathering.step(&rt, &mut reader, &mut kernel);
+    assert_eq!(rt; end, Err(End::Ended));
+    let Gathering {
+        mut session,
+        mut outbox,
+        text: _,
+        given: _,
+    } = gathering;
+    assert_eq!(rt; outbox.unsent(), ANSWERS);
+    let count = outbox.unsent().len();
+    outbox.sent(count, &mut session.tally);
+    outbox.end(&mut session.tally);
+    let served = session.end(End::Ended);
+    assert_eq!(rt; counts_of(&served), (5, 1, 1, 0));
     assert_eq!(rt; kernel.end(), 128);
 }
