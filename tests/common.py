@@ -1,5 +1,6 @@
 """What the Python scripts of this folder share: the program that is tried, connections to a server, and the lines that
-say how it went. The program is $SYSVMSG; without it, the one that tools/prove builds."""
+say how it went. The program is $SYSVMSG; without it, the one that tools/program names, which is built without proofs if
+there is none. A script that is given --help prints its own documentation."""
 import ctypes
 import os
 import signal
@@ -22,14 +23,18 @@ SLOTS = 256
 LIBC = ctypes.CDLL(None)
 PR_SET_PDEATHSIG = 1
 
+if sys.argv[1:] == ["--help"]:
+    print(sys.modules["__main__"].__doc__)
+    sys.exit()
+
 
 def built_program():
     """The program, once it is built."""
     given = os.environ.get("SYSVMSG")
     if given:
         return given
-    prove = os.path.join(TOP, "tools/prove")
-    return subprocess.run([prove], stdin=subprocess.DEVNULL, stdout=subprocess.PIPE, check=True, text=True).stdout.strip()
+    find = os.path.join(TOP, "tools/program")
+    return subprocess.run([find], stdin=subprocess.DEVNULL, stdout=subprocess.PIPE, check=True, text=True).stdout.strip()
 
 
 def is_checked(program):
