@@ -27,6 +27,11 @@ if sys.argv[1:] == ["--help"]:
     sys.exit()
 
 
+def is_chosen(name):
+    """Whether a name has each word of the command line in it. All names are chosen if there are no words."""
+    return all(word in name for word in sys.argv[1:])
+
+
 def built_program():
     """The program, once it is built."""
     given = os.environ.get("SYSVMSG")
@@ -336,8 +341,7 @@ def run_trials(seconds=100):
     """Runs the script's trials one after another: those whose names have the words of the command line in them, all if
     there are none. Returns the status with which the script ends. Whatever ends it, it leaves no process, and no folder
     unless it is killed."""
-    chosen = [(name, function) for name, function in TRIALS
-              if all(word in (name or function.__name__.replace("_", " ")) for word in sys.argv[1:])]
+    chosen = [(name, function) for name, function in TRIALS if is_chosen(name or function.__name__.replace("_", " "))]
     if not chosen:
         sys.exit("no trial has these words in its name")
     for number in signal.SIGTERM, signal.SIGHUP:
