@@ -140,7 +140,7 @@ static int ask_stat(int id, struct msqid_ds *told)
     return 0;
 }
 
-/* The row of a slot as an msqid_ds has it: key, user, mode, bytes and messages; the others are 0. */
+/* The row of a slot as an msqid_ds has it: key, user, mode, bytes, messages; the others are 0. */
 static struct msqid_ds row_as_stat(const struct queue_row *row)
 {
     struct msqid_ds told;

@@ -26,7 +26,7 @@ enum {
     HIGH_DESCRIPTOR = 900,     /* out of the way of programs that count or close theirs */
     REST_SECONDS = 10,         /* how long the rest of a reply may take that has begun */
     FIRST_MICROSECONDS = 2000, /* how long a single recv may wait for a reply */
-    HELLO_MILLISECONDS = 250,  /* how long a call whose wait has ended waits for the reply to its hello */
+    HELLO_MILLISECONDS = 250,  /* how long a call whose wait has ended still waits for its hello */
 };
 
 /* Tells whether a descriptor still is the file that it was. */
@@ -38,17 +38,17 @@ struct file {
 /* The connection of a thread, of a program that opened it, or of a single call. */
 struct connection {
     atomic_bool taken;
-    bool is_opened; /* by connection_open */
+    bool is_opened;     /* by connection_open */
     atomic_bool in_use; /* of one that was opened: a call uses it */
     const struct peer *peer;
     int fd; /* -1: it is not open */
     struct file file;
     uid_t user; /* of the hello */
     gid_t group;
-    bool has_fixed_ids; /* these two can't change any more */
-    int slots;          /* of the reply to the hello */
-    const char *why;    /* a call failed with EIO */
-    int unconnected;    /* the errno for which no connection was made, or 0 */
+    bool has_fixed_ids;      /* these two can't change any more */
+    atomic_int slots;        /* of the reply to the hello */
+    const char *_Atomic why; /* a call failed with EIO */
+    int unconnected;         /* the errno for which no connection was made, or 0 */
 };
 
 /* How a call was made, and what has ended its wait. */
@@ -244,8 +244,8 @@ static void say_once(const char *why)
         || !is_file(STDERR_FILENO, &standard_error))
         return;
     struct iovec line[] = {piece("libsysvmsg_preload: "),
-        piece(*server.address.sun_path ? server.address.sun_path : "SYSVMSG_PATH"), piece(": "), piece(why),
-        piece("; message queue calls fail with EIO\n")};
+        piece(*server.address.sun_path ? server.address.sun_path : "SYSVMSG_PATH"), piece(": "),
+        piece(why), piece("; message queue calls fail with EIO\n")};
     write_line(line, 5);
 }
 
@@ -733,6 +733,12 @@ static int make_call(struct connection *connection, struct frame *frame, struct 
     return error;
 }
 
+/* The deadline of a wait, or 0 if it has no limit. */
+static long deadline_in(int milliseconds_at_most)
+{
+    return milliseconds_at_most < 0 ? 0 : milliseconds() + milliseconds_at_most;
+}
+
 int ask(struct connection *opened, struct frame *frame, bool may_wait, int milliseconds_at_most)
 {
     int cancel_state, errno_before = errno;
@@ -743,13 +749,13 @@ int ask(struct connection *opened, struct frame *frame, bool may_wait, int milli
         .may_wait = may_wait,
         .ends_by_signals = peer->ends_by_signals,
         .cancel_state = may_wait ? cancel_state : PTHREAD_CANCEL_DISABLE,
-        .deadline = may_wait && milliseconds_at_most >= 0 ? milliseconds() + milliseconds_at_most : 0};
+        .deadline = may_wait ? deadline_in(milliseconds_at_most) : 0};
     struct connection *connection
         = opened ? borrow_opened(opened, &single, &call) : borrow(&single, &call);
     int error = make_call(connection, frame, &call);
     if (error == EIO && !opened)
         say_once(connection->why);
-    if (error == EIO && connection == &single && opened)
+    if (error == EIO && opened && connection == &single)
         opened->why = single.why;
     give_back(connection, &single);
     pthread_setcancelstate(cancel_state, NULL);
@@ -769,7 +775,7 @@ int connection_open(const struct peer *peer, int milliseconds_at_most, struct co
         .may_wait = true,
         .ends_by_signals = peer->ends_by_signals,
         .cancel_state = PTHREAD_CANCEL_DISABLE,
-        .deadline = milliseconds_at_most >= 0 ? milliseconds() + milliseconds_at_most : 0};
+        .deadline = deadline_in(milliseconds_at_most)};
     int cancel_state;
     pthread_setcancelstate(PTHREAD_CANCEL_DISABLE, &cancel_state);
     int error = make_ready(connection, &call);

@@ -1,7 +1,7 @@
 /* A client of sysvmsg servers: System V message queues over a Unix socket.
  *
- * Calls return -1 and set errno if they fail. Link with -lsysvmsg -pthread. docs/clients-c.md has an
- * example. */
+ * Calls return -1 and set errno if they fail. Link with -lsysvmsg -pthread. docs/clients-c.md has
+ * an example. */
 #ifndef SYSVMSG_H
 #define SYSVMSG_H
 

@@ -162,6 +162,8 @@ static void try_limits(void)
     CHECK(receives(other, queue, 0, "abc"));
     struct sysvmsg_stat stat;
     CHECK(sysvmsg_stat(other, queue, &stat) == 0 && stat.qnum == 0);
+    CHECK(sysvmsg_rm(other, queue) == 0);
+    CHECK(sysvmsg_rcv(server, queue, &message, sizeof message.body, 0, 0, 200) == -1 && errno == EINVAL);
     sysvmsg_close(server);
     sysvmsg_close(other);
 }
