@@ -371,7 +371,8 @@ class _Session:
         while not pending.done and not self.is_over:
             if not self._step(deadline):
                 self.leave()
-                self._fail_pending(TimedOut("the time was over; the call did nothing"), cast("Pending[object]", pending))
+                over = TimedOut("the time was over; the call did nothing")
+                self._fail_pending(over, cast("Pending[object]", pending))
         if self.was_left:
             self._fail_pending(NotMade("a call before this one was given up"))
         elif self.is_over:
@@ -509,12 +510,12 @@ class Connection:
 
     def rcv(self, queue: int, type: int = 0, *, size: int = BODY_MAX, wait: Optional[float] = None,
             truncate: bool = False, all_but: bool = False) -> Message:
-        """Receives a message: the first of any type for 0, of this type if it is above 0, and of the lowest type that is
-        at most N for -N. With `all_but` it is the first of another type.
+        """Receives a message: the first of any type for 0, of this type if it is above 0, and of the lowest type that
+        is at most N for -N. With `all_but` it is the first of another type.
 
-        It waits for a message: without `wait` as long as it takes; else at most that many seconds, and raises `TimedOut`
-        then. With `wait=0` it raises `NoMessage` at once. A message longer than `size` raises `TooLong` and stays, or
-        loses its end with `truncate`.
+        It waits for a message: without `wait` as long as it takes; else at most that many seconds, and raises
+        `TimedOut` then. With `wait=0` it raises `NoMessage` at once. A message longer than `size` raises `TooLong` and
+        stays, or loses its end with `truncate`.
         """
         return self._call(_rcv_request(queue, type, size, _wait_flag(wait), truncate, all_but), wait)
 
@@ -660,11 +661,12 @@ class Pipeline:
 
 def connect(path: str, *, uid: Optional[int] = None, gid: Optional[int] = None, pid: Optional[int] = None,
             version: int = 2, wait: Optional[float] = None) -> Connection:
-    """Connects to the server at a path, as this process's effective user and group or as the given ones. The server does
-    not check them.
+    """Connects to the server at a path, as this process's effective user and group or as the given ones. The server
+    does not check them.
 
     With `wait`, it raises `TimedOut` if no worker of the server is free within that many seconds. It raises
-    FileNotFoundError or ConnectionRefusedError if there is no server, and PermissionError if the socket's mode forbids it.
+    FileNotFoundError or ConnectionRefusedError if there is no server, and PermissionError if the socket's mode forbids
+    it.
     """
     identity = (
         os.geteuid() if uid is None else uid,
