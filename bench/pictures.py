@@ -89,12 +89,14 @@ class Wide:
     ROW, BAR = 22, 14
 
     def __init__(self, ratios):
-        low, high = min(ratios + [0.5]) / 1.15, max(ratios + [4.0]) * 1.05
-        self.low, self.high = low, high
-        self.y = 0
-        tens = range(math.floor(math.log10(low)), math.ceil(math.log10(high)) + 1)
+        least, most = min(ratios + [0.5]), max(ratios + [4.0])
+        tens = range(math.floor(math.log10(least)), math.ceil(math.log10(most)) + 1)
         steps = [step * 10.0 ** ten for ten in tens for step in (1, 2, 5)]
-        self.ticks = [step for step in steps if low <= step <= high]
+        # The axis begins and ends at a tick, so that each bar lies within it.
+        self.low = max(step for step in steps if step <= least)
+        self.high = min(step for step in steps if step >= most)
+        self.ticks = [step for step in steps if self.low <= step <= self.high]
+        self.y = 0
 
     def place(self, ratio):
         """Where a ratio is on the axis."""
@@ -164,27 +166,45 @@ def write_all(path, when, groups, note):
 class Front:
     """The picture of a few figures: bars from 0 on, on a linear axis, with a line at the peer's speed."""
 
-    WIDTH, LEFT, RIGHT, EDGE, HEAD = 760, 320, 105, 20, 84
+    WIDTH, LEFT, RIGHT, EDGE, HEAD = 760, 320, 100, 20, 96
     ROW, BAR = 50, 24
+    MOST_TICKS = 8
 
     def __init__(self, ratios):
-        self.long = (self.WIDTH - self.LEFT - self.RIGHT) / max(ratios + [1.5])
+        # The axis ends at a tick, so that each bar lies within it.
+        most = max(ratios + [1.5])
+        step = math.ceil(most / self.MOST_TICKS)
+        high = step * math.ceil(most / step)
+        self.ticks = range(0, high + 1, step)
+        self.long = (self.WIDTH - self.LEFT - self.RIGHT) / high
+
+    def place(self, ratio):
+        """Where a ratio is on the axis."""
+        return self.LEFT + self.long * ratio
 
     def row(self, at, what, peer, ratio):
-        """One bar with its label and its number."""
-        y, end = self.HEAD + at * self.ROW, self.LEFT + self.long * ratio
+        """One bar with its label and its number, to the right of the bar and of the peer's line."""
+        y, end = self.HEAD + at * self.ROW, self.place(ratio)
         drawn = words(self.LEFT - 12, y + 22, what, size=14, anchor="end", bold=True)
         drawn += words(self.LEFT - 12, y + 39, peer, "note", 12, "end")
         drawn += box(self.LEFT, y + (self.ROW - self.BAR) / 2, end - self.LEFT, self.BAR, color_of(ratio))
-        past = self.LEFT + self.long if ratio < 1 else end
-        return drawn + words(past + 9, y + 30, as_times(ratio), size=14, bold=True)
+        return drawn + amount(max(end, self.place(1)) + 9, y + 30, ratio, 13)
+
+    def axis(self, foot):
+        """The lines at the ticks and at the peer's speed, with their numbers."""
+        drawn = words(self.place(1), self.HEAD - 20, "the peer", size=12, anchor="middle", bold=True)
+        drawn += words(self.place(1), self.HEAD - 6, "1", size=12, anchor="middle", bold=True)
+        for tick in self.ticks:
+            if tick != 1:
+                drawn += words(self.place(tick), self.HEAD - 6, f"{tick}", "note", 12, "middle")
+                drawn += upright(self.place(tick), self.HEAD, foot, "grid")
+        return drawn
 
     def rows(self, rows):
-        """All bars, and the lines at 0 and at the peer's speed."""
-        foot, one = self.HEAD + self.ROW * len(rows), self.LEFT + self.long
-        drawn = words(one, self.HEAD - 6, "the peer: 1", size=12, anchor="middle", bold=True)
-        drawn += "".join(self.row(at, *row) for at, row in enumerate(rows))
-        return drawn + upright(self.LEFT, self.HEAD, foot, "grid") + upright(one, self.HEAD, foot, "peer", 1.5)
+        """All bars, over the lines of the axis."""
+        foot = self.HEAD + self.ROW * len(rows)
+        drawn = self.axis(foot) + "".join(self.row(at, *row) for at, row in enumerate(rows))
+        return drawn + upright(self.place(1), self.HEAD, foot, "peer", 1.5)
 
 
 def write_front(path, when, rows, note):

@@ -12,6 +12,8 @@ enum { NO_SUCH_FLAGS = -1 };
  * a copy, and changes nothing. */
 bool is_readable(const void *address)
 {
+    if (!address)
+        return false;
     int errno_before = errno;
     errno = 0;
     signalfd(-1, address, NO_SUCH_FLAGS);

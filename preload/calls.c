@@ -1,6 +1,6 @@
-/* Replaces msgget, msgsnd, msgrcv and msgctl of the C library by calls to a server. The dynamic
- * linker loads this library before a program's own ones. If SYSVMSG_PATH is not set, each call goes
- * to the C library. */
+/* Replaces msgget, msgsnd, msgrcv and msgctl of the C library by calls to a server, and what would
+ * pass them by: fopen of the list of queues, and dlopen. The dynamic linker loads this library
+ * before a program's own ones. If SYSVMSG_PATH is not set, each call goes to the C library. */
 #define _GNU_SOURCE
 #undef _FILE_OFFSET_BITS /* 64 would make fopen another name of fopen64 */
 #include <dlfcn.h>
@@ -17,6 +17,16 @@
 #include "requests.h"
 
 #define EXPORTED __attribute__((visibility("default")))
+
+/* For a return whose call has to be a jump. A compiler without it makes a jump if it optimizes. */
+#if defined __has_attribute
+#if __has_attribute(musttail)
+#define AS_JUMP __attribute__((musttail))
+#endif
+#endif
+#ifndef AS_JUMP
+#define AS_JUMP
+#endif
 
 #ifndef MSG_STAT_ANY
 #define MSG_STAT_ANY 13
@@ -35,33 +45,36 @@ typedef int snd_function(int, const void *, size_t, int);
 typedef ssize_t rcv_function(int, void *, size_t, long, int);
 typedef int ctl_function(int, int, struct msqid_ds *);
 typedef FILE *open_function(const char *, const char *);
+typedef void *load_function(const char *, int);
 
-/* The functions that the program would call without this library. */
+/* The functions that the program would call without this library, or null: no library has it. */
 static struct {
     get_function *get;
     snd_function *snd;
     rcv_function *rcv;
     ctl_function *ctl;
     open_function *open, *open64;
-} own;
+    load_function *load;
+} originals;
 
-static void find_own(void)
+static void find_originals(void)
 {
-    own.get = (get_function *)dlsym(RTLD_NEXT, "msgget");
-    own.snd = (snd_function *)dlsym(RTLD_NEXT, "msgsnd");
-    own.rcv = (rcv_function *)dlsym(RTLD_NEXT, "msgrcv");
-    own.ctl = (ctl_function *)dlsym(RTLD_NEXT, "msgctl");
-    own.open = (open_function *)dlsym(RTLD_NEXT, "fopen");
-    own.open64 = (open_function *)dlsym(RTLD_NEXT, "fopen64");
+    originals.get = (get_function *)dlsym(RTLD_NEXT, "msgget");
+    originals.snd = (snd_function *)dlsym(RTLD_NEXT, "msgsnd");
+    originals.rcv = (rcv_function *)dlsym(RTLD_NEXT, "msgrcv");
+    originals.ctl = (ctl_function *)dlsym(RTLD_NEXT, "msgctl");
+    originals.open = (open_function *)dlsym(RTLD_NEXT, "fopen");
+    originals.open64 = (open_function *)dlsym(RTLD_NEXT, "fopen64");
+    originals.load = (load_function *)dlsym(RTLD_NEXT, "dlopen");
 }
 
-/* Whether the calls go to the server. If not, `own` has the functions to call. Both are found when
- * the library is loaded, so that a signal handler finds them there, or earlier if the start of
+/* Whether the calls go to the server. If not, `originals` has the functions to call. Both are found
+ * when the library is loaded, so that a signal handler finds them there, or earlier if the start of
  * another library makes a call. */
 static bool is_ours(void)
 {
     static pthread_once_t found = PTHREAD_ONCE_INIT;
-    pthread_once(&found, find_own);
+    pthread_once(&found, find_originals);
     return has_server();
 }
 
@@ -80,7 +93,7 @@ EXPORTED int msgget(key_t key, int flags)
 {
     int id = -1;
     if (!is_ours())
-        return own.get(key, flags);
+        return originals.get ? originals.get(key, flags) : outcome(ENOSYS);
     int error = request_get(NULL, key, flags, &id);
     return error ? outcome(error) : id;
 }
@@ -89,7 +102,7 @@ EXPORTED int msgsnd(int id, const void *message, size_t size, int flags)
 {
     long type;
     if (!is_ours())
-        return own.snd(id, message, size, flags);
+        return originals.snd ? originals.snd(id, message, size, flags) : outcome(ENOSYS);
     pthread_testcancel();
     if (size > TEXT_MAX)
         return outcome(EINVAL);
@@ -104,7 +117,7 @@ EXPORTED ssize_t msgrcv(int id, void *message, size_t size, long type, int flags
 {
     size_t got;
     if (!is_ours())
-        return own.rcv(id, message, size, type, flags);
+        return originals.rcv ? originals.rcv(id, message, size, type, flags) : outcome(ENOSYS);
     pthread_testcancel();
     if (size > SSIZE_MAX || flags & MSG_COPY)
         return outcome(EINVAL);
@@ -253,7 +266,7 @@ static int stat_slot(int slot, int command, struct msqid_ds *to)
 EXPORTED int msgctl(int id, int command, struct msqid_ds *told)
 {
     if (!is_ours())
-        return own.ctl(id, command, told);
+        return originals.ctl ? originals.ctl(id, command, told) : outcome(ENOSYS);
     if (id < 0)
         return outcome(EINVAL);
     switch (command) {
@@ -275,18 +288,35 @@ static bool is_hidden(const char *name)
     return is_ours() && name && strcmp(name, "/proc/sysvipc/msg") == 0;
 }
 
-static FILE *no_file(void)
+static FILE *no_file(int error)
 {
-    errno = ENOENT;
+    errno = error;
     return NULL;
+}
+
+static FILE *open_file(open_function *open, const char *name, const char *mode)
+{
+    return open ? open(name, mode) : no_file(ENOSYS);
 }
 
 EXPORTED FILE *fopen(const char *name, const char *mode)
 {
-    return is_hidden(name) ? no_file() : own.open(name, mode);
+    return is_hidden(name) ? no_file(ENOENT) : open_file(originals.open, name, mode);
 }
 
 EXPORTED FILE *fopen64(const char *name, const char *mode)
 {
-    return is_hidden(name) ? no_file() : own.open64(name, mode);
+    return is_hidden(name) ? no_file(ENOENT) : open_file(originals.open64, name, mode);
+}
+
+/* A library that is loaded with RTLD_DEEPBIND would find the functions of the C library before
+ * these. So the flag is dropped. Where dlopen searches depends on its caller, which it finds by the
+ * return address. So the last call has to be a jump, which leaves that address as it is. */
+EXPORTED void *dlopen(const char *name, int flags)
+{
+    if (is_ours())
+        flags &= ~RTLD_DEEPBIND;
+    if (!originals.load)
+        return NULL;
+    AS_JUMP return originals.load(name, flags);
 }

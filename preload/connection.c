@@ -62,31 +62,35 @@ struct call {
 
 /* The connections of all threads, so that a child of fork can close its copies of them. */
 static struct connection connections[CONNECTIONS];
-static __thread struct connection *mine __attribute__((tls_model("initial-exec")));
-static __thread volatile sig_atomic_t in_call __attribute__((tls_model("initial-exec")));
+static __thread struct connection *own_connection __attribute__((tls_model("initial-exec")));
+/* Whether a call of this thread uses that connection. */
+static __thread volatile sig_atomic_t current_call __attribute__((tls_model("initial-exec")));
 
-static pthread_key_t at_thread_end;
+/* What is known from the start of the process on. */
+static struct {
+    bool has_server;        /* SYSVMSG_PATH names one */
+    bool keeps_connections; /* after a call */
+    bool has_standard_error;
+} settings;
+
+static pthread_once_t process_begun = PTHREAD_ONCE_INIT;
+static pthread_key_t thread_end;
 static pid_t process; /* the process whose connections these are */
-static bool serves;
-static bool keeps; /* connections after a call */
 static struct peer server = {.address = {.sun_family = AF_UNIX}};
 
-/* Standard error as it was when the library was loaded. */
-static bool has_standard_error;
+/* Standard error as it was when the library was loaded, if it was open. */
 static struct file standard_error;
 
 /* Held while a descriptor is opened or closed and `connections` is told. fork waits for it, so that
  * its child finds all its copies there. Signals are blocked meanwhile: a handler may fork. */
-static pthread_mutex_t descriptors = PTHREAD_MUTEX_INITIALIZER;
+static pthread_mutex_t descriptor_lock = PTHREAD_MUTEX_INITIALIZER;
 
 struct hold {
     bool is_held;
     sigset_t mask; /* before it */
 };
 
-static __thread struct hold at_fork __attribute__((tls_model("initial-exec")));
-
-static pthread_once_t process_begun = PTHREAD_ONCE_INIT;
+static __thread struct hold fork_hold __attribute__((tls_model("initial-exec")));
 
 bool peer_set_path(struct peer *peer, const char *path)
 {
@@ -106,7 +110,7 @@ static struct hold hold_descriptors(void)
     if (hold.is_held) {
         sigfillset(&all);
         pthread_sigmask(SIG_SETMASK, &all, &hold.mask);
-        pthread_mutex_lock(&descriptors);
+        pthread_mutex_lock(&descriptor_lock);
     }
     return hold;
 }
@@ -115,7 +119,7 @@ static void release_descriptors(const struct hold *hold)
 {
     if (!hold->is_held)
         return;
-    pthread_mutex_unlock(&descriptors);
+    pthread_mutex_unlock(&descriptor_lock);
     pthread_sigmask(SIG_SETMASK, &hold->mask, NULL);
 }
 
@@ -166,16 +170,16 @@ static void close_copy(struct connection *connection)
 
 static void end_thread(void *connection)
 {
-    in_call = 1;
+    current_call = 1;
     end_session(connection);
-    mine = NULL;
+    own_connection = NULL;
     atomic_store(&((struct connection *)connection)->taken, false);
-    in_call = 0;
+    current_call = 0;
 }
 
-static void before_fork(void) { at_fork = hold_descriptors(); }
+static void before_fork(void) { fork_hold = hold_descriptors(); }
 
-static void after_fork(void) { release_descriptors(&at_fork); }
+static void after_fork(void) { release_descriptors(&fork_hold); }
 
 /* Closes a forked child's copies of its parent's connections, and frees the places of the threads
  * that it doesn't have. */
@@ -186,17 +190,17 @@ static void begin_child(void)
         if (!atomic_load(&each->taken))
             continue;
         close_copy(each);
-        if (each != mine && !each->is_opened)
+        if (each != own_connection && !each->is_opened)
             atomic_store(&each->taken, false);
     }
-    release_descriptors(&at_fork);
+    release_descriptors(&fork_hold);
 }
 
 static void begin_process(void)
 {
     process = getpid();
-    keeps = pthread_key_create(&at_thread_end, end_thread) == 0
-            && pthread_atfork(before_fork, after_fork, begin_child) == 0;
+    settings.keeps_connections = pthread_key_create(&thread_end, end_thread) == 0
+                                 && pthread_atfork(before_fork, after_fork, begin_child) == 0;
 }
 
 static void begin(void)
@@ -207,16 +211,16 @@ static void begin(void)
     if (!word || !*word)
         return;
     peer_set_path(&server, word);
-    has_standard_error = note_file(STDERR_FILENO, &standard_error);
+    settings.has_standard_error = note_file(STDERR_FILENO, &standard_error);
     pthread_once(&process_begun, begin_process);
-    serves = true;
+    settings.has_server = true;
 }
 
 bool has_server(void)
 {
     static pthread_once_t begun = PTHREAD_ONCE_INIT;
     pthread_once(&begun, begin);
-    return serves;
+    return settings.has_server;
 }
 
 /* Writes to standard error. If that is a pipe without a reader, the SIGPIPE is taken back. */
@@ -240,7 +244,7 @@ static struct iovec piece(const char *text) { return (struct iovec){(void *)text
 static void say_once(const char *why)
 {
     static atomic_flag said = ATOMIC_FLAG_INIT;
-    if (atomic_flag_test_and_set(&said) || !has_standard_error
+    if (atomic_flag_test_and_set(&said) || !settings.has_standard_error
         || !is_file(STDERR_FILENO, &standard_error))
         return;
     struct iovec line[] = {piece("libsysvmsg_preload: "),
@@ -270,8 +274,8 @@ static int broken(struct connection *connection, const struct call *call, const 
 static void abandon(void *connection)
 {
     end_session(connection);
-    if (connection == mine)
-        in_call = 0;
+    if (connection == own_connection)
+        current_call = 0;
     atomic_store(&((struct connection *)connection)->in_use, false);
 }
 
@@ -679,8 +683,8 @@ static struct connection *take_place(const struct peer *peer)
 static void take_own_place(void)
 {
     struct connection *place = take_place(&server);
-    if (place && pthread_setspecific(at_thread_end, place) == 0)
-        mine = place;
+    if (place && pthread_setspecific(thread_end, place) == 0)
+        own_connection = place;
     else if (place)
         atomic_store(&place->taken, false);
 }
@@ -690,13 +694,13 @@ static void take_own_place(void)
  * descriptors, and a thread that found no place. */
 static struct connection *borrow(struct connection *single, const struct call *call)
 {
-    if (keeps && call->process == process && !in_call) {
-        in_call = 1;
-        if (!mine)
+    if (settings.keeps_connections && call->process == process && !current_call) {
+        current_call = 1;
+        if (!own_connection)
             take_own_place();
-        if (mine)
-            return mine;
-        in_call = 0;
+        if (own_connection)
+            return own_connection;
+        current_call = 0;
     }
     return single;
 }
@@ -718,7 +722,7 @@ static void give_back(struct connection *connection, struct connection *single)
     else if (connection->is_opened)
         atomic_store(&connection->in_use, false);
     else
-        in_call = 0;
+        current_call = 0;
 }
 
 /* Makes a call over a connection that is borrowed. */
@@ -750,8 +754,8 @@ int ask(struct connection *opened, struct frame *frame, bool may_wait, int milli
         .ends_by_signals = peer->ends_by_signals,
         .cancel_state = may_wait ? cancel_state : PTHREAD_CANCEL_DISABLE,
         .deadline = may_wait ? deadline_in(milliseconds_at_most) : 0};
-    struct connection *connection
-        = opened ? borrow_opened(opened, &single, &call) : borrow(&single, &call);
+    struct connection *connection =
+        opened ? borrow_opened(opened, &single, &call) : borrow(&single, &call);
     int error = make_call(connection, frame, &call);
     if (error == EIO && !opened)
         say_once(connection->why);

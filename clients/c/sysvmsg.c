@@ -60,8 +60,8 @@ EXPORTED struct sysvmsg *sysvmsg_open_as(
     struct sysvmsg *server = calloc(1, sizeof *server);
     if (!server)
         return NULL;
-    server->peer = (struct peer){
-        .ends_by_signals = true, .states_ids = true, .user = user, .group = group};
+    server->peer =
+        (struct peer){.ends_by_signals = true, .states_ids = true, .user = user, .group = group};
     return opened(server, path, milliseconds);
 }
 
@@ -101,8 +101,8 @@ EXPORTED int sysvmsg_snd(
     if (size > TEXT_MAX)
         return outcome(EINVAL);
     memcpy(&type, message, sizeof type);
-    return outcome(request_snd(server->connection, queue, type,
-        (const char *)message + sizeof type, size, wait_flag(milliseconds), milliseconds));
+    return outcome(request_snd(server->connection, queue, type, (const char *)message + sizeof type,
+        size, wait_flag(milliseconds), milliseconds));
 }
 
 EXPORTED ssize_t sysvmsg_rcv(struct sysvmsg *server, int queue, void *message, size_t size,
@@ -145,7 +145,7 @@ EXPORTED int sysvmsg_row(struct sysvmsg *server, int slot, struct sysvmsg_row *r
         return outcome(error);
     if (!found.present)
         return 0;
-    *row = (struct sysvmsg_row){
-        found.id, found.key, found.uid, found.mode, found.cbytes, found.qnum};
+    *row =
+        (struct sysvmsg_row){found.id, found.key, found.uid, found.mode, found.cbytes, found.qnum};
     return 1;
 }

@@ -1,11 +1,15 @@
-# Completes the command lines of sysvmsg(1) and sysvmsg-run(1) in bash. Other words, as PATH, complete to file names.
+# Completes the command lines of sysvmsg(1), sysvmsg-run(1) and sysvmsg-serve(8) in bash. Other words, as PATH, complete to
+# file names.
+
+# The options of a server with which sysvmsg-serve can be called too.
+_sysvmsg_server="--mode --replace --blocks --workers --at-once --sessions --idle --stall --drain"
 
 # Prints the options of a command, or the commands if the word is not a command.
 _sysvmsg_words() {
     local credentials="--me --uid --gid --pid"
     case $1 in
     script) echo "--help --version" ;;
-    serve) echo "--mode --replace --blocks --workers --at-once --sessions --until-eof --idle --stall --drain --help --version" ;;
+    serve) echo "$_sysvmsg_server --until-eof --help --version" ;;
     ipcs) echo "-i --json $credentials --help --version" ;;
     ipcmk) echo "--mode --qbytes $credentials --help --version" ;;
     ipcrm) echo "-q -Q --all $credentials --help --version" ;;
@@ -18,20 +22,24 @@ _sysvmsg_words() {
     esac
 }
 
+# Prints the place of -- among the words before the one to complete, or nothing.
+_sysvmsg_dashes() {
+    local place
+    for ((place = 1; place < COMP_CWORD; place++)); do
+        [ "${COMP_WORDS[place]}" != -- ] || { echo "$place" && return; }
+    done
+}
+
 _sysvmsg() {
-    local word=${COMP_WORDS[COMP_CWORD]} command="" before
+    local word=${COMP_WORDS[COMP_CWORD]} command=""
     [ "$COMP_CWORD" -gt 1 ] && command=${COMP_WORDS[1]}
     COMPREPLY=()
     # After -- a word is never an option.
-    for before in "${COMP_WORDS[@]:1:COMP_CWORD-1}"; do
-        [ "$before" != -- ] || return 0
-    done
+    [ -z "$(_sysvmsg_dashes)" ] || return 0
     if [ -z "$command" ] || [[ $word == -* ]]; then
         mapfile -t COMPREPLY < <(compgen -W "$(_sysvmsg_words "$command")" -- "$word")
     fi
 }
-
-complete -o default -F _sysvmsg sysvmsg
 
 # The second word is a program, and those after it are the program's own.
 _sysvmsg_run() {
@@ -39,4 +47,21 @@ _sysvmsg_run() {
     [ "$COMP_CWORD" -ne 2 ] || mapfile -t COMPREPLY < <(compgen -c -- "${COMP_WORDS[2]}")
 }
 
+# The word after -- is a program.
+_sysvmsg_serve() {
+    local word=${COMP_WORDS[COMP_CWORD]} dashes
+    COMPREPLY=()
+    dashes=$(_sysvmsg_dashes)
+    if [ -n "$dashes" ]; then
+        [ "$COMP_CWORD" -ne $((dashes + 1)) ] || mapfile -t COMPREPLY < <(compgen -c -- "$word")
+    elif [[ $word == -* ]]; then
+        case $COMP_CWORD in
+        1) mapfile -t COMPREPLY < <(compgen -W "--with --help --version" -- "$word") ;;
+        *) mapfile -t COMPREPLY < <(compgen -W "$_sysvmsg_server" -- "$word") ;;
+        esac
+    fi
+}
+
+complete -o default -F _sysvmsg sysvmsg
 complete -o default -F _sysvmsg_run sysvmsg-run
+complete -o default -F _sysvmsg_serve sysvmsg-serve

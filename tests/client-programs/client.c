@@ -1,5 +1,5 @@
-/* What tests/client-c tries of the library for clients in C: client PART PATH. It ends with status 0 if all is right, and
- * else says on which line it is not. */
+/* What tests/client-c tries of the library for clients in C: client PART PATH. It ends with status
+ * 0 if all is right, and else says on which line it is not. */
 #define _GNU_SOURCE
 #include <errno.h>
 #include <pthread.h>
@@ -17,12 +17,12 @@
 enum { MESSAGES = 120, THREADS = 8, ROUNDS = 100, KEY = 7 };
 
 /* assert, also in a build without it, and in a child too. */
-#define CHECK(condition) \
-    do { \
-        if (!(condition)) { \
-            fprintf(stderr, "line %d: %s (errno %d)\n", __LINE__, #condition, errno); \
-            _exit(1); \
-        } \
+#define CHECK(condition)                                                                           \
+    do {                                                                                           \
+        if (!(condition)) {                                                                        \
+            fprintf(stderr, "line %d: %s (errno %d)\n", __LINE__, #condition, errno);              \
+            _exit(1);                                                                              \
+        }                                                                                          \
     } while (0)
 
 static const char *path;
@@ -65,17 +65,19 @@ static void print_body(const struct sysvmsg_message *message, ssize_t size)
 
 static void print_stat(const struct sysvmsg_stat *s)
 {
-    printf("key=%d uid=%u gid=%u cuid=%u cgid=%u mode=%u cbytes=%u qnum=%u qbytes=%u lspid=%u lrpid=%u "
+    printf("key=%d uid=%u gid=%u cuid=%u cgid=%u mode=%u cbytes=%u qnum=%u qbytes=%u lspid=%u "
+           "lrpid=%u "
            "stime=%llu rtime=%llu ctime=%llu\n",
-        s->key, s->uid, s->gid, s->cuid, s->cgid, s->mode, s->cbytes, s->qnum, s->qbytes, s->lspid, s->lrpid,
-        (unsigned long long)s->stime, (unsigned long long)s->rtime, (unsigned long long)s->ctime);
+        s->key, s->uid, s->gid, s->cuid, s->cgid, s->mode, s->cbytes, s->qnum, s->qbytes, s->lspid,
+        s->lrpid, (unsigned long long)s->stime, (unsigned long long)s->rtime,
+        (unsigned long long)s->ctime);
 }
 
 static void print_row(int found, const struct sysvmsg_row *row)
 {
     if (found)
-        printf("id=%d key=%d uid=%u mode=%u cbytes=%u qnum=%u\n", row->id, row->key, row->uid, row->mode,
-            row->cbytes, row->qnum);
+        printf("id=%d key=%d uid=%u mode=%u cbytes=%u qnum=%u\n", row->id, row->key, row->uid,
+            row->mode, row->cbytes, row->qnum);
     else
         printf("\n");
 }
@@ -108,8 +110,8 @@ static int call(struct sysvmsg *server, char **w)
             server, number, &message, size, atoi(w[3]) & 2048 ? SYSVMSG_NOWAIT : SYSVMSG_NO_LIMIT);
     } else if (strcmp(name, "rcv") == 0) {
         int flags = atoi(w[4]);
-        result = (int)sysvmsg_rcv(server, number, &message, (size_t)atoi(w[2]), strtoll(w[3], NULL, 10), flags,
-            flags & 2048 ? SYSVMSG_NOWAIT : SYSVMSG_NO_LIMIT);
+        result = (int)sysvmsg_rcv(server, number, &message, (size_t)atoi(w[2]),
+            strtoll(w[3], NULL, 10), flags, flags & 2048 ? SYSVMSG_NOWAIT : SYSVMSG_NO_LIMIT);
         if (result >= 0)
             print_body(&message, result);
     } else if (strcmp(name, "stat") == 0) {
@@ -117,7 +119,8 @@ static int call(struct sysvmsg *server, char **w)
         if (result == 0)
             print_stat(&stat);
     } else if (strcmp(name, "set") == 0) {
-        struct sysvmsg_set set = {(uint32_t)atoi(w[2]), (uint32_t)atoi(w[3]), (uint32_t)atoi(w[4]), (uint32_t)atoi(w[5])};
+        struct sysvmsg_set set = {
+            (uint32_t)atoi(w[2]), (uint32_t)atoi(w[3]), (uint32_t)atoi(w[4]), (uint32_t)atoi(w[5])};
         result = sysvmsg_set(server, number, &set);
     } else if (strcmp(name, "rm") == 0) {
         result = sysvmsg_rm(server, number);
@@ -150,8 +153,10 @@ static void try_limits(void)
     int queue = sysvmsg_get(server, KEY, SYSVMSG_CREAT | 0600);
     struct sysvmsg_message message;
     CHECK(queue >= 0);
-    CHECK(sysvmsg_rcv(server, queue, &message, sizeof message.body, 0, 0, SYSVMSG_NOWAIT) == -1 && errno == ENOMSG);
-    CHECK(sysvmsg_rcv(server, queue, &message, sizeof message.body, 0, 0, 200) == -1 && errno == ETIMEDOUT);
+    CHECK(sysvmsg_rcv(server, queue, &message, sizeof message.body, 0, 0, SYSVMSG_NOWAIT) == -1
+          && errno == ENOMSG);
+    CHECK(sysvmsg_rcv(server, queue, &message, sizeof message.body, 0, 0, 200) == -1
+          && errno == ETIMEDOUT);
     CHECK(send_text(other, queue, 1, "later", 10000) == 0);
     CHECK(receives(server, queue, 0, "later"));
     struct sysvmsg_set set = {geteuid(), getegid(), 0600, 3};
@@ -163,7 +168,8 @@ static void try_limits(void)
     struct sysvmsg_stat stat;
     CHECK(sysvmsg_stat(other, queue, &stat) == 0 && stat.qnum == 0);
     CHECK(sysvmsg_rm(other, queue) == 0);
-    CHECK(sysvmsg_rcv(server, queue, &message, sizeof message.body, 0, 0, 200) == -1 && errno == EINVAL);
+    CHECK(sysvmsg_rcv(server, queue, &message, sizeof message.body, 0, 0, 200) == -1
+          && errno == EINVAL);
     sysvmsg_close(server);
     sysvmsg_close(other);
 }
@@ -192,7 +198,8 @@ static void try_races(void)
     CHECK(pthread_create(&sender, NULL, send_all, &queue) == 0);
     while (taken < MESSAGES) {
         struct sysvmsg_message message;
-        ssize_t size = sysvmsg_rcv(server, queue, &message, sizeof message.body - 1, 0, 0, 1 + rand_r(&seed) % 20);
+        ssize_t size = sysvmsg_rcv(
+            server, queue, &message, sizeof message.body - 1, 0, 0, 1 + rand_r(&seed) % 20);
         CHECK(size >= 0 || errno == ETIMEDOUT);
         if (size < 0) {
             given_up++;
@@ -271,7 +278,8 @@ static void try_signal(void)
     struct sysvmsg_message message;
     CHECK(sigaction(SIGALRM, &action, NULL) == 0);
     alarm(1);
-    CHECK(sysvmsg_rcv(server, queue, &message, sizeof message.body, 0, 0, SYSVMSG_NO_LIMIT) == -1 && errno == EINTR);
+    CHECK(sysvmsg_rcv(server, queue, &message, sizeof message.body, 0, 0, SYSVMSG_NO_LIMIT) == -1
+          && errno == EINTR);
     CHECK(send_text(server, queue, 1, "kept", 10000) == 0);
     CHECK(receives(server, queue, 0, "kept"));
     sysvmsg_close(server);
@@ -281,11 +289,13 @@ static void *wait_for_message(void *arg)
 {
     const struct worker *worker = arg;
     struct sysvmsg_message message;
-    sysvmsg_rcv(worker->server, worker->queue, &message, sizeof message.body, 0, 0, SYSVMSG_NO_LIMIT);
+    sysvmsg_rcv(
+        worker->server, worker->queue, &message, sizeof message.body, 0, 0, SYSVMSG_NO_LIMIT);
     return NULL;
 }
 
-/* A thread that is cancelled while its call waits takes nothing, and the connection can be used on. */
+/* A thread that is cancelled while its call waits takes nothing, and the connection can be used on.
+ */
 static void try_cancel(void)
 {
     struct sysvmsg *server = open_server();
@@ -294,7 +304,8 @@ static void try_cancel(void)
     void *result;
     CHECK(pthread_create(&thread, NULL, wait_for_message, &worker) == 0);
     sleep_micros(300000);
-    CHECK(pthread_cancel(thread) == 0 && pthread_join(thread, &result) == 0 && result == PTHREAD_CANCELED);
+    CHECK(pthread_cancel(thread) == 0 && pthread_join(thread, &result) == 0
+          && result == PTHREAD_CANCELED);
     CHECK(send_text(server, worker.queue, 1, "kept", 10000) == 0);
     CHECK(receives(server, worker.queue, 0, "kept"));
     sysvmsg_close(server);
@@ -334,9 +345,9 @@ int main(int count, char **words)
     static const struct {
         const char *name;
         void (*part)(void);
-    } parts[] = {{"limits", try_limits}, {"races", try_races}, {"threads", try_threads}, {"fork", try_fork},
-        {"signal", try_signal}, {"cancel", try_cancel}, {"no-worker", try_no_worker}, {"no-server", try_no_server},
-        {"many", try_many}};
+    } parts[] = {{"limits", try_limits}, {"races", try_races}, {"threads", try_threads},
+        {"fork", try_fork}, {"signal", try_signal}, {"cancel", try_cancel},
+        {"no-worker", try_no_worker}, {"no-server", try_no_server}, {"many", try_many}};
     if (count < 3)
         return 2;
     path = words[2];

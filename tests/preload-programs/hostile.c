@@ -53,7 +53,7 @@ static struct shared {
     bool hangs_up; /* after the hello */
     uint32_t asked;
     unsigned char request[LARGE];
-} *shared;
+} * shared;
 
 static uint64_t state;
 static unsigned long sessions, calls;

@@ -1,7 +1,7 @@
 //! An `ipcrm` of all queues: a session that removes each queue that it finds.
+
 ghost use Rattle.std.specs.Prelude.{◌≡◌, ◌++◌, ◌<◌, [], None, IfOk, IfSome, OnOk};
-ghost use Rattle.sysv_clients.specs.Clearing.{ClearsAll, Tries, begun, clearing_ask, id_of_row, is_gone};
-ghost use Rattle.sysv_clients.specs.Clearing.{moved, refusal_by};
+ghost use Rattle.sysv_clients.specs.Clearing.{ClearsAll, Tries, begun, clearing_ask, id_of_row, is_gone, moved, refusal_by};
 ghost use Rattle.sysv_clients.specs.declared.command.TheConstants.{MAX_ROWS};
 ghost use Rattle.sysv_model.specs.Watched.{stream_name, stream_of};
 

@@ -1,7 +1,7 @@
 //! The commands of a client.
+
 ghost use Rattle.std.specs.Prelude.{◌≡◌, ◌<◌, false, true, IfSome, slice_get};
-ghost use Rattle.sysv_clients.specs.Asks.{asks_of, find_ask, is_receive, make_asks, receive_ask, receive_asks, remove_asks, row_asks, task_asks};
-ghost use Rattle.sysv_clients.specs.Asks.{flags_to_create, flags_to_find, flags_to_make, flags_to_receive, flags_to_wait};
+ghost use Rattle.sysv_clients.specs.Asks.{asks_of, find_ask, is_receive, make_asks, receive_ask, receive_asks, remove_asks, row_asks, task_asks, flags_to_create, flags_to_find, flags_to_make, flags_to_receive, flags_to_wait};
 
 use bitflags::Flags as _;
 use sysv_model::{Cred, Flags, SetTo};

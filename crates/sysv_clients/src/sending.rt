@@ -1,9 +1,9 @@
 //! A `snd` of several messages: a session that sends each line of an input as a message.
+
 ghost use Rattle.std.specs.Prelude.{◌≡◌, [], IfOk};
 ghost use Rattle.sysv_clients.specs.Feed.{failure_of, feed_name, feed_stream};
 ghost use Rattle.sysv_clients.specs.Lines.{FailsBy};
-ghost use Rattle.sysv_clients.specs.Sending.{SendsAll, unsent_line};
-ghost use Rattle.sysv_clients.specs.Sending.{find_to_send, send_ask};
+ghost use Rattle.sysv_clients.specs.Sending.{SendsAll, unsent_line, find_to_send, send_ask};
 ghost use Rattle.sysv_model.specs.Watched.{stream_name, stream_of};
 
 use crate::client::found;

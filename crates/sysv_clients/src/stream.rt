@@ -1,9 +1,8 @@
 //! A `rcv` of several messages: a session that shows each message as it comes.
-ghost use Rattle.std.specs.Prelude.{◌≡◌, ◌+◌, ◌<◌, ◌≤◌, [], length, slice_get, is_err, IfOk, IfSome};
-ghost use Rattle.std.specs.Prelude.{OnOk, OnErr};
+
+ghost use Rattle.std.specs.Prelude.{◌≡◌, ◌+◌, ◌<◌, ◌≤◌, [], length, slice_get, is_err, IfOk, IfSome, OnOk, OnErr};
 ghost use Rattle.std.specs.Io.KnownBytes.{Appends};
-ghost use Rattle.sysv_clients.specs.Stream.{TakesAll, calling_asks, is_of_screen, message_asks};
-ghost use Rattle.sysv_clients.specs.Stream.{received_text, receiving_asks, stop_line};
+ghost use Rattle.sysv_clients.specs.Stream.{TakesAll, calling_asks, is_of_screen, message_asks, received_text, receiving_asks, stop_line};
 ghost use Rattle.sysv_model.specs.Watched.{KeepsStream, stream_name, stream_of};
 ghost use Rattle.sysv_model.specs.Writing.{AppendsPrefix};
 ghost use Rattle.sysv_model.specs.declared.limits.TheConstants.{MESSAGE_BYTES};

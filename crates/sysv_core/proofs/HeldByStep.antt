@@ -18,11 +18,11 @@ use Rattle.sysv_steps.specs.Asks.{asks}
 use Rattle.sysv_steps.specs.Seen.{phase_of, state_of}
 use Rattle.sysv_steps.specs.declared.state.State.{State as StateKept}
 use Rattle.sysv_steps.specs.declared.state.Phase.{Phase as PhaseKept}
-use Rattle.sysv_driver.specs.Kinds.{Gets}
-use Rattle.sysv_driver.specs.Kinds.{Sends as IsOfSend}
-use Rattle.sysv_driver.specs.Kinds.{Receives as IsOfReceive}
-use Rattle.sysv_driver.specs.Stepping.{is_stamped, StepsOn}
-use Rattle.sysv_driver.specs.Giving.{StepsGiving}
+use Rattle.sysv_steps.specs.Kinds.{Gets}
+use Rattle.sysv_steps.specs.Kinds.{Sends as IsOfSend}
+use Rattle.sysv_steps.specs.Kinds.{Receives as IsOfReceive}
+use Rattle.sysv_steps.specs.Stepping.{is_stamped, StepsOn}
+use Rattle.sysv_steps.specs.Giving.{StepsGiving}
 use Rattle.sysv_core.specs.declared.doing.Led.{Led}
 use Rattle.sysv_core.specs.Led.{LeadsTo, TurnLeads}
 use Rattle.sysv_core.specs.Kinds.{Kind, Sends, Receives, Bare, kind_of, phase_kind, gives_back, brings}

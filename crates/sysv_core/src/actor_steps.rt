@@ -9,8 +9,8 @@ ghost use Rattle.sysv_steps.specs.Begin.{begin as begins};
 ghost use Rattle.sysv_steps.specs.State.{Goes, Waits};
 ghost use Rattle.sysv_steps.specs.Resume.{awaited};
 ghost use Rattle.sysv_steps.specs.Seen.{phase_of, wait_of, state_of, ending_of};
-ghost use Rattle.sysv_driver.specs.Kinds.{Sends, Receives};
-ghost use Rattle.sysv_driver.specs.Stepping.{StepsOn};
+ghost use Rattle.sysv_steps.specs.Kinds.{Sends, Receives};
+ghost use Rattle.sysv_steps.specs.Stepping.{StepsOn};
 ghost use Rattle.sysv_core.specs.World.{value_of};
 ghost use Rattle.sysv_core.specs.Answered.{TellsEnding, outcome_of, text_given, body_with};
 ghost use Rattle.sysv_steps.specs.Asked.{asked_of};
@@ -23,14 +23,13 @@ ghost use Rattle.sysv_core.specs.Led.{LeadsTo, TurnLeads, LookLeads, StepLeads};
 
 use crate::doing::{Doing, Ended, Led};
 use crate::event::Standing;
-use sysv_driver::{Clock, get_step, receive_step, remove_step, send_step, set_step, stat_step};
 use sysv_model::{Body, Cred};
 use sysv_objects::{Directly, Objects};
 use sysv_pool::Chain;
 use sysv_queue::Delivery;
 use sysv_steps::{
-    Call, Ending, Getting, Outcome, Phase, Receiving, Sending, State, Wait, begin_remove,
-    begin_set, begin_stat,
+    Call, Clock, Ending, Getting, Outcome, Phase, Receiving, Sending, State, Wait, begin_remove,
+    begin_set, begin_stat, get_step, receive_step, remove_step, send_step, set_step, stat_step,
 };
 
 /// Starts a call. `released` is the released count at that time.

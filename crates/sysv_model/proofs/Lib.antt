@@ -1,3 +1,4 @@
 pub mod Boxed
 pub mod Snoc
 pub mod Writing
+pub mod Sharing

@@ -1,3 +1,5 @@
+pub use Rattle.sysv_lists.specs.Numbers
+pub use Rattle.sysv_lists.specs.Prefix
 pub mod Errors
 pub mod Blocks
 pub mod Body
@@ -12,3 +14,5 @@ pub mod Pool
 pub mod Turn
 pub mod Watched
 pub mod Writing
+pub mod Turns
+pub mod Members

@@ -7,7 +7,7 @@ use Rattle.sysv_lists.proofs.Orders.{at_most}
 use Rattle.sysv_model.specs.declared.cred.Cred.{Cred}
 use Rattle.std.specs.List.{range_with_len}
 use Rattle.sysv_steps.specs.Call.{SystemCall}
-use Rattle.sysv_lines.specs.declared.names.Operation.{Operation}
+use Rattle.sysv_script.specs.declared.names.Operation.{Operation}
 use Rattle.sysv_core.specs.declared.event.Event.{Event}
 use Rattle.sysv_core.specs.declared.event.Event.TheVariants.{Start, Step}
 use Rattle.sysv_core.specs.declared.event.Stepped.{Stepped}
@@ -16,22 +16,22 @@ use Rattle.sysv_core.specs.World.{World, actor_at, Presets}
 use Rattle.sysv_core.specs.Sound.{IsSound, OpensSound}
 use Rattle.sysv_core.specs.SomeRun.{SomeStep, SomePreset}
 use Rattle.sysv_script.specs.Faults.{bad_line_text}
-use Rattle.sysv_lines.specs.Heads.{head_text}
-use Rattle.sysv_lines.specs.declared.head.Head.TheVariants as head
-use Rattle.sysv_lines.specs.Lines.{Says}
-use Rattle.sysv_lines.specs.Said.{Said, Nothing, MakesPreset, GivesCred, GivesMoment, Starts, StepsOnce, Continues}
-use Rattle.sysv_lines.specs.Said.{AllContinue, GivesBlocks}
+use Rattle.sysv_script.specs.Heads.{head_text}
+use Rattle.sysv_script.specs.declared.head.Head.TheVariants as head
+use Rattle.sysv_script.specs.Lines.{Says}
+use Rattle.sysv_script.specs.Said.{Said, Nothing, MakesPreset, GivesCred, GivesMoment, Starts, StepsOnce, Continues}
+use Rattle.sysv_script.specs.Said.{AllContinue, GivesBlocks}
 use Rattle.sysv_script.specs.Scene.{Scene, opening_scene, opening_world, begun_scene, first_cred, in_world, cred_at}
 use Rattle.sysv_script.specs.Scene.{with_cred, Advances, GoesOn, call_for, most_steps, CallRuns, StartRuns, StepsRun}
 use Rattle.sysv_script.specs.Scene.{OneRuns, AllRun, LineRuns, under_way, printed}
-use Rattle.sysv_lines.specs.Names.{operation_of}
+use Rattle.sysv_script.specs.Names.{operation_of}
 use Rattle.sysv_script.specs.ScriptText.{BeginsWith, LineDoes, IsBad, Ending, Whole, BadLine, TooMany, Prints, Ends}
 use Rattle.sysv_script.specs.ScriptText.{Exceeds, Fails, Goes}
 use Rattle.sysv_script.specs.EachText.{EachTextPrints}
 use Rattle.sysv_script.specs.CredHeld.{cred_held}
 use Rattle.sysv_script.proofs.EmptyWorldSound.{opening_sound}
 use Rattle.sysv_words.specs.OneSplit.{OneSplit}
-use Rattle.sysv_lines.specs.OneLine.{EachLineIsDecided}
+use Rattle.sysv_script.specs.OneLine.{EachLineIsDecided}
 
 -- ---- the first line of a text
 

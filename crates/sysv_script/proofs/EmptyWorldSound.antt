@@ -1,7 +1,7 @@
 -- The world in which nothing has happened is sound.
 use Rattle.std.proofs.Common.{ℕ}
 use Rattle.sysv_core.specs.Sound.{IsSound, OpensSound}
-use Rattle.sysv_lines.specs.declared.actor.TheConstants.{SCRIPT_ACTORS}
+use Rattle.sysv_script.specs.declared.actor.TheConstants.{SCRIPT_ACTORS}
 use Rattle.sysv_script.specs.Scene.{opening_world}
 
 pub opening_sound : OpensSound → (blocks : ℕ) → IsSound (opening_world blocks)

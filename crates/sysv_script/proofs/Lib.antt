@@ -1,3 +1,7 @@
+pub mod CallNames
+pub mod LineKinds
+pub mod CallsReadOnce
+pub mod OneSaying
 pub mod CredLemmas
 pub mod PositionSeen
 pub mod StepsOfCall
@@ -21,3 +25,4 @@ pub mod StepKeepsOperation
 pub mod OwnOperation
 pub mod ResultsPrinted
 pub mod ScriptRun
+pub mod ObeyingRun

@@ -3,7 +3,7 @@ use Rattle.std.proofs.Common.{◌≡◌, ◌<◌, ℕ, List, length, arith}
 use Rattle.std.proofs.lemmas.Option.{slice_get_within}
 use Rattle.std.specs.Prelude.{refl}
 use Rattle.std.proofs.Common.{◌≤◌, Option, Bool, true, false}
-use Rattle.sysv_script.specs.declared.lines.Found.{Found}
+use Rattle.sysv_script.specs.declared.line_reader.Found.{Found}
 use Rattle.sysv_script.specs.Found.{IsNextLine}
 
 pub IsNextLine-behind : (found : Found) (text : List ℕ) (left : Option (List ℕ)) → IsNextLine found text left →

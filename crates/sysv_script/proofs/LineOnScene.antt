@@ -2,9 +2,9 @@
 use Rattle.std.proofs.Common.{◌≡◌, ℕ, Bool, List, ◌++◌, refl}
 use Rattle.std.specs.Prelude.{Result, Ok, Err, IfOk, false}
 use Rattle.sysv_model.specs.declared.no_memory.NoMemory.{NoMemory}
-use Rattle.sysv_lines.specs.SaidBy.{said_of}
-use Rattle.sysv_lines.specs.declared.line.Line.{Line}
-use Rattle.sysv_lines.specs.declared.line.Line.TheVariants as line
+use Rattle.sysv_script.specs.SaidBy.{said_of}
+use Rattle.sysv_script.specs.declared.line.Line.{Line}
+use Rattle.sysv_script.specs.declared.line.Line.TheVariants as line
 use Rattle.sysv_script.specs.Scene.{Scene, begun_scene, LineActs, LineRuns}
 use Rattle.sysv_script.specs.Staged.{IsSceneOf}
 use Rattle.sysv_script.specs.declared.stage.Stage.{Stage}

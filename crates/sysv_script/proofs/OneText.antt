@@ -4,7 +4,7 @@ use Rattle.std.proofs.Common.{[], ◌∷◌, ◌++◌, length, length-append, re
 use Rattle.std.specs.List.{range_with_len}
 use Rattle.std.proofs.Common.{Bool, if◌then◌else◌}
 use Rattle.sysv_steps.specs.Call.{SystemCall}
-use Rattle.sysv_lines.specs.declared.names.Operation.{Operation}
+use Rattle.sysv_script.specs.declared.names.Operation.{Operation}
 use Rattle.sysv_steps.specs.declared.call.Call.{Call}
 use Rattle.sysv_core.specs.Seen.{happening_of}
 use Rattle.sysv_core.specs.Sound.{IsSound, OpensSound, StaysSound}
@@ -15,12 +15,12 @@ use Rattle.sysv_core.specs.declared.event.Stepped.{Stepped}
 use Rattle.sysv_core.specs.declared.event.Stepped.TheVariants as stepped
 use Rattle.sysv_model.specs.declared.cred.Cred.{Cred}
 use Rattle.sysv_core.specs.World.{World, Preset, actor_at, Presets}
-use Rattle.sysv_lines.specs.Said.{Said, Nothing, MakesPreset, GivesCred, GivesMoment, Starts, StepsOnce, Continues}
-use Rattle.sysv_lines.specs.Said.{AllContinue, GivesBlocks}
+use Rattle.sysv_script.specs.Said.{Said, Nothing, MakesPreset, GivesCred, GivesMoment, Starts, StepsOnce, Continues}
+use Rattle.sysv_script.specs.Said.{AllContinue, GivesBlocks}
 use Rattle.sysv_script.specs.Scene.{Scene, in_world, begun_scene, opening_world, LineActs, Advances, GoesOn, StartsAs}
 use Rattle.sysv_script.specs.Scene.{call_for, most_steps, CallRuns, StartRuns, StepsRun, OneRuns, AllRun, LineRuns}
 use Rattle.sysv_script.specs.Scene.{under_way, printed}
-use Rattle.sysv_lines.specs.Names.{operation_of}
+use Rattle.sysv_script.specs.Names.{operation_of}
 use Rattle.sysv_lists.specs.Prefix.{IsPrefixOf}
 use Rattle.sysv_script.specs.Faults.{bad_line_text}
 use Rattle.sysv_script.specs.ScriptText.{BeginsWith, LineDoes, IsBad, Ending, Whole, BadLine, TooMany, Prints, Ends}
@@ -28,7 +28,7 @@ use Rattle.sysv_script.specs.ScriptText.{Exceeds, Fails, Goes}
 use Rattle.sysv_script.specs.Sofar.{PrintsSofar, Here, Past}
 use Rattle.sysv_script.specs.OneText.{OneText}
 use Rattle.sysv_words.specs.OneSplit.{OneSplit}
-use Rattle.sysv_lines.specs.OneLine.{OneSaying}
+use Rattle.sysv_script.specs.OneLine.{OneSaying}
 use Rattle.sysv_core.specs.OneRun.{OneStep, OnePreset}
 
 module _ (split : OneSplit) (saying : OneSaying) where

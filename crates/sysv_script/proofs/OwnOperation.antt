@@ -12,9 +12,9 @@ use Rattle.sysv_core.specs.World.{actor_at, doing_in, given_in, begun, starting,
 use Rattle.sysv_core.specs.World.{StartsAt, StepsAt, StaysWith, opening}
 use Rattle.sysv_core.proofs.Lists.{get_set_same}
 use Rattle.sysv_core.proofs.SoundStays.{does, moved, other}
-use Rattle.sysv_lines.specs.declared.names.Operation.{Operation}
-use Rattle.sysv_lines.specs.declared.names.Operation.TheVariants.{Get}
-use Rattle.sysv_lines.specs.Names.{operation_of}
+use Rattle.sysv_script.specs.declared.names.Operation.{Operation}
+use Rattle.sysv_script.specs.declared.names.Operation.TheVariants.{Get}
+use Rattle.sysv_script.specs.Names.{operation_of}
 use Rattle.sysv_script.specs.Scene.{operation_in, under_way}
 use Rattle.sysv_script.proofs.StepKeepsOperation.{StandsAs, next_as, resumed_as, begin_as_asked, operation_goes}
 

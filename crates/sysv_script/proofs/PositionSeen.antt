@@ -7,11 +7,11 @@ use Rattle.sysv_steps.specs.State.{State}
 use Rattle.sysv_core.specs.World.{World, Doing, actor_at}
 use Rattle.sysv_core.specs.Seen.{Seen, IsSeenAs, state_in}
 use Rattle.sysv_core.specs.Standing.{state_at, stands_at, StandsThere, StandsNowhere}
-use Rattle.sysv_lines.specs.Heads.{head_text}
-use Rattle.sysv_lines.specs.Names.{standing_text}
-use Rattle.sysv_lines.specs.declared.head.Head.{Head}
-use Rattle.sysv_lines.specs.declared.head.Head.TheVariants as head
-use Rattle.sysv_lines.specs.declared.names.Operation.{Operation}
+use Rattle.sysv_script.specs.Heads.{head_text}
+use Rattle.sysv_script.specs.Names.{standing_text}
+use Rattle.sysv_script.specs.declared.head.Head.{Head}
+use Rattle.sysv_script.specs.declared.head.Head.TheVariants as head
+use Rattle.sysv_script.specs.declared.names.Operation.{Operation}
 use Rattle.sysv_script.specs.Scene.{operation_in, under_way, standing_line}
 
 seen_at : (actors : List (Option Doing)) (states : List (Option State)) (actor : ℕ) → map state_in actors ≡ states →

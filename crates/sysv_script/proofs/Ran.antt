@@ -3,8 +3,8 @@ use Rattle.std.proofs.Common.{◌≡◌, ◌+◌, ℕ, inr, Bool, true, false, L
 use Rattle.std.proofs.Common.{◌∙◌, arith, refl}
 use Rattle.std.specs.Prelude.{Result, Ok, Err, IfOk}
 use Rattle.sysv_model.specs.declared.no_memory.NoMemory.{NoMemory}
-use Rattle.sysv_lines.specs.Said.{Said}
-use Rattle.sysv_lines.specs.Lines.{Says}
+use Rattle.sysv_script.specs.Said.{Said}
+use Rattle.sysv_script.specs.Lines.{Says}
 use Rattle.sysv_script.specs.Scene.{Scene, LineRuns}
 use Rattle.sysv_script.specs.ScriptSofar.{LineEnds}
 use Rattle.sysv_script.specs.Staged.{IsSceneOf}

@@ -8,8 +8,8 @@ use Rattle.sysv_core.specs.Seen.{Gives, Tells}
 use Rattle.sysv_core.specs.World.{World, Happening, Given, Doing, Start, Step, Makes, actor_at}
 use Rattle.sysv_core.specs.declared.event.Stepped.{Stepped}
 use Rattle.sysv_core.specs.declared.event.Stepped.TheVariants as stepped
-use Rattle.sysv_lines.specs.declared.names.Operation.{Operation}
-use Rattle.sysv_lines.specs.Names.{operation_of}
+use Rattle.sysv_script.specs.declared.names.Operation.{Operation}
+use Rattle.sysv_script.specs.Names.{operation_of}
 use Rattle.sysv_script.specs.Scene.{Scene, GoesOn, CallRuns, call_for, most_steps, printed, standing_line, under_way}
 use Rattle.sysv_script.specs.Results.{IsResultOf, IsWithoutResult, HasResults, Empty, Result, Without, LeadsPrinting}
 use Rattle.sysv_script.proofs.OwnOperation.{AreOwn, AreOf, CallsAs, step_leaves, start_leaves}

@@ -25,7 +25,7 @@ use Rattle.sysv_script.specs.ScriptText.{Fails, Goes}
 use Rattle.sysv_script.specs.Sofar.{PrintsSofar, Here, Past}
 use Rattle.sysv_script.specs.ScriptSofar.{Halt, AtEnd, Before, Runs, IsText, RunsOn, LeavesAll, LeavesPrefix}
 use Rattle.sysv_script.specs.ScriptSofar.{LeavesRead}
-use Rattle.sysv_script.specs.declared.lines.Found.{Found}
+use Rattle.sysv_script.specs.declared.line_reader.Found.{Found}
 
 pub begins_text : (s : Scene) (now : Stage) (text waiting : List ℕ) (left old : Option (List ℕ)) (composed : List ℕ) →
     composed ≡ [] → IsSceneOf s now → IsText waiting left text →

@@ -21,7 +21,7 @@ use Rattle.sysv_script.specs.OneText.{OneText}
 use Rattle.sysv_script.specs.EachText.{EachTextPrints}
 use Rattle.sysv_script.specs.ScriptSofar.{Halt, AtEnd, Before, Runs, IsText, RunsOn, RunsNext, LeavesAll, LeavesPrefix}
 use Rattle.sysv_script.specs.ScriptSofar.{LeavesRead, LeavesAtFault, Leaves}
-use Rattle.sysv_script.specs.declared.lines.Found.{Found}
+use Rattle.sysv_script.specs.declared.line_reader.Found.{Found}
 use Rattle.sysv_script.specs.declared.fault.ScriptFault.{ScriptFault}
 use Rattle.sysv_script.specs.declared.fault.ScriptFault.TheVariants.{Line, Read, Write, NoMemory, Bound}
 use Rattle.sysv_script.proofs.RunSofar.{fails_at, stops_front}

@@ -7,11 +7,11 @@ use Rattle.sysv_steps.specs.Call.{SystemCall}
 use Rattle.sysv_core.specs.World.{World, Preset, actor_at, opening}
 use Rattle.sysv_core.specs.declared.event.Stepped.{Stepped}
 use Rattle.sysv_core.specs.declared.event.Stepped.TheVariants as stepped
-use Rattle.sysv_lines.specs.Said.{Said, Nothing, MakesPreset, GivesCred, GivesMoment, Starts, StepsOnce, Continues}
-use Rattle.sysv_lines.specs.Said.{AllContinue, GivesBlocks}
-use Rattle.sysv_lines.specs.Names.{operation_of}
-use Rattle.sysv_lines.specs.declared.actor.TheConstants.{SCRIPT_ACTORS}
-use Rattle.sysv_lines.specs.declared.names.Operation.{Operation}
+use Rattle.sysv_script.specs.Said.{Said, Nothing, MakesPreset, GivesCred, GivesMoment, Starts, StepsOnce, Continues}
+use Rattle.sysv_script.specs.Said.{AllContinue, GivesBlocks}
+use Rattle.sysv_script.specs.Names.{operation_of}
+use Rattle.sysv_script.specs.declared.actor.TheConstants.{SCRIPT_ACTORS}
+use Rattle.sysv_script.specs.declared.names.Operation.{Operation}
 use Rattle.sysv_script.specs.Scene.{Scene, in_world, begun_scene, opening_scene, opening_world, LineActs}
 use Rattle.sysv_script.specs.Scene.{GoesOn, CallRuns, StartRuns, StepsRun, OneRuns, AllRun, LineRuns, under_way}
 use Rattle.sysv_script.specs.Scene.{most_steps}

@@ -19,10 +19,10 @@ use Rattle.sysv_steps.specs.Next.{waits_or, goes_on, after_begin, after_install,
 use Rattle.sysv_steps.specs.Next.{after_probe, after_look, after_reserve, after_place, after_giveback, after_take}
 use Rattle.sysv_steps.specs.Next.{after_stat, after_set, after_remove, after_forget, next}
 use Rattle.sysv_steps.specs.Resume.{resume}
-use Rattle.sysv_lines.specs.declared.names.Operation.{Operation}
-use Rattle.sysv_lines.specs.declared.names.Operation.TheVariants.{Get, Send, Receive, Stat as OfStat, Set as OfSet}
-use Rattle.sysv_lines.specs.declared.names.Operation.TheVariants.{Remove as OfRemove}
-use Rattle.sysv_lines.specs.Names.{operation_of, operation_at, operation_of_wait}
+use Rattle.sysv_script.specs.declared.names.Operation.{Operation}
+use Rattle.sysv_script.specs.declared.names.Operation.TheVariants.{Get, Send, Receive, Stat as OfStat, Set as OfSet}
+use Rattle.sysv_script.specs.declared.names.Operation.TheVariants.{Remove as OfRemove}
+use Rattle.sysv_script.specs.Names.{operation_of, operation_at, operation_of_wait}
 
 -- The wait that follows the release of a chain is one of a call of this operation.
 abbrev pub WaitsAs : Operation → Afterwards → Type 0

@@ -2,8 +2,8 @@
 -- line states its number, counted from 1, and a script has at most 1,000,000 lines.
 use Rattle.std.specs.Prelude.{◌≡◌, ◌≤◌, ⊤, ℕ, Bool, true, false, List, [], ◌∷◌, ◌++◌, Option, Result, Ok, Err}
 use Rattle.std.specs.Io.KnownBytes.{Appends}
-use Rattle.sysv_lines.specs.Heads.{head_text}
-use Rattle.sysv_lines.specs.declared.head.Head.TheVariants.{Bad}
+use Rattle.sysv_script.specs.Heads.{head_text}
+use Rattle.sysv_script.specs.declared.head.Head.TheVariants.{Bad}
 use Rattle.sysv_lists.specs.Prefix.{IsPrefixOf}
 use Rattle.sysv_script.specs.declared.fault.TheConstants.{SCRIPT_LINES}
 use Rattle.sysv_script.specs.declared.fault.ScriptFault.{ScriptFault}

@@ -3,8 +3,8 @@
 use Rattle.std.specs.Prelude.{◌≡◌, ◌<◌, ◌⊎◌, ℕ, List, [], Option, Some, None, length, take, slice_get, true, false}
 use Rattle.std.specs.Prelude.{Contains}
 use Rattle.std.specs.Io.KnownBytes.{IsAtEnd}
-use Rattle.sysv_lines.specs.declared.line.TheConstants.{LINE_BYTES}
-use Rattle.sysv_script.specs.declared.lines.Found.{Found}
+use Rattle.sysv_script.specs.declared.line.TheConstants.{LINE_BYTES}
+use Rattle.sysv_script.specs.declared.line_reader.Found.{Found}
 
 -- The text contains no LF.
 abbrev pub HasNoEnd : List ℕ → Type 0

@@ -1,10 +1,16 @@
+pub use Rattle.sysv_steps.specs.State
+pub use Rattle.sysv_steps.specs.Call
+pub use Rattle.sysv_words.specs.Words
+pub use Rattle.sysv_words.specs.FlagNames
+pub use Rattle.sysv_words.specs.Octal
 pub use Rattle.sysv_core.specs.World
 pub use Rattle.sysv_core.specs.Run
-pub use Rattle.sysv_lines.specs.Heads
-pub use Rattle.sysv_lines.specs.Names
-pub use Rattle.sysv_lines.specs.Said
-pub use Rattle.sysv_lines.specs.Lines
-pub use Rattle.sysv_words.specs.Words
+pub mod Heads
+pub mod Names
+pub mod Said
+pub mod Lines
+pub mod SaidBy
+pub mod OneLine
 pub mod Scene
 pub mod CredHeld
 pub mod Staged
@@ -19,3 +25,4 @@ pub mod Written
 pub mod ScriptSofar
 pub mod Results
 pub mod ScriptRun
+pub mod ObeyingRun

@@ -6,9 +6,9 @@ use Rattle.sysv_core.specs.World.{World, Opening, Happening, Given, opening}
 use Rattle.sysv_core.specs.Run.{Leads}
 use Rattle.sysv_core.specs.Seen.{Tells}
 use Rattle.sysv_core.specs.declared.event.Answer.{Answer}
-use Rattle.sysv_lines.specs.declared.head.Head.TheVariants as head
-use Rattle.sysv_lines.specs.Heads.{head_text}
-use Rattle.sysv_lines.specs.Names.{operation_of, standing_text}
+use Rattle.sysv_script.specs.declared.head.Head.TheVariants as head
+use Rattle.sysv_script.specs.Heads.{head_text}
+use Rattle.sysv_script.specs.Names.{operation_of, standing_text}
 
 -- The line for the result of a call that is over: its actor, its kind, its outcome, and the bytes
 -- of the message that it returned.

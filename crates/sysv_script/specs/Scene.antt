@@ -17,13 +17,13 @@ use Rattle.sysv_core.specs.declared.event.Stepped.{Stepped}
 use Rattle.sysv_core.specs.declared.event.Stepped.TheVariants as stepped
 use Rattle.sysv_core.specs.World.{World, Doing, actor_at, opening, Presets}
 use Rattle.sysv_core.specs.Seen.{Steps}
-use Rattle.sysv_lines.specs.Said.{Said, Nothing, MakesPreset, GivesCred, GivesMoment, Starts, StepsOnce, Continues}
-use Rattle.sysv_lines.specs.Said.{AllContinue, GivesBlocks}
-use Rattle.sysv_lines.specs.declared.names.Operation.{Operation}
-use Rattle.sysv_lines.specs.declared.head.Head.TheVariants as head
-use Rattle.sysv_lines.specs.Heads.{head_text}
-use Rattle.sysv_lines.specs.Names.{operation_at, operation_of, operation_of_wait, standing_text}
-use Rattle.sysv_lines.specs.declared.actor.TheConstants.{SCRIPT_ACTORS}
+use Rattle.sysv_script.specs.Said.{Said, Nothing, MakesPreset, GivesCred, GivesMoment, Starts, StepsOnce, Continues}
+use Rattle.sysv_script.specs.Said.{AllContinue, GivesBlocks}
+use Rattle.sysv_script.specs.declared.names.Operation.{Operation}
+use Rattle.sysv_script.specs.declared.head.Head.TheVariants as head
+use Rattle.sysv_script.specs.Heads.{head_text}
+use Rattle.sysv_script.specs.Names.{operation_at, operation_of, operation_of_wait, standing_text}
+use Rattle.sysv_script.specs.declared.actor.TheConstants.{SCRIPT_ACTORS}
 use Rattle.sysv_script.specs.declared.stage.TheConstants.{SCRIPT_BLOCKS, MAX_STEPS}
 
 -- What a script runs on: the world, the credentials of each actor, those of actor A at place A - 1,

@@ -4,7 +4,7 @@
 use Rattle.std.specs.Prelude.{◌≡◌, ◌⊎◌, ℕ, Bool, true, List, [], ◌++◌}
 use Rattle.sysv_core.specs.Run.{Leads}
 use Rattle.sysv_core.specs.World.{World, Opening, Happening, Given, opening}
-use Rattle.sysv_lines.specs.Said.{Said}
+use Rattle.sysv_script.specs.Said.{Said}
 use Rattle.sysv_script.specs.Scene.{Scene, opening_scene, opening_world, LineRuns}
 use Rattle.sysv_script.specs.Faults.{bad_line_text}
 use Rattle.sysv_script.specs.ScriptText.{Ending, Whole, BadLine, TooMany, ScriptPrints}

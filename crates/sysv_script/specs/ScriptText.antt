@@ -1,9 +1,9 @@
 -- What the text of a script prints (this project's script language): its lines are run one by one,
 -- each on the scene that the lines before it left, and what they print follows in their order.
 use Rattle.std.specs.Prelude.{◌≡◌, ◌<◌, ◌≤◌, ◌+◌, ◌⊎◌, ℕ, true, false, List, [], ◌++◌, length}
-use Rattle.sysv_lines.specs.Said.{Said}
+use Rattle.sysv_script.specs.Said.{Said}
 use Rattle.sysv_script.specs.Scene.{Scene, opening_scene, LineRuns}
-use Rattle.sysv_lines.specs.Lines.{Says}
+use Rattle.sysv_script.specs.Lines.{Says}
 use Rattle.sysv_words.specs.Words.{SplitsAt}
 use Rattle.sysv_script.specs.Found.{HasNoEnd}
 use Rattle.sysv_script.specs.Faults.{bad_line_text}

@@ -6,11 +6,11 @@ ghost use Rattle.sysv_script.specs.Faults.{is_read_fault};
 ghost use Rattle.sysv_script.specs.Streams.{TakesIn};
 ghost use Rattle.sysv_script.specs.declared.input.TheConstants.{INPUT_ROOM};
 
+use crate::LINE_BYTES;
 use crate::fault::ScriptFault;
 use std::alloc::Global;
 use std::io::Read;
 use std::marker::Model;
-use sysv_lines::LINE_BYTES;
 use sysv_model::{NoMemory, Watched};
 
 /// The capacity of the input in bytes: one line of the maximum length and its LF. So of a line

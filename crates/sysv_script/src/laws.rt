@@ -1,11 +1,12 @@
 //! Laws about what a text prints, and about the worlds to which it leads.
 
 ghost use Rattle.sysv_script.specs.EachText.{EachTextPrints};
+ghost use Rattle.sysv_script.specs.ObeyingRun.{EachScriptObeys};
 ghost use Rattle.sysv_script.specs.OneText.{OneText};
 ghost use Rattle.sysv_script.specs.ScriptRun.{EachScriptIsARun};
 
-use sysv_core::{each_world_is_sound, one_step, some_step};
-use sysv_lines::{each_line_is_decided, one_saying};
+use crate::{each_line_is_decided, one_saying};
+use sysv_core::{each_world_is_sound, every_run_obeys, one_step, some_step};
 use sysv_words::one_split;
 
 /// States that a text prints one thing only from a scene, which is a world with its actors'
@@ -37,3 +38,12 @@ pub fn each_text_prints()
 pub fn each_script_is_a_run()
     ensures { EachScriptIsARun }
 {}
+
+/// States that what a script writes are the results of a run of its world, in their order, and no
+/// other results, and that the world to which the run leads obeys the laws of the headline.
+pub fn each_script_obeys()
+    ensures { EachScriptObeys }
+{
+    every_run_obeys();
+    each_script_is_a_run();
+}

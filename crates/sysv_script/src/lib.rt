@@ -11,19 +11,34 @@
 //! ```
 #![tactic(auto)]
 
+mod actor;
+mod blocks;
+mod call;
 mod fault;
+mod head;
 mod input;
 mod laws;
-mod lines;
+mod line;
+mod line_laws;
+mod line_reader;
+mod names;
 mod numerals;
 mod output;
+mod printed;
 mod script;
 mod stage;
 
+pub use actor::{Actor, SCRIPT_ACTORS};
+pub use blocks::Blocks;
+pub use call::Text;
 pub use fault::ScriptFault;
+pub use head::Head;
 pub use input::Input;
-pub use laws::{each_script_is_a_run, each_text_prints, one_text};
-pub use lines::{Found, next_line, read_on};
+pub use laws::{each_script_is_a_run, each_script_obeys, each_text_prints, one_text};
+pub use line::{LINE_BYTES, Line, line_of};
+pub use line_laws::{each_line_is_decided, numerals_of_lines, one_saying};
+pub use line_reader::{Found, next_line, read_on};
+pub use names::{Operation, Step};
 pub use numerals::{numerals_of_stages, numerals_of_streams};
 pub use output::Output;
 pub use script::run_script;

@@ -1,18 +1,18 @@
 //! The lines that are composed and not yet written.
 ghost use Rattle.std.specs.Prelude.{◌≡◌, ◌≤◌, [], ◌∷◌, ◌++◌, length, IfOk, IfErr, IsOk, OnOk, OnErr};
 ghost use Rattle.std.specs.Io.KnownBytes.{Appends};
-ghost use Rattle.sysv_lines.specs.Heads.{head_text};
+ghost use Rattle.sysv_script.specs.Heads.{head_text};
 ghost use Rattle.sysv_model.specs.Watched.{stream_of, KeepsStream};
 ghost use Rattle.sysv_model.specs.Writing.{AppendsPrefix};
 ghost use Rattle.sysv_script.specs.Faults.{is_write_fault};
 ghost use Rattle.sysv_script.specs.Streams.{HandsOn};
 ghost use Rattle.sysv_script.specs.declared.output.TheConstants.{MOST_COMPOSED};
 
+use crate::Head;
 use crate::fault::ScriptFault;
 use std::alloc::Global;
 use std::io::Write;
 use std::marker::Model;
-use sysv_lines::Head;
 use sysv_model::{BLOCK_BYTES, Body, NoMemory, Watched, WriteFault};
 
 /// The capacity of the output in bytes.

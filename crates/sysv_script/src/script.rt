@@ -8,22 +8,23 @@ ghost use Rattle.sysv_script.specs.Faults.{Grows, IsLineFault, IsStreamFault, En
 ghost use Rattle.sysv_script.specs.Scene.{Scene, opening_scene};
 ghost use Rattle.sysv_script.specs.ScriptText.{LineDoes, IsBad};
 ghost use Rattle.sysv_script.specs.Written.{WritesScript};
+ghost use Rattle.sysv_script.specs.ObeyingRun.{WritesRun};
 ghost use Rattle.sysv_script.specs.ScriptSofar.{LineEnds, Leaves, IsText, RunsOn, RunsNext};
 ghost use Rattle.sysv_script.specs.Staged.{IsSceneOf};
 ghost use Rattle.sysv_script.specs.Found.{IsFirstLine};
 ghost use Rattle.sysv_script.specs.declared.fault.TheConstants.{SCRIPT_LINES};
 ghost use Rattle.sysv_script.specs.declared.output.TheConstants.{MOST_COMPOSED};
-ghost use Rattle.sysv_lines.specs.declared.line.TheConstants.{LINE_BYTES};
+ghost use Rattle.sysv_script.specs.declared.line.TheConstants.{LINE_BYTES};
 
 use crate::fault::{SCRIPT_LINES, ScriptFault};
 use crate::input::Input;
-use crate::laws::{each_text_prints, one_text};
-use crate::lines::{Found, next_line, read_on};
+use crate::laws::{each_script_obeys, each_text_prints, one_text};
+use crate::line_reader::{Found, next_line, read_on};
 use crate::output::Output;
 use crate::stage::Stage;
+use crate::{Head, LINE_BYTES, line_of};
 use std::alloc::Global;
 use std::io::{Read, Write};
-use sysv_lines::{Head, LINE_BYTES, line_of};
 use sysv_model::{NoMemory, Watched};
 use sysv_words::one_split;
 
@@ -56,6 +57,11 @@ pub fn run_script<R: Read, W: Write>(
     ensures prints { (text : List ℕ) → R.remaining (stream_of reader.old) ≡ Some text →
         WritesScript result text (W.contents (stream_of writer.old))
         (W.contents (stream_of writer.new)) (R.remaining (stream_of reader.new)) }
+    // The lines are a list of happenings that leads to a world that obeys the laws of the headline,
+    // and what the writer took are the results of that run, or a prefix of them, as above.
+    ensures obeys { (text : List ℕ) → R.remaining (stream_of reader.old) ≡ Some text →
+        WritesRun result text (W.contents (stream_of writer.old))
+        (W.contents (stream_of writer.new)) (R.remaining (stream_of reader.new)) }
     // A script that ends well was read to its end.
     ensures whole { OnOk result (IsAtEnd (R.remaining (stream_of reader.new))) }
     // What the writer had taken before stays. If a line is bad, the last line that it took states
@@ -71,6 +77,7 @@ pub fn run_script<R: Read, W: Write>(
 {
     one_text();
     each_text_prints();
+    each_script_obeys();
     let Ok(mut run) = Run::open(alloc) else {
         return Err(ScriptFault::NoMemory);
     };

@@ -4,19 +4,18 @@ ghost use Rattle.std.specs.Prelude.{false, ◌≡◌, ◌+◌, ◌<◌, ◌++◌
 ghost use Rattle.std.specs.List.{range_with_len};
 ghost use Rattle.sysv_lists.specs.Prefix.{IsPrefixOf};
 ghost use Rattle.sysv_model.specs.declared.limits.TheConstants.{BLOCK_BYTES, BODY_ROOM};
-ghost use Rattle.sysv_lines.specs.Heads.{head_text};
-ghost use Rattle.sysv_script.specs.Scene.{Scene, opening_scene, Advances, LineRuns, LineActs, PoolGiven, StartRuns, StartsAs, call_for, GoesOn, StepsRun, OneRuns, AllRun, printed, standing_line};
+ghost use Rattle.sysv_script.specs.Heads.{head_text};
+ghost use Rattle.sysv_script.specs.Scene.{Scene, opening_scene, Advances, LineRuns, LineActs, PoolGiven, StartRuns, StartsAs, call_for, GoesOn, StepsRun, OneRuns, AllRun, printed, standing_line, first_cred as script_cred, under_way as doing_at, most_steps as steps_at_start};
 ghost use Rattle.sysv_core.specs.World.{actor_at};
-ghost use Rattle.sysv_lines.specs.declared.actor.TheConstants.{SCRIPT_ACTORS};
-ghost use Rattle.sysv_script.specs.Scene.{first_cred as script_cred, under_way as doing_at, most_steps as steps_at_start};
-ghost use Rattle.sysv_lines.specs.SaidBy.{CallFits, FitsBody, LineFits, IsOfActors, IsPoolSize, text_bytes, call_asked, said_of};
+ghost use Rattle.sysv_script.specs.declared.actor.TheConstants.{SCRIPT_ACTORS};
+ghost use Rattle.sysv_script.specs.SaidBy.{CallFits, FitsBody, LineFits, IsOfActors, IsPoolSize, text_bytes, call_asked, said_of};
 ghost use Rattle.sysv_script.specs.Staged.{IsSceneOf};
 
 use crate::output::Output;
+use crate::{Head, Line, Operation, SCRIPT_ACTORS, Text};
 use std::alloc::Global;
 use std::mem;
 use sysv_core::{Answer, Call, Event, Standing, Stepped, World};
-use sysv_lines::{Head, Line, Operation, SCRIPT_ACTORS, Text};
 use sysv_model::{BLOCK_BYTES, Body, Cred, NoMemory};
 
 /// The number of blocks of a script's world.

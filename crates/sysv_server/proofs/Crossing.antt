@@ -24,7 +24,7 @@ use Rattle.sysv_server.specs.contracts.session.Zero as zero
 use Rattle.sysv_server.specs.contracts.session.ZeroClock.TheImpl as clock
 use Rattle.sysv_service.specs.contracts.service.Service as service
 use Rattle.sysv_service.specs.declared.caller.Caller.{Ghosts as CallerGhosts}
-use Rattle.sysv_driver.specs.declared.clock.Clock.{Ghosts}
+use Rattle.sysv_steps.specs.declared.clock.Clock.{Ghosts}
 
 kernel_send : (l : NamedLft) (C R K : RattleType) (clock : Ghosts C.Denot) (caller : CallerGhosts K.Denot) → IsSync C →
     IsSync R → IsSend K →

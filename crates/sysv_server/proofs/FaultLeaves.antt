@@ -1,7 +1,7 @@
 -- A fault of a server leaves the connections as the refusal of its workers leaves the source, and the
 -- books as it leaves the workers' states.
 use Rattle.std.proofs.Common.{◌≡◌, ℕ, List, Option, sym, subst}
-use Rattle.sysv_shared.specs.Seats.{Gates}
+use Rattle.sysv_service.specs.Seats.{Gates}
 use Rattle.sysv_workers.specs.Parts.{Part, Leads}
 use Rattle.sysv_workers.specs.Running.{GivesBack, LeavesSource}
 use Rattle.sysv_workers.specs.declared.refusals.WorkersFault.{WorkersFault}

@@ -2,11 +2,11 @@
 use Rattle.std.proofs.Common.{◌≡◌, ℕ, List, sym, subst}
 use Rattle.std.specs.Prelude.{Result}
 use Rattle.sysv_model.specs.declared.errno.Errno.{Errno}
-use Rattle.sysv_shared.specs.Opened.{AreOpen}
-use Rattle.sysv_shared.specs.Seats.{Gates, AreOf}
+use Rattle.sysv_service.specs.Opened.{AreOpen}
+use Rattle.sysv_service.specs.Seats.{Gates, AreOf}
 use Rattle.sysv_service.specs.declared.closing.Closed.{Closed}
 use Rattle.sysv_service.specs.Closing.{IsCounted}
-use Rattle.sysv_service.specs.Hiring.{first_pass, Hires}
+use Rattle.sysv_thread_laws.specs.Hiring.{first_pass, Hires}
 use Rattle.sysv_service.specs.Ran.{Pass}
 use Rattle.sysv_server.specs.Handled.{Shift, first_passes, last_passes}
 use Rattle.sysv_server.specs.OneRun.{EachLifeIsOneRun, EachLifeLeavesThePoolWhole, Lived, NoLifeLeavesAGateHeld}

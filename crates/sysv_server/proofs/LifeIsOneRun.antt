@@ -8,11 +8,11 @@ use Rattle.sysv_bank.specs.Banks.{Each2, Each3}
 use Rattle.sysv_thread_laws.specs.AtRest.{Rests}
 use Rattle.sysv_thread_laws.specs.Order.{Called}
 use Rattle.sysv_session.specs.declared.served.Served.{Served}
-use Rattle.sysv_service.specs.Hiring.{all_of, IsRemoval, EveryHiringObeys, EveryStopRemoves}
-use Rattle.sysv_service.specs.PoolWhole.{EveryHiringLeavesThePoolWhole, NoHiringLeavesAGateHeld}
+use Rattle.sysv_thread_laws.specs.Hiring.{all_of, IsRemoval, EveryHiringObeys, EveryStopRemoves}
+use Rattle.sysv_thread_laws.specs.PoolWhole.{EveryHiringLeavesThePoolWhole, NoHiringLeavesAGateHeld}
 use Rattle.sysv_service.specs.Ran.{Pass}
-use Rattle.sysv_service.specs.Working as working
-use Rattle.sysv_service.specs.Working.{Works}
+use Rattle.sysv_thread_laws.specs.Working as working
+use Rattle.sysv_thread_laws.specs.Working.{Works}
 use Rattle.sysv_server.specs.Made.{trail, EachSessionMakesCalls}
 use Rattle.sysv_server.specs.Handled.{Shift, first_passes, last_passes, AreMadeBy}
 use Rattle.sysv_server.specs.Talks.{zero_moment, Talk, TalksAs, Talks, TalksAsIn, TalksIn}

@@ -15,11 +15,11 @@ use Rattle.sysv_session.specs.Calls.{Call, Leads}
 use Rattle.sysv_wire.specs.declared.frame.Version.{Version}
 use Rattle.sysv_wire.specs.declared.request.Ask.{Ask}
 use Rattle.sysv_wire.specs.declared.request.Ask.TheVariants.{Hello, Get, Snd, Rcv, Stat, Set, Rm, Row}
-use Rattle.sysv_service.specs.Life.{EachRunIsAtAnyMoment, call_of}
-use Rattle.sysv_driver.specs.Stepping.{no_moment}
+use Rattle.sysv_thread_laws.specs.Life.{EachRunIsAtAnyMoment, call_of}
+use Rattle.sysv_steps.specs.Stepping.{no_moment}
 use Rattle.sysv_service.specs.Ran.{Pass, Ran}
-use Rattle.sysv_service.specs.Working as working
-use Rattle.sysv_service.specs.Working.{Works}
+use Rattle.sysv_thread_laws.specs.Working as working
+use Rattle.sysv_thread_laws.specs.Working.{Works}
 use Rattle.sysv_server.specs.Asked.{Asks, asks_with}
 use Rattle.sysv_server.specs.Made.{trail, MakesCall, ReadsBeside, ShowsBeside, makes_with, EachSessionMakesCalls}
 use Rattle.sysv_server.specs.Requests as requests

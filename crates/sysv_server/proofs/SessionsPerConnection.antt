@@ -5,7 +5,7 @@ use Rattle.std.specs.List.Sorted.{IsPermutation}
 use Rattle.std.proofs.lemmas.List.{length-map, length-reverse}
 use Rattle.std.proofs.lemmas.List.Sorted.{length_permutation}
 use Rattle.sysv_bank.specs.Banks.{Each2}
-use Rattle.sysv_shared.specs.Seats.{Gates}
+use Rattle.sysv_service.specs.Seats.{Gates}
 use Rattle.sysv_server.specs.Desks.{Crewed, Desk, Sat, all_connections}
 use Rattle.sysv_server.specs.Handled.{Shift, reports_of, told_in}
 use Rattle.sysv_server.specs.Talks.{Closing, Talk}

@@ -7,8 +7,8 @@ use Rattle.std.proofs.lemmas.List.{append-nil, get_or_append_left, length-map, l
 use Rattle.std.proofs.lemmas.List.Elements.{All-head, All-tail, All-cons}
 use Rattle.std.proofs.lemmas.List.Sums.{sum_by-cons}
 use Rattle.sysv_bank.specs.Banks.{Each2}
-use Rattle.sysv_shared.specs.Seats.{Gates, AreOf}
-use Rattle.sysv_service.specs.Hiring.{Gives, TakesIn}
+use Rattle.sysv_service.specs.Seats.{Gates, AreOf}
+use Rattle.sysv_thread_laws.specs.Hiring.{Gives, TakesIn}
 use Rattle.sysv_service.specs.Ran.{Pass}
 use Rattle.sysv_session.specs.declared.served.Served.{Served}
 use Rattle.sysv_workers.specs.Parts.{Part, Leads, AreInOrder, IsSubsequenceOf}

@@ -2,7 +2,7 @@
 use Rattle.std.specs.Prelude.{◌≡◌, ℕ, List, Option, map, reverse, flat_map}
 use Rattle.std.specs.List.{AllByRecursion, FoldsTo}
 use Rattle.sysv_bank.specs.Banks.{Each2}
-use Rattle.sysv_shared.specs.Seats.{Gates, AreOf}
+use Rattle.sysv_service.specs.Seats.{Gates, AreOf}
 use Rattle.sysv_workers.specs.Parts.{IsSubsequenceOf}
 use Rattle.sysv_server.specs.Talks.{IsOn, Closes, Closing}
 use Rattle.sysv_server.specs.Handled.{Shift}

@@ -1,6 +1,6 @@
 -- What a kernel over a service keeps (this project's profile).
 use Rattle.std.specs.Prelude.{◌≡◌}
-use Rattle.sysv_driver.specs.declared.clock.Clock.{Ghosts as ClockGhosts}
+use Rattle.sysv_steps.specs.declared.clock.Clock.{Ghosts as ClockGhosts}
 use Rattle.sysv_service.specs.declared.caller.Caller.{Ghosts as CallerGhosts}
 use Rattle.sysv_server.specs.declared.kernel.ServiceKernel.{ServiceKernel}
 

@@ -9,6 +9,8 @@ pub mod Talks
 pub mod Handled
 pub mod Desks
 pub mod Memory
+pub mod NonBlocking
+pub mod PacedStreams
 pub mod Accepts
 pub mod OneRun
 pub mod Serving

@@ -12,10 +12,10 @@ use Rattle.sysv_thread_laws.specs.Order.{Called}
 use Rattle.sysv_session.specs.declared.served.Served.{Served}
 use Rattle.sysv_session.specs.Calls.{Meaning}
 use Rattle.sysv_session.specs.Session.{Serves}
-use Rattle.sysv_service.specs.Life.{call_of}
+use Rattle.sysv_thread_laws.specs.Life.{call_of}
 use Rattle.sysv_service.specs.Ran.{Pass, Ran}
 use Rattle.sysv_service.specs.Told.{TellsRow}
-use Rattle.sysv_service.specs.Working.{Works}
+use Rattle.sysv_thread_laws.specs.Working.{Works}
 use Rattle.sysv_steps.specs.Begin.{begin}
 use Rattle.sysv_server.specs.Asked.{ReadsReleased, ServesPass}
 use Rattle.sysv_server.specs.Requests as requests

@@ -2,17 +2,17 @@
 use Rattle.std.specs.Prelude.{◌≡◌, ℕ, Bool, List, ◌++◌, Result}
 use Rattle.std.specs.List.{AllByRecursion, sum_by}
 use Rattle.sysv_bank.specs.Banks.{Each2}
-use Rattle.sysv_passes.specs.Turns.{Numbered}
+use Rattle.sysv_model.specs.Turns.{Numbered}
 use Rattle.sysv_thread_laws.specs.Order.{Called}
 use Rattle.sysv_thread_laws.specs.Crew.{IsServed}
-use Rattle.sysv_shared.specs.Opened.{AreOpen}
-use Rattle.sysv_shared.specs.Seats.{Gates, AreOf}
+use Rattle.sysv_service.specs.Opened.{AreOpen}
+use Rattle.sysv_service.specs.Seats.{Gates, AreOf}
 use Rattle.sysv_keys.specs.declared.identifier.TheConstants.{SLOTS as slot_count}
 use Rattle.sysv_model.specs.declared.errno.Errno.{Errno}
 use Rattle.sysv_service.specs.declared.closing.Closed.{Closed}
 use Rattle.sysv_service.specs.Closing.{IsCounted}
-use Rattle.sysv_service.specs.Hiring.{first_pass, Hires, all_of, IsRemoval, removed_at}
-use Rattle.sysv_service.specs.PoolWhole.{IsWholeAgain}
+use Rattle.sysv_thread_laws.specs.Hiring.{first_pass, Hires, all_of, IsRemoval, removed_at}
+use Rattle.sysv_thread_laws.specs.PoolWhole.{IsWholeAgain}
 use Rattle.sysv_service.specs.Ran.{Pass}
 use Rattle.sysv_service.specs.Stopped.{Stops, TellsStop}
 use Rattle.sysv_service.specs.TurnsLeft.{EachGateHasTurnsLeft}

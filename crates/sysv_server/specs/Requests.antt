@@ -11,7 +11,7 @@ use Rattle.sysv_model.specs.declared.flags.Flags.{Flags}
 use Rattle.sysv_queue.specs.Delivery.{Given}
 use Rattle.sysv_session.specs.declared.kernel.RequestOutcome.{RequestOutcome}
 use Rattle.sysv_session.specs.declared.kernel.RequestOutcome.TheVariants.{Left}
-use Rattle.sysv_driver.specs.Stepping.{no_moment}
+use Rattle.sysv_steps.specs.Stepping.{no_moment}
 use Rattle.sysv_service.specs.Told.{TellsId, TellsZero, TellsStat, TellsGot}
 use Rattle.sysv_steps.specs.Call.{SystemCall, Msgget, Msgsnd, Msgrcv, MsgctlStat, MsgctlSet, MsgctlRmid}
 use Rattle.sysv_steps.specs.State.{Ending, State, Wait, Waits, Over}

@@ -5,10 +5,10 @@ use Rattle.std.specs.Prelude.{◌≡◌, ◌≢◌, ◌≤◌, ⊤, ℕ, Bool, t
 use Rattle.std.specs.List.{AllByRecursion}
 use Rattle.std.specs.List.Sorted.{IsPermutation}
 use Rattle.sysv_bank.specs.Banks.{Each2}
-use Rattle.sysv_shared.specs.Opened.{AreOpen}
-use Rattle.sysv_shared.specs.Seats.{Gates, AreOf}
+use Rattle.sysv_service.specs.Opened.{AreOpen}
+use Rattle.sysv_service.specs.Seats.{Gates, AreOf}
 use Rattle.sysv_model.specs.declared.errno.Errno.{Errno}
-use Rattle.sysv_service.specs.Hiring.{Hires}
+use Rattle.sysv_thread_laws.specs.Hiring.{Hires}
 use Rattle.sysv_service.specs.Ran.{Pass}
 use Rattle.sysv_workers.specs.declared.refusals.WorkersFault.{WorkersFault}
 use Rattle.sysv_workers.specs.declared.refusals.WorkersFault.TheVariants as workers

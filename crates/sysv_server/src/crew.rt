@@ -1,8 +1,8 @@
 //! The workers of a server: a pass is split off for each, and joined back at the end.
 ghost use Rattle.std.specs.Prelude.{◌≡◌, ◌≤◌, ◌+◌, ◌++◌, map, reverse, vec_len, vec_capacity, []};
 ghost use Rattle.std.specs.List.{All, FoldsTo, sum_by};
-ghost use Rattle.sysv_shared.specs.Seats.{AreOf};
-ghost use Rattle.sysv_service.specs.Hiring.{Gives, TakesIn};
+ghost use Rattle.sysv_service.specs.Seats.{AreOf};
+ghost use Rattle.sysv_thread_laws.specs.Hiring.{Gives, TakesIn};
 ghost use Rattle.sysv_server.specs.Added.{all_added, capped};
 ghost use Rattle.sysv_server.specs.Serving.{IsNew};
 

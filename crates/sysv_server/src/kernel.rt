@@ -2,7 +2,7 @@
 
 ghost use Rattle.std.specs.Prelude.{◌≡◌, ◌≢◌, ◌≤◌, ℕ, List, [], Some};
 ghost use Rattle.sysv_model.specs.Watched.{stream_of, KeepsStream};
-ghost use Rattle.sysv_shared.specs.Seats.{AreOf};
+ghost use Rattle.sysv_service.specs.Seats.{AreOf};
 ghost use Rattle.sysv_session.specs.Answers.{MayAnswer};
 ghost use Rattle.sysv_session.specs.Course.{Course, Follows, Takes};
 ghost use Rattle.sysv_session.specs.Failing.{is_failed_read, is_failed_write};

@@ -4,7 +4,8 @@ ghost use Rattle.sysv_server.specs.OneRun.{EachLifeIsOneRun, EachLifeLeavesThePo
 
 use crate::peer::Peer;
 use crate::session::ZERO;
-use sysv_service::{Caller, Clock, every_hiring_obeys, every_pool_is_whole, every_service_obeys};
+use sysv_service::{Caller, Clock};
+use sysv_thread_laws::{every_hiring_obeys, every_pool_is_whole, every_service_obeys};
 
 /// States which calls of a service a session makes.
 ///

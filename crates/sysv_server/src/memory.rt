@@ -53,7 +53,7 @@ impl Replies {
     }
 
     /// Keeps the replies of one more connection, if there is room.
-    fn keep(&mut self, replies: Vec<u8>)
+    pub(crate) fn keep(&mut self, replies: Vec<u8>)
         ensures { KeepsMore self.old replies.items self.new }
     {
         if self.kept.len() < self.kept.capacity() {

@@ -2,7 +2,7 @@
 ghost use Rattle.std.specs.Prelude.{◌≡◌, ⊤, IfSome, IfNone};
 ghost use Rattle.sysv_model.specs.Watched.{stream_of, KeepsStream};
 ghost use Rattle.sysv_session.specs.Failing.{is_failed_read, is_failed_write};
-ghost use Rattle.sysv_shared.specs.Seats.{AreOf};
+ghost use Rattle.sysv_service.specs.Seats.{AreOf};
 ghost use Rattle.sysv_server.specs.Asked.{ServesPass};
 ghost use Rattle.sysv_server.specs.Added.{nothing};
 ghost use Rattle.sysv_server.specs.KernelHandles.{KeepsHandles};

@@ -13,10 +13,10 @@ use Rattle.sysv_pool.specs.contracts.loose.Loose as loose
 use Rattle.sysv_pool.specs.contracts.shelf.Shelf as shelf
 use Rattle.sysv_pool.specs.contracts.stock.Stock as stock
 use Rattle.sysv_pool.specs.contracts.pool.Pool as pool
-use Rattle.sysv_shared.specs.contracts.kinds.Gated as gated
-use Rattle.sysv_shared.specs.contracts.object.SharedObject as shared
-use Rattle.sysv_shared.specs.contracts.seats.Seats as seats
-use Rattle.sysv_shared.specs.contracts.gates.Gates as gates
+use Rattle.sysv_service.specs.contracts.kinds.Gated as gated
+use Rattle.sysv_service.specs.contracts.object.SharedObject as shared
+use Rattle.sysv_service.specs.contracts.seats.Seats as seats
+use Rattle.sysv_service.specs.contracts.gates.Gates as gates
 use Rattle.sysv_service.specs.contracts.pass.Pass as pass
 use Rattle.sysv_service.specs.contracts.service.Service as service
 use Rattle.sysv_bank.proofs.Crossing.{bank_seat_send, bank_sync}

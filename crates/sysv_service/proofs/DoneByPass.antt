@@ -6,9 +6,9 @@ use Rattle.sysv_model.specs.Turn.{Ask, OfSlot, OfRegistry, OfPool, Deed, AtSlot,
 use Rattle.sysv_steps.specs.State.{Phase, AtInstall, State, Goes, Waits}
 use Rattle.sysv_steps.specs.Asks.{asks}
 use Rattle.sysv_steps.specs.Resume.{Count, ArrivedOf, FreedOf, Settled, Released, awaited}
-use Rattle.sysv_passes.specs.Members.{Member, SeesMore, MakesTurn, Does, starts, sees, makes}
-use Rattle.sysv_shared.specs.Seats.{Seats, MakesTurnAt, FindsWorn}
-use Rattle.sysv_shared.specs.Reading.{Reads, GivesUp}
+use Rattle.sysv_model.specs.Members.{Member, SeesMore, MakesTurn, Does, starts, sees, makes}
+use Rattle.sysv_service.specs.Seats.{Seats, MakesTurnAt, FindsWorn}
+use Rattle.sysv_service.specs.Reading.{Reads, GivesUp}
 use Rattle.sysv_service.specs.Ran.{Pass, Forgets, TurnsBack, Ran, begins, steps, turns_back, reads, resumes, gives_up}
 
 -- ---- one action at an object

@@ -5,8 +5,8 @@ use Rattle.sysv_gate.specs.Gates.{Gateway, opened}
 use Rattle.sysv_bank.specs.Banks.{gates_of}
 use Rattle.sysv_objects.specs.declared.slot.SlotCall.{SlotCall}
 use Rattle.sysv_objects.specs.declared.slot.SlotReply.{SlotReply}
-use Rattle.sysv_shared.specs.Seats.{Gates, AreOf}
-use Rattle.sysv_shared.specs.Opened.{all_opened}
+use Rattle.sysv_service.specs.Seats.{Gates, AreOf}
+use Rattle.sysv_service.specs.Opened.{all_opened}
 
 of_slots : (gates : List (Gateway Slot)) → gates_of {O = Slot} {C = SlotCall} {R = SlotReply} (map opened gates) ≡ gates
 of_slots [] = refl

@@ -11,10 +11,10 @@ use Rattle.sysv_steps.specs.Begin.{begin}
 use Rattle.sysv_steps.specs.State.{Receiving, Wait, OnSettled, OnFreed, OnReleased, OnArrived, Phase}
 use Rattle.sysv_steps.specs.State.{AtTake, State, Goes, Waits, Over, Refused}
 use Rattle.sysv_steps.specs.Resume.{resume}
-use Rattle.sysv_driver.specs.Kinds.{Receives, Stats, Sets, Removes}
+use Rattle.sysv_steps.specs.Kinds.{Receives, Stats, Sets, Removes}
 use Rattle.sysv_service.specs.Ran.{Pass}
 use Rattle.sysv_service.specs.Waited.{EndsWait}
-use Rattle.sysv_driver.specs.Giving.{GivesNothing}
+use Rattle.sysv_steps.specs.Giving.{GivesNothing}
 
 -- ---- a wait ends
 

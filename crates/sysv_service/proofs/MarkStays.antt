@@ -15,9 +15,9 @@ use Rattle.sysv_steps.specs.Asks.{asks}
 use Rattle.sysv_steps.specs.Resume.{Count, ArrivedOf, FreedOf, Settled, Released, awaited}
 use Rattle.sysv_gate.specs.Gates.{Holding, Joins}
 use Rattle.sysv_bank.specs.Banks.{ChangesAt, Each3}
-use Rattle.sysv_shared.specs.Seats.{SlotSeat, RegistrySeat, PoolSeat, Seats, MakesTurnAt, FindsWorn}
-use Rattle.sysv_shared.specs.Reading.{Reads, GivesUp}
-use Rattle.sysv_shared.specs.Sharing.{AreJoined}
+use Rattle.sysv_service.specs.Seats.{SlotSeat, RegistrySeat, PoolSeat, Seats, MakesTurnAt, FindsWorn}
+use Rattle.sysv_service.specs.Reading.{Reads, GivesUp}
+use Rattle.sysv_service.specs.Sharing.{AreJoined}
 use Rattle.sysv_service.specs.Marks.{IsUnmarked}
 use Rattle.sysv_service.specs.Ran.{Pass, Forgets, TurnsBack, Ran, FindsTurns, begins, steps, turns_back, reads, resumes}
 use Rattle.sysv_service.specs.Ran.{gives_up}

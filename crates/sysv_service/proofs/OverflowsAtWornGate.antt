@@ -26,15 +26,15 @@ use Rattle.sysv_steps.specs.Next.{next}
 use Rattle.sysv_steps.specs.Resume.{Count, ArrivedOf, FreedOf, Settled, Released, awaited}
 use Rattle.sysv_steps.specs.State.{Ending, Refused, Phase, AtInstall, AtRemove, AtForget, AtRemoveGiveback, State, Goes}
 use Rattle.sysv_steps.specs.State.{Waits, Over}
-use Rattle.sysv_driver.specs.Stepping.{no_moment}
+use Rattle.sysv_steps.specs.Stepping.{no_moment}
 use Rattle.sysv_gate.specs.declared.view.Turn.{Turn}
 use Rattle.sysv_gate.specs.Gates.{Gateway}
 use Rattle.sysv_gate.specs.History.{Moves, IsLegal, after_all}
-use Rattle.sysv_shared.specs.Counts.{slot_counts, registry_counts}
-use Rattle.sysv_shared.specs.Reading.{Reads}
-use Rattle.sysv_shared.specs.Seats.{SlotSeat, RegistrySeat, Seats, TakesTurn, MakesTurnAt, FindsWorn, slot_entry}
-use Rattle.sysv_shared.specs.Seats.{registry_entry, registry_seen}
-use Rattle.sysv_shared.specs.SeenHistories.{SeenHistories, OwnTurnsAreLast}
+use Rattle.sysv_service.specs.Counts.{slot_counts, registry_counts}
+use Rattle.sysv_service.specs.Reading.{Reads}
+use Rattle.sysv_service.specs.Seats.{SlotSeat, RegistrySeat, Seats, TakesTurn, MakesTurnAt, FindsWorn, slot_entry}
+use Rattle.sysv_service.specs.Seats.{registry_entry, registry_seen}
+use Rattle.sysv_service.specs.SeenHistories.{SeenHistories, OwnTurnsAreLast}
 use Rattle.sysv_keys.specs.StandsFor.{Registry}
 use Rattle.sysv_objects.specs.RegistryTurns.{RegistryMoves}
 use Rattle.sysv_objects.specs.SlotTurns.{SlotMoves, slot_call, slot_reply}

@@ -12,8 +12,8 @@ use Rattle.sysv_steps.specs.State.{Getting, Phase, AtInstall, Refused, State, Go
 use Rattle.sysv_steps.specs.Asks.{asks}
 use Rattle.sysv_steps.specs.Resume.{Count, ArrivedOf, FreedOf, Settled, Released, awaited}
 use Rattle.sysv_bank.specs.Banks.{ChangesAt}
-use Rattle.sysv_shared.specs.Seats.{SlotSeat, RegistrySeat, PoolSeat, Seats, MakesTurnAt, FindsWorn}
-use Rattle.sysv_shared.specs.Reading.{Reads, GivesUp}
+use Rattle.sysv_service.specs.Seats.{SlotSeat, RegistrySeat, PoolSeat, Seats, MakesTurnAt, FindsWorn}
+use Rattle.sysv_service.specs.Reading.{Reads, GivesUp}
 use Rattle.sysv_service.specs.PlayedWorn as worn
 use Rattle.sysv_service.specs.PlayedWorn.{Place, AtTheSlot, AtTheRegistry, AtThePool, place_of, place_of_count}
 use Rattle.sysv_service.specs.PlayedWorn.{AreElsewhere, IsMarkedAt, IsWornAt, TurnsBackOn, PlaysWorn}

@@ -9,7 +9,7 @@ use Rattle.sysv_steps.specs.declared.state.State.TheVariants as state
 use Rattle.sysv_steps.specs.Seen.{state_of}
 use Rattle.sysv_steps.specs.State.{State, Got}
 use Rattle.sysv_model.specs.declared.errno.Errno.{Errno}
-use Rattle.sysv_driver.specs.Giving.{GivesNothing, nothing_to_have}
+use Rattle.sysv_steps.specs.Giving.{GivesNothing, nothing_to_have}
 use Rattle.sysv_service.specs.Ran.{Pass, steps, turns_back, Comes}
 use Rattle.sysv_service.specs.Delivered.{HasGiven, StepsGiving, ComesGiving}
 

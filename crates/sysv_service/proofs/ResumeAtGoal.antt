@@ -17,10 +17,10 @@ use Rattle.sysv_gate.specs.Counts.{of_count, with_count}
 use Rattle.sysv_gate.specs.History.{after_all}
 use Rattle.sysv_gate.specs.Gates.{Holding}
 use Rattle.sysv_bank.specs.Banks.{ChangesAt}
-use Rattle.sysv_shared.specs.Counts.{slot_counts}
-use Rattle.sysv_shared.specs.Counts.{registry_counts}
-use Rattle.sysv_shared.specs.Seats.{SlotSeat, RegistrySeat, Seats, TakesTurn, MakesTurnAt}
-use Rattle.sysv_shared.specs.Reading.{Finds, Reads}
+use Rattle.sysv_service.specs.Counts.{slot_counts}
+use Rattle.sysv_service.specs.Counts.{registry_counts}
+use Rattle.sysv_service.specs.Seats.{SlotSeat, RegistrySeat, Seats, TakesTurn, MakesTurnAt}
+use Rattle.sysv_service.specs.Reading.{Finds, Reads}
 use Rattle.sysv_service.specs.Ran.{Pass, Ran, begins, steps, turns_back, reads, resumes, gives_up}
 use Rattle.sysv_service.specs.Retried.{count_found, IsFoundAt, resumed, EachRunRetriesAtItsGoal}
 use Rattle.sysv_service.proofs.RetryAtGoal.{is_there, all_but, just_read, slot_asked}

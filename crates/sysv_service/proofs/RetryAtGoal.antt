@@ -13,10 +13,10 @@ use Rattle.sysv_gate.specs.Counts.{of_count, with_count}
 use Rattle.sysv_gate.specs.History.{after_all}
 use Rattle.sysv_gate.specs.Gates.{Holding, read_to}
 use Rattle.sysv_bank.specs.Banks.{ChangesAt}
-use Rattle.sysv_shared.specs.Counts.{slot_counts}
-use Rattle.sysv_shared.specs.Counts.{registry_counts}
-use Rattle.sysv_shared.specs.Seats.{SlotSeat, Seats, TakesTurn, MakesTurnAt}
-use Rattle.sysv_shared.specs.Reading.{Finds}
+use Rattle.sysv_service.specs.Counts.{slot_counts}
+use Rattle.sysv_service.specs.Counts.{registry_counts}
+use Rattle.sysv_service.specs.Seats.{SlotSeat, Seats, TakesTurn, MakesTurnAt}
+use Rattle.sysv_service.specs.Reading.{Finds}
 use Rattle.sysv_service.specs.Retried.{all_but_last, count_found, EachRetryIsAtItsGoal}
 
 set_there : {A : Type 0} (xs : List A) (i : ℕ) (a b : A) → get_elem? xs i ≡ some a →

@@ -9,7 +9,7 @@ use Rattle.sysv_model.specs.declared.errno.Errno.TheVariants.{EOVERFLOW}
 use Rattle.sysv_steps.specs.Call.{MsgctlRmid}
 use Rattle.sysv_steps.specs.Begin.{begin}
 use Rattle.sysv_steps.specs.State.{Ending, Zero, Refused, Over}
-use Rattle.sysv_driver.specs.Stepping.{no_moment}
+use Rattle.sysv_steps.specs.Stepping.{no_moment}
 use Rattle.sysv_service.specs.Ran.{Pass, Comes}
 use Rattle.sysv_service.specs.Told.{TellsRow, TellsZero}
 use Rattle.sysv_service.specs.Stopped.{superuser, removed_by, is_overflow, StopsAt, is_vacant, is_worn, tries, Stops}

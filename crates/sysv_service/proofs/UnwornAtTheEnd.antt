@@ -9,8 +9,8 @@ use mathlib.Core.Option.{some, some-injective, some-ne-none}
 use lib.ListN.{get_elem?}
 use Rattle.sysv_lists.proofs.Places.{at_below, there}
 use Rattle.sysv_model.specs.Turn.{slot_history, registry_history, pool_history}
-use Rattle.sysv_passes.specs.Turns.{turns_of}
-use Rattle.sysv_passes.specs.Members.{AreWhole}
+use Rattle.sysv_model.specs.Turns.{turns_of}
+use Rattle.sysv_model.specs.Members.{AreWhole}
 use Rattle.sysv_keys.specs.declared.identifier.TheConstants.{SLOTS}
 use Rattle.sysv_queue.specs.Slot.{Slot}
 use Rattle.sysv_gate.specs.declared.closing.Closing.{Closing}
@@ -22,12 +22,12 @@ use Rattle.sysv_bank.specs.Banks.{gates_of}
 use Rattle.sysv_objects.specs.SlotTurns.{SlotMoves}
 use Rattle.sysv_objects.specs.RegistryTurns.{RegistryMoves}
 use Rattle.sysv_objects.specs.PoolTurns.{PoolMoves}
-use Rattle.sysv_shared.specs.declared.opening.GatesClosed.{GatesClosed}
-use Rattle.sysv_shared.specs.Counts.{slot_counts, registry_counts, pool_counts}
-use Rattle.sysv_shared.specs.Opened.{AreOpen}
-use Rattle.sysv_shared.specs.Seats.{SlotSeat, Gates, Seats, AreOf, entries, slot_entry, registry_entry, pool_entry}
-use Rattle.sysv_shared.specs.Sharing.{ClosesAfter, AllClose}
-use Rattle.sysv_shared.proofs.ClosedPlaces.{as_long}
+use Rattle.sysv_service.specs.declared.opening.GatesClosed.{GatesClosed}
+use Rattle.sysv_service.specs.Counts.{slot_counts, registry_counts, pool_counts}
+use Rattle.sysv_service.specs.Opened.{AreOpen}
+use Rattle.sysv_service.specs.Seats.{SlotSeat, Gates, Seats, AreOf, entries, slot_entry, registry_entry, pool_entry}
+use Rattle.sysv_service.specs.Sharing.{ClosesAfter, AllClose}
+use Rattle.sysv_service.proofs.ClosedPlaces.{as_long}
 use Rattle.sysv_service.specs.Marks.{IsUnmarked}
 use Rattle.sysv_service.specs.TurnsLeft.{HasTurnsLeft, EachGateHasTurnsLeft}
 

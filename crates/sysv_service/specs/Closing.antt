@@ -3,9 +3,9 @@
 use Rattle.std.specs.Prelude.{◌≡◌, ℕ, ◌+◌, ◌^◌, ◌&&◌, nat_lt, nat_le, List, [], ◌∷◌, length, Option, Some, None}
 use Rattle.std.specs.Prelude.{if◌then◌else◌}
 use Rattle.sysv_gate.specs.declared.closing.Closing.{Closing}
-use Rattle.sysv_shared.specs.declared.opening.GatesClosed.{GatesClosed}
-use Rattle.sysv_shared.specs.Seats.{Seats}
-use Rattle.sysv_shared.specs.Sharing.{AllClose}
+use Rattle.sysv_service.specs.declared.opening.GatesClosed.{GatesClosed}
+use Rattle.sysv_service.specs.Seats.{Seats}
+use Rattle.sysv_service.specs.Sharing.{AllClose}
 use Rattle.sysv_pool.specs.State.{State}
 use Rattle.sysv_queue.specs.Blocks.{blocks_of}
 use Rattle.sysv_queue.specs.Slot.{Slot}

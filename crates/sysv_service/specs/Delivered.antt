@@ -7,8 +7,8 @@ use Rattle.sysv_steps.specs.declared.state.Phase.{Phase as PhaseKept}
 use Rattle.sysv_steps.specs.declared.state.State.{State as StateKept}
 use Rattle.sysv_steps.specs.Seen.{state_of}
 use Rattle.sysv_steps.specs.State.{State, Ending, Over}
-use Rattle.sysv_driver.specs.Giving.{HaveTaken, HasWhatItGives, StepsGiving as StepsGivingFor}
-use Rattle.sysv_shared.specs.Seats.{MakesTurnAt, FindsWorn}
+use Rattle.sysv_steps.specs.Giving.{HaveTaken, HasWhatItGives, StepsGiving as StepsGivingFor}
+use Rattle.sysv_service.specs.Seats.{MakesTurnAt, FindsWorn}
 use Rattle.sysv_service.specs.Ran.{Pass, Ran}
 
 -- The call has made these turns, one of which took the message that it returns, and is over.

@@ -3,7 +3,7 @@
 -- This project's profile.
 use Rattle.std.specs.Prelude.{◌≡◌, false}
 use Rattle.std.specs.List.{AllByRecursion}
-use Rattle.sysv_shared.specs.Seats.{SlotSeat, Seats}
+use Rattle.sysv_service.specs.Seats.{SlotSeat, Seats}
 
 -- None of the seats is marked.
 pub record IsUnmarked (seats : Seats) : Type 0 where

@@ -10,8 +10,8 @@ use Rattle.sysv_steps.specs.Begin.{begin}
 use Rattle.sysv_steps.specs.Call.{SystemCall, Msgget}
 use Rattle.sysv_steps.specs.Resume.{awaited}
 use Rattle.sysv_steps.specs.State.{State, Over, Refused}
-use Rattle.sysv_shared.specs.Opened.{AreOpen}
-use Rattle.sysv_shared.specs.Seats.{Gates, Seats, AreOf}
+use Rattle.sysv_service.specs.Opened.{AreOpen}
+use Rattle.sysv_service.specs.Seats.{Gates, Seats, AreOf}
 use Rattle.sysv_service.specs.PlayedWorn.{Place, AtTheSlot, place_of, place_of_count, IsMarkedAt}
 use Rattle.sysv_service.specs.Ran.{Pass, Ran, FindsTurns, begins, steps, turns_back, reads, resumes, gives_up}
 use Rattle.sysv_service.specs.Stopped.{StopsAt, is_vacant, is_worn, tries, Stops, goes_on}

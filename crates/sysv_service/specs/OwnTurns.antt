@@ -4,7 +4,7 @@
 -- (POSIX.1-2017, msgget, msgsnd, msgrcv and msgctl; the order is this project's profile).
 use Rattle.std.specs.Prelude.{ℕ, List}
 use Rattle.sysv_model.specs.Turn.{Deed}
-use Rattle.sysv_passes.specs.Members.{Does}
+use Rattle.sysv_model.specs.Members.{Does}
 use Rattle.sysv_steps.specs.State.{State}
 use Rattle.sysv_steps.specs.Played.{Plays}
 use Rattle.sysv_service.specs.Marks.{IsUnmarked}

@@ -12,8 +12,8 @@ use Rattle.sysv_steps.specs.State.{Phase, AtInstall, Refused, Wait, State, Goes,
 use Rattle.sysv_steps.specs.Asks.{asks}
 use Rattle.sysv_steps.specs.Next.{next}
 use Rattle.sysv_steps.specs.Resume.{Count, ArrivedOf, FreedOf, Settled, Released, awaited, goal_of, resume}
-use Rattle.sysv_driver.specs.Stepping.{when_worn}
-use Rattle.sysv_shared.specs.Seats.{SlotSeat, Seats}
+use Rattle.sysv_steps.specs.Stepping.{when_worn}
+use Rattle.sysv_service.specs.Seats.{SlotSeat, Seats}
 
 -- An object.
 pub data Place : Type 0 where

@@ -6,10 +6,10 @@ use Rattle.sysv_model.specs.declared.errno.Errno.TheVariants.{EOVERFLOW}
 use Rattle.sysv_model.specs.Turn.{Deed}
 use Rattle.sysv_steps.specs.State.{Phase, Refused, State, Wait, Goes, Waits, Over}
 use Rattle.sysv_steps.specs.Resume.{Count, awaited, goal_of, resume}
-use Rattle.sysv_driver.specs.Stepping.{Makes as MakesFor, Steps as StepsFor, Forgets as ForgetsFor}
-use Rattle.sysv_driver.specs.Stepping.{TurnsBack as TurnsBackFor, FindsNoTurn as FindsNoTurnFor}
-use Rattle.sysv_shared.specs.Seats.{Seats, MakesTurnAt, FindsWorn}
-use Rattle.sysv_shared.specs.Reading.{Reads, GivesUp}
+use Rattle.sysv_steps.specs.Stepping.{Makes as MakesFor, Steps as StepsFor, Forgets as ForgetsFor}
+use Rattle.sysv_steps.specs.Stepping.{TurnsBack as TurnsBackFor, FindsNoTurn as FindsNoTurnFor}
+use Rattle.sysv_service.specs.Seats.{Seats, MakesTurnAt, FindsWorn}
+use Rattle.sysv_service.specs.Reading.{Reads, GivesUp}
 
 -- A pass: its seat at each object, and the blocks of the chains that it could not return.
 pub record Pass : Type 0 where

@@ -13,10 +13,10 @@ use Rattle.sysv_gate.specs.declared.count.Count.TheVariants.{Arrived, Freed}
 use Rattle.sysv_gate.specs.Counts.{of_count}
 use Rattle.sysv_gate.specs.History.{after_all}
 use Rattle.sysv_gate.specs.Gates.{Holding}
-use Rattle.sysv_shared.specs.Counts.{slot_counts}
-use Rattle.sysv_shared.specs.Counts.{registry_counts}
-use Rattle.sysv_shared.specs.Seats.{SlotSeat, Seats}
-use Rattle.sysv_shared.specs.Reading.{Reads}
+use Rattle.sysv_service.specs.Counts.{slot_counts}
+use Rattle.sysv_service.specs.Counts.{registry_counts}
+use Rattle.sysv_service.specs.Seats.{SlotSeat, Seats}
+use Rattle.sysv_service.specs.Reading.{Reads}
 use Rattle.sysv_service.specs.Ran.{Pass, Steps, Ran, begins, steps, turns_back, reads, resumes, gives_up}
 
 -- The list without its last element.

@@ -8,7 +8,7 @@ use Rattle.sysv_model.specs.declared.attributes.Row.{Row}
 use Rattle.sysv_model.specs.History.{ReadRow, Shown}
 use Rattle.sysv_model.specs.Turn.{AtSlot, OfSlot}
 use Rattle.sysv_keys.specs.declared.identifier.TheConstants.{SLOTS}
-use Rattle.sysv_shared.specs.Seats.{FindsWorn}
+use Rattle.sysv_service.specs.Seats.{FindsWorn}
 use Rattle.sysv_service.specs.Ran.{Pass, Makes}
 use Rattle.sysv_queue.specs.Delivery.{Given}
 use Rattle.sysv_steps.specs.State.{Ending, Id, Zero, Got, Told, Refused}

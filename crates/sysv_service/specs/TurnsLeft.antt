@@ -1,13 +1,13 @@
 -- The turns that are left at the gates of a service when it is closed. This project's profile.
 use Rattle.std.specs.Prelude.{ℕ, ◌+◌, ◌^◌, ◌<◌, List, length}
 use Rattle.sysv_model.specs.Turn.{slot_history, registry_history, pool_history}
-use Rattle.sysv_passes.specs.Members.{AreWhole}
-use Rattle.sysv_passes.specs.Turns.{Numbered, turns_of}
+use Rattle.sysv_model.specs.Members.{AreWhole}
+use Rattle.sysv_model.specs.Turns.{Numbered, turns_of}
 use Rattle.sysv_keys.specs.declared.identifier.TheConstants.{SLOTS}
-use Rattle.sysv_shared.specs.declared.opening.GatesClosed.{GatesClosed}
-use Rattle.sysv_shared.specs.Opened.{AreOpen}
-use Rattle.sysv_shared.specs.Seats.{Gates, Seats, AreOf}
-use Rattle.sysv_shared.specs.Sharing.{AllClose}
+use Rattle.sysv_service.specs.declared.opening.GatesClosed.{GatesClosed}
+use Rattle.sysv_service.specs.Opened.{AreOpen}
+use Rattle.sysv_service.specs.Seats.{Gates, Seats, AreOf}
+use Rattle.sysv_service.specs.Sharing.{AllClose}
 use Rattle.sysv_service.specs.Marks.{IsUnmarked}
 
 -- A gate has turns left after this number of turns, if its tickets began at `first`.

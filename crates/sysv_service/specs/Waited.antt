@@ -3,8 +3,8 @@ use Rattle.std.specs.Prelude.{◌≡◌, ℕ, ◌^◌, ◌-◌, ◌<◌, ◌≤�
 use Rattle.sysv_steps.specs.State.{Wait, OnSettled, OnFreed, OnReleased, OnArrived, State, Goes, Waits, Over, Refused}
 use Rattle.sysv_model.specs.declared.errno.Errno.TheVariants.{EOVERFLOW}
 use Rattle.sysv_steps.specs.Resume.{awaited, goal_of, resume}
-use Rattle.sysv_shared.specs.Reading.{Reads, GivesUp}
-use Rattle.sysv_driver.specs.Kinds.{Gets, Sends}
+use Rattle.sysv_service.specs.Reading.{Reads, GivesUp}
+use Rattle.sysv_steps.specs.Kinds.{Gets, Sends}
 use Rattle.sysv_service.specs.Ran.{Pass}
 
 -- The goal, as a number of 64 bits.

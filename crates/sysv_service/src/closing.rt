@@ -2,16 +2,16 @@
 
 ghost use Rattle.std.specs.Prelude.{◌≡◌, ◌≤◌, length, IfSome};
 ghost use Rattle.sysv_keys.specs.declared.identifier.TheConstants.{SLOTS as slot_count};
-ghost use Rattle.sysv_shared.specs.Seats.{AreOf};
+ghost use Rattle.sysv_service.specs.Seats.{AreOf};
 ghost use Rattle.sysv_service.specs.Closing.{IsCounted, waiting_in, is_held, all_waiting, all_held, with_chain, with_slot, with_slots, free_in};
 
+use crate::GatesClosed;
 use crate::pass::Pass;
 use crate::service::Service;
 use sysv_gate::Closing;
 use sysv_keys::Registry;
 use sysv_pool::{Chain, Pool};
 use sysv_queue::QueueSlot;
-use sysv_shared::GatesClosed;
 
 /// A pool takes a chain back while its released count is below this value. No run of a service
 /// reaches it.

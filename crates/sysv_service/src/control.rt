@@ -5,23 +5,25 @@ ghost use Rattle.sysv_steps.specs.Call.{MsgctlStat, MsgctlSet, MsgctlRmid};
 ghost use Rattle.sysv_steps.specs.Begin.{begin as begins};
 ghost use Rattle.sysv_steps.specs.State.{Over, Ending as Ends};
 ghost use Rattle.sysv_steps.specs.Seen.{ending_of};
-ghost use Rattle.sysv_shared.specs.Seats.{AreOf};
-ghost use Rattle.sysv_driver.specs.Stepping.{no_moment};
+ghost use Rattle.sysv_service.specs.Seats.{AreOf};
+ghost use Rattle.sysv_steps.specs.Stepping.{no_moment};
 ghost use Rattle.sysv_service.specs.Ran.{Comes};
-ghost use Rattle.sysv_driver.specs.Kinds.{Stats, Sets, Removes};
+ghost use Rattle.sysv_steps.specs.Kinds.{Stats, Sets, Removes};
 ghost use Rattle.sysv_service.specs.Told.{TellsZero, TellsStat, TellsRow};
 
+use crate::AtGates;
 use crate::pass::Pass;
 use crate::running::Stepper;
 use crate::service::Service;
 use crate::waiting::zero_of;
 use std::sync::Wait as MayWait;
-use sysv_driver::{Clock, remove_step, set_step, stat_step};
 use sysv_keys::SLOTS;
 use sysv_model::{Cred, Errno, Row, SetTo, Stat};
 use sysv_objects::{ObjectCall, ObjectReply, SlotCall, SlotReply};
-use sysv_shared::AtGates;
-use sysv_steps::{Ending, Phase, State, begin_remove, begin_set, begin_stat};
+use sysv_steps::{
+    Clock, Ending, Phase, State, begin_remove, begin_set, begin_stat, remove_step, set_step,
+    stat_step,
+};
 
 impl Service {
     /// Returns the attributes of the queue `id`, the number of queued messages and the number of

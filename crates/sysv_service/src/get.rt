@@ -5,19 +5,18 @@ ghost use Rattle.sysv_steps.specs.Call.{Msgget};
 ghost use Rattle.sysv_steps.specs.Begin.{begin as begins};
 ghost use Rattle.sysv_steps.specs.State.{Over, Ending as Ends};
 ghost use Rattle.sysv_steps.specs.Seen.{ending_of};
-ghost use Rattle.sysv_driver.specs.Kinds.{Gets};
-ghost use Rattle.sysv_shared.specs.Seats.{AreOf};
+ghost use Rattle.sysv_steps.specs.Kinds.{Gets};
+ghost use Rattle.sysv_service.specs.Seats.{AreOf};
 ghost use Rattle.sysv_service.specs.Ran.{Comes};
 ghost use Rattle.sysv_service.specs.Told.{TellsId};
 
+use crate::AtGates;
 use crate::pass::Pass;
 use crate::running::Stepper;
 use crate::service::Service;
 use std::sync::Wait as MayWait;
-use sysv_driver::{Clock, get_step};
 use sysv_model::{Cred, Errno, Flags};
-use sysv_shared::AtGates;
-use sysv_steps::{Ending, Getting, Phase, State};
+use sysv_steps::{Clock, Ending, Getting, Phase, State, get_step};
 
 impl Service {
     /// Returns the identifier of the queue with this key, or that of a new queue (POSIX.1-2017,
@@ -62,8 +61,8 @@ impl Service {
 
 /// The steps of a `msgget`.
 #[derive(Drop)]
-struct GetStepper<'a, C> {
-    clock: &'a C,
+pub(crate) struct GetStepper<'a, C> {
+    pub(crate) clock: &'a C,
 }
 
 impl<'a, C: Clock> Stepper for GetStepper<'a, C> {
@@ -84,7 +83,7 @@ impl<'a, C: Clock> Stepper for GetStepper<'a, C> {
 }
 
 /// Returns the result of a `msgget`.
-fn id_of(ending: Ending) -> Result<i32, Errno>
+pub(crate) fn id_of(ending: Ending) -> Result<i32, Errno>
     requires { Gets (Over (ending_of ending [])) }
     ensures { TellsId (ending_of ending []) result }
 {

@@ -15,28 +15,50 @@
 mod caller;
 mod closing;
 mod control;
+mod counts;
+mod gates;
 mod get;
+mod getting;
+mod kinds;
 mod laws;
+mod looking;
+mod making;
+mod object;
+mod opening;
 mod pass;
+mod progress;
 mod receive;
+mod receiving;
 mod running;
+mod seat_laws;
+mod seats;
 mod send;
+mod sending;
 mod service;
+mod shared_count;
+mod sharing;
 mod stopping;
 mod waiting;
 
 pub use caller::{Caller, Stays};
 pub use closing::Closed;
+pub use gates::Gates;
 pub use laws::{
     each_overflow_is_at_a_worn_gate, each_pass_obeys, each_plays_its_own,
     each_retry_is_at_its_goal, each_run_answers_right, each_run_retries_at_its_goal,
-    every_hiring_obeys, every_pool_is_whole, every_service_obeys,
 };
+pub use making::AtGates;
+pub use opening::{GatesClosed, OpenRefused};
 pub use pass::Pass;
+pub use progress::{GetWait, Progress, ReceiveWait, SendWait};
+pub use seat_laws::{
+    each_seat_obeys, orders_are_of_crews, own_turns_are_last, seen_histories, seen_histories_obey,
+};
+pub use seats::Seats;
 pub use service::Service;
+pub use shared_count::SharedCount;
 
 // The types that the signatures use.
-pub use sysv_driver::Clock;
 pub use sysv_model::{Body, Cred, Errno, Flags, NoMemory, Perm, Row, SetTo, Stat};
 pub use sysv_queue::{Delivery, Tally};
-pub use sysv_shared::OpenRefused;
+pub use sysv_steps::{Clock, Getting, Receiving, Sending};

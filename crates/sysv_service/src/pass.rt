@@ -2,9 +2,9 @@
 
 ghost use Rattle.std.specs.Prelude.{◌≡◌};
 
+use crate::Seats;
 use std::marker::Model;
 use sysv_pool::Chain;
-use sysv_shared::Seats;
 
 /// The right of one thread to call a service. It has a seat at each object. It works only with the
 /// service that it came from. It may move to another thread. A pass can be neither dropped nor

@@ -6,22 +6,22 @@ ghost use Rattle.sysv_steps.specs.Call.{Msgrcv};
 ghost use Rattle.sysv_steps.specs.Begin.{begin as begins};
 ghost use Rattle.sysv_steps.specs.State.{Goes, Over, Ending as Ends};
 ghost use Rattle.sysv_steps.specs.Seen.{phase_of, state_of, ending_of};
-ghost use Rattle.sysv_shared.specs.Seats.{AreOf};
+ghost use Rattle.sysv_service.specs.Seats.{AreOf};
 ghost use Rattle.sysv_service.specs.Ran.{Comes};
-ghost use Rattle.sysv_driver.specs.Kinds.{Receives, IsSized};
+ghost use Rattle.sysv_steps.specs.Kinds.{Receives, IsSized};
 ghost use Rattle.sysv_service.specs.Told.{TellsGot};
 ghost use Rattle.sysv_service.specs.Left.{IsLeft};
 ghost use Rattle.sysv_service.specs.Delivered.{HasGiven, StepsGiving};
 
+use crate::AtGates;
 use crate::caller::{Caller, Stays};
 use crate::pass::Pass;
+use crate::progress::Progress;
 use crate::service::Service;
 use std::sync::Wait as MayWait;
-use sysv_driver::{Clock, receive_step};
 use sysv_model::{Body, Cred, Errno, Flags};
 use sysv_queue::Delivery;
-use sysv_shared::AtGates;
-use sysv_steps::{Ending, Phase, Receiving, State};
+use sysv_steps::{Clock, Ending, Phase, Receiving, State, Wait, receive_step};
 
 impl Service {
     /// Takes a message from the queue `id` and writes its body to `out` (POSIX.1-2017, `msgrcv`).
@@ -121,17 +121,18 @@ impl Service {
     {
         let mut state = Receiving::begin(cred, id, size, mtype, flags);
         for _ in rt.forever() {
-            state = match state {
-                State::Goes(phase) => self.receive_step(rt, pass, clock, out, phase),
-                State::Waits(wait) => match self.wait_for(rt, pass, caller, wait) {
-                    Some(next) => next,
-                    None => {
-                        self.gates.pass_arrived_on(id);
-                        out.clear();
-                        return None;
+            state = match self.receive_on(rt, pass, clock, out, state) {
+                Progress::Waits(wait) => {
+                    let (above, receive) = (wait.above, wait.receive);
+                    match self.wait_for(rt, pass, caller, Wait::Arrived { above, receive }) {
+                        Some(next) => next,
+                        None => {
+                            self.gates.pass_arrived_on(id);
+                            return None;
+                        }
                     }
-                },
-                State::Over(ending) => return Some(given_of(ending, out)),
+                }
+                Progress::Over(told) => return Some(told),
             };
         }
         unreachable!()
@@ -141,7 +142,7 @@ impl Service {
     /// wait, so a receive that has waited and takes nothing wakes the next one. A receive that has
     /// not waited was not woken, and need not wake another.
     #[inline(always)]
-    fn receive_step<C: Clock>(
+    pub(crate) fn receive_step<C: Clock>(
         &self,
         rt: &impl MayWait,
         pass: &mut Pass,
@@ -174,7 +175,7 @@ impl Service {
 }
 
 /// Returns the result of a receive. After an error it empties the body.
-fn given_of(ending: Ending, out: &mut Body) -> Result<Delivery, Errno>
+pub(crate) fn given_of(ending: Ending, out: &mut Body) -> Result<Delivery, Errno>
     requires receives { Receives (Over (ending_of ending out.old)) }
     requires sized { IsSized (State.Over ending) out.old }
     ensures told { TellsGot (ending_of ending out.old) result out.new }

@@ -5,16 +5,18 @@ ghost use Rattle.sysv_model.specs.declared.errno.Errno.{Errno as Why};
 ghost use Rattle.sysv_steps.specs.State.{State as StateSeen, Wait as WaitSeen, Goes, Waits, Over, Refused};
 ghost use Rattle.sysv_steps.specs.Resume.{resume};
 ghost use Rattle.sysv_steps.specs.Seen.{phase_of, state_of, ending_of};
-ghost use Rattle.sysv_driver.specs.Stepping.{no_moment};
-ghost use Rattle.sysv_shared.specs.Seats.{AreOf};
+ghost use Rattle.sysv_steps.specs.Stepping.{no_moment};
+ghost use Rattle.sysv_service.specs.Seats.{AreOf};
 ghost use Rattle.sysv_service.specs.Ran.{StepsOn, Comes};
 ghost use Rattle.sysv_service.specs.Left.{IsLeft};
+ghost use Rattle.sysv_service.specs.UnderWay.{stopped_at};
 
 use crate::caller::{Caller, Stays};
 use crate::pass::Pass;
+use crate::progress::Progress;
 use crate::service::Service;
 use std::sync::Wait as MayWait;
-use sysv_steps::{Ending, Phase, State};
+use sysv_steps::{Ending, Phase, State, Wait};
 
 /// The steps of the calls of one kind, with what they use.
 pub(crate) trait Stepper {
@@ -66,6 +68,32 @@ impl Service {
         }
     }
 
+    /// Makes the steps of a call that has begun until it waits or is over.
+    pub(crate) fn run_on<S: Stepper>(
+        &self,
+        rt: &impl MayWait,
+        pass: &mut Pass,
+        stepper: &S,
+        begun: State,
+    ) -> Progress<Wait, Ending>
+        requires pass { AreOf self.now pass.old.seats }
+        requires kind { S.kind (state_of begun (S.text stepper.now)) }
+        ensures pass { AreOf self.now pass.new.seats }
+        ensures kind { S.kind (stopped_at result (S.text stepper.now)) }
+        ensures ran { Comes (S.may stepper.now) (state_of begun (S.text stepper.now)) pass.old
+            (stopped_at result (S.text stepper.now)) pass.new }
+    {
+        let mut state = begun;
+        for _ in rt.forever() {
+            state = match state {
+                State::Goes(phase) => stepper.step(rt, self, pass, phase),
+                State::Waits(wait) => return Progress::Waits(wait),
+                State::Over(ending) => return Progress::Over(ending),
+            };
+        }
+        unreachable!()
+    }
+
     /// Like `run`, but for a caller that may leave. Returns `None` if the caller left while the call
     /// waited.
     pub(crate) fn run_for<S: Stepper, K: Caller>(
@@ -89,10 +117,9 @@ impl Service {
     {
         let mut state = begun;
         for _ in rt.forever() {
-            state = match state {
-                State::Goes(phase) => stepper.step(rt, self, pass, phase),
-                State::Waits(wait) => self.wait_for(rt, pass, caller, wait)?,
-                State::Over(ending) => return Some(ending),
+            state = match self.run_on(rt, pass, stepper, state) {
+                Progress::Waits(wait) => self.wait_for(rt, pass, caller, wait)?,
+                Progress::Over(ending) => return Some(ending),
             };
         }
         unreachable!()

@@ -5,11 +5,11 @@ ghost use Rattle.sysv_steps.specs.Call.{Msgsnd};
 ghost use Rattle.sysv_steps.specs.Begin.{begin as begins};
 ghost use Rattle.sysv_steps.specs.State.{Over, Ending as Ends};
 ghost use Rattle.sysv_steps.specs.Resume.{Released};
-ghost use Rattle.sysv_shared.specs.Seats.{AreOf};
-ghost use Rattle.sysv_shared.specs.Reading.{Reads};
+ghost use Rattle.sysv_service.specs.Seats.{AreOf};
+ghost use Rattle.sysv_service.specs.Reading.{Reads};
 ghost use Rattle.sysv_service.specs.Ran.{Pass as Seen, Comes};
 ghost use Rattle.sysv_service.specs.Left.{IsLeft};
-ghost use Rattle.sysv_driver.specs.Kinds.{Sends};
+ghost use Rattle.sysv_steps.specs.Kinds.{Sends};
 ghost use Rattle.sysv_service.specs.Told.{TellsZero};
 
 use crate::caller::{Caller, Stays};
@@ -17,11 +17,10 @@ use crate::pass::Pass;
 use crate::running::Stepper;
 use crate::service::Service;
 use crate::waiting::zero_of;
+use crate::{AtGates, SharedCount};
 use std::sync::Wait as MayWait;
-use sysv_driver::{Clock, send_step};
 use sysv_model::{Body, Cred, Errno, Flags};
-use sysv_shared::{AtGates, SharedCount};
-use sysv_steps::{Phase, Sending, State};
+use sysv_steps::{Clock, Phase, Sending, State, send_step};
 
 impl Service {
     /// Appends a message of type `mtype` with the body `text` to the queue `id` (POSIX.1-2017,
@@ -118,9 +117,9 @@ impl Service {
 
 /// The steps of a `msgsnd`.
 #[derive(Drop)]
-struct SendStepper<'a, C> {
-    clock: &'a C,
-    text: &'a Body,
+pub(crate) struct SendStepper<'a, C> {
+    pub(crate) clock: &'a C,
+    pub(crate) text: &'a Body,
 }
 
 impl<'a, C: Clock> Stepper for SendStepper<'a, C> {

@@ -3,16 +3,16 @@
 ghost use Rattle.std.specs.Prelude.{◌≡◌, ◌<◌, ◌+◌, ◌⊎◌, ◌↔◌, ◌^◌, IfOk, IsOk, Err};
 ghost use Rattle.sysv_model.specs.declared.limits.TheConstants.{MIN_BLOCKS as least_blocks, MAX_BLOCKS as most_blocks};
 ghost use Rattle.sysv_keys.specs.declared.identifier.TheConstants.{GENERATION_LAST};
-ghost use Rattle.sysv_shared.specs.Seats.{AreOf};
-ghost use Rattle.sysv_shared.specs.Opened.{AreOpen, all_opened};
-ghost use Rattle.sysv_shared.specs.Sharing.{AreSplit, AreJoined};
+ghost use Rattle.sysv_service.specs.Seats.{AreOf};
+ghost use Rattle.sysv_service.specs.Opened.{AreOpen, all_opened};
+ghost use Rattle.sysv_service.specs.Sharing.{AreSplit, AreJoined};
 
 use crate::pass::Pass;
+use crate::{Gates, OpenRefused};
 use std::alloc::Global;
 use std::marker::Model;
 use sysv_model::NoMemory;
 use sysv_pool::Chain;
-use sysv_shared::{Gates, OpenRefused};
 
 /// The message queues of a system: 256 slots, the registry of their keys and the pool of blocks.
 /// Threads share the service by reference, and each thread calls it with a pass of its own. A
@@ -22,7 +22,7 @@ pub struct Service {
 }
 
 impl Model for Service {
-    ghost use Rattle.sysv_shared.specs.Seats.{Gates as Seen};
+    ghost use Rattle.sysv_service.specs.Seats.{Gates as Seen};
 
     ghost Value = { Seen };
 

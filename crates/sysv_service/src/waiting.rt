@@ -3,14 +3,15 @@
 ghost use Rattle.std.specs.Prelude.{◌≡◌, ◌+◌, ℕ, List, [], IfNone, IfSome};
 ghost use Rattle.sysv_steps.specs.Resume.{awaited, goal_of};
 ghost use Rattle.sysv_steps.specs.Seen.{wait_of, state_of, ending_of};
-ghost use Rattle.sysv_shared.specs.Seats.{AreOf};
-ghost use Rattle.sysv_shared.specs.Reading.{AwaitsWithin};
-ghost use Rattle.sysv_shared.specs.SharedCounts.{count_of};
+ghost use Rattle.sysv_service.specs.Seats.{AreOf};
+ghost use Rattle.sysv_service.specs.Reading.{AwaitsWithin};
+ghost use Rattle.sysv_service.specs.SharedCounts.{count_of};
 ghost use Rattle.sysv_steps.specs.State.{Over, Waits};
-ghost use Rattle.sysv_driver.specs.Kinds.{EndsInZero};
+ghost use Rattle.sysv_steps.specs.Kinds.{EndsInZero};
 ghost use Rattle.sysv_service.specs.Told.{TellsZero};
 ghost use Rattle.sysv_service.specs.Waited.{EndsWait, IsUnmet, goal_seen};
 
+use crate::SharedCount;
 use crate::caller::Caller;
 use crate::pass::Pass;
 use crate::service::Service;
@@ -19,7 +20,6 @@ use std::sync::Wait as MayWait;
 use sysv_gate::Awaited;
 use sysv_model::Errno;
 use sysv_pool::Chain;
-use sysv_shared::SharedCount;
 use sysv_steps::{Ending, State, Wait};
 
 /// Returns the end of a call whose turn was due at a worn gate.
@@ -97,7 +97,7 @@ impl Service {
 }
 
 /// Returns the count of the wait, and the value above which it must rise.
-fn awaited_by(wait: &Wait) -> (SharedCount, u64)
+pub(crate) fn awaited_by(wait: &Wait) -> (SharedCount, u64)
     ensures count { (text : List ℕ) → count_of result.0 ≡ awaited (wait_of wait.now text) }
     ensures above { (text : List ℕ) → goal_of (wait_of wait.now text) ≡ result.1 + 1 }
 {

@@ -1,6 +1,6 @@
 -- A session after its hello, before each request and at its end.
 use Rattle.std.proofs.Common.{◌≡◌, ℕ, ◌+◌, ◌<◌, List, [], ◌∷◌, ◌++◌, length, Option, Result, Ok, Err, refl, sym, ap}
-use Rattle.std.proofs.Common.{subst, ◌∙◌, arith, add-zero, zero-add, append-nil}
+use Rattle.std.proofs.Common.{subst, subst₂, ◌∙◌, arith, add-zero, zero-add, append-nil}
 use Rattle.std.specs.Prelude.{⊤}
 use Rattle.std.specs.Io.KnownBytes.{Appends, Consumes}
 use Rattle.std.proofs.KnownBytes.{Appends-nil, Appends-trans, Consumes-nil, Consumes-trans}
@@ -70,6 +70,15 @@ taken_turn Means version cred (Err (Fault fault)) request text outcome given old
     few asked means may answers = absurd answers
 taken_turn Means version cred (Err Bound) request text outcome given old new left rest taken more before after few asked
     means may answers = absurd answers
+
+-- The same, for equal tallies and counts.
+pub retold : {K : Type 0} (Means : Meaning K) (version : Version) (cred : Cred) (result : Result ⊤ End) (old new : K)
+    (left rest taken more : Option (List ℕ)) (before mid after : Tallied) (few many next : ℕ) → mid ≡ before →
+    many ≡ next → Turns Means version cred result old new left rest taken more mid after few next →
+    Turns Means version cred result old new left rest taken more before after few many
+retold Means version cred result old new left rest taken more before mid after few many next same counts turn =
+    subst₂ (λ (t : Tallied) (n : ℕ). Turns Means version cred result old new left rest taken more t after few n) same
+    (sym counts) turn
 
 -- All messages so far were written.
 all_told : (calls : List Call) (before after : Tallied) → after ≡ before

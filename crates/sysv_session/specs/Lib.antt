@@ -8,3 +8,6 @@ pub mod Session
 pub mod Parts
 pub mod Course
 pub mod Failing
+pub mod Outbox
+pub mod Gathered
+pub mod TakenUp

@@ -6,11 +6,14 @@
 
 mod kernel;
 mod laws;
+mod outbox;
 mod served;
 mod session;
 mod turn;
 
 pub use kernel::{Kernel, RequestOutcome};
-pub use laws::numeral_of_requests;
+pub use laws::{gathered_replies, numeral_of_requests};
+pub use outbox::Outbox;
 pub use served::{End, Served};
-pub use session::{Texts, serve, serve_watched, serve_with};
+pub use session::{Session, TakenUp, Texts, serve, serve_watched, serve_with};
+pub use turn::hello_reply;

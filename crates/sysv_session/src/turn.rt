@@ -45,7 +45,7 @@ pub(crate) fn read_hello<R: Read>(
 }
 
 /// Returns the reply to a hello of this version.
-pub(crate) fn hello_reply(version: Version, slots: u32) -> Reply
+pub fn hello_reply(version: Version, slots: u32) -> Reply
     ensures reply { result ≡ the_hello_reply version slots }
     ensures answer { IsAnswer result.version result.op result.result }
 {
@@ -104,7 +104,7 @@ pub(crate) fn send<W: Write>(
 }
 
 /// Returns the reply that carries the message.
-fn message_reply(version: Version, delivery: &Delivery) -> Reply
+pub(crate) fn message_reply(version: Version, delivery: &Delivery) -> Reply
     ensures { result ≡ the_reply version delivery.now.mtype }
 {
     Reply {

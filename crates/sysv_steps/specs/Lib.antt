@@ -1,3 +1,4 @@
+pub use Rattle.sysv_objects.specs.Turns
 pub use Rattle.sysv_model.specs.Errors
 pub use Rattle.sysv_model.specs.Message
 pub use Rattle.sysv_model.specs.HasFlag
@@ -29,3 +30,7 @@ pub mod WorkedPlays
 pub mod HeldBlocks
 pub mod ReadLast
 pub mod Seen
+pub mod Kinds
+pub mod Stepping
+pub mod Giving
+pub mod Telling

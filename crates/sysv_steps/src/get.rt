@@ -1,6 +1,6 @@
 //! The steps of `msgget`.
 
-ghost use Rattle.std.specs.Prelude.{◌≡◌, ℕ, Bool, List, Some};
+ghost use Rattle.std.specs.Prelude.{◌≡◌, ℕ, Bool, List, Some, []};
 ghost use Rattle.sysv_model.specs.History.{Installed};
 ghost use Rattle.sysv_model.specs.Registry.{Changed};
 ghost use Rattle.sysv_keys.specs.Replies.{begun_reply};
@@ -8,14 +8,22 @@ ghost use Rattle.sysv_queue.specs.Replies.{probe_reply};
 ghost use Rattle.sysv_steps.specs.Begin.{begin as begins};
 ghost use Rattle.sysv_steps.specs.Call.{Msgget};
 ghost use Rattle.sysv_steps.specs.Next.{after_begin as follows_begin, after_install as follows_install, after_settle as follows_settle, after_unmake as follows_unmake, after_probe as follows_probe, wants_new as is_new_wanted};
-ghost use Rattle.sysv_steps.specs.Seen.{getting, state_of};
+ghost use Rattle.sysv_steps.specs.Seen.{getting, state_of, phase_of};
+ghost use Rattle.sysv_steps.specs.State.{AtBegin, AtInstall, AtSettle, AtProbe, AtUnmake, Goes};
+ghost use Rattle.sysv_steps.specs.Kinds.{Gets};
+ghost use Rattle.sysv_steps.specs.Stepping.{StepsOn, no_moment};
 
+use crate::clock::Clock;
 use crate::ending::Ending;
 use crate::state::{Phase, State};
 use crate::wait::Wait;
+use crate::worn::{forget, overflow};
 use bitflags::Flags as _;
 use sysv_keys::Begun;
 use sysv_model::{Cred, Errno, Flags};
+use sysv_objects::{
+    ObjectCall, ObjectReply, RegistryCall, RegistryReply, SlotCall, SlotReply, Turns,
+};
 use sysv_queue::Probe;
 
 /// A call that finds the queue of a key or makes one (POSIX.1-2017, `msgget`).
@@ -128,4 +136,121 @@ impl Getting {
     {
         self.flags.contains(Flags::IPC_CREAT) && self.flags.contains(Flags::IPC_EXCL)
     }
+}
+
+/// Makes one step of a msgget and returns the state that follows.
+///
+/// If the gate of the step's turn is worn out, the call is over with EOVERFLOW. If that happens at
+/// the install, the identifier is also forgotten, unless the gate of the registry is worn out too.
+/// If it happens while the identifier of an occupied slot is given up, the call is over with
+/// ENOSPC.
+///
+/// # Conditions
+///
+/// - `turns` must be ready for a turn at `at`.
+/// - `phase` must be a step of a msgget.
+pub fn get_step<T: Turns, C: Clock>(turns: &T, at: &mut T::At, clock: &C, phase: Phase) -> State
+    requires ready { T.ready turns.now at.old }
+    requires gets { Gets (Goes (phase_of phase [])) }
+    ensures stays { T.stays turns.now at.new }
+    ensures gets { Gets (state_of result []) }
+    ensures steps { (kept : ℕ) → StepsOn T.takes T.misses (C.may clock.now) (phase_of phase [])
+        at.old kept (state_of result []) at.new kept }
+{
+    match phase {
+        Phase::Begin(get) => begin(turns, at, get),
+        Phase::Install { get, id } => install(turns, at, clock, get, id),
+        Phase::Settle { id } => settle(turns, at, id),
+        Phase::Probe { get, id, settled } => probe(turns, at, get, id, settled),
+        Phase::Unmake { id } => unmake(turns, at, id),
+        _other => unreachable!(),
+    }
+}
+
+/// Makes the step that finds the queue of the key or makes an identifier.
+fn begin<T: Turns>(turns: &T, at: &mut T::At, get: Getting) -> State
+    requires { T.ready turns.now at.old }
+    ensures stays { T.stays turns.now at.new }
+    ensures gets { Gets (state_of result []) }
+    ensures steps { (kept : ℕ) → StepsOn T.takes T.misses no_moment (AtBegin (getting get))
+        at.old kept (state_of result []) at.new kept }
+{
+    let Getting { key, flags, .. } = get;
+    let call = ObjectCall::Registry(RegistryCall::Begin { key, flags });
+    match turns.make(at, call) {
+        Ok(ObjectReply::Registry(RegistryReply::Begun(begun))) => get.begun(begun),
+        Err(back) => overflow(back),
+        _other => unreachable!(),
+    }
+}
+
+/// Makes the step that installs the queue. If the gate of the slot is worn out, the identifier is
+/// forgotten, unless the gate of the registry is worn out too.
+fn install<T: Turns, C: Clock>(turns: &T, at: &mut T::At, clock: &C, get: Getting, id: i32) -> State
+    requires { T.ready turns.now at.old }
+    ensures stays { T.stays turns.now at.new }
+    ensures gets { Gets (state_of result []) }
+    ensures steps { (kept : ℕ) → StepsOn T.takes T.misses (C.may clock.now)
+        (AtInstall (getting get) id) at.old kept (state_of result []) at.new kept }
+{
+    let call = SlotCall::Install {
+        id,
+        key: get.key,
+        cred: get.cred,
+        mode: get.flags.bits(),
+        now: clock.now(),
+    };
+    match turns.make(at, ObjectCall::Slot(call)) {
+        Ok(ObjectReply::Slot(SlotReply::Installed(made))) => Getting::installed(id, made),
+        Err(back) => {
+            forget(turns, at, id);
+            overflow(back)
+        }
+        _other => unreachable!(),
+    }
+}
+
+/// Makes the step that settles the identifier.
+fn settle<T: Turns>(turns: &T, at: &mut T::At, id: i32) -> State
+    requires { T.ready turns.now at.old }
+    ensures stays { T.stays turns.now at.new }
+    ensures gets { Gets (state_of result []) }
+    ensures steps { (kept : ℕ) → StepsOn T.takes T.misses no_moment (AtSettle id)
+        at.old kept (state_of result []) at.new kept }
+{
+    match turns.make(at, ObjectCall::Registry(RegistryCall::Settle { id })) {
+        Ok(ObjectReply::Registry(RegistryReply::Changed(_done))) => Getting::settled(id),
+        Err(back) => overflow(back),
+        _other => unreachable!(),
+    }
+}
+
+/// Makes the step that probes the queue that was found.
+fn probe<T: Turns>(turns: &T, at: &mut T::At, get: Getting, id: i32, settled: u64) -> State
+    requires { T.ready turns.now at.old }
+    ensures stays { T.stays turns.now at.new }
+    ensures gets { Gets (state_of result []) }
+    ensures steps { (kept : ℕ) → StepsOn T.takes T.misses no_moment
+        (AtProbe (getting get) id settled) at.old kept (state_of result []) at.new kept }
+{
+    let Getting { cred, flags, .. } = get;
+    let call = SlotCall::Probe { id, cred, flags };
+    match turns.make(at, ObjectCall::Slot(call)) {
+        Ok(ObjectReply::Slot(SlotReply::Probed(found))) => get.probed(id, settled, found),
+        Err(back) => overflow(back),
+        _other => unreachable!(),
+    }
+}
+
+/// Makes the step that gives the identifier up. If the gate of the registry is worn out, the result
+/// is the same.
+fn unmake<T: Turns>(turns: &T, at: &mut T::At, id: i32) -> State
+    requires { T.ready turns.now at.old }
+    ensures stays { T.stays turns.now at.new }
+    ensures gets { Gets (state_of result []) }
+    ensures steps { (kept : ℕ) → StepsOn T.takes T.misses no_moment (AtUnmake id)
+        at.old kept (state_of result []) at.new kept }
+{
+    forget(turns, at, id);
+    Getting::unmade()
 }

@@ -21,7 +21,7 @@ use Rattle.sysv_steps.specs.Tended.{HasToSettle, HasToForget}
 use Rattle.sysv_core.specs.World.{World, Started, Doing, doing_in}
 use Rattle.sysv_core.specs.Conserved.{blocks_waiting, blocks_in_call, blocks_in_calls}
 use Rattle.sysv_core.specs.Tending.{IsTended}
-use Rattle.sysv_passes.specs.Turns.{turns_of}
+use Rattle.sysv_model.specs.Turns.{turns_of}
 use Rattle.sysv_thread_laws.specs.Order.{Called}
 use Rattle.sysv_thread_laws.specs.OrderIsRun.{started_at, all_standing, Renamed, renamed_turn, EveryOrderIsARun}
 use Rattle.sysv_thread_laws.specs.AtRest.{Rests, OrdersAtRest}

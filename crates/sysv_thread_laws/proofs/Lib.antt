@@ -13,3 +13,8 @@ pub mod WorkedCrew
 pub mod RowReadIsNeutral
 pub mod ThreadsObey
 pub mod RunIsFree
+pub mod PassesAreCrew
+pub mod NoneKept
+pub mod Whole
+pub mod PoolIsWhole
+pub mod WorkersOfLife

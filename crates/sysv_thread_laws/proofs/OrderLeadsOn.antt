@@ -13,7 +13,7 @@ use Rattle.sysv_model.specs.Turn.{pool_entry, slot_history, registry_history, po
 use Rattle.sysv_objects.specs.LegalDeed.{IsLegalDeed, AreLegal}
 use Rattle.sysv_core.specs.World.{World, Given, doing_in, with_turn}
 use Rattle.sysv_thread_laws.specs.FreeRun.{nobody, Moment, Reads, LeadsOnThreads}
-use Rattle.sysv_passes.specs.Turns.{Numbered, turn_of, turns_of}
+use Rattle.sysv_model.specs.Turns.{Numbered, turn_of, turns_of}
 use Rattle.sysv_thread_laws.specs.Order.{shows_row, is_in_call_of, deeds_by}
 use Rattle.sysv_thread_laws.specs.OrderIsRun.{name_at, Renamed, turn_as, renamed_turn, turns_by}
 use Rattle.sysv_thread_laws.proofs.Places.{number_same, number_other, and_false, same_or_other, get_set_same}

@@ -10,12 +10,12 @@ use Rattle.sysv_lists.specs.Numbers.{times, NoneTwice}
 use Rattle.sysv_lists.proofs.Counting.{times-append, times-same, the-one}
 use Rattle.sysv_model.specs.History.{ReadRow}
 use Rattle.sysv_model.specs.Turn.{Deed, AtSlot}
-use Rattle.sysv_passes.specs.Turns.{Numbered}
+use Rattle.sysv_model.specs.Turns.{Numbered}
 use Rattle.sysv_thread_laws.specs.Order.{Called, IsPlayed, AreAll, shows_row, is_in_call_of, deeds_by, deeds_in}
 use Rattle.sysv_thread_laws.specs.OrderIsRun.{EveryOrderIsARun}
 use Rattle.sysv_thread_laws.specs.AtRest.{OrdersAtRest}
-use Rattle.sysv_passes.specs.Members.{Member, under, AreWhole, AreOfOthers, AreOwn, Does, starts, sees, makes, Splits}
-use Rattle.sysv_passes.specs.Members.{Joins, Closes}
+use Rattle.sysv_model.specs.Members.{Member, under, AreWhole, AreOfOthers, AreOwn, Does, starts, sees, makes, Splits}
+use Rattle.sysv_model.specs.Members.{Joins, Closes}
 use Rattle.sysv_thread_laws.specs.Crew.{IsCrew, opens, calls, reads, goes_on, splits, joins, turns_to}
 use Rattle.sysv_thread_laws.specs.Crew.{EveryServiceIsARun}
 use Rattle.sysv_thread_laws.proofs.Places.{number_other, none_or_some}

@@ -2,8 +2,8 @@
 use Rattle.std.proofs.Common.{◌≡◌, ℕ, suc, List, ◌∷◌, ◌++◌, map, sym, ap, subst, append_assoc}
 use Rattle.std.specs.List.{flat_map}
 use Rattle.std.proofs.lemmas.Grind.{flat_map-append}
-use Rattle.sysv_passes.specs.Members.{Member, AreWhole}
-use Rattle.sysv_passes.proofs.Sharing.{all_at_first, split_whole, turned_whole, does_shares}
+use Rattle.sysv_model.specs.Members.{Member, AreWhole}
+use Rattle.sysv_model.proofs.Sharing.{all_at_first, split_whole, turned_whole, does_shares}
 use Rattle.sysv_thread_laws.specs.Order.{Called}
 use Rattle.sysv_thread_laws.specs.Crew.{IsCrew, opens, calls, reads, goes_on, splits, joins, turns_to}
 

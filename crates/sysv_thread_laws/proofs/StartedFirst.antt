@@ -20,7 +20,7 @@ use Rattle.sysv_core.specs.World.{with_call}
 use Rattle.sysv_core.specs.AnswerLaw.{Fate, stands_in, standing_of, ended, standing}
 use Rattle.sysv_thread_laws.specs.FreeRun.{Moment, Starts, LeadsOnThreads, starting_with}
 use Rattle.sysv_thread_laws.specs.OnThreads.{ObeysOnThreads, EveryThreadedRunObeys}
-use Rattle.sysv_passes.specs.Turns.{Numbered, turns_of}
+use Rattle.sysv_model.specs.Turns.{Numbered, turns_of}
 use Rattle.sysv_thread_laws.specs.Order.{Called, IsPlayed, deeds_in, AreAll}
 use Rattle.sysv_thread_laws.specs.OrderIsRun.{opening_for, name_at, started_at, all_started, all_standing, EndsAs}
 use Rattle.sysv_thread_laws.specs.OrderIsRun.{renamed_turn, turn_as, turns_in, IsRunWith, EveryOrderIsARun}

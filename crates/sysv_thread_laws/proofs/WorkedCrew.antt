@@ -10,16 +10,16 @@ use Rattle.sysv_model.specs.Turn.{Deed}
 use Rattle.sysv_objects.specs.LegalDeed.{AreLegal}
 use Rattle.sysv_steps.specs.State.{Got, Over}
 use Rattle.sysv_steps.specs.Played.{begins}
-use Rattle.sysv_passes.specs.Turns.{Numbered, turns_of}
+use Rattle.sysv_model.specs.Turns.{Numbered, turns_of}
 use Rattle.sysv_thread_laws.specs.Order.{Called, AreAll}
-use Rattle.sysv_passes.specs.Members.{under, AreOfOthers, AreOwn, AreWhole, MakesTurn, Does, starts, makes, Splits}
-use Rattle.sysv_passes.specs.Members.{Joins, Closes}
+use Rattle.sysv_model.specs.Members.{under, AreOfOthers, AreOwn, AreWhole, MakesTurn, Does, starts, makes, Splits}
+use Rattle.sysv_model.specs.Members.{Joins, Closes}
 use Rattle.sysv_thread_laws.specs.Crew.{IsCrew, opens, calls, reads, splits, joins, turns_to, EveryServiceIsARun}
 use Rattle.sysv_thread_laws.specs.WorkedOrder.{hello, makes as makes_queue, installs, settles, finds_none, looks}
 use Rattle.sysv_thread_laws.specs.WorkedOrder.{reserves, reads_row, the_row, places, takes, finds_no_other, gives_back}
 use Rattle.sysv_thread_laws.specs.WorkedOrder.{discards, forgets, gives_back_none, by, the_order, the_get, the_send}
 use Rattle.sysv_thread_laws.specs.WorkedOrder.{the_receive, the_left, the_refused, the_removal}
-use Rattle.sysv_passes.proofs.Sharing.{AtMost, whole_in_any}
+use Rattle.sysv_model.proofs.Sharing.{AtMost, whole_in_any}
 use Rattle.sysv_thread_laws.proofs.Places.{number_other, none_or_some}
 use Rattle.sysv_thread_laws.proofs.WorkedOrder.{plays_get, plays_receive, plays_send, plays_left, plays_removal}
 use Rattle.sysv_thread_laws.specs.WorkedCrew.{seen, with_one, with_all, calls_of_crew, WorkedCrew}

@@ -14,7 +14,7 @@ use Rattle.sysv_objects.specs.LegalDeed.{IsLegalDeed, AreLegal}
 use Rattle.sysv_steps.specs.State.{Goes, Waits, Over, Id, Zero, Got, Refused, OnArrived, AtInstall, AtSettle, AtReserve}
 use Rattle.sysv_steps.specs.State.{AtPlace, AtReceiveGiveback, AtForget, AtRemoveGiveback}
 use Rattle.sysv_steps.specs.Played.{begins, steps, resumes}
-use Rattle.sysv_passes.specs.Turns.{Numbered, turns_of}
+use Rattle.sysv_model.specs.Turns.{Numbered, turns_of}
 use Rattle.sysv_thread_laws.specs.Order.{Called, IsPlayed, AreAll, shows_row, deeds_by, deeds_in}
 use Rattle.sysv_thread_laws.specs.OrderIsRun.{EveryOrderIsARun}
 use Rattle.sysv_thread_laws.specs.AtRest.{Rests, OrdersAtRest}

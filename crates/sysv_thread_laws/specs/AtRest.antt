@@ -11,7 +11,7 @@ use Rattle.sysv_keys.specs.Rows.{IsRow}
 use Rattle.sysv_objects.specs.LegalDeed.{AreLegal}
 use Rattle.sysv_steps.specs.State.{State, Goes, Waits, Over}
 use Rattle.sysv_core.specs.Conserved.{blocks_waiting}
-use Rattle.sysv_passes.specs.Turns.{Numbered, turns_of}
+use Rattle.sysv_model.specs.Turns.{Numbered, turns_of}
 use Rattle.sysv_thread_laws.specs.Order.{Called, AreAll}
 
 -- The call makes no more turns: it is over or in a wait.

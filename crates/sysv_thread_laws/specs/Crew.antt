@@ -4,8 +4,8 @@
 use Rattle.std.specs.Prelude.{◌≡◌, ℕ, List, [], ◌∷◌, ◌++◌, All}
 use Rattle.sysv_model.specs.History.{ReadRow, Reply}
 use Rattle.sysv_model.specs.Turn.{AtSlot}
-use Rattle.sysv_passes.specs.Turns.{Numbered, turns_of}
-use Rattle.sysv_passes.specs.Members.{Member, AreWhole, first_with, SeesMore, MakesTurn, Does, Splits, Joins, Closes}
+use Rattle.sysv_model.specs.Turns.{Numbered, turns_of}
+use Rattle.sysv_model.specs.Members.{Member, AreWhole, first_with, SeesMore, MakesTurn, Does, Splits, Joins, Closes}
 use Rattle.sysv_objects.specs.LegalDeed.{AreLegal}
 use Rattle.sysv_thread_laws.specs.Order.{Called, IsPlayed, AreAll}
 use Rattle.sysv_thread_laws.specs.OrderIsRun.{IsRunWith}

@@ -5,8 +5,8 @@ pub use Rattle.sysv_model.specs.Turn
 pub use Rattle.sysv_pool.specs.PoolLaw
 pub use Rattle.sysv_queue.specs.QueueLaw
 pub use Rattle.sysv_keys.specs.RegistryLaw
-pub use Rattle.sysv_passes.specs.Turns
-pub use Rattle.sysv_passes.specs.Members
+pub use Rattle.sysv_model.specs.Turns
+pub use Rattle.sysv_model.specs.Members
 pub use Rattle.sysv_objects.specs.LegalDeed
 pub use Rattle.sysv_steps.specs.Call
 pub use Rattle.sysv_steps.specs.State
@@ -31,3 +31,7 @@ pub mod WorkedOrder
 pub mod AtRest
 pub mod Crew
 pub mod WorkedCrew
+pub mod Life
+pub mod PoolWhole
+pub mod Working
+pub mod Hiring

@@ -5,7 +5,7 @@ use Rattle.std.specs.List.{flat_map}
 use Rattle.sysv_model.specs.declared.cred.Cred.{Cred}
 use Rattle.sysv_model.specs.History.{ReadRow}
 use Rattle.sysv_model.specs.Turn.{Deed, AtSlot}
-use Rattle.sysv_passes.specs.Turns.{Numbered}
+use Rattle.sysv_model.specs.Turns.{Numbered}
 use Rattle.sysv_steps.specs.Call.{SystemCall}
 use Rattle.sysv_steps.specs.State.{State}
 use Rattle.sysv_steps.specs.Begin.{begin}

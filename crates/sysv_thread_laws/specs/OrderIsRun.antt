@@ -18,7 +18,7 @@ use Rattle.sysv_core.specs.World.{World, Opening, Started, Doing, Given, opening
 use Rattle.sysv_core.specs.AnswerLaw.{endings_of, ended}
 use Rattle.sysv_thread_laws.specs.FreeRun.{nobody, Moment, LeadsOnThreads}
 use Rattle.sysv_thread_laws.specs.OnThreads.{ObeysOnThreads}
-use Rattle.sysv_passes.specs.Turns.{Numbered, turns_of}
+use Rattle.sysv_model.specs.Turns.{Numbered, turns_of}
 use Rattle.sysv_thread_laws.specs.Order.{shows_row, Called, is_in_call_of, AreAll}
 
 -- ---- the calls in the world

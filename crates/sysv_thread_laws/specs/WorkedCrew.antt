@@ -5,7 +5,7 @@
 use Rattle.std.specs.Prelude.{ℕ, List, [], ◌∷◌, take, pos}
 use Rattle.sysv_steps.specs.State.{Got, Over}
 use Rattle.sysv_thread_laws.specs.Order.{Called}
-use Rattle.sysv_passes.specs.Members.{Member, AreWhole, Closes}
+use Rattle.sysv_model.specs.Members.{Member, AreWhole, Closes}
 use Rattle.sysv_thread_laws.specs.Crew.{IsCrew, IsServed}
 use Rattle.sysv_thread_laws.specs.WorkedOrder.{hello, the_order, the_get, the_send, the_receive, the_left, the_removal}
 use Rattle.sysv_thread_laws.specs.WorkedOrder.{the_refused}

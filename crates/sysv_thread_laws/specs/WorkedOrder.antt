@@ -21,7 +21,7 @@ use Rattle.sysv_model.specs.Turn.{Deed, AtSlot, AtRegistry, AtPool}
 use Rattle.sysv_objects.specs.LegalDeed.{AreLegal}
 use Rattle.sysv_steps.specs.Call.{Msgget, Msgsnd, Msgrcv, MsgctlRmid}
 use Rattle.sysv_steps.specs.State.{Receiving, OnArrived, Id, Zero, Got, Refused, State, Waits, Over}
-use Rattle.sysv_passes.specs.Turns.{Numbered, turns_of}
+use Rattle.sysv_model.specs.Turns.{Numbered, turns_of}
 use Rattle.sysv_thread_laws.specs.Order.{Called, AreAll}
 use Rattle.sysv_thread_laws.specs.OrderIsRun.{IsRunWith}
 use Rattle.sysv_thread_laws.specs.AtRest.{AreAtRest}

@@ -1,10 +1,15 @@
 //! Laws of free runs.
 
+ghost use Rattle.sysv_service.specs.TurnsLeft.{NoMarkWithTurnsLeft};
+ghost use Rattle.sysv_steps.specs.Stepping.{no_moment};
 ghost use Rattle.sysv_thread_laws.specs.AtRest.{OrdersAtRest};
 ghost use Rattle.sysv_thread_laws.specs.Crew.{EveryLastPassIsWhole, EveryServiceIsARun};
+ghost use Rattle.sysv_thread_laws.specs.Hiring.{EveryHiringObeys, EveryStopRemoves};
+ghost use Rattle.sysv_thread_laws.specs.Life.{EachRunIsAtAnyMoment, EveryServiceObeys};
 ghost use Rattle.sysv_thread_laws.specs.OnThreads.{EachForgetTakesItsRow, EveryThreadedRunObeys};
 ghost use Rattle.sysv_thread_laws.specs.Order.{NoCallReadsARow};
 ghost use Rattle.sysv_thread_laws.specs.OrderIsRun.{EveryOrderIsARun};
+ghost use Rattle.sysv_thread_laws.specs.PoolWhole.{EveryHiringLeavesThePoolWhole, EveryPoolIsWhole, NoHiringLeavesAGateHeld};
 ghost use Rattle.sysv_thread_laws.specs.RunIsFree.{EachRunIsFree};
 ghost use Rattle.sysv_thread_laws.specs.WorkedCrew.{WorkedCrew};
 ghost use Rattle.sysv_thread_laws.specs.WorkedOrder.{WorkedOrder};
@@ -14,8 +19,9 @@ use sysv_keys::registry_law;
 use sysv_objects::legal_turns;
 use sysv_pool::pool_law;
 use sysv_queue::{blocks_kept, queue_law, removed_for_good};
+use sysv_service::seen_histories;
 use sysv_steps::{
-    after_removal, each_answer_is_right, each_deed_is_asked_for, each_has_one_effect,
+    Clock, after_removal, each_answer_is_right, each_deed_is_asked_for, each_has_one_effect,
     each_holds_its_blocks, one_answer,
 };
 
@@ -104,5 +110,52 @@ pub fn worked_crew()
     ensures { WorkedCrew }
 {
     worked_order();
+    every_service_that_came_home_is_a_run();
+}
+
+/// States that the calls of all passes of a service are one run of a world. The service was opened,
+/// its passes did what they did, all of them were joined into one, and the service was closed with
+/// that one. Then the calls of all passes are all that made the order of turns that is found there,
+/// that order is a run of a world with them, and it obeys the headline of threads. This holds if no
+/// call found a gate worn out, whatever clock each call had.
+pub fn every_service_obeys<C: Clock>(clock: &C)
+    ensures obeys { EveryServiceObeys }
+    ensures stamped { EachRunIsAtAnyMoment (C.may clock.now) }
+    ensures unstamped { EachRunIsAtAnyMoment no_moment }
+{
+    every_service_that_came_home_is_a_run();
+}
+
+/// States the same of a service whose first pass gave a pass to each worker and took all of them
+/// back. The calls of the workers, and those that the first pass made afterwards, are all that made
+/// the order of turns that is found at the close. That order is a run of a world with them, and it
+/// obeys the headline of threads. This holds if fewer than 2^62 turns were made at each object,
+/// with tickets from 0 on: then no call found a gate worn out.
+///
+/// The clause `stops` states that a stop makes removals, and no other call. The clause `unmarked`
+/// states that after so few turns no seat with which the service is closed is marked, if these
+/// seats have the whole service.
+pub fn every_hiring_obeys()
+    ensures obeys { EveryHiringObeys }
+    ensures stops { EveryStopRemoves }
+    ensures unmarked { NoMarkWithTurnsLeft }
+{
+    every_service_that_came_home_is_a_run();
+}
+
+/// States that no gate is held and all blocks of the pool are free after the close of a service, if
+/// all passes have come home, each of their calls is over or was left at a wait, and no call found
+/// a gate worn out.
+///
+/// The clause `hired` states the same of a service whose first pass gave a pass to each worker and
+/// took all of them back, if fewer than 2^62 turns were made at each object, with tickets from 0
+/// on. The clause `none_held` states that no gate is held after the close of such a service, also
+/// if calls found gates worn out.
+pub fn every_pool_is_whole()
+    ensures whole { EveryPoolIsWhole }
+    ensures hired { EveryHiringLeavesThePoolWhole }
+    ensures none_held { NoHiringLeavesAGateHeld }
+{
+    seen_histories();
     every_service_that_came_home_is_a_run();
 }

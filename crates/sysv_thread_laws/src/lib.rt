@@ -1,12 +1,13 @@
 //! Free runs: what threads can make of a world. The turns are those of a world, and what a call
 //! reads between its turns may be anything that the step table admits. One order of all turns, with
-//! the calls that made them, is such a run. The crate contains only laws.
+//! the calls that made them, is such a run: also that of a whole service, from its opening to its
+//! close. The crate contains only laws.
 #![tactic(auto)]
 
 mod laws;
 
 pub use laws::{
-    each_forget_takes_its_row, each_run_is_free, every_order_is_a_run,
-    every_service_that_came_home_is_a_run, every_threaded_run_obeys, no_call_reads_a_row,
-    orders_at_rest, worked_crew, worked_order,
+    each_forget_takes_its_row, each_run_is_free, every_hiring_obeys, every_order_is_a_run,
+    every_pool_is_whole, every_service_obeys, every_service_that_came_home_is_a_run,
+    every_threaded_run_obeys, no_call_reads_a_row, orders_at_rest, worked_crew, worked_order,
 };

@@ -7,4 +7,6 @@ pub mod Apart
 pub mod OneRequest
 pub mod OneReply
 pub mod RequestAnswer
+pub mod WholeRequest
+pub mod ArrivedLemmas
 pub mod ReplyAnswer

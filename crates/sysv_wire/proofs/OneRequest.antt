@@ -25,7 +25,7 @@ op_at n =
     (cond (eqb n 2) op.Snd
     (cond (eqb n 3) op.Rcv (cond (eqb n 4) op.Stat (cond (eqb n 5) op.Set (cond (eqb n 6) op.Rm op.Row))))))
 
-abbrev asked : Version → Ask → Request
+abbrev pub asked : Version → Ask → Request
 asked v a = record { version = v; ask = a }
 
 pub op_back : (o : Op) → op_at (op_number o) ≡ o
@@ -54,13 +54,13 @@ version_same v other e = sym (version_back v) ∙ ap version_at e ∙ version_ba
 pub op_same : (o other : Op) → op_number o ≡ op_number other → o ≡ other
 op_same o other e = sym (op_back o) ∙ ap op_at e ∙ op_back other
 
-abbrev cred : ℕ → ℕ → ℕ → Cred
+abbrev pub cred : ℕ → ℕ → ℕ → Cred
 cred u g p = record { uid = u; gid = g; pid = p }
 
-abbrev flags : ℕ → Flags
+abbrev pub flags : ℕ → Flags
 flags n = record { 0 = n }
 
-abbrev to : ℕ → ℕ → ℕ → ℕ → SetTo
+abbrev pub to : ℕ → ℕ → ℕ → ℕ → SetTo
 to u g m q = record { uid = u; gid = g; mode = m; qbytes = q }
 
 pub ask_same : (a b : Ask) → FitsAsk a → FitsAsk b → op_of a ≡ op_of b → ask_fields a ≡ ask_fields b → a ≡ b

@@ -8,3 +8,4 @@ pub mod ReplyFaults
 pub mod Reading
 pub mod OneSpelling
 pub mod OneAnswer
+pub mod Arrived

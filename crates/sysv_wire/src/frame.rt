@@ -2,6 +2,9 @@
 ghost use Rattle.std.specs.Prelude.{◌≡◌, ◌<◌, IfSome, IfNone};
 ghost use Rattle.sysv_wire.specs.Frames.{IsNoVersion, op_number, version_number};
 
+/// The number of bytes in the length field of a frame.
+pub(crate) const LENGTH_BYTES: usize = 4;
+
 /// The minimum length of a request, in bytes after the length field.
 pub(crate) const MIN_REQUEST: u32 = 2;
 

@@ -74,7 +74,7 @@ fn read_length<R: Read>(reader: &mut Watched<'_, R>) -> Result<Option<u32>, Faul
 }
 
 /// Checks a length against its limits.
-fn check_length(length: u32, least: usize, most: u32) -> Result<(), Fault>
+pub(crate) fn check_length(length: u32, least: usize, most: u32) -> Result<(), Fault>
     ensures within { OnOk result ((least ≤ length) × (length ≤ most)) }
     ensures fault { IfErr result (λ fault. LengthFault least most length fault) }
 {

@@ -1,11 +1,14 @@
 //! Laws about the definitions.
 ghost use Rattle.std.specs.Prelude.{◌≡◌};
-ghost use Rattle.sysv_wire.specs.declared.frame.TheConstants.{MAX_MODE, MAX_REPLY, MAX_REQUEST, MIN_REPLY, MIN_REQUEST};
+ghost use Rattle.sysv_wire.specs.declared.frame.TheConstants.{LENGTH_BYTES, MAX_MODE, MAX_REPLY, MAX_REQUEST, MIN_REPLY, MIN_REQUEST};
+ghost use Rattle.sysv_wire.specs.Arrived.{FrameAlone, FrameStays, FrameTaken, OneFrame};
 ghost use Rattle.sysv_wire.specs.OneAnswer.{OneAnswerToReplies, OneAnswerToRequests};
 ghost use Rattle.sysv_wire.specs.OneSpelling.{OneRequest, OneReply};
 
-/// States the limits of the length of a frame, and the maximum mode.
+/// States the number of bytes in the length field of a frame, the limits of its length, and the
+/// maximum mode.
 pub fn numerals_of_frames()
+    ensures length { LENGTH_BYTES ≡ 4 }
     ensures shortest_request { MIN_REQUEST ≡ 2 }
     ensures longest_request { MAX_REQUEST ≡ 8274 }
     ensures shortest_reply { MIN_REPLY ≡ 3 }
@@ -34,4 +37,27 @@ pub fn one_answer_to_requests()
 /// States that at most one result of reading a reply fits an input.
 pub fn one_answer_to_replies()
     ensures { OneAnswerToReplies }
+{}
+
+/// States that at most one result of `frame_in` fits the same bytes: `Whole` if a request's frame
+/// begins them, `Refused` if they alone cause a fault, and otherwise `More`.
+pub fn one_frame()
+    ensures { OneFrame }
+{}
+
+/// States that the result of `frame_in` stays the same if bytes follow: `More` until `least` bytes
+/// have arrived, and `Whole` and `Refused` always.
+pub fn frame_stays()
+    ensures { FrameStays }
+{}
+
+/// States that a whole frame is still whole without the bytes after it.
+pub fn frame_is_alone()
+    ensures { FrameAlone }
+{}
+
+/// States that reading a request from bytes that begin with a whole frame takes this frame and no
+/// byte after it, unless the reader fails.
+pub fn frame_is_taken()
+    ensures { FrameTaken }
 {}

@@ -12,6 +12,7 @@
 //! ```
 #![tactic(auto)]
 
+mod arrived;
 mod content;
 mod fault;
 mod fields;
@@ -25,10 +26,12 @@ mod reply;
 mod request;
 mod requests;
 
+pub use arrived::{FrameIn, frame_in};
 pub use fault::Fault;
 pub use frame::{MAX_MODE, Op, Version};
 pub use laws::{
-    numerals_of_frames, one_answer_to_replies, one_answer_to_requests, one_reply, one_request,
+    frame_is_alone, frame_is_taken, frame_stays, numerals_of_frames, one_answer_to_replies,
+    one_answer_to_requests, one_frame, one_reply, one_request,
 };
 pub use replies::{read_reply, write_reply};
 pub use reply::{Reply, ReplyContent};

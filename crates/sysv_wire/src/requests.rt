@@ -46,7 +46,7 @@ fn takes_text(op: Op) -> bool
 
 /// Checks the version, then the operation, and then the length, which must be one that the
 /// operation has.
-fn judge(length: u32, version: u8, number: u8) -> Result<(Version, Op), Fault>
+pub(crate) fn judge(length: u32, version: u8, number: u8) -> Result<(Version, Op), Fault>
     ensures version { IfOk result (λ found. version_number found.0 ≡ version) }
     ensures op { IfOk result (λ found. (op_number found.1 ≡ number)
         × IsRequestLength found.1 length) }

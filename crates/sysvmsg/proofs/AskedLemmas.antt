@@ -1,10 +1,11 @@
 -- What a client's command asks for, a command line with it asks for.
 use Rattle.std.proofs.Common.{◌≡◌, ℕ, List, Option, Some, Result, Ok, Err, codes, sym, subst}
-use Rattle.clap.specs.Words.{Row}
+use Rattle.std.specs.Prelude.{IfOk}
+use Rattle.clap.specs.Words.{App, Row}
 use Rattle.sysv_clients.specs.declared.command.Task.{Task}
 use Rattle.sysvmsg.specs.declared.asked.Asked.{Asked}
 use Rattle.sysvmsg.specs.declared.asked.Asked.TheVariants.{Script, Serve, Client}
-use Rattle.sysvmsg.specs.Requests.{AsksFor, ClientAsks, CommandAsks}
+use Rattle.sysvmsg.specs.Requests.{AsksFor, ClientAsks, CommandAsks, IsAskedBy, IsMeant}
 use Rattle.sysvmsg.specs.Tasks.{HasTask}
 use Rattle.sysvmsg.specs.Words.{IsRead}
 
@@ -37,3 +38,9 @@ as_command name words found (Err bad) is not_script not_serve none =
     λ asked h.
     none asked
     (to_client name words not_script not_serve asked (subst (λ (o : Option (List ℕ × List Row)). AsksFor o asked) is h))
+
+-- What a command line with these words asks for, the words mean.
+pub is_meant : {E : Type 0} (r : Result Asked E) (line : App) (words : List (List ℕ)) →
+    IfOk r (IsAskedBy line words) → IfOk r (IsMeant words)
+is_meant (Ok asked) line words h = (line, h)
+is_meant (Err error) line words h = h

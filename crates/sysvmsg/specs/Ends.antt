@@ -4,10 +4,12 @@ use Rattle.std.specs.Fmt.{decimal}
 use Rattle.std.specs.Io.KnownBytes.{Appends}
 use Rattle.std.specs.Process.{exit_status}
 use Rattle.std.specs.declared.process.ExitCode.{ExitCode}
-use Rattle.sysv_server.specs.Serving.{HasReason}
+use Rattle.sysv_server.specs.Serving.{EndsOn, HasReason}
+use Rattle.sysv_server.specs.declared.terms.Ended.{Ended}
 use Rattle.sysv_server.specs.declared.host.Reason.{Reason}
 use Rattle.sysv_server.specs.declared.host.Reason.TheVariants.{Full, InputOver, NoSocket, Accept}
 use Rattle.sysv_server.specs.declared.sums.Sums.{Sums}
+use Rattle.sysv_server.specs.declared.terms.Terms.{Terms}
 
 -- The program succeeds.
 abbrev pub Succeeds : ExitCode → Type 0
@@ -40,8 +42,11 @@ IsMeantToEnd None = ⊤
 abbrev pub HasServed : Sums → Option Reason → (shown after : Option (List ℕ)) → Type 0
 HasServed sums reason shown after = IsMeantToEnd reason × Appends shown after (sums_line sums)
 
--- A server that may have an input, and that was to run this maximum number of sessions, 0 for no
--- limit, served until the input was over or that number was reached, and its sums were printed.
-abbrev pub HasServedAll : Bool → (most : ℕ) → (shown after : Option (List ℕ)) → Type 0
-HasServedAll has_input most shown after = (sums : Sums) × (reason : Option Reason)
-    × HasReason has_input most sums.sessions reason × HasServed sums reason shown after
+-- A server that may have an input served on these terms until the input was over or the maximum
+-- number of sessions was reached, and the sums of its sessions were printed.
+pub record HasServedAll (has_input : Bool) (terms : Terms) (shown after : Option (List ℕ)) : Type 0 where
+  pub ended : Ended
+  pub reason : Option Reason
+  pub ends : EndsOn terms.blocks terms.at_once terms.sessions ended
+  pub meant : HasReason has_input terms.sessions ended.sums.sessions reason
+  pub served : HasServed ended.sums reason shown after

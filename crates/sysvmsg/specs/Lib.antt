@@ -8,4 +8,5 @@ pub mod Tasks
 pub mod Servers
 pub mod Requests
 pub mod Ends
+pub mod Scripts
 pub mod Clients

@@ -31,6 +31,6 @@ abbrev pub IsAskedBy : App → List (List ℕ) → Asked → Type 0
 IsAskedBy line words asked =
     (matches : ArgMatches) × HasMatchesOf line words matches × AsksFor (subcommand_rows_of matches) asked
 
--- Some command, with some words, makes this request.
-abbrev pub IsMeant : Asked → Type 0
-IsMeant asked = (matches : ArgMatches) × AsksFor (subcommand_rows_of matches) asked
+-- These words, on the command line of some table of commands, make this request.
+abbrev pub IsMeant : List (List ℕ) → Asked → Type 0
+IsMeant words asked = (line : App) × IsAskedBy line words asked

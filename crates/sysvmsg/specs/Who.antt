@@ -1,6 +1,7 @@
 -- The credentials that a client states (this project's programs).
-use Rattle.std.specs.Prelude.{unwrap_or}
+use Rattle.std.specs.Prelude.{Bool, ◌||◌, unwrap_or, if◌then◌else◌}
 use Rattle.sysv_model.specs.declared.cred.Cred.{Cred}
+use Rattle.sysvmsg.specs.declared.who.TheConstants.{USUAL}
 use Rattle.sysvmsg.specs.declared.who.Who.{Who}
 
 -- Those that its words state, and for the others the usual ones.
@@ -10,3 +11,8 @@ cred_by who usual = record {
   gid = unwrap_or who.gid usual.gid;
   pid = unwrap_or who.pid usual.pid;
 }
+
+-- Those that its words state, and for the others its own, if the words or the environment want them,
+-- or the usual ones.
+abbrev pub stated_by : Who → Bool → Cred → Cred
+stated_by who wants_me own = cred_by who (if who.me || wants_me then own else USUAL)

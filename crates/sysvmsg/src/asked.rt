@@ -1,14 +1,12 @@
 //! The request that a command line makes.
+
 ghost use Rattle.std.specs.Prelude.{◌≡◌, IfOk, MatchOption, OnOk, codes, is_some, map, pos};
 ghost use Rattle.clap.specs.Words.{app_of, subcommand_rows_of};
 ghost use Rattle.sysvmsg.specs.Asked.{AreAtOnce, AreBlocks, AreTerms, HasLimits, IsWithinLimits};
 ghost use Rattle.sysvmsg.specs.Requests.{AsksFor, ClientAsks, IsAskedBy, IsMeant};
-ghost use Rattle.sysvmsg.specs.Servers.{AsksForAtOnce, AsksForBlocks, AsksForFile, AsksForTerms};
-ghost use Rattle.sysvmsg.specs.Servers.{AsksForWorkers, AsksToServe, HasPath};
-ghost use Rattle.sysvmsg.specs.Tasks.{AsksToList, AsksToMake, AsksToReceive, AsksToRemove, AsksToSend, HasTask};
-ghost use Rattle.sysvmsg.specs.Tasks.{HasHow, NamesTarget, Receives, StatesWho, is_json};
-ghost use Rattle.sysvmsg.specs.Words.{Has, HasFlag, HasMaybe, HasOr, IsMode, IsOctalMode, IsRead};
-ghost use Rattle.sysvmsg.specs.Words.{WantsType, word_of, words_in};
+ghost use Rattle.sysvmsg.specs.Servers.{AsksForAtOnce, AsksForBlocks, AsksForFile, AsksForTerms, AsksForWorkers, AsksToServe, HasPath};
+ghost use Rattle.sysvmsg.specs.Tasks.{AsksToList, AsksToMake, AsksToReceive, AsksToRemove, AsksToSend, HasTask, HasHow, NamesTarget, Receives, StatesWho, is_json};
+ghost use Rattle.sysvmsg.specs.Words.{Has, HasFlag, HasMaybe, HasOr, IsMode, IsOctalMode, IsRead, WantsType, word_of, words_in};
 ghost use Rattle.sysv_words.specs.Words.{IsNat32, IsNat64};
 ghost use Rattle.sysv_clients.specs.Run.{HasShortText};
 ghost use Rattle.sysv_clients.specs.Words.{IsKey, IsType};
@@ -134,7 +132,7 @@ const NO_COMMAND: Bad = "a command is missing";
 /// the words request it.
 pub(crate) fn read_words<'a, S: AsStr>(alloc: Global, words: &'a [S]) -> Result<Asked<'a>, Error>
     ensures limits { IfOk result IsWithinLimits }
-    ensures meaning { IfOk result IsMeant }
+    ensures meaning { IfOk result (IsMeant (map S.text words.entry.now)) }
 {
     let mut line: CommandLine<'a> = command(alloc)?;
     read_line(alloc, &mut line, words)

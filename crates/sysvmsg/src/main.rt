@@ -11,6 +11,7 @@ mod leaver;
 mod place;
 mod plain;
 mod room;
+mod scripts;
 mod serving;
 mod several;
 mod socket;
@@ -21,15 +22,14 @@ use clap::Error;
 use clap::error::ErrorKind;
 use connection::run_as;
 use place::Socket;
+use scripts::answer_script;
 use serving::serve_at;
 use std::fs::File;
 use std::os::fd::{AsRawFd, RawFd};
 use std::process::ExitCode;
 use std::{env, io};
 use sysv_clients::Command;
-use sysv_model::Watched;
-use sysv_script::run_script;
-use who::credentials;
+use who::{credentials, own, wants_me};
 
 /// The exit status if a request was refused or a fault occurred.
 const FAULT: u8 = 1;
@@ -51,7 +51,7 @@ fn main(rt: HostRuntime) -> ExitCode {
         return say(&rt, "no memory");
     };
     match read_words(rt.alloc(), words.as_slice()) {
-        Ok(Asked::Script) => answer_script(&rt),
+        Ok(Asked::Script) => answer_script(&rt, &mut rt.stdin(), &mut rt.stdout()),
         Ok(Asked::Serve(serving)) => serve_at(&rt, rt.stdin(), &serving, &mut io::writer(&rt)),
         Ok(
             Asked::Client {
@@ -61,7 +61,7 @@ fn main(rt: HostRuntime) -> ExitCode {
                 how,
             },
         ) => {
-            let cred = credentials(&rt, &who);
+            let cred = credentials(&who, wants_me(&rt), own());
             let command = Command { cred, task };
             let mut stream = None;
             let place = Socket::new(&rt, path, &mut stream);
@@ -77,21 +77,6 @@ fn main(rt: HostRuntime) -> ExitCode {
             )
         }
         Err(error) => tell(&rt, &error),
-    }
-}
-
-/// Runs the script on standard input, and prints its results on standard output.
-fn answer_script(rt: &HostRuntime) -> ExitCode {
-    let mut script = rt.stdin();
-    let mut answers = rt.stdout();
-    let mut reader = Watched::new(&mut script);
-    let mut writer = Watched::new(&mut answers);
-    match run_script(rt.alloc(), &mut reader, &mut writer) {
-        Ok(()) => ExitCode::SUCCESS,
-        Err(fault) => {
-            let _ = eprintln!(rt; "sysvmsg: {fault}");
-            ExitCode::from(FAULT)
-        }
     }
 }
 

@@ -1,7 +1,7 @@
 //! The server.
 ghost use Rattle.std.specs.Prelude.{IfOk};
 ghost use Rattle.std.specs.Io.KnownBytes.{Appends};
-ghost use Rattle.sysv_server.specs.Serving.{HasReason};
+ghost use Rattle.sysv_server.specs.Serving.{EndsOn, HasReason};
 ghost use Rattle.sysvmsg.specs.Asked.{HasLimits};
 ghost use Rattle.sysvmsg.specs.Ends.{HasServed, HasServedAll, SucceedsOnlyIf, sums_line};
 
@@ -77,7 +77,7 @@ pub(crate) fn serve_at<
     S: Write,
 >(rt: &R, input: I, serving: &Serving<'_>, screen: &mut S) -> ExitCode
     requires { HasLimits serving.now }
-    ensures { SucceedsOnlyIf (HasServedAll serving.now.until_eof serving.now.terms.sessions
+    ensures { SucceedsOnlyIf (HasServedAll serving.now.until_eof serving.now.terms
         (S.contents screen.old) (S.contents screen.new)) result }
 {
     let mut reason = None;
@@ -96,8 +96,10 @@ fn run_server<
     R: Files + Net + Threads + Wait + Sync + Eprint + AllocGlobal + Clone + Drop,
 >(rt: &R, input: I, serving: &Serving<'_>, reason: &mut Option<Reason>) -> Result<Ended, ServeFault>
     requires { HasLimits serving.now }
-    ensures { IfOk result (λ ended. HasReason serving.now.until_eof serving.now.terms.sessions
-        ended.sums.sessions reason.new) }
+    ensures ends { IfOk result (λ ended. EndsOn serving.now.terms.blocks serving.now.terms.at_once
+        serving.now.terms.sessions ended) }
+    ensures meant { IfOk result (λ ended. HasReason serving.now.until_eof
+        serving.now.terms.sessions ended.sums.sessions reason.new) }
 {
     let host = Reporter { rt, serving };
     let input = serving.until_eof.then_some(input);

@@ -1,6 +1,6 @@
 //! The user, the group and the process that a client states.
 ghost use Rattle.std.specs.Prelude.{◌≡◌};
-ghost use Rattle.sysvmsg.specs.Who.{cred_by};
+ghost use Rattle.sysvmsg.specs.Who.{cred_by, stated_by};
 
 use std::env;
 use std::env::Env;
@@ -29,11 +29,13 @@ const USUAL: Cred = Cred {
 /// The environment variable that has the effect of `--me` if its value is 1.
 const ME: &str = "SYSVMSG_ME";
 
-/// Returns the credentials that a client states: those of the words, and for the others the
-/// effective IDs of this process, if the words or the environment want them, or the usual ones.
-pub(crate) fn credentials(rt: &(impl Env + AllocGlobal), who: &Who) -> Cred {
-    if who.me || wants_me(rt) {
-        cred_of(who, own())
+/// Returns the credentials that a client states: those of the words, and for the others `own`, if
+/// the words or the environment want them, or the usual ones.
+pub(crate) fn credentials(who: &Who, wants_me: bool, own: Cred) -> Cred
+    ensures { result ≡ stated_by who.now wants_me own }
+{
+    if who.me || wants_me {
+        cred_of(who, own)
     } else {
         cred_of(who, USUAL)
     }
@@ -51,7 +53,7 @@ fn cred_of(who: &Who, usual: Cred) -> Cred
 }
 
 /// Returns whether the environment wants the IDs of this process.
-fn wants_me(rt: &(impl Env + AllocGlobal)) -> bool {
+pub(crate) fn wants_me(rt: &(impl Env + AllocGlobal)) -> bool {
     match env::var(rt, ME) {
         Ok(value) => value.as_str() == "1",
         Err(_) => false,
@@ -59,7 +61,7 @@ fn wants_me(rt: &(impl Env + AllocGlobal)) -> bool {
 }
 
 /// Returns the effective user and group of this process, and its ID.
-fn own() -> Cred {
+pub(crate) fn own() -> Cred {
     Cred {
         uid: libc::geteuid(),
         gid: libc::getegid(),

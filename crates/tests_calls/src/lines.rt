@@ -1,8 +1,8 @@
 //! Lines of a script.
 use bitflags::Flags as _;
 use std::io::Write;
-use sysv_lines::{Head, Line, Operation, Text, line_of};
 use sysv_model::{Errno, Flags};
+use sysv_script::{Head, Line, Operation, Text, line_of};
 use sysv_steps::{Call, Outcome};
 
 #[test]

@@ -1,8 +1,8 @@
 //! A stage on which lines run.
+
 use std::alloc::Global;
-use sysv_lines::line_of;
 use sysv_model::{NoMemory, Watched};
-use sysv_script::{Output, Stage};
+use sysv_script::{Output, Stage, line_of};
 use tests_kit::mark;
 
 /// Runs one line. Returns false if the line is bad.

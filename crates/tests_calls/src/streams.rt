@@ -1,7 +1,7 @@
 //! Reading line by line, and writing.
-use sysv_lines::Head;
+
 use sysv_model::{Body, Watched};
-use sysv_script::{Input, Output, next_line, read_on};
+use sysv_script::{Head, Input, Output, next_line, read_on};
 
 #[test]
 fn lines_are_found_one_by_one(rt: HostRuntime) {

@@ -1,5 +1,6 @@
 //! Frames, with readers and writers of different behavior.
 
+mod arrived;
 mod faults;
 mod fields;
 mod frames;

@@ -1,5 +1,5 @@
-//! Tests of sessions, and of a server on a real socket, with frames worked out by hand and with
-//! clients.
+//! Tests of sessions, of connections that never wait, and of a server on a real socket, with frames
+//! worked out by hand and with clients.
 #![tactic(auto)]
 
 #[cfg(test)]
@@ -12,3 +12,5 @@ mod parts;
 mod server;
 #[cfg(test)]
 mod session;
+#[cfg(test)]
+mod streams;

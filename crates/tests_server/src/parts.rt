@@ -1,6 +1,6 @@
 //! Helpers of the tests of sessions over a service: the service and a clock.
 ghost use Rattle.std.specs.Prelude.{◌≡◌};
-ghost use Rattle.sysv_shared.specs.Seats.{AreOf};
+ghost use Rattle.sysv_service.specs.Seats.{AreOf};
 
 use std::alloc::Global;
 use std::process::Abort;

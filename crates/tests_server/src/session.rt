@@ -1,6 +1,7 @@
 //! Sessions, with readers and writers of different behavior, over a real queue and over a service.
 
 mod failing;
+mod gathered;
 mod growths;
 mod leaving;
 mod served;

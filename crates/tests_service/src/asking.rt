@@ -4,7 +4,7 @@ ghost use Rattle.std.specs.Prelude.{◌≡◌, ◌≤◌, ◌<◌, [], IfOk, IfS
 ghost use Rattle.sysv_model.specs.Pool.{blocks_for};
 ghost use Rattle.sysv_model.specs.declared.limits.TheConstants.{MESSAGE_BYTES as most_bytes};
 ghost use Rattle.sysv_keys.specs.declared.identifier.TheConstants.{SLOTS as slot_count};
-ghost use Rattle.sysv_shared.specs.Seats.{AreOf};
+ghost use Rattle.sysv_service.specs.Seats.{AreOf};
 
 use std::sync::Wait;
 use sysv_keys::Begun;
@@ -15,7 +15,7 @@ use sysv_objects::{
 };
 use sysv_pool::Chain;
 use sysv_queue::{Discarded, Look, PlaceRefused, Probe, TakeRefused, Taken};
-use sysv_shared::{Gates, Seats};
+use sysv_service::{Gates, Seats};
 
 /// The gate is worn out.
 #[derive(Clone, Copy, PartialEq, Eq, Debug)]

@@ -2,7 +2,7 @@
 
 ghost use Rattle.std.specs.Prelude.{◌≡◌, ◌≤◌, [], length};
 ghost use Rattle.sysv_model.specs.declared.limits.TheConstants.{MESSAGE_BYTES as most_bytes};
-ghost use Rattle.sysv_shared.specs.Seats.{AreOf};
+ghost use Rattle.sysv_service.specs.Seats.{AreOf};
 
 use crate::asking::{
     Worn, begin, forget, install, look, place, probe, release, remove, reserve, row, set, settle,
@@ -18,7 +18,7 @@ use sysv_model::{Errno, IPC_PRIVATE, MESSAGE_BYTES, Selector, SetTo};
 use sysv_objects::Letter;
 use sysv_pool::{Chain, Pool};
 use sysv_queue::{Look, Probe, QueueSlot, Tally};
-use sysv_shared::{Gates, GatesClosed, OpenRefused, Seats, SharedCount};
+use sysv_service::{Gates, GatesClosed, OpenRefused, Seats, SharedCount};
 use tests_kit::{USER, creating};
 
 const LIMIT: u64 = 1 << 62;

@@ -2,7 +2,7 @@
 //! counts the growths after the mark, refuses each, and expects none.
 
 ghost use Rattle.std.specs.Prelude.{◌≡◌};
-ghost use Rattle.sysv_shared.specs.Seats.{AreOf};
+ghost use Rattle.sysv_service.specs.Seats.{AreOf};
 
 use crate::parts::{CLOCK, assert_is, body_of, closed, empty_body, opened};
 use bitflags::Flags as _;

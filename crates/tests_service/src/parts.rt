@@ -1,6 +1,6 @@
 //! Helpers of all of these tests: a service, a clock, and bodies.
 ghost use Rattle.std.specs.Prelude.{◌≡◌, []};
-ghost use Rattle.sysv_shared.specs.Seats.{AreOf};
+ghost use Rattle.sysv_service.specs.Seats.{AreOf};
 
 use std::alloc::Global;
 use std::fmt::Debug;

@@ -8,6 +8,7 @@ mod example;
 mod left;
 mod one_pass;
 mod part;
+mod pieces;
 mod stops;
 mod turns;
 mod waits;

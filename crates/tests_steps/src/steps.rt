@@ -2,19 +2,21 @@
 
 ghost use Rattle.std.specs.Prelude.{◌≡◌, []};
 ghost use Rattle.sysv_steps.specs.Seen.{state_of};
-ghost use Rattle.sysv_driver.specs.Kinds.{Gets, Receives, Removes, Sends, Sets};
+ghost use Rattle.sysv_steps.specs.Kinds.{Gets, Receives, Removes, Sends, Sets};
 ghost use Rattle.sysv_objects.specs.Objects.{CountsUpTo};
 
 use crate::objects::{end, objects_at, turn};
 use crate::parts::{assert_holds, assert_is, open_body};
 use std::alloc::Global;
 use std::process::Abort;
-use sysv_driver::{Clock, get_step, receive_step, remove_step, send_step, set_step, stat_step};
 use sysv_model::{Body, Selector, SetTo};
 use sysv_objects::{ObjectCall, ObjectReply, Objects, Turns};
 use sysv_pool::Chain;
 use sysv_queue::Tally;
-use sysv_steps::{Ending, Getting, Phase, Receiving, Sending, State};
+use sysv_steps::{
+    Clock, Ending, Getting, Phase, Receiving, Sending, State, get_step, receive_step, remove_step,
+    send_step, set_step, stat_step,
+};
 use tests_kit::{USER, creating};
 
 pub(crate) const SEND: Sending = Sending {

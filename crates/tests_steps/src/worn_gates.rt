@@ -3,11 +3,13 @@
 use crate::parts::{assert_is, open_body, open_pool};
 use crate::steps::{RECEIVE, SEND, Still, TO};
 use std::process::Abort;
-use sysv_driver::{get_step, receive_step, remove_step, send_step, set_step, stat_step};
 use sysv_model::{Errno, Flags};
 use sysv_objects::{ObjectCall, ObjectReply, Turns};
 use sysv_pool::Chain;
-use sysv_steps::{Afterwards, Ending, Getting, Phase, State};
+use sysv_steps::{
+    Afterwards, Ending, Getting, Phase, State, get_step, receive_step, remove_step, send_step,
+    set_step, stat_step,
+};
 use tests_kit::USER;
 
 const GET: Getting = Getting {

@@ -1,5 +1,5 @@
 //! Pairs of a msgsnd and a msgrcv.
-ghost use Rattle.sysv_shared.specs.Seats.{AreOf};
+ghost use Rattle.sysv_service.specs.Seats.{AreOf};
 
 use crate::caller::{Still, USER};
 use bitflags::Flags as _;

@@ -1,5 +1,5 @@
 //! A ping-pong.
-ghost use Rattle.sysv_shared.specs.Seats.{AreOf};
+ghost use Rattle.sysv_service.specs.Seats.{AreOf};
 
 use crate::service::pairs::{receive, send};
 use std::sync::Wait;

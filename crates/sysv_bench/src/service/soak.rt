@@ -1,6 +1,6 @@
 //! Random calls of eight threads on twenty queues, with a count of the messages.
 ghost use Rattle.std.specs.Prelude.{◌≡◌, ◌<◌};
-ghost use Rattle.sysv_shared.specs.Seats.{AreOf};
+ghost use Rattle.sysv_service.specs.Seats.{AreOf};
 
 use crate::caller::{Still, USER};
 use crate::service::crew::{Left, run};

@@ -7,7 +7,7 @@ use tests_kit::Pieces;
 use tests_kit::worked::{ANSWERS, SESSION};
 
 /// Bytes, and what a reader of requests returns for them.
-const REQUESTS: &[(&[u8], Result<Option<Request>, Fault>)] = &[
+pub(super) const REQUESTS: &[(&[u8], Result<Option<Request>, Fault>)] = &[
     (&[], Ok(None)),
     (&[0x00], Err(Fault::Truncated)),
     (&[0x00, 0x00, 0x00], Err(Fault::Truncated)),

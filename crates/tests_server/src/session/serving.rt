@@ -1,6 +1,6 @@
 //! Sessions over a service.
 ghost use Rattle.std.specs.Prelude.{◌≡◌};
-ghost use Rattle.sysv_shared.specs.Seats.{AreOf};
+ghost use Rattle.sysv_service.specs.Seats.{AreOf};
 
 use super::served::assert_served;
 use crate::parts::{CLOCK, Still, closed, opened};

@@ -1,5 +1,5 @@
 //! Calls as data.
-ghost use Rattle.sysv_shared.specs.Seats.{AreOf};
+ghost use Rattle.sysv_service.specs.Seats.{AreOf};
 
 use super::board::Moment;
 use super::left::Leaves;

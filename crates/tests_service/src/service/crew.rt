@@ -2,7 +2,7 @@
 ghost use Rattle.std.specs.Prelude.{◌≡◌, [], ◌≤◌, vec_len, vec_capacity, length};
 ghost use Rattle.std.specs.List.{All};
 ghost use Rattle.std.specs.Thread.{IsSync};
-ghost use Rattle.sysv_shared.specs.Seats.{AreOf};
+ghost use Rattle.sysv_service.specs.Seats.{AreOf};
 
 use super::ask::{Ask, make};
 use super::board::Moment;

@@ -1,5 +1,5 @@
 //! Four senders and four receivers at one queue that has room for one byte.
-ghost use Rattle.sysv_shared.specs.Seats.{AreOf};
+ghost use Rattle.sysv_service.specs.Seats.{AreOf};
 
 use super::ask::{Ask, waiting};
 use super::board::Moment;

@@ -1,7 +1,7 @@
 //! A call that waits ends after its caller has left, and takes nothing.
 
 ghost use Rattle.std.specs.Prelude.{ℕ};
-ghost use Rattle.sysv_shared.specs.Seats.{AreOf};
+ghost use Rattle.sysv_service.specs.Seats.{AreOf};
 
 use super::ask::waiting;
 use crate::parts::{CLOCK, assert_is, body_of, closed, opened};

@@ -1,7 +1,7 @@
 //! One pass calls the service.
 
 ghost use Rattle.std.specs.Prelude.{◌≡◌};
-ghost use Rattle.sysv_shared.specs.Seats.{AreOf};
+ghost use Rattle.sysv_service.specs.Seats.{AreOf};
 
 use crate::parts::{CLOCK, assert_is, body_of, closed, empty_body, opened, opened_at};
 use bitflags::Flags as _;

@@ -1,5 +1,5 @@
 //! The tasks of threads.
-ghost use Rattle.sysv_shared.specs.Seats.{AreOf};
+ghost use Rattle.sysv_service.specs.Seats.{AreOf};
 
 use super::ask::{Ask, Told, make};
 use super::board::{Board, Moment};

@@ -1,5 +1,5 @@
 //! Calls that proceed while another call is held, and a receive that looks again.
-ghost use Rattle.sysv_shared.specs.Seats.{AreOf};
+ghost use Rattle.sysv_service.specs.Seats.{AreOf};
 
 use super::ask::Ask;
 use super::board::{Board, LOOKS, Moment};

@@ -1,7 +1,7 @@
 use Rattle.std.proofs.Common.{◌≡◌, []}
 use Rattle.sysv_objects.specs.StandsFor.{MakesTurn}
 use Rattle.sysv_steps.specs.Seen.{phase_of, state_of}
-use Rattle.sysv_driver.specs.Stepping.{lifts}
+use Rattle.sysv_steps.specs.Stepping.{lifts}
 use Rattle.sysv_core.proofs.HeldByStep.{held_get}
 use Rattle.sysv_core.proofs.actor_steps.bare_step.Goals as goal
 

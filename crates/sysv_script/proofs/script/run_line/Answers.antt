@@ -1,4 +1,4 @@
-use Rattle.sysv_lines.specs.SaidBy.{said_of}
+use Rattle.sysv_script.specs.SaidBy.{said_of}
 use Rattle.sysv_script.proofs.Ran.{ran}
 use Rattle.sysv_script.proofs.script.run_line.Goals as goal
 

@@ -1,7 +1,8 @@
 use Rattle.std.proofs.Common.{◌≡◌, ◌∙◌, Result, sym, subst}
-use Rattle.std.specs.Prelude.{IfErr, ⊤}
+use Rattle.std.specs.Prelude.{Err, IfErr, ⊤}
 use Rattle.sysv_model.specs.Watched.{failures_of, failures_after, stream_of}
 use Rattle.sysv_script.specs.declared.fault.ScriptFault.{ScriptFault}
+use Rattle.sysv_script.specs.declared.fault.ScriptFault.TheVariants.{NoMemory}
 use Rattle.sysv_script.specs.Faults.{TellsBadLine, is_read_fault, is_write_fault}
 use Rattle.sysv_script.specs.Written.{WritesScript}
 use Rattle.sysv_script.proofs.FaultLemmas.{tells_end, grows_end, reader_ended, writer_ended}
@@ -22,6 +23,18 @@ returns-clause-prints g c = λ text known.
     c.end.ensures.ok c.end.ensures.err c.end.ensures.fault
     (script_runs c.run_lines-ended.result _ _ text _ _ _ _ _ c.in-Ok.ensures.0 c.in-Ok.ensures.1 known
     c.run_lines-ended.ensures.prints))
+
+pub returns-in_default-clause-obeys : goal.returns-in_default-clause-obeys
+returns-in_default-clause-obeys g c = λ text known.
+    c.each_script_obeys.ensures (Err NoMemory) text (g.W.Write.contents (stream_of c.args.writer.now))
+    (g.W.Write.contents (stream_of c.args.writer.now)) (g.R.Read.remaining (stream_of c.args.reader.now))
+    (returns-in_default-clause-prints g c text known)
+
+pub returns-clause-obeys : goal.returns-clause-obeys
+returns-clause-obeys g c = λ text known.
+    c.each_script_obeys.ensures c.and.result text (g.W.Write.contents (stream_of c.args.writer.now))
+    (g.W.Write.contents (stream_of c.end.new.writer)) (g.R.Read.remaining (stream_of c.run_lines-ended.new.reader))
+    (returns-clause-prints g c text known)
 
 pub returns-clause-grows : goal.returns-clause-grows
 returns-clause-grows g c =

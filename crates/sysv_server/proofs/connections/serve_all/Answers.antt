@@ -1,7 +1,7 @@
 -- The gates that were opened are those that were served, stopped and closed, also after a fault. The
 -- messages that were taken were written or lost.
 use Rattle.std.proofs.Common.{subst, refl}
-use Rattle.sysv_service.specs.Hiring.{Hires}
+use Rattle.sysv_thread_laws.specs.Hiring.{Hires}
 use Rattle.sysv_service.specs.Ran.{Pass}
 use Rattle.sysv_server.specs.Handled.{first_passes, last_passes, told_in}
 use Rattle.sysv_server.specs.OneRun.{Stopped}

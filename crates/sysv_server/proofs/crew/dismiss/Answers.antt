@@ -3,8 +3,8 @@ use Rattle.std.proofs.Common.{◌≡◌, ◌∙◌, ℕ, ◌+◌, ◌∷◌, [],
 use Rattle.std.proofs.lemmas.List.{map-append, reverse-append}
 use Rattle.std.proofs.lemmas.List.Sums.{sum_by_push}
 use Rattle.std.specs.List.{FoldsTo, sum_by}
-use Rattle.sysv_shared.specs.Seats.{AreOf}
-use Rattle.sysv_service.specs.Hiring.{TakesIn}
+use Rattle.sysv_service.specs.Seats.{AreOf}
+use Rattle.sysv_thread_laws.specs.Hiring.{TakesIn}
 use Rattle.sysv_service.specs.Ran.{Pass}
 use Rattle.sysv_server.specs.declared.session.Worker.{Worker}
 use Rattle.sysv_server.specs.declared.sums.Sums.{Sums}

@@ -1,8 +1,8 @@
 use Rattle.std.proofs.Common.{◌≡◌, ◌≤◌, ◌+◌, ◌++◌, map, reverse, vec_len, vec_capacity}
 use Rattle.std.specs.Prelude.{◌^◌, ◌-◌}
 use Rattle.std.specs.List.{All, FoldsTo, sum_by}
-use Rattle.sysv_shared.specs.Seats.{AreOf}
-use Rattle.sysv_service.specs.Hiring.{TakesIn}
+use Rattle.sysv_service.specs.Seats.{AreOf}
+use Rattle.sysv_thread_laws.specs.Hiring.{TakesIn}
 use Rattle.sysv_service.specs.Ran.{Pass}
 use Rattle.sysv_server.specs.Added.{capped}
 use Rattle.sysv_server.proofs.SumsOfSessions.{Adding}

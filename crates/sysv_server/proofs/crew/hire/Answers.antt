@@ -3,8 +3,8 @@ use Rattle.std.proofs.Common.{◌≡◌, ◌∙◌, ◌∷◌, [], ◌++◌, map
 use Rattle.std.proofs.lemmas.List.{map-append}
 use Rattle.std.proofs.lemmas.List.Elements.{All-push}
 use Rattle.std.specs.List.{All, FoldsTo}
-use Rattle.sysv_shared.specs.Seats.{AreOf}
-use Rattle.sysv_service.specs.Hiring.{Gives}
+use Rattle.sysv_service.specs.Seats.{AreOf}
+use Rattle.sysv_thread_laws.specs.Hiring.{Gives}
 use Rattle.sysv_service.specs.Ran.{Pass}
 use Rattle.sysv_server.specs.declared.session.Worker.{Worker}
 use Rattle.sysv_server.specs.Serving.{IsNew}

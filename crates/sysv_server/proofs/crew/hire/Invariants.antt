@@ -1,7 +1,7 @@
 use Rattle.std.proofs.Common.{◌≡◌, ◌≤◌, ◌+◌, ◌++◌, map, reverse, vec_len, vec_capacity}
 use Rattle.std.specs.List.{All, FoldsTo}
-use Rattle.sysv_shared.specs.Seats.{AreOf}
-use Rattle.sysv_service.specs.Hiring.{Gives}
+use Rattle.sysv_service.specs.Seats.{AreOf}
+use Rattle.sysv_thread_laws.specs.Hiring.{Gives}
 use Rattle.sysv_server.specs.Serving.{IsNew}
 use Rattle.sysv_server.proofs.crew.hire.Given as goal
 

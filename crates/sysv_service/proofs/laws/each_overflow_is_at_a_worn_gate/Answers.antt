@@ -1,4 +1,4 @@
-use Rattle.sysv_driver.specs.Stepping.{no_moment}
+use Rattle.sysv_steps.specs.Stepping.{no_moment}
 use Rattle.sysv_service.proofs.OverflowsAtWornGate.{each_overflow, each_stop_overflows}
 use Rattle.sysv_service.proofs.laws.each_overflow_is_at_a_worn_gate.Goals as goal
 

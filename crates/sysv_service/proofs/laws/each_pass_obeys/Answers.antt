@@ -1,5 +1,5 @@
 use Rattle.std.proofs.Common.{subst}
-use Rattle.sysv_shared.specs.SeenHistories.{EachKnowsItsOwn, ObeysIfOpen}
+use Rattle.sysv_service.specs.SeenHistories.{EachKnowsItsOwn, ObeysIfOpen}
 use Rattle.sysv_service.specs.Ran.{Pass}
 use Rattle.sysv_service.proofs.laws.each_pass_obeys.Goals as goal
 

@@ -1,4 +1,4 @@
-use Rattle.sysv_driver.specs.Stepping.{no_moment}
+use Rattle.sysv_steps.specs.Stepping.{no_moment}
 use Rattle.sysv_service.proofs.PlaysOwnTurns.{each_plays}
 use Rattle.sysv_service.proofs.laws.each_plays_its_own.Goals as goal
 

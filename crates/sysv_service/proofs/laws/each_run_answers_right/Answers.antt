@@ -1,5 +1,5 @@
 use Rattle.sysv_service.proofs.ResultIsRight.{each_answers_right}
-use Rattle.sysv_driver.specs.Stepping.{no_moment}
+use Rattle.sysv_steps.specs.Stepping.{no_moment}
 use Rattle.sysv_service.proofs.laws.each_run_answers_right.Goals as goal
 
 pub returns-clause-stamped : goal.returns-clause-stamped

@@ -21,3 +21,15 @@ loop-state-preserved g c =
 pub returns-in-Err-clause-fits : goal.returns-in-Err-clause-fits
 returns-in-Err-clause-fits g c =
     but_last (g.J.Job.fits c.args.job.now) _ _ _ c.in-Some.ensures.items c.loop-state.invariant.fits
+
+pub returns-in-Err-clause-takes : goal.returns-in-Err-clause-takes
+returns-in-Err-clause-takes g c = c.start.ensures.takes ∙ c.loop-state.invariant.takes
+
+pub returns-in-Err-clause-capacity : goal.returns-in-Err-clause-capacity
+returns-in-Err-clause-capacity g c = c.pop.ensures.capacity ∙ c.loop-state.invariant.capacity
+
+pub returns-in-Err-clause-started : goal.returns-in-Err-clause-started
+returns-in-Err-clause-started g c =
+    let on = c.loop-state.invariant.on in
+    let rest = on.0 in
+    (c.in-Some.state, rest, moves _ _ _ rest _ on.1 c.in-Some.ensures.items, on.2, c.in-Err.ensures.err)

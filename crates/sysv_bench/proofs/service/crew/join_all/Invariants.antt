@@ -1,5 +1,5 @@
 use Rattle.std.specs.List.{All}
-use Rattle.sysv_shared.specs.Seats.{AreOf}
+use Rattle.sysv_service.specs.Seats.{AreOf}
 use Rattle.sysv_bench.proofs.service.crew.join_all.Given as goal
 
 -- The last passes were joined.

@@ -1,8 +1,8 @@
 use Rattle.std.proofs.Common.{◌≡◌, None, sym, ap, subst, ◌∙◌, ◌++◌, refl}
-use Rattle.sysv_lines.specs.SaidBy.{call_asked}
+use Rattle.sysv_script.specs.SaidBy.{call_asked}
 use Rattle.sysv_core.specs.World.{actor_at}
 use Rattle.sysv_script.specs.Scene.{StartRuns, StartsAs, GoesOn, call_for, most_steps, under_way, printed}
-use Rattle.sysv_lines.specs.Names.{operation_of}
+use Rattle.sysv_script.specs.Names.{operation_of}
 use Rattle.sysv_lists.proofs.Prefixes.{prefix_self}
 use Rattle.sysv_script.proofs.Kept.{kept, on_ok, on_err}
 use Rattle.sysv_script.proofs.NoneLeft.{none_of}

@@ -1,6 +1,6 @@
 use Rattle.std.proofs.Common.{Option, ap, subst, ◌∙◌, arith}
 use Rattle.sysv_pool.specs.State.{State}
-use Rattle.sysv_shared.specs.Sharing.{AllClose}
+use Rattle.sysv_service.specs.Sharing.{AllClose}
 use Rattle.sysv_service.specs.Closing.{free_in, with_chain, with_slots}
 use Rattle.sysv_service.proofs.service.Service.close.Goals as goal
 

@@ -1,7 +1,7 @@
 use Rattle.std.proofs.Common.{[], subst, w32, to_z, of_z}
 use Rattle.std.proofs.lemmas.Int.{to_z-of_z}
 use Rattle.sysv_steps.specs.Seen.{ending_of}
-use Rattle.sysv_driver.specs.Kinds.{Stats}
+use Rattle.sysv_steps.specs.Kinds.{Stats}
 use Rattle.sysv_service.proofs.ProceedsByStep.{from_start}
 use Rattle.sysv_service.proofs.KindStays.{begin_stats}
 use Rattle.sysv_service.proofs.service.Service.msgctl_stat.Goals as goal

@@ -5,7 +5,7 @@ use Rattle.sysv_steps.specs.Begin.{begin as begins}
 use Rattle.sysv_steps.specs.Resume.{Released}
 use Rattle.sysv_steps.specs.Seen.{ending_of}
 use Rattle.sysv_steps.specs.State.{Ending, Over}
-use Rattle.sysv_shared.specs.Reading.{Reads}
+use Rattle.sysv_service.specs.Reading.{Reads}
 use Rattle.sysv_service.specs.Left.{IsLeft}
 use Rattle.sysv_service.specs.Ran.{Pass, Comes}
 use Rattle.sysv_service.specs.Told.{TellsZero}

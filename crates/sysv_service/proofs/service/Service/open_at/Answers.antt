@@ -1,5 +1,5 @@
 use Rattle.std.proofs.Common.{sym, subst}
-use Rattle.sysv_shared.specs.Seats.{AreOf}
+use Rattle.sysv_service.specs.Seats.{AreOf}
 use Rattle.sysv_service.proofs.FirstPassFits.{first_fits}
 use Rattle.sysv_service.proofs.service.Service.open_at.Goals as goal
 

@@ -1,6 +1,6 @@
 use Rattle.std.proofs.Common.{subst}
-use Rattle.sysv_driver.specs.Giving.{StepsGiving}
-use Rattle.sysv_shared.specs.Seats.{MakesTurnAt, FindsWorn}
+use Rattle.sysv_steps.specs.Giving.{StepsGiving}
+use Rattle.sysv_service.specs.Seats.{MakesTurnAt, FindsWorn}
 use Rattle.sysv_service.specs.Ran.{Pass}
 use Rattle.sysv_service.proofs.service.Service.receive_step.Goals as goal
 

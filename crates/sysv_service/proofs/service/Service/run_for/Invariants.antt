@@ -1,5 +1,5 @@
 use Rattle.sysv_steps.specs.Seen.{state_of}
-use Rattle.sysv_shared.specs.Seats.{AreOf}
+use Rattle.sysv_service.specs.Seats.{AreOf}
 use Rattle.sysv_service.specs.Ran.{Comes}
 use Rattle.sysv_service.proofs.service.Service.run_for.Given as goal
 

@@ -1,5 +1,5 @@
 use Rattle.std.proofs.Common.{◌≤◌}
-use Rattle.sysv_shared.specs.Seats.{AreOf}
+use Rattle.sysv_service.specs.Seats.{AreOf}
 use Rattle.sysv_service.specs.Stopped.{Stops}
 use Rattle.sysv_service.proofs.service.Service.stop.Given as goal
 

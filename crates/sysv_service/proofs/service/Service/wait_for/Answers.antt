@@ -3,7 +3,7 @@ use Rattle.std.proofs.Math.Nat.{min-le_left}
 use Rattle.sysv_steps.specs.Resume.{awaited, goal_of}
 use Rattle.sysv_steps.specs.Seen.{wait_of, state_of}
 use Rattle.sysv_steps.specs.State.{Goes}
-use Rattle.sysv_shared.specs.Reading.{Awaits}
+use Rattle.sysv_service.specs.Reading.{Awaits}
 use Rattle.sysv_service.specs.Waited.{goal_seen}
 use Rattle.sysv_service.proofs.service.Service.wait_for.Goals as goal
 

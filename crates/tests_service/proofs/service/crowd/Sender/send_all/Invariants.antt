@@ -1,4 +1,4 @@
-use Rattle.sysv_shared.specs.Seats.{AreOf}
+use Rattle.sysv_service.specs.Seats.{AreOf}
 use Rattle.tests_service.proofs.service.crowd.Sender.send_all.Given as goal
 
 -- The pass is one of the service.

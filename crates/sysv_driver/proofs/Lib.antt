@@ -1,3 +1,0 @@
-pub mod KindStays
-pub mod StepFromReply
-pub mod ReceiveGivesTaken

@@ -1,4 +1,0 @@
-pub mod CallNames
-pub mod LineKinds
-pub mod CallsReadOnce
-pub mod OneSaying

@@ -1,5 +1,0 @@
-use Rattle.sysv_lines.proofs.OneSaying.{says_once}
-use Rattle.sysv_lines.proofs.laws.one_saying.Goals as goal
-
-pub returns : goal.returns
-returns c = says_once c.words_are_read.ensures

@@ -1,0 +1,120 @@
+-- The pieces of a call, one after another, are the call. This project's profile.
+use Rattle.std.proofs.Common.{ℕ, ℤ, inl, inr, List, [], ◌∷◌, ◌++◌, ◌⊎◌, Result, Ok, Err, IfOk, subst}
+use Rattle.std.specs.Prelude.{⊤}
+use Rattle.sysv_model.specs.declared.errno.Errno.{Errno}
+use Rattle.sysv_model.specs.Turn.{Deed}
+use Rattle.sysv_queue.specs.Delivery.{Given}
+use Rattle.sysv_steps.specs.State.{Phase, State, Wait, Goes, Waits, Over}
+use Rattle.sysv_steps.specs.Resume.{awaited}
+use Rattle.sysv_steps.specs.Giving.{HaveTaken}
+use Rattle.sysv_service.specs.declared.progress.Progress.{Progress}
+use Rattle.sysv_service.specs.declared.progress.Progress.TheVariants as progress
+use Rattle.sysv_service.specs.declared.progress.ReceiveWait.{ReceiveWait}
+use Rattle.sysv_service.specs.declared.progress.SendWait.{SendWait}
+use Rattle.sysv_service.specs.declared.progress.GetWait.{GetWait}
+use Rattle.sysv_service.specs.Ran.{Pass, Ran, begins, steps, turns_back, reads, resumes, gives_up, Comes}
+use Rattle.sysv_service.specs.Delivered.{HasGiven}
+use Rattle.sysv_service.specs.UnderWay.{ReceivesOn, SendsOn, GetsOn, IsReached, StillWaits}
+
+-- ---- what was taken was taken on the whole way
+
+taken_before : (given : Given) (deeds more : List Deed) → HaveTaken given deeds → HaveTaken given (deeds ++ more)
+taken_before given [] more has = absurd has
+taken_before given (d ∷ ds) more (inl takes) = inl takes
+taken_before given (d ∷ ds) more (inr has) = inr (taken_before given ds more has)
+
+taken_after : (given : Given) (deeds more : List Deed) → HaveTaken given more → HaveTaken given (deeds ++ more)
+taken_after given [] more has = has
+taken_after given (d ∷ ds) more has = inr (taken_after given ds more has)
+
+taken_in_part : (given : Given) (deeds more : List Deed) → HaveTaken given (deeds ++ more) →
+    HaveTaken given deeds ⊎ HaveTaken given more
+taken_in_part given [] more has = inr has
+taken_in_part given (d ∷ ds) more (inl takes) = inl (inl takes)
+taken_in_part given (d ∷ ds) more (inr has) = elim (taken_in_part given ds more has) [
+  | inl here ↦ inl (inr here)
+  | inr there ↦ inr there
+]
+
+-- What is taken in the second list is taken in the first.
+abbrev pub Keeps : List Deed → List Deed → Type 0
+Keeps all deeds = (given : Given) → HaveTaken given deeds → HaveTaken given all
+
+keeps_on : (all deeds more : List Deed) → Keeps all deeds → Keeps (all ++ more) (deeds ++ more)
+keeps_on all deeds more keeps = λ given has. elim (taken_in_part given deeds more has) [
+  | inl here ↦ taken_before given all more (keeps given here)
+  | inr there ↦ taken_after given all more there
+]
+
+-- ---- one piece after another
+
+module _ (may : ℕ → Type 0) (from : State) (old : Pass) (there : State) (here : Pass) where
+  -- The whole way, with all turns that were made on it.
+  abbrev pub Whole : List Deed → State → Pass → Type 0
+  Whole deeds state new = (all : List Deed) × Ran may from old all state new × Keeps all deeds
+
+  through : Comes may from old there here → (deeds : List Deed) (state : State) (new : Pass) →
+      Ran may there here deeds state new → Whole deeds state new
+  through came _ _ _ begins = (came.0, came.1, λ given has. absurd has)
+  through came _ _ _ (steps {deeds} {phase} {mid} state new ran step) =
+      let before = through came deeds (Goes phase) mid ran in
+      (before.0 ++ step.deed ∷ [], steps state new before.1 step, keeps_on before.0 deeds (step.deed ∷ []) before.2)
+  through came _ _ _ (turns_back {deeds} {phase} {mid} state new ran step) =
+      let before = through came deeds (Goes phase) mid ran in
+      (before.0 ++ step.deeds, turns_back state new before.1 step, keeps_on before.0 deeds step.deeds before.2)
+  through came _ _ _ (reads {deeds} {state} {mid} count value new ran r same) =
+      let before = through came deeds state mid ran in
+      (before.0, reads count value new before.1 r same, before.2)
+  through came _ _ _ (resumes {deeds} {wait} {mid} value new ran reached r same) =
+      let before = through came deeds (Waits wait) mid ran in
+      (before.0, resumes value new before.1 reached r same, before.2)
+  through came _ _ _ (gives_up {deeds} {wait} {mid} value new ran below r same) =
+      let before = through came deeds (Waits wait) mid ran in
+      (before.0, gives_up value new before.1 below r same, before.2)
+
+  pub comes_on : (state : State) (new : Pass) → Comes may from old there here → Comes may there here state new →
+      Comes may from old state new
+  comes_on state new came goes =
+      let whole = through came goes.0 state new goes.1 in
+      (whole.0, whole.1)
+
+  pub given_on : (given : Given) (new : Pass) → Comes may from old there here → HasGiven may there here given new →
+      HasGiven may from old given new
+  given_on given new came has =
+      let whole = through came has.deeds (Over has.ending) new has.ran in
+      record { ending = has.ending; deeds = whole.0; ran = whole.1; taken = whole.2 given has.taken }
+
+  pub if_given : (told : Result Given Errno) (new : Pass) → Comes may from old there here →
+      IfOk told (λ given. HasGiven may there here given new) → IfOk told (λ given. HasGiven may from old given new)
+  if_given (Ok given) new came has = given_on given new came has
+  if_given (Err why) new came has = tt
+
+  pub receives_on : (p : Progress ReceiveWait (Result Given Errno)) (out : List ℕ) (new : Pass) →
+      Comes may from old there here → ReceivesOn may there here p out new → ReceivesOn may from old p out new
+  receives_on (progress.Waits w) out new came on = (comes_on _ new came on.0, on.1)
+  receives_on (progress.Over told) out new came on =
+      ((on.0.0, comes_on (Over on.0.0) new came on.0.1, on.0.2), if_given told new came on.1)
+
+  pub sends_on : (p : Progress SendWait (Result ⊤ Errno)) (text : List ℕ) (new : Pass) →
+      Comes may from old there here → SendsOn may there here p text new → SendsOn may from old p text new
+  sends_on (progress.Waits w) text new came on = (comes_on _ new came on.0, on.1)
+  sends_on (progress.Over told) text new came on = (on.0, comes_on (Over on.0) new came on.1, on.2)
+
+  pub gets_on : (p : Progress GetWait (Result ℤ Errno)) (new : Pass) → Comes may from old there here →
+      GetsOn may there here p new → GetsOn may from old p new
+  gets_on (progress.Waits w) new came on = comes_on _ new came on
+  gets_on (progress.Over told) new came on = (on.0, comes_on (Over on.0) new came on.1, on.2)
+
+-- ---- a look
+
+module _ (may : ℕ → Type 0) (from : State) (old : Pass) (wait : Wait) (mid : Pass) where
+  -- The call goes on.
+  pub comes_to_goal : (phase : Phase) (new : Pass) → Comes may from old (Waits wait) mid →
+      IsReached wait mid phase new → Comes may from old (Goes phase) new
+  comes_to_goal phase new came look =
+      subst (λ p. Comes may from old (Goes p) new) look.4 (came.0, resumes look.0 new came.1 look.1 look.2 look.3)
+
+  -- The call still waits.
+  pub comes_to_wait : (new : Pass) → Comes may from old (Waits wait) mid → StillWaits wait mid new →
+      Comes may from old (Waits wait) new
+  comes_to_wait new came look = (came.0, reads (awaited wait) look.0.0 new came.1 look.0.2 look.1)

@@ -1,0 +1,200 @@
+//! Replies that a connection has not taken yet.
+ghost use Rattle.std.specs.Prelude.{◌≡◌, ◌≤◌, ◌<◌, ◌+◌, ◌^◌, ◌++◌, [], length, IfErr, OnErr, OnOk};
+ghost use Rattle.sysv_model.specs.declared.limits.TheConstants.{MESSAGE_BYTES};
+ghost use Rattle.sysv_queue.specs.Tally.{taken_in};
+ghost use Rattle.sysv_session.specs.Answers.{message_reply as the_reply};
+ghost use Rattle.sysv_session.specs.Outbox.{beyond, more_lost, more_written, with_frame, with_message, within, without};
+ghost use Rattle.sysv_wire.specs.Replies.{IsAnswer, reply_spelling};
+
+use crate::turn::message_reply;
+use std::alloc::{AllocFailed, Global};
+use std::collections::VecDeque;
+use std::marker::Model;
+use sysv_model::{Body, NoMemory, Watched};
+use sysv_queue::{Delivery, Tally};
+use sysv_wire::{Reply, Version, WriteFault, write_reply};
+
+/// Replies that a connection has not taken yet, and the deliveries of the messages in them.
+///
+/// Put replies into it with `put` and `put_message`, give `unsent` to the connection, and report
+/// with `sent` how many bytes it took. Each delivery is spent once: as written as soon as the
+/// connection has taken its frame whole, or as lost by `end`.
+///
+/// An outbox can be neither dropped nor copied. Spend it with `end`.
+pub struct Outbox {
+    bytes: Vec<u8>,
+    marks: VecDeque<Mark>,
+}
+
+impl Model for Outbox {
+    ghost use Rattle.sysv_session.specs.Outbox.{Unsent};
+
+    ghost Value = { Unsent };
+
+    ghost view = { λ o. record { bytes = o.bytes.items; marks = o.marks.items } };
+}
+
+/// A delivery whose frame ends in an outbox.
+struct Mark {
+    /// The number of bytes of the outbox up to the end of the frame.
+    ends: usize,
+    delivery: Delivery,
+}
+
+impl Model for Mark {
+    ghost use Rattle.sysv_session.specs.Outbox.{Mark as Marked};
+
+    ghost Value = { Marked };
+
+    ghost view = { λ m. record { ends = m.ends; given = m.delivery } };
+}
+
+impl Outbox {
+    /// Creates an outbox without replies. Allocates nothing.
+    pub fn open(alloc: Global) -> Outbox
+        ensures { result ≡ record { bytes = []; marks = [] } }
+    {
+        Outbox {
+            bytes: Vec::new(alloc),
+            marks: VecDeque::new(alloc),
+        }
+    }
+
+    /// Returns the bytes that the connection has not taken yet.
+    pub fn unsent(&self) -> &[u8]
+        ensures { result.now ≡ self.now.bytes }
+    {
+        self.bytes.as_slice()
+    }
+
+    /// Appends the frame of a reply. If the reply carries a message, its body is `text`; for any
+    /// other reply `text` is ignored.
+    ///
+    /// # Errors
+    ///
+    /// - `NoMemory` if allocation fails. The outbox is unchanged.
+    ///
+    /// # Conditions
+    ///
+    /// - The reply is one that its operation has in its version.
+    /// - `text` has at most 8,192 bytes.
+    pub fn put(&mut self, reply: &Reply, text: &Body) -> Result<(), NoMemory>
+        requires answer { IsAnswer reply.now.version reply.now.op reply.now.result }
+        requires text { length text.now ≤ MESSAGE_BYTES }
+        ensures ok { OnOk result
+            (self.new ≡ with_frame (reply_spelling reply.now text.now) self.old) }
+        ensures err { OnErr result (self.new ≡ self.old) }
+    {
+        append(&mut self.bytes, reply, text)
+    }
+
+    /// Appends the frame of the reply to a receive, and keeps its delivery. `given` is the body of
+    /// the message.
+    ///
+    /// # Errors
+    ///
+    /// - `AllocFailed` with the delivery if allocation fails. The outbox is unchanged.
+    ///
+    /// # Conditions
+    ///
+    /// - `given` has at most 8,192 bytes.
+    pub fn put_message(
+        &mut self,
+        version: Version,
+        delivery: Delivery,
+        given: &Body,
+    ) -> Result<(), AllocFailed<Delivery>>
+        requires text { length given.now ≤ MESSAGE_BYTES }
+        ensures ok { OnOk result (self.new ≡ with_message (reply_spelling
+            (the_reply version delivery.mtype) given.now) delivery self.old) }
+        ensures err { OnErr result (self.new ≡ self.old) }
+        ensures returned { IfErr result (λ failed. failed.value ≡ delivery) }
+    {
+        let reply = message_reply(version, &delivery);
+        if self.marks.reserve(1).is_err() || append(&mut self.bytes, &reply, given).is_err() {
+            return Err(AllocFailed { value: delivery });
+        }
+        let ends = self.bytes.len();
+        self.marks.push_back_reserved(Mark { ends, delivery });
+        Ok(())
+    }
+
+    /// Removes the first `n` bytes, which the connection has taken, and spends as written each
+    /// delivery whose frame ends in them.
+    ///
+    /// # Conditions
+    ///
+    /// - There are at least `n` bytes.
+    /// - The tally can count one more message for each delivery in the outbox.
+    pub fn sent(&mut self, n: usize, tally: &mut Tally)
+        requires some { n ≤ length self.old.bytes }
+        requires room { taken_in tally.old + length self.old.marks < 2 ^ 64 }
+        ensures after { self.new ≡ without n self.old }
+        ensures tally { tally.new ≡ more_written (within n self.old.marks) tally.old }
+        // Each delivery is in the outbox, or was counted once.
+        ensures each { taken_in tally.new + length self.new.marks
+            ≡ taken_in tally.old + length self.old.marks }
+    {
+        self.bytes.drain(..n);
+        self.spend_written(n, tally);
+    }
+
+    /// Spends as written each delivery whose frame ends in the first `n` bytes, which were removed.
+    fn spend_written(&mut self, n: usize, tally: &mut Tally)
+        requires room { taken_in tally.old + length self.old.marks < 2 ^ 64 }
+        ensures bytes { self.new.bytes ≡ self.old.bytes }
+        ensures marks { self.new.marks ≡ beyond n self.old.marks }
+        ensures tally { tally.new ≡ more_written (within n self.old.marks) tally.old }
+    {
+        for _ in 0..self.marks.len() {
+            let Some(Mark { ends, delivery }) = self.marks.pop_front() else {
+                unreachable!()
+            };
+            if ends <= n {
+                delivery.written(tally);
+            } else {
+                self.marks.push_back_reserved(Mark {
+                    ends: ends - n,
+                    delivery,
+                });
+            }
+        }
+    }
+
+    /// Ends the outbox, and spends as lost each delivery in it.
+    ///
+    /// # Conditions
+    ///
+    /// - The tally can count one more message for each delivery in the outbox.
+    pub fn end(self, tally: &mut Tally)
+        requires room { taken_in tally.old + length self.marks < 2 ^ 64 }
+        ensures tally { tally.new ≡ more_lost (length self.marks) tally.old }
+    {
+        let Outbox {
+            bytes: _,
+            mut marks,
+        } = self;
+        while let Some(Mark { ends: _, delivery }) = marks.pop_front() {
+            delivery.lost(tally);
+        }
+        marks.destroy_empty();
+    }
+}
+
+/// Appends the frame of a reply. After an error the bytes are unchanged.
+fn append(bytes: &mut Vec<u8>, reply: &Reply, text: &Body) -> Result<(), NoMemory>
+    requires answer { IsAnswer reply.now.version reply.now.op reply.now.result }
+    requires text { length text.now ≤ MESSAGE_BYTES }
+    ensures ok { OnOk result
+        (bytes.new.items ≡ bytes.old.items ++ reply_spelling reply.now text.now) }
+    ensures err { OnErr result (bytes.new.items ≡ bytes.old.items) }
+{
+    let before = bytes.len();
+    match write_reply(&mut Watched::new(bytes), reply, text) {
+        Ok(()) => Ok(()),
+        Err(WriteFault) => {
+            bytes.truncate(before);
+            Err(NoMemory)
+        }
+    }
+}

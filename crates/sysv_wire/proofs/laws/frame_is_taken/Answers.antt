@@ -1,0 +1,5 @@
+use Rattle.sysv_wire.proofs.ArrivedLemmas as arrived
+use Rattle.sysv_wire.proofs.laws.frame_is_taken.Goals as goal
+
+pub returns : goal.returns
+returns c = arrived.frame_taken

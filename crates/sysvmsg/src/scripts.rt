@@ -1,0 +1,31 @@
+//! Scripts.
+ghost use Rattle.std.specs.Prelude.{◌≡◌, ℕ, List, Some};
+ghost use Rattle.sysvmsg.specs.Scripts.{AnswersScript};
+
+use crate::FAULT;
+use std::io::{Eprint, Read, Write};
+use std::process::ExitCode;
+use sysv_model::Watched;
+use sysv_script::run_script;
+
+/// Runs the script that `script` returns, and writes its results to `answers`. A fault is reported
+/// on standard error.
+pub(crate) fn answer_script<R: Read, W: Write>(
+    rt: &(impl Eprint + AllocGlobal),
+    script: &mut R,
+    answers: &mut W,
+) -> ExitCode
+    ensures { (text : List ℕ) → R.remaining script.old ≡ Some text →
+        AnswersScript result text (W.contents answers.old) (W.contents answers.new)
+        (R.remaining script.new) }
+{
+    let mut reader = Watched::new(script);
+    let mut writer = Watched::new(answers);
+    match run_script(rt.alloc(), &mut reader, &mut writer) {
+        Ok(()) => ExitCode::SUCCESS,
+        Err(fault) => {
+            let _ = eprintln!(rt; "sysvmsg: {fault}");
+            ExitCode::from(FAULT)
+        }
+    }
+}

@@ -1,0 +1,235 @@
+//! Replies that are gathered for a connection that takes them in pieces.
+ghost use Rattle.std.specs.Prelude.{◌≡◌, ◌≢◌, ◌≤◌, ◌+◌, length};
+ghost use Rattle.sysv_model.specs.declared.limits.TheConstants.{MESSAGE_BYTES};
+ghost use Rattle.sysv_queue.specs.Tally.{taken_in};
+ghost use Rattle.sysv_session.specs.Answers.{HasAnswer};
+ghost use Rattle.sysv_wire.specs.Replies.{IsAnswer};
+ghost use Rattle.sysv_wire.specs.Requests.{op_of};
+
+use super::served::counts_of;
+use super::shelf::Shelf;
+use std::alloc::AllocFailed;
+use std::process::Abort;
+use sysv_model::{Body, Watched};
+use sysv_queue::{Delivery, Tally};
+use sysv_session::{End, Kernel, Outbox, RequestOutcome, Session, TakenUp, hello_reply};
+use sysv_wire::{Ask, Op, Reply, ReplyContent, Request, Version};
+use tests_kit::worked::{ANSWERS, SESSION};
+use tests_kit::{Pieces, USER, creating, flags, open_body};
+
+/// The frames of the reply to a send and of two replies to receives of `hi` with type 5.
+const GATHERED: &[u8] = &[
+    0x00, 0x00, 0x00, 0x03, 0x01, 0x02, 0x00, //
+    0x00, 0x00, 0x00, 0x0d, 0x01, 0x03, 0x00, 0x00, 0x00, 0x00, 0x00, 0x00, 0x00, 0x00, 0x05, 0x68,
+    0x69, //
+    0x00, 0x00, 0x00, 0x0d, 0x01, 0x03, 0x00, 0x00, 0x00, 0x00, 0x00, 0x00, 0x00, 0x00, 0x05, 0x68,
+    0x69,
+];
+
+/// Makes a request that has a reply without a message.
+fn asked(rt: &impl Abort, kernel: &mut Shelf, ask: Ask, text: &Body, given: &mut Body)
+    requires { op_of ask ≢ Op.Hello }
+{
+    given.clear();
+    let version = Version::One;
+    match kernel.call(USER, &Request { version, ask }, text, given) {
+        RequestOutcome::Reply(_) => {}
+        RequestOutcome::Got(_delivery) => panic!(rt; "only a receive returns a message"),
+        RequestOutcome::Left => panic!(rt; "nothing waits"),
+    }
+}
+
+/// Sends `text` with type 5 to queue 0 and receives it. Its body is then in `given`.
+fn received(rt: &impl Abort, kernel: &mut Shelf, text: &Body, given: &mut Body) -> Delivery
+    ensures { length given.new ≤ MESSAGE_BYTES }
+{
+    let flags = flags(0);
+    let (id, mtype) = (0, 5);
+    asked(rt, kernel, Ask::Snd { id, mtype, flags }, text, given);
+    given.clear();
+    let request = Request {
+        version: Version::One,
+        ask: Ask::Rcv {
+            id,
+            size: 100,
+            mtype,
+            flags,
+        },
+    };
+    match kernel.call(USER, &request, text, given) {
+        RequestOutcome::Got(delivery) => delivery,
+        RequestOutcome::Reply(_) => panic!(rt; "a message is queued"),
+        RequestOutcome::Left => panic!(rt; "nothing waits"),
+    }
+}
+
+/// Gathers a reply. Tolerates one refusal of memory, after which nothing was gathered.
+fn put(rt: &impl Abort, outbox: &mut Outbox, reply: &Reply, text: &Body)
+    requires answer { IsAnswer reply.now.version reply.now.op reply.now.result }
+    requires text { length text.now ≤ MESSAGE_BYTES }
+    ensures { length outbox.new.marks ≡ length outbox.old.marks }
+{
+    let before = outbox.unsent().len();
+    if outbox.put(reply, text).is_err() {
+        assert_eq!(rt; outbox.unsent().len(), before);
+        outbox.put(reply, text).expect(rt, "a second try");
+    }
+}
+
+/// Gathers a message. Tolerates one refusal of memory, after which nothing was gathered.
+fn put_message(
+    rt: &impl Abort,
+    outbox: &mut Outbox,
+    version: Version,
+    delivery: Delivery,
+    given: &Body,
+)
+    requires { length given.now ≤ MESSAGE_BYTES }
+    ensures { length outbox.new.marks ≡ length outbox.old.marks + 1 }
+{
+    let before = outbox.unsent().len();
+    if let Err(AllocFailed { value }) = outbox.put_message(version, delivery, given) {
+        assert_eq!(rt; outbox.unsent().len(), before);
+        if let Err(AllocFailed { value: _value }) = outbox.put_message(version, value, given) {
+            panic!(rt; "a second try");
+        }
+    }
+}
+
+/// Lets the connection take `count` bytes more, and asserts what is then left and how many messages
+/// were written.
+fn take(
+    rt: &impl Abort,
+    outbox: &mut Outbox,
+    count: usize,
+    tally: &mut Tally,
+    left: &[u8],
+    written: u64,
+)
+    requires { taken_in tally.old + length outbox.old.marks ≤ 2 }
+    ensures { taken_in tally.new + length outbox.new.marks ≤ 2 }
+{
+    let count = count.min(outbox.unsent().len());
+    outbox.sent(count, tally);
+    assert_eq!(rt; outbox.unsent(), left);
+    assert_eq!(rt; (tally.written(), tally.lost()), (written, 0));
+}
+
+// The first message is written once the last byte of its frame was taken, and the second is lost.
+#[test]
+fn a_message_is_written_once_its_frame_was_taken(rt: HostRuntime) {
+    let mut kernel = Shelf::open(&rt, rt.alloc());
+    let mut text = open_body(rt.alloc()).expect(&rt, "a second try");
+    let mut given = open_body(rt.alloc()).expect(&rt, "a second try");
+    let get = Ask::Get {
+        key: 7,
+        flags: creating(),
+    };
+    asked(&rt, &mut kernel, get, &text, &mut given);
+    text.push_piece(b"hi");
+    let mut tally = Tally::open();
+    let mut outbox = Outbox::open(rt.alloc());
+    let sent = Reply {
+        version: Version::One,
+        op: Op::Snd.number(),
+        result: ReplyContent::Snd,
+    };
+    put(&rt, &mut outbox, &sent, &text);
+    let first = received(&rt, &mut kernel, &text, &mut given);
+    put_message(&rt, &mut outbox, Version::One, first, &given);
+    let second = received(&rt, &mut kernel, &text, &mut given);
+    put_message(&rt, &mut outbox, Version::One, second, &given);
+    assert_eq!(rt; outbox.unsent(), GATHERED);
+    take(&rt, &mut outbox, 7, &mut tally, &GATHERED[7..], 0);
+    take(&rt, &mut outbox, 16, &mut tally, &GATHERED[23..], 0);
+    take(&rt, &mut outbox, 1, &mut tally, &GATHERED[24..], 1);
+    take(&rt, &mut outbox, 16, &mut tally, &GATHERED[40..], 1);
+    outbox.end(&mut tally);
+    assert_eq!(rt; (tally.written(), tally.lost()), (1, 1));
+    assert_eq!(rt; kernel.end(), 128);
+}
+
+/// A session whose replies are gathered, and its two bodies.
+struct Gathering {
+    session: Session,
+    outbox: Outbox,
+    text: Body,
+    given: Body,
+}
+
+impl Gathering {
+    /// Gathers the outcome of a request.
+    fn answer(&mut self, rt: &impl Abort, version: Version, outcome: RequestOutcome)
+        requires reply { HasAnswer outcome }
+        requires text { length self.old.given ≤ MESSAGE_BYTES }
+        ensures session { self.new.session ≡ self.old.session }
+        ensures marks { length self.new.outbox.marks ≤ length self.old.outbox.marks + 1 }
+    {
+        match outcome {
+            RequestOutcome::Reply(reply) => put(rt, &mut self.outbox, &reply, &self.given),
+            RequestOutcome::Got(delivery) => {
+                put_message(rt, &mut self.outbox, version, delivery, &self.given);
+            }
+            RequestOutcome::Left => panic!(rt; "nothing waits"),
+        }
+    }
+
+    /// Takes up what the input holds next, and gathers its reply.
+    fn step(
+        &mut self,
+        rt: &impl Abort,
+        reader: &mut Watched<'_, Pieces<'_>>,
+        kernel: &mut Shelf,
+    ) -> Result<(), End>
+        ensures tally { self.new.session.tally ≡ self.old.session.tally }
+        ensures marks { length self.new.outbox.marks ≤ length self.old.outbox.marks + 1 }
+    {
+        let taken = self.session.take_up(reader, &mut self.text)?;
+        self.given.clear();
+        match taken {
+            TakenUp::Hello(version) => {
+                let reply = hello_reply(version, kernel.slots());
+                put(rt, &mut self.outbox, &reply, &self.given);
+            }
+            TakenUp::Request(cred, request) => {
+                let outcome = kernel.call(cred, &request, &self.text, &mut self.given);
+                self.answer(rt, request.version, outcome);
+            }
+        }
+        Ok(())
+    }
+}
+
+// All replies are gathered before the connection takes any of them.
+#[test]
+fn a_session_is_taken_up_step_by_step(rt: HostRuntime) {
+    let mut kernel = Shelf::open(&rt, rt.alloc());
+    let mut pieces = Pieces::new(SESSION, usize::MAX);
+    let mut reader = Watched::new(&mut pieces);
+    let mut gathering = Gathering {
+        session: Session::open(),
+        outbox: Outbox::open(rt.alloc()),
+        text: open_body(rt.alloc()).expect(&rt, "a second try"),
+        given: open_body(rt.alloc()).expect(&rt, "a second try"),
+    };
+    assert_eq!(rt; gathering.step(&rt, &mut reader, &mut kernel), Ok(()));
+    assert_eq!(rt; gathering.step(&rt, &mut reader, &mut kernel), Ok(()));
+    assert_eq!(rt; gathering.step(&rt, &mut reader, &mut kernel), Ok(()));
+    assert_eq!(rt; gathering.step(&rt, &mut reader, &mut kernel), Ok(()));
+    assert_eq!(rt; gathering.step(&rt, &mut reader, &mut kernel), Ok(()));
+    let end = gathering.step(&rt, &mut reader, &mut kernel);
+    assert_eq!(rt; end, Err(End::Ended));
+    let Gathering {
+        mut session,
+        mut outbox,
+        text: _,
+        given: _,
+    } = gathering;
+    assert_eq!(rt; outbox.unsent(), ANSWERS);
+    let count = outbox.unsent().len();
+    outbox.sent(count, &mut session.tally);
+    outbox.end(&mut session.tally);
+    let served = session.end(End::Ended);
+    assert_eq!(rt; counts_of(&served), (5, 1, 1, 0));
+    assert_eq!(rt; kernel.end(), 128);
+}

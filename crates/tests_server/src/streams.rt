@@ -1,0 +1,143 @@
+//! Connections that never wait, in memory and on a pair of sockets.
+use std::alloc::Global;
+use std::io::{Read, Write};
+use std::net::Net;
+use std::os::fd::AsRawFd;
+use std::os::unix::net::UnixStream;
+use std::process::Abort;
+use sysv_server::{Drained, Filled, MemoryStream, NonBlocking, Over, Replies, SocketStream, Step};
+
+/// Returns whether a read with room for 4 bytes gives these.
+fn gives<T: NonBlocking>(stream: &mut T, bytes: &[u8]) -> bool {
+    let mut buf = [0u8; 4];
+    stream.fill(&mut buf) == Filled::Bytes(bytes.len()) && buf.starts_with(bytes)
+}
+
+/// Returns what a read with room for 4 bytes returns.
+fn reads<T: NonBlocking>(stream: &mut T) -> Filled {
+    let mut buf = [0u8; 4];
+    stream.fill(&mut buf)
+}
+
+/// Returns a connection in memory with room for 6 bytes.
+fn memory<'a>(
+    rt: &impl Abort,
+    alloc: Global,
+    input: &'a [u8],
+    reads: &'a [Step],
+    writes: &'a [Step],
+) -> MemoryStream<'a> {
+    MemoryStream::new(alloc, input, 6, reads, writes).expect(rt, "memory")
+}
+
+/// Returns a connection on a socket, and its client.
+fn socket<R: Net + Abort>(rt: &R) -> (SocketStream, UnixStream) {
+    let (ours, client) = UnixStream::pair(rt).expect(rt, "a pair of sockets");
+    let stream = SocketStream::new(ours).expect(rt, "a socket that does not wait");
+    (stream, client)
+}
+
+// The bytes come in the pieces of the steps, and then as many as the buffer has room for.
+#[test]
+fn pieces_with_nothing_between(rt: HostRuntime) {
+    let steps = [Step::AtMost(3), Step::AtMost(0), Step::AtMost(2)];
+    let mut stream = memory(&rt, rt.alloc(), b"abcdefghijk", &steps, &[]);
+    assert!(rt; gives(&mut stream, b"abc"));
+    assert_eq!(rt; reads(&mut stream), Filled::NothingNow);
+    assert!(rt; gives(&mut stream, b"de"));
+    assert!(rt; gives(&mut stream, b"fghi"));
+    assert_eq!(rt; stream.fill(&mut []), Filled::NothingNow);
+    assert!(rt; gives(&mut stream, b"jk"));
+    assert_eq!(rt; reads(&mut stream), Filled::Over(Over::End));
+    assert_eq!(rt; reads(&mut stream), Filled::Over(Over::End));
+}
+
+// A write takes part of its bytes, then none, and then as many as there is room for.
+#[test]
+fn parts_of_a_write(rt: HostRuntime) {
+    let steps = [Step::AtMost(2), Step::AtMost(0)];
+    let mut stream = memory(&rt, rt.alloc(), b"", &[], &steps);
+    assert_eq!(rt; stream.drain(b"abcde"), Drained::Took(2));
+    assert_eq!(rt; stream.drain(b"cde"), Drained::NothingNow);
+    assert_eq!(rt; stream.drain(b"cde"), Drained::Took(3));
+    assert_eq!(rt; stream.drain(b"fg"), Drained::Took(1));
+    assert_eq!(rt; stream.drain(b"g"), Drained::NothingNow);
+    assert!(rt; stream.written() == b"abcdef".as_slice());
+    let mut book = Replies::with_room(rt.alloc(), 1).expect(&rt, "memory");
+    stream.close(&mut book);
+    let kept = book.kept();
+    assert_eq!(rt; kept.len(), 1);
+    assert!(rt;
+        kept.iter()
+            .all(|bytes| bytes.as_slice() == b"abcdef".as_slice())
+    );
+}
+
+// After a read or a write has failed, each later one fails. The other direction goes on.
+#[test]
+fn failures_stay(rt: HostRuntime) {
+    let steps = [Step::AtMost(1), Step::Fail];
+    let mut stream = memory(&rt, rt.alloc(), b"abc", &steps, &steps);
+    assert!(rt; gives(&mut stream, b"a"));
+    assert_eq!(rt; reads(&mut stream), Filled::Over(Over::Failed));
+    assert_eq!(rt; reads(&mut stream), Filled::Over(Over::Failed));
+    assert_eq!(rt; stream.drain(b"xyz"), Drained::Took(1));
+    assert_eq!(rt; stream.drain(b"yz"), Drained::Failed);
+    assert_eq!(rt; stream.drain(b"yz"), Drained::Failed);
+    assert!(rt; stream.written() == b"x".as_slice());
+    let mut reset = memory(&rt, rt.alloc(), b"abc", &[Step::Reset], &[Step::Reset]);
+    assert_eq!(rt; reads(&mut reset), Filled::Over(Over::Reset));
+    assert_eq!(rt; reset.drain(b"x"), Drained::Failed);
+}
+
+// A socket whose client shuts down: bytes in both directions, then the end.
+#[test]
+fn a_socket_that_ends(rt: HostRuntime) {
+    let (mut stream, mut client) = socket(&rt);
+    assert!(rt; stream.as_raw_fd() >= 0);
+    assert_eq!(rt; reads(&mut stream), Filled::NothingNow);
+    client.write_all(b"abcdef").expect(&rt, "a write");
+    assert!(rt; gives(&mut stream, b"abcd"));
+    assert_eq!(rt; stream.fill(&mut []), Filled::NothingNow);
+    assert!(rt; gives(&mut stream, b"ef"));
+    assert_eq!(rt; reads(&mut stream), Filled::NothingNow);
+    assert_eq!(rt; stream.drain(b"xyz"), Drained::Took(3));
+    assert_eq!(rt; stream.drain(b""), Drained::NothingNow);
+    let mut reply = [0u8; 3];
+    client.read_exact(&mut reply).expect(&rt, "a read");
+    assert!(rt; &reply == b"xyz");
+    drop(client);
+    assert_eq!(rt; reads(&mut stream), Filled::Over(Over::End));
+    assert_eq!(rt; reads(&mut stream), Filled::Over(Over::End));
+    stream.close(&mut ());
+}
+
+// A client that closes the socket with a reply unread: the system reports that once, and the
+// connection keeps it.
+#[test]
+fn a_socket_that_is_reset(rt: HostRuntime) {
+    let (mut stream, mut client) = socket(&rt);
+    client.write_all(b"ab").expect(&rt, "a write");
+    assert_eq!(rt; stream.drain(b"xyz"), Drained::Took(3));
+    drop(client);
+    assert!(rt; gives(&mut stream, b"ab"));
+    assert_eq!(rt; reads(&mut stream), Filled::Over(Over::Reset));
+    assert_eq!(rt; reads(&mut stream), Filled::Over(Over::Reset));
+    assert_eq!(rt; stream.drain(b"x"), Drained::Failed);
+    assert_eq!(rt; stream.drain(b"x"), Drained::Failed);
+}
+
+// A client that does not read: the socket takes bytes until the system has no more room.
+#[test]
+fn a_socket_that_is_full(rt: HostRuntime) {
+    let (mut stream, _client) = socket(&rt);
+    let bytes = [0u8; 4096];
+    let mut last = stream.drain(&bytes);
+    for _ in 0..4096 {
+        if last == Drained::NothingNow {
+            break;
+        }
+        last = stream.drain(&bytes);
+    }
+    assert_eq!(rt; last, Drained::NothingNow);
+}

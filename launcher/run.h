@@ -1,0 +1,15 @@
+/* A run of the server, from its start until it has ended and its socket is removed. */
+#ifndef RUN_H
+#define RUN_H
+
+/* What the command line requests. */
+struct request {
+    const char *path;
+    char **options; /* of the server */
+    char **command; /* null: none */
+};
+
+/* Returns the status to exit with. It ends the process if it cannot begin. */
+int run(const struct request *request);
+
+#endif

@@ -1,0 +1,102 @@
+# Completes the command lines of sysvmsg(1), sysvmsg-run(1) and sysvmsg-serve(8) in fish. Other words, as PATH, complete to
+# file names.
+
+# Whether the command is one of these words.
+function __sysvmsg_is
+    set -l words (commandline -opc)
+    set -q words[2]; and contains -- $words[2] $argv
+end
+
+# Whether no command has been typed yet.
+function __sysvmsg_is_bare
+    test (count (commandline -opc)) -eq 1
+end
+
+# Whether the argument is the number of words before the one to complete.
+function __sysvmsg_has_words
+    test (count (commandline -opc)) -eq $argv[1]
+end
+
+# Whether -- stands before the word to complete, which is a program or one of its words then.
+function __sysvmsg_is_in_command
+    contains -- -- (commandline -opc)
+end
+
+complete -c sysvmsg -e
+complete -c sysvmsg -s h -l help -d 'Print help'
+complete -c sysvmsg -s V -l version -d 'Print version'
+
+set -l bare -c sysvmsg -n __sysvmsg_is_bare -f
+complete $bare -a serve -d 'Serve message queues on a Unix socket'
+complete $bare -a snd -d 'Send a message'
+complete $bare -a rcv -d 'Receive a message and print its body'
+complete $bare -a ipcs -d 'Print a table of the queues'
+complete $bare -a ipcrm -d 'Remove a queue, or all'
+complete $bare -a ipcmk -d 'Make a queue and print its identifier'
+complete $bare -a script -d 'Run the script on standard input'
+
+set -l clients -c sysvmsg -n '__sysvmsg_is snd rcv ipcs ipcrm ipcmk'
+complete $clients -l me -d 'By default your own IDs'
+complete $clients -l uid -x -d "The caller's user ID"
+complete $clients -l gid -x -d "The caller's group ID"
+complete $clients -l pid -x -d "The caller's process ID"
+
+# The options of a server, which sysvmsg-serve takes after its PATH.
+function __sysvmsg_complete_server
+    complete $argv -l mode -x -d 'The mode of the socket'
+    complete $argv -l replace -d 'Remove PATH first if no server listens there'
+    complete $argv -l blocks -x -d 'The number of 64-byte blocks, 128 to 65536'
+    complete $argv -l workers -x -d 'The number of sessions at once, 1 to 16'
+    complete $argv -l at-once -x -d 'The number of sessions at once, 1 to 256'
+    complete $argv -l sessions -x -d 'End after this number of sessions'
+    complete $argv -l idle -x -d 'End a session that sends no request for this time'
+    complete $argv -l stall -x -d 'End a session whose request or reply takes longer'
+    complete $argv -l drain -x -d 'End the sessions left this long after the last accept'
+end
+
+complete -c sysvmsg-serve -e
+__sysvmsg_complete_server -c sysvmsg -n '__sysvmsg_is serve'
+__sysvmsg_complete_server -c sysvmsg-serve -n 'not __sysvmsg_has_words 1; and not __sysvmsg_is_in_command'
+complete -c sysvmsg -n '__sysvmsg_is serve' -l until-eof -d 'End once standard input has ended'
+
+set -l snd -c sysvmsg -n '__sysvmsg_is snd'
+complete $snd -l stdin -d 'Send the bytes of standard input'
+complete $snd -l lines -d 'Send each line of standard input'
+complete $snd -l type -x -d 'The type of the message'
+complete $snd -l nowait -d 'Fail with EAGAIN if there is no room'
+complete $snd -l wait -x -d 'Wait at most this time for room'
+
+set -l rcv -c sysvmsg -n '__sysvmsg_is rcv'
+complete $rcv -l type -x -d 'Take the first message of this type'
+complete $rcv -l upto -x -d 'Take the first of the lowest type up to this'
+complete $rcv -l except -x -d 'Take the first of any other type'
+complete $rcv -l count -x -d 'Receive this number of messages'
+complete $rcv -l follow -d 'Receive messages until it is ended'
+complete $rcv -l show-type -d 'Print the type before the body'
+complete $rcv -l raw -d 'Print no newline after the body'
+complete $rcv -l create -d 'Create the queue if there is none'
+complete $rcv -l mode -x -d 'The mode of a queue that is created'
+complete $rcv -l size -x -d 'The largest body to accept'
+complete $rcv -l nowait -d 'Fail with ENOMSG if there is none'
+complete $rcv -l wait -x -d 'Wait at most this time for a message'
+complete $rcv -l noerror -d 'Cut a longer body'
+
+complete -c sysvmsg -n '__sysvmsg_is ipcs' -s i -x -d 'Show all attributes of one queue'
+complete -c sysvmsg -n '__sysvmsg_is ipcs' -l json -d 'Print a JSON object per queue'
+
+complete -c sysvmsg -n '__sysvmsg_is ipcrm' -s q -x -d 'The identifier of the queue'
+complete -c sysvmsg -n '__sysvmsg_is ipcrm' -s Q -x -d 'The key of the queue'
+complete -c sysvmsg -n '__sysvmsg_is ipcrm' -l all -d 'Remove each queue that the caller may remove'
+
+complete -c sysvmsg -n '__sysvmsg_is ipcmk' -l mode -x -d 'The mode of the queue'
+complete -c sysvmsg -n '__sysvmsg_is ipcmk' -l qbytes -x -d 'The maximum number of queued bytes'
+
+# The second word of sysvmsg-run is a program, and those after it are the program's own.
+complete -c sysvmsg-run -e
+complete -c sysvmsg-run -n '__sysvmsg_has_words 2' -f -a '(__fish_complete_command)'
+complete -c sysvmsg-run -n 'test (count (commandline -opc)) -gt 2' -a '(__fish_complete_subcommand --fcs-skip=2)'
+
+complete -c sysvmsg-serve -n '__sysvmsg_has_words 1' -l with -d 'Run a command on the server'
+complete -c sysvmsg-serve -n '__sysvmsg_has_words 1' -s h -l help -d 'Print help'
+complete -c sysvmsg-serve -n '__sysvmsg_has_words 1' -s V -l version -d 'Print version'
+complete -c sysvmsg-serve -n __sysvmsg_is_in_command -f -a '(__fish_complete_command)'
