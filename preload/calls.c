@@ -14,6 +14,7 @@
 #include "caller_memory.h"
 #include "connection.h"
 #include "frames.h"
+#include "requests.h"
 
 #define EXPORTED __attribute__((visibility("default")))
 
@@ -90,20 +91,15 @@ static int outcome(int error)
 
 EXPORTED int msgget(key_t key, int flags)
 {
-    struct frame frame;
+    int id = -1;
     if (!is_ours())
         return originals.get ? originals.get(key, flags) : outcome(ENOSYS);
-    frame_begin(&frame, GET);
-    frame_put_u32(&frame, (uint32_t)key);
-    frame_put_u32(&frame, (uint32_t)flags);
-    frame_end(&frame);
-    int error = ask(&frame, false);
-    return error ? outcome(error) : (int)frame_take_u32(&frame);
+    int error = request_get(NULL, key, flags, &id);
+    return error ? outcome(error) : id;
 }
 
 EXPORTED int msgsnd(int id, const void *message, size_t size, int flags)
 {
-    struct frame frame;
     long type;
     if (!is_ours())
         return originals.snd ? originals.snd(id, message, size, flags) : outcome(ENOSYS);
@@ -113,29 +109,13 @@ EXPORTED int msgsnd(int id, const void *message, size_t size, int flags)
     if (!is_readable(message))
         return outcome(EFAULT);
     memcpy(&type, message, sizeof type);
-    frame_begin(&frame, SND);
-    frame.message = (struct iovec){(char *)message + sizeof type, size};
-    frame_put_u32(&frame, (uint32_t)id);
-    frame_put_u64(&frame, (uint64_t)type);
-    frame_put_u32(&frame, (uint32_t)flags);
-    frame_end(&frame);
-    return outcome(ask(&frame, !(flags & IPC_NOWAIT)));
-}
-
-/* Asks for a message of at most `size` bytes. */
-static int ask_for_message(struct frame *frame, int id, size_t size, long type, int flags)
-{
-    frame_put_u32(frame, (uint32_t)id);
-    frame_put_u32(frame, (uint32_t)size);
-    frame_put_u64(frame, (uint64_t)type);
-    frame_put_u32(frame, (uint32_t)flags);
-    frame_end(frame);
-    return ask(frame, !(flags & IPC_NOWAIT));
+    return outcome(
+        request_snd(NULL, id, type, (const char *)message + sizeof type, size, flags, -1));
 }
 
 EXPORTED ssize_t msgrcv(int id, void *message, size_t size, long type, int flags)
 {
-    struct frame frame;
+    size_t got;
     if (!is_ours())
         return originals.rcv ? originals.rcv(id, message, size, type, flags) : outcome(ENOSYS);
     pthread_testcancel();
@@ -145,75 +125,45 @@ EXPORTED ssize_t msgrcv(int id, void *message, size_t size, long type, int flags
     if (!message)
         return outcome(EFAULT);
     size = size < TEXT_MAX ? size : TEXT_MAX;
-    frame_begin(&frame, RCV);
-    frame.message = (struct iovec){message, TYPE_BYTES + size};
-    int error = ask_for_message(&frame, id, size, type, flags);
-    if (error != 0)
-        return outcome(error);
-    long got = (long)frame_type(&frame);
-    memcpy(message, &got, sizeof got);
-    return (ssize_t)(frame.length - REPLY_HEAD - TYPE_BYTES);
-}
-
-/* Asks for one thing of one queue or slot. */
-static int ask_of(struct frame *frame, enum operation operation, int number)
-{
-    frame_begin(frame, operation);
-    frame_put_u32(frame, (uint32_t)number);
-    frame_end(frame);
-    return ask(frame, false);
+    int error = request_rcv(NULL, id, message, size, type, flags, -1, &got);
+    return error ? outcome(error) : (ssize_t)got;
 }
 
 static int ask_stat(int id, struct msqid_ds *told)
 {
-    struct frame frame;
-    int error = ask_of(&frame, STAT, id);
+    struct queue_stat stat;
+    int error = request_stat(NULL, id, &stat);
     if (error != 0)
         return error;
     memset(told, 0, sizeof *told);
-    told->msg_perm.__key = (key_t)frame_take_u32(&frame);
-    told->msg_perm.uid = frame_take_u32(&frame);
-    told->msg_perm.gid = frame_take_u32(&frame);
-    told->msg_perm.cuid = frame_take_u32(&frame);
-    told->msg_perm.cgid = frame_take_u32(&frame);
-    told->msg_perm.mode = frame_take_u16(&frame);
-    told->__msg_cbytes = frame_take_u32(&frame);
-    told->msg_qnum = frame_take_u32(&frame);
-    told->msg_qbytes = frame_take_u32(&frame);
-    told->msg_lspid = (pid_t)frame_take_u32(&frame);
-    told->msg_lrpid = (pid_t)frame_take_u32(&frame);
-    told->msg_stime = (time_t)frame_take_u64(&frame);
-    told->msg_rtime = (time_t)frame_take_u64(&frame);
-    told->msg_ctime = (time_t)frame_take_u64(&frame);
+    told->msg_perm.__key = stat.key;
+    told->msg_perm.uid = stat.uid;
+    told->msg_perm.gid = stat.gid;
+    told->msg_perm.cuid = stat.cuid;
+    told->msg_perm.cgid = stat.cgid;
+    told->msg_perm.mode = (unsigned short)stat.mode;
+    told->__msg_cbytes = stat.cbytes;
+    told->msg_qnum = stat.qnum;
+    told->msg_qbytes = stat.qbytes;
+    told->msg_lspid = (pid_t)stat.lspid;
+    told->msg_lrpid = (pid_t)stat.lrpid;
+    told->msg_stime = (time_t)stat.stime;
+    told->msg_rtime = (time_t)stat.rtime;
+    told->msg_ctime = (time_t)stat.ctime;
     return 0;
 }
 
-/* The queue of a slot, if there is one. */
-struct row {
-    int slots; /* how many the server has */
-    bool present;
-    int id;
-    struct msqid_ds told; /* key, user, mode, bytes and messages; the others are 0 */
-};
-
-static int ask_row(int slot, struct row *row)
+/* The row of a slot as an msqid_ds has it: key, user, mode, bytes, messages; the others are 0. */
+static struct msqid_ds row_as_stat(const struct queue_row *row)
 {
-    struct frame frame;
-    int error = ask_of(&frame, ROW, slot);
-    if (error != 0)
-        return error;
-    memset(row, 0, sizeof *row);
-    row->slots = frame.slots;
-    row->present = frame_take_u8(&frame) == 1;
-    if (!row->present)
-        return 0;
-    row->id = (int)frame_take_u32(&frame);
-    row->told.msg_perm.__key = (key_t)frame_take_u32(&frame);
-    row->told.msg_perm.uid = frame_take_u32(&frame);
-    row->told.msg_perm.mode = frame_take_u16(&frame);
-    row->told.__msg_cbytes = frame_take_u32(&frame);
-    row->told.msg_qnum = frame_take_u32(&frame);
-    return 0;
+    struct msqid_ds told;
+    memset(&told, 0, sizeof told);
+    told.msg_perm.__key = row->key;
+    told.msg_perm.uid = row->uid;
+    told.msg_perm.mode = (unsigned short)row->mode;
+    told.__msg_cbytes = row->cbytes;
+    told.msg_qnum = row->qnum;
+    return told;
 }
 
 static int give(void *to, void *from, size_t size)
@@ -230,26 +180,19 @@ static int stat_queue(int id, struct msqid_ds *to)
 
 static int set_queue(int id, const struct msqid_ds *from)
 {
-    struct frame frame;
     struct msqid_ds wanted;
     if (copy_from_caller(&(struct iovec){&wanted, sizeof wanted}, 1, from) != 0)
         return outcome(EFAULT);
-    frame_begin(&frame, SET);
-    frame_put_u32(&frame, (uint32_t)id);
-    frame_put_u32(&frame, wanted.msg_perm.uid);
-    frame_put_u32(&frame, wanted.msg_perm.gid);
-    frame_put_u32(&frame, wanted.msg_perm.mode);
-    frame_put_u32(
-        &frame, wanted.msg_qbytes < UINT32_MAX ? (uint32_t)wanted.msg_qbytes : UINT32_MAX);
-    frame_end(&frame);
-    return outcome(ask(&frame, false));
+    struct queue_set set = {
+        .uid = wanted.msg_perm.uid,
+        .gid = wanted.msg_perm.gid,
+        .mode = wanted.msg_perm.mode,
+        .qbytes = wanted.msg_qbytes < UINT32_MAX ? (uint32_t)wanted.msg_qbytes : UINT32_MAX,
+    };
+    return outcome(request_set(NULL, id, &set));
 }
 
-static int remove_queue(int id)
-{
-    struct frame frame;
-    return outcome(ask_of(&frame, RM, id));
-}
+static int remove_queue(int id) { return outcome(request_rm(NULL, id)); }
 
 /* Adds to a sum that stays at the greatest number if it would be greater. */
 static void add(int *sum, unsigned long more)
@@ -261,18 +204,18 @@ static void add(int *sum, unsigned long more)
 /* Adds up the rows of all slots. */
 static int add_rows(struct msginfo *sums, int *slots, int *greatest)
 {
-    struct row row;
+    struct queue_row row;
     int slot = 0;
     memset(sums, 0, sizeof *sums);
     *greatest = 0;
     do {
-        int error = ask_row(slot, &row);
+        int error = request_row(NULL, slot, &row);
         if (error != 0)
             return error;
         if (row.present) {
             add(&sums->msgpool, 1);
-            add(&sums->msgmap, row.told.msg_qnum);
-            add(&sums->msgtql, row.told.__msg_cbytes);
+            add(&sums->msgmap, row.qnum);
+            add(&sums->msgtql, row.cbytes);
             *greatest = slot;
         }
     } while (++slot < row.slots);
@@ -305,17 +248,18 @@ static int tell_info(int command, struct msginfo *to)
  * needs no permission. To callers that have none it tells what the server's table has. */
 static int stat_slot(int slot, int command, struct msqid_ds *to)
 {
-    struct row row;
-    int error = ask_row(slot, &row);
+    struct queue_row row;
+    int error = request_row(NULL, slot, &row);
     if (error == 0 && !row.present)
         error = EINVAL;
     if (error != 0)
         return outcome(error);
-    error = ask_stat(row.id, &row.told);
+    struct msqid_ds told = row_as_stat(&row);
+    error = ask_stat(row.id, &told);
     if (error == EACCES && command == MSG_STAT_ANY)
         error = 0;
     if (error == 0)
-        error = give(to, &row.told, sizeof row.told);
+        error = give(to, &told, sizeof told);
     return error ? outcome(error) : row.id;
 }
 

@@ -3,6 +3,7 @@
 
 #include <errno.h>
 #include <fcntl.h>
+#include <limits.h>
 #include <linux/capability.h>
 #include <poll.h>
 #include <pthread.h>
@@ -25,7 +26,7 @@ enum {
     HIGH_DESCRIPTOR = 900,     /* out of the way of programs that count or close theirs */
     REST_SECONDS = 10,         /* how long the rest of a reply may take that has begun */
     FIRST_MICROSECONDS = 2000, /* how long a single recv may wait for a reply */
-    HELLO_MILLISECONDS = 250,  /* how long an interrupted call waits for the reply to its hello */
+    HELLO_MILLISECONDS = 250,  /* how long a call whose wait has ended still waits for its hello */
 };
 
 /* Tells whether a descriptor still is the file that it was. */
@@ -34,23 +35,29 @@ struct file {
     ino_t inode;
 };
 
-/* The connection of a thread or of a single call. */
+/* The connection of a thread, of a program that opened it, or of a single call. */
 struct connection {
     atomic_bool taken;
+    bool is_opened;     /* by connection_open */
+    atomic_bool in_use; /* of one that was opened: a call uses it */
+    const struct peer *peer;
     int fd; /* -1: it is not open */
     struct file file;
     uid_t user; /* of the hello */
     gid_t group;
-    bool has_fixed_ids; /* these two can't change any more */
-    int slots;          /* of the reply to the hello */
+    bool has_fixed_ids;      /* these two can't change any more */
+    atomic_int slots;        /* of the reply to the hello */
+    const char *_Atomic why; /* a call failed with EIO */
+    int unconnected;         /* the errno for which no connection was made, or 0 */
 };
 
-/* How a call was made, and whether a signal handler has ended its wait. */
+/* How a call was made, and what has ended its wait. */
 struct call {
     pid_t process; /* in which it began */
-    bool may_wait;
+    bool may_wait, ends_by_signals;
     int cancel_state; /* while it waits */
-    bool is_interrupted;
+    long deadline;    /* of its wait; 0: there is none */
+    int ended_by;     /* EINTR: a signal handler; ETIMEDOUT: the deadline; 0: nothing */
 };
 
 /* The connections of all threads, so that a child of fork can close its copies of them. */
@@ -63,13 +70,13 @@ static __thread volatile sig_atomic_t current_call __attribute__((tls_model("ini
 static struct {
     bool has_server;        /* SYSVMSG_PATH names one */
     bool keeps_connections; /* after a call */
-    bool ends_waits;        /* if a signal handler runs */
     bool has_standard_error;
 } settings;
 
+static pthread_once_t process_begun = PTHREAD_ONCE_INIT;
 static pthread_key_t thread_end;
 static pid_t process; /* the process whose connections these are */
-static struct sockaddr_un server = {.sun_family = AF_UNIX}; /* without a path if that is too long */
+static struct peer server = {.address = {.sun_family = AF_UNIX}};
 
 /* Standard error as it was when the library was loaded, if it was open. */
 static struct file standard_error;
@@ -84,6 +91,15 @@ struct hold {
 };
 
 static __thread struct hold fork_hold __attribute__((tls_model("initial-exec")));
+
+bool peer_set_path(struct peer *peer, const char *path)
+{
+    peer->address = (struct sockaddr_un){.sun_family = AF_UNIX};
+    if (strlen(path) >= sizeof peer->address.sun_path)
+        return false;
+    strcpy(peer->address.sun_path, path);
+    return true;
+}
 
 /* A child that was made without the handlers of fork doesn't hold. It closes no copies, and a
  * thread that it doesn't have may have held when it was made. */
@@ -174,25 +190,29 @@ static void begin_child(void)
         if (!atomic_load(&each->taken))
             continue;
         close_copy(each);
-        if (each != own_connection)
+        if (each != own_connection && !each->is_opened)
             atomic_store(&each->taken, false);
     }
     release_descriptors(&fork_hold);
 }
 
-static void begin(void)
+static void begin_process(void)
 {
-    const char *word = secure_getenv("SYSVMSG_EINTR");
-    settings.ends_waits = !word || strcmp(word, "0") != 0;
-    word = secure_getenv("SYSVMSG_PATH");
-    if (!word || !*word)
-        return;
-    if (strlen(word) < sizeof server.sun_path)
-        strcpy(server.sun_path, word);
-    settings.has_standard_error = note_file(STDERR_FILENO, &standard_error);
     process = getpid();
     settings.keeps_connections = pthread_key_create(&thread_end, end_thread) == 0
                                  && pthread_atfork(before_fork, after_fork, begin_child) == 0;
+}
+
+static void begin(void)
+{
+    const char *word = secure_getenv("SYSVMSG_EINTR");
+    server.ends_by_signals = !word || strcmp(word, "0") != 0;
+    word = secure_getenv("SYSVMSG_PATH");
+    if (!word || !*word)
+        return;
+    peer_set_path(&server, word);
+    settings.has_standard_error = note_file(STDERR_FILENO, &standard_error);
+    pthread_once(&process_begun, begin_process);
     settings.has_server = true;
 }
 
@@ -228,8 +248,8 @@ static void say_once(const char *why)
         || !is_file(STDERR_FILENO, &standard_error))
         return;
     struct iovec line[] = {piece("libsysvmsg_preload: "),
-        piece(*server.sun_path ? server.sun_path : "SYSVMSG_PATH"), piece(": "), piece(why),
-        piece("; message queue calls fail with EIO\n")};
+        piece(*server.address.sun_path ? server.address.sun_path : "SYSVMSG_PATH"), piece(": "),
+        piece(why), piece("; message queue calls fail with EIO\n")};
     write_line(line, 5);
 }
 
@@ -245,7 +265,7 @@ static int broken(struct connection *connection, const struct call *call, const 
         return EINTR;
     }
     end_session(connection);
-    say_once(why);
+    connection->why = why;
     return EIO;
 }
 
@@ -256,6 +276,7 @@ static void abandon(void *connection)
     end_session(connection);
     if (connection == own_connection)
         current_call = 0;
+    atomic_store(&((struct connection *)connection)->in_use, false);
 }
 
 /* Takes bytes off the front of two pieces. */
@@ -322,14 +343,23 @@ static bool goes_on(const struct frame *frame, const struct iovec pieces[2])
     return whole > frame->length && whole - frame->length <= room;
 }
 
-/* Waits until there is something to read, and returns what poll returns. Each signal handler that
- * runs meanwhile ends it with EINTR, and nothing else does. */
+/* The milliseconds that a call may still wait, or -1 if there is no limit. */
+static int time_left(const struct call *call)
+{
+    if (call->deadline == 0)
+        return -1;
+    long left = call->deadline - milliseconds();
+    return left < 0 ? 0 : left < INT_MAX ? (int)left : INT_MAX;
+}
+
+/* Waits until there is something to read or the time of the call is over, and returns what poll
+ * returns. Each signal handler that runs meanwhile ends it with EINTR, and nothing else does. */
 static int await_cancellable(struct connection *connection, const struct call *call)
 {
     int ready;
     pthread_cleanup_push(abandon, connection);
     pthread_setcancelstate(call->cancel_state, NULL);
-    ready = await_input(connection->fd, -1);
+    ready = await_input(connection->fd, time_left(call));
     pthread_setcancelstate(PTHREAD_CANCEL_DISABLE, NULL);
     pthread_cleanup_pop(0);
     return ready;
@@ -349,7 +379,8 @@ static bool has_handler(void)
 /* Notes that a signal handler ran during a call. */
 static void note_signal(struct call *call)
 {
-    call->is_interrupted = (call->may_wait && settings.ends_waits) || is_in_child(call);
+    if ((call->may_wait && call->ends_by_signals) || is_in_child(call))
+        call->ended_by = EINTR;
 }
 
 /* Waits on for a reply after a first recv ended early, `by_signal` or by its limit of time. The
@@ -359,8 +390,15 @@ static void await_longer(struct connection *connection, struct call *call, bool 
 {
     if (by_signal && has_handler())
         note_signal(call);
-    while (!call->is_interrupted && await_cancellable(connection, call) < 0 && errno == EINTR)
-        note_signal(call);
+    while (call->ended_by == 0) {
+        int ready = await_cancellable(connection, call);
+        if (ready > 0 || (ready < 0 && errno != EINTR))
+            return;
+        if (ready == 0)
+            call->ended_by = ETIMEDOUT;
+        else
+            note_signal(call);
+    }
 }
 
 /* Leaves a wait: the server replies if the call is done, and else ends the session without a reply.
@@ -378,19 +416,19 @@ static void leave(struct connection *connection, const struct call *call)
 /* Whether recv ended without anything: by its limit of time, or by a signal. */
 static bool is_early(ssize_t got) { return got < 0 && (errno == EAGAIN || errno == EINTR); }
 
-/* Waits for the beginning of a reply as its call may wait. Returns what recv returns, or 0 if an
- * interrupted call gets no worker of the server. */
+/* Waits for the beginning of a reply as its call may wait. Returns what recv returns, or 0 if a
+ * call whose wait has ended gets no worker of the server. */
 static ssize_t await_reply(
     struct connection *connection, bool is_hello, struct iovec pieces[2], struct call *call)
 {
-    if (call->is_interrupted)
+    if (call->ended_by != 0)
         leave(connection, call);
     ssize_t got = receive_pieces(connection->fd, pieces, 0);
-    if (is_early(got) && !call->is_interrupted) {
+    if (is_early(got) && call->ended_by == 0) {
         await_longer(connection, call, errno == EINTR);
-        if (call->is_interrupted && is_hello && !is_in_child(call))
+        if (call->ended_by != 0 && is_hello && !is_in_child(call))
             return await_rest(connection->fd, pieces, milliseconds() + HELLO_MILLISECONDS);
-        if (call->is_interrupted)
+        if (call->ended_by != 0)
             leave(connection, call);
         got = receive_pieces(connection->fd, pieces, 0);
     }
@@ -449,15 +487,15 @@ static int unsent(struct connection *connection, const struct call *call, size_t
     return EFAULT;
 }
 
-/* Ends a call whose reply did not come as a whole: `got` is what recv returned last. If an
- * interrupted call has no byte of a reply, it had no effect. */
+/* Ends a call whose reply did not come as a whole: `got` is what recv returned last. If a call that
+ * was left has no byte of a reply, it had no effect. */
 static int unanswered(
     struct connection *connection, const struct frame *frame, const struct call *call, ssize_t got)
 {
-    bool has_left = got == 0 && frame->length == 0 && call->is_interrupted;
+    bool has_left = got == 0 && frame->length == 0 && call->ended_by != 0;
     if (has_left || (got < 0 && errno == EFAULT)) {
         end_session(connection);
-        return has_left ? EINTR : EFAULT;
+        return has_left ? call->ended_by : EFAULT;
     }
     return broken(connection, call,
         frame->length == 0 ? "the server closed the connection"
@@ -515,15 +553,30 @@ static bool open_socket(struct connection *connection)
     return is_opened;
 }
 
-/* A connect that a signal interrupts waited, because the server's queue of connections is full. */
-static bool connect_server(int fd, struct call *call)
+/* Bounds what a socket that blocks waits for until it can send or connect. 0 is no limit. */
+static void set_send_limit(int fd, int milliseconds)
 {
-    int status;
+    struct timeval limit = {milliseconds / 1000, milliseconds % 1000 * 1000};
+    setsockopt(fd, SOL_SOCKET, SO_SNDTIMEO, &limit, sizeof limit);
+}
+
+/* A connect that a signal interrupts, or whose time is over, waited because the server's queue of
+ * connections is full. */
+static bool connect_server(const struct connection *connection, struct call *call)
+{
+    const struct sockaddr *address = (const struct sockaddr *)&connection->peer->address;
+    int status, left = time_left(call);
+    if (left >= 0)
+        set_send_limit(connection->fd, left > 0 ? left : 1);
     do {
-        status = connect(fd, (const struct sockaddr *)&server, sizeof server);
-        call->is_interrupted =
-            status < 0 && errno == EINTR && call->may_wait && settings.ends_waits;
-    } while (status < 0 && errno == EINTR && !call->is_interrupted);
+        status = connect(connection->fd, address, sizeof connection->peer->address);
+        if (status < 0 && errno == EINTR && call->may_wait && call->ends_by_signals)
+            call->ended_by = EINTR;
+        else if (status < 0 && errno == EAGAIN && left >= 0)
+            call->ended_by = ETIMEDOUT;
+    } while (status < 0 && errno == EINTR && call->ended_by == 0);
+    if (status == 0 && left >= 0)
+        set_send_limit(connection->fd, 0);
     return status == 0;
 }
 
@@ -555,10 +608,15 @@ static const char *why_unconnected(int error)
 
 static int begin_session(struct connection *connection, struct call *call)
 {
-    if (!*server.sun_path)
+    connection->unconnected = 0;
+    if (!*connection->peer->address.sun_path)
         return broken(connection, call, "it is longer than 107 bytes");
-    if (!open_socket(connection) || !connect_server(connection->fd, call))
-        return call->is_interrupted ? EINTR : broken(connection, call, why_unconnected(errno));
+    if (!open_socket(connection) || !connect_server(connection, call)) {
+        if (call->ended_by != 0)
+            return call->ended_by;
+        connection->unconnected = errno;
+        return broken(connection, call, why_unconnected(errno));
+    }
     return say_hello(connection, call);
 }
 
@@ -578,6 +636,12 @@ static void note_ids(struct connection *connection)
 {
     uid_t real_user, saved_user;
     gid_t real_group, saved_group;
+    if (connection->peer->states_ids) {
+        connection->user = connection->peer->user;
+        connection->group = connection->peer->group;
+        connection->has_fixed_ids = true;
+        return;
+    }
     getresuid(&real_user, &connection->user, &saved_user);
     getresgid(&real_group, &connection->group, &saved_group);
     connection->has_fixed_ids = real_user == connection->user && saved_user == connection->user
@@ -601,20 +665,28 @@ static int make_ready(struct connection *connection, struct call *call)
     return begin_session(connection, call);
 }
 
-/* Gives the calling thread a place for a connection, if one is left. */
-static void take_place(void)
+/* Takes a place for a connection, if one is left. */
+static struct connection *take_place(const struct peer *peer)
 {
     for (struct connection *each = connections; each < connections + CONNECTIONS; each++) {
         if (atomic_exchange(&each->taken, true))
             continue;
-        if (pthread_setspecific(thread_end, each) == 0) {
-            each->fd = -1;
-            own_connection = each;
-        } else {
-            atomic_store(&each->taken, false);
-        }
-        return;
+        each->fd = -1;
+        each->peer = peer;
+        each->is_opened = false;
+        return each;
     }
+    return NULL;
+}
+
+/* Gives the calling thread a place, if one is left. */
+static void take_own_place(void)
+{
+    struct connection *place = take_place(&server);
+    if (place && pthread_setspecific(thread_end, place) == 0)
+        own_connection = place;
+    else if (place)
+        atomic_store(&place->taken, false);
 }
 
 /* Returns the thread's connection, or `single`, which serves one call. A single one serves a signal
@@ -625,7 +697,7 @@ static struct connection *borrow(struct connection *single, const struct call *c
     if (settings.keeps_connections && call->process == process && !current_call) {
         current_call = 1;
         if (!own_connection)
-            take_place();
+            take_own_place();
         if (own_connection)
             return own_connection;
         current_call = 0;
@@ -633,31 +705,101 @@ static struct connection *borrow(struct connection *single, const struct call *c
     return single;
 }
 
+/* The same of a connection that was opened. A single one also serves a thread if another one uses
+ * the connection. */
+static struct connection *borrow_opened(
+    struct connection *opened, struct connection *single, const struct call *call)
+{
+    if (call->process == process && !atomic_exchange(&opened->in_use, true))
+        return opened;
+    return single;
+}
+
 static void give_back(struct connection *connection, struct connection *single)
 {
     if (connection == single)
         end_session(single);
+    else if (connection->is_opened)
+        atomic_store(&connection->in_use, false);
     else
         current_call = 0;
 }
 
-int ask(struct frame *frame, bool may_wait)
+/* Makes a call over a connection that is borrowed. */
+static int make_call(struct connection *connection, struct frame *frame, struct call *call)
+{
+    int error = make_ready(connection, call);
+    if (error == 0)
+        error = exchange(connection, frame, call);
+    if (call->ended_by != 0)
+        end_session(connection);
+    frame->slots = connection->slots;
+    return error;
+}
+
+/* The deadline of a wait, or 0 if it has no limit. */
+static long deadline_in(int milliseconds_at_most)
+{
+    return milliseconds_at_most < 0 ? 0 : milliseconds() + milliseconds_at_most;
+}
+
+int ask(struct connection *opened, struct frame *frame, bool may_wait, int milliseconds_at_most)
 {
     int cancel_state, errno_before = errno;
-    struct connection single = {.fd = -1};
+    const struct peer *peer = opened ? opened->peer : &server;
+    struct connection single = {.fd = -1, .peer = peer};
     pthread_setcancelstate(PTHREAD_CANCEL_DISABLE, &cancel_state);
     struct call call = {.process = getpid(),
         .may_wait = may_wait,
-        .cancel_state = may_wait ? cancel_state : PTHREAD_CANCEL_DISABLE};
-    struct connection *connection = borrow(&single, &call);
-    int error = make_ready(connection, &call);
-    if (error == 0)
-        error = exchange(connection, frame, &call);
-    if (call.is_interrupted)
-        end_session(connection);
-    frame->slots = connection->slots;
+        .ends_by_signals = peer->ends_by_signals,
+        .cancel_state = may_wait ? cancel_state : PTHREAD_CANCEL_DISABLE,
+        .deadline = may_wait ? deadline_in(milliseconds_at_most) : 0};
+    struct connection *connection =
+        opened ? borrow_opened(opened, &single, &call) : borrow(&single, &call);
+    int error = make_call(connection, frame, &call);
+    if (error == EIO && !opened)
+        say_once(connection->why);
+    if (error == EIO && opened && connection == &single)
+        opened->why = single.why;
     give_back(connection, &single);
     pthread_setcancelstate(cancel_state, NULL);
     errno = errno_before;
     return error;
 }
+
+int connection_open(const struct peer *peer, int milliseconds_at_most, struct connection **opened)
+{
+    pthread_once(&process_begun, begin_process);
+    struct connection *connection = take_place(peer);
+    if (!connection)
+        return EMFILE;
+    connection->is_opened = true;
+    connection->in_use = false;
+    struct call call = {.process = getpid(),
+        .may_wait = true,
+        .ends_by_signals = peer->ends_by_signals,
+        .cancel_state = PTHREAD_CANCEL_DISABLE,
+        .deadline = deadline_in(milliseconds_at_most)};
+    int cancel_state;
+    pthread_setcancelstate(PTHREAD_CANCEL_DISABLE, &cancel_state);
+    int error = make_ready(connection, &call);
+    pthread_setcancelstate(cancel_state, NULL);
+    if (error == EIO && connection->unconnected != 0)
+        error = connection->unconnected;
+    if (error == 0)
+        *opened = connection;
+    else
+        connection_close(connection);
+    return error;
+}
+
+void connection_close(struct connection *connection)
+{
+    end_session(connection);
+    connection->is_opened = false;
+    atomic_store(&connection->taken, false);
+}
+
+int connection_slots(const struct connection *connection) { return connection->slots; }
+
+const char *connection_why(const struct connection *connection) { return connection->why; }

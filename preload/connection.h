@@ -1,18 +1,46 @@
-/* The connections to the server: one for each thread, opened at its first call and closed at its
- * end. */
+/* The connections to servers: one for each thread of a program under sysvmsg-run, opened at its
+ * first call and closed at its end; and those that a program opens itself. */
 #ifndef CONNECTION_H
 #define CONNECTION_H
 
 #include <stdbool.h>
+#include <sys/types.h>
+#include <sys/un.h>
 
 #include "frames.h"
+
+struct connection;
+
+/* A server, and what its sessions are to do. */
+struct peer {
+    struct sockaddr_un address; /* without a path if that is too long */
+    bool ends_by_signals;       /* a handled signal ends a call that waits with EINTR */
+    bool states_ids;            /* the hello has these, and not the effective ones */
+    uid_t user;
+    gid_t group;
+};
+
+/* Returns false if the path is too long. */
+bool peer_set_path(struct peer *peer, const char *path);
 
 /* Whether SYSVMSG_PATH names a server. If it doesn't, the calls are the C library's own. */
 bool has_server(void);
 
-/* Sends a request and reads its reply into the same frame. Returns 0, or the errno of the call. A
- * call that `may_wait` is a cancellation point while it waits for its reply. If a signal handler
- * runs meanwhile, it fails with EINTR and has no effect, unless SYSVMSG_EINTR is 0. */
-int ask(struct frame *frame, bool may_wait);
+/* Opens a connection, and begins its session within a time, or -1 for no limit. The peer must live
+ * as long. Returns 0 or an errno. */
+int connection_open(const struct peer *peer, int milliseconds_at_most, struct connection **opened);
+void connection_close(struct connection *connection);
+int connection_slots(const struct connection *connection);
+
+/* Why the last call that failed with EIO did so, or NULL. */
+const char *connection_why(const struct connection *connection);
+
+/* Sends a request and reads its reply into the same frame, over a connection that was opened, or
+ * over the thread's own for NULL. Returns 0, or the errno of the call. A call that `may_wait` is a
+ * cancellation point while it waits for its reply. If a signal handler runs meanwhile, it fails
+ * with EINTR and has no effect, unless the peer's sessions go on waiting. If its time is over, it
+ * fails with ETIMEDOUT and has no effect; -1 is no limit. Threads may use a connection at once:
+ * each that finds it in use makes its call over one of its own. */
+int ask(struct connection *opened, struct frame *frame, bool may_wait, int milliseconds_at_most);
 
 #endif

@@ -1,26 +1,35 @@
 """What the Python scripts of this folder share: the program that is tried, connections to a server, and the lines that
-say how it went. The program is $SYSVMSG; without it, the one that tools/prove builds."""
+say how it went. The program is $SYSVMSG; without it, the one that tools/program names, which is built without proofs if
+there is none. A script that is given --help prints its own documentation."""
 import ctypes
 import os
+import re
 import signal
 import socket
-import struct
 import subprocess
 import sys
 import tempfile
 import time
 import traceback
+from typing import NamedTuple
 
 TOP = os.path.dirname(os.path.dirname(os.path.abspath(__file__)))
-ERRORS = {
-    1: "EPERM", 2: "ENOENT", 7: "E2BIG", 11: "EAGAIN", 13: "EACCES", 17: "EEXIST", 22: "EINVAL", 28: "ENOSPC",
-    42: "ENOMSG", 43: "EIDRM", 75: "EOVERFLOW",
-}
-CREAT, EXCL, NOWAIT, NOERROR, EXCEPT = 512, 1024, 2048, 4096, 8192
-HELLO, GET, SND, RCV, STAT, SET, RM, ROW = range(8)
+sys.path.insert(0, os.path.join(TOP, "clients", "python"))
+import sysvmsg
+from sysvmsg import CREAT, EXCEPT, EXCL, GET, HELLO, NOERROR, NOWAIT, RCV, RM, ROW, SET, SND, STAT, Request, frame
+
 SLOTS = 256
 LIBC = ctypes.CDLL(None)
 PR_SET_PDEATHSIG = 1
+
+if sys.argv[1:] == ["--help"]:
+    print(sys.modules["__main__"].__doc__)
+    sys.exit()
+
+
+def is_chosen(name):
+    """Whether a name has each word of the command line in it. All names are chosen if there are no words."""
+    return all(word in name for word in sys.argv[1:])
 
 
 def built_program():
@@ -28,8 +37,8 @@ def built_program():
     given = os.environ.get("SYSVMSG")
     if given:
         return given
-    prove = os.path.join(TOP, "tools/prove")
-    return subprocess.run([prove], stdin=subprocess.DEVNULL, stdout=subprocess.PIPE, check=True, text=True).stdout.strip()
+    find = os.path.join(TOP, "tools/program")
+    return subprocess.run([find], stdin=subprocess.DEVNULL, stdout=subprocess.PIPE, check=True, text=True).stdout.strip()
 
 
 def is_checked(program):
@@ -57,12 +66,8 @@ def finished(process, seconds=60):
         return process.communicate()[0].decode(), "none after %d seconds" % seconds
 
 
-def frame(operation, fields, version=2):
-    return struct.pack(">IBB", len(fields) + 2, version, operation) + fields
-
-
 def hello(uid, gid, pid, version=2):
-    return frame(HELLO, struct.pack(">III", uid, gid, pid), version)
+    return Request.hello(uid, gid, pid).frame(version)
 
 
 class Session:
@@ -73,8 +78,8 @@ class Session:
         self.peer = socket.socket(socket.AF_UNIX)
         self.peer.connect(path)
         self.stream = self.peer.makefile("rb")
-        slots = self.ask(HELLO, struct.pack(">III", uid, gid, pid))
-        assert slots == (b"" if version == 1 else struct.pack(">I", SLOTS))
+        slots = self.call(Request.hello(uid, gid, pid))
+        assert slots == (None if version == 1 else SLOTS)
 
     def ask(self, operation, fields):
         """The fields of the reply, or the name of its error."""
@@ -83,14 +88,23 @@ class Session:
 
     def reply(self, operation):
         """The fields of the next reply, which is to this operation, or the name of its error."""
-        length, version, told, error = struct.unpack(">IBBB", self.stream.read(7))
-        rest = self.stream.read(length - 3)
-        assert (version, told) == (self.version, operation)
-        return ERRORS[error] if error else rest
+        try:
+            return sysvmsg.read_reply(self.stream.read, operation, self.version)
+        except sysvmsg.QueueError as refused:
+            return refused.name
+
+    def start(self, request):
+        """Sends a request, and does not wait for the reply."""
+        self.peer.sendall(request.frame(self.version))
+
+    def call(self, request):
+        """What the reply to a request states, or the name of its error."""
+        told = self.ask(request.operation, request.fields)
+        return told if isinstance(told, str) else request.decode(told)
 
     def get(self, key, flags):
         """The identifier of the queue."""
-        return struct.unpack(">i", self.ask(GET, struct.pack(">iI", key, flags)))[0]
+        return self.call(Request.get(key, flags))
 
     def send(self, queue, body, mtype=1):
         """Sends a message, and waits until it is sent: nothing, or the name of the error."""
@@ -99,11 +113,11 @@ class Session:
 
     def start_send(self, queue, body, mtype=1):
         """Asks for a send, and does not wait for the reply."""
-        self.peer.sendall(frame(SND, struct.pack(">iqI", queue, mtype, 0) + body, self.version))
+        self.start(Request.snd(queue, mtype, 0, body))
 
     def start_receive(self, queue, size=99, mtype=0):
         """Asks for a receive, of any type if none is given, and does not wait for the reply."""
-        self.peer.sendall(frame(RCV, struct.pack(">iIqI", queue, size, mtype, 0), self.version))
+        self.start(Request.rcv(queue, size, mtype, 0))
 
     def received(self):
         """The body of the message of a receive that was asked for, or the name of the error."""
@@ -112,12 +126,12 @@ class Session:
 
     def receive_now(self, queue, size=99):
         """The body of a message of any type, or the name of the error, at once."""
-        told = self.ask(RCV, struct.pack(">iIqI", queue, size, 0, NOWAIT))
-        return told if isinstance(told, str) else told[8:]
+        told = self.call(Request.rcv(queue, size, 0, NOWAIT))
+        return told if isinstance(told, str) else told.body
 
     def queued(self, queue):
         """The number of messages that are queued."""
-        return struct.unpack_from(">I", self.ask(STAT, struct.pack(">i", queue)), 26)[0]
+        return self.call(Request.stat(queue)).qnum
 
     def close(self):
         self.stream.close()
@@ -187,6 +201,46 @@ class Report:
 
     def status(self):
         return 1 if self.failed else 0
+
+
+class Vector(NamedTuple):
+    """A frame of tests/vectors/frames.txt."""
+    kind: str
+    version: int
+    name: str
+    fields: dict
+    data: bytes
+    text: str
+
+
+def value_of(name, text):
+    return bytes.fromhex(text) if name == "body" else text if name == "error" else int(text)
+
+
+def vectors():
+    """The frames of tests/vectors/frames.txt."""
+    with open(os.path.join(TOP, "tests", "vectors", "frames.txt"), encoding="ascii") as file:
+        lines = [line.strip() for line in file if not line.startswith("#")]
+    found = []
+    for line in lines:
+        words, _, data = line.partition(" :")
+        kind, version, name, *fields = words.split()
+        fields = {name: value_of(name, text) for name, text in (word.split("=") for word in fields)}
+        found.append(Vector(kind, int(version), name, fields, bytes.fromhex(data), line))
+    return found
+
+
+def frames_of_wire_page():
+    """The frames that docs/wire.md shows, one after another."""
+    with open(os.path.join(TOP, "docs", "wire.md"), encoding="utf-8") as file:
+        blocks = re.findall(r"^```\n(hello.*?)^```$", file.read(), re.MULTILINE | re.DOTALL)
+    data = bytes.fromhex("".join(re.sub(r"^\S.*?\s{2,}", "", line) for block in blocks for line in block.splitlines()))
+    found = []
+    while data:
+        size = 4 + int.from_bytes(data[:4], "big")
+        found.append(data[:size])
+        data = data[size:]
+    return found
 
 
 def becomes(wanted, look, seconds=20):
@@ -287,8 +341,7 @@ def run_trials(seconds=100):
     """Runs the script's trials one after another: those whose names have the words of the command line in them, all if
     there are none. Returns the status with which the script ends. Whatever ends it, it leaves no process, and no folder
     unless it is killed."""
-    chosen = [(name, function) for name, function in TRIALS
-              if all(word in (name or function.__name__.replace("_", " ")) for word in sys.argv[1:])]
+    chosen = [(name, function) for name, function in TRIALS if is_chosen(name or function.__name__.replace("_", " "))]
     if not chosen:
         sys.exit("no trial has these words in its name")
     for number in signal.SIGTERM, signal.SIGHUP:

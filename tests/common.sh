@@ -1,15 +1,27 @@
 # shellcheck shell=bash disable=SC2034
 # What the scripts of this folder share: the program that is tried, a folder to work in, and the lines that say how it went.
-# The program is $SYSVMSG; without it, the one that tools/prove builds.
+# The program is $SYSVMSG; without it, the one that tools/program names, which is built without proofs if there is none.
+# --help prints the comment at the head of the script.
+if [ "$1" = --help ]; then
+    awk 'NR > 1 && !/^#/ { exit } NR > 1 && !/^# shellcheck/ { sub(/^# ?/, ""); print }' "$0"
+    exit
+fi
 top=$(cd "$(dirname "$0")/.." && pwd)
-program=${SYSVMSG:-$("$top/tools/prove" </dev/null)}
+program=${SYSVMSG:-$("$top/tools/program" </dev/null)}
 [ -n "$program" ] || exit 1
+words=("$@")
 work=$(mktemp -d)
 chmod 755 "$work"
 failed=0
 
 # Whether the program was built without proofs, by `rt try`: with an allocator that checks each use and keeps freed memory.
 is_checked() { grep -qa __asan_init "$program"; }
+
+# is_chosen NAME: whether NAME has each word of the command line in it. All names are chosen if there are no words.
+is_chosen() {
+    local word
+    for word in "${words[@]}"; do [[ $1 == *"$word"* ]] || return; done
+}
 
 ok() { echo "ok $1"; }
 

@@ -1,0 +1,151 @@
+/* The library for clients in C. Sessions, frames and requests are those of the preload library. */
+#include "sysvmsg.h"
+
+#include <errno.h>
+#include <limits.h>
+#include <stdlib.h>
+#include <string.h>
+
+#include "connection.h"
+#include "frames.h"
+#include "requests.h"
+
+#define EXPORTED __attribute__((visibility("default")))
+
+enum { NOWAIT_FLAG = 2048 };
+
+struct sysvmsg {
+    struct peer peer;
+    struct connection *connection;
+};
+
+_Static_assert((int)SYSVMSG_BODY_MAX == (int)TEXT_MAX, "the longest message");
+_Static_assert(sizeof(struct sysvmsg_stat) == sizeof(struct queue_stat), "the same fields");
+_Static_assert(sizeof(struct sysvmsg_set) == sizeof(struct queue_set), "the same fields");
+
+/* Returns 0, or -1 with errno set. */
+static int outcome(int error)
+{
+    if (error == 0)
+        return 0;
+    errno = error;
+    return -1;
+}
+
+/* Opens what has a peer. Returns NULL with errno set if that fails. */
+static struct sysvmsg *opened(struct sysvmsg *server, const char *path, int milliseconds)
+{
+    int error = peer_set_path(&server->peer, path) ? 0 : ENAMETOOLONG;
+    if (error == 0)
+        error = connection_open(&server->peer, milliseconds, &server->connection);
+    if (error == 0)
+        return server;
+    free(server);
+    errno = error;
+    return NULL;
+}
+
+EXPORTED struct sysvmsg *sysvmsg_open(const char *path, int milliseconds)
+{
+    struct sysvmsg *server = calloc(1, sizeof *server);
+    if (!server)
+        return NULL;
+    server->peer.ends_by_signals = true;
+    return opened(server, path, milliseconds);
+}
+
+EXPORTED struct sysvmsg *sysvmsg_open_as(
+    const char *path, uid_t user, gid_t group, int milliseconds)
+{
+    struct sysvmsg *server = calloc(1, sizeof *server);
+    if (!server)
+        return NULL;
+    server->peer =
+        (struct peer){.ends_by_signals = true, .states_ids = true, .user = user, .group = group};
+    return opened(server, path, milliseconds);
+}
+
+EXPORTED void sysvmsg_close(struct sysvmsg *server)
+{
+    if (!server)
+        return;
+    connection_close(server->connection);
+    free(server);
+}
+
+EXPORTED int sysvmsg_slots(const struct sysvmsg *server)
+{
+    return connection_slots(server->connection);
+}
+
+EXPORTED const char *sysvmsg_reason(const struct sysvmsg *server)
+{
+    const char *why = connection_why(server->connection);
+    return why ? why : "";
+}
+
+EXPORTED int sysvmsg_get(struct sysvmsg *server, int key, int flags)
+{
+    int id = -1;
+    int error = request_get(server->connection, key, flags, &id);
+    return error ? outcome(error) : id;
+}
+
+/* The flag of a call that does not wait. */
+static int wait_flag(int milliseconds) { return milliseconds == SYSVMSG_NOWAIT ? NOWAIT_FLAG : 0; }
+
+EXPORTED int sysvmsg_snd(
+    struct sysvmsg *server, int queue, const void *message, size_t size, int milliseconds)
+{
+    int64_t type;
+    if (size > TEXT_MAX)
+        return outcome(EINVAL);
+    memcpy(&type, message, sizeof type);
+    return outcome(request_snd(server->connection, queue, type, (const char *)message + sizeof type,
+        size, wait_flag(milliseconds), milliseconds));
+}
+
+EXPORTED ssize_t sysvmsg_rcv(struct sysvmsg *server, int queue, void *message, size_t size,
+    int64_t type, int flags, int milliseconds)
+{
+    size_t got;
+    flags = (flags & (SYSVMSG_NOERROR | SYSVMSG_EXCEPT)) | wait_flag(milliseconds);
+    int error = request_rcv(server->connection, queue, message, size < TEXT_MAX ? size : TEXT_MAX,
+        type, flags, milliseconds, &got);
+    return error ? outcome(error) : (ssize_t)got;
+}
+
+EXPORTED int sysvmsg_stat(struct sysvmsg *server, int queue, struct sysvmsg_stat *stat)
+{
+    struct queue_stat found;
+    int error = request_stat(server->connection, queue, &found);
+    if (error == 0)
+        *stat = (struct sysvmsg_stat){found.key, found.uid, found.gid, found.cuid, found.cgid,
+            found.mode, found.cbytes, found.qnum, found.qbytes, found.lspid, found.lrpid,
+            found.stime, found.rtime, found.ctime};
+    return outcome(error);
+}
+
+EXPORTED int sysvmsg_set(struct sysvmsg *server, int queue, const struct sysvmsg_set *set)
+{
+    struct queue_set wanted = {set->uid, set->gid, set->mode, set->qbytes};
+    return outcome(request_set(server->connection, queue, &wanted));
+}
+
+EXPORTED int sysvmsg_rm(struct sysvmsg *server, int queue)
+{
+    return outcome(request_rm(server->connection, queue));
+}
+
+EXPORTED int sysvmsg_row(struct sysvmsg *server, int slot, struct sysvmsg_row *row)
+{
+    struct queue_row found;
+    int error = request_row(server->connection, slot, &found);
+    if (error != 0)
+        return outcome(error);
+    if (!found.present)
+        return 0;
+    *row =
+        (struct sysvmsg_row){found.id, found.key, found.uid, found.mode, found.cbytes, found.qnum};
+    return 1;
+}

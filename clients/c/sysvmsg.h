@@ -1,0 +1,106 @@
+/* A client of sysvmsg servers: System V message queues over a Unix socket.
+ *
+ * Calls return -1 and set errno if they fail. Link with -lsysvmsg -pthread. docs/clients-c.md has
+ * an example. */
+#ifndef SYSVMSG_H
+#define SYSVMSG_H
+
+#include <stddef.h>
+#include <stdint.h>
+#include <sys/types.h>
+
+#ifdef __cplusplus
+extern "C" {
+#endif
+
+/* Flags. They are those of <sys/ipc.h> and <sys/msg.h>; a get also takes a mode of nine bits. */
+enum {
+    SYSVMSG_CREAT = 01000,
+    SYSVMSG_EXCL = 02000,
+    SYSVMSG_NOERROR = 010000,
+    SYSVMSG_EXCEPT = 020000,
+};
+
+enum {
+    SYSVMSG_PRIVATE = 0,     /* the key of a queue that no other call finds */
+    SYSVMSG_BODY_MAX = 8192, /* the longest message */
+    SYSVMSG_NO_LIMIT = -1,   /* a call waits as long as it takes */
+    SYSVMSG_NOWAIT = 0,      /* it does not wait, and fails with EAGAIN or ENOMSG at once */
+};
+
+/* A message: a type above 0, and a body. A program may use a struct with a shorter body. */
+struct sysvmsg_message {
+    int64_t type;
+    char body[SYSVMSG_BODY_MAX];
+};
+
+/* The attributes of a queue. The times of a server are 0. */
+struct sysvmsg_stat {
+    int32_t key;
+    uint32_t uid, gid, cuid, cgid, mode, cbytes, qnum, qbytes, lspid, lrpid;
+    uint64_t stime, rtime, ctime;
+};
+
+struct sysvmsg_set {
+    uint32_t uid, gid, mode, qbytes;
+};
+
+/* A queue as the server's table shows it, to anybody. */
+struct sysvmsg_row {
+    int id;
+    int32_t key;
+    uint32_t uid, mode, cbytes, qnum;
+};
+
+/* A connection to a server. Threads may use one at the same time: each that finds it in use makes
+ * its call over a connection of its own, which costs more. A child of fork may use it too, over a
+ * session of its own. */
+struct sysvmsg;
+
+/* Connects to the server at a path, as this process's effective user and group, within a number of
+ * milliseconds or SYSVMSG_NO_LIMIT. Returns NULL and sets errno to that of the connect, to
+ * ENAMETOOLONG, EMFILE if the process has 1,024 connections, ETIMEDOUT, or EIO if the server sent
+ * no valid reply. */
+struct sysvmsg *sysvmsg_open(const char *path, int milliseconds);
+
+/* The same, as another user and group. The server does not check them. */
+struct sysvmsg *sysvmsg_open_as(const char *path, uid_t user, gid_t group, int milliseconds);
+
+/* Ends the session. No thread may be in a call. */
+void sysvmsg_close(struct sysvmsg *server);
+
+/* The number of queues that the server can have. */
+int sysvmsg_slots(const struct sysvmsg *server);
+
+/* Why the last call that failed with EIO did so: the session ended, or the server sent no valid
+ * reply. It is not known whether such a call took effect. The next call begins another session. */
+const char *sysvmsg_reason(const struct sysvmsg *server);
+
+/* Returns the identifier of the queue of a key. */
+int sysvmsg_get(struct sysvmsg *server, int key, int flags);
+
+/* Sends a message: a struct sysvmsg_message, or one like it, with a body of `size` bytes. It waits
+ * for room, at most that many milliseconds. ETIMEDOUT: the time was over; EINTR: a signal handler
+ * ran. A call that fails with one of these sent nothing. */
+int sysvmsg_snd(
+    struct sysvmsg *server, int queue, const void *message, size_t size, int milliseconds);
+
+/* Receives a message with a body of at most `size` bytes, and returns its length: the first one of
+ * any type for 0, of this type if it is above 0, of the lowest type that is at most N for -N. Flags
+ * are SYSVMSG_NOERROR and SYSVMSG_EXCEPT. It waits for a message, at most that many milliseconds.
+ * ETIMEDOUT and EINTR are as above: a call that fails with one of them took nothing. */
+ssize_t sysvmsg_rcv(struct sysvmsg *server, int queue, void *message, size_t size, int64_t type,
+    int flags, int milliseconds);
+
+int sysvmsg_stat(struct sysvmsg *server, int queue, struct sysvmsg_stat *stat);
+int sysvmsg_set(struct sysvmsg *server, int queue, const struct sysvmsg_set *set);
+int sysvmsg_rm(struct sysvmsg *server, int queue);
+
+/* Returns 1 and the queue of a slot, or 0 if the slot has none. */
+int sysvmsg_row(struct sysvmsg *server, int slot, struct sysvmsg_row *row);
+
+#ifdef __cplusplus
+}
+#endif
+
+#endif

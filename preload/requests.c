@@ -1,0 +1,123 @@
+#include "requests.h"
+
+#include <string.h>
+
+#include "frames.h"
+
+enum { NOWAIT = 2048 };
+
+int request_get(struct connection *opened, int key, int flags, int *id)
+{
+    struct frame frame;
+    frame_begin(&frame, GET);
+    frame_put_u32(&frame, (uint32_t)key);
+    frame_put_u32(&frame, (uint32_t)flags);
+    frame_end(&frame);
+    int error = ask(opened, &frame, false, -1);
+    if (error == 0)
+        *id = (int)frame_take_u32(&frame);
+    return error;
+}
+
+int request_snd(struct connection *opened, int id, int64_t type, const void *body, size_t size,
+    int flags, int milliseconds_at_most)
+{
+    struct frame frame;
+    frame_begin(&frame, SND);
+    frame.message = (struct iovec){(void *)body, size};
+    frame_put_u32(&frame, (uint32_t)id);
+    frame_put_u64(&frame, (uint64_t)type);
+    frame_put_u32(&frame, (uint32_t)flags);
+    frame_end(&frame);
+    return ask(opened, &frame, !(flags & NOWAIT), milliseconds_at_most);
+}
+
+int request_rcv(struct connection *opened, int id, void *message, size_t size, int64_t type,
+    int flags, int milliseconds_at_most, size_t *got)
+{
+    struct frame frame;
+    frame_begin(&frame, RCV);
+    frame.message = (struct iovec){message, TYPE_BYTES + size};
+    frame_put_u32(&frame, (uint32_t)id);
+    frame_put_u32(&frame, (uint32_t)size);
+    frame_put_u64(&frame, (uint64_t)type);
+    frame_put_u32(&frame, (uint32_t)flags);
+    frame_end(&frame);
+    int error = ask(opened, &frame, !(flags & NOWAIT), milliseconds_at_most);
+    if (error != 0)
+        return error;
+    int64_t found = frame_type(&frame);
+    memcpy(message, &found, sizeof found);
+    *got = frame.length - REPLY_HEAD - TYPE_BYTES;
+    return 0;
+}
+
+/* Asks for one thing of one queue or slot. */
+static int ask_of(
+    struct connection *opened, struct frame *frame, enum operation operation, int number)
+{
+    frame_begin(frame, operation);
+    frame_put_u32(frame, (uint32_t)number);
+    frame_end(frame);
+    return ask(opened, frame, false, -1);
+}
+
+int request_stat(struct connection *opened, int id, struct queue_stat *stat)
+{
+    struct frame frame;
+    int error = ask_of(opened, &frame, STAT, id);
+    if (error != 0)
+        return error;
+    stat->key = (int32_t)frame_take_u32(&frame);
+    stat->uid = frame_take_u32(&frame);
+    stat->gid = frame_take_u32(&frame);
+    stat->cuid = frame_take_u32(&frame);
+    stat->cgid = frame_take_u32(&frame);
+    stat->mode = frame_take_u16(&frame);
+    stat->cbytes = frame_take_u32(&frame);
+    stat->qnum = frame_take_u32(&frame);
+    stat->qbytes = frame_take_u32(&frame);
+    stat->lspid = frame_take_u32(&frame);
+    stat->lrpid = frame_take_u32(&frame);
+    stat->stime = frame_take_u64(&frame);
+    stat->rtime = frame_take_u64(&frame);
+    stat->ctime = frame_take_u64(&frame);
+    return 0;
+}
+
+int request_set(struct connection *opened, int id, const struct queue_set *set)
+{
+    struct frame frame;
+    frame_begin(&frame, SET);
+    frame_put_u32(&frame, (uint32_t)id);
+    frame_put_u32(&frame, set->uid);
+    frame_put_u32(&frame, set->gid);
+    frame_put_u32(&frame, set->mode);
+    frame_put_u32(&frame, set->qbytes);
+    frame_end(&frame);
+    return ask(opened, &frame, false, -1);
+}
+
+int request_rm(struct connection *opened, int id)
+{
+    struct frame frame;
+    return ask_of(opened, &frame, RM, id);
+}
+
+int request_row(struct connection *opened, int slot, struct queue_row *row)
+{
+    struct frame frame;
+    int error = ask_of(opened, &frame, ROW, slot);
+    if (error != 0)
+        return error;
+    *row = (struct queue_row){.slots = frame.slots, .present = frame_take_u8(&frame) == 1};
+    if (!row->present)
+        return 0;
+    row->id = (int)frame_take_u32(&frame);
+    row->key = (int32_t)frame_take_u32(&frame);
+    row->uid = frame_take_u32(&frame);
+    row->mode = frame_take_u16(&frame);
+    row->cbytes = frame_take_u32(&frame);
+    row->qnum = frame_take_u32(&frame);
+    return 0;
+}

@@ -1,0 +1,365 @@
+/* What tests/client-c tries of the library for clients in C: client PART PATH. It ends with status
+ * 0 if all is right, and else says on which line it is not. */
+#define _GNU_SOURCE
+#include <errno.h>
+#include <pthread.h>
+#include <signal.h>
+#include <stdbool.h>
+#include <stdio.h>
+#include <stdlib.h>
+#include <string.h>
+#include <sys/wait.h>
+#include <time.h>
+#include <unistd.h>
+
+#include "sysvmsg.h"
+
+enum { MESSAGES = 120, THREADS = 8, ROUNDS = 100, KEY = 7 };
+
+/* assert, also in a build without it, and in a child too. */
+#define CHECK(condition)                                                                           \
+    do {                                                                                           \
+        if (!(condition)) {                                                                        \
+            fprintf(stderr, "line %d: %s (errno %d)\n", __LINE__, #condition, errno);              \
+            _exit(1);                                                                              \
+        }                                                                                          \
+    } while (0)
+
+static const char *path;
+
+static struct sysvmsg *open_server(void)
+{
+    struct sysvmsg *server = sysvmsg_open(path, 10000);
+    CHECK(server);
+    return server;
+}
+
+static int send_text(struct sysvmsg *server, int queue, int64_t type, const char *text, int limit)
+{
+    struct sysvmsg_message message = {.type = type};
+    memcpy(message.body, text, strlen(text));
+    return sysvmsg_snd(server, queue, &message, strlen(text), limit);
+}
+
+/* Receives a message that is to have this text. */
+static bool receives(struct sysvmsg *server, int queue, int64_t type, const char *text)
+{
+    struct sysvmsg_message message;
+    ssize_t size = sysvmsg_rcv(server, queue, &message, sizeof message.body, type, 0, 10000);
+    return size == (ssize_t)strlen(text) && memcmp(message.body, text, (size_t)size) == 0;
+}
+
+static void sleep_micros(long micros)
+{
+    nanosleep(&(struct timespec){micros / 1000000, micros % 1000000 * 1000}, NULL);
+}
+
+/* Prints a result as tests/vectors has its fields. */
+static void print_body(const struct sysvmsg_message *message, ssize_t size)
+{
+    printf("type=%lld body=", (long long)message->type);
+    for (ssize_t i = 0; i < size; i++)
+        printf("%02x", (unsigned char)message->body[i]);
+    printf("\n");
+}
+
+static void print_stat(const struct sysvmsg_stat *s)
+{
+    printf("key=%d uid=%u gid=%u cuid=%u cgid=%u mode=%u cbytes=%u qnum=%u qbytes=%u lspid=%u "
+           "lrpid=%u "
+           "stime=%llu rtime=%llu ctime=%llu\n",
+        s->key, s->uid, s->gid, s->cuid, s->cgid, s->mode, s->cbytes, s->qnum, s->qbytes, s->lspid,
+        s->lrpid, (unsigned long long)s->stime, (unsigned long long)s->rtime,
+        (unsigned long long)s->ctime);
+}
+
+static void print_row(int found, const struct sysvmsg_row *row)
+{
+    if (found)
+        printf("id=%d key=%d uid=%u mode=%u cbytes=%u qnum=%u\n", row->id, row->key, row->uid,
+            row->mode, row->cbytes, row->qnum);
+    else
+        printf("\n");
+}
+
+/* Reads a body in hexadecimal. */
+static size_t read_body(char *body, const char *text)
+{
+    size_t size = strlen(text) / 2;
+    for (size_t i = 0; i < size; i++)
+        CHECK(sscanf(text + 2 * i, "%2hhx", (unsigned char *)body + i) == 1);
+    return size;
+}
+
+/* Makes one call, whose words are those of a vector: the operation and the values of its fields. */
+static int call(struct sysvmsg *server, char **w)
+{
+    struct sysvmsg_message message;
+    struct sysvmsg_stat stat;
+    struct sysvmsg_row row;
+    const char *name = w[0];
+    int number = w[1] ? atoi(w[1]) : 0, result;
+    if (strcmp(name, "get") == 0) {
+        result = sysvmsg_get(server, number, atoi(w[2]));
+        if (result >= 0)
+            printf("id=%d\n", result);
+    } else if (strcmp(name, "snd") == 0) {
+        message.type = strtoll(w[2], NULL, 10);
+        size_t size = read_body(message.body, w[4] ? w[4] : "");
+        result = sysvmsg_snd(
+            server, number, &message, size, atoi(w[3]) & 2048 ? SYSVMSG_NOWAIT : SYSVMSG_NO_LIMIT);
+    } else if (strcmp(name, "rcv") == 0) {
+        int flags = atoi(w[4]);
+        result = (int)sysvmsg_rcv(server, number, &message, (size_t)atoi(w[2]),
+            strtoll(w[3], NULL, 10), flags, flags & 2048 ? SYSVMSG_NOWAIT : SYSVMSG_NO_LIMIT);
+        if (result >= 0)
+            print_body(&message, result);
+    } else if (strcmp(name, "stat") == 0) {
+        result = sysvmsg_stat(server, number, &stat);
+        if (result == 0)
+            print_stat(&stat);
+    } else if (strcmp(name, "set") == 0) {
+        struct sysvmsg_set set = {
+            (uint32_t)atoi(w[2]), (uint32_t)atoi(w[3]), (uint32_t)atoi(w[4]), (uint32_t)atoi(w[5])};
+        result = sysvmsg_set(server, number, &set);
+    } else if (strcmp(name, "rm") == 0) {
+        result = sysvmsg_rm(server, number);
+    } else {
+        result = sysvmsg_row(server, number, &row);
+        if (result >= 0)
+            print_row(result, &row);
+    }
+    if (result < 0)
+        printf("error=%s\n", strerrorname_np(errno));
+    else if (strcmp(name, "snd") == 0 || strcmp(name, "set") == 0 || strcmp(name, "rm") == 0)
+        printf("\n");
+    return result;
+}
+
+static void try_call(char **words)
+{
+    struct sysvmsg *server = sysvmsg_open_as(path, 1000, 1000, SYSVMSG_NO_LIMIT);
+    CHECK(server);
+    CHECK(sysvmsg_slots(server) == 256);
+    errno = 0;
+    if (call(server, words) < 0 && errno == EIO)
+        fprintf(stderr, "%s\n", sysvmsg_reason(server));
+    sysvmsg_close(server);
+}
+
+static void try_limits(void)
+{
+    struct sysvmsg *server = open_server(), *other = open_server();
+    int queue = sysvmsg_get(server, KEY, SYSVMSG_CREAT | 0600);
+    struct sysvmsg_message message;
+    CHECK(queue >= 0);
+    CHECK(sysvmsg_rcv(server, queue, &message, sizeof message.body, 0, 0, SYSVMSG_NOWAIT) == -1
+          && errno == ENOMSG);
+    CHECK(sysvmsg_rcv(server, queue, &message, sizeof message.body, 0, 0, 200) == -1
+          && errno == ETIMEDOUT);
+    CHECK(send_text(other, queue, 1, "later", 10000) == 0);
+    CHECK(receives(server, queue, 0, "later"));
+    struct sysvmsg_set set = {geteuid(), getegid(), 0600, 3};
+    CHECK(sysvmsg_set(server, queue, &set) == 0);
+    CHECK(send_text(server, queue, 1, "abc", 10000) == 0);
+    CHECK(send_text(server, queue, 1, "d", SYSVMSG_NOWAIT) == -1 && errno == EAGAIN);
+    CHECK(send_text(server, queue, 1, "d", 200) == -1 && errno == ETIMEDOUT);
+    CHECK(receives(other, queue, 0, "abc"));
+    struct sysvmsg_stat stat;
+    CHECK(sysvmsg_stat(other, queue, &stat) == 0 && stat.qnum == 0);
+    CHECK(sysvmsg_rm(other, queue) == 0);
+    CHECK(sysvmsg_rcv(server, queue, &message, sizeof message.body, 0, 0, 200) == -1
+          && errno == EINVAL);
+    sysvmsg_close(server);
+    sysvmsg_close(other);
+}
+
+static void *send_all(void *arg)
+{
+    struct sysvmsg *server = open_server();
+    unsigned seed = 1;
+    char text[16];
+    for (int i = 0; i < MESSAGES; i++) {
+        sleep_micros(rand_r(&seed) % 20000);
+        snprintf(text, sizeof text, "%d", i);
+        CHECK(send_text(server, *(int *)arg, 1, text, SYSVMSG_NO_LIMIT) == 0);
+    }
+    sysvmsg_close(server);
+    return NULL;
+}
+
+/* Receives that give up at any time lose and double nothing. */
+static void try_races(void)
+{
+    struct sysvmsg *server = open_server();
+    int queue = sysvmsg_get(server, KEY, SYSVMSG_CREAT | 0600), taken = 0, given_up = 0;
+    pthread_t sender;
+    unsigned seed = 2;
+    CHECK(pthread_create(&sender, NULL, send_all, &queue) == 0);
+    while (taken < MESSAGES) {
+        struct sysvmsg_message message;
+        ssize_t size = sysvmsg_rcv(
+            server, queue, &message, sizeof message.body - 1, 0, 0, 1 + rand_r(&seed) % 20);
+        CHECK(size >= 0 || errno == ETIMEDOUT);
+        if (size < 0) {
+            given_up++;
+            continue;
+        }
+        message.body[size] = 0;
+        CHECK(atoi(message.body) == taken);
+        taken++;
+    }
+    pthread_join(sender, NULL);
+    struct sysvmsg_stat stat;
+    CHECK(sysvmsg_stat(server, queue, &stat) == 0 && stat.qnum == 0 && given_up > 0);
+    sysvmsg_close(server);
+}
+
+struct worker {
+    struct sysvmsg *server;
+    int queue;
+    int64_t type;
+};
+
+static void *work(void *arg)
+{
+    const struct worker *worker = arg;
+    char text[16];
+    for (int i = 0; i < ROUNDS; i++) {
+        snprintf(text, sizeof text, "%d.%d", (int)worker->type, i);
+        CHECK(send_text(worker->server, worker->queue, worker->type, text, SYSVMSG_NO_LIMIT) == 0);
+        CHECK(receives(worker->server, worker->queue, worker->type, text));
+    }
+    return NULL;
+}
+
+/* Threads use one connection at once, while another one waits in it. */
+static void try_threads(void)
+{
+    struct sysvmsg *server = open_server();
+    int queue = sysvmsg_get(server, KEY, SYSVMSG_CREAT | 0600);
+    pthread_t threads[THREADS];
+    struct worker workers[THREADS];
+    for (int i = 0; i < THREADS; i++) {
+        workers[i] = (struct worker){server, queue, i + 1};
+        CHECK(pthread_create(&threads[i], NULL, work, &workers[i]) == 0);
+    }
+    for (int i = 0; i < THREADS; i++)
+        pthread_join(threads[i], NULL);
+    sysvmsg_close(server);
+}
+
+/* A child of fork has a session of its own, and its parent's goes on. */
+static void try_fork(void)
+{
+    struct sysvmsg *server = open_server();
+    int queue = sysvmsg_get(server, KEY, SYSVMSG_CREAT | 0600), status;
+    pid_t child = fork();
+    if (child == 0) {
+        CHECK(send_text(server, queue, 1, "from the child", 10000) == 0);
+        sysvmsg_close(server);
+        _exit(0);
+    }
+    CHECK(waitpid(child, &status, 0) == child && status == 0);
+    struct sysvmsg_stat stat;
+    CHECK(sysvmsg_stat(server, queue, &stat) == 0 && stat.lspid == (uint32_t)child);
+    CHECK(receives(server, queue, 0, "from the child"));
+    sysvmsg_close(server);
+}
+
+static void note(int number) { (void)number; }
+
+/* A signal handler ends a call that waits, which then took nothing. */
+static void try_signal(void)
+{
+    struct sysvmsg *server = open_server();
+    int queue = sysvmsg_get(server, KEY, SYSVMSG_CREAT | 0600);
+    struct sigaction action = {.sa_handler = note, .sa_flags = SA_RESTART};
+    struct sysvmsg_message message;
+    CHECK(sigaction(SIGALRM, &action, NULL) == 0);
+    alarm(1);
+    CHECK(sysvmsg_rcv(server, queue, &message, sizeof message.body, 0, 0, SYSVMSG_NO_LIMIT) == -1
+          && errno == EINTR);
+    CHECK(send_text(server, queue, 1, "kept", 10000) == 0);
+    CHECK(receives(server, queue, 0, "kept"));
+    sysvmsg_close(server);
+}
+
+static void *wait_for_message(void *arg)
+{
+    const struct worker *worker = arg;
+    struct sysvmsg_message message;
+    sysvmsg_rcv(
+        worker->server, worker->queue, &message, sizeof message.body, 0, 0, SYSVMSG_NO_LIMIT);
+    return NULL;
+}
+
+/* A thread that is cancelled while its call waits takes nothing, and the connection can be used on.
+ */
+static void try_cancel(void)
+{
+    struct sysvmsg *server = open_server();
+    struct worker worker = {server, sysvmsg_get(server, KEY, SYSVMSG_CREAT | 0600), 0};
+    pthread_t thread;
+    void *result;
+    CHECK(pthread_create(&thread, NULL, wait_for_message, &worker) == 0);
+    sleep_micros(300000);
+    CHECK(pthread_cancel(thread) == 0 && pthread_join(thread, &result) == 0
+          && result == PTHREAD_CANCELED);
+    CHECK(send_text(server, worker.queue, 1, "kept", 10000) == 0);
+    CHECK(receives(server, worker.queue, 0, "kept"));
+    sysvmsg_close(server);
+}
+
+/* The only worker of the server is taken. */
+static void try_no_worker(void)
+{
+    struct sysvmsg *server = open_server();
+    CHECK(!sysvmsg_open(path, 300) && errno == ETIMEDOUT);
+    sysvmsg_close(server);
+}
+
+static void try_no_server(void)
+{
+    char long_path[200];
+    CHECK(!sysvmsg_open(path, 1000) && errno == ENOENT);
+    memset(long_path, 'x', sizeof long_path - 1);
+    long_path[sizeof long_path - 1] = 0;
+    CHECK(!sysvmsg_open(long_path, 1000) && errno == ENAMETOOLONG);
+}
+
+/* A connection that is closed leaves room for another one, and too many are refused. */
+static void try_many(void)
+{
+    static struct sysvmsg *all[250];
+    for (int round = 0; round < 6; round++) {
+        for (int i = 0; i < 250; i++)
+            CHECK((all[i] = sysvmsg_open(path, 10000)));
+        for (int i = 0; i < 250; i++)
+            sysvmsg_close(all[i]);
+    }
+}
+
+int main(int count, char **words)
+{
+    static const struct {
+        const char *name;
+        void (*part)(void);
+    } parts[] = {{"limits", try_limits}, {"races", try_races}, {"threads", try_threads},
+        {"fork", try_fork}, {"signal", try_signal}, {"cancel", try_cancel},
+        {"no-worker", try_no_worker}, {"no-server", try_no_server}, {"many", try_many}};
+    if (count < 3)
+        return 2;
+    path = words[2];
+    if (strcmp(words[1], "call") == 0) {
+        try_call(words + 3);
+        return 0;
+    }
+    for (size_t i = 0; i < sizeof parts / sizeof *parts; i++) {
+        if (strcmp(words[1], parts[i].name) == 0) {
+            parts[i].part();
+            return 0;
+        }
+    }
+    return 2;
+}
