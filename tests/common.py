@@ -1,4 +1,4 @@
-"""What the Python scripts of this folder share: the program that is tried, connections to a server, and the lines that
+"""What the Python scripts of the folders here share: the program that is tried, connections to a server, and the lines that
 say how it went. The program is $SYSVMSG; without it, the one that tools/program names, which is built without proofs if
 there is none. A script that is given --help prints its own documentation."""
 import ctypes

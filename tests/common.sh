@@ -1,12 +1,12 @@
 # shellcheck shell=bash disable=SC2034
-# What the scripts of this folder share: the program that is tried, a folder to work in, and the lines that say how it went.
+# What the scripts of the folders here share: the program that is tried, a folder to work in, and the lines that say how it went.
 # The program is $SYSVMSG; without it, the one that tools/program names, which is built without proofs if there is none.
 # --help prints the comment at the head of the script.
 if [ "$1" = --help ]; then
     awk 'NR > 1 && !/^#/ { exit } NR > 1 && !/^# shellcheck/ { sub(/^# ?/, ""); print }' "$0"
     exit
 fi
-top=$(cd "$(dirname "$0")/.." && pwd)
+top=$(cd "$(dirname "${BASH_SOURCE[0]}")/.." && pwd)
 program=${SYSVMSG:-$("$top/tools/program" </dev/null)}
 [ -n "$program" ] || exit 1
 words=("$@")

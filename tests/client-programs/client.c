@@ -1,5 +1,5 @@
-/* What tests/client-c tries of the library for clients in C: client PART PATH. It ends with status
- * 0 if all is right, and else says on which line it is not. */
+/* What tests/program/client-c tries of the library for clients in C: client PART PATH. It ends with
+ * status 0 if all is right, and else says on which line it is not. */
 #define _GNU_SOURCE
 #include <errno.h>
 #include <pthread.h>
