@@ -18,3 +18,4 @@ pub mod NoneKept
 pub mod Whole
 pub mod PoolIsWhole
 pub mod WorkersOfLife
+pub mod Permissions

@@ -35,3 +35,4 @@ pub mod Life
 pub mod PoolWhole
 pub mod Working
 pub mod Hiring
+pub mod Permitted

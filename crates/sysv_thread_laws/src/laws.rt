@@ -9,12 +9,13 @@ ghost use Rattle.sysv_thread_laws.specs.Life.{EachRunIsAtAnyMoment, EveryService
 ghost use Rattle.sysv_thread_laws.specs.OnThreads.{EachForgetTakesItsRow, EveryThreadedRunObeys};
 ghost use Rattle.sysv_thread_laws.specs.Order.{NoCallReadsARow};
 ghost use Rattle.sysv_thread_laws.specs.OrderIsRun.{EveryOrderIsARun};
+ghost use Rattle.sysv_thread_laws.specs.Permitted.{EveryOrderIsPermitted, EveryRunIsPermitted, EveryThreadedRunIsPermitted};
 ghost use Rattle.sysv_thread_laws.specs.PoolWhole.{EveryHiringLeavesThePoolWhole, EveryPoolIsWhole, NoHiringLeavesAGateHeld};
 ghost use Rattle.sysv_thread_laws.specs.RunIsFree.{EachRunIsFree};
 ghost use Rattle.sysv_thread_laws.specs.WorkedCrew.{WorkedCrew};
 ghost use Rattle.sysv_thread_laws.specs.WorkedOrder.{WorkedOrder};
 
-use sysv_core::each_world_is_sound;
+use sysv_core::{each_world_is_sound, every_run_obeys};
 use sysv_keys::registry_law;
 use sysv_objects::legal_turns;
 use sysv_pool::pool_law;
@@ -158,4 +159,20 @@ pub fn every_pool_is_whole()
 {
     seen_histories();
     every_service_that_came_home_is_a_run();
+}
+
+/// States that each send that was accepted, each message that was taken, each report of attributes,
+/// each queue that was found, each change and each removal was permitted: the queue was live at
+/// that turn, and its permissions allowed it to the credentials with which the call was started.
+///
+/// The clause `runs` states this of every world to which a run leads, `threads` of every free run,
+/// and `orders` of every order of turns with legal replies.
+pub fn each_effect_is_permitted()
+    ensures runs { EveryRunIsPermitted }
+    ensures threads { EveryThreadedRunIsPermitted }
+    ensures orders { EveryOrderIsPermitted }
+{
+    every_run_obeys();
+    every_threaded_run_obeys();
+    each_deed_is_asked_for();
 }
