@@ -19,3 +19,6 @@ pub mod Whole
 pub mod PoolIsWhole
 pub mod WorkersOfLife
 pub mod Permissions
+pub mod FewSteps
+pub mod MostSteps
+pub mod ComesToRest

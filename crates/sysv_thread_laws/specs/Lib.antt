@@ -36,3 +36,4 @@ pub mod PoolWhole
 pub mod Working
 pub mod Hiring
 pub mod Permitted
+pub mod OwnSteps

@@ -9,13 +9,14 @@ ghost use Rattle.sysv_thread_laws.specs.Life.{EachRunIsAtAnyMoment, EveryService
 ghost use Rattle.sysv_thread_laws.specs.OnThreads.{EachForgetTakesItsRow, EveryThreadedRunObeys};
 ghost use Rattle.sysv_thread_laws.specs.Order.{NoCallReadsARow};
 ghost use Rattle.sysv_thread_laws.specs.OrderIsRun.{EveryOrderIsARun};
+ghost use Rattle.sysv_thread_laws.specs.OwnSteps.{EachCallComesToFewGates, EachCallComesToRest, EachCallMakesFewTurns, EachNumberIsReached};
 ghost use Rattle.sysv_thread_laws.specs.Permitted.{EveryOrderIsPermitted, EveryRunIsPermitted, EveryThreadedRunIsPermitted};
 ghost use Rattle.sysv_thread_laws.specs.PoolWhole.{EveryHiringLeavesThePoolWhole, EveryPoolIsWhole, NoHiringLeavesAGateHeld};
 ghost use Rattle.sysv_thread_laws.specs.RunIsFree.{EachRunIsFree};
 ghost use Rattle.sysv_thread_laws.specs.WorkedCrew.{WorkedCrew};
 ghost use Rattle.sysv_thread_laws.specs.WorkedOrder.{WorkedOrder};
 
-use sysv_core::{each_world_is_sound, every_run_obeys};
+use sysv_core::{each_world_is_sound, every_run_obeys, some_step};
 use sysv_keys::registry_law;
 use sysv_objects::legal_turns;
 use sysv_pool::pool_law;
@@ -175,4 +176,29 @@ pub fn each_effect_is_permitted()
     every_run_obeys();
     every_threaded_run_obeys();
     each_deed_is_asked_for();
+}
+
+/// States that a call makes at most four turns from its start, or from the end of a wait, to its
+/// end or to its next wait: a msgsnd four, a msgget and an IPC_RMID three, a msgrcv and an IPC_SET
+/// two, and an IPC_STAT one.
+///
+/// The clause `reached` states that no smaller numbers would do. The clauses `gates` and
+/// `unstamped` state the same bound for the calls of a service: a call comes to no more gates than
+/// that, also if it finds gates worn out. The one is about calls with this clock, the other about
+/// calls that use no time.
+pub fn each_call_makes_few_turns<C: Clock>(clock: &C)
+    ensures table { EachCallMakesFewTurns }
+    ensures reached { EachNumberIsReached }
+    ensures gates { EachCallComesToFewGates (C.may clock.now) }
+    ensures unstamped { EachCallComesToFewGates no_moment }
+{}
+
+/// States that a call of a world is over or waits after at most this number of its own steps, if no
+/// other call makes a step between them. It does not state that a wait ends.
+pub fn each_call_comes_to_rest()
+    ensures { EachCallComesToRest }
+{
+    each_world_is_sound();
+    some_step();
+    every_run_obeys();
 }
