@@ -22,3 +22,6 @@ pub mod Permissions
 pub mod FewSteps
 pub mod MostSteps
 pub mod ComesToRest
+pub mod RemovalAlone
+pub mod WellInstalled
+pub mod StopEmpties

@@ -37,3 +37,4 @@ pub mod Working
 pub mod Hiring
 pub mod Permitted
 pub mod OwnSteps
+pub mod AfterStop

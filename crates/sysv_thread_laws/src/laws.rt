@@ -2,6 +2,7 @@
 
 ghost use Rattle.sysv_service.specs.TurnsLeft.{NoMarkWithTurnsLeft};
 ghost use Rattle.sysv_steps.specs.Stepping.{no_moment};
+ghost use Rattle.sysv_thread_laws.specs.AfterStop.{EveryStopEmpties};
 ghost use Rattle.sysv_thread_laws.specs.AtRest.{OrdersAtRest};
 ghost use Rattle.sysv_thread_laws.specs.Crew.{EveryLastPassIsWhole, EveryServiceIsARun};
 ghost use Rattle.sysv_thread_laws.specs.Hiring.{EveryHiringObeys, EveryStopRemoves};
@@ -201,4 +202,27 @@ pub fn each_call_comes_to_rest()
     each_world_is_sound();
     some_step();
     every_run_obeys();
+}
+
+/// States that a stop leaves no queue and no message, if the service is closed after it and the
+/// first pass, which made the stop, had taken back the passes of all workers. This holds if fewer
+/// than 2^62 turns were made at each object, with tickets from 0 on. The stop then found no gate
+/// worn out.
+pub fn every_stop_empties()
+    ensures { EveryStopEmpties }
+{
+    each_world_is_sound();
+    legal_turns();
+    blocks_kept();
+    pool_law();
+    each_holds_its_blocks();
+    queue_law();
+    registry_law();
+    each_deed_is_asked_for();
+    each_answer_is_right();
+    each_has_one_effect();
+    removed_for_good();
+    after_removal();
+    seen_histories();
+    every_hiring_obeys();
 }

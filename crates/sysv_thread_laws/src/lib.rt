@@ -10,5 +10,6 @@ pub use laws::{
     each_call_comes_to_rest, each_call_makes_few_turns, each_effect_is_permitted,
     each_forget_takes_its_row, each_run_is_free, every_hiring_obeys, every_order_is_a_run,
     every_pool_is_whole, every_service_obeys, every_service_that_came_home_is_a_run,
-    every_threaded_run_obeys, no_call_reads_a_row, orders_at_rest, worked_crew, worked_order,
+    every_stop_empties, every_threaded_run_obeys, no_call_reads_a_row, orders_at_rest, worked_crew,
+    worked_order,
 };
