@@ -25,3 +25,6 @@ pub mod ComesToRest
 pub mod RemovalAlone
 pub mod WellInstalled
 pub mod StopEmpties
+pub mod PlayPrefix
+pub mod SettledOnThreads
+pub mod ParkedOnThreads

@@ -1,10 +1,10 @@
 -- For each call the step table has a play with as many turns as are possible without a wait.
-use Rattle.std.proofs.Common.{◌≡◌, ℕ, ℤ, pos, true, false, [], cond, List, length, refl, sym, ap, subst}
+use Rattle.std.proofs.Common.{ℕ, ℤ, pos, true, [], cond, List, length, refl, sym, ap, subst}
 use Rattle.sysv_model.specs.declared.attributes.SetTo.{SetTo}
 use Rattle.sysv_model.specs.declared.cred.Cred.{Cred}
 use Rattle.sysv_model.specs.declared.errno.Errno.TheVariants.{EINVAL, EACCES}
 use Rattle.sysv_model.specs.declared.flags.Flags.{Flags}
-use Rattle.sysv_model.specs.declared.flags.TheConstants.Flags.{IPC_NOWAIT, MSG_NOERROR}
+use Rattle.sysv_model.specs.declared.flags.TheConstants.Flags.{MSG_NOERROR}
 use Rattle.sysv_model.specs.HasFlag.{has_flag}
 use Rattle.sysv_model.specs.Message.{Message}
 use Rattle.sysv_model.specs.Selector.{selector_for}
@@ -16,7 +16,7 @@ use Rattle.sysv_model.specs.Turn.{AtSlot, AtRegistry, AtPool}
 use Rattle.sysv_keys.specs.Identifier.{slot_of_id}
 use Rattle.sysv_steps.specs.Call.{SystemCall, Msgget, Msgsnd, Msgrcv, MsgctlStat, MsgctlSet, MsgctlRmid}
 use Rattle.sysv_steps.specs.State.{State, Goes, Over, Refused}
-use Rattle.sysv_steps.specs.Begin.{is_refused, first, begin}
+use Rattle.sysv_steps.specs.Begin.{first}
 use Rattle.sysv_steps.specs.Played.{Plays, begins, steps}
 use Rattle.sysv_thread_laws.specs.OwnSteps.{most_turns, IsReached, EachNumberIsReached}
 

@@ -260,21 +260,29 @@ module _ (sound : StaysSound)
 
   -- ---- the laws
 
+  run_held : ((generation blocks : ℕ) → AreLegal generation blocks []) →
+      (o : Opening) (list : List Moment) (given : List Given) (w : World) → LeadsOnThreads (opening o) list given w →
+      IsHeld w given
+  run_held none o list given w led =
+      leads_held (opening o) w list [] given (opening_held o (none o.generation o.blocks)) led
+
   -- What is counted of the identifiers that were made and installed.
   pub run_is_counted : ((generation blocks : ℕ) → AreLegal generation blocks []) →
       (o : Opening) (list : List Moment) (given : List Given) (w : World) → LeadsOnThreads (opening o) list given w →
       Counts w
-  run_is_counted none o list given w led =
-      let first = opening_held o (none o.generation o.blocks) in
-      let h : IsHeld w given = leads_held (opening o) w list [] given first led in
-      h.kept.counts
+  run_is_counted none o list given w led = (run_held none o list given w led).kept.counts
+
+  -- What is kept of the calls.
+  pub run_keeps : ((generation blocks : ℕ) → AreLegal generation blocks []) →
+      (o : Opening) (list : List Moment) (given : List Given) (w : World) → LeadsOnThreads (opening o) list given w →
+      Inv w given
+  run_keeps none o list given w led = (run_held none o list given w led).inv
 
   pub run_obeys : ((generation blocks : ℕ) → AreLegal generation blocks []) →
       (o : Opening) (list : List Moment) (given : List Given) (w : World) → LeadsOnThreads (opening o) list given w →
       ObeysOnThreads o w given
   run_obeys none o list given w led =
-      let first = opening_held o (none o.generation o.blocks) in
-      let h : IsHeld w given = leads_held (opening o) w list [] given first led in
+      let h = run_held none o list given w led in
       let opened = leads_opened (opening o) w list given led in
       lawful laws o w given h.inv opened.0 opened.1 IsMadeOrRead
       (λ k d low. made_so w.calls (get_or w.turns k d) (h.inv.made k d low) (h.reads k d low))

@@ -38,3 +38,4 @@ pub mod Hiring
 pub mod Permitted
 pub mod OwnSteps
 pub mod AfterStop
+pub mod ParkedOnThreads

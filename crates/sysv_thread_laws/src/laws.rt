@@ -11,6 +11,7 @@ ghost use Rattle.sysv_thread_laws.specs.OnThreads.{EachForgetTakesItsRow, EveryT
 ghost use Rattle.sysv_thread_laws.specs.Order.{NoCallReadsARow};
 ghost use Rattle.sysv_thread_laws.specs.OrderIsRun.{EveryOrderIsARun};
 ghost use Rattle.sysv_thread_laws.specs.OwnSteps.{EachCallComesToFewGates, EachCallComesToRest, EachCallMakesFewTurns, EachNumberIsReached};
+ghost use Rattle.sysv_thread_laws.specs.ParkedOnThreads.{EveryOrderParksRightly, EveryThreadedRunParksRightly};
 ghost use Rattle.sysv_thread_laws.specs.Permitted.{EveryOrderIsPermitted, EveryRunIsPermitted, EveryThreadedRunIsPermitted};
 ghost use Rattle.sysv_thread_laws.specs.PoolWhole.{EveryHiringLeavesThePoolWhole, EveryPoolIsWhole, NoHiringLeavesAGateHeld};
 ghost use Rattle.sysv_thread_laws.specs.RunIsFree.{EachRunIsFree};
@@ -21,11 +22,11 @@ use sysv_core::{each_world_is_sound, every_run_obeys, some_step};
 use sysv_keys::registry_law;
 use sysv_objects::legal_turns;
 use sysv_pool::pool_law;
-use sysv_queue::{blocks_kept, queue_law, removed_for_good};
+use sysv_queue::{blocks_kept, queue_law, removed_for_good, stays_right};
 use sysv_service::seen_histories;
 use sysv_steps::{
     Clock, after_removal, each_answer_is_right, each_deed_is_asked_for, each_has_one_effect,
-    each_holds_its_blocks, one_answer,
+    each_holds_its_blocks, each_holds_what_it_was_asked, one_answer, waits_for_its_refusal,
 };
 
 /// States the headline of threads: every list of moments leads from every opening only to worlds
@@ -225,4 +226,36 @@ pub fn every_stop_empties()
     after_removal();
     seen_histories();
     every_hiring_obeys();
+}
+
+/// States that each call of a free run that waits below its goal has a reason to: a receive has
+/// nothing to take, a send has no room, and a get waits for a row that another call still has to
+/// settle or forget. A send that waits for blocks has too few of them, if the released count that
+/// it had read was no more than the count at its refusal.
+pub fn every_threaded_run_parks_rightly()
+    ensures { EveryThreadedRunParksRightly }
+{
+    each_world_is_sound();
+    legal_turns();
+    blocks_kept();
+    pool_law();
+    each_holds_its_blocks();
+    queue_law();
+    registry_law();
+    each_deed_is_asked_for();
+    each_answer_is_right();
+    each_has_one_effect();
+    removed_for_good();
+    after_removal();
+    stays_right();
+    waits_for_its_refusal();
+    each_holds_what_it_was_asked();
+    every_threaded_run_obeys();
+}
+
+/// States the same of the calls of an order of turns that are in a wait or were left at one.
+pub fn every_order_parks_rightly()
+    ensures { EveryOrderParksRightly }
+{
+    every_threaded_run_parks_rightly();
 }
