@@ -28,3 +28,5 @@ pub mod StopEmpties
 pub mod PlayPrefix
 pub mod SettledOnThreads
 pub mod ParkedOnThreads
+pub mod PoolLater
+pub mod SendIsTold

@@ -1,28 +1,26 @@
 -- A call of a free run that waits below its goal has a reason to.
-use Rattle.std.proofs.Common.{◌≡◌, ◌⊎◌, ◌<◌, ◌≤◌, inl, inr, ℕ, ℤ, List, [], ◌∷◌, ◌++◌}
-use Rattle.std.proofs.Common.{map, length, Option, None, Some, refl, sym, ap, subst, ◌∙◌, arith, append_assoc}
+use Rattle.std.proofs.Common.{◌≡◌, ◌⊎◌, ◌<◌, inl, inr, ℕ, ℤ, List, [], ◌∷◌, ◌++◌}
+use Rattle.std.proofs.Common.{map, length, Option, None, Some, refl, sym, ap, subst, ◌∙◌, arith}
 use Rattle.std.proofs.Common.{slice_get}
 use Rattle.std.proofs.Common.{option_map}
-use Rattle.std.proofs.lemmas.Grind.{flat_map-append}
-use Rattle.std.proofs.lemmas.List.{append-nil}
 use Rattle.std.proofs.lemmas.Option.{slice_get-map}
+use Rattle.sysv_model.specs.declared.cred.Cred.{Cred}
 use Rattle.sysv_model.specs.History.{Who}
-use Rattle.sysv_model.specs.Pool.{PoolCall, Reserve, Release, PoolReply, Reserved, TooFew, Released, Foreign, PoolEntry}
-use Rattle.sysv_model.specs.Pool.{PoolHistory, frees, released, blocks_for}
-use Rattle.sysv_model.specs.Turn.{AtPool, Turn, pool_entry, pool_history, deeds_of}
-use Rattle.sysv_pool.specs.State.{returned_by, free_after}
+use Rattle.sysv_model.specs.Pool.{Reserve, TooFew}
+use Rattle.sysv_model.specs.Pool.{released}
+use Rattle.sysv_model.specs.Turn.{AtPool, pool_history, deeds_of}
 use Rattle.sysv_queue.specs.StaysRight.{NoMatchStays, FullStays, FullStaysForLook, CountsNeverFall}
 use Rattle.sysv_objects.specs.LegalDeed.{AreLegal}
 use Rattle.sysv_steps.specs.Call.{SystemCall, Msgget, Msgsnd, Msgrcv}
 use Rattle.sysv_steps.specs.State.{Sending, Wait, OnSettled, OnFreed, OnReleased, OnArrived, State, Goes, Waits, Over}
 use Rattle.sysv_steps.specs.Tended.{HasToSettle, HasToForget}
 use Rattle.sysv_steps.specs.Played.{Plays}
-use Rattle.sysv_steps.specs.HoldsAsked.{EachHoldsWhatItWasAsked}
+use Rattle.sysv_steps.specs.HoldsAsked.{WaitHolds, EachHoldsWhatItWasAsked}
 use Rattle.sysv_steps.specs.WaitsFor.{WaitsFor, EachWaitsForItsRefusal}
 use Rattle.sysv_core.specs.World.{World, Opening, Started, Doing, Given, opening, doing_in, begun}
-use Rattle.sysv_core.specs.Parked.{HasTooFewBlocks, IsBeingChanged, HasReason, IsParked, AreParkedRightly}
+use Rattle.sysv_core.specs.Parked.{IsToBeWoken, HasTooFewBlocks, IsBeingChanged, HasReason, IsParked, AreParkedRightly}
 use Rattle.sysv_core.specs.Tending.{AreTended}
-use Rattle.sysv_core.proofs.Histories.{turn_of, one, released_more, returned_more, reserved_more}
+use Rattle.sysv_core.proofs.Histories.{turn_of}
 use Rattle.sysv_core.proofs.ParkedRightly.{parked_rightly}
 use Rattle.sysv_core.proofs.PartsOfOneCall.{same_who}
 use Rattle.sysv_core.proofs.TurnInHistory.{made_at}
@@ -33,6 +31,8 @@ use Rattle.sysv_thread_laws.specs.ParkedOnThreads.{HadReleased, HasReasonOnThrea
 use Rattle.sysv_thread_laws.specs.ParkedOnThreads.{EveryOrderParksRightly}
 use Rattle.sysv_thread_laws.specs.OrderIsRun.{opening_for, started_at}
 use Rattle.sysv_thread_laws.proofs.StartedFirst.{standing_at}
+use Rattle.sysv_thread_laws.proofs.PoolLater.{short_at}
+use Rattle.sysv_thread_laws.proofs.SendIsTold.{told_so}
 use Rattle.sysv_thread_laws.proofs.SettledOnThreads.{settled_on_threads}
 
 -- ---- without the sends that wait for blocks
@@ -135,70 +135,28 @@ module _ (w : World) where
 
 -- ---- a send that waits for blocks
 
-counts_or_not : (call : PoolCall) (reply : PoolReply) → (one (frees reply) ≡ 1) ⊎ (returned_by call reply ≡ 0)
-counts_or_not call Released = inl refl
-counts_or_not (Reserve size) reply = inr refl
-counts_or_not (Release blocks) (Reserved n) = inr refl
-counts_or_not (Release blocks) TooFew = inr refl
-counts_or_not (Release blocks) Foreign = inr refl
-
--- As long as no chain comes back, no block becomes free.
-record IsLater (size : ℕ) (h more : PoolHistory) : Type 0 where
-  never_less : released h ≤ released (h ++ more)
-  no_more_free : released (h ++ more) ≤ released h → free_after size (h ++ more) ≤ free_after size h
-
-one_later : (size : ℕ) (h : PoolHistory) (e : PoolEntry) (more : PoolHistory) → IsLater size (h ++ e ∷ []) more →
-    IsLater size h (e ∷ more)
-one_later size h e more later =
-    let whole : (h ++ e ∷ []) ++ more ≡ h ++ e ∷ more = append_assoc h (e ∷ []) more in
-    let count = released_more h e in
-    let returns = returned_more h e in
-    let reserves = reserved_more h e in
-    let never : released (h ++ e ∷ []) ≤ released (h ++ e ∷ more) =
-    subst (λ k. released (h ++ e ∷ []) ≤ released k) whole later.never_less in
-    record {
-      never_less = omega (arith, count, never);
-      no_more_free = λ same.
-          let rest : free_after size (h ++ e ∷ more) ≤ free_after size (h ++ e ∷ []) =
-          subst (λ k. free_after size k ≤ free_after size (h ++ e ∷ [])) whole
-          (later.no_more_free
-          (subst (λ k. released k ≤ released (h ++ e ∷ [])) (sym whole) (omega (arith, same, count)))) in
-          elim (counts_or_not e.call e.reply) [
-            | inl counted ↦ absurd (omega (arith, counted, count, never, same))
-            | inr none ↦ omega (arith, rest, none, returns, reserves)
-          ];
-    }
-
-later : (size : ℕ) (h more : PoolHistory) → IsLater size h more
-later size h [] =
-    let same : h ++ [] ≡ h = append-nil h in
-    record {
-      never_less = subst (λ k. released h ≤ released k) (sym same) (omega arith);
-      no_more_free = λ low. subst (λ k. free_after size k ≤ free_after size h) (sym same) (omega arith);
-    }
-later size h (e ∷ more) = one_later size h e more (later size (h ++ e ∷ []) more)
-
 short_of : (w : World) → AreLegal w.generation w.blocks w.turns → (who : Who) (goal : ℕ) (send : Sending) →
     WaitsFor (OnReleased goal send) (deeds_of who w.turns) → released (pool_history w.turns) < goal →
     HadReleased w who send.released → HasTooFewBlocks w (length send.text)
 short_of w legal who goal send (is, (front, ends)) below had =
-    let size = length send.text in
-    let deed = AtPool (Reserve size) TooFew in
+    let deed = AtPool (Reserve (length send.text)) TooFew in
     let m = made_at who w.turns front deed [] ends in
     let own : w.turns ≡ m.before ++ turn_of who deed ∷ m.after =
     m.whole ∙ ap (λ by. m.before ++ turn_of by deed ∷ m.after) (sym (same_who who m.by m.own)) in
     let read = had m.before m.after deed own m.later_is in
-    let h = pool_history m.before in
-    let e : PoolEntry = record { who = who; call = Reserve size; reply = TooFew } in
-    let more = pool_history m.after in
-    let whole : pool_history w.turns ≡ h ++ e ∷ more =
-    ap pool_history own
-    ∙ flat_map-append (λ (t : Turn). pool_entry t.who t.deed) m.before (turn_of who deed ∷ m.after) in
-    let few : free_after w.blocks h < blocks_for size = legal.pool h e more whole in
-    let l = later w.blocks h (e ∷ more) in
-    let low : released (h ++ e ∷ more) < goal = subst (λ k. released k < goal) whole below in
-    let now = l.no_more_free (omega (arith, low, is, read)) in
-    subst (λ k. free_after w.blocks k < blocks_for size) (sym whole) (omega (arith, now, few))
+    short_at w.generation w.blocks w.turns legal m.before m.after who (length send.text) own
+    (omega (arith, below, is, read))
+
+-- The same reason, in the words of what was asked.
+as_asked : (w : World) (cred : Cred) (asked : SystemCall) (goal : ℕ) (send : Sending) →
+    WaitHolds cred asked (OnReleased goal send) →
+    HasTooFewBlocks w (length send.text) × IsToBeWoken w send.id send.cred →
+    HasReason w cred asked (OnReleased goal send)
+as_asked w cred (Msgsnd id mtype flags text) goal send holds r = (
+  subst (λ (t : List ℕ). HasTooFewBlocks w (length t)) holds.text r.0,
+  subst (λ i. IsToBeWoken w i cred) holds.id (subst (IsToBeWoken w send.id) holds.cred r.1),
+)
+as_asked w cred asked goal send holds r = absurd holds
 
 -- ---- the law
 
@@ -240,11 +198,16 @@ module _ (stays : StaysRight) (o : Opening) (w : World) (given : List Given) (i 
       }))
 
   reason : (place : ℕ) (d : Doing) (wait : Wait) → IsParked w place d wait → HasReasonOnThreads w d.call wait
-  reason place d (OnReleased goal send) p = λ had.
-      let play = subst (Plays (begun d.call) (deeds_of d.call.who w.turns)) p.waits (played place d p.there) in
-      short_of w i.sound.legal d.call.who goal send
-      (stays.refused d.call.cred d.call.asked d.call.released (deeds_of d.call.who w.turns) (OnReleased goal send) play)
-      p.below had
+  reason place d (OnReleased goal send) p =
+      let deeds = deeds_of d.call.who w.turns in
+      let play = subst (Plays (begun d.call) deeds) p.waits (played place d p.there) in
+      let why = stays.refused d.call.cred d.call.asked d.call.released deeds (OnReleased goal send) play in
+      let holds = stays.holds d.call.cred d.call.asked d.call.released deeds (Waits (OnReleased goal send)) play in
+      record {
+        short = λ had. short_of w i.sound.legal d.call.who goal send why p.below had;
+        whole = λ had. as_asked w d.call.cred d.call.asked goal send holds
+            (told_so o w given i lawful d.call goal send play why p.below had);
+      }
   reason place d (OnSettled goal get) p = calm_reason place d (OnSettled goal get) tt p
   reason place d (OnFreed goal send) p = calm_reason place d (OnFreed goal send) tt p
   reason place d (OnArrived goal receive) p = calm_reason place d (OnArrived goal receive) tt p

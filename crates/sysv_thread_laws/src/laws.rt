@@ -228,10 +228,11 @@ pub fn every_stop_empties()
     every_hiring_obeys();
 }
 
-/// States that each call of a free run that waits below its goal has a reason to: a receive has
-/// nothing to take, a send has no room, and a get waits for a row that another call still has to
-/// settle or forget. A send that waits for blocks has too few of them, if the released count that
-/// it had read was no more than the count at its refusal.
+/// States that each call of a free run that waits below its goal has the reason that the headline
+/// names: a receive has nothing to take, a send has no room, and a get waits for a row that another
+/// call still has to settle or forget. For a send that waits for blocks this holds if it had read
+/// no more of the released count than there was when it last looked at its queue. Too few blocks
+/// are free even if it had read no more than there was at its refused reserve.
 pub fn every_threaded_run_parks_rightly()
     ensures { EveryThreadedRunParksRightly }
 {
