@@ -30,3 +30,4 @@ pub mod SettledOnThreads
 pub mod ParkedOnThreads
 pub mod PoolLater
 pub mod SendIsTold
+pub mod OrderPoints

@@ -39,3 +39,4 @@ pub mod Permitted
 pub mod OwnSteps
 pub mod AfterStop
 pub mod ParkedOnThreads
+pub mod Points

@@ -13,6 +13,7 @@ ghost use Rattle.sysv_thread_laws.specs.OrderIsRun.{EveryOrderIsARun};
 ghost use Rattle.sysv_thread_laws.specs.OwnSteps.{EachCallComesToFewGates, EachCallComesToRest, EachCallMakesFewTurns, EachNumberIsReached};
 ghost use Rattle.sysv_thread_laws.specs.ParkedOnThreads.{EveryOrderParksRightly, EveryThreadedRunParksRightly};
 ghost use Rattle.sysv_thread_laws.specs.Permitted.{EveryOrderIsPermitted, EveryRunIsPermitted, EveryThreadedRunIsPermitted};
+ghost use Rattle.sysv_thread_laws.specs.Points.{EachPointParksRightly};
 ghost use Rattle.sysv_thread_laws.specs.PoolWhole.{EveryHiringLeavesThePoolWhole, EveryPoolIsWhole, NoHiringLeavesAGateHeld};
 ghost use Rattle.sysv_thread_laws.specs.RunIsFree.{EachRunIsFree};
 ghost use Rattle.sysv_thread_laws.specs.WorkedCrew.{WorkedCrew};
@@ -259,4 +260,13 @@ pub fn every_order_parks_rightly()
     ensures { EveryOrderParksRightly }
 {
     every_threaded_run_parks_rightly();
+}
+
+/// States the same after each part of an order of turns, with the calls as they were then: the part
+/// is a run with these calls, and each of them that waits below its goal has its reason.
+pub fn each_point_parks_rightly()
+    ensures { EachPointParksRightly }
+{
+    every_order_is_a_run();
+    every_order_parks_rightly();
 }
