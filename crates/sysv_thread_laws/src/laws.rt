@@ -31,8 +31,9 @@ use sysv_steps::{
 };
 
 /// States the headline of threads: every list of moments leads from every opening only to worlds
-/// that obey the laws of the headline, except that a call may wait without a reason. A call may
-/// read any released count at its start, and any value that is at least the goal may end a wait.
+/// that obey the laws of the headline, except that of waits, which
+/// `every_threaded_run_parks_rightly` has. A call may read any released count at its start, and any
+/// value that is at least the goal may end a wait.
 pub fn every_threaded_run_obeys()
     ensures { EveryThreadedRunObeys }
 {
