@@ -18,3 +18,16 @@ pub mod NoneKept
 pub mod Whole
 pub mod PoolIsWhole
 pub mod WorkersOfLife
+pub mod Permissions
+pub mod FewSteps
+pub mod MostSteps
+pub mod ComesToRest
+pub mod RemovalAlone
+pub mod WellInstalled
+pub mod StopEmpties
+pub mod PlayPrefix
+pub mod SettledOnThreads
+pub mod ParkedOnThreads
+pub mod PoolLater
+pub mod SendIsTold
+pub mod OrderPoints

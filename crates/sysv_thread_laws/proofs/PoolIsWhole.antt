@@ -165,7 +165,7 @@ is_sum : (turns : List Turn) → blocks_waiting turns ≡ sum_by (waiting_at tur
 unfolding blocks_waiting
 is_sum turns = refl
 
-vacant_seat : (seats : List SlotSeat) (k : ℕ) (seat : SlotSeat) →
+pub vacant_seat : (seats : List SlotSeat) (k : ℕ) (seat : SlotSeat) →
     All (SlotStandsFor []) (map (λ (g : Gateway Slot). g.opening) (gates_of seats)) → get_elem? seats k ≡ some seat →
     SlotStandsFor [] seat.gate.opening
 vacant_seat [] k seat vacant at = absurd (some-ne-none seat (sym at))

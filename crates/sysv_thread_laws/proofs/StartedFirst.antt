@@ -153,7 +153,7 @@ all_start (c ∷ cs) w done steps actors =
 -- ---- where a call stands, and what it answered
 
 -- The actor of a call is in it, in its state, or is idle if the call is over.
-standing_at : (start : ℕ) (cs : List Called) (place : ℕ) (c : Called) → slice_get cs place ≡ Some c →
+pub standing_at : (start : ℕ) (cs : List Called) (place : ℕ) (c : Called) → slice_get cs place ≡ Some c →
     slice_get (all_standing start cs) place ≡ Some (doing_in (started_at (start + place) c) c.state)
 standing_at start [] place c there = absurd cc
 standing_at start (d ∷ cs) zero c there =

@@ -22,7 +22,7 @@ use Rattle.sysv_core.proofs.Histories.{turn_of}
 use Rattle.sysv_core.proofs.BlocksConserved.{BlockLaws, stands_conserves, resumed_holds, begun_holds}
 use Rattle.sysv_core.proofs.StepKeepsKind.{later_of, blocks_later, begun_later, resumed_later}
 use Rattle.sysv_core.proofs.SoundStays.{own_still, later_installs, turn_sound, look_sound}
-use Rattle.sysv_core.proofs.InstalledOnce.{stand_counts, continues_counts, not_held}
+use Rattle.sysv_core.proofs.InstalledOnce.{Counts, stand_counts, continues_counts, not_held}
 use Rattle.sysv_core.proofs.EachRowIsTended.{Tends, idle_move, turns_tend, waiting_state, each_row}
 use Rattle.sysv_core.proofs.InstallFindsVacant.{IsKept, opening_kept, continues_holds, stand_fits, resumed_fits}
 use Rattle.sysv_core.proofs.InstallFindsVacant.{begun_fits}
@@ -260,12 +260,29 @@ module _ (sound : StaysSound)
 
   -- ---- the laws
 
+  run_held : ((generation blocks : ℕ) → AreLegal generation blocks []) →
+      (o : Opening) (list : List Moment) (given : List Given) (w : World) → LeadsOnThreads (opening o) list given w →
+      IsHeld w given
+  run_held none o list given w led =
+      leads_held (opening o) w list [] given (opening_held o (none o.generation o.blocks)) led
+
+  -- What is counted of the identifiers that were made and installed.
+  pub run_is_counted : ((generation blocks : ℕ) → AreLegal generation blocks []) →
+      (o : Opening) (list : List Moment) (given : List Given) (w : World) → LeadsOnThreads (opening o) list given w →
+      Counts w
+  run_is_counted none o list given w led = (run_held none o list given w led).kept.counts
+
+  -- What is kept of the calls.
+  pub run_keeps : ((generation blocks : ℕ) → AreLegal generation blocks []) →
+      (o : Opening) (list : List Moment) (given : List Given) (w : World) → LeadsOnThreads (opening o) list given w →
+      Inv w given
+  run_keeps none o list given w led = (run_held none o list given w led).inv
+
   pub run_obeys : ((generation blocks : ℕ) → AreLegal generation blocks []) →
       (o : Opening) (list : List Moment) (given : List Given) (w : World) → LeadsOnThreads (opening o) list given w →
       ObeysOnThreads o w given
   run_obeys none o list given w led =
-      let first = opening_held o (none o.generation o.blocks) in
-      let h : IsHeld w given = leads_held (opening o) w list [] given first led in
+      let h = run_held none o list given w led in
       let opened = leads_opened (opening o) w list given led in
       lawful laws o w given h.inv opened.0 opened.1 IsMadeOrRead
       (λ k d low. made_so w.calls (get_or w.turns k d) (h.inv.made k d low) (h.reads k d low))

@@ -35,3 +35,8 @@ pub mod Life
 pub mod PoolWhole
 pub mod Working
 pub mod Hiring
+pub mod Permitted
+pub mod OwnSteps
+pub mod AfterStop
+pub mod ParkedOnThreads
+pub mod Points

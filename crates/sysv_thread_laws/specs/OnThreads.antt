@@ -1,12 +1,12 @@
--- The headline of threads. A free run obeys every law of the headline except one: that each call
--- that waits has a reason to. That law compares a count with a wait at the same time, and a free
--- run does not state when a waiting call reads its count. All else holds: every accepted message is
--- delivered exactly once, discarded when its queue is removed, or still queued; each receive takes
--- the message that its selector names; messages of one type leave in the order of acceptance; every
--- result follows from the call's arguments and own turns; no block is made or lost; each install
--- finds its slot vacant, each forget a row; after a removal nothing is accepted or delivered under
--- that identifier, for good, and the sends and receives of that queue report the removal (what
--- POSIX.1-2017 says of msgget, msgsnd, msgrcv and msgctl, in the steps of this project's profile).
+-- The headline of threads. A free run obeys every law of the headline but for that of waits, of
+-- which ParkedOnThreads.antt has what holds: a call may have read its counts at any time before.
+-- All else holds: every accepted message is delivered exactly once, discarded when its queue is
+-- removed, or still queued; each receive takes the message that its selector names; messages of one
+-- type leave in the order of acceptance; every result follows from the call's arguments and own
+-- turns; no block is made or lost; each install finds its slot vacant, each forget a row; after a
+-- removal nothing is accepted or delivered under that identifier, for good, and the sends and
+-- receives of that queue report the removal (what POSIX.1-2017 says of msgget, msgsnd, msgrcv and
+-- msgctl, in the steps of this project's profile).
 use Rattle.std.specs.Prelude.{◌≡◌, ◌⊎◌, ℕ, List, Contains}
 use Rattle.sysv_model.specs.History.{ReadRow, Reply}
 use Rattle.sysv_model.specs.Turn.{AtSlot, Turn}

@@ -2,6 +2,7 @@
 
 ghost use Rattle.sysv_service.specs.TurnsLeft.{NoMarkWithTurnsLeft};
 ghost use Rattle.sysv_steps.specs.Stepping.{no_moment};
+ghost use Rattle.sysv_thread_laws.specs.AfterStop.{EveryStopEmpties};
 ghost use Rattle.sysv_thread_laws.specs.AtRest.{OrdersAtRest};
 ghost use Rattle.sysv_thread_laws.specs.Crew.{EveryLastPassIsWhole, EveryServiceIsARun};
 ghost use Rattle.sysv_thread_laws.specs.Hiring.{EveryHiringObeys, EveryStopRemoves};
@@ -9,25 +10,30 @@ ghost use Rattle.sysv_thread_laws.specs.Life.{EachRunIsAtAnyMoment, EveryService
 ghost use Rattle.sysv_thread_laws.specs.OnThreads.{EachForgetTakesItsRow, EveryThreadedRunObeys};
 ghost use Rattle.sysv_thread_laws.specs.Order.{NoCallReadsARow};
 ghost use Rattle.sysv_thread_laws.specs.OrderIsRun.{EveryOrderIsARun};
+ghost use Rattle.sysv_thread_laws.specs.OwnSteps.{EachCallComesToFewGates, EachCallComesToRest, EachCallMakesFewTurns, EachNumberIsReached};
+ghost use Rattle.sysv_thread_laws.specs.ParkedOnThreads.{EveryOrderParksRightly, EveryThreadedRunParksRightly};
+ghost use Rattle.sysv_thread_laws.specs.Permitted.{EveryOrderIsPermitted, EveryRunIsPermitted, EveryThreadedRunIsPermitted};
+ghost use Rattle.sysv_thread_laws.specs.Points.{EachPointParksRightly};
 ghost use Rattle.sysv_thread_laws.specs.PoolWhole.{EveryHiringLeavesThePoolWhole, EveryPoolIsWhole, NoHiringLeavesAGateHeld};
 ghost use Rattle.sysv_thread_laws.specs.RunIsFree.{EachRunIsFree};
 ghost use Rattle.sysv_thread_laws.specs.WorkedCrew.{WorkedCrew};
 ghost use Rattle.sysv_thread_laws.specs.WorkedOrder.{WorkedOrder};
 
-use sysv_core::each_world_is_sound;
+use sysv_core::{each_world_is_sound, every_run_obeys, some_step};
 use sysv_keys::registry_law;
 use sysv_objects::legal_turns;
 use sysv_pool::pool_law;
-use sysv_queue::{blocks_kept, queue_law, removed_for_good};
+use sysv_queue::{blocks_kept, queue_law, removed_for_good, stays_right};
 use sysv_service::seen_histories;
 use sysv_steps::{
     Clock, after_removal, each_answer_is_right, each_deed_is_asked_for, each_has_one_effect,
-    each_holds_its_blocks, one_answer,
+    each_holds_its_blocks, each_holds_what_it_was_asked, one_answer, waits_for_its_refusal,
 };
 
 /// States the headline of threads: every list of moments leads from every opening only to worlds
-/// that obey the laws of the headline, except that a call may wait without a reason. A call may
-/// read any released count at its start, and any value that is at least the goal may end a wait.
+/// that obey the laws of the headline, except that of waits, which
+/// `every_threaded_run_parks_rightly` has. A call may read any released count at its start, and any
+/// value that is at least the goal may end a wait.
 pub fn every_threaded_run_obeys()
     ensures { EveryThreadedRunObeys }
 {
@@ -158,4 +164,110 @@ pub fn every_pool_is_whole()
 {
     seen_histories();
     every_service_that_came_home_is_a_run();
+}
+
+/// States that each send that was accepted, each message that was taken, each report of attributes,
+/// each queue that was found, each change and each removal was permitted: the queue was live at
+/// that turn, and its permissions allowed it to the credentials with which the call was started.
+///
+/// The clause `runs` states this of every world to which a run leads, `threads` of every free run,
+/// and `orders` of every order of turns with legal replies.
+pub fn each_effect_is_permitted()
+    ensures runs { EveryRunIsPermitted }
+    ensures threads { EveryThreadedRunIsPermitted }
+    ensures orders { EveryOrderIsPermitted }
+{
+    every_run_obeys();
+    every_threaded_run_obeys();
+    each_deed_is_asked_for();
+}
+
+/// States that a call makes at most four turns from its start, or from the end of a wait, to its
+/// end or to its next wait: a msgsnd four, a msgget and an IPC_RMID three, a msgrcv and an IPC_SET
+/// two, and an IPC_STAT one.
+///
+/// The clause `reached` states that no smaller numbers would do. The clauses `gates` and
+/// `unstamped` state the same bound for the calls of a service: a call comes to no more gates than
+/// that, also if it finds gates worn out. The one is about calls with this clock, the other about
+/// calls that use no time.
+pub fn each_call_makes_few_turns<C: Clock>(clock: &C)
+    ensures table { EachCallMakesFewTurns }
+    ensures reached { EachNumberIsReached }
+    ensures gates { EachCallComesToFewGates (C.may clock.now) }
+    ensures unstamped { EachCallComesToFewGates no_moment }
+{}
+
+/// States that a call of a world is over or waits after at most this number of its own steps, if no
+/// other call makes a step between them. It does not state that a wait ends.
+pub fn each_call_comes_to_rest()
+    ensures { EachCallComesToRest }
+{
+    each_world_is_sound();
+    some_step();
+    every_run_obeys();
+}
+
+/// States that a stop leaves no queue and no message, if the service is closed after it and the
+/// first pass, which made the stop, had taken back the passes of all workers. This holds if fewer
+/// than 2^62 turns were made at each object, with tickets from 0 on. The stop then found no gate
+/// worn out.
+pub fn every_stop_empties()
+    ensures { EveryStopEmpties }
+{
+    each_world_is_sound();
+    legal_turns();
+    blocks_kept();
+    pool_law();
+    each_holds_its_blocks();
+    queue_law();
+    registry_law();
+    each_deed_is_asked_for();
+    each_answer_is_right();
+    each_has_one_effect();
+    removed_for_good();
+    after_removal();
+    seen_histories();
+    every_hiring_obeys();
+}
+
+/// States that each call of a free run that waits below its goal has the reason that the headline
+/// names: a receive has nothing to take, a send has no room, and a get waits for a row that another
+/// call still has to settle or forget. For a send that waits for blocks this holds if it had read
+/// no more of the released count than there was when it last looked at its queue. Too few blocks
+/// are free even if it had read no more than there was at its refused reserve.
+pub fn every_threaded_run_parks_rightly()
+    ensures { EveryThreadedRunParksRightly }
+{
+    each_world_is_sound();
+    legal_turns();
+    blocks_kept();
+    pool_law();
+    each_holds_its_blocks();
+    queue_law();
+    registry_law();
+    each_deed_is_asked_for();
+    each_answer_is_right();
+    each_has_one_effect();
+    removed_for_good();
+    after_removal();
+    stays_right();
+    waits_for_its_refusal();
+    each_holds_what_it_was_asked();
+    every_threaded_run_obeys();
+}
+
+/// States the same of the calls of an order of turns that are in a wait or were left at one.
+pub fn every_order_parks_rightly()
+    ensures { EveryOrderParksRightly }
+{
+    every_threaded_run_parks_rightly();
+}
+
+/// States the same after each part of an order of turns, with the calls as they were then: the part
+/// is a run with these calls, and each of them that waits below its goal has its reason.
+pub fn each_point_parks_rightly()
+    ensures { EachPointParksRightly }
+{
+    every_order_is_a_run();
+    every_order_parks_rightly();
 }

@@ -7,7 +7,10 @@
 mod laws;
 
 pub use laws::{
-    each_forget_takes_its_row, each_run_is_free, every_hiring_obeys, every_order_is_a_run,
-    every_pool_is_whole, every_service_obeys, every_service_that_came_home_is_a_run,
-    every_threaded_run_obeys, no_call_reads_a_row, orders_at_rest, worked_crew, worked_order,
+    each_call_comes_to_rest, each_call_makes_few_turns, each_effect_is_permitted,
+    each_forget_takes_its_row, each_point_parks_rightly, each_run_is_free, every_hiring_obeys,
+    every_order_is_a_run, every_order_parks_rightly, every_pool_is_whole, every_service_obeys,
+    every_service_that_came_home_is_a_run, every_stop_empties, every_threaded_run_obeys,
+    every_threaded_run_parks_rightly, no_call_reads_a_row, orders_at_rest, worked_crew,
+    worked_order,
 };

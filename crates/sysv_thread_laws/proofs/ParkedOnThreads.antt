@@ -1,0 +1,231 @@
+-- A call of a free run that waits below its goal has a reason to.
+use Rattle.std.proofs.Common.{◌≡◌, ◌⊎◌, ◌<◌, inl, inr, ℕ, ℤ, List, [], ◌∷◌, ◌++◌}
+use Rattle.std.proofs.Common.{map, length, Option, None, Some, refl, sym, ap, subst, ◌∙◌, arith}
+use Rattle.std.proofs.Common.{slice_get}
+use Rattle.std.proofs.Common.{option_map}
+use Rattle.std.proofs.lemmas.Option.{slice_get-map}
+use Rattle.sysv_model.specs.declared.cred.Cred.{Cred}
+use Rattle.sysv_model.specs.History.{Who}
+use Rattle.sysv_model.specs.Pool.{Reserve, TooFew}
+use Rattle.sysv_model.specs.Pool.{released}
+use Rattle.sysv_model.specs.Turn.{AtPool, pool_history, deeds_of}
+use Rattle.sysv_queue.specs.StaysRight.{NoMatchStays, FullStays, FullStaysForLook, CountsNeverFall}
+use Rattle.sysv_objects.specs.LegalDeed.{AreLegal}
+use Rattle.sysv_steps.specs.Call.{SystemCall, Msgget, Msgsnd, Msgrcv}
+use Rattle.sysv_steps.specs.State.{Sending, Wait, OnSettled, OnFreed, OnReleased, OnArrived, State, Goes, Waits, Over}
+use Rattle.sysv_steps.specs.Tended.{HasToSettle, HasToForget}
+use Rattle.sysv_steps.specs.Played.{Plays}
+use Rattle.sysv_steps.specs.HoldsAsked.{WaitHolds, EachHoldsWhatItWasAsked}
+use Rattle.sysv_steps.specs.WaitsFor.{WaitsFor, EachWaitsForItsRefusal}
+use Rattle.sysv_core.specs.World.{World, Opening, Started, Doing, Given, opening, doing_in, begun}
+use Rattle.sysv_core.specs.Parked.{IsToBeWoken, HasTooFewBlocks, IsBeingChanged, HasReason, IsParked, AreParkedRightly}
+use Rattle.sysv_core.specs.Tending.{AreTended}
+use Rattle.sysv_core.proofs.Histories.{turn_of}
+use Rattle.sysv_core.proofs.ParkedRightly.{parked_rightly}
+use Rattle.sysv_core.proofs.PartsOfOneCall.{same_who}
+use Rattle.sysv_core.proofs.TurnInHistory.{made_at}
+use Rattle.sysv_core.proofs.WorldsObey.{Inv, stands_there}
+use Rattle.sysv_thread_laws.specs.FreeRun.{Moment, LeadsOnThreads}
+use Rattle.sysv_thread_laws.specs.OnThreads.{ObeysOnThreads, EveryThreadedRunObeys}
+use Rattle.sysv_thread_laws.specs.ParkedOnThreads.{HadReleased, HasReasonOnThreads, EveryThreadedRunParksRightly}
+use Rattle.sysv_thread_laws.specs.ParkedOnThreads.{EveryOrderParksRightly}
+use Rattle.sysv_thread_laws.specs.OrderIsRun.{opening_for, started_at}
+use Rattle.sysv_thread_laws.proofs.StartedFirst.{standing_at}
+use Rattle.sysv_thread_laws.proofs.PoolLater.{short_at}
+use Rattle.sysv_thread_laws.proofs.SendIsTold.{told_so}
+use Rattle.sysv_thread_laws.proofs.SettledOnThreads.{settled_on_threads}
+
+-- ---- without the sends that wait for blocks
+
+-- The actor as it is, but idle if it waits for blocks.
+abbrev without_in : Doing → State → Option Doing
+without_in d (Waits (OnReleased goal send)) = None
+without_in d state = Some d
+
+abbrev without : Option Doing → Option Doing
+without None = None
+without (Some d) = without_in d d.state
+
+-- The world in which no actor waits for blocks. Its turns are the same.
+abbrev calmed : World → World
+calmed w = record w { actors = map without w.actors }
+
+-- The actor does not wait for blocks.
+abbrev IsCalm : State → Type 0
+IsCalm (Waits (OnReleased goal send)) = ⊥
+IsCalm state = Unit {0}
+
+calm_in : (d e : Doing) (state : State) → without_in d state ≡ Some e → (d ≡ e) × IsCalm state
+calm_in d e (Waits (OnReleased goal send)) is = absurd cc
+calm_in d e (Waits (OnSettled goal get)) is = (cc, tt)
+calm_in d e (Waits (OnFreed goal send)) is = (cc, tt)
+calm_in d e (Waits (OnArrived goal receive)) is = (cc, tt)
+calm_in d e (Goes phase) is = (cc, tt)
+calm_in d e (Over ending) is = (cc, tt)
+
+still_there : (d : Doing) (state : State) → IsCalm state → without_in d state ≡ Some d
+still_there d (Waits (OnReleased goal send)) calm = absurd calm
+still_there d (Waits (OnSettled goal get)) calm = refl
+still_there d (Waits (OnFreed goal send)) calm = refl
+still_there d (Waits (OnArrived goal receive)) calm = refl
+still_there d (Goes phase) calm = refl
+still_there d (Over ending) calm = refl
+
+-- An actor of the calmed world is in the same call in the world.
+was_there_in : (o : Option (Option Doing)) (d : Doing) → option_map without o ≡ Some (Some d) →
+    (o ≡ Some (Some d)) × IsCalm d.state
+was_there_in None d is = absurd cc
+was_there_in (Some None) d is = absurd cc
+was_there_in (Some (Some e)) d is =
+    let here : without_in e e.state ≡ Some d = cc in
+    let c = calm_in e d e.state here in
+    (ap (λ (x : Doing). Some (Some x)) c.0, subst (λ (x : Doing). IsCalm x.state) c.0 c.1)
+
+module _ (w : World) where
+  was_there : (place : ℕ) (d : Doing) → slice_get (calmed w).actors place ≡ Some (Some d) →
+      (slice_get w.actors place ≡ Some (Some d)) × IsCalm d.state
+  was_there place d there =
+      was_there_in (slice_get w.actors place) d (sym (slice_get-map without w.actors place) ∙ there)
+
+  is_there : (place : ℕ) (d : Doing) → slice_get w.actors place ≡ Some (Some d) → IsCalm d.state →
+      slice_get (calmed w).actors place ≡ Some (Some d)
+  is_there place d there calm = slice_get-map without w.actors place
+      ∙ (ap (option_map without) there ∙ ap (λ o. Some o) (still_there d d.state calm))
+
+  tends_calmly : (state : State) (id : ℤ) → HasToSettle state id ⊎ HasToForget state id → IsCalm state
+  tends_calmly (Goes phase) id t = tt
+  tends_calmly (Over ending) id t = tt
+  tends_calmly (Waits (OnSettled goal get)) id t = tt
+  tends_calmly (Waits (OnFreed goal send)) id t = tt
+  tends_calmly (Waits (OnArrived goal receive)) id t = tt
+  tends_calmly (Waits (OnReleased goal send)) id (inl t) = t
+  tends_calmly (Waits (OnReleased goal send)) id (inr t) = t
+
+  tended_calmly : AreTended w → AreTended (calmed w)
+  tended_calmly tended row is open_row =
+      let t = tended row is open_row in
+      record {
+        place = t.place;
+        doing = t.doing;
+        there = is_there t.place t.doing t.there (tends_calmly t.doing.state row.id t.tends);
+        tends = t.tends;
+      }
+
+  changed_there : (key : ℤ) → IsBeingChanged (calmed w) key → IsBeingChanged w key
+  changed_there key c = record {
+    row = c.row;
+    bound = c.bound;
+    of_key = c.of_key;
+    tended = record {
+      place = c.tended.place;
+      doing = c.tended.doing;
+      there = (was_there c.tended.place c.tended.doing c.tended.there).0;
+      tends = c.tended.tends;
+    };
+  }
+
+  -- A reason in the calmed world is one in the world.
+  same_reason : (call : Started) (asked : SystemCall) (wait : Wait) → IsCalm (Waits wait) →
+      HasReason (calmed w) call.cred asked wait → HasReason w call.cred asked wait
+  same_reason call (Msgrcv id size mtype flags) (OnArrived goal receive) calm r = r
+  same_reason call (Msgsnd id mtype flags text) (OnFreed goal send) calm r = r
+  same_reason call (Msgsnd id mtype flags text) (OnReleased goal send) calm r = absurd calm
+  same_reason call (Msgget key flags) (OnSettled goal get) calm r = changed_there key r
+  same_reason call asked wait calm r = absurd r
+
+-- ---- a send that waits for blocks
+
+short_of : (w : World) → AreLegal w.generation w.blocks w.turns → (who : Who) (goal : ℕ) (send : Sending) →
+    WaitsFor (OnReleased goal send) (deeds_of who w.turns) → released (pool_history w.turns) < goal →
+    HadReleased w who send.released → HasTooFewBlocks w (length send.text)
+short_of w legal who goal send (is, (front, ends)) below had =
+    let deed = AtPool (Reserve (length send.text)) TooFew in
+    let m = made_at who w.turns front deed [] ends in
+    let own : w.turns ≡ m.before ++ turn_of who deed ∷ m.after =
+    m.whole ∙ ap (λ by. m.before ++ turn_of by deed ∷ m.after) (sym (same_who who m.by m.own)) in
+    let read = had m.before m.after deed own m.later_is in
+    short_at w.generation w.blocks w.turns legal m.before m.after who (length send.text) own
+    (omega (arith, below, is, read))
+
+-- The same reason, in the words of what was asked.
+as_asked : (w : World) (cred : Cred) (asked : SystemCall) (goal : ℕ) (send : Sending) →
+    WaitHolds cred asked (OnReleased goal send) →
+    HasTooFewBlocks w (length send.text) × IsToBeWoken w send.id send.cred →
+    HasReason w cred asked (OnReleased goal send)
+as_asked w cred (Msgsnd id mtype flags text) goal send holds r = (
+  subst (λ (t : List ℕ). HasTooFewBlocks w (length t)) holds.text r.0,
+  subst (λ i. IsToBeWoken w i cred) holds.id (subst (IsToBeWoken w send.id) holds.cred r.1),
+)
+as_asked w cred asked goal send holds r = absurd holds
+
+-- ---- the law
+
+-- Refusals stay right as long as their counts have not risen.
+pub record StaysRight : Type 0 where
+  pub no_match : NoMatchStays
+  pub full : FullStays
+  pub full_for_look : FullStaysForLook
+  pub counts : CountsNeverFall
+  pub refused : EachWaitsForItsRefusal
+  pub holds : EachHoldsWhatItWasAsked
+
+module _ (stays : StaysRight) (o : Opening) (w : World) (given : List Given) (i : Inv w given)
+    (lawful : ObeysOnThreads o w given) where
+  played : (place : ℕ) (d : Doing) → slice_get w.actors place ≡ Some (Some d) →
+      Plays (begun d.call) (deeds_of d.call.who w.turns) d.state
+  played place d there = (stands_there w given i place d there).plays
+
+  none_for_blocks : (place goal : ℕ) (d : Doing) (send : Sending) →
+      slice_get (calmed w).actors place ≡ Some (Some d) → d.state ≡ Waits (OnReleased goal send) → ⊥
+  none_for_blocks place goal d send there is = subst IsCalm is (was_there w place d there).1
+
+  all_calm : AreParkedRightly (calmed w)
+  all_calm =
+      parked_rightly (calmed w) i.sound.legal (λ place d there. played place d (was_there w place d there).0)
+      stays.no_match stays.full stays.full_for_look stays.counts stays.refused stays.holds
+      (tended_calmly w lawful.tended) lawful.removed
+      (settled_on_threads w given i lawful.made lawful.removed.at_home)
+      (λ place d goal send there is below. absurd (none_for_blocks place goal d send there is))
+      (λ place d goal send there is below. absurd (none_for_blocks place goal d send there is))
+
+  calm_reason : (place : ℕ) (d : Doing) (wait : Wait) → IsCalm (Waits wait) → IsParked w place d wait →
+      HasReason w d.call.cred d.call.asked wait
+  calm_reason place d wait calm p =
+      same_reason w d.call d.call.asked wait calm (all_calm place d wait (record {
+        there = is_there w place d p.there (subst IsCalm (sym p.waits) calm);
+        waits = p.waits;
+        below = p.below;
+      }))
+
+  reason : (place : ℕ) (d : Doing) (wait : Wait) → IsParked w place d wait → HasReasonOnThreads w d.call wait
+  reason place d (OnReleased goal send) p =
+      let deeds = deeds_of d.call.who w.turns in
+      let play = subst (Plays (begun d.call) deeds) p.waits (played place d p.there) in
+      let why = stays.refused d.call.cred d.call.asked d.call.released deeds (OnReleased goal send) play in
+      let holds = stays.holds d.call.cred d.call.asked d.call.released deeds (Waits (OnReleased goal send)) play in
+      record {
+        short = λ had. short_of w i.sound.legal d.call.who goal send why p.below had;
+        whole = λ had. as_asked w d.call.cred d.call.asked goal send holds
+            (told_so o w given i lawful d.call goal send play why p.below had);
+      }
+  reason place d (OnSettled goal get) p = calm_reason place d (OnSettled goal get) tt p
+  reason place d (OnFreed goal send) p = calm_reason place d (OnFreed goal send) tt p
+  reason place d (OnArrived goal receive) p = calm_reason place d (OnArrived goal receive) tt p
+
+pub parked_on_threads : StaysRight → EveryThreadedRunObeys →
+    ((o : Opening) (list : List Moment) (given : List Given) (w : World) → LeadsOnThreads (opening o) list given w →
+    Inv w given) →
+    EveryThreadedRunParksRightly
+parked_on_threads stays law keeps o list given w led place d wait p =
+    reason stays o w given (keeps o list given w led) (law o list given w led) place d wait p
+
+pub parked_in_order : EveryThreadedRunParksRightly → EveryOrderParksRightly
+parked_in_order law generation blocks order calls run place c wait there waits below =
+    let call = started_at place c in
+    let d : Doing = record { call = call; state = Waits wait } in
+    let stands : slice_get run.world.actors place ≡ Some (Some d) =
+    ap (λ xs. slice_get xs place) run.standing
+    ∙ (standing_at 0 calls place c there
+    ∙ (ap (λ n. Some (doing_in (started_at n c) c.state)) (omega arith) ∙ ap (λ s. Some (doing_in call s)) waits)) in
+    law (opening_for generation blocks calls) run.moments run.given run.world run.leads place d wait
+    (record { there = stands; waits = refl; below = below })

@@ -1,0 +1,119 @@
+-- A play up to one of its deeds, and the turn of that deed.
+use Rattle.std.proofs.Common.{◌≡◌, ◌⊎◌, inl, inr, ℕ, Bool, true, false, cond, List, [], ◌∷◌, ◌++◌, map, refl, sym, ap}
+use Rattle.std.proofs.Common.{subst, ◌∙◌}
+use Rattle.std.specs.List.{All, filter, list_any}
+use Rattle.std.proofs.lemmas.List.{map-append}
+use Rattle.std.proofs.lemmas.List.Elements.{All-head, All-tail, filter-append}
+use Rattle.sysv_model.specs.History.{Who}
+use Rattle.sysv_model.specs.Turn.{Deed, asked_by, Turn, is_same, deeds_of}
+use Rattle.sysv_steps.specs.State.{Phase, State, Goes, Waits}
+use Rattle.sysv_steps.specs.Asks.{asks}
+use Rattle.sysv_steps.specs.Played.{Plays, begins, steps, resumes}
+use Rattle.sysv_core.proofs.EachRowIsTended.{one_of}
+
+-- ---- lists
+
+pub no_nil : {X : Type 0} (front : List X) (x : X) (back : List X) → [] ≡ front ++ x ∷ back → ⊥
+no_nil [] x back e = cc
+no_nil (y ∷ front) x back e = cc
+
+-- One of the elements of a list is the last, or one before it.
+pub last_or_before : {X : Type 0} (xs : List X) (x : X) (front : List X) (y : X) (back : List X) →
+    xs ++ x ∷ [] ≡ front ++ y ∷ back →
+    ((front ≡ xs) × (y ≡ x)) ⊎ ((rest : List X) × (xs ≡ front ++ y ∷ rest) × (back ≡ rest ++ x ∷ []))
+last_or_before [] x [] y back e = inl (refl, cc)
+last_or_before [] x (f ∷ front) y back e =
+    let none : [] ≡ front ++ y ∷ back = cc in absurd (no_nil front y back none)
+last_or_before (z ∷ xs) x [] y back e =
+    let same : z ≡ y = cc in
+    let rest : xs ++ x ∷ [] ≡ back = cc in
+    inr (xs, ap (λ w. w ∷ xs) same, sym rest)
+last_or_before (z ∷ xs) x (f ∷ front) y back e =
+    let same : z ≡ f = cc in
+    let rest : xs ++ x ∷ [] ≡ front ++ y ∷ back = cc in
+    elim (last_or_before xs x front y back rest) [
+      | inl here ↦ inl (ap (λ ys. f ∷ ys) here.0 ∙ ap (λ w. w ∷ xs) (sym same), here.1)
+      | inr more ↦ inr (more.0, ap (λ w. w ∷ xs) same ∙ ap (λ ys. f ∷ ys) more.1, more.2)
+    ]
+
+pub all_at : {X : Type 0} (P : X → Type 0) (front : List X) (x : X) (back : List X) → All P (front ++ x ∷ back) → P x
+all_at P [] x back all = All-head P x back all
+all_at P (y ∷ front) x back all = all_at P front x back (All-tail P y (front ++ x ∷ back) all)
+
+-- ---- a play
+
+-- The call was before a step that requests what the deed requests.
+pub record IsBeforeDeed (from : State) (front : List Deed) (deed : Deed) : Type 0 where
+  pub phase : Phase
+  pub now : ℕ
+  pub play : Plays from front (Goes phase)
+  pub asked : asked_by deed ≡ asks phase now
+
+pub play_before : (from : State) (deeds : List Deed) (state : State) → Plays from deeds state → (front : List Deed)
+    (deed : Deed) (back : List Deed) → deeds ≡ front ++ deed ∷ back → IsBeforeDeed from front deed
+play_before from _ _ begins front deed back e = absurd (no_nil front deed back e)
+play_before from _ _ (steps {deeds} {phase} last now after play asked row) front deed back e =
+    elim (last_or_before deeds last front deed back e) [
+      | inl here ↦
+          record {
+            phase = phase;
+            now = now;
+            play = subst (λ ds. Plays from ds (Goes phase)) (sym here.0) play;
+            asked = ap asked_by here.1 ∙ asked;
+          }
+      | inr more ↦ play_before from deeds (Goes phase) play front deed more.0 more.1
+    ]
+play_before from _ _ (resumes {deeds} {wait} value play least) front deed back e =
+    play_before from deeds (Waits wait) play front deed back e
+
+-- ---- turns
+
+abbrev deed_in : Turn → Deed
+deed_in t = t.deed
+
+-- The deeds of a call around one of its turns.
+pub deeds_around : (who : Who) (before : List Turn) (t : Turn) (after : List Turn) → is_same who t.who ≡ true →
+    deeds_of who (before ++ t ∷ after) ≡ deeds_of who before ++ t.deed ∷ deeds_of who after
+deeds_around who before t after same =
+    let own = λ (x : Turn). is_same who x.who in
+    ap (map deed_in) (filter-append own before (t ∷ after))
+    ∙ (map-append deed_in (filter own before) (filter own (t ∷ after))
+    ∙ ap (λ b. deeds_of who before ++ map deed_in (cond b (t ∷ filter own after) (filter own after))) same)
+
+-- A turn whose deed passes the test.
+pub record HasTurn (test : Deed → Bool) (who : Who) (turns : List Turn) : Type 0 where
+  pub before : List Turn
+  pub turn : Turn
+  pub after : List Turn
+  pub whole : turns ≡ before ++ turn ∷ after
+  pub own : is_same who turn.who ≡ true
+  pub passes : test turn.deed ≡ true
+
+later_turn : (test : Deed → Bool) (who : Who) (t : Turn) (turns : List Turn) → HasTurn test who turns →
+    HasTurn test who (t ∷ turns)
+later_turn test who t turns h = record {
+  before = t ∷ h.before;
+  turn = h.turn;
+  after = h.after;
+  whole = ap (λ ts. t ∷ ts) h.whole;
+  own = h.own;
+  passes = h.passes;
+}
+
+first_turn : (test : Deed → Bool) (who : Who) (t : Turn) (turns : List Turn) →
+    (list_any test (deeds_of who turns) ≡ true → HasTurn test who turns) → (b : Bool) → is_same who t.who ≡ b →
+    list_any test (map deed_in (cond b (t ∷ filter (λ (x : Turn). is_same who x.who) turns)
+    (filter (λ (x : Turn). is_same who x.who) turns))) ≡ true →
+    HasTurn test who (t ∷ turns)
+first_turn test who t turns rest true own some =
+    elim (one_of (test t.deed) (list_any test (deeds_of who turns)) some) [
+      | inl here ↦ record { before = []; turn = t; after = turns; whole = refl; own = own; passes = here }
+      | inr more ↦ later_turn test who t turns (rest more)
+    ]
+first_turn test who t turns rest false own some = later_turn test who t turns (rest some)
+
+pub has_turn : (test : Deed → Bool) (who : Who) (turns : List Turn) → list_any test (deeds_of who turns) ≡ true →
+    HasTurn test who turns
+has_turn test who [] some = absurd cc
+has_turn test who (t ∷ turns) some =
+    first_turn test who t turns (λ more. has_turn test who turns more) (is_same who t.who) refl some

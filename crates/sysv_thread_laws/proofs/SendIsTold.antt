@@ -1,0 +1,673 @@
+-- A send of a free run that waits for blocks on a queue that is closed to it will be told: a set or
+-- a removal of the queue is still before its giveback.
+use Rattle.std.proofs.Common.{◌≡◌, ◌≢◌, ◌⊎◌, ◌<◌, ◌≤◌, ◌+◌, inl, inr, ℕ, ℤ, Bool, true, false, cond}
+use Rattle.std.proofs.Common.{List, [], ◌∷◌, ◌++◌, length, Option, None, Some, option_map, refl, sym, ap, subst, ◌∙◌}
+use Rattle.std.proofs.Common.{arith, append_assoc, slice_get}
+use Rattle.std.specs.List.{All, Contains, list_any}
+use Rattle.std.proofs.Math.Dec.{eqb}
+use Rattle.std.proofs.lemmas.Bool.Decides.{nat_tests}
+use Rattle.std.proofs.lemmas.Grind.{flat_map-append}
+use Rattle.std.proofs.lemmas.List.{append-nil}
+use Rattle.std.proofs.lemmas.List.Elements.{All-contains}
+use Rattle.std.proofs.lemmas.List.Folds.{list_any-append}
+use Rattle.sysv_model.specs.declared.attributes.Attributes.{Attributes}
+use Rattle.sysv_model.specs.declared.attributes.SetTo.{SetTo}
+use Rattle.sysv_model.specs.declared.cred.Cred.{Cred}
+use Rattle.sysv_model.specs.declared.errno.Errno.{Errno}
+use Rattle.sysv_model.specs.declared.errno.Errno.TheVariants.{EINVAL}
+use Rattle.sysv_model.specs.Message.{Message}
+use Rattle.sysv_model.specs.History.{Who, Call, Install, Look, Place, Take, Set, Remove, Reply, Installed, Full}
+use Rattle.sysv_model.specs.History.{Fits, Accepted, NoMatch, Taken, Done, Discarded, Entry, History}
+use Rattle.sysv_model.specs.Live.{live, live_after, sent_to, received_from, HasId}
+use Rattle.sysv_model.specs.Registry.{Changed, Found, Made, Busy, Unbound}
+use Rattle.sysv_model.specs.Pool.{Reserve, Release, PoolReply, Reserved, TooFew, Released, Foreign, PoolEntry}
+use Rattle.sysv_model.specs.Pool.{PoolHistory, frees, released}
+use Rattle.sysv_model.specs.Turn.{OfSlot, OfPool, Deed, AtSlot, AtRegistry, AtPool, asked_by, Turn, slot_entry}
+use Rattle.sysv_model.specs.Turn.{pool_entry, slot_history, pool_history, is_same, deeds_of}
+use Rattle.sysv_pool.specs.LegalReply.{IsLegalReply as IsLegalPoolReply}
+use Rattle.sysv_queue.specs.Blocks.{blocks_of}
+use Rattle.sysv_queue.specs.Granted.{MayWrite}
+use Rattle.sysv_queue.specs.LegalReply.{IsLegalReply}
+use Rattle.sysv_keys.specs.Identifier.{slot_of_id}
+use Rattle.sysv_objects.specs.LegalDeed.{AreLegal}
+use Rattle.sysv_steps.specs.Call.{SystemCall, Msgget, Msgsnd, Msgrcv, MsgctlStat, MsgctlSet, MsgctlRmid}
+use Rattle.sysv_steps.specs.State.{Sending, Wait, OnSettled, OnFreed, OnReleased, OnArrived, IsRefused, WaitsOn, Phase}
+use Rattle.sysv_steps.specs.State.{AtBegin, AtSettle, AtUnmake, AtLook, AtReserve, AtSendGiveback, AtTake, AtSet}
+use Rattle.sysv_steps.specs.State.{AtSetGiveback, AtRemove, AtForget}
+use Rattle.sysv_steps.specs.State.{AtRemoveGiveback, State, Goes, Waits, Over, Refused}
+use Rattle.sysv_steps.specs.Begin.{is_refused, first, begin}
+use Rattle.sysv_steps.specs.Asks.{asks}
+use Rattle.sysv_steps.specs.Next.{waits_or, goes_on, next}
+use Rattle.sysv_steps.specs.Resume.{resume}
+use Rattle.sysv_steps.specs.Played.{Plays, begins, steps, resumes}
+use Rattle.sysv_steps.specs.Answers.{is_at_slot}
+use Rattle.sysv_steps.specs.AsksFor.{AsksFor, AllAskFor}
+use Rattle.sysv_steps.specs.WaitsFor.{WaitsFor}
+use Rattle.sysv_core.specs.World.{World, Opening, Started, Doing, Given, begun}
+use Rattle.sysv_core.specs.AnswerLaw.{Fate, stands_in, standing, standing_of, AsksAsItWasAsked}
+use Rattle.sysv_core.specs.Parked.{HasTooFewBlocks, HasChangeToTell, IsToBeWoken, HasToGiveBack}
+use Rattle.sysv_core.proofs.EachRowIsTended.{live_more, or_left, or_right}
+use Rattle.sysv_core.proofs.Histories.{turn_of, slot_more, one, released_more}
+use Rattle.sysv_core.proofs.Lists.{same_place}
+use Rattle.sysv_core.proofs.PartsOfOneCall.{same_who, same_itself, at_actor}
+use Rattle.sysv_core.proofs.TurnInHistory.{made_at, slot_around}
+use Rattle.sysv_core.proofs.WorldsObey.{Inv}
+use Rattle.sysv_thread_laws.specs.OnThreads.{IsMadeOrRead, ObeysOnThreads}
+use Rattle.sysv_thread_laws.specs.ParkedOnThreads.{HadReleasedAtSlot}
+use Rattle.sysv_thread_laws.proofs.PlayPrefix.{no_nil, last_or_before, all_at, deeds_around, has_turn}
+use Rattle.sysv_thread_laws.proofs.PoolLater.{later, short_at}
+
+-- ---- the last turns of the send
+
+waits_so : (b : Bool) (goal more : ℕ) (send s : Sending) (why : Errno) →
+    Some (goes_on (waits_or b (OnReleased more s) why)) ≡ Some (Waits (OnReleased goal send)) → s ≡ send
+waits_so true goal more send s why e = absurd cc
+waits_so false goal more send s why e = cc
+
+reserve_phase : (phase : Phase) (now size goal : ℕ) (send : Sending) → OfPool (Reserve size) ≡ asks phase now →
+    next phase (AtPool (Reserve size) TooFew) ≡ Some (Waits (OnReleased goal send)) → phase ≡ AtReserve send
+reserve_phase (AtReserve s) now size goal send a row = ap AtReserve (waits_so s.nowait goal _ send s _ row)
+reserve_phase phase now size goal send a row = absurd cc
+
+module _ (from : State) (goal size : ℕ) (send : Sending) where
+  before_reserve : (deeds : List Deed) (state : State) → Plays from deeds state → state ≡ Waits (OnReleased goal send) →
+      (front : List Deed) → deeds ≡ front ++ AtPool (Reserve size) TooFew ∷ [] →
+      Plays from front (Goes (AtReserve send))
+  before_reserve _ _ begins is front e = absurd (no_nil front (AtPool (Reserve size) TooFew) [] e)
+  before_reserve _ _ (resumes {deeds} {wait} value play least) is front e = absurd cc
+  before_reserve _ _ (steps {deeds} {phase} deed now after play a row) is front e =
+      elim (last_or_before deeds deed front (AtPool (Reserve size) TooFew) [] e) [
+        | inr more ↦ absurd (no_nil more.0 deed [] more.2)
+        | inl here ↦
+            let at = reserve_phase phase now size goal send (ap asked_by here.1 ∙ a)
+            (ap (next phase) here.1 ∙ (row ∙ ap (λ s. Some s) is)) in
+            subst (λ ds. Plays from ds (Goes (AtReserve send))) (sym here.0)
+            (subst (λ p. Plays from deeds (Goes p)) at play)
+      ]
+
+-- The state is not before a reserve.
+abbrev Elsewhere : Option State → Type 0
+Elsewhere (Some (Goes (AtReserve send))) = ⊥
+Elsewhere state = Unit {0}
+
+held_up : (nowait : Bool) (wait : Wait) (why : Errno) → Elsewhere (Some (goes_on (waits_or nowait wait why)))
+held_up true wait why = tt
+held_up false wait why = tt
+
+-- The look that found room.
+abbrev IsFitting : Phase → Deed → Type 0
+IsFitting phase deed =
+    (s : Sending) × (slot : ℕ) × (c : Call) × (phase ≡ AtLook s) × (deed ≡ AtSlot slot c Fits)
+
+elsewhere : (phase : Phase) (deed : Deed) → Elsewhere (next phase deed) ⊎ IsFitting phase deed
+elsewhere (AtLook send) (AtSlot slot c Fits) = inr (send, slot, c, refl, refl)
+elsewhere (AtLook send) (AtSlot slot c (Full freed)) = inl (held_up send.nowait _ _)
+elsewhere (AtLook send) (AtSlot slot c reply) = inl tt
+elsewhere (AtReserve send) (AtPool c (Reserved blocks)) = inl tt
+elsewhere (AtReserve send) (AtPool c TooFew) = inl (held_up send.nowait _ _)
+elsewhere (AtReserve send) (AtPool c reply) = inl tt
+elsewhere (AtSendGiveback blocks (WaitsOn wait)) (AtPool c Released) = inl tt
+elsewhere (AtSendGiveback blocks (IsRefused why)) (AtPool c Released) = inl tt
+elsewhere (AtSendGiveback blocks (WaitsOn wait)) (AtPool c Foreign) = inl tt
+elsewhere (AtSendGiveback blocks (IsRefused why)) (AtPool c Foreign) = inl tt
+elsewhere (AtTake receive) (AtSlot slot c (NoMatch arrived)) = inl (held_up receive.nowait _ _)
+elsewhere phase (AtSlot slot c (Installed true)) = inl tt
+elsewhere phase (AtSlot slot c (Installed false)) = inl tt
+elsewhere phase (AtSlot slot c reply) = inl tt
+elsewhere (AtBegin get) (AtRegistry c (Found id settled)) = inl tt
+elsewhere (AtBegin get) (AtRegistry c (Made id)) = inl tt
+elsewhere (AtBegin get) (AtRegistry c (Busy settled)) = inl tt
+elsewhere (AtBegin get) (AtRegistry c (Unbound why)) = inl tt
+elsewhere (AtSettle id) (AtRegistry c (Changed done)) = inl tt
+elsewhere (AtUnmake id) (AtRegistry c (Changed done)) = inl tt
+elsewhere phase (AtRegistry c (Changed done)) = inl tt
+elsewhere phase (AtRegistry c reply) = inl tt
+elsewhere phase (AtPool c Released) = inl tt
+elsewhere phase (AtPool c reply) = inl tt
+
+begun_elsewhere : (cred : Cred) (asked : SystemCall) (released : ℕ) (b : Bool) →
+    Elsewhere (Some (cond b (Over (Refused EINVAL)) (Goes (first cred asked released))))
+begun_elsewhere cred asked released true = tt
+begun_elsewhere cred (Msgget key flags) released false = tt
+begun_elsewhere cred (Msgsnd id mtype flags text) released false = tt
+begun_elsewhere cred (Msgrcv id size mtype flags) released false = tt
+begun_elsewhere cred (MsgctlStat id) released false = tt
+begun_elsewhere cred (MsgctlSet id to) released false = tt
+begun_elsewhere cred (MsgctlRmid id) released false = tt
+
+resumed_elsewhere : (wait : Wait) (value : ℕ) → Elsewhere (Some (Goes (resume wait value)))
+resumed_elsewhere (OnSettled goal get) value = tt
+resumed_elsewhere (OnFreed goal send) value = tt
+resumed_elsewhere (OnReleased goal send) value = tt
+resumed_elsewhere (OnArrived goal receive) value = tt
+
+abbrev look_of : Sending → Deed
+look_of send = AtSlot (slot_of_id send.id) (Look send.id send.cred (length send.text)) Fits
+
+is_look : (send s : Sending) (slot : ℕ) (c : Call) (now : ℕ) (after : State) → OfSlot slot c ≡ asks (AtLook s) now →
+    next (AtLook s) (AtSlot slot c Fits) ≡ Some after → after ≡ Goes (AtReserve send) →
+    AtSlot slot c Fits ≡ look_of send
+is_look send s slot c now after a row is =
+    let kept : record s { seen = true } ≡ send = cc in
+    let there : slot ≡ slot_of_id s.id = cc in
+    let call : c ≡ Look s.id s.cred (length s.text) = cc in
+    ap (λ n. AtSlot n c Fits) there
+    ∙ (ap (λ x. AtSlot (slot_of_id s.id) x Fits) call ∙ ap look_of kept)
+
+module _ (cred : Cred) (asked : SystemCall) (read : ℕ) (send : Sending) where
+  after_look : (deeds : List Deed) (state : State) → Plays (begin cred asked read) deeds state →
+      state ≡ Goes (AtReserve send) → (front : List Deed) × (deeds ≡ front ++ look_of send ∷ [])
+  after_look _ _ begins is =
+      absurd (subst Elsewhere (ap (λ s. Some s) is) (begun_elsewhere cred asked read (is_refused asked)))
+  after_look _ _ (resumes {deeds} {wait} value play least) is =
+      absurd (subst Elsewhere (ap (λ s. Some s) is) (resumed_elsewhere wait value))
+  after_look _ _ (steps {deeds} {phase} deed now after play a row) is = elim (elsewhere phase deed) [
+    | inl far ↦ absurd (subst Elsewhere (row ∙ ap (λ s. Some s) is) far)
+    | inr f ↦
+        let same = is_look send f.0 f.1 f.2 now after (ap asked_by (sym f.4) ∙ (a ∙ ap (λ p. asks p now) f.3))
+        (ap (λ p. next p (AtSlot f.1 f.2 Fits)) (sym f.3) ∙ (ap (next phase) (sym f.4) ∙ row)) is in
+        (deeds, ap (λ d. deeds ++ d ∷ []) (f.4 ∙ same))
+  ]
+
+-- ---- a queue stays open, or it is changed
+
+-- A set or a removal of the queue.
+abbrev IsChange : ℤ → Deed → Type 0
+IsChange id deed =
+    ((slot : ℕ) × (by : Cred) × (to : SetTo) × (now : ℕ) × (deed ≡ AtSlot slot (Set id by to now) Done))
+    ⊎ ((slot : ℕ) × (by : Cred) × (messages : List Message) × (deed ≡ AtSlot slot (Remove id by) (Discarded messages)))
+
+module _ (id : ℤ) (cred : Cred) where
+  abbrev IsOpen : Option Attributes → Type 0
+  IsOpen o = HasId o id × MayWrite cred o
+
+  sent_open : (by : Cred) (now : ℕ) (o : Option Attributes) → IsOpen o → IsOpen (option_map (sent_to by now) o)
+  sent_open by now None opens = absurd opens.0
+  sent_open by now (Some a) opens = (opens.0, opens.1)
+
+  received_open : (by : Cred) (now : ℕ) (o : Option Attributes) → IsOpen o →
+      IsOpen (option_map (received_from by now) o)
+  received_open by now None opens = absurd opens.0
+  received_open by now (Some a) opens = (opens.0, opens.1)
+
+  same_id : (x : ℤ) (o : Option Attributes) → HasId o x → HasId o id → x ≡ id
+  same_id x None has its = absurd has
+  same_id x (Some a) has its = sym has ∙ its
+
+  open_or_changed : (h : History) (slot : ℕ) (call : Call) (reply : Reply) → IsLegalReply h call reply →
+      IsOpen (live h) → IsOpen (live_after (live h) call reply) ⊎ IsChange id (AtSlot slot call reply)
+  open_or_changed h slot (Install x key by mode now) (Installed true) legal opens =
+      absurd (subst (λ o. HasId o id) legal opens.0)
+  open_or_changed h slot (Place x by mtype bytes now) (Accepted number) legal opens =
+      inl (sent_open by now (live h) opens)
+  open_or_changed h slot (Take x by selector size noerror now) (Taken m) legal opens =
+      inl (received_open by now (live h) opens)
+  open_or_changed h slot (Set x by to now) Done legal opens =
+      inr (inl (slot, by, to, now, ap (λ i. AtSlot slot (Set i by to now) Done) (same_id x (live h) legal.0 opens.0)))
+  open_or_changed h slot (Remove x by) (Discarded ms) legal opens =
+      inr (inr (slot, by, ms, ap (λ i. AtSlot slot (Remove i by) (Discarded ms)) (same_id x (live h) legal.0 opens.0)))
+  open_or_changed h slot call reply legal opens = inl opens
+
+  module _ (w : World) (legal : AreLegal w.generation w.blocks w.turns) where
+    abbrev slot_of_it : ℕ
+    slot_of_it = slot_of_id id
+
+    abbrev OpenAfter : List Turn → Type 0
+    OpenAfter turns = IsOpen (live (slot_history slot_of_it turns))
+
+    elsewhere_open : (turns : List Turn) (t : Turn) → slot_entry slot_of_it t.who t.deed ≡ [] → OpenAfter turns →
+        OpenAfter (turns ++ t ∷ [])
+    elsewhere_open turns t none opens =
+        subst (λ (h : History). IsOpen (live h))
+        (sym (slot_more slot_of_it turns t ∙ (ap (λ es. slot_history slot_of_it turns ++ es) none
+        ∙ append-nil (slot_history slot_of_it turns)))) opens
+
+    here_open : (turns rest : List Turn) (who : Who) (call : Call) (reply : Reply) →
+        w.turns ≡ turns ++ turn_of who (AtSlot slot_of_it call reply) ∷ rest → OpenAfter turns →
+        OpenAfter (turns ++ turn_of who (AtSlot slot_of_it call reply) ∷ [])
+        ⊎ IsChange id (AtSlot slot_of_it call reply)
+    here_open turns rest who call reply whole opens =
+        let h = slot_history slot_of_it turns in
+        let e : Entry = record { who = who; call = call; reply = reply } in
+        let was = legal.slots slot_of_it h e (slot_history slot_of_it rest)
+        (ap (slot_history slot_of_it) whole ∙ slot_around slot_of_it turns rest who call reply) in
+        let now : live (slot_history slot_of_it (turns ++ turn_of who (AtSlot slot_of_it call reply) ∷ []))
+        ≡ live_after (live h) call reply =
+        ap live (slot_around slot_of_it turns [] who call reply) ∙ live_more h e in
+        elim (open_or_changed h slot_of_it call reply was opens) [
+          | inl still ↦ inl (subst IsOpen (sym now) still)
+          | inr change ↦ inr change
+        ]
+
+    one_open : (turns rest : List Turn) (who : Who) (deed : Deed) → w.turns ≡ turns ++ turn_of who deed ∷ rest →
+        OpenAfter turns → OpenAfter (turns ++ turn_of who deed ∷ []) ⊎ IsChange id deed
+    one_open turns rest who (AtRegistry call reply) whole opens =
+        inl (elsewhere_open turns (turn_of who (AtRegistry call reply)) refl opens)
+    one_open turns rest who (AtPool call reply) whole opens =
+        inl (elsewhere_open turns (turn_of who (AtPool call reply)) refl opens)
+    one_open turns rest who (AtSlot at call reply) whole opens = elim (same_place at slot_of_it) [
+      | inl same ↦
+          subst (λ n. OpenAfter (turns ++ turn_of who (AtSlot n call reply) ∷ []) ⊎ IsChange id (AtSlot n call reply))
+          (sym same) (here_open turns rest who call reply
+          (whole ∙ ap (λ n. turns ++ turn_of who (AtSlot n call reply) ∷ rest) same) opens)
+      | inr apart ↦
+          let other : eqb at slot_of_it ≡ false = grind (arith, nat_tests, apart) in
+          inl (elsewhere_open turns (turn_of who (AtSlot at call reply))
+          (ap (λ b. cond b (record { who = who; call = call; reply = reply } ∷ []) []) other) opens)
+    ]
+
+    -- The first turn that changed the queue.
+    record IsChanged (turns : List Turn) : Type 0 where
+      more : List Turn
+      who : Who
+      deed : Deed
+      rest : List Turn
+      whole : w.turns ≡ (turns ++ more) ++ turn_of who deed ∷ rest
+      change : IsChange id deed
+
+    open_still : (turns rest : List Turn) → w.turns ≡ turns ++ rest → OpenAfter turns →
+        OpenAfter w.turns ⊎ IsChanged turns
+    open_still turns [] whole opens = inl (subst OpenAfter (sym (whole ∙ append-nil turns)) opens)
+    open_still turns (t ∷ rest) whole opens = elim (one_open turns rest t.who t.deed whole opens) [
+      | inr change ↦
+          inr record {
+            more = [];
+            who = t.who;
+            deed = t.deed;
+            rest = rest;
+            whole = whole ∙ ap (λ ts. ts ++ t ∷ rest) (sym (append-nil turns));
+            change = change;
+          }
+      | inl still ↦
+          elim (open_still (turns ++ t ∷ []) rest (whole ∙ sym (append_assoc turns (t ∷ []) rest)) still) [
+            | inl open_now ↦ inl open_now
+            | inr c ↦
+                inr record {
+                  more = t ∷ c.more;
+                  who = c.who;
+                  deed = c.deed;
+                  rest = c.rest;
+                  whole = c.whole ∙ ap (λ ts. ts ++ turn_of c.who c.deed ∷ c.rest) (append_assoc turns (t ∷ []) c.more);
+                  change = c.change;
+                }
+          ]
+    ]
+
+-- ---- a change is told
+
+-- The deed releases a chain.
+abbrev releases : Deed → Bool
+releases (AtPool (Release blocks) reply) = true
+releases deed = false
+
+releases_it : (deed : Deed) (blocks : ℕ) → asked_by deed ≡ OfPool (Release blocks) → releases deed ≡ true
+releases_it (AtPool (Release n) reply) blocks a = refl
+releases_it (AtPool (Reserve n) reply) blocks a = absurd cc
+releases_it (AtSlot slot call reply) blocks a = absurd cc
+releases_it (AtRegistry call reply) blocks a = absurd cc
+
+some_before : (rest : List Deed) (last : Deed) → list_any releases rest ≡ true →
+    list_any releases (rest ++ last ∷ []) ≡ true
+some_before rest last some =
+    list_any-append releases rest (last ∷ [])
+    ∙ or_left (list_any releases rest) (list_any releases (last ∷ [])) some
+
+some_last : (rest : List Deed) (last : Deed) → releases last ≡ true → list_any releases (rest ++ last ∷ []) ≡ true
+some_last rest last some =
+    list_any-append releases rest (last ∷ [])
+    ∙ or_right (list_any releases rest) (list_any releases (last ∷ [])) (or_left (releases last) false some)
+
+-- The state is one after the change, before the giveback.
+abbrev IsTelling : SystemCall → State → Type 0
+IsTelling (MsgctlSet id to) (Goes AtSetGiveback) = Unit {0}
+IsTelling (MsgctlRmid id) (Goes (AtForget removed blocks)) = Unit {0}
+IsTelling (MsgctlRmid id) (Goes (AtRemoveGiveback blocks)) = Unit {0}
+IsTelling asked state = ⊥
+
+-- A set or a removal of this queue.
+abbrev Changes : ℤ → SystemCall → Type 0
+Changes id (MsgctlSet at to) = at ≡ id
+Changes id (MsgctlRmid at) = at ≡ id
+Changes id asked = ⊥
+
+set_leads : (slot : ℕ) (id x : ℤ) (by : Cred) (to what : SetTo) (now stamp : ℕ) (phase : Phase) (after : State) →
+    OfSlot slot (Set id by to stamp) ≡ asks phase now →
+    next phase (AtSlot slot (Set id by to stamp) Done) ≡ Some after → IsTelling (MsgctlSet x what) after
+set_leads slot id x by to what now stamp (AtSet c i t) after a row =
+    let is : Goes AtSetGiveback ≡ after = cc in subst (IsTelling (MsgctlSet x what)) is tt
+set_leads slot id x by to what now stamp phase after a row = absurd cc
+
+removal_leads : (slot : ℕ) (id x : ℤ) (by : Cred) (messages : List Message) (now : ℕ) (phase : Phase) (after : State) →
+    OfSlot slot (Remove id by) ≡ asks phase now →
+    next phase (AtSlot slot (Remove id by) (Discarded messages)) ≡ Some after → IsTelling (MsgctlRmid x) after
+removal_leads slot id x by messages now (AtRemove c i) after a row =
+    let is : Goes (AtForget i (blocks_of messages)) ≡ after = cc in subst (IsTelling (MsgctlRmid x)) is tt
+removal_leads slot id x by messages now phase after a row = absurd cc
+
+-- The next turn of a call that is telling a change.
+tells_on : (asked : SystemCall) (phase : Phase) (deed : Deed) (now : ℕ) (after : State) →
+    IsTelling asked (Goes phase) → asked_by deed ≡ asks phase now → next phase deed ≡ Some after →
+    IsTelling asked after ⊎ (releases deed ≡ true)
+tells_on (MsgctlSet id to) AtSetGiveback deed now after telling a row = inr (releases_it deed 0 a)
+tells_on (MsgctlRmid id) (AtRemoveGiveback blocks) deed now after telling a row = inr (releases_it deed blocks a)
+tells_on (MsgctlRmid id) (AtForget removed blocks) (AtRegistry call (Changed done)) now after telling a row =
+    let is : Goes (AtRemoveGiveback blocks) ≡ after = cc in inl (subst (IsTelling (MsgctlRmid id)) is tt)
+tells_on (MsgctlRmid id) (AtForget removed blocks) (AtRegistry call (Found x settled)) now after telling a row =
+    absurd cc
+tells_on (MsgctlRmid id) (AtForget removed blocks) (AtRegistry call (Made x)) now after telling a row = absurd cc
+tells_on (MsgctlRmid id) (AtForget removed blocks) (AtRegistry call (Busy settled)) now after telling a row = absurd cc
+tells_on (MsgctlRmid id) (AtForget removed blocks) (AtRegistry call (Unbound why)) now after telling a row = absurd cc
+tells_on (MsgctlRmid id) (AtForget removed blocks) (AtSlot slot call reply) now after telling a row = absurd cc
+tells_on (MsgctlRmid id) (AtForget removed blocks) (AtPool call reply) now after telling a row = absurd cc
+tells_on asked phase deed now after telling a row = absurd telling
+
+waits_not : (asked : SystemCall) (wait : Wait) → IsTelling asked (Waits wait) → ⊥
+waits_not (MsgctlSet id to) wait t = t
+waits_not (MsgctlRmid id) wait t = t
+waits_not (Msgget key flags) wait t = t
+waits_not (Msgsnd id mtype flags text) wait t = t
+waits_not (Msgrcv id size mtype flags) wait t = t
+waits_not (MsgctlStat id) wait t = t
+
+module _ (cred : Cred) (asked : SystemCall) (read : ℕ) (change : Deed)
+    (leads : (phase : Phase) (now : ℕ) (after : State) → asked_by change ≡ asks phase now →
+    next phase change ≡ Some after → IsTelling asked after) where
+  tells : (deeds : List Deed) (state : State) → Plays (begin cred asked read) deeds state → (front later : List Deed) →
+      deeds ≡ front ++ change ∷ later → IsTelling asked state ⊎ (list_any releases later ≡ true)
+  tells _ _ begins front later e = absurd (no_nil front change later e)
+  tells _ _ (resumes {deeds} {wait} value play least) front later e =
+      elim (tells deeds (Waits wait) play front later e) [
+        | inl telling ↦ absurd (waits_not asked wait telling)
+        | inr told ↦ inr told
+      ]
+  tells _ _ (steps {deeds} {phase} deed now after play a row) front later e =
+      elim (last_or_before deeds deed front change later e) [
+        | inl here ↦ inl (leads phase now after (ap asked_by here.1 ∙ a) (ap (next phase) here.1 ∙ row))
+        | inr more ↦
+            elim (tells deeds (Goes phase) play front more.0 more.1) [
+              | inr told ↦ inr (ap (list_any releases) more.2 ∙ some_before more.0 deed told)
+              | inl telling ↦
+                  elim (tells_on asked phase deed now after telling a row) [
+                    | inl still ↦ inl still
+                    | inr now_told ↦ inr (ap (list_any releases) more.2 ∙ some_last more.0 deed now_told)
+                  ]
+            ]
+      ]
+
+-- ---- the call of a change
+
+set_asked : (id : ℤ) (cred by : Cred) (asked : SystemCall) (slot : ℕ) (to : SetTo) (now : ℕ) →
+    AsksFor cred asked (OfSlot slot (Set id by to now)) → (what : SetTo) × (asked ≡ MsgctlSet id what)
+set_asked id cred by (MsgctlSet at what) slot to now (inl (stamp, e)) =
+    let same : id ≡ at = cc in (what, ap (λ i. MsgctlSet i what) (sym same))
+set_asked id cred by (MsgctlSet at what) slot to now (inr (blocks, e)) = absurd cc
+set_asked id cred by (Msgget key flags) slot to now (inl e) = absurd cc
+set_asked id cred by (Msgget key flags) slot to now (inr (inl (x, stamp, e))) = absurd cc
+set_asked id cred by (Msgget key flags) slot to now (inr (inr (inl (x, e)))) = absurd cc
+set_asked id cred by (Msgget key flags) slot to now (inr (inr (inr (inl (x, e))))) = absurd cc
+set_asked id cred by (Msgget key flags) slot to now (inr (inr (inr (inr (x, e))))) = absurd cc
+set_asked id cred by (Msgsnd at mtype flags text) slot to now (inl e) = absurd cc
+set_asked id cred by (Msgsnd at mtype flags text) slot to now (inr (inl e)) = absurd cc
+set_asked id cred by (Msgsnd at mtype flags text) slot to now (inr (inr (inl (stamp, e)))) = absurd cc
+set_asked id cred by (Msgsnd at mtype flags text) slot to now (inr (inr (inr (blocks, e)))) = absurd cc
+set_asked id cred by (Msgrcv at size mtype flags) slot to now (inl (stamp, e)) = absurd cc
+set_asked id cred by (Msgrcv at size mtype flags) slot to now (inr (blocks, e)) = absurd cc
+set_asked id cred by (MsgctlStat at) slot to now e = absurd cc
+set_asked id cred by (MsgctlRmid at) slot to now (inl e) = absurd cc
+set_asked id cred by (MsgctlRmid at) slot to now (inr (inl e)) = absurd cc
+set_asked id cred by (MsgctlRmid at) slot to now (inr (inr (blocks, e))) = absurd cc
+
+removal_asked : (id : ℤ) (cred by : Cred) (asked : SystemCall) (slot : ℕ) →
+    AsksFor cred asked (OfSlot slot (Remove id by)) → asked ≡ MsgctlRmid id
+removal_asked id cred by (MsgctlRmid at) slot (inl e) = let same : id ≡ at = cc in ap MsgctlRmid (sym same)
+removal_asked id cred by (MsgctlRmid at) slot (inr (inl e)) = absurd cc
+removal_asked id cred by (MsgctlRmid at) slot (inr (inr (blocks, e))) = absurd cc
+removal_asked id cred by (Msgget key flags) slot (inl e) = absurd cc
+removal_asked id cred by (Msgget key flags) slot (inr (inl (x, stamp, e))) = absurd cc
+removal_asked id cred by (Msgget key flags) slot (inr (inr (inl (x, e)))) = absurd cc
+removal_asked id cred by (Msgget key flags) slot (inr (inr (inr (inl (x, e))))) = absurd cc
+removal_asked id cred by (Msgget key flags) slot (inr (inr (inr (inr (x, e))))) = absurd cc
+removal_asked id cred by (Msgsnd at mtype flags text) slot (inl e) = absurd cc
+removal_asked id cred by (Msgsnd at mtype flags text) slot (inr (inl e)) = absurd cc
+removal_asked id cred by (Msgsnd at mtype flags text) slot (inr (inr (inl (stamp, e)))) = absurd cc
+removal_asked id cred by (Msgsnd at mtype flags text) slot (inr (inr (inr (blocks, e)))) = absurd cc
+removal_asked id cred by (Msgrcv at size mtype flags) slot (inl (stamp, e)) = absurd cc
+removal_asked id cred by (Msgrcv at size mtype flags) slot (inr (blocks, e)) = absurd cc
+removal_asked id cred by (MsgctlStat at) slot e = absurd cc
+removal_asked id cred by (MsgctlSet at what) slot (inl (stamp, e)) = absurd cc
+removal_asked id cred by (MsgctlSet at what) slot (inr (blocks, e)) = absurd cc
+
+-- What the call of a change is, and what its change leads to.
+record IsChanging (id : ℤ) (asked : SystemCall) (change : Deed) : Type 0 where
+  changes : Changes id asked
+  leads : (phase : Phase) (now : ℕ) (after : State) → asked_by change ≡ asks phase now →
+      next phase change ≡ Some after → IsTelling asked after
+
+changing : (id : ℤ) (cred : Cred) (asked : SystemCall) (change : Deed) → IsChange id change →
+    AsksFor cred asked (asked_by change) → IsChanging id asked change
+changing id cred asked change (inl (slot, by, to, stamp, is)) a =
+    let what = set_asked id cred by asked slot to stamp (subst (λ d. AsksFor cred asked (asked_by d)) is a) in
+    subst (λ x. IsChanging id x change) (sym what.1)
+    (subst (IsChanging id (MsgctlSet id what.0)) (sym is) (record {
+      changes = refl;
+      leads = λ phase now after. set_leads slot id id by to what.0 now stamp phase after;
+    }))
+changing id cred asked change (inr (slot, by, messages, is)) a =
+    let what = removal_asked id cred by asked slot (subst (λ d. AsksFor cred asked (asked_by d)) is a) in
+    subst (λ x. IsChanging id x change) (sym what)
+    (subst (IsChanging id (MsgctlRmid id)) (sym is) (record {
+      changes = refl;
+      leads = λ phase now after. removal_leads slot id id by messages now phase after;
+    }))
+
+gives_it : (id : ℤ) (asked : SystemCall) (state : State) → Changes id asked → IsTelling asked state →
+    HasToGiveBack asked state id
+gives_it id (MsgctlSet at to) (Goes AtSetGiveback) changes telling = changes
+gives_it id (MsgctlRmid at) (Goes (AtForget removed blocks)) changes telling = changes
+gives_it id (MsgctlRmid at) (Goes (AtRemoveGiveback blocks)) changes telling = changes
+gives_it id asked state changes telling = absurd telling
+
+telling_goes : (asked : SystemCall) (state : State) → IsTelling asked state → standing state ≡ Some state
+telling_goes (MsgctlSet id to) (Goes AtSetGiveback) telling = refl
+telling_goes (MsgctlRmid id) (Goes (AtForget removed blocks)) telling = refl
+telling_goes (MsgctlRmid id) (Goes (AtRemoveGiveback blocks)) telling = refl
+telling_goes asked state telling = absurd telling
+
+-- A turn that changed a queue belongs to a call.
+change_owner : (calls : List Started) (who : Who) (id : ℤ) (deed : Deed) → IsMadeOrRead calls (turn_of who deed) →
+    IsChange id deed → (call : Started) × Contains calls call × (who ≡ call.who)
+change_owner calls who id deed (inr by) change = by
+change_owner calls who id deed (inl (nobody_did, (slot, reply, e))) (inl (at, by, to, now, is)) = absurd cc
+change_owner calls who id deed (inl (nobody_did, (slot, reply, e))) (inr (at, by, messages, is)) = absurd cc
+
+-- ---- who is in a call
+
+-- The actor of the call is in it, in this state.
+record IsInCall (w : World) (call : Started) (state : State) : Type 0 where
+  place : ℕ
+  doing : Doing
+  there : slice_get w.actors place ≡ Some (Some doing)
+  call_is : call ≡ doing.call
+  state_is : state ≡ doing.state
+
+stands_if : (who : Who) (d : Doing) (state : State) (b : Bool) → is_same who d.call.who ≡ b →
+    cond b (Some d.state) None ≡ Some state → (who ≡ d.call.who) × (state ≡ d.state)
+stands_if who d state true same e = (same_who who d.call.who same, cc)
+stands_if who d state false same e = absurd cc
+
+stands_so : (who : Who) (o : Option (Option Doing)) (state : State) → stands_in who o ≡ Some state →
+    (d : Doing) × (o ≡ Some (Some d)) × (who ≡ d.call.who) × (state ≡ d.state)
+stands_so who None state e = absurd cc
+stands_so who (Some None) state e = absurd cc
+stands_so who (Some (Some d)) state e =
+    let s = stands_if who d state (is_same who d.call.who) refl e in (d, refl, s.0, s.1)
+
+-- ---- the law
+
+module _ (o : Opening) (w : World) (given : List Given) (i : Inv w given) (lawful : ObeysOnThreads o w given) where
+  in_call : (call : Started) → Contains w.calls call → (state : State) →
+      standing_of call.who w.actors ≡ Some state → IsInCall w call state
+  in_call call has state e =
+      let name = i.before call has in
+      let s = stands_so call.who (slice_get w.actors name.0) state
+      (sym (at_actor call.who name.0 name.1 w.actors name.2) ∙ e) in
+      record {
+        place = name.0;
+        doing = s.0;
+        there = s.1;
+        call_is = i.named call s.0.call has (i.doing name.0 s.0 s.1).0 s.2;
+        state_is = s.3;
+      }
+
+  -- ---- what was released
+
+  pool_both : (xs ys : List Turn) → pool_history (xs ++ ys) ≡ pool_history xs ++ pool_history ys
+  pool_both xs ys = flat_map-append (λ (t : Turn). pool_entry t.who t.deed) xs ys
+
+  never_less : (xs ys : List Turn) → released (pool_history xs) ≤ released (pool_history (xs ++ ys))
+  never_less xs ys =
+      subst (λ h. released (pool_history xs) ≤ released h) (sym (pool_both xs ys))
+      (later w.blocks (pool_history xs) (pool_history ys)).never_less
+
+  is_released : (h : PoolHistory) (blocks : ℕ) (reply : PoolReply) →
+      IsLegalPoolReply w.blocks h (Release blocks) reply → reply ≢ Foreign → reply ≡ Released
+  is_released h blocks Released legal own = refl
+  is_released h blocks Foreign legal own = absurd (own refl)
+  is_released h blocks reply legal own = absurd legal
+
+  released_at : (turns rest : List Turn) (who : Who) (deed : Deed) → w.turns ≡ turns ++ turn_of who deed ∷ rest →
+      releases deed ≡ true → released (pool_history turns) + 1 ≤ released (pool_history w.turns)
+  released_at turns rest who (AtPool (Release blocks) reply) whole is =
+      let h = pool_history turns in
+      let e : PoolEntry = record { who = who; call = Release blocks; reply = reply } in
+      let entries : pool_history w.turns ≡ h ++ e ∷ pool_history rest =
+      ap pool_history whole ∙ pool_both turns (turn_of who (AtPool (Release blocks) reply) ∷ rest) in
+      let own = all_at (λ (x : PoolEntry). x.reply ≢ Foreign) h e (pool_history rest)
+      (subst (All (λ (x : PoolEntry). x.reply ≢ Foreign)) entries lawful.conserved.taken_back) in
+      let told = is_released h blocks reply (i.sound.legal.pool h e (pool_history rest) entries) own in
+      let count = released_more h e in
+      let counts : one (frees reply) ≡ 1 = ap (λ (r : PoolReply). one (frees r)) told in
+      let never : released (h ++ e ∷ []) ≤ released (pool_history w.turns) =
+      subst (λ k. released (h ++ e ∷ []) ≤ released k)
+      (append_assoc h (e ∷ []) (pool_history rest) ∙ sym entries)
+      (later w.blocks (h ++ e ∷ []) (pool_history rest)).never_less in
+      omega (arith, count, counts, never)
+  released_at turns rest who (AtPool (Reserve size) reply) whole is = absurd cc
+  released_at turns rest who (AtSlot slot call reply) whole is = absurd cc
+  released_at turns rest who (AtRegistry call reply) whole is = absurd cc
+
+  came_back : (turns rest : List Turn) (who : Who) → w.turns ≡ turns ++ rest →
+      list_any releases (deeds_of who rest) ≡ true →
+      released (pool_history turns) + 1 ≤ released (pool_history w.turns)
+  came_back turns rest who whole some =
+      let h = has_turn releases who rest some in
+      let there : w.turns ≡ (turns ++ h.before) ++ h.turn ∷ h.after =
+      whole ∙ (ap (λ ts. turns ++ ts) h.whole ∙ sym (append_assoc turns h.before (h.turn ∷ h.after))) in
+      let more = released_at (turns ++ h.before) h.after h.turn.who h.turn.deed there h.passes in
+      let never = never_less turns h.before in
+      omega (arith, more, never)
+
+  -- ---- the send
+
+  module _ (id : ℤ) (turns more rest : List Turn) (who : Who) (deed : Deed)
+      (whole : w.turns ≡ (turns ++ more) ++ turn_of who deed ∷ rest) (change : IsChange id deed) where
+    -- The change is still to be told, or a chain came back after it.
+    change_told : HasChangeToTell w id ⊎ (released (pool_history turns) + 1 ≤ released (pool_history w.turns))
+    change_told =
+        let t = turn_of who deed in
+        let by = change_owner w.calls who id deed
+        (all_at (IsMadeOrRead w.calls) (turns ++ more) t rest
+        (subst (All (IsMadeOrRead w.calls)) whole lawful.made)) change in
+        let call = by.0 in
+        let name = i.before call by.1 in
+        let same : is_same call.who who ≡ true =
+        ap (is_same call.who) by.2 ∙ same_itself name.0 name.1 call.who name.2 in
+        let front = deeds_of call.who (turns ++ more) in
+        let back = deeds_of call.who rest in
+        let deeds_are : deeds_of call.who w.turns ≡ front ++ deed ∷ back =
+        ap (deeds_of call.who) whole ∙ deeds_around call.who (turns ++ more) t rest same in
+        let asks_all : AllAskFor call.cred call.asked (deeds_of call.who w.turns) =
+        All-contains (AsksAsItWasAsked w) w.calls call lawful.asked by.1 in
+        let asks_it = all_at (λ (d : Deed). AsksFor call.cred call.asked (asked_by d)) front deed back
+        (subst (All (λ (d : Deed). AsksFor call.cred call.asked (asked_by d))) deeds_are asks_all) in
+        let c = changing id call.cred call.asked deed change asks_it in
+        let fate : Fate w given call = i.fates call by.1 in
+        elim (tells call.cred call.asked call.released deed c.leads (deeds_of call.who w.turns) fate.state fate.plays
+        front back deeds_are) [
+          | inl telling ↦
+              let at = in_call call by.1 fate.state
+              (fate.stands ∙ telling_goes call.asked fate.state telling) in
+              inl record {
+                place = at.place;
+                doing = at.doing;
+                there = at.there;
+                gives = subst (λ (x : Started). HasToGiveBack x.asked at.doing.state id) at.call_is
+                    (subst (λ s. HasToGiveBack call.asked s id) at.state_is
+                    (gives_it id call.asked fate.state c.changes telling));
+              }
+          | inr told ↦
+              let after : w.turns ≡ ((turns ++ more) ++ t ∷ []) ++ rest =
+              whole ∙ sym (append_assoc (turns ++ more) (t ∷ []) rest) in
+              let back_again = came_back ((turns ++ more) ++ t ∷ []) rest call.who after told in
+              let never = never_less turns (more ++ t ∷ []) in
+              let named : turns ++ (more ++ t ∷ []) ≡ (turns ++ more) ++ t ∷ [] =
+              sym (append_assoc turns more (t ∷ [])) in
+              let low : released (pool_history turns) ≤ released (pool_history ((turns ++ more) ++ t ∷ [])) =
+              subst (λ ts. released (pool_history turns) ≤ released (pool_history ts)) named never in
+              inr (omega (arith, back_again, low))
+        ]
+
+  woken_so : (goal : ℕ) (send : Sending) (before rest : List Turn) → w.turns ≡ before ++ rest →
+      HasId (live (slot_history (slot_of_id send.id) before)) send.id
+      × MayWrite send.cred (live (slot_history (slot_of_id send.id) before)) →
+      released (pool_history w.turns) ≤ released (pool_history before) → IsToBeWoken w send.id send.cred
+  woken_so goal send before rest own opens low =
+      elim (open_still send.id send.cred w i.sound.legal before rest own opens) [
+        | inl still ↦ inl record { lives = still.0; may_write = still.1 }
+        | inr c ↦
+            elim (change_told send.id before c.more c.rest c.who c.deed c.whole c.change) [
+              | inl telling ↦ inr telling
+              | inr back ↦ absurd (omega (arith, back, low))
+            ]
+      ]
+
+  pub told_so : (call : Started) (goal : ℕ) (send : Sending) →
+      Plays (begun call) (deeds_of call.who w.turns) (Waits (OnReleased goal send)) →
+      WaitsFor (OnReleased goal send) (deeds_of call.who w.turns) → released (pool_history w.turns) < goal →
+      HadReleasedAtSlot w call.who send.released →
+      HasTooFewBlocks w (length send.text) × IsToBeWoken w send.id send.cred
+  told_so call goal send play (is, (front, ends)) below had =
+      let size = length send.text in
+      let slot = slot_of_id send.id in
+      let look = Look send.id send.cred size in
+      let reserve = AtPool (Reserve size) TooFew in
+      let before_it =
+      before_reserve (begun call) goal size send (deeds_of call.who w.turns) (Waits (OnReleased goal send))
+      play refl front ends in
+      let first_look =
+      after_look call.cred call.asked call.released send front (Goes (AtReserve send)) before_it refl in
+      let deeds_are : deeds_of call.who w.turns ≡ first_look.0 ++ look_of send ∷ reserve ∷ [] =
+      ends
+      ∙ (ap (λ ds. ds ++ reserve ∷ []) first_look.1 ∙ append_assoc first_look.0 (look_of send ∷ []) (reserve ∷ [])) in
+      let m = made_at call.who w.turns first_look.0 (look_of send) (reserve ∷ []) deeds_are in
+      let t = turn_of call.who (look_of send) in
+      let own : w.turns ≡ m.before ++ t ∷ m.after =
+      m.whole ∙ ap (λ by. m.before ++ turn_of by (look_of send) ∷ m.after) (sym (same_who call.who m.by m.own)) in
+      let read = had m.before m.after slot look Fits own (ap (list_any is_at_slot) m.later_is) in
+      let e : Entry = record { who = call.who; call = look; reply = Fits } in
+      let was = i.sound.legal.slots slot (slot_history slot m.before) e (slot_history slot m.after)
+      (ap (slot_history slot) own ∙ slot_around slot m.before m.after call.who look Fits) in
+      let later_reserve = made_at call.who m.after [] reserve [] m.later_is in
+      let r = turn_of call.who reserve in
+      let since = t ∷ later_reserve.before in
+      let again : w.turns ≡ (m.before ++ since) ++ r ∷ later_reserve.after =
+      own
+      ∙ (ap (λ ts. m.before ++ t ∷ ts) (later_reserve.whole
+      ∙ ap (λ by. later_reserve.before ++ turn_of by reserve ∷ later_reserve.after)
+      (sym (same_who call.who later_reserve.by later_reserve.own)))
+      ∙ sym (append_assoc m.before since (r ∷ later_reserve.after))) in
+      let never = never_less m.before since in
+      let short =
+      short_at w.generation w.blocks w.turns i.sound.legal (m.before ++ since) later_reserve.after call.who size
+      again (omega (arith, below, is, read, never)) in
+      (short, woken_so goal send m.before (t ∷ m.after) own (was.0, was.1) (omega (arith, below, is, read)))
