@@ -16,8 +16,8 @@ use Rattle.sysv_steps.specs.Begin.{begin}
 use Rattle.sysv_steps.specs.Resume.{Released}
 use Rattle.sysv_wire.specs.declared.frame.Version.{Version}
 use Rattle.sysv_wire.specs.declared.request.Ask.{Ask}
-use Rattle.sysv_server.specs.Requests as requests
-use Rattle.sysv_server.specs.Requests.{Going}
+use Rattle.sysv_seats.specs.Requests as requests
+use Rattle.sysv_seats.specs.Requests.{Going}
 
 -- The call led from the one pass to the other.
 abbrev pub ComesFrom : Going Pass

@@ -1,12 +1,12 @@
 -- Reads and writes that never wait (this project's profile).
 use Rattle.std.specs.Prelude.{◌≡◌, ◌≤◌, ℕ, ⊤, List, Option, length, take}
 use Rattle.std.specs.Io.KnownBytes.{Appends, Consumes, IsAtEnd, Keeps}
-use Rattle.sysv_server.specs.declared.non_blocking.Drained.{Drained}
-use Rattle.sysv_server.specs.declared.non_blocking.Drained.TheVariants as drained
-use Rattle.sysv_server.specs.declared.non_blocking.Filled.{Filled}
-use Rattle.sysv_server.specs.declared.non_blocking.Filled.TheVariants as filled
-use Rattle.sysv_server.specs.declared.non_blocking.Over.{Over}
-use Rattle.sysv_server.specs.declared.non_blocking.Over.TheVariants as over
+use Rattle.sysv_seats.specs.declared.non_blocking.Drained.{Drained}
+use Rattle.sysv_seats.specs.declared.non_blocking.Drained.TheVariants as drained
+use Rattle.sysv_seats.specs.declared.non_blocking.Filled.{Filled}
+use Rattle.sysv_seats.specs.declared.non_blocking.Filled.TheVariants as filled
+use Rattle.sysv_seats.specs.declared.non_blocking.Over.{Over}
+use Rattle.sysv_seats.specs.declared.non_blocking.Over.TheVariants as over
 
 -- The bytes have a prefix of this length.
 abbrev pub IsPrefixLength : ℕ → List ℕ → Type 0

@@ -2,7 +2,7 @@
 use Rattle.std.specs.Prelude.{◌≡◌}
 use Rattle.sysv_steps.specs.declared.clock.Clock.{Ghosts as ClockGhosts}
 use Rattle.sysv_service.specs.declared.caller.Caller.{Ghosts as CallerGhosts}
-use Rattle.sysv_server.specs.declared.kernel.ServiceKernel.{ServiceKernel}
+use Rattle.sysv_seats.specs.declared.kernel.ServiceKernel.{ServiceKernel}
 
 -- The kernel has the same service, clock and caller as before.
 abbrev pub KeepsHandles : {C R K : Type 0} {clock : ClockGhosts C} {caller : CallerGhosts K} →

@@ -72,7 +72,7 @@ impl SocketStream {
 
 impl NonBlocking for SocketStream {
     ghost use Rattle.std.specs.Prelude.{◌≡◌, true};
-    ghost use Rattle.sysv_server.specs.Talks.{leaves_nothing, untold};
+    ghost use Rattle.sysv_seats.specs.Untold.{leaves_nothing, untold};
 
     type Book = ();
 

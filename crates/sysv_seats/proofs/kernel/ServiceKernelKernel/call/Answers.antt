@@ -1,7 +1,7 @@
 -- Each request is carried out by the call of its kind.
 use Rattle.std.proofs.Common.{rules, FitsSigned, w32, w64}
 use Rattle.std.proofs.lemmas.Int.{to_z-of_z}
-use Rattle.sysv_server.proofs.kernel.ServiceKernelKernel.call.Goals as goal
+use Rattle.sysv_seats.proofs.kernel.ServiceKernelKernel.call.Goals as goal
 
 pub returns-in-Get-clause-meaning : goal.returns-in-Get-clause-meaning
 returns-in-Get-clause-meaning g c =

@@ -1,8 +1,8 @@
 //! Connections in memory that never wait, and whose reads and writes go by a list of steps.
 ghost use Rattle.std.specs.Prelude.{◌≡◌, [], IfSome, length};
-ghost use Rattle.sysv_server.specs.PacedStreams.{DrainsAt, FillsAs, later_steps, limit_of, next_step, over_of};
+ghost use Rattle.sysv_seats.specs.PacedStreams.{DrainsAt, FillsAs, later_steps, limit_of, next_step, over_of};
 
-use crate::memory::Replies;
+use crate::book::Replies;
 use crate::non_blocking::{Drained, Filled, NonBlocking, Over};
 use std::alloc::Global;
 use std::marker::Model;
@@ -33,7 +33,7 @@ pub struct MemoryStream<'a> {
 
 impl<'a> Model for MemoryStream<'a> {
     ghost use Rattle.std.specs.Prelude.{◌+◌, ◌≤◌, vec_capacity, vec_len};
-    ghost use Rattle.sysv_server.specs.PacedStreams.{PacedStream};
+    ghost use Rattle.sysv_seats.specs.PacedStreams.{PacedStream};
 
     ghost Value = { PacedStream };
 
@@ -102,9 +102,9 @@ impl<'a> MemoryStream<'a> {
 
 impl<'a> NonBlocking for MemoryStream<'a> {
     ghost use Rattle.std.specs.Prelude.{◌≡◌, Some};
-    ghost use Rattle.sysv_server.specs.Memory.{Keeps};
-    ghost use Rattle.sysv_server.specs.PacedStreams.{DrainsAt, FailsAt, FillsAs, next_step, over_of};
-    ghost use Rattle.sysv_server.specs.NonBlocking.{DrainAppends, FillConsumes};
+    ghost use Rattle.sysv_seats.specs.Memory.{Keeps};
+    ghost use Rattle.sysv_seats.specs.PacedStreams.{DrainsAt, FailsAt, FillsAs, next_step, over_of};
+    ghost use Rattle.sysv_seats.specs.NonBlocking.{DrainAppends, FillConsumes};
 
     type Book = Replies;
 

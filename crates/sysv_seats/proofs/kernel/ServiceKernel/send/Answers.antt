@@ -1,7 +1,7 @@
 -- A call that was left has no reply.
 use Rattle.std.proofs.Common.{inr, refl}
 use Rattle.std.proofs.lemmas.Int.{to_z-of_z}
-use Rattle.sysv_server.proofs.kernel.ServiceKernel.send.Goals as goal
+use Rattle.sysv_seats.proofs.kernel.ServiceKernel.send.Goals as goal
 
 pub returns-in_default-clause-sends : goal.returns-in_default-clause-sends
 returns-in_default-clause-sends g c =

@@ -1,6 +1,6 @@
 -- What is kept of connections in memory (this project's profile).
 use Rattle.std.specs.Prelude.{◌≡◌, ◌<◌, ◌≤◌, ℕ, List, [], ◌∷◌, ◌++◌, map, Option, None, Some, vec_len, vec_capacity}
-use Rattle.sysv_server.specs.declared.memory.Replies.{Replies}
+use Rattle.sysv_seats.specs.declared.book.Replies.{Replies}
 
 -- The replies of the closed connections, connection by connection, in the order in which they were
 -- closed.

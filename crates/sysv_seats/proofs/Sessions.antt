@@ -5,7 +5,7 @@ use Rattle.sysv_session.specs.declared.served.Served.{Served}
 use Rattle.sysv_session.specs.Calls.{Call, Leads, Meaning}
 use Rattle.sysv_session.specs.Session.{Serves}
 use Rattle.sysv_service.specs.Ran.{Pass}
-use Rattle.sysv_server.specs.Asked.{asks_with}
+use Rattle.sysv_seats.specs.Asked.{asks_with}
 
 module _ {K S C L : Type 0} (service : K → S) (clock : K → C) (pass : K → Pass) (caller : K → L) (may : C → ℕ → Type 0)
     (may_leave : L → Type 0) where

@@ -2,9 +2,9 @@
 use Rattle.std.proofs.Common.{Bor}
 use Rattle.sysv_keys.specs.declared.identifier.TheConstants.{SLOTS}
 use Rattle.sysv_model.specs.Watched.{stream_of}
-use Rattle.sysv_server.specs.declared.kernel.ServiceKernel.{ServiceKernel}
-use Rattle.sysv_server.proofs.Sessions.{serves}
-use Rattle.sysv_server.proofs.kernel.ServiceKernel.serve_watched.Goals as goal
+use Rattle.sysv_seats.specs.declared.kernel.ServiceKernel.{ServiceKernel}
+use Rattle.sysv_seats.proofs.Sessions.{serves}
+use Rattle.sysv_seats.proofs.kernel.ServiceKernel.serve_watched.Goals as goal
 
 pub returns : goal.returns
 returns g c =

@@ -1,13 +1,13 @@
 //! Connections that never wait.
 ghost use Rattle.std.specs.Prelude.{◌≡◌, ℕ, List, Option, Some, IfSome};
-ghost use Rattle.sysv_server.specs.NonBlocking.{DrainAppends, FillConsumes};
+ghost use Rattle.sysv_seats.specs.NonBlocking.{DrainAppends, FillConsumes};
 
 /// A connection whose reads and writes return at once.
 ///
 /// An event loop reads from it and writes to it when the system reports that it is ready, and
 /// closes it once.
 pub trait NonBlocking {
-    ghost use Rattle.sysv_server.specs.declared.non_blocking.Over.{Over};
+    ghost use Rattle.sysv_seats.specs.declared.non_blocking.Over.{Over};
 
     /// What is kept of the connections that were closed.
     type Book;

@@ -1,14 +1,14 @@
 -- Streams in memory, and the steps that pace them (this project's profile).
 use Rattle.std.specs.Prelude.{◌≡◌, ◌-◌, ◌^◌, ◌==◌, ◌&&◌, ◌++◌, ℕ, ⊤, not, List, [], ◌∷◌, length, min, take, drop}
 use Rattle.std.specs.Prelude.{Option, None, Some, if◌then◌else◌}
-use Rattle.sysv_server.specs.declared.memory_stream.Step.{Step}
-use Rattle.sysv_server.specs.declared.memory_stream.Step.TheVariants as step
-use Rattle.sysv_server.specs.declared.non_blocking.Drained.{Drained}
-use Rattle.sysv_server.specs.declared.non_blocking.Drained.TheVariants as drained
-use Rattle.sysv_server.specs.declared.non_blocking.Filled.{Filled}
-use Rattle.sysv_server.specs.declared.non_blocking.Filled.TheVariants as filled
-use Rattle.sysv_server.specs.declared.non_blocking.Over.{Over}
-use Rattle.sysv_server.specs.declared.non_blocking.Over.TheVariants as over
+use Rattle.sysv_seats.specs.declared.memory_stream.Step.{Step}
+use Rattle.sysv_seats.specs.declared.memory_stream.Step.TheVariants as step
+use Rattle.sysv_seats.specs.declared.non_blocking.Drained.{Drained}
+use Rattle.sysv_seats.specs.declared.non_blocking.Drained.TheVariants as drained
+use Rattle.sysv_seats.specs.declared.non_blocking.Filled.{Filled}
+use Rattle.sysv_seats.specs.declared.non_blocking.Filled.TheVariants as filled
+use Rattle.sysv_seats.specs.declared.non_blocking.Over.{Over}
+use Rattle.sysv_seats.specs.declared.non_blocking.Over.TheVariants as over
 
 -- What the contracts see of a stream in memory: the bytes still to be read, those that were
 -- written, the number of bytes that can still be written, and the steps of its next reads and

@@ -20,7 +20,7 @@ use Rattle.sysv_wire.specs.declared.frame.Version.{Version}
 use Rattle.sysv_wire.specs.declared.reply.ReplyContent.TheVariants as content
 use Rattle.sysv_wire.specs.declared.request.Ask.{Ask}
 use Rattle.sysv_wire.specs.declared.request.Ask.TheVariants.{Hello, Get, Snd, Rcv, Stat, Set, Rm, Row}
-use Rattle.sysv_server.specs.Replies.{id_reply, done_reply, given_reply, stat_reply, row_reply}
+use Rattle.sysv_seats.specs.Replies.{id_reply, done_reply, given_reply, stat_reply, row_reply}
 
 -- How a call goes: the times that its steps may have, the caller's credentials, the call, the
 -- released count that it starts with, the kernel before, the state that the call reached, and the

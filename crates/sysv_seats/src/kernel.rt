@@ -6,8 +6,8 @@ ghost use Rattle.sysv_service.specs.Seats.{AreOf};
 ghost use Rattle.sysv_session.specs.Answers.{MayAnswer};
 ghost use Rattle.sysv_session.specs.Course.{Course, Follows, Takes};
 ghost use Rattle.sysv_session.specs.Failing.{is_failed_read, is_failed_write};
-ghost use Rattle.sysv_server.specs.Asked.{Gets, Sends, Receives, Stats, Sets, Removes, ServesPass, Shows};
-ghost use Rattle.sysv_server.specs.Replies.{reply as the_reply, shown_stat as stat_shown, shown_row as row_shown};
+ghost use Rattle.sysv_seats.specs.Asked.{Gets, Sends, Receives, Stats, Sets, Removes, ServesPass, Shows};
+ghost use Rattle.sysv_seats.specs.Replies.{reply as the_reply, shown_stat as stat_shown, shown_row as row_shown};
 
 use std::alloc::Global;
 use std::io::{Read, Write};
@@ -50,7 +50,7 @@ impl<'a, C: Clock, R: Wait> ServiceKernel<'a, C, R, Stays> {
 }
 
 impl<'a, C: Clock, R: Wait, K: Caller + Copy> ServiceKernel<'a, C, R, K> {
-    ghost use Rattle.sysv_server.specs.KernelHandles.{KeepsHandles};
+    ghost use Rattle.sysv_seats.specs.KernelHandles.{KeepsHandles};
 
     /// Creates a kernel that calls `service` with `pass`, for a caller that may leave.
     ///
@@ -294,8 +294,8 @@ impl<'a, C: Clock, R: Wait, K: Caller + Copy> ServiceKernel<'a, C, R, K> {
 
 impl<C: Clock, R: Wait, K: Caller + Copy> Kernel for ServiceKernel<'_, C, R, K> {
     ghost use Rattle.sysv_keys.specs.declared.identifier.TheConstants.{SLOTS};
-    ghost use Rattle.sysv_server.specs.Asked.{Asks};
-    ghost use Rattle.sysv_server.specs.KernelHandles.{KeepsHandles};
+    ghost use Rattle.sysv_seats.specs.Asked.{Asks};
+    ghost use Rattle.sysv_seats.specs.KernelHandles.{KeepsHandles};
 
     ghost meaning = { λ old cred request text outcome given new. KeepsHandles old new
         × Asks (C.may old.clock.now) (K.may_leave old.caller) request.version cred request.ask text
