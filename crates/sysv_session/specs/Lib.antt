@@ -11,3 +11,5 @@ pub mod Failing
 pub mod Outbox
 pub mod Gathered
 pub mod TakenUp
+pub mod UnderWay
+pub mod Together
