@@ -7,3 +7,4 @@ pub mod OutboxLemmas
 pub mod GatheredLemmas
 pub mod UnderWayLemmas
 pub mod TogetherLemmas
+pub mod GoesOn

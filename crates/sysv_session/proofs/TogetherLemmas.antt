@@ -4,6 +4,7 @@ use Rattle.std.proofs.Common.{cond, refl, sym, ap, ap₂, subst, ◌∙◌, arit
 use Rattle.std.proofs.lemmas.Bool.Decides.{nat_tests}
 use Rattle.std.proofs.lemmas.List.{map-append, take_at}
 use Rattle.std.proofs.lemmas.List.Sums.{sum_by-cons}
+use Rattle.std.proofs.KnownBytes.{Appends-nil}
 use Rattle.std.specs.Io.KnownBytes.{Appends}
 use Rattle.std.specs.List.{concat}
 use Rattle.sysv_queue.specs.Delivery.{Given}
@@ -17,11 +18,13 @@ use Rattle.sysv_session.specs.Calls.{Call, Meaning, messages_of}
 use Rattle.sysv_session.specs.Gathered.{Gathered, all_bytes, marks_at, marks_from, messages_among, messages_within}
 use Rattle.sysv_session.specs.Outbox.{within}
 use Rattle.sysv_session.specs.Output.{AreReplied, BreaksOff, frames_of, hello_frame}
-use Rattle.sysv_session.specs.Session.{Talks}
+use Rattle.sysv_session.specs.Session.{IsBounded, Talks}
 use Rattle.sysv_session.specs.Together.{AreTogether, FailsEarly, IsStoppedWithin, Replied, StopsAfter, TalksTogether}
 use Rattle.sysv_session.specs.UnderWay.{greeting, replies_to, reply_for, reply_to}
 use Rattle.sysv_session.proofs.GatheredLemmas.{all_more, breaks_off, breaks_off_far, marks_more, within-append}
 use Rattle.sysv_session.proofs.ListLemmas.{all_but_last, concat_more, frames_more}
+use Rattle.sysv_wire.specs.declared.fault.Fault.{Fault as WireFault}
+use Rattle.sysv_wire.specs.declared.fault.Fault.TheVariants.{Truncated, TooLong, BadOp, BadField, Read}
 use Rattle.sysv_wire.specs.declared.frame.Version.{Version}
 use Rattle.sysv_wire.specs.declared.reply.Reply.{Reply as Answer}
 use Rattle.sysv_wire.specs.Frames.{frame}
@@ -215,6 +218,14 @@ last_replied : (done : List Call) (last : Call) → AreReplied (done ++ last ∷
 last_replied [] last all = all.0
 last_replied (first ∷ done) last all = last_replied done last all.1
 
+pub fault_within : (fault : WireFault) (requests : ℕ) → IsBounded (Fault fault) requests →
+    IsStoppedWithin (Fault fault) requests
+fault_within Truncated requests few = few
+fault_within TooLong requests few = few
+fault_within BadOp requests few = few
+fault_within BadField requests few = few
+fault_within Read requests few = tt
+
 module _ {K : Type 0} where
   -- All was sent: the replies to the hello and to these calls.
   whole : (Means : Meaning K) (slots : ℕ) (why : End) (tally : Tallied) (requests : ℕ) (old new : K)
@@ -367,19 +378,34 @@ module _ {K : Type 0} where
       (talks.tallies.1 ∙ ap (λ (l : List Call). messages_of (take (length l - 1) l)) is
       ∙ ap messages_of (all_but_last done last))
 
-  pub together : (Means : Meaning K) → AreTogether Means
-  together Means slots Ended tally requests old new left rest taken more talks early =
+  talks_together : (Means : Meaning K) (slots : ℕ) (why : End) (tally : Tallied) (requests : ℕ) (old new : K)
+      (left rest taken more : Option (List ℕ))
+      (talks : Talks Means slots why tally requests old new left rest taken more)
+      → FailsEarly why (hello_frame talks.version slots ∷ frames_of talks.calls) taken more
+      → TalksTogether Means slots why tally requests old new left rest taken more
+  talks_together Means slots Ended tally requests old new left rest taken more talks early =
       whole Means slots Ended tally requests old new left rest taken more talks talks.calls talks.ends talks.bounded
       (talks.replies, refl) talks.writes talks.tallies.1
-  together Means slots NoMemory tally requests old new left rest taken more talks early = absurd talks.ends
-  together Means slots NoHello tally requests old new left rest taken more talks early = absurd talks.ends
-  together Means slots (Fault fault) tally requests old new left rest taken more talks early =
+  talks_together Means slots NoMemory tally requests old new left rest taken more talks early = absurd talks.ends
+  talks_together Means slots NoHello tally requests old new left rest taken more talks early = absurd talks.ends
+  talks_together Means slots (Fault fault) tally requests old new left rest taken more talks early =
       whole Means slots (Fault fault) tally requests old new left rest taken more talks talks.calls talks.ends
-      talks.bounded (talks.replies, refl) talks.writes talks.tallies.1
-  together Means slots Write tally requests old new left rest taken more talks early =
+      (fault_within fault requests talks.bounded) (talks.replies, refl) talks.writes talks.tallies.1
+  talks_together Means slots Write tally requests old new left rest taken more talks early =
       fails Means slots tally requests old new left rest taken more talks early (last_of talks.calls)
-  together Means slots Bound tally requests old new left rest taken more talks early =
+  talks_together Means slots Bound tally requests old new left rest taken more talks early =
       whole Means slots Bound tally requests old new left rest taken more talks talks.calls talks.ends talks.bounded
       (talks.replies, refl) talks.writes talks.tallies.1
-  together Means slots Left tally requests old new left rest taken more talks early =
+  talks_together Means slots Left tally requests old new left rest taken more talks early =
       leaves Means slots tally requests old new left rest taken more talks
+
+  pub together : (Means : Meaning K) → AreTogether Means
+  together Means slots served old new left rest taken more (inl stays) early = inl (record {
+    kernel = stays.kernel;
+    ends = stays.ends;
+    writes = subst (λ (m : Option (List ℕ)). Appends taken m []) (sym stays.writes) (Appends-nil taken);
+    tallies = stays.tallies;
+    counts = stays.counts;
+  })
+  together Means slots served old new left rest taken more (inr talks) early =
+      inr (talks_together Means slots served.«end» served.tally served.requests old new left rest taken more talks early)

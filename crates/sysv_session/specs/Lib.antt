@@ -14,3 +14,4 @@ pub mod TakenUp
 pub mod Conversation
 pub mod UnderWay
 pub mod Together
+pub mod Stands

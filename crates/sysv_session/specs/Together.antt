@@ -2,6 +2,7 @@
 -- takes their bytes as it will, so it may have a prefix of them when the session ends. A session of
 -- which the writer took one reply after another is one of these.
 use Rattle.std.specs.Prelude.{◌≡◌, ◌≢◌, ◌+◌, ◌⊎◌, ⊤, ℕ, List, [], ◌∷◌, ◌++◌, Option, Some, length}
+use Rattle.std.proofs.Common.{inl, inr}
 use Rattle.std.specs.List.{AllByRecursion, concat}
 use Rattle.std.specs.Io.KnownBytes.{Appends, Consumes}
 use Rattle.sysv_lists.specs.Prefix.{IsPrefixOf}
@@ -13,10 +14,11 @@ use Rattle.sysv_session.specs.declared.served.End.TheVariants.{Ended, NoMemory, 
 use Rattle.sysv_session.specs.declared.served.Served.{Served}
 use Rattle.sysv_session.specs.Calls.{Call, IsCall, Leads, Meaning, messages_of}
 use Rattle.sysv_session.specs.Gathered.{Gathered, all_bytes, messages_within}
-use Rattle.sysv_session.specs.Input.{EndsAfter, asked_spelling, hello_of, hello_spelling}
+use Rattle.sysv_session.specs.Input.{EndsAfter, EndsBefore, asked_spelling, hello_of, hello_spelling}
 use Rattle.sysv_session.specs.Output.{AreReplied, frames_of, hello_frame}
-use Rattle.sysv_session.specs.Session.{IsBounded, Stays, Talks}
+use Rattle.sysv_session.specs.Session.{IsBounded, Serves}
 use Rattle.sysv_session.specs.UnderWay.{replies_to}
+use Rattle.sysv_wire.specs.declared.fault.Fault.TheVariants.{Truncated, TooLong, BadOp, BadField, Read}
 use Rattle.sysv_wire.specs.declared.frame.Version.{Version}
 use Rattle.sysv_wire.specs.Requests.{FitsRequest}
 
@@ -32,12 +34,16 @@ StopsAfter version Bound old new = EndsAfter version Bound old new
 StopsAfter version Left old new = EndsAfter version Left old new
 
 -- A session that stops at its bound has taken up the maximum number of requests. One that stops
--- because of what it reads has taken up fewer.
+-- because of the input's end or a request that is refused has taken up fewer.
 abbrev pub IsStoppedWithin : End → ℕ → Type 0
 IsStoppedWithin Ended requests = IsBounded Ended requests
 IsStoppedWithin NoMemory requests = ⊤
 IsStoppedWithin NoHello requests = IsBounded NoHello requests
-IsStoppedWithin (Fault fault) requests = IsBounded (Fault fault) requests
+IsStoppedWithin (Fault Truncated) requests = IsBounded (Fault Truncated) requests
+IsStoppedWithin (Fault TooLong) requests = IsBounded (Fault TooLong) requests
+IsStoppedWithin (Fault BadOp) requests = IsBounded (Fault BadOp) requests
+IsStoppedWithin (Fault BadField) requests = IsBounded (Fault BadField) requests
+IsStoppedWithin (Fault Read) requests = ⊤
 IsStoppedWithin Write requests = ⊤
 IsStoppedWithin Bound requests = IsBounded Bound requests
 IsStoppedWithin Left requests = ⊤
@@ -81,6 +87,16 @@ FailsEarly why frames taken more =
     why ≡ Write → (before : List ℕ) → taken ≡ Some before → more ≢ Some (before ++ concat frames)
 
 module _ {K : Type 0} where
+  -- A session without a hello makes no call, and the connection has taken no bytes. Its end may be that
+  -- memory was refused.
+  pub record StaysTogether (why : End) (tally : Tallied) (requests : ℕ) (old new : K)
+      (left rest taken more : Option (List ℕ)) : Type 0 where
+    pub kernel : new ≡ old
+    pub ends : EndsBefore why left rest
+    pub writes : Appends taken more []
+    pub tallies : tally ≡ record { written = 0; lost = 0 }
+    pub counts : requests ≡ 0
+
   -- A session with a hello. Its calls of the kernel are one for each request of the hello's version
   -- that was taken up after the hello. The connection has taken a prefix of the frames of the
   -- replies, and all of them unless the end is `Write`. The messages whose frames lie wholly in this
@@ -108,19 +124,24 @@ module _ {K : Type 0} where
     pub written : tally.written ≡ messages_within (length sent) replies
     pub counts : requests ≡ 1 + length calls
 
-  -- A session without a hello makes no call and writes nothing. Its end may be that memory was
-  -- refused. Any other session has a hello.
+  -- A session is without a hello or with one.
   abbrev pub ServesTogether : Meaning K → ℕ → Served → (old new : K) → (left rest taken more : Option (List ℕ)) →
       Type 0
   ServesTogether Means slots served old new left rest taken more =
-      Stays served.«end» served.tally served.requests old new left rest taken more
+      StaysTogether served.«end» served.tally served.requests old new left rest taken more
       ⊎ TalksTogether Means slots served.«end» served.tally served.requests old new left rest taken more
+
+  -- A writer that failed had not taken all the frames of this session.
+  abbrev pub FailsWithin : (Means : Meaning K) (slots : ℕ) (served : Served) (old new : K)
+      (left rest taken more : Option (List ℕ)) → Serves Means slots served old new left rest taken more → Type 0
+  FailsWithin Means slots served old new left rest taken more (inl stays) = ⊤
+  FailsWithin Means slots served old new left rest taken more (inr talks) =
+      FailsEarly served.«end» (hello_frame talks.version slots ∷ frames_of talks.calls) taken more
 
   -- A session whose writer took one reply after another is one of these, if a writer that failed had
   -- not taken all of them.
   abbrev pub AreTogether : Meaning K → Type 0
-  AreTogether Means = (slots : ℕ) (why : End) (tally : Tallied) (requests : ℕ) (old new : K)
-      (left rest taken more : Option (List ℕ))
-      → (talks : Talks Means slots why tally requests old new left rest taken more)
-      → FailsEarly why (hello_frame talks.version slots ∷ frames_of talks.calls) taken more
-      → TalksTogether Means slots why tally requests old new left rest taken more
+  AreTogether Means = (slots : ℕ) (served : Served) (old new : K) (left rest taken more : Option (List ℕ))
+      (serves : Serves Means slots served old new left rest taken more)
+      → FailsWithin Means slots served old new left rest taken more serves
+      → ServesTogether Means slots served old new left rest taken more

@@ -1,12 +1,13 @@
 -- What a session under way has done so far, when its replies are gathered (this project's profile).
 -- Either it has taken up nothing, or it has taken up its hello and then calls, each of which has its
 -- reply, in order. A request for the kernel may have been taken up whose outcome is not there yet.
-use Rattle.std.specs.Prelude.{◌≡◌, ◌+◌, ◌⊎◌, ℕ, List, [], ◌∷◌, ◌++◌, Option, None, Some, length, map}
+use Rattle.std.specs.Prelude.{◌≡◌, ◌≤◌, ◌+◌, ◌⊎◌, ℕ, List, [], ◌∷◌, ◌++◌, Option, None, Some, length, map}
 use Rattle.std.specs.List.{AllByRecursion}
 use Rattle.std.specs.Io.KnownBytes.{Consumes}
 use Rattle.sysv_model.specs.declared.cred.Cred.{Cred}
 use Rattle.sysv_session.specs.declared.kernel.RequestOutcome.{RequestOutcome}
 use Rattle.sysv_session.specs.declared.kernel.RequestOutcome.TheVariants.{Reply, Got, Left}
+use Rattle.sysv_session.specs.declared.served.TheConstants.{SESSION_REQUESTS}
 use Rattle.sysv_session.specs.declared.session.Session.{Session}
 use Rattle.sysv_session.specs.Answers.{IsAskedIn}
 use Rattle.sysv_session.specs.Calls.{Call, IsCall, Leads, Meaning}
@@ -60,6 +61,7 @@ module _ {K : Type 0} where
     pub replied : AreReplied calls
     pub caller : session.caller ≡ Some (version, cred)
     pub counts : session.requests ≡ 1 + length calls
+    pub bounded : session.requests ≤ SESSION_REQUESTS
     pub gathered : replies ≡ replies_to version slots calls
 
   -- A session under way. Of the input that was there at its start, `unread` is what it has not taken
@@ -96,4 +98,5 @@ module _ {K : Type 0} where
     pub replied : AreReplied calls
     pub caller : session.caller ≡ Some (version, cred)
     pub counts : session.requests ≡ 2 + length calls
+    pub bounded : session.requests ≤ SESSION_REQUESTS
     pub gathered : replies ≡ replies_to version slots calls

@@ -1,3 +1,4 @@
+use Rattle.sysv_session.proofs.GoesOn.{opens, takes_hello, greets, greet_ends}
 use Rattle.sysv_session.proofs.TogetherLemmas.{together}
 use Rattle.sysv_session.proofs.laws.sessions_together.Goals as goal
 
