@@ -96,6 +96,18 @@ all_reply Write version slots calls left rest text replies takes all = absurd ta
 all_reply Bound version slots calls left rest text replies takes all = absurd takes
 all_reply Left version slots calls left rest text replies takes all = absurd takes
 
+append_empty : (xs ys : List ℕ) → xs ++ ys ≡ [] → xs ≡ []
+append_empty [] ys none = refl
+append_empty (x ∷ xs) ys none = absurd (omega (arith, ap (length {A = ℕ}) none))
+
+-- What is reported, by what was sent.
+reports_of : (why : End) (bytes taken all : List ℕ) → all ≡ taken ++ bytes → Reports (reported why bytes) why taken all
+reports_of why [] taken all is = inl (refl, sym (is ∙ append-nil taken))
+reports_of why (byte ∷ more) taken all is = inr (
+  refl,
+  λ same. absurd (omega (arith, ap (length {A = ℕ}) (same ∙ is), length-append taken (byte ∷ more))),
+)
+
 module _ {K : Type 0} (Means : Meaning K) (slots : ℕ) where
   -- A new conversation stands.
   pub opens : (talk : Talk) (k : K) (left : Option (List ℕ)) → talk.session.caller ≡ None →
@@ -511,3 +523,214 @@ module _ {K : Type 0} (Means : Meaning K) (slots : ℕ) where
       Stopped Means slots Write talk old now left unread taken
   stops_write talk old now left unread taken some stands =
       stops_waiting talk old now left unread taken some stands stands.under_way
+
+  -- The connection takes n bytes more.
+  gathers_sent : (lost : ℕ) (replies : List Gathered) (taken : List ℕ) (n : ℕ) (talk talk' : Talk) →
+      n ≤ length talk.unsent.bytes → talk' ≡ sent_on n talk →
+      Gathers (only_lost lost) replies taken talk.unsent talk.session.tally →
+      Gathers (only_lost lost) replies (taken ++ take n talk.unsent.bytes) talk'.unsent talk'.session.tally
+  gathers_sent lost replies taken n talk talk' fits is old =
+      regathered (only_lost lost) replies (taken ++ take n talk.unsent.bytes) _ talk'.unsent _ talk'.session.tally
+      (ap (λ (t : Talk). t.unsent) is) (ap (λ (t : Talk). t.session.tally) is)
+      (gathers_on (only_lost lost) replies taken talk.unsent talk.session.tally n fits old)
+
+  -- What is under way does not depend on the tally.
+  same_way : (talk talk' : Talk) (old now : K) (left unread : Option (List ℕ)) (replies : List Gathered) →
+      talk'.session.caller ≡ talk.session.caller → talk'.session.requests ≡ talk.session.requests →
+      UnderWay Means slots talk.session old now left unread replies →
+      UnderWay Means slots talk'.session old now left unread replies
+  same_way talk talk' old now left unread replies caller count (inl fresh) = inl (record {
+    caller = caller ∙ fresh.caller;
+    counts = count ∙ fresh.counts;
+    kernel = fresh.kernel;
+    reads = fresh.reads;
+    gathered = fresh.gathered;
+  })
+  same_way talk talk' old now left unread replies caller count (inr greeted) = inr (record {
+    version = greeted.version;
+    cred = greeted.cred;
+    known = greeted.known;
+    calls = greeted.calls;
+    are_calls = greeted.are_calls;
+    leads = greeted.leads;
+    reads = greeted.reads;
+    replied = greeted.replied;
+    caller = caller ∙ greeted.caller;
+    counts = count ∙ greeted.counts;
+    bounded = omega (arith, count, greeted.bounded);
+    gathered = greeted.gathered;
+  })
+
+  pub sends : (n : ℕ) (talk talk' : Talk) (old now : K) (left unread : Option (List ℕ)) (taken : List ℕ) →
+      n ≤ length talk.unsent.bytes → talk' ≡ sent_on n talk → Stands Means slots talk old now left unread taken →
+      Stands Means slots talk' old now left unread (taken ++ take n talk.unsent.bytes)
+  sends n talk talk' old now left unread taken fits is stands = record {
+    replies = stands.replies;
+    under_way = same_way talk talk' old now left unread stands.replies (ap (λ (t : Talk). t.session.caller) is)
+        (ap (λ (t : Talk). t.session.requests) is) stands.under_way;
+    gathers = gathers_sent 0 stands.replies taken n talk talk' fits is stands.gathers;
+  }
+
+  -- The same while a call is not over.
+  pub sends_asking : (cred : Cred) (request : Request) (text : List ℕ) (n : ℕ) (talk talk' : Talk) (old now : K)
+      (left unread : Option (List ℕ)) (taken : List ℕ) → n ≤ length talk.unsent.bytes → talk' ≡ sent_on n talk →
+      StandsAsking Means slots cred request text talk old now left unread taken →
+      StandsAsking Means slots cred request text talk' old now left unread (taken ++ take n talk.unsent.bytes)
+  sends_asking cred request text n talk talk' old now left unread taken fits is stands =
+      let count : talk'.session.requests ≡ talk.session.requests = ap (λ (t : Talk). t.session.requests) is in
+      record {
+        replies = stands.replies;
+        asking = record {
+          version = stands.asking.version;
+          known = stands.asking.known;
+          calls = stands.asking.calls;
+          are_calls = stands.asking.are_calls;
+          leads = stands.asking.leads;
+          behind = stands.asking.behind;
+          reads = stands.asking.reads;
+          asks = stands.asking.asks;
+          asked = stands.asking.asked;
+          replied = stands.asking.replied;
+          caller = ap (λ (t : Talk). t.session.caller) is ∙ stands.asking.caller;
+          counts = count ∙ stands.asking.counts;
+          bounded = omega (arith, count, stands.asking.bounded);
+          gathered = stands.asking.gathered;
+        };
+        gathers = gathers_sent 0 stands.replies taken n talk talk' fits is stands.gathers;
+      }
+
+  -- The same once it stopped.
+  pub sends_stopped : (why : End) (n : ℕ) (talk talk' : Talk) (old now : K) (left rest : Option (List ℕ))
+      (taken : List ℕ) → n ≤ length talk.unsent.bytes → talk' ≡ sent_on n talk →
+      Stopped Means slots why talk old now left rest taken →
+      Stopped Means slots why talk' old now left rest (taken ++ take n talk.unsent.bytes)
+  sends_stopped why n talk talk' old now left rest taken fits is (inl before) = inl (record {
+    kernel = before.kernel;
+    ends = before.ends;
+    gathers = gathers_sent 0 [] taken n talk talk' fits is before.gathers;
+    counts = ap (λ (t : Talk). t.session.requests) is ∙ before.counts;
+  })
+  sends_stopped why n talk talk' old now left rest taken fits is (inr after) =
+      let count : talk'.session.requests ≡ talk.session.requests = ap (λ (t : Talk). t.session.requests) is in
+      inr (record {
+        version = after.version;
+        cred = after.cred;
+        known = after.known;
+        calls = after.calls;
+        are_calls = after.are_calls;
+        leads = after.leads;
+        unread = after.unread;
+        reads = after.reads;
+        ends = after.ends;
+        within = subst (IsStoppedWithin why) (sym count) after.within;
+        replies = after.replies;
+        replied = after.replied;
+        lost = after.lost;
+        gathers = gathers_sent after.lost after.replies taken n talk talk' fits is after.gathers;
+        all = after.all;
+        counts = count ∙ after.counts;
+        bounded = omega (arith, count, after.bounded);
+      })
+
+  few_under_way : (talk : Talk) (old now : K) (left unread : Option (List ℕ)) (replies : List Gathered) →
+      UnderWay Means slots talk.session old now left unread replies → messages_among replies < 2 ^ 32
+  few_under_way talk old now left unread replies (inl fresh) = omega (arith, ap messages_among fresh.gathered)
+  few_under_way talk old now left unread replies (inr greeted) =
+      omega (
+        arith,
+        few_replies greeted.version slots greeted.calls replies greeted.gathered,
+        greeted.counts,
+        greeted.bounded,
+      )
+
+  -- The tally has room for each message in the outbox, and for one more.
+  pub has_room : (talk : Talk) (old now : K) (left unread : Option (List ℕ)) (taken : List ℕ) →
+      Stands Means slots talk old now left unread taken → HasRoom talk
+  has_room talk old now left unread taken stands =
+      omega (
+        arith,
+        each_counted 0 stands.replies taken talk.unsent talk.session.tally stands.gathers,
+        few_under_way talk old now left unread stands.replies stands.under_way,
+      )
+
+  pub has_room_asking : (cred : Cred) (request : Request) (text : List ℕ) (talk : Talk) (old now : K)
+      (left unread : Option (List ℕ)) (taken : List ℕ) →
+      StandsAsking Means slots cred request text talk old now left unread taken →
+      HasRoom talk × (taken_in talk.session.tally < 2 ^ 64 - 1)
+  has_room_asking cred request text talk old now left unread taken stands =
+      let each = each_counted 0 stands.replies taken talk.unsent talk.session.tally stands.gathers in
+      let few = few_replies stands.asking.version slots stands.asking.calls stands.replies stands.asking.gathered in
+      (
+        omega (arith, each, few, stands.asking.counts, stands.asking.bounded),
+        omega (arith, each, few, stands.asking.counts, stands.asking.bounded),
+      )
+
+  pub has_room_greeting : (version : Version) (talk : Talk) (old now : K) (left unread : Option (List ℕ))
+      (taken : List ℕ) → StandsGreeting version talk old now left unread taken → HasRoom talk
+  has_room_greeting version talk old now left unread taken stands =
+      omega (
+        arith,
+        each_counted 0 stands.replies taken talk.unsent talk.session.tally stands.gathers,
+        ap messages_among stands.greets.gathered,
+      )
+
+  pub has_room_stopped : (why : End) (talk : Talk) (old now : K) (left rest : Option (List ℕ)) (taken : List ℕ) →
+      Stopped Means slots why talk old now left rest taken → HasRoom talk
+  has_room_stopped why talk old now left rest taken (inl before) =
+      omega (arith, each_counted 0 [] taken talk.unsent talk.session.tally before.gathers)
+  has_room_stopped why talk old now left rest taken (inr after) =
+      omega (
+        arith,
+        each_counted after.lost after.replies taken talk.unsent talk.session.tally after.gathers,
+        after.all,
+        few_messages after.calls,
+        after.counts,
+        after.bounded,
+      )
+
+  -- It ends.
+  pub ends : (why : End) (talk : Talk) (old now : K) (left rest before after : Option (List ℕ)) (taken : List ℕ) →
+      Stopped Means slots why talk old now left rest taken → Appends before after taken →
+      ServesTogether Means slots (report why talk) old now left rest before after
+  ends why talk old now left rest before after taken (inl none) writes =
+      let nothing : taken ++ talk.unsent.bytes ≡ [] = sym none.gathers.bytes in
+      let sent : taken ≡ [] = append_empty taken talk.unsent.bytes nothing in
+      let empty : talk.unsent.bytes ≡ [] =
+      sym (ap (λ (l : List ℕ). l ++ talk.unsent.bytes) sent) ∙ nothing in
+      let each = each_counted 0 [] taken talk.unsent talk.session.tally none.gathers in
+      let written : talk.session.tally.written ≡ 0 = omega (arith, each) in
+      let lost : talk.session.tally.lost + length talk.unsent.marks ≡ 0 = omega (arith, each) in
+      inl (record {
+        kernel = none.kernel;
+        ends = subst (λ (l : List ℕ). EndsBefore (reported why l) left rest) (sym empty) none.ends;
+        writes = subst (Appends before after) sent writes;
+        tallies = ap₂ (λ (w l : ℕ). let t : Tallied = record { written = w; lost = l } in t) written lost;
+        counts = none.counts;
+      })
+  ends why talk old now left rest before after taken (inr stopped) writes =
+      inr (record {
+        version = stopped.version;
+        cred = stopped.cred;
+        known = stopped.known;
+        calls = stopped.calls;
+        are_calls = stopped.are_calls;
+        leads = stopped.leads;
+        unread = stopped.unread;
+        reads = stopped.reads;
+        stopped = why;
+        ends = stopped.ends;
+        bounded = stopped.within;
+        replies = stopped.replies;
+        replied = stopped.replied;
+        sent = taken;
+        prefix = (talk.unsent.bytes, stopped.gathers.bytes);
+        writes = writes;
+        reports = reports_of why talk.unsent.bytes taken (all_bytes stopped.replies) stopped.gathers.bytes;
+        all = omega (
+          arith,
+          each_counted stopped.lost stopped.replies taken talk.unsent talk.session.tally stopped.gathers,
+          stopped.all,
+        );
+        written = omega (arith, stopped.gathers.written);
+        counts = stopped.counts;
+      })
