@@ -8,3 +8,4 @@ pub mod GatheredLemmas
 pub mod UnderWayLemmas
 pub mod TogetherLemmas
 pub mod GoesOn
+pub mod Arrived

@@ -1,4 +1,5 @@
-use Rattle.sysv_session.proofs.GoesOn.{opens, takes_hello, greets, greet_ends}
+use Rattle.sysv_session.proofs.GoesOn.{opens}
+use Rattle.sysv_session.proofs.Arrived.{takes_up_more}
 use Rattle.sysv_session.proofs.TogetherLemmas.{together}
 use Rattle.sysv_session.proofs.laws.sessions_together.Goals as goal
 
