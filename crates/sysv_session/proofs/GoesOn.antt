@@ -1,8 +1,7 @@
 -- How a conversation goes on, from its start to its end.
-use Rattle.std.proofs.Common.{◌≡◌, ℕ, ◌+◌, ◌-◌, ◌^◌, ◌<◌, ◌≤◌, ◌⊎◌, List, [], ◌∷◌, ◌++◌, length, take, drop, Option, None}
+use Rattle.std.proofs.Common.{◌≡◌, ℕ, ◌+◌, ◌-◌, ◌^◌, ◌<◌, ◌≤◌, List, [], ◌∷◌, ◌++◌, length, take, Option, None}
 use Rattle.std.proofs.Common.{Some, Ok, Err, refl, sym, ap, ap₂, subst, subst₂, ◌∙◌, arith, inl, inr, append_assoc}
-use Rattle.std.proofs.Common.{add-zero, append-nil, length-append, map}
-use Rattle.std.specs.Prelude.{⊤}
+use Rattle.std.proofs.Common.{add-zero, append-nil, length-append}
 use Rattle.std.specs.Io.KnownBytes.{Appends, Consumes}
 use Rattle.std.proofs.KnownBytes.{Consumes-nil, Consumes-trans}
 use Rattle.std.specs.List.{AllByRecursion}
@@ -16,22 +15,21 @@ use Rattle.sysv_session.specs.declared.served.TheConstants.{SESSION_REQUESTS}
 use Rattle.sysv_session.specs.declared.session.Session.{Session}
 use Rattle.sysv_session.specs.declared.session.TakenUp.TheVariants.{Hello, Request as Asked}
 use Rattle.sysv_session.specs.Answers.{IsAskedIn, IsReplied, MayAnswer, messages_in}
-use Rattle.sysv_session.specs.Calls.{Call, IsCall, Leads, Meaning, messages_of}
+use Rattle.sysv_session.specs.Calls.{Call, IsCall, Leads, Meaning}
 use Rattle.sysv_session.specs.Conversation.{HasRoom, Puts, Talk, gathered, report, reported, sent_on, with_outcome}
 use Rattle.sysv_session.specs.Gathered.{Gathered, Gathers, all_bytes, marks_from, messages_among}
 use Rattle.sysv_session.specs.Input.{EndsBefore, asked_spelling, hello_of, hello_spelling}
-use Rattle.sysv_session.specs.Outbox.{Mark, Unsent, beyond, with_frame}
+use Rattle.sysv_session.specs.Outbox.{Mark, Unsent, with_frame}
 use Rattle.sysv_session.specs.Output.{AreReplied, hello_frame}
-use Rattle.sysv_session.specs.Stands.{Stands, StandsAsking, StandsGreeting, Stopped, StoppedAfter, StoppedBefore}
+use Rattle.sysv_session.specs.Stands.{Stands, StandsAsking, StandsGreeting, Stopped}
 use Rattle.sysv_session.specs.Stands.{only_lost}
 use Rattle.sysv_session.specs.TakenUp.{EndsHere, TakesRequest, TakesUp}
 use Rattle.sysv_session.specs.Together.{IsStoppedWithin, Replied, Reports, ServesTogether, StopsAfter}
-use Rattle.sysv_session.specs.UnderWay.{Asking, Fresh, Greeted, Greets, UnderWay, greeting, replies_to, reply_for, reply_to}
+use Rattle.sysv_session.specs.UnderWay.{Fresh, Greeted, UnderWay, greeting, replies_to, reply_for, reply_to}
 use Rattle.sysv_session.proofs.GatheredLemmas.{gathers_message, gathers_none, gathers_on, gathers_reply}
 use Rattle.sysv_session.proofs.ListLemmas.{all_more, asked_more, few_messages, leads_more, length_more, messages_more}
 use Rattle.sysv_session.proofs.OutboxLemmas.{each_once}
 use Rattle.sysv_session.proofs.TogetherLemmas.{fault_within, replies_messages, replies_more}
-use Rattle.sysv_wire.specs.declared.fault.Fault.{Fault as WireFault}
 use Rattle.sysv_wire.specs.declared.fault.Fault.TheVariants.{Read}
 use Rattle.sysv_wire.specs.declared.frame.Version.{Version}
 use Rattle.sysv_wire.specs.declared.request.Request.{Request}
@@ -659,8 +657,7 @@ module _ {K : Type 0} (Means : Meaning K) (slots : ℕ) where
       HasRoom talk × (taken_in talk.session.tally < 2 ^ 64 - 1)
   has_room_asking cred request text talk old now left unread taken stands =
       let each = each_counted 0 stands.replies taken talk.unsent talk.session.tally stands.gathers in
-      let few = few_replies stands.asking.version slots stands.asking.calls stands.replies stands.asking.gathered in
-      (
+      let few = few_replies stands.asking.version slots stands.asking.calls stands.replies stands.asking.gathered in (
         omega (arith, each, few, stands.asking.counts, stands.asking.bounded),
         omega (arith, each, few, stands.asking.counts, stands.asking.bounded),
       )

@@ -9,3 +9,4 @@ pub mod UnderWayLemmas
 pub mod TogetherLemmas
 pub mod GoesOn
 pub mod Arrived
+pub mod LayoutLemmas

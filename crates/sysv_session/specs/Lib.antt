@@ -9,6 +9,7 @@ pub mod Parts
 pub mod Course
 pub mod Failing
 pub mod Outbox
+pub mod Layout
 pub mod Gathered
 pub mod TakenUp
 pub mod Conversation

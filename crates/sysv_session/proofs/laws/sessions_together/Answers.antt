@@ -1,5 +1,3 @@
-use Rattle.sysv_session.proofs.GoesOn.{opens}
-use Rattle.sysv_session.proofs.Arrived.{takes_up_more}
 use Rattle.sysv_session.proofs.TogetherLemmas.{together}
 use Rattle.sysv_session.proofs.laws.sessions_together.Goals as goal
 
