@@ -5,7 +5,6 @@ pub mod LaterLemmas
 pub mod Courses
 pub mod OutboxLemmas
 pub mod GatheredLemmas
-pub mod UnderWayLemmas
 pub mod TogetherLemmas
 pub mod GoesOn
 pub mod Arrived

@@ -1,1 +1,0 @@
--- Sessions under way.
