@@ -1,6 +1,7 @@
 -- What a session takes up from the bytes that have arrived, it takes up from the whole input, which
 -- goes on with what the connection still has.
-use Rattle.std.proofs.Common.{◌≡◌, ◌≢◌, ℕ, ◌⊎◌, List, [], ◌++◌, Option, None, Some, Result, Ok, Err, sym, ap, ap₂, subst}
+use Rattle.std.proofs.Common.{◌≡◌, ◌≢◌, ℕ, ◌⊎◌, List, [], ◌++◌, Option, None, Some, Result, Ok, Err, sym, ap, ap₂}
+use Rattle.std.proofs.Common.{subst}
 use Rattle.std.proofs.Common.{◌∙◌, arith, inl, inr, append_assoc, append-nil}
 use Rattle.std.specs.Prelude.{⊤}
 use Rattle.std.specs.Io.KnownBytes.{Consumes, IsAtEnd, prepend_known}
@@ -70,7 +71,8 @@ faults_more IsWhy Read bytes rest more last why = (why.0, consumes_more bytes re
 
 before_more : (why : End) (bytes rest : List ℕ) (more : Option (List ℕ)) → IsSettledEnd why more →
     EndsBefore why (Some bytes) (Some rest) → EndsBefore why (prepend_known bytes more) (prepend_known rest more)
-before_more Ended bytes rest more last here = (consumes_more bytes rest [] more here.0, at_end_more rest more here.1 last)
+before_more Ended bytes rest more last here =
+    (consumes_more bytes rest [] more here.0, at_end_more rest more here.1 last)
 before_more NoMemory bytes rest more last here = ap (λ (o : Option (List ℕ)). known_before o more) here
 before_more NoHello bytes rest more last here =
     (here.0, here.1, here.2, consumes_more bytes rest _ more here.3)

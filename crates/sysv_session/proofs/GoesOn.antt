@@ -114,7 +114,8 @@ module _ {K : Type 0} (Means : Meaning K) (slots : ℕ) where
   opens talk k left caller tally counts unsent = record {
     replies = [];
     under_way = inl (record { caller = caller; counts = counts; kernel = refl; reads = refl; gathered = refl });
-    gathers = regathered (only_lost 0) [] [] _ talk.unsent _ talk.session.tally unsent tally (gathers_none (only_lost 0));
+    gathers = regathered (only_lost 0) [] [] _ talk.unsent _ talk.session.tally unsent tally
+        (gathers_none (only_lost 0));
   }
 
   -- A hello is taken up.
@@ -150,7 +151,8 @@ module _ {K : Type 0} (Means : Meaning K) (slots : ℕ) where
   -- The reply to the hello is gathered.
   pub greets : (version : Version) (talk talk' : Talk) (old now : K) (left unread : Option (List ℕ)) (taken : List ℕ)
       → StandsGreeting version talk old now left unread taken →
-      talk' ≡ gathered (with_frame (hello_frame version slots)) talk → Stands Means slots talk' old now left unread taken
+      talk' ≡ gathered (with_frame (hello_frame version slots)) talk →
+      Stands Means slots talk' old now left unread taken
   greets version talk talk' old now left unread taken stands is =
       let hello = stands.greets in
       let replies = stands.replies ++ greeting version slots ∷ [] in
@@ -178,7 +180,8 @@ module _ {K : Type 0} (Means : Meaning K) (slots : ℕ) where
 
   -- Memory was refused for the reply to the hello.
   pub greet_ends : (version : Version) (talk : Talk) (old now : K) (left unread : Option (List ℕ)) (taken : List ℕ) →
-      StandsGreeting version talk old now left unread taken → Stopped Means slots NoMemory talk old now left unread taken
+      StandsGreeting version talk old now left unread taken →
+      Stopped Means slots NoMemory talk old now left unread taken
   greet_ends version talk old now left unread taken stands =
       let hello = stands.greets in
       inr (record {
@@ -424,7 +427,8 @@ module _ {K : Type 0} (Means : Meaning K) (slots : ℕ) where
   stops_fresh why talk talk' old now left unread rest taken stands fresh ends same = inl (record {
     kernel = fresh.kernel;
     ends = subst (λ (l : Option (List ℕ)). EndsBefore why l rest) fresh.reads ends;
-    gathers = subst (λ (l : List Gathered). Gathers (only_lost 0) l taken talk'.unsent talk'.session.tally) fresh.gathered
+    gathers = subst (λ (l : List Gathered). Gathers (only_lost 0) l taken talk'.unsent talk'.session.tally)
+        fresh.gathered
         (regathered (only_lost 0) stands.replies taken talk.unsent talk'.unsent talk.session.tally
         talk'.session.tally (ap (λ (t : Talk). t.unsent) same) (ap (λ (t : Talk). t.session.tally) same)
         stands.gathers);

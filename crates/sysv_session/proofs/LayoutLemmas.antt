@@ -1,6 +1,7 @@
 -- How an outbox keeps its bytes and its marks.
 use Rattle.std.proofs.Common.{◌≡◌, ℕ, suc, ◌+◌, ◌-◌, ◌^◌, ◌<◌, ◌≤◌, Bool, true, false, cond, nat_le, List, [], ◌∷◌}
-use Rattle.std.proofs.Common.{◌++◌, length, map, take, drop, Result, Ok, Err, refl, sym, ap, ap₂, subst, subst₂, ◌∙◌, arith}
+use Rattle.std.proofs.Common.{◌++◌, length, map, take, drop, Result, Ok, Err, refl, sym, ap, ap₂, subst, ◌∙◌, arith}
+use Rattle.std.proofs.Common.{subst₂}
 use Rattle.std.proofs.Common.{append_assoc, append-nil, length-append, le_refl}
 use Rattle.std.proofs.Common.{le_of_suc-le-suc}
 use Rattle.std.proofs.Math.Seq.{drop-length, take-length}
@@ -91,7 +92,8 @@ within_nearer k n (x ∷ xs) = within_nearer_at (nat_le x.ends (k + n)) k n x xs
 pub nearer_none : (marks : List Mark) → map (nearer 0) marks ≡ marks
 nearer_none [] = refl
 nearer_none (x ∷ xs) =
-    ap₂ (λ (n : ℕ) (l : List Mark). mark_at n x.given ∷ l) (let e : x.ends - 0 ≡ x.ends = omega arith in e) (nearer_none xs)
+    let same : x.ends - 0 ≡ x.ends = omega arith in
+    ap₂ (λ (n : ℕ) (l : List Mark). mark_at n x.given ∷ l) same (nearer_none xs)
 
 -- What the contracts see of the fields.
 abbrev pub view_of : ℕ → List ℕ → List Mark → Unsent

@@ -1,5 +1,6 @@
 -- Replies as they are gathered, and a session whose writer took one after another.
-use Rattle.std.proofs.Common.{◌≡◌, ◌≢◌, ℕ, ◌+◌, ◌-◌, ◌<◌, ◌≤◌, List, [], ◌∷◌, ◌++◌, length, take, map, Option, None, Some}
+use Rattle.std.proofs.Common.{◌≡◌, ◌≢◌, ℕ, ◌+◌, ◌-◌, ◌<◌, ◌≤◌, List, [], ◌∷◌, ◌++◌, length, take, map, Option, None}
+use Rattle.std.proofs.Common.{Some}
 use Rattle.std.proofs.Common.{cond, refl, sym, ap, ap₂, subst, ◌∙◌, arith, inl, inr, ◌⊎◌, append-nil, length-append}
 use Rattle.std.proofs.lemmas.Bool.Decides.{nat_tests}
 use Rattle.std.proofs.lemmas.List.{map-append, take_at}
@@ -408,4 +409,5 @@ module _ {K : Type 0} where
     counts = stays.counts;
   })
   together Means slots served old new left rest taken more (inr talks) early =
-      inr (talks_together Means slots served.«end» served.tally served.requests old new left rest taken more talks early)
+      inr (talks_together Means slots served.«end» served.tally served.requests old new left rest taken more talks
+      early)

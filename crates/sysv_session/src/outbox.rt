@@ -208,8 +208,8 @@ impl Outbox {
     }
 }
 
-/// Spends as written each delivery whose frame ends in the first `n` bytes. Only these are examined,
-/// and the next one.
+/// Spends as written each delivery whose frame ends in the first `n` bytes. Only these are
+/// examined, and the next one.
 fn spend_written(marks: &mut VecDeque<Mark>, n: usize, tally: &mut Tally)
     requires order { IsAscending marks.old.items }
     requires room { taken_in tally.old + length marks.old.items < 2 ^ 64 }

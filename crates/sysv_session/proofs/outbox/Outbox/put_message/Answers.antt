@@ -20,8 +20,8 @@ returns-clause-ok c =
     let mark = mark_at c.len-ends.result c.args.delivery in
     let pushed : c.push_back_reserved.new.self.items ≡ c.self.inside.marks.items ++ mark ∷ [] =
     c.push_back_reserved.ensures.items ∙ ap (λ ms. ms ++ mark ∷ []) c.reserve.ensures.items in
-    let grown : c.append.new.bytes.items
-    ≡ c.self.inside.bytes.items ++ reply_spelling (message_reply c.args.version c.args.delivery.mtype) c.args.given.now =
+    let frame = reply_spelling (message_reply c.args.version c.args.delivery.mtype) c.args.given.now in
+    let grown : c.append.new.bytes.items ≡ c.self.inside.bytes.items ++ frame =
     ok_of c.append.result (sym c.is_err-else-is_err.ensures.value ∙ c.if-is_err-2.false) c.append.ensures.ok
     ∙ ap (λ r. c.self.inside.bytes.items ++ reply_spelling r c.args.given.now) c.message_reply-reply.ensures in
     message_view c.self.inside.taken c.len-ends.result c.self.inside.marks.items
