@@ -1,8 +1,6 @@
 //! A session and its gathered replies as one value.
-ghost use Rattle.std.specs.Prelude.{◌≡◌, ◌≤◌, ◌<◌, ◌+◌, ◌^◌, length};
-ghost use Rattle.sysv_model.specs.declared.limits.TheConstants.{MESSAGE_BYTES};
+ghost use Rattle.std.specs.Prelude.{◌≡◌, ◌≤◌, ◌<◌, ◌+◌, length, IfSome};
 ghost use Rattle.sysv_queue.specs.Tally.{taken_in};
-ghost use Rattle.sysv_session.specs.Conversation.{Talk};
 
 use super::served::counts_of;
 use super::shelf::Shelf;
@@ -23,7 +21,10 @@ struct Talking {
 
 impl Talking {
     /// Opens a conversation. Tolerates one refusal of memory.
-    fn open(rt: &impl Abort, alloc: Global) -> Talking {
+    fn open(rt: &impl Abort, alloc: Global) -> Talking
+        ensures { taken_in result.conversation.session.tally
+            + length result.conversation.unsent.marks ≡ 0 }
+    {
         Talking {
             conversation: Conversation::open(alloc),
             text: open_body(alloc).expect(rt, "a second try"),
@@ -32,11 +33,14 @@ impl Talking {
     }
 
     /// Takes up what the input holds next, and gathers its reply.
-    fn step(
-        &mut self,
-        reader: &mut Watched<'_, Pieces<'_>>,
-        kernel: &mut Shelf,
-    ) -> Result<(), End> {
+    fn step(&mut self, reader: &mut Watched<'_, Pieces<'_>>, kernel: &mut Shelf) -> Result<(), End>
+        requires room { taken_in self.old.conversation.session.tally
+            + length self.old.conversation.unsent.marks < 9 }
+        ensures more { taken_in self.new.conversation.session.tally
+            + length self.new.conversation.unsent.marks
+            ≤ taken_in self.old.conversation.session.tally
+            + length self.old.conversation.unsent.marks + 1 }
+    {
         let taken = self.conversation.take_up(reader, &mut self.text)?;
         self.given.clear();
         match taken {
@@ -52,7 +56,12 @@ impl Talking {
     }
 
     /// Takes up requests until one of them ends the session.
-    fn talk(&mut self, text: &[u8], kernel: &mut Shelf) -> End {
+    fn talk(&mut self, text: &[u8], kernel: &mut Shelf) -> End
+        requires none { taken_in self.old.conversation.session.tally
+            + length self.old.conversation.unsent.marks ≡ 0 }
+        ensures few { taken_in self.new.conversation.session.tally
+            + length self.new.conversation.unsent.marks ≤ 9 }
+    {
         let mut pieces = Pieces::new(text, usize::MAX);
         let mut reader = Watched::new(&mut pieces);
         for _ in 0..9 {
@@ -66,7 +75,10 @@ impl Talking {
 
 /// Holds the session whose bytes were worked out by hand, with a connection that takes nothing yet.
 /// Returns `None` if memory was refused: the session then ended.
-fn gathered(rt: &impl Abort, alloc: Global, kernel: &mut Shelf) -> Option<Conversation> {
+fn gathered(rt: &impl Abort, alloc: Global, kernel: &mut Shelf) -> Option<Conversation>
+    ensures { IfSome result (λ conversation. taken_in conversation.session.tally
+        + length conversation.unsent.marks ≤ 9) }
+{
     let mut talking = Talking::open(rt, alloc);
     assert!(rt; talking.conversation.is_empty());
     let end = talking.talk(SESSION, kernel);
