@@ -12,7 +12,7 @@ use std::io;
 use std::sync::Wait;
 use std::thread::Threads;
 use std::time::{Clock, CpuClock};
-use sysv_server::ServiceKernel;
+use sysv_seats::ServiceKernel;
 use sysv_service::Service;
 use sysv_session::End;
 

@@ -22,7 +22,8 @@ use Rattle.sysv_server.specs.Handled.{told_in}
 use Rattle.sysv_server.specs.Headline.{ServesConnections}
 use Rattle.sysv_server.specs.declared.fault.ServeFault.TheVariants as faults
 use Rattle.sysv_server.specs.Serving.{EndsOn, FailsOn, HasLived, HasReason, LeavesConnections, ServesOn}
-use Rattle.sysv_server.specs.Talks.{leaves_nothing, tally_of, untold}
+use Rattle.sysv_server.specs.Talks.{tally_of}
+use Rattle.sysv_seats.specs.Untold.{leaves_nothing, untold}
 use Rattle.sysv_server.proofs.SessionsPerConnection.{as_books, one_each}
 
 room : (m a a' n : ℕ) → m ≤ 2 ^ 64 - 1 → a < m → a' ≡ min (a + 1) (2 ^ 64 - 1) → (a' ≤ m → a' + n ≤ m) → a + (n + 1) ≤ m

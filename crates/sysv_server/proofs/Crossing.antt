@@ -11,7 +11,7 @@ use Rattle.sysv_model.specs.contracts.body.Body as body
 use Rattle.sysv_session.specs.contracts.session.Texts as texts
 use Rattle.sysv_service.proofs.Crossing.{crossing, pass_send, service_sync}
 use Rattle.sysv_server.specs.contracts.common.Common as common
-use Rattle.sysv_server.specs.contracts.kernel.ServiceKernel as kernel
+use Rattle.sysv_seats.specs.contracts.kernel.ServiceKernel as kernel
 use Rattle.sysv_server.proofs.common.Common.TheSendSync as commons
 use Rattle.sysv_server.proofs.session.Zero.TheSendSync.{the_sync as zero_sync}
 use Rattle.sysv_server.proofs.peer.Peer.TheSendSync as peers

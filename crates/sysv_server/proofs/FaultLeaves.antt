@@ -10,7 +10,7 @@ use Rattle.sysv_server.specs.declared.fault.ServeFault.{ServeFault}
 use Rattle.sysv_server.specs.declared.fault.ServeFault.TheVariants as faults
 use Rattle.sysv_server.specs.Handled.{Shift}
 use Rattle.sysv_server.specs.Serving.{FaultOf, LeavesBooks, LeavesConnections, LeavesUnused}
-use Rattle.sysv_server.specs.Talks.{Closing}
+use Rattle.sysv_seats.specs.Untold.{Closing}
 
 module _ {T B : Type 0} (incoming outgoing : T → Option (List ℕ)) (closes : Closing B) {S : Type 0}
     (gives : S → Option T → S → Type 0) (source source' : S) (books books' : List B) where

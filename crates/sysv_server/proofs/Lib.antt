@@ -1,4 +1,3 @@
-pub mod Sessions
 pub mod SessionMakesCalls
 pub mod SessionsPerConnection
 pub mod Accepted

@@ -5,9 +5,10 @@ use Rattle.sysv_session.specs.declared.served.Served.{Served}
 use Rattle.sysv_service.specs.Ran.{Pass}
 use Rattle.sysv_server.specs.declared.sums.Sums.{Sums}
 use Rattle.sysv_server.specs.Added.{added, capped, one_session}
-use Rattle.sysv_server.specs.Asked.{ServesPass}
+use Rattle.sysv_seats.specs.Asked.{ServesPass}
 use Rattle.sysv_server.specs.Handled.{Handles, Holds, one_refused}
-use Rattle.sysv_server.specs.Talks.{Closing, TalksAs, tally_of, zero_moment}
+use Rattle.sysv_server.specs.Talks.{TalksAs, tally_of, zero_moment}
+use Rattle.sysv_seats.specs.Untold.{Closing}
 
 module _ {T B : Type 0} (incoming outgoing : T → Option (List ℕ)) (closes : Closing B) (connection : T) where
   -- The ends could not be opened.

@@ -20,9 +20,9 @@ use Rattle.sysv_steps.specs.Stepping.{no_moment}
 use Rattle.sysv_service.specs.Ran.{Pass, Ran}
 use Rattle.sysv_thread_laws.specs.Working as working
 use Rattle.sysv_thread_laws.specs.Working.{Works}
-use Rattle.sysv_server.specs.Asked.{Asks, asks_with}
+use Rattle.sysv_seats.specs.Asked.{Asks, asks_with}
 use Rattle.sysv_server.specs.Made.{trail, MakesCall, ReadsBeside, ShowsBeside, makes_with, EachSessionMakesCalls}
-use Rattle.sysv_server.specs.Requests as requests
+use Rattle.sysv_seats.specs.Requests as requests
 
 -- The call is over or was left at a wait.
 abbrev Resting : Called → Type 0

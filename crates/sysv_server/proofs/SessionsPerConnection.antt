@@ -8,7 +8,8 @@ use Rattle.sysv_bank.specs.Banks.{Each2}
 use Rattle.sysv_service.specs.Seats.{Gates}
 use Rattle.sysv_server.specs.Desks.{Crewed, Desk, Sat, all_connections}
 use Rattle.sysv_server.specs.Handled.{Shift, reports_of, told_in}
-use Rattle.sysv_server.specs.Talks.{Closing, Talk}
+use Rattle.sysv_server.specs.Talks.{Talk}
+use Rattle.sysv_seats.specs.Untold.{Closing}
 
 each2_length : {X Y : Type 0} (P : X → Y → Type 0) (xs : List X) (ys : List Y) → Each2 P xs ys → length xs ≡ length ys
 each2_length P [] [] each = refl

@@ -23,7 +23,8 @@ use Rattle.sysv_server.specs.Handled.{sums_of}
 use Rattle.sysv_server.specs.Handled.{told_in}
 use Rattle.sysv_server.specs.Serving.{FaultOf, HiredFrom, IsNew, LeavesBooks, LeavesConnections, LeavesUnused}
 use Rattle.sysv_server.specs.Serving.{WorkedFrom}
-use Rattle.sysv_server.specs.Talks.{Closes, Closing, IsOn, Talk, Talks, tally_of}
+use Rattle.sysv_server.specs.Talks.{Closes, IsOn, Talk, Talks, tally_of}
+use Rattle.sysv_seats.specs.Untold.{Closing}
 use Rattle.sysv_server.proofs.SumsOfSessions.{emptied, refused_first, refused_last, sum_by_map, told_first, told_last}
 use Rattle.sysv_server.proofs.FaultLeaves.{left}
 use Rattle.sysv_server.proofs.SessionsPerConnection.{sat_each}

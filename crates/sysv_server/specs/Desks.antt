@@ -4,7 +4,8 @@ use Rattle.std.specs.List.{AllByRecursion, FoldsTo}
 use Rattle.sysv_bank.specs.Banks.{Each2}
 use Rattle.sysv_service.specs.Seats.{Gates, AreOf}
 use Rattle.sysv_workers.specs.Parts.{IsSubsequenceOf}
-use Rattle.sysv_server.specs.Talks.{IsOn, Closes, Closing}
+use Rattle.sysv_server.specs.Talks.{IsOn, Closes}
+use Rattle.sysv_seats.specs.Untold.{Closing}
 use Rattle.sysv_server.specs.Handled.{Shift}
 
 -- One worker: its connections in order, and its book before the first of them and after the last.

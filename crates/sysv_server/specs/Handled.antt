@@ -8,7 +8,8 @@ use Rattle.sysv_thread_laws.specs.Order.{Called}
 use Rattle.sysv_server.specs.Made.{trail}
 use Rattle.sysv_server.specs.declared.sums.Sums.{Sums}
 use Rattle.sysv_server.specs.Added.{added, all_added, capped, one_session}
-use Rattle.sysv_server.specs.Talks.{Talk, Talks, TalksIn, IsOn, Closes, Closing, tally_of}
+use Rattle.sysv_server.specs.Talks.{Talk, Talks, TalksIn, IsOn, Closes, tally_of}
+use Rattle.sysv_seats.specs.Untold.{Closing}
 
 -- 1 for a session whose memory was refused, and 0 for one that reported.
 abbrev pub one_refused : Option Served → ℕ

@@ -19,7 +19,7 @@ use Rattle.sysv_server.specs.declared.terms.Ended.{Ended}
 use Rattle.sysv_server.specs.Desks.{Desk, Crewed, AreServedInOrder, all_connections}
 use Rattle.sysv_server.specs.Handled.{Shift, failed_of, sums_of, refused_of, told_in}
 use Rattle.sysv_server.specs.OneRun.{Lived}
-use Rattle.sysv_server.specs.Talks.{Closing}
+use Rattle.sysv_seats.specs.Untold.{Closing}
 
 pub record ServesConnections {S T B : Type 0} (incoming outgoing : T → Option (List ℕ)) (closes : Closing B)
     (gives : S → Option T → S → Type 0) (blocks : ℕ) (source : S) (books : List B) (ended : Ended) (source' : S)

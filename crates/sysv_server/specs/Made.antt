@@ -17,9 +17,9 @@ use Rattle.sysv_service.specs.Ran.{Pass, Ran}
 use Rattle.sysv_service.specs.Told.{TellsRow}
 use Rattle.sysv_thread_laws.specs.Working.{Works}
 use Rattle.sysv_steps.specs.Begin.{begin}
-use Rattle.sysv_server.specs.Asked.{ReadsReleased, ServesPass}
-use Rattle.sysv_server.specs.Requests as requests
-use Rattle.sysv_server.specs.Requests.{Going}
+use Rattle.sysv_seats.specs.Asked.{ReadsReleased, ServesPass}
+use Rattle.sysv_seats.specs.Requests as requests
+use Rattle.sysv_seats.specs.Requests.{Going}
 
 -- A pass, and the calls that were made with it so far.
 pub record Trail : Type 0 where

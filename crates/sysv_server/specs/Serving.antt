@@ -25,7 +25,7 @@ use Rattle.sysv_server.specs.Added.{nothing}
 use Rattle.sysv_server.specs.Desks.{Desk, Crewed, Sat, AreServedInOrder, all_connections}
 use Rattle.sysv_server.specs.Handled.{Shift, failed_of, first_passes, last_passes, sums_of, refused_of, told_in}
 use Rattle.sysv_server.specs.OneRun.{Lived}
-use Rattle.sysv_server.specs.Talks.{Closing, untold, leaves_nothing}
+use Rattle.sysv_seats.specs.Untold.{Closing, untold, leaves_nothing}
 
 -- A pass of these gates that holds no chain, with the sums of no sessions.
 abbrev pub IsNew : Gates → Pass → Sums → ℕ → Type 0

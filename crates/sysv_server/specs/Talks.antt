@@ -3,7 +3,8 @@ use Rattle.std.specs.Prelude.{◌≡◌, ℕ, ⊤, List, Option, None, Some}
 use Rattle.sysv_queue.specs.Tally.{Tallied}
 use Rattle.sysv_session.specs.declared.served.Served.{Served}
 use Rattle.sysv_service.specs.Ran.{Pass}
-use Rattle.sysv_server.specs.Asked.{ServesPass}
+use Rattle.sysv_seats.specs.Asked.{ServesPass}
+use Rattle.sysv_seats.specs.Untold.{Closing}
 use Rattle.sysv_server.specs.Made.{Trail, ServesTrail}
 
 -- One session: what it reported, if anything; the bytes that could still be read before it and
@@ -54,18 +55,6 @@ TalksIn before talk after = TalksAsIn before talk.told talk.left talk.rest talk.
 abbrev pub IsOn : {T : Type 0} → (incoming outgoing : T → Option (List ℕ)) → T → Talk → Type 0
 IsOn incoming outgoing connection talk = (talk.left ≡ incoming connection) × (talk.taken ≡ outgoing connection)
 
--- How the close of a connection changes a book, by what was still to be read and what was written.
-abbrev pub Closing : Type 0 → Type 1
-Closing B = B → Option (List ℕ) → Option (List ℕ) → B → Type 0
-
 -- The connection of the session was closed with the bytes that the session left.
 abbrev pub Closes : {B : Type 0} → Closing B → B → Talk → B → Type 0
 Closes closes book talk book' = closes book talk.rest talk.more book'
-
--- A connection that does not tell its bytes.
-abbrev pub untold : {T : Type 0} → T → Option (List ℕ)
-untold connection = None
-
--- The close of a connection that leaves nothing.
-abbrev pub leaves_nothing : {B : Type 0} → Closing B
-leaves_nothing book rest more book' = ⊤

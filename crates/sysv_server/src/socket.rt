@@ -26,7 +26,7 @@ impl Socket {
 }
 
 impl Connection for Socket {
-    ghost use Rattle.sysv_server.specs.Talks.{untold, leaves_nothing};
+    ghost use Rattle.sysv_seats.specs.Untold.{untold, leaves_nothing};
 
     type Input = SocketReader;
 

@@ -5,3 +5,7 @@ pub mod LaterLemmas
 pub mod Courses
 pub mod OutboxLemmas
 pub mod GatheredLemmas
+pub mod TogetherLemmas
+pub mod GoesOn
+pub mod Arrived
+pub mod LayoutLemmas

@@ -9,5 +9,10 @@ pub mod Parts
 pub mod Course
 pub mod Failing
 pub mod Outbox
+pub mod Layout
 pub mod Gathered
 pub mod TakenUp
+pub mod Conversation
+pub mod UnderWay
+pub mod Together
+pub mod Stands

@@ -4,6 +4,7 @@
 //! why it ends.
 #![tactic(auto)]
 
+mod conversation;
 mod kernel;
 mod laws;
 mod outbox;
@@ -11,8 +12,9 @@ mod served;
 mod session;
 mod turn;
 
+pub use conversation::Conversation;
 pub use kernel::{Kernel, RequestOutcome};
-pub use laws::{gathered_replies, numeral_of_requests};
+pub use laws::{gathered_replies, numeral_of_requests, sessions_together};
 pub use outbox::Outbox;
 pub use served::{End, Served};
 pub use session::{Session, TakenUp, Texts, serve, serve_watched, serve_with};

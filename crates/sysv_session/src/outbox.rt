@@ -1,9 +1,10 @@
 //! Replies that a connection has not taken yet.
-ghost use Rattle.std.specs.Prelude.{◌≡◌, ◌≤◌, ◌<◌, ◌+◌, ◌^◌, ◌++◌, [], length, IfErr, OnErr, OnOk};
+ghost use Rattle.std.specs.Prelude.{◌≡◌, ◌≤◌, ◌<◌, ◌+◌, ◌^◌, ◌++◌, [], drop, length, map, IfErr, OnErr, OnOk};
 ghost use Rattle.sysv_model.specs.declared.limits.TheConstants.{MESSAGE_BYTES};
 ghost use Rattle.sysv_queue.specs.Tally.{taken_in};
 ghost use Rattle.sysv_session.specs.Answers.{message_reply as the_reply};
-ghost use Rattle.sysv_session.specs.Outbox.{beyond, more_lost, more_written, with_frame, with_message, within, without};
+ghost use Rattle.sysv_session.specs.Layout.{IsAscending, begins_within as is_begun, unspent};
+ghost use Rattle.sysv_session.specs.Outbox.{more_lost, more_written, nearer, with_frame, with_message, within, without};
 ghost use Rattle.sysv_wire.specs.Replies.{IsAnswer, reply_spelling};
 
 use crate::turn::message_reply;
@@ -22,21 +23,38 @@ use sysv_wire::{Reply, Version, WriteFault, write_reply};
 ///
 /// An outbox can be neither dropped nor copied. Spend it with `end`.
 pub struct Outbox {
+    /// Bytes that the connection has taken, and then those that it has not.
     bytes: Vec<u8>,
+    /// The number of those that it has taken.
+    taken: usize,
+    /// The deliveries, in the order of their frames.
     marks: VecDeque<Mark>,
 }
 
 impl Model for Outbox {
-    ghost use Rattle.sysv_session.specs.Outbox.{Unsent};
+    ghost use Rattle.std.specs.Prelude.{drop, length, map};
+    ghost use Rattle.sysv_session.specs.Layout.{InOrder};
+    ghost use Rattle.sysv_session.specs.Outbox.{Unsent, nearer};
 
     ghost Value = { Unsent };
 
-    ghost view = { λ o. record { bytes = o.bytes.items; marks = o.marks.items } };
+    ghost view = { λ o. record {
+      bytes = drop o.taken o.bytes.items;
+      marks = map (nearer o.taken) o.marks.items;
+    } };
+
+    ghost invariant = { λ o. InOrder o.taken o.marks.items (length o.bytes.items) };
 }
+
+/// The number of bytes, and the number of deliveries, for which an outbox keeps its memory once the
+/// connection has taken everything.
+const KEPT_BYTES: usize = 512;
+
+const KEPT_MARKS: usize = 4;
 
 /// A delivery whose frame ends in an outbox.
 struct Mark {
-    /// The number of bytes of the outbox up to the end of the frame.
+    /// The number of bytes up to the end of the frame, including those that were taken.
     ends: usize,
     delivery: Delivery,
 }
@@ -56,6 +74,7 @@ impl Outbox {
     {
         Outbox {
             bytes: Vec::new(alloc),
+            taken: 0,
             marks: VecDeque::new(alloc),
         }
     }
@@ -64,7 +83,7 @@ impl Outbox {
     pub fn unsent(&self) -> &[u8]
         ensures { result.now ≡ self.now.bytes }
     {
-        self.bytes.as_slice()
+        &self.bytes[self.taken..]
     }
 
     /// Appends the frame of a reply. If the reply carries a message, its body is `text`; for any
@@ -135,29 +154,36 @@ impl Outbox {
         ensures each { taken_in tally.new + length self.new.marks
             ≡ taken_in tally.old + length self.old.marks }
     {
-        self.bytes.drain(..n);
-        self.spend_written(n, tally);
+        self.taken += n;
+        spend_written(&mut self.marks, self.taken, tally);
+        self.remove_taken();
     }
 
-    /// Spends as written each delivery whose frame ends in the first `n` bytes, which were removed.
-    fn spend_written(&mut self, n: usize, tally: &mut Tally)
-        requires room { taken_in tally.old + length self.old.marks < 2 ^ 64 }
-        ensures bytes { self.new.bytes ≡ self.old.bytes }
-        ensures marks { self.new.marks ≡ beyond n self.old.marks }
-        ensures tally { tally.new ≡ more_written (within n self.old.marks) tally.old }
+    /// Removes the bytes that were taken, if they are at least as many as those that are left. So a
+    /// byte is moved at most once for each byte that is taken.
+    fn remove_taken(&mut self)
+        ensures { self.new ≡ self.old }
     {
-        for _ in 0..self.marks.len() {
-            let Some(Mark { ends, delivery }) = self.marks.pop_front() else {
-                unreachable!()
-            };
-            if ends <= n {
-                delivery.written(tally);
-            } else {
-                self.marks.push_back_reserved(Mark {
-                    ends: ends - n,
-                    delivery,
-                });
-            }
+        if self.taken < self.bytes.len() - self.taken {
+            return;
+        }
+        remove_front(&mut self.bytes, self.taken);
+        bring_nearer(&mut self.marks, self.taken);
+        self.taken = 0;
+        if self.bytes.is_empty() {
+            self.free_memory();
+        }
+    }
+
+    /// Frees the memory of a large outbox.
+    fn free_memory(&mut self)
+        ensures { self.new ≡ self.old }
+    {
+        if self.bytes.capacity() > KEPT_BYTES {
+            self.bytes.shrink_to_fit();
+        }
+        if self.marks.capacity() > KEPT_MARKS {
+            self.marks.shrink_to_fit();
         }
     }
 
@@ -172,12 +198,62 @@ impl Outbox {
     {
         let Outbox {
             bytes: _,
+            taken: _,
             mut marks,
         } = self;
         while let Some(Mark { ends: _, delivery }) = marks.pop_front() {
             delivery.lost(tally);
         }
         marks.destroy_empty();
+    }
+}
+
+/// Spends as written each delivery whose frame ends in the first `n` bytes. Only these are
+/// examined, and the next one.
+fn spend_written(marks: &mut VecDeque<Mark>, n: usize, tally: &mut Tally)
+    requires order { IsAscending marks.old.items }
+    requires room { taken_in tally.old + length marks.old.items < 2 ^ 64 }
+    ensures marks { marks.new.items ≡ unspent n marks.old.items }
+    ensures tally { tally.new ≡ more_written (within n marks.old.items) tally.old }
+{
+    while begins_within(marks, n) {
+        let Some(Mark { ends: _, delivery }) = marks.pop_front() else {
+            unreachable!()
+        };
+        delivery.written(tally);
+    }
+}
+
+/// Returns whether the first delivery's frame ends in the first `n` bytes.
+fn begins_within(marks: &VecDeque<Mark>, n: usize) -> bool
+    ensures { result ≡ is_begun n marks.now.items }
+{
+    match marks.front() {
+        Some(mark) => mark.ends <= n,
+        None => false,
+    }
+}
+
+/// Removes the first `n` bytes.
+fn remove_front(bytes: &mut Vec<u8>, n: usize)
+    requires { n ≤ length bytes.old.items }
+    ensures { bytes.new.items ≡ drop n bytes.old.items }
+{
+    bytes.drain(..n);
+}
+
+/// Brings all marks `n` bytes nearer.
+fn bring_nearer(marks: &mut VecDeque<Mark>, n: usize)
+    ensures { marks.new.items ≡ map (nearer n) marks.old.items }
+{
+    for _ in 0..marks.len() {
+        let Some(Mark { ends, delivery }) = marks.pop_front() else {
+            unreachable!()
+        };
+        marks.push_back_reserved(Mark {
+            ends: ends.saturating_sub(n),
+            delivery,
+        });
     }
 }
 

@@ -6,7 +6,8 @@ use std::alloc::Global;
 use std::process::Abort;
 use std::sync::Wait;
 use std::thread::Threads;
-use sysv_server::{Ended, MemoryConnection, Replies, serve_connections};
+use sysv_seats::Replies;
+use sysv_server::{Ended, MemoryConnection, serve_connections};
 use sysv_workers::Source;
 use tests_kit::worked::{ANSWERS, SESSION};
 

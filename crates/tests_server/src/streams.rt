@@ -5,7 +5,7 @@ use std::net::Net;
 use std::os::fd::AsRawFd;
 use std::os::unix::net::UnixStream;
 use std::process::Abort;
-use sysv_server::{Drained, Filled, MemoryStream, NonBlocking, Over, Replies, SocketStream, Step};
+use sysv_seats::{Drained, Filled, MemoryStream, NonBlocking, Over, Replies, SocketStream, Step};
 
 /// Returns whether a read with room for 4 bytes gives these.
 fn gives<T: NonBlocking>(stream: &mut T, bytes: &[u8]) -> bool {

@@ -3,7 +3,7 @@
 use super::served::assert_served;
 use super::serving::{ended, talked};
 use crate::parts::{CLOCK, opened};
-use sysv_server::ServiceKernel;
+use sysv_seats::ServiceKernel;
 use sysv_service::Caller;
 use sysv_session::End;
 use tests_kit::worked::{ANSWERS, SESSION};

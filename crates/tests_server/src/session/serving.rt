@@ -7,7 +7,7 @@ use crate::parts::{CLOCK, Still, closed, opened};
 use std::alloc::Global;
 use std::process::Abort;
 use std::sync::Wait;
-use sysv_server::ServiceKernel;
+use sysv_seats::ServiceKernel;
 use sysv_service::{Caller, Pass, Service};
 use sysv_session::{End, Served};
 use tests_kit::worked::{ANSWERS, SESSION};

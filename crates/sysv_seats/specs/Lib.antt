@@ -1,0 +1,9 @@
+-- The definitions of the seats of a server.
+pub mod Replies
+pub mod Requests
+pub mod Asked
+pub mod KernelHandles
+pub mod Untold
+pub mod Memory
+pub mod NonBlocking
+pub mod PacedStreams

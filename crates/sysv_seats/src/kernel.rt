@@ -1,0 +1,363 @@
+//! The kernel of a session over a service.
+
+ghost use Rattle.std.specs.Prelude.{◌≡◌, ◌≢◌, ◌≤◌, ℕ, List, [], Some};
+ghost use Rattle.sysv_model.specs.Watched.{stream_of, KeepsStream};
+ghost use Rattle.sysv_service.specs.Seats.{AreOf};
+ghost use Rattle.sysv_session.specs.Answers.{MayAnswer};
+ghost use Rattle.sysv_session.specs.Course.{Course, Follows, Takes};
+ghost use Rattle.sysv_session.specs.Failing.{is_failed_read, is_failed_write};
+ghost use Rattle.sysv_seats.specs.Asked.{Gets, Sends, Receives, Stats, Sets, Removes, ServesPass, Shows};
+ghost use Rattle.sysv_seats.specs.Replies.{reply as the_reply, shown_stat as stat_shown, shown_row as row_shown};
+
+use std::alloc::Global;
+use std::io::{Read, Write};
+use std::sync::Wait;
+use sysv_keys::SLOTS;
+use sysv_model::{Body, Cred, Flags, Row, SetTo, Stat, Watched};
+use sysv_service::{Caller, Clock, Pass, Service, Stays};
+use sysv_session::{End, Kernel, RequestOutcome, Served, Texts, serve, serve_watched};
+use sysv_wire::{Ask, MAX_MODE, Op, Reply, ReplyContent, Request, Version};
+
+/// The kernel of one session over a service. Each request, except one for a row, is one call of the
+/// service.
+///
+/// It has a pass of its own, a clock for the times of its calls, the handle to wait, and a caller
+/// that is checked while a call waits: if the caller has left, the call is left. A kernel can be
+/// neither dropped nor copied; end it with `into_pass`.
+pub struct ServiceKernel<'a, C: Clock, R: Wait, K: Caller + Copy = Stays> {
+    rt: &'a R,
+    service: &'a Service,
+    clock: &'a C,
+    pass: Pass,
+    caller: K,
+    ghost fits: { AreOf service.now pass.seats },
+}
+
+impl<'a, C: Clock, R: Wait> ServiceKernel<'a, C, R, Stays> {
+    /// Creates a kernel that calls `service` with `pass`, for a caller that stays.
+    ///
+    /// # Conditions
+    ///
+    /// - `pass` is a pass of `service`.
+    pub fn new(rt: &'a R, service: &'a Service, clock: &'a C, pass: Pass) -> ServiceKernel<'a, C, R>
+        requires { AreOf service.now pass.seats }
+        ensures service { result.service.now ≡ service.now }
+        ensures clock { result.clock.now ≡ clock.now }
+        ensures pass { result.pass ≡ pass }
+    {
+        ServiceKernel::for_caller(rt, service, clock, pass, Stays)
+    }
+}
+
+impl<'a, C: Clock, R: Wait, K: Caller + Copy> ServiceKernel<'a, C, R, K> {
+    ghost use Rattle.sysv_seats.specs.KernelHandles.{KeepsHandles};
+
+    /// Creates a kernel that calls `service` with `pass`, for a caller that may leave.
+    ///
+    /// A call that the caller leaves while it waits takes no message and sends none. It has no
+    /// reply, and the session ends.
+    ///
+    /// # Conditions
+    ///
+    /// - `pass` is a pass of `service`.
+    pub fn for_caller(
+        rt: &'a R,
+        service: &'a Service,
+        clock: &'a C,
+        pass: Pass,
+        caller: K,
+    ) -> ServiceKernel<'a, C, R, K>
+        requires { AreOf service.now pass.seats }
+        ensures service { result.service.now ≡ service.now }
+        ensures clock { result.clock.now ≡ clock.now }
+        ensures pass { result.pass ≡ pass }
+        ensures caller { result.caller ≡ caller }
+    {
+        ServiceKernel {
+            rt,
+            service,
+            clock,
+            pass,
+            caller,
+        }
+    }
+
+    /// Sets the caller of later calls.
+    pub fn set_caller(&mut self, caller: K)
+        ensures service { self.new.service ≡ self.old.service }
+        ensures clock { self.new.clock ≡ self.old.clock }
+        ensures pass { self.new.pass ≡ self.old.pass }
+        ensures caller { self.new.caller ≡ caller }
+    {
+        self.caller = caller;
+    }
+
+    /// Runs one session with this kernel, like `sysv_session::serve`.
+    ///
+    /// The reply to a hello of version 2 states `sysv_keys::SLOTS` slots.
+    pub fn serve<I: Read, O: Write>(
+        &mut self,
+        alloc: Global,
+        reader: &mut I,
+        writer: &mut O,
+    ) -> Served
+        ensures serves { ServesPass (C.may self.old.clock.now)
+            (K.may_leave self.old.caller) result self.old.pass self.new.pass
+            (I.remaining reader.old) (I.remaining reader.new)
+            (O.contents writer.old) (O.contents writer.new) }
+        // The session ends as its input determines, unless it is cut short.
+        ensures only { (input : List ℕ) (course : Course) → I.remaining reader.old ≡ Some input →
+            Takes input course → Follows course result }
+        ensures memory { result.«end» ≡ End.NoMemory → (reader.new ≡ reader.old)
+            × (writer.new ≡ writer.old) }
+        ensures handles { KeepsHandles self.old self.new }
+    {
+        serve(alloc, reader, writer, self)
+    }
+
+    /// Runs one session like `serve`, but with two bodies that exist already, and records which
+    /// stream failed. Allocates nothing for the session.
+    ///
+    /// The reader fails if and only if the session ends with `Fault(Read)`, and the writer fails if
+    /// and only if it ends with `Write`.
+    pub fn serve_watched<I: Read, O: Write>(
+        &mut self,
+        texts: &mut Texts,
+        reader: &mut Watched<'_, I>,
+        writer: &mut Watched<'_, O>,
+    ) -> Served
+        ensures serves { ServesPass (C.may self.old.clock.now)
+            (K.may_leave self.old.caller) result self.old.pass self.new.pass
+            (I.remaining (stream_of reader.old)) (I.remaining (stream_of reader.new))
+            (O.contents (stream_of writer.old)) (O.contents (stream_of writer.new)) }
+        // The session ends as its input determines, unless it is cut short.
+        ensures only { (input : List ℕ) (course : Course) →
+            I.remaining (stream_of reader.old) ≡ Some input → Takes input course →
+            Follows course result }
+        ensures memory { result.«end» ≢ End.NoMemory }
+        // The streams stay the same, and each fails in this call if and only if the end says so.
+        ensures reader { KeepsStream reader.old reader.new (is_failed_read result.«end») }
+        ensures writer { KeepsStream writer.old writer.new (is_failed_write result.«end») }
+        ensures handles { KeepsHandles self.old self.new }
+    {
+        serve_watched(texts, reader, writer, self)
+    }
+
+    /// Ends the kernel and returns its pass.
+    pub fn into_pass(self) -> Pass
+        ensures pass { result ≡ self.entry.pass }
+        ensures fits { AreOf self.entry.service.now result.seats }
+    {
+        let ServiceKernel {
+            rt: _,
+            service: _,
+            clock: _,
+            caller: _,
+            pass,
+        } = self;
+        pass
+    }
+
+    /// Makes a `msgget`, and returns the reply with its result.
+    fn get(&mut self, version: Version, cred: Cred, key: i32, flags: Flags) -> RequestOutcome
+        ensures gets { Gets (C.may self.old.clock.now) version cred key flags self.old.pass result
+            self.new.pass }
+        ensures answer { MayAnswer version (Ask.Get key flags) result [] }
+        ensures handles { KeepsHandles self.old self.new }
+    {
+        let told = self
+            .service
+            .msgget(self.rt, &mut self.pass, self.clock, cred, key, flags);
+        match told {
+            Ok(id) => reply(version, Op::Get, ReplyContent::Get { id }),
+            Err(why) => reply(version, Op::Get, ReplyContent::Refused(why)),
+        }
+    }
+
+    /// Makes a `msgsnd` of the body, and returns the reply with its result, or `Left` if the caller
+    /// left it.
+    fn send(
+        &mut self,
+        version: Version,
+        cred: Cred,
+        id: i32,
+        mtype: i64,
+        flags: Flags,
+        text: &Body,
+    ) -> RequestOutcome
+        ensures sends { Sends (C.may self.old.clock.now)
+            (K.may_leave self.old.caller) version cred id mtype flags text.now self.old.pass result
+            self.new.pass }
+        ensures answer { MayAnswer version (Ask.Snd id mtype flags) result [] }
+        ensures handles { KeepsHandles self.old self.new }
+    {
+        let (pass, caller) = (&mut self.pass, &self.caller);
+        let told = self.service.msgsnd_for(
+            self.rt, pass, self.clock, caller, cred, id, mtype, text, flags,
+        );
+        let Some(told) = told else {
+            return RequestOutcome::Left;
+        };
+        match told {
+            Ok(()) => reply(version, Op::Snd, ReplyContent::Snd),
+            Err(why) => reply(version, Op::Snd, ReplyContent::Refused(why)),
+        }
+    }
+
+    /// Makes a `msgrcv` into `given`, and returns its message or the reply with its error, or
+    /// `Left` if the caller left it.
+    fn receive(
+        &mut self,
+        version: Version,
+        cred: Cred,
+        id: i32,
+        size: u32,
+        mtype: i64,
+        flags: Flags,
+        given: &mut Body,
+    ) -> RequestOutcome
+        ensures receives { Receives (C.may self.old.clock.now)
+            (K.may_leave self.old.caller) version cred id size mtype flags self.old.pass result
+            given.new self.new.pass }
+        ensures answer { MayAnswer version (Ask.Rcv id size mtype flags) result given.new }
+        ensures handles { KeepsHandles self.old self.new }
+    {
+        let (pass, caller) = (&mut self.pass, &self.caller);
+        let told = self.service.msgrcv_for(
+            self.rt, pass, self.clock, caller, cred, id, given, size, mtype, flags,
+        );
+        let Some(told) = told else {
+            return RequestOutcome::Left;
+        };
+        match told {
+            Ok(delivery) => RequestOutcome::Got(delivery),
+            Err(why) => reply(version, Op::Rcv, ReplyContent::Refused(why)),
+        }
+    }
+
+    /// Makes a `msgctl` with `IPC_STAT`, and returns the reply with its result.
+    fn stat(&mut self, version: Version, cred: Cred, id: i32) -> RequestOutcome
+        ensures stats { Stats version cred id self.old.pass result self.new.pass }
+        ensures answer { MayAnswer version (Ask.Stat id) result [] }
+        ensures handles { KeepsHandles self.old self.new }
+    {
+        let told = self.service.msgctl_stat(self.rt, &mut self.pass, cred, id);
+        match told {
+            Ok(stat) => reply(version, Op::Stat, ReplyContent::Stat(shown_stat(stat))),
+            Err(why) => reply(version, Op::Stat, ReplyContent::Refused(why)),
+        }
+    }
+
+    /// Makes a `msgctl` with `IPC_SET`, and returns the reply with its result.
+    fn set(&mut self, version: Version, cred: Cred, id: i32, to: SetTo) -> RequestOutcome
+        ensures sets { Sets (C.may self.old.clock.now) version cred id to self.old.pass result
+            self.new.pass }
+        ensures answer { MayAnswer version (Ask.Set id to) result [] }
+        ensures handles { KeepsHandles self.old self.new }
+    {
+        let told = self
+            .service
+            .msgctl_set(self.rt, &mut self.pass, self.clock, cred, id, to);
+        match told {
+            Ok(()) => reply(version, Op::Set, ReplyContent::Set),
+            Err(why) => reply(version, Op::Set, ReplyContent::Refused(why)),
+        }
+    }
+
+    /// Makes a `msgctl` with `IPC_RMID`, and returns the reply with its result.
+    fn remove(&mut self, version: Version, cred: Cred, id: i32) -> RequestOutcome
+        ensures removes { Removes version cred id self.old.pass result self.new.pass }
+        ensures answer { MayAnswer version (Ask.Rm id) result [] }
+        ensures handles { KeepsHandles self.old self.new }
+    {
+        let told = self.service.msgctl_rmid(self.rt, &mut self.pass, cred, id);
+        match told {
+            Ok(()) => reply(version, Op::Rm, ReplyContent::Rm),
+            Err(why) => reply(version, Op::Rm, ReplyContent::Refused(why)),
+        }
+    }
+
+    /// Reads the row of a slot, and returns the reply with the result.
+    fn row(&mut self, version: Version, slot: u32) -> RequestOutcome
+        ensures shows { Shows version slot self.old.pass result self.new.pass }
+        ensures answer { MayAnswer version (Ask.Row slot) result [] }
+        ensures handles { KeepsHandles self.old self.new }
+    {
+        let told = self.service.list_row(self.rt, &mut self.pass, slot);
+        match told {
+            Ok(Some(row)) => reply(version, Op::Row, ReplyContent::Row(Some(shown_row(row)))),
+            Ok(None) => reply(version, Op::Row, ReplyContent::Row(None)),
+            Err(why) => reply(version, Op::Row, ReplyContent::Refused(why)),
+        }
+    }
+}
+
+impl<C: Clock, R: Wait, K: Caller + Copy> Kernel for ServiceKernel<'_, C, R, K> {
+    ghost use Rattle.sysv_keys.specs.declared.identifier.TheConstants.{SLOTS};
+    ghost use Rattle.sysv_seats.specs.Asked.{Asks};
+    ghost use Rattle.sysv_seats.specs.KernelHandles.{KeepsHandles};
+
+    ghost meaning = { λ old cred request text outcome given new. KeepsHandles old new
+        × Asks (C.may old.clock.now) (K.may_leave old.caller) request.version cred request.ask text
+        old.pass outcome given new.pass };
+
+    ghost slots = { λ _. SLOTS };
+
+    fn slots(&self) -> u32 {
+        SLOTS as u32
+    }
+
+    fn call(
+        &mut self,
+        cred: Cred,
+        request: &Request,
+        text: &Body,
+        given: &mut Body,
+    ) -> RequestOutcome {
+        let version = request.version;
+        match request.ask {
+            Ask::Hello(_) => unreachable!(),
+            Ask::Get { key, flags } => self.get(version, cred, key, flags),
+            Ask::Snd { id, mtype, flags } => self.send(version, cred, id, mtype, flags, text),
+            Ask::Rcv {
+                id,
+                size,
+                mtype,
+                flags,
+            } => self.receive(version, cred, id, size, mtype, flags, given),
+            Ask::Stat { id } => self.stat(version, cred, id),
+            Ask::Set { id, to } => self.set(version, cred, id, to),
+            Ask::Rm { id } => self.remove(version, cred, id),
+            Ask::Row { slot } => self.row(version, slot),
+        }
+    }
+}
+
+/// Returns the reply of an operation, in the version of its request.
+fn reply(version: Version, op: Op, content: ReplyContent) -> RequestOutcome
+    ensures { result ≡ the_reply version op content }
+{
+    RequestOutcome::Reply(Reply {
+        version,
+        op: op.number(),
+        result: content,
+    })
+}
+
+/// Returns the attributes as a reply has them, with only the low nine bits of the mode.
+fn shown_stat(mut stat: Stat) -> Stat
+    ensures shown { result ≡ stat_shown stat }
+    ensures mode { result.perm.mode ≤ MAX_MODE }
+{
+    stat.perm.mode &= MAX_MODE;
+    stat
+}
+
+/// Returns the row as a reply has it, with only the low nine bits of the mode.
+fn shown_row(mut row: Row) -> Row
+    ensures shown { result ≡ row_shown row }
+    ensures mode { result.mode ≤ MAX_MODE }
+{
+    row.mode &= MAX_MODE;
+    row
+}

@@ -1,0 +1,138 @@
+//! Connections on Unix sockets that never wait. No contract says what a socket reads and writes, so
+//! they tell no bytes and leave nothing in a book.
+ghost use Rattle.std.specs.Prelude.{◌≡◌, None, false, IfOk};
+ghost use Rattle.std.specs.Io.{ReadsAtMost, WritesAtMost};
+
+use crate::non_blocking::{Drained, Filled, NonBlocking, Over};
+use std::io;
+use std::io::{ErrorKind, Read, Write};
+use std::os::fd::{AsRawFd, RawFd};
+use std::os::unix::net::UnixStream;
+
+/// A connection on a Unix socket.
+///
+/// The system reports a reset once, and an end after it. So the connection keeps the first reason
+/// why nothing more can be read, and whether a write has failed.
+#[derive(Drop)]
+pub struct SocketStream {
+    stream: UnixStream,
+    over: Option<Over>,
+    refuses: bool,
+}
+
+impl SocketStream {
+    /// Creates the connection of this stream, whose calls do not wait from now on.
+    ///
+    /// # Errors
+    ///
+    /// - The system's error if the stream cannot be made non-blocking. The stream is closed.
+    pub fn new(stream: UnixStream) -> io::Result<SocketStream>
+        ensures { IfOk result (λ socket. socket ≡ record {
+          stream = stream;
+          over = None;
+          refuses = false;
+        }) }
+    {
+        stream.set_nonblocking(true)?;
+        Ok(SocketStream {
+            stream,
+            over: None,
+            refuses: false,
+        })
+    }
+
+    /// Reads from the stream, again while a signal interrupts the call.
+    fn read_now(&self, buf: &mut [u8]) -> io::Result<usize>
+        ensures { ReadsAtMost result buf.new }
+    {
+        let mut stream: &UnixStream = &self.stream;
+        for _ in 0..u64::MAX {
+            match stream.read(buf) {
+                Err(why) if why.kind() == ErrorKind::Interrupted => {}
+                outcome => return outcome,
+            }
+        }
+        stream.read(buf)
+    }
+
+    /// Writes to the stream, again while a signal interrupts the call.
+    fn write_now(&self, bytes: &[u8]) -> io::Result<usize>
+        ensures { WritesAtMost result bytes.now }
+    {
+        let mut stream: &UnixStream = &self.stream;
+        for _ in 0..u64::MAX {
+            match stream.write(bytes) {
+                Err(why) if why.kind() == ErrorKind::Interrupted => {}
+                outcome => return outcome,
+            }
+        }
+        stream.write(bytes)
+    }
+}
+
+impl NonBlocking for SocketStream {
+    ghost use Rattle.std.specs.Prelude.{◌≡◌, true};
+    ghost use Rattle.sysv_seats.specs.Untold.{leaves_nothing, untold};
+
+    type Book = ();
+
+    ghost incoming = { untold };
+
+    ghost outgoing = { untold };
+
+    ghost over = { λ socket. socket.over };
+
+    ghost refuses = { λ socket. socket.refuses ≡ true };
+
+    ghost closes = { leaves_nothing };
+
+    fn fill(&mut self, buf: &mut [u8]) -> Filled {
+        if let Some(why) = self.over {
+            return Filled::Over(why);
+        }
+        if buf.is_empty() {
+            return Filled::NothingNow;
+        }
+        let why = match self.read_now(buf) {
+            Ok(0) => Over::End,
+            Ok(count) => return Filled::Bytes(count),
+            Err(why) => match why.kind() {
+                ErrorKind::WouldBlock => return Filled::NothingNow,
+                ErrorKind::ConnectionReset => Over::Reset,
+                _ => Over::Failed,
+            },
+        };
+        self.over = Some(why);
+        Filled::Over(why)
+    }
+
+    fn drain(&mut self, bytes: &[u8]) -> Drained {
+        if self.refuses {
+            return Drained::Failed;
+        }
+        if bytes.is_empty() {
+            return Drained::NothingNow;
+        }
+        match self.write_now(bytes) {
+            Ok(count) if count > 0 => return Drained::Took(count),
+            Err(why) if why.kind() == ErrorKind::WouldBlock => return Drained::NothingNow,
+            _ => {}
+        }
+        self.refuses = true;
+        Drained::Failed
+    }
+
+    fn close(self, _book: &mut ()) {}
+}
+
+impl AsRawFd for SocketStream {
+    ghost use Rattle.std.specs.Prelude.{Some};
+    ghost use Rattle.std.specs.Net.Unix.{unix_stream_raw_fd};
+
+    ghost raw_fd = { λ socket. Some (unix_stream_raw_fd socket.stream) };
+
+    /// Returns the number of the socket's descriptor, by which an event loop watches it.
+    fn as_raw_fd(&self) -> RawFd {
+        self.stream.as_raw_fd()
+    }
+}

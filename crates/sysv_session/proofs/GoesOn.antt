@@ -1,0 +1,737 @@
+-- How a conversation goes on, from its start to its end.
+use Rattle.std.proofs.Common.{◌≡◌, ℕ, ◌+◌, ◌-◌, ◌^◌, ◌<◌, ◌≤◌, List, [], ◌∷◌, ◌++◌, length, take, Option, None}
+use Rattle.std.proofs.Common.{Some, Ok, Err, refl, sym, ap, ap₂, subst, subst₂, ◌∙◌, arith, inl, inr, append_assoc}
+use Rattle.std.proofs.Common.{add-zero, append-nil, length-append}
+use Rattle.std.specs.Io.KnownBytes.{Appends, Consumes}
+use Rattle.std.proofs.KnownBytes.{Consumes-nil, Consumes-trans}
+use Rattle.std.specs.List.{AllByRecursion}
+use Rattle.sysv_model.specs.declared.cred.Cred.{Cred}
+use Rattle.sysv_queue.specs.Tally.{Tallied, taken_in}
+use Rattle.sysv_session.specs.declared.kernel.RequestOutcome.{RequestOutcome}
+use Rattle.sysv_session.specs.declared.kernel.RequestOutcome.TheVariants.{Reply, Got, Left as WasLeft}
+use Rattle.sysv_session.specs.declared.served.End.{End}
+use Rattle.sysv_session.specs.declared.served.End.TheVariants.{Ended, NoMemory, NoHello, Fault, Write, Bound, Left}
+use Rattle.sysv_session.specs.declared.served.TheConstants.{SESSION_REQUESTS}
+use Rattle.sysv_session.specs.declared.session.Session.{Session}
+use Rattle.sysv_session.specs.declared.session.TakenUp.TheVariants.{Hello, Request as Asked}
+use Rattle.sysv_session.specs.Answers.{IsAskedIn, IsReplied, MayAnswer, messages_in}
+use Rattle.sysv_session.specs.Calls.{Call, IsCall, Leads, Meaning}
+use Rattle.sysv_session.specs.Conversation.{HasRoom, Puts, Talk, gathered, report, reported, sent_on, with_outcome}
+use Rattle.sysv_session.specs.Gathered.{Gathered, Gathers, all_bytes, marks_from, messages_among}
+use Rattle.sysv_session.specs.Input.{EndsBefore, asked_spelling, hello_of, hello_spelling}
+use Rattle.sysv_session.specs.Outbox.{Mark, Unsent, with_frame}
+use Rattle.sysv_session.specs.Output.{AreReplied, hello_frame}
+use Rattle.sysv_session.specs.Stands.{Stands, StandsAsking, StandsGreeting, Stopped}
+use Rattle.sysv_session.specs.Stands.{only_lost}
+use Rattle.sysv_session.specs.TakenUp.{EndsHere, TakesRequest, TakesUp}
+use Rattle.sysv_session.specs.Together.{IsStoppedWithin, Replied, Reports, ServesTogether, StopsAfter}
+use Rattle.sysv_session.specs.UnderWay.{Fresh, Greeted, UnderWay, greeting, replies_to, reply_for, reply_to}
+use Rattle.sysv_session.proofs.GatheredLemmas.{gathers_message, gathers_none, gathers_on, gathers_reply}
+use Rattle.sysv_session.proofs.ListLemmas.{all_more, asked_more, few_messages, leads_more, length_more, messages_more}
+use Rattle.sysv_session.proofs.OutboxLemmas.{each_once}
+use Rattle.sysv_session.proofs.TogetherLemmas.{fault_within, replies_messages, replies_more}
+use Rattle.sysv_wire.specs.declared.fault.Fault.TheVariants.{Read}
+use Rattle.sysv_wire.specs.declared.frame.Version.{Version}
+use Rattle.sysv_wire.specs.declared.request.Request.{Request}
+use Rattle.sysv_wire.specs.Requests.{FitsRequest, request_spelling}
+
+-- The same for an equal outbox and an equal tally.
+regathered : (start : Tallied) (replies : List Gathered) (taken : List ℕ) (box box' : Unsent) (tally tally' : Tallied)
+    → box' ≡ box → tally' ≡ tally → Gathers start replies taken box tally → Gathers start replies taken box' tally'
+regathered start replies taken box box' tally tally' same equal old =
+    subst₂ (λ (b : Unsent) (t : Tallied). Gathers start replies taken b t) (sym same) (sym equal) old
+
+-- Each message among the replies is in the outbox or was counted.
+each_counted : (lost : ℕ) (replies : List Gathered) (taken : List ℕ) (box : Unsent) (tally : Tallied) →
+    Gathers (only_lost lost) replies taken box tally →
+    taken_in tally + length box.marks ≡ lost + messages_among replies
+each_counted lost replies taken box tally old =
+    omega (
+      arith,
+      old.written,
+      old.lost,
+      ap (length {A = Mark}) old.marks,
+      each_once (length taken) (marks_from 0 replies),
+    )
+
+few_replies : (version : Version) (slots : ℕ) (calls : List Call) (replies : List Gathered) →
+    replies ≡ replies_to version slots calls → messages_among replies ≤ length calls
+few_replies version slots calls replies are =
+    omega (arith, ap messages_among are, replies_messages version slots calls, few_messages calls)
+
+-- The reply of an outcome is gathered.
+gathers_outcome : (start : Tallied) (replies : List Gathered) (taken : List ℕ) (box : Unsent) (tally : Tallied)
+    (version : Version) (outcome : RequestOutcome) (given : List ℕ) → IsReplied outcome →
+    Gathers start replies taken box tally →
+    Gathers start (replies ++ reply_for version outcome given ∷ []) taken (with_outcome version outcome given box) tally
+gathers_outcome start replies taken box tally version (Reply reply) given replied old =
+    gathers_reply start replies taken box tally _ old
+gathers_outcome start replies taken box tally version (Got delivery) given replied old =
+    gathers_message start replies taken box tally version delivery given old
+gathers_outcome start replies taken box tally version WasLeft given replied old = absurd replied
+
+-- Why nothing was taken up, as what stops a session.
+stops_after : (version : Version) (why : End) (requests : ℕ) (left rest : Option (List ℕ)) (text : List ℕ) →
+    requests < SESSION_REQUESTS → TakesRequest version (Err why) left rest text →
+    StopsAfter version why left rest × IsStoppedWithin why requests
+stops_after version Ended requests left rest text few takes = (takes, few)
+stops_after version NoMemory requests left rest text few takes = absurd takes
+stops_after version NoHello requests left rest text few takes = absurd takes
+stops_after version (Fault fault) requests left rest text few takes = (takes, fault_within fault requests few)
+stops_after version Write requests left rest text few takes = absurd takes
+stops_after version Bound requests left rest text few takes = absurd takes
+stops_after version Left requests left rest text few takes = absurd takes
+
+-- All requests have a reply, whatever stops the session, if it is none of these.
+all_reply : (why : End) (version : Version) (slots : ℕ) (calls : List Call) (left rest : Option (List ℕ))
+    (text : List ℕ) (replies : List Gathered) → TakesRequest version (Err why) left rest text →
+    AreReplied calls × (replies ≡ replies_to version slots calls) → Replied why version slots calls replies
+all_reply Ended version slots calls left rest text replies takes all = all
+all_reply NoMemory version slots calls left rest text replies takes all = absurd takes
+all_reply NoHello version slots calls left rest text replies takes all = absurd takes
+all_reply (Fault fault) version slots calls left rest text replies takes all = all
+all_reply Write version slots calls left rest text replies takes all = absurd takes
+all_reply Bound version slots calls left rest text replies takes all = absurd takes
+all_reply Left version slots calls left rest text replies takes all = absurd takes
+
+append_empty : (xs ys : List ℕ) → xs ++ ys ≡ [] → xs ≡ []
+append_empty [] ys none = refl
+append_empty (x ∷ xs) ys none = absurd (omega (arith, ap (length {A = ℕ}) none))
+
+-- What is reported, by what was sent.
+reports_of : (why : End) (bytes taken all : List ℕ) → all ≡ taken ++ bytes → Reports (reported why bytes) why taken all
+reports_of why [] taken all is = inl (refl, sym (is ∙ append-nil taken))
+reports_of why (byte ∷ more) taken all is = inr (
+  refl,
+  λ same. absurd (omega (arith, ap (length {A = ℕ}) (same ∙ is), length-append taken (byte ∷ more))),
+)
+
+module _ {K : Type 0} (Means : Meaning K) (slots : ℕ) where
+  -- A new conversation stands.
+  pub opens : (talk : Talk) (k : K) (left : Option (List ℕ)) → talk.session.caller ≡ None →
+      talk.session.tally ≡ record { written = 0; lost = 0 } → talk.session.requests ≡ 0 →
+      talk.unsent ≡ record { bytes = []; marks = [] } → Stands Means slots talk k k left left []
+  opens talk k left caller tally counts unsent = record {
+    replies = [];
+    under_way = inl (record { caller = caller; counts = counts; kernel = refl; reads = refl; gathered = refl });
+    gathers = regathered (only_lost 0) [] [] _ talk.unsent _ talk.session.tally unsent tally
+        (gathers_none (only_lost 0));
+  }
+
+  -- A hello is taken up.
+  takes_hello_at : (version : Version) (talk talk' : Talk) (old now : K) (left unread rest : Option (List ℕ))
+      (taken text : List ℕ) (stands : Stands Means slots talk old now left unread taken) →
+      UnderWay Means slots talk.session old now left unread stands.replies →
+      TakesUp talk.session talk'.session (Ok (Hello version)) unread rest text → talk'.unsent ≡ talk.unsent →
+      StandsGreeting version talk' old now left rest taken
+  takes_hello_at version talk talk' old now left unread rest taken text stands (inl fresh) takes same = record {
+    replies = stands.replies;
+    greets = record {
+      cred = takes.0;
+      known = takes.2.0;
+      kernel = fresh.kernel;
+      reads = subst (λ (l : Option (List ℕ)). Consumes l rest (hello_spelling version takes.0)) fresh.reads takes.2.1;
+      caller = ap (λ (s : Session). s.caller) takes.3;
+      counts = ap (λ (s : Session). s.requests) takes.3;
+      gathered = fresh.gathered;
+    };
+    gathers = regathered (only_lost 0) stands.replies taken talk.unsent talk'.unsent talk.session.tally
+        talk'.session.tally same (ap (λ (s : Session). s.tally) takes.3) stands.gathers;
+  }
+  takes_hello_at version talk talk' old now left unread rest taken text stands (inr greeted) takes same =
+      absurd (grind (arith, greeted.caller, takes.1))
+
+  pub takes_hello : (version : Version) (talk talk' : Talk) (old now : K) (left unread rest : Option (List ℕ))
+      (taken text : List ℕ) → Stands Means slots talk old now left unread taken →
+      TakesUp talk.session talk'.session (Ok (Hello version)) unread rest text → talk'.unsent ≡ talk.unsent →
+      StandsGreeting version talk' old now left rest taken
+  takes_hello version talk talk' old now left unread rest taken text stands takes same =
+      takes_hello_at version talk talk' old now left unread rest taken text stands stands.under_way takes same
+
+  -- The reply to the hello is gathered.
+  pub greets : (version : Version) (talk talk' : Talk) (old now : K) (left unread : Option (List ℕ)) (taken : List ℕ)
+      → StandsGreeting version talk old now left unread taken →
+      talk' ≡ gathered (with_frame (hello_frame version slots)) talk →
+      Stands Means slots talk' old now left unread taken
+  greets version talk talk' old now left unread taken stands is =
+      let hello = stands.greets in
+      let replies = stands.replies ++ greeting version slots ∷ [] in
+      record {
+        replies = replies;
+        under_way = inr (record {
+          version = version;
+          cred = hello.cred;
+          known = hello.known;
+          calls = [];
+          are_calls = tt;
+          leads = hello.kernel;
+          reads = subst (Consumes left unread) (sym (append-nil (hello_spelling version hello.cred))) hello.reads;
+          replied = tt;
+          caller = ap (λ (t : Talk). t.session.caller) is ∙ hello.caller;
+          counts = omega (arith, ap (λ (t : Talk). t.session.requests) is, hello.counts);
+          bounded = omega (arith, ap (λ (t : Talk). t.session.requests) is, hello.counts);
+          gathered = ap (λ (l : List Gathered). l ++ greeting version slots ∷ []) hello.gathered;
+        });
+        gathers = regathered (only_lost 0) replies taken _ talk'.unsent _ talk'.session.tally
+            (ap (λ (t : Talk). t.unsent) is) (ap (λ (t : Talk). t.session.tally) is)
+            (gathers_reply (only_lost 0) stands.replies taken talk.unsent talk.session.tally
+            (hello_frame version slots) stands.gathers);
+      }
+
+  -- Memory was refused for the reply to the hello.
+  pub greet_ends : (version : Version) (talk : Talk) (old now : K) (left unread : Option (List ℕ)) (taken : List ℕ) →
+      StandsGreeting version talk old now left unread taken →
+      Stopped Means slots NoMemory talk old now left unread taken
+  greet_ends version talk old now left unread taken stands =
+      let hello = stands.greets in
+      inr (record {
+        version = version;
+        cred = hello.cred;
+        known = hello.known;
+        calls = [];
+        are_calls = tt;
+        leads = hello.kernel;
+        unread = unread;
+        reads = subst (Consumes left unread) (sym (append-nil (hello_spelling version hello.cred))) hello.reads;
+        ends = refl;
+        within = tt;
+        replies = stands.replies;
+        replied = inr (inl (refl, hello.gathered));
+        lost = 0;
+        gathers = stands.gathers;
+        all = omega (arith, ap messages_among hello.gathered);
+        counts = omega (arith, hello.counts);
+        bounded = omega (arith, hello.counts);
+      })
+
+  -- A request is taken up.
+  takes_request_at : (cred : Cred) (request : Request) (talk talk' : Talk) (old now : K)
+      (left unread rest : Option (List ℕ)) (taken text : List ℕ)
+      (stands : Stands Means slots talk old now left unread taken) →
+      UnderWay Means slots talk.session old now left unread stands.replies →
+      TakesUp talk.session talk'.session (Ok (Asked cred request)) unread rest text → talk'.unsent ≡ talk.unsent →
+      StandsAsking Means slots cred request text talk' old now left rest taken
+  takes_request_at cred request talk talk' old now left unread rest taken text stands (inl fresh) takes same =
+      absurd (grind (arith, fresh.caller, takes.1))
+  takes_request_at cred request talk talk' old now left unread rest taken text stands (inr greeted) takes same =
+      let same_version : takes.0 ≡ greeted.version = grind (arith, greeted.caller, takes.1) in
+      let same_cred : greeted.cred ≡ cred = grind (arith, greeted.caller, takes.1) in
+      let count : talk'.session.requests ≡ talk.session.requests + 1 = ap (λ (s : Session). s.requests) takes.4 in
+      record {
+        replies = stands.replies;
+        asking = record {
+          version = greeted.version;
+          known = subst (λ (c : Cred). FitsRequest (hello_of greeted.version c) []) same_cred greeted.known;
+          calls = greeted.calls;
+          are_calls = greeted.are_calls;
+          leads = subst (λ (c : Cred). Leads Means c old greeted.calls now) same_cred greeted.leads;
+          behind = unread;
+          reads = subst (λ (c : Cred). Consumes left unread (hello_spelling greeted.version c
+              ++ asked_spelling greeted.calls)) same_cred greeted.reads;
+          asks = takes.3.0;
+          asked = subst (λ (v : Version). IsAskedIn v request text) same_version takes.3.1;
+          replied = greeted.replied;
+          caller = ap (λ (s : Session). s.caller) takes.4 ∙ greeted.caller
+              ∙ ap (λ (c : Cred). Some (greeted.version, c)) same_cred;
+          counts = omega (arith, count, greeted.counts);
+          bounded = omega (arith, count, takes.2);
+          gathered = greeted.gathered;
+        };
+        gathers = regathered (only_lost 0) stands.replies taken talk.unsent talk'.unsent talk.session.tally
+            talk'.session.tally same (ap (λ (s : Session). s.tally) takes.4) stands.gathers;
+      }
+
+  pub takes_request : (cred : Cred) (request : Request) (talk talk' : Talk) (old now : K)
+      (left unread rest : Option (List ℕ)) (taken text : List ℕ) → Stands Means slots talk old now left unread taken →
+      TakesUp talk.session talk'.session (Ok (Asked cred request)) unread rest text → talk'.unsent ≡ talk.unsent →
+      StandsAsking Means slots cred request text talk' old now left rest taken
+  takes_request cred request talk talk' old now left unread rest taken text stands takes same =
+      takes_request_at cred request talk talk' old now left unread rest taken text stands stands.under_way takes same
+
+  -- One more call, whose outcome is there.
+  module _ (cred : Cred) (request : Request) (text : List ℕ) (outcome : RequestOutcome) (given : List ℕ) (talk : Talk)
+      (old now new : K) (left unread : Option (List ℕ)) (taken : List ℕ)
+      (stands : StandsAsking Means slots cred request text talk old now left unread taken)
+      (means : Means now cred request text outcome given new)
+      (may : MayAnswer request.version request.ask outcome given) where
+    abbrev call : Call
+    call = record { request = request; text = text; outcome = outcome; given = given }
+
+    abbrev calls : List Call
+    calls = stands.asking.calls ++ call ∷ []
+
+    are_calls : AllByRecursion (IsCall stands.asking.version) calls
+    are_calls =
+        all_more (IsCall stands.asking.version) stands.asking.calls call stands.asking.are_calls
+        (stands.asking.asked, may)
+
+    leads : Leads Means cred old calls new
+    leads = leads_more Means cred stands.asking.calls call old now new stands.asking.leads means
+
+    reads : Consumes left unread (hello_spelling stands.asking.version cred ++ asked_spelling calls)
+    reads =
+        subst (Consumes left unread)
+        (append_assoc (hello_spelling stands.asking.version cred) (asked_spelling stands.asking.calls)
+        (request_spelling request text)
+        ∙ ap (λ (l : List ℕ). hello_spelling stands.asking.version cred ++ l)
+        (sym (asked_more stands.asking.calls call)))
+        (Consumes-trans left stands.asking.behind unread _ _ stands.asking.reads stands.asking.asks)
+
+    counts : talk.session.requests ≡ 1 + length calls
+    counts = omega (arith, stands.asking.counts, length_more stands.asking.calls call)
+
+    -- All calls were answered.
+    are_replied : IsReplied outcome → AreReplied calls
+    are_replied replied =
+        all_more (λ (c : Call). IsReplied c.outcome) stands.asking.calls call stands.asking.replied replied
+
+    -- The reply is gathered.
+    pub puts : (talk' : Talk) → Puts (Ok tt) request.version outcome given talk talk' →
+        Stands Means slots talk' old new left unread taken
+    puts talk' put =
+        let version = stands.asking.version in
+        let count : talk'.session.requests ≡ talk.session.requests = ap (λ (t : Talk). t.session.requests) put.1 in
+        record {
+          replies = stands.replies ++ reply_to call ∷ [];
+          under_way = inr (record {
+            version = version;
+            cred = cred;
+            known = stands.asking.known;
+            calls = calls;
+            are_calls = are_calls;
+            leads = leads;
+            reads = reads;
+            replied = are_replied put.0;
+            caller = ap (λ (t : Talk). t.session.caller) put.1 ∙ stands.asking.caller;
+            counts = count ∙ counts;
+            bounded = omega (arith, count, stands.asking.bounded);
+            gathered = ap (λ (l : List Gathered). l ++ reply_to call ∷ []) stands.asking.gathered
+                ∙ sym (replies_more version slots stands.asking.calls call);
+          });
+          gathers = regathered (only_lost 0) (stands.replies ++ reply_to call ∷ []) taken _ talk'.unsent _
+              talk'.session.tally (ap (λ (t : Talk). t.unsent) put.1) (ap (λ (t : Talk). t.session.tally) put.1)
+              (gathers_outcome (only_lost 0) stands.replies taken talk.unsent talk.session.tally request.version
+              outcome given put.0 stands.gathers);
+        }
+
+    -- It stops with this call, whose reply was not gathered.
+    stops_asking : (why : End) (talk' : Talk) (lost : ℕ) → StopsAfter stands.asking.version why unread unread →
+        IsStoppedWithin why talk'.session.requests →
+        Replied why stands.asking.version slots calls stands.replies → talk'.unsent ≡ talk.unsent →
+        talk'.session.requests ≡ talk.session.requests →
+        talk'.session.tally ≡ record { written = talk.session.tally.written; lost = talk.session.tally.lost + lost } →
+        messages_in outcome ≡ lost → Stopped Means slots why talk' old new left unread taken
+    stops_asking why talk' lost ends within replied same count tally one = inr (record {
+      version = stands.asking.version;
+      cred = cred;
+      known = stands.asking.known;
+      calls = calls;
+      are_calls = are_calls;
+      leads = leads;
+      unread = unread;
+      reads = reads;
+      ends = ends;
+      within = within;
+      replies = stands.replies;
+      replied = replied;
+      lost = lost;
+      gathers = record {
+        bytes = stands.gathers.bytes ∙ ap (λ (b : Unsent). taken ++ b.bytes) (sym same);
+        marks = ap (λ (b : Unsent). b.marks) same ∙ stands.gathers.marks;
+        written = ap (λ (t : Tallied). t.written) tally ∙ stands.gathers.written;
+        lost = omega (arith, ap (λ (t : Tallied). t.lost) tally, stands.gathers.lost);
+      };
+      all = omega (
+        arith,
+        messages_more stands.asking.calls call,
+        one,
+        ap messages_among stands.asking.gathered,
+        replies_messages stands.asking.version slots stands.asking.calls,
+      );
+      counts = count ∙ counts;
+      bounded = omega (arith, count, stands.asking.bounded);
+    })
+
+    -- Memory was refused for the reply, or the call was left.
+    pub put_ends : (why : End) (talk' : Talk) → Puts (Err why) request.version outcome given talk talk' →
+        Stopped Means slots why talk' old new left unread taken
+    put_ends NoMemory talk' put =
+        stops_asking NoMemory talk' (messages_in outcome) refl tt
+        (inr (inr (stands.asking.calls, call, refl, are_replied put.0, stands.asking.gathered)))
+        (ap (λ (t : Talk). t.unsent) put.1) (ap (λ (t : Talk). t.session.requests) put.1)
+        (ap (λ (t : Talk). t.session.tally) put.1) refl
+    put_ends Left talk' put =
+        stops_asking Left talk' 0 refl tt
+        (stands.asking.calls, call, refl, put.0, (stands.asking.replied, stands.asking.gathered))
+        (ap (λ (t : Talk). t.unsent) put.1) (ap (λ (t : Talk). t.session.requests) put.1)
+        (ap (λ (t : Talk). t.session.tally) put.1
+        ∙ ap (λ (n : ℕ). let t : Tallied = record { written = talk.session.tally.written; lost = n } in t)
+        (sym (add-zero talk.session.tally.lost)))
+        (ap messages_in put.0)
+    put_ends Ended talk' put = absurd put
+    put_ends NoHello talk' put = absurd put
+    put_ends (Fault fault) talk' put = absurd put
+    put_ends Write talk' put = absurd put
+    put_ends Bound talk' put = absurd put
+
+  -- The call is left.
+  pub leaves : (cred : Cred) (request : Request) (text given : List ℕ) (talk : Talk) (old now new : K)
+      (left unread : Option (List ℕ)) (taken : List ℕ)
+      → StandsAsking Means slots cred request text talk old now left unread taken
+      → Means now cred request text WasLeft given new → MayAnswer request.version request.ask WasLeft given
+      → Stopped Means slots Left talk old new left unread taken
+  leaves cred request text given talk old now new left unread taken stands means may =
+      put_ends cred request text WasLeft given talk old now new left unread taken stands means may Left talk
+      (refl, refl)
+
+  -- It stops where it stands, after its hello.
+  stops_greeted : (why : End) (talk talk' : Talk) (old now : K) (left unread rest : Option (List ℕ)) (taken : List ℕ)
+      (stands : Stands Means slots talk old now left unread taken)
+      (greeted : Greeted Means slots talk.session old now left unread stands.replies)
+      → StopsAfter greeted.version why unread rest → IsStoppedWithin why talk.session.requests
+      → Replied why greeted.version slots greeted.calls stands.replies → talk' ≡ talk
+      → Stopped Means slots why talk' old now left rest taken
+  stops_greeted why talk talk' old now left unread rest taken stands greeted ends within replied same =
+      let count : talk'.session.requests ≡ talk.session.requests = ap (λ (t : Talk). t.session.requests) same in
+      inr (record {
+        version = greeted.version;
+        cred = greeted.cred;
+        known = greeted.known;
+        calls = greeted.calls;
+        are_calls = greeted.are_calls;
+        leads = greeted.leads;
+        unread = unread;
+        reads = greeted.reads;
+        ends = ends;
+        within = subst (IsStoppedWithin why) (sym count) within;
+        replies = stands.replies;
+        replied = replied;
+        lost = 0;
+        gathers = regathered (only_lost 0) stands.replies taken talk.unsent talk'.unsent talk.session.tally
+            talk'.session.tally (ap (λ (t : Talk). t.unsent) same) (ap (λ (t : Talk). t.session.tally) same)
+            stands.gathers;
+        all = omega (
+          arith,
+          ap messages_among greeted.gathered,
+          replies_messages greeted.version slots greeted.calls,
+        );
+        counts = count ∙ greeted.counts;
+        bounded = omega (arith, count, greeted.bounded);
+      })
+
+  -- It stops before its hello.
+  stops_fresh : (why : End) (talk talk' : Talk) (old now : K) (left unread rest : Option (List ℕ)) (taken : List ℕ)
+      (stands : Stands Means slots talk old now left unread taken)
+      (fresh : Fresh talk.session old now left unread stands.replies)
+      → EndsBefore why unread rest → talk' ≡ talk → Stopped Means slots why talk' old now left rest taken
+  stops_fresh why talk talk' old now left unread rest taken stands fresh ends same = inl (record {
+    kernel = fresh.kernel;
+    ends = subst (λ (l : Option (List ℕ)). EndsBefore why l rest) fresh.reads ends;
+    gathers = subst (λ (l : List Gathered). Gathers (only_lost 0) l taken talk'.unsent talk'.session.tally)
+        fresh.gathered
+        (regathered (only_lost 0) stands.replies taken talk.unsent talk'.unsent talk.session.tally
+        talk'.session.tally (ap (λ (t : Talk). t.unsent) same) (ap (λ (t : Talk). t.session.tally) same)
+        stands.gathers);
+    counts = ap (λ (t : Talk). t.session.requests) same ∙ fresh.counts;
+  })
+
+  reads_stop_at : (why : End) (talk talk' : Talk) (old now : K) (left unread rest : Option (List ℕ))
+      (taken text : List ℕ) (stands : Stands Means slots talk old now left unread taken)
+      (greeted : Greeted Means slots talk.session old now left unread stands.replies) → talk' ≡ talk →
+      EndsHere (Some (greeted.version, greeted.cred)) talk.session.requests why unread rest text →
+      Stopped Means slots why talk' old now left rest taken
+  reads_stop_at why talk talk' old now left unread rest taken text stands greeted same (inl bound) =
+      let most : talk.session.requests ≡ SESSION_REQUESTS = omega (arith, bound.0, greeted.bounded) in
+      subst (λ (w : End). Stopped Means slots w talk' old now left rest taken) (sym bound.1)
+      (stops_greeted Bound talk talk' old now left unread rest taken stands greeted bound.2 most
+      (greeted.replied, greeted.gathered) same)
+  reads_stop_at why talk talk' old now left unread rest taken text stands greeted same (inr read) =
+      let ends = stops_after greeted.version why talk.session.requests unread rest text read.0 read.1 in
+      stops_greeted why talk talk' old now left unread rest taken stands greeted ends.0 ends.1
+      (all_reply why greeted.version slots greeted.calls unread rest text stands.replies read.1
+      (greeted.replied, greeted.gathered)) same
+
+  -- What it reads stops it.
+  reads_stop : (why : End) (talk talk' : Talk) (old now : K) (left unread rest : Option (List ℕ)) (taken text : List ℕ)
+      (stands : Stands Means slots talk old now left unread taken) →
+      UnderWay Means slots talk.session old now left unread stands.replies → talk' ≡ talk →
+      EndsHere talk.session.caller talk.session.requests why unread rest text →
+      Stopped Means slots why talk' old now left rest taken
+  reads_stop why talk talk' old now left unread rest taken text stands (inl fresh) same here =
+      let ends = subst (λ (c : Option (Version × Cred)). EndsHere c talk.session.requests why unread rest text)
+      fresh.caller here in
+      stops_fresh why talk talk' old now left unread rest taken stands fresh ends.0 same
+  reads_stop why talk talk' old now left unread rest taken text stands (inr greeted) same here =
+      reads_stop_at why talk talk' old now left unread rest taken text stands greeted same
+      (subst (λ (c : Option (Version × Cred)). EndsHere c talk.session.requests why unread rest text)
+      greeted.caller here)
+
+  pub stops : (why : End) (talk talk' : Talk) (old now : K) (left unread rest : Option (List ℕ)) (taken text : List ℕ)
+      → Stands Means slots talk old now left unread taken →
+      TakesUp talk.session talk'.session (Err why) unread rest text → talk'.unsent ≡ talk.unsent →
+      Stopped Means slots why talk' old now left rest taken
+  stops why talk talk' old now left unread rest taken text stands takes same =
+      reads_stop why talk talk' old now left unread rest taken text stands stands.under_way
+      (ap₂ (λ (s : Session) (u : Unsent). let t : Talk = record { session = s; unsent = u } in t) takes.0 same) takes.1
+
+  -- It stops without reading.
+  stops_quiet : (why : End) (talk : Talk) (old now : K) (left unread : Option (List ℕ)) (taken : List ℕ)
+      (stands : Stands Means slots talk old now left unread taken)
+      → UnderWay Means slots talk.session old now left unread stands.replies → EndsBefore why unread unread
+      → ((version : Version) → StopsAfter version why unread unread) → IsStoppedWithin why talk.session.requests
+      → ((version : Version) (calls : List Call) (replies : List Gathered)
+      → AreReplied calls × (replies ≡ replies_to version slots calls) → Replied why version slots calls replies)
+      → Stopped Means slots why talk old now left unread taken
+  stops_quiet why talk old now left unread taken stands (inl fresh) before after within all =
+      stops_fresh why talk talk old now left unread unread taken stands fresh before refl
+  stops_quiet why talk old now left unread taken stands (inr greeted) before after within all =
+      stops_greeted why talk talk old now left unread unread taken stands greeted (after greeted.version) within
+      (all greeted.version greeted.calls stands.replies (greeted.replied, greeted.gathered)) refl
+
+  stops_waiting : (talk : Talk) (old now : K) (left unread : Option (List ℕ)) (taken : List ℕ) →
+      0 < length talk.unsent.bytes → (stands : Stands Means slots talk old now left unread taken) →
+      UnderWay Means slots talk.session old now left unread stands.replies →
+      Stopped Means slots Write talk old now left unread taken
+  stops_waiting talk old now left unread taken some stands (inl fresh) =
+      absurd (omega (
+        arith,
+        some,
+        ap (λ (l : List Gathered). length (all_bytes l)) fresh.gathered,
+        ap (length {A = ℕ}) stands.gathers.bytes,
+        length-append taken talk.unsent.bytes,
+      ))
+  stops_waiting talk old now left unread taken some stands (inr greeted) =
+      stops_greeted Write talk talk old now left unread unread taken stands greeted refl tt
+      (greeted.replied, greeted.gathered) refl
+
+  -- Memory was refused for what it reads.
+  pub stops_memory : (talk : Talk) (old now : K) (left unread : Option (List ℕ)) (taken : List ℕ)
+      → Stands Means slots talk old now left unread taken → Stopped Means slots NoMemory talk old now left unread taken
+  stops_memory talk old now left unread taken stands =
+      stops_quiet NoMemory talk old now left unread taken stands stands.under_way refl (λ v. refl) tt
+      (λ v calls replies all. inl all)
+
+  -- The connection cannot be read.
+  pub stops_read : (talk : Talk) (old now : K) (left unread : Option (List ℕ)) (taken : List ℕ)
+      → Stands Means slots talk old now left unread taken →
+      Stopped Means slots (Fault Read) talk old now left unread taken
+  stops_read talk old now left unread taken stands =
+      stops_quiet (Fault Read) talk old now left unread taken stands stands.under_way
+      ([], Consumes-nil unread, tt, tt) (λ v. ([], Consumes-nil unread, tt, tt)) tt (λ v calls replies all. all)
+
+  -- The connection takes no more, and some replies are left.
+  pub stops_write : (talk : Talk) (old now : K) (left unread : Option (List ℕ)) (taken : List ℕ)
+      → 0 < length talk.unsent.bytes → Stands Means slots talk old now left unread taken →
+      Stopped Means slots Write talk old now left unread taken
+  stops_write talk old now left unread taken some stands =
+      stops_waiting talk old now left unread taken some stands stands.under_way
+
+  -- The connection takes n bytes more.
+  gathers_sent : (lost : ℕ) (replies : List Gathered) (taken : List ℕ) (n : ℕ) (talk talk' : Talk) →
+      n ≤ length talk.unsent.bytes → talk' ≡ sent_on n talk →
+      Gathers (only_lost lost) replies taken talk.unsent talk.session.tally →
+      Gathers (only_lost lost) replies (taken ++ take n talk.unsent.bytes) talk'.unsent talk'.session.tally
+  gathers_sent lost replies taken n talk talk' fits is old =
+      regathered (only_lost lost) replies (taken ++ take n talk.unsent.bytes) _ talk'.unsent _ talk'.session.tally
+      (ap (λ (t : Talk). t.unsent) is) (ap (λ (t : Talk). t.session.tally) is)
+      (gathers_on (only_lost lost) replies taken talk.unsent talk.session.tally n fits old)
+
+  -- What is under way does not depend on the tally.
+  same_way : (talk talk' : Talk) (old now : K) (left unread : Option (List ℕ)) (replies : List Gathered) →
+      talk'.session.caller ≡ talk.session.caller → talk'.session.requests ≡ talk.session.requests →
+      UnderWay Means slots talk.session old now left unread replies →
+      UnderWay Means slots talk'.session old now left unread replies
+  same_way talk talk' old now left unread replies caller count (inl fresh) = inl (record {
+    caller = caller ∙ fresh.caller;
+    counts = count ∙ fresh.counts;
+    kernel = fresh.kernel;
+    reads = fresh.reads;
+    gathered = fresh.gathered;
+  })
+  same_way talk talk' old now left unread replies caller count (inr greeted) = inr (record {
+    version = greeted.version;
+    cred = greeted.cred;
+    known = greeted.known;
+    calls = greeted.calls;
+    are_calls = greeted.are_calls;
+    leads = greeted.leads;
+    reads = greeted.reads;
+    replied = greeted.replied;
+    caller = caller ∙ greeted.caller;
+    counts = count ∙ greeted.counts;
+    bounded = omega (arith, count, greeted.bounded);
+    gathered = greeted.gathered;
+  })
+
+  pub sends : (n : ℕ) (talk talk' : Talk) (old now : K) (left unread : Option (List ℕ)) (taken : List ℕ) →
+      n ≤ length talk.unsent.bytes → talk' ≡ sent_on n talk → Stands Means slots talk old now left unread taken →
+      Stands Means slots talk' old now left unread (taken ++ take n talk.unsent.bytes)
+  sends n talk talk' old now left unread taken fits is stands = record {
+    replies = stands.replies;
+    under_way = same_way talk talk' old now left unread stands.replies (ap (λ (t : Talk). t.session.caller) is)
+        (ap (λ (t : Talk). t.session.requests) is) stands.under_way;
+    gathers = gathers_sent 0 stands.replies taken n talk talk' fits is stands.gathers;
+  }
+
+  -- The same while a call is not over.
+  pub sends_asking : (cred : Cred) (request : Request) (text : List ℕ) (n : ℕ) (talk talk' : Talk) (old now : K)
+      (left unread : Option (List ℕ)) (taken : List ℕ) → n ≤ length talk.unsent.bytes → talk' ≡ sent_on n talk →
+      StandsAsking Means slots cred request text talk old now left unread taken →
+      StandsAsking Means slots cred request text talk' old now left unread (taken ++ take n talk.unsent.bytes)
+  sends_asking cred request text n talk talk' old now left unread taken fits is stands =
+      let count : talk'.session.requests ≡ talk.session.requests = ap (λ (t : Talk). t.session.requests) is in
+      record {
+        replies = stands.replies;
+        asking = record {
+          version = stands.asking.version;
+          known = stands.asking.known;
+          calls = stands.asking.calls;
+          are_calls = stands.asking.are_calls;
+          leads = stands.asking.leads;
+          behind = stands.asking.behind;
+          reads = stands.asking.reads;
+          asks = stands.asking.asks;
+          asked = stands.asking.asked;
+          replied = stands.asking.replied;
+          caller = ap (λ (t : Talk). t.session.caller) is ∙ stands.asking.caller;
+          counts = count ∙ stands.asking.counts;
+          bounded = omega (arith, count, stands.asking.bounded);
+          gathered = stands.asking.gathered;
+        };
+        gathers = gathers_sent 0 stands.replies taken n talk talk' fits is stands.gathers;
+      }
+
+  -- The same once it stopped.
+  pub sends_stopped : (why : End) (n : ℕ) (talk talk' : Talk) (old now : K) (left rest : Option (List ℕ))
+      (taken : List ℕ) → n ≤ length talk.unsent.bytes → talk' ≡ sent_on n talk →
+      Stopped Means slots why talk old now left rest taken →
+      Stopped Means slots why talk' old now left rest (taken ++ take n talk.unsent.bytes)
+  sends_stopped why n talk talk' old now left rest taken fits is (inl before) = inl (record {
+    kernel = before.kernel;
+    ends = before.ends;
+    gathers = gathers_sent 0 [] taken n talk talk' fits is before.gathers;
+    counts = ap (λ (t : Talk). t.session.requests) is ∙ before.counts;
+  })
+  sends_stopped why n talk talk' old now left rest taken fits is (inr after) =
+      let count : talk'.session.requests ≡ talk.session.requests = ap (λ (t : Talk). t.session.requests) is in
+      inr (record {
+        version = after.version;
+        cred = after.cred;
+        known = after.known;
+        calls = after.calls;
+        are_calls = after.are_calls;
+        leads = after.leads;
+        unread = after.unread;
+        reads = after.reads;
+        ends = after.ends;
+        within = subst (IsStoppedWithin why) (sym count) after.within;
+        replies = after.replies;
+        replied = after.replied;
+        lost = after.lost;
+        gathers = gathers_sent after.lost after.replies taken n talk talk' fits is after.gathers;
+        all = after.all;
+        counts = count ∙ after.counts;
+        bounded = omega (arith, count, after.bounded);
+      })
+
+  few_under_way : (talk : Talk) (old now : K) (left unread : Option (List ℕ)) (replies : List Gathered) →
+      UnderWay Means slots talk.session old now left unread replies → messages_among replies < 2 ^ 32
+  few_under_way talk old now left unread replies (inl fresh) = omega (arith, ap messages_among fresh.gathered)
+  few_under_way talk old now left unread replies (inr greeted) =
+      omega (
+        arith,
+        few_replies greeted.version slots greeted.calls replies greeted.gathered,
+        greeted.counts,
+        greeted.bounded,
+      )
+
+  -- The tally has room for each message in the outbox, and for one more.
+  pub has_room : (talk : Talk) (old now : K) (left unread : Option (List ℕ)) (taken : List ℕ) →
+      Stands Means slots talk old now left unread taken → HasRoom talk
+  has_room talk old now left unread taken stands =
+      omega (
+        arith,
+        each_counted 0 stands.replies taken talk.unsent talk.session.tally stands.gathers,
+        few_under_way talk old now left unread stands.replies stands.under_way,
+      )
+
+  pub has_room_asking : (cred : Cred) (request : Request) (text : List ℕ) (talk : Talk) (old now : K)
+      (left unread : Option (List ℕ)) (taken : List ℕ) →
+      StandsAsking Means slots cred request text talk old now left unread taken →
+      HasRoom talk × (taken_in talk.session.tally < 2 ^ 64 - 1)
+  has_room_asking cred request text talk old now left unread taken stands =
+      let each = each_counted 0 stands.replies taken talk.unsent talk.session.tally stands.gathers in
+      let few = few_replies stands.asking.version slots stands.asking.calls stands.replies stands.asking.gathered in (
+        omega (arith, each, few, stands.asking.counts, stands.asking.bounded),
+        omega (arith, each, few, stands.asking.counts, stands.asking.bounded),
+      )
+
+  pub has_room_greeting : (version : Version) (talk : Talk) (old now : K) (left unread : Option (List ℕ))
+      (taken : List ℕ) → StandsGreeting version talk old now left unread taken → HasRoom talk
+  has_room_greeting version talk old now left unread taken stands =
+      omega (
+        arith,
+        each_counted 0 stands.replies taken talk.unsent talk.session.tally stands.gathers,
+        ap messages_among stands.greets.gathered,
+      )
+
+  pub has_room_stopped : (why : End) (talk : Talk) (old now : K) (left rest : Option (List ℕ)) (taken : List ℕ) →
+      Stopped Means slots why talk old now left rest taken → HasRoom talk
+  has_room_stopped why talk old now left rest taken (inl before) =
+      omega (arith, each_counted 0 [] taken talk.unsent talk.session.tally before.gathers)
+  has_room_stopped why talk old now left rest taken (inr after) =
+      omega (
+        arith,
+        each_counted after.lost after.replies taken talk.unsent talk.session.tally after.gathers,
+        after.all,
+        few_messages after.calls,
+        after.counts,
+        after.bounded,
+      )
+
+  -- It ends.
+  pub ends : (why : End) (talk : Talk) (old now : K) (left rest before after : Option (List ℕ)) (taken : List ℕ) →
+      Stopped Means slots why talk old now left rest taken → Appends before after taken →
+      ServesTogether Means slots (report why talk) old now left rest before after
+  ends why talk old now left rest before after taken (inl none) writes =
+      let nothing : taken ++ talk.unsent.bytes ≡ [] = sym none.gathers.bytes in
+      let sent : taken ≡ [] = append_empty taken talk.unsent.bytes nothing in
+      let empty : talk.unsent.bytes ≡ [] =
+      sym (ap (λ (l : List ℕ). l ++ talk.unsent.bytes) sent) ∙ nothing in
+      let each = each_counted 0 [] taken talk.unsent talk.session.tally none.gathers in
+      let written : talk.session.tally.written ≡ 0 = omega (arith, each) in
+      let lost : talk.session.tally.lost + length talk.unsent.marks ≡ 0 = omega (arith, each) in
+      inl (record {
+        kernel = none.kernel;
+        ends = subst (λ (l : List ℕ). EndsBefore (reported why l) left rest) (sym empty) none.ends;
+        writes = subst (Appends before after) sent writes;
+        tallies = ap₂ (λ (w l : ℕ). let t : Tallied = record { written = w; lost = l } in t) written lost;
+        counts = none.counts;
+      })
+  ends why talk old now left rest before after taken (inr stopped) writes =
+      inr (record {
+        version = stopped.version;
+        cred = stopped.cred;
+        known = stopped.known;
+        calls = stopped.calls;
+        are_calls = stopped.are_calls;
+        leads = stopped.leads;
+        unread = stopped.unread;
+        reads = stopped.reads;
+        stopped = why;
+        ends = stopped.ends;
+        bounded = stopped.within;
+        replies = stopped.replies;
+        replied = stopped.replied;
+        sent = taken;
+        prefix = (talk.unsent.bytes, stopped.gathers.bytes);
+        writes = writes;
+        reports = reports_of why talk.unsent.bytes taken (all_bytes stopped.replies) stopped.gathers.bytes;
+        all = omega (
+          arith,
+          each_counted stopped.lost stopped.replies taken talk.unsent talk.session.tally stopped.gathers,
+          stopped.all,
+        );
+        written = omega (arith, stopped.gathers.written);
+        counts = stopped.counts;
+      })

@@ -1,0 +1,283 @@
+-- How an outbox keeps its bytes and its marks.
+use Rattle.std.proofs.Common.{◌≡◌, ℕ, suc, ◌+◌, ◌-◌, ◌^◌, ◌<◌, ◌≤◌, Bool, true, false, cond, nat_le, List, [], ◌∷◌}
+use Rattle.std.proofs.Common.{◌++◌, length, map, take, drop, Result, Ok, Err, refl, sym, ap, ap₂, subst, ◌∙◌, arith}
+use Rattle.std.proofs.Common.{subst₂}
+use Rattle.std.proofs.Common.{append_assoc, append-nil, length-append, le_refl}
+use Rattle.std.proofs.Common.{le_of_suc-le-suc}
+use Rattle.std.proofs.Math.Seq.{drop-length, take-length}
+use Rattle.std.proofs.lemmas.Bool.Decides.{nat_tests}
+use Rattle.std.proofs.lemmas.List.{drop-append-le, drop-drop, length-drop, map-append, take-append-le}
+use Rattle.std.specs.Prelude.{OnOk, OnErr, is_err}
+use Rattle.sysv_queue.specs.Delivery.{Given}
+use Rattle.sysv_queue.specs.Tally.{Tallied, taken_in}
+use Rattle.sysv_session.specs.Layout.{InOrder, IsAscending, begins_within, unspent}
+use Rattle.sysv_session.specs.Outbox.{Mark, Unsent, beyond, mark_at, more_written, nearer, with_frame}
+use Rattle.sysv_session.specs.Outbox.{with_message, within, without}
+use Rattle.sysv_session.proofs.OutboxLemmas.{first_within}
+
+pub in_order_le : (least most : ℕ) (marks : List Mark) → InOrder least marks most → least ≤ most
+in_order_le least most [] order = order
+in_order_le least most (x ∷ xs) order = omega (arith, order.0, in_order_le x.ends most xs order.1)
+
+pub in_order_more : (least most more : ℕ) (marks : List Mark) → most ≤ more → InOrder least marks most →
+    InOrder least marks more
+in_order_more least most more [] le order = omega (arith, le, order)
+in_order_more least most more (x ∷ xs) le order = (order.0, in_order_more x.ends most more xs le order.1)
+
+-- One more mark, at the end.
+pub in_order_push : (least most more : ℕ) (marks : List Mark) (given : Given) → most ≤ more →
+    InOrder least marks most → InOrder least (marks ++ mark_at more given ∷ []) more
+in_order_push least most more [] given le order = (omega (arith, le, order), le_refl more)
+in_order_push least most more (x ∷ xs) given le order = (order.0, in_order_push x.ends most more xs given le order.1)
+
+-- The marks, n bytes nearer.
+pub in_order_nearer : (n least most : ℕ) (marks : List Mark) → InOrder least marks most →
+    InOrder (least - n) (map (nearer n) marks) (most - n)
+in_order_nearer n least most [] order = omega (arith, order)
+in_order_nearer n least most (x ∷ xs) order = (omega (arith, order.0), in_order_nearer n x.ends most xs order.1)
+
+unspent_at : (b : Bool) (n : ℕ) (x : Mark) (xs : List Mark) → nat_le x.ends n ≡ b →
+    unspent n (x ∷ xs) ≡ cond b (unspent n xs) (x ∷ unspent n xs)
+unspent_at true n x xs is = rw is
+unspent_at false n x xs is = rw is
+
+-- If the first mark lies beyond the first n bytes, all do.
+pub all_unspent : (n least most : ℕ) (marks : List Mark) → n < least → InOrder least marks most →
+    unspent n marks ≡ marks
+all_unspent n least most [] lt order = refl
+all_unspent n least most (x ∷ xs) lt order =
+    let is : nat_le x.ends n ≡ false = grind (arith, nat_tests, order.0) in
+    unspent_at false n x xs is
+    ∙ ap (λ (l : List Mark). x ∷ l) (all_unspent n x.ends most xs (omega (arith, lt, order.0)) order.1)
+
+pub none_within : (n least most : ℕ) (marks : List Mark) → n < least → InOrder least marks most → within n marks ≡ 0
+none_within n least most [] lt order = refl
+none_within n least most (x ∷ xs) lt order =
+    let is : nat_le x.ends n ≡ false = grind (arith, nat_tests, order.0) in
+    omega (arith, first_within false n x xs is, none_within n x.ends most xs (omega (arith, lt, order.0)) order.1)
+
+in_order_unspent_at : (b : Bool) (n least most : ℕ) (x : Mark) (xs : List Mark) → nat_le x.ends n ≡ b → n ≤ most →
+    InOrder least (x ∷ xs) most → InOrder n (unspent n xs) most → InOrder n (unspent n (x ∷ xs)) most
+in_order_unspent_at true n least most x xs is le order more =
+    subst (λ (l : List Mark). InOrder n l most) (sym (unspent_at true n x xs is)) more
+in_order_unspent_at false n least most x xs is le order more =
+    let lt : n < x.ends = grind (arith, nat_tests) in
+    subst (λ (l : List Mark). InOrder n l most)
+    (sym (unspent_at false n x xs is ∙ ap (λ (l : List Mark). x ∷ l) (all_unspent n x.ends most xs lt order.1)))
+    (omega (arith, lt), order.1)
+
+-- The marks that are left lie behind the first n bytes.
+pub in_order_unspent : (n least most : ℕ) (marks : List Mark) → n ≤ most → InOrder least marks most →
+    InOrder n (unspent n marks) most
+in_order_unspent n least most [] le order = le
+in_order_unspent n least most (x ∷ xs) le order =
+    in_order_unspent_at (nat_le x.ends n) n least most x xs refl le order
+    (in_order_unspent n x.ends most xs le order.1)
+
+-- The marks of an outbox of which k bytes were taken.
+pub beyond_nearer : (k n : ℕ) (marks : List Mark) → beyond n (map (nearer k) marks) ≡ beyond (k + n) marks
+beyond_nearer k n [] = refl
+beyond_nearer k n (x ∷ xs) = grind (arith, nat_tests, beyond_nearer k n xs)
+
+within_nearer_at : (b : Bool) (k n : ℕ) (x : Mark) (xs : List Mark) → nat_le x.ends (k + n) ≡ b →
+    within n (map (nearer k) xs) ≡ within (k + n) xs → within n (map (nearer k) (x ∷ xs)) ≡ within (k + n) (x ∷ xs)
+within_nearer_at b k n x xs is more =
+    let same : nat_le (x.ends - k) n ≡ b = grind (arith, nat_tests, is) in
+    omega (arith, first_within b (k + n) x xs is, first_within b n (nearer k x) (map (nearer k) xs) same, more)
+
+pub within_nearer : (k n : ℕ) (marks : List Mark) → within n (map (nearer k) marks) ≡ within (k + n) marks
+within_nearer k n [] = refl
+within_nearer k n (x ∷ xs) = within_nearer_at (nat_le x.ends (k + n)) k n x xs refl (within_nearer k n xs)
+
+pub nearer_none : (marks : List Mark) → map (nearer 0) marks ≡ marks
+nearer_none [] = refl
+nearer_none (x ∷ xs) =
+    let same : x.ends - 0 ≡ x.ends = omega arith in
+    ap₂ (λ (n : ℕ) (l : List Mark). mark_at n x.given ∷ l) same (nearer_none xs)
+
+-- What the contracts see of the fields.
+abbrev pub view_of : ℕ → List ℕ → List Mark → Unsent
+view_of taken bytes marks = record { bytes = drop taken bytes; marks = map (nearer taken) marks }
+
+-- A frame is appended, or the bytes stay the same.
+module _ {T E : Type 0} (taken : ℕ) (marks : List Mark) (old new frame : List ℕ) where
+  pub put_order : (result : Result T E) → OnOk result (new ≡ old ++ frame) → OnErr result (new ≡ old) →
+      InOrder taken marks (length old) → InOrder taken marks (length new)
+  put_order (Ok done) ok err order =
+      in_order_more taken (length old) (length new) marks
+      (omega (arith, ap (length {A = ℕ}) ok, length-append old frame)) order
+  put_order (Err failed) ok err order =
+      subst (λ (l : List ℕ). InOrder taken marks (length l)) (sym err) order
+
+  pub put_view : (result : Result T E) (box : Unsent) → OnOk result (new ≡ old ++ frame) → taken ≤ length old →
+      view_of taken old marks ≡ box → OnOk result (view_of taken new marks ≡ with_frame frame box)
+  put_view (Ok done) box ok le is =
+      ap₂ (λ (l : List ℕ) (ms : List Mark). let b : Unsent = record { bytes = l; marks = ms } in b)
+      (ap (drop taken) ok ∙ drop-append-le taken old frame le ∙ ap (λ (b : Unsent). b.bytes ++ frame) is)
+      (ap (λ (b : Unsent). b.marks) is)
+  put_view (Err failed) box ok le is = tt
+
+-- A frame is appended that ends with a message.
+module _ (taken ends : ℕ) (marks marks' : List Mark) (old new frame : List ℕ) (given : Given)
+    (grown : new ≡ old ++ frame) (at : ends ≡ length new) (pushed : marks' ≡ marks ++ mark_at ends given ∷ [])
+    (order : InOrder taken marks (length old)) where
+  pub message_order : InOrder taken marks' (length new)
+  message_order =
+      subst (λ (ms : List Mark). InOrder taken ms (length new))
+      (ap (λ (n : ℕ). marks ++ mark_at n given ∷ []) (sym at) ∙ sym pushed)
+      (in_order_push taken (length old) (length new) marks given
+      (omega (arith, ap (length {A = ℕ}) grown, length-append old frame)) order)
+
+  pub message_view : (box : Unsent) → view_of taken old marks ≡ box →
+      view_of taken new marks' ≡ with_message frame given box
+  message_view box is =
+      let le : taken ≤ length old = in_order_le taken (length old) marks order in
+      let bytes : drop taken new ≡ box.bytes ++ frame =
+      ap (drop taken) grown ∙ drop-append-le taken old frame le ∙ ap (λ (b : Unsent). b.bytes ++ frame) is in
+      let place : ends - taken ≡ length (box.bytes ++ frame) =
+      ap (λ (n : ℕ). n - taken) at ∙ sym (length-drop taken new) ∙ ap (length {A = ℕ}) bytes in
+      ap₂ (λ (l : List ℕ) (ms : List Mark). let b : Unsent = record { bytes = l; marks = ms } in b) bytes
+      (ap (map (nearer taken)) pushed ∙ map-append (nearer taken) marks (mark_at ends given ∷ [])
+      ∙ ap₂ (λ (ms : List Mark) (n : ℕ). ms ++ mark_at n given ∷ []) (ap (λ (b : Unsent). b.marks) is) place)
+
+pub ok_of : {T E : Type 0} {P : Type 0} (result : Result T E) → is_err result ≡ false → OnOk result P → P
+ok_of (Ok done) is ok = ok
+ok_of (Err failed) is ok = absurd (grind (arith, is))
+
+-- The connection takes n bytes more.
+module _ (taken n : ℕ) (bytes : List ℕ) (marks : List Mark) where
+  pub within_view : (box : Unsent) → view_of taken bytes marks ≡ box → within (taken + n) marks ≡ within n box.marks
+  within_view box is = sym (within_nearer taken n marks) ∙ ap (λ (b : Unsent). within n b.marks) is
+
+  pub sent_view : (marks' : List Mark) (box : Unsent) → view_of taken bytes marks ≡ box →
+      marks' ≡ unspent (taken + n) marks → view_of (taken + n) bytes marks' ≡ without n box
+  sent_view marks' box is left =
+      ap₂ (λ (l : List ℕ) (ms : List Mark). let b : Unsent = record { bytes = l; marks = ms } in b)
+      (sym (drop-drop n taken bytes) ∙ ap (λ (b : Unsent). drop n b.bytes) is)
+      (ap (map (nearer (taken + n))) left ∙ sym (beyond_nearer taken n marks)
+      ∙ ap (λ (b : Unsent). beyond n b.marks) is)
+
+  pub sent_marks : (marks' : List Mark) (box : Unsent) → view_of taken bytes marks ≡ box → n ≤ length box.bytes →
+      marks' ≡ unspent (taken + n) marks → InOrder taken marks (length bytes) →
+      InOrder (taken + n) marks' (length bytes)
+  sent_marks marks' box is some left order =
+      let fits : taken + n ≤ length bytes =
+      omega (
+        arith,
+        some,
+        ap (λ (b : Unsent). length b.bytes) is,
+        length-drop taken bytes,
+        in_order_le taken (length bytes) marks order,
+      ) in
+      subst (λ (ms : List Mark). InOrder (taken + n) ms (length bytes)) (sym left)
+      (in_order_unspent (taken + n) taken (length bytes) marks fits order)
+
+-- The bytes that were taken are removed.
+pub removed_view : (taken : ℕ) (bytes bytes' : List ℕ) (marks marks' : List Mark) → bytes' ≡ drop taken bytes →
+    marks' ≡ map (nearer taken) marks → view_of 0 bytes' marks' ≡ view_of taken bytes marks
+removed_view taken bytes bytes' marks marks' rest near =
+    ap₂ (λ (l : List ℕ) (ms : List Mark). let b : Unsent = record { bytes = l; marks = ms } in b) rest
+    (nearer_none marks' ∙ near)
+
+pub removed_order : (taken : ℕ) (bytes bytes' : List ℕ) (marks marks' : List Mark) → bytes' ≡ drop taken bytes →
+    marks' ≡ map (nearer taken) marks → InOrder taken marks (length bytes) → InOrder 0 marks' (length bytes')
+removed_order taken bytes bytes' marks marks' rest near order =
+    let none : taken - taken ≡ 0 = omega arith in
+    let long : length bytes - taken ≡ length bytes' =
+    sym (length-drop taken bytes) ∙ ap (length {A = ℕ}) (sym rest) in
+    subst (λ (ms : List Mark). InOrder 0 ms (length bytes')) (sym near)
+    (subst₂ (λ (l m : ℕ). InOrder l (map (nearer taken) marks) m) none long
+    (in_order_nearer taken taken (length bytes) marks order))
+
+pub in_order_rest : (x : Mark) (xs : List Mark) (least most : ℕ) → InOrder least (x ∷ xs) most → IsAscending xs
+in_order_rest x xs least most order = (x.ends, most, order.1)
+
+-- Marks are spent from the front.
+pub record Spending (n : ℕ) (all : List Mark) (before : Tallied) (marks : List Mark) (tally : Tallied) : Type 0 where
+  pub order : IsAscending marks
+  pub kept : unspent n marks ≡ unspent n all
+  pub spent : tally.written + within n marks ≡ before.written + within n all
+  pub lost : tally.lost ≡ before.lost
+  pub few : tally.written + length marks ≡ before.written + length all
+
+pub spending_starts : (n : ℕ) (all : List Mark) (before : Tallied) → IsAscending all → Spending n all before all before
+spending_starts n all before order = record { order = order; kept = refl; spent = refl; lost = refl; few = refl }
+
+module _ (n : ℕ) (all : List Mark) (before : Tallied) (x : Mark) (rest : List Mark) (marks : List Mark)
+    (tally : Tallied) (first : marks ≡ x ∷ rest) (old : Spending n all before marks tally) where
+  opened : Spending n all before (x ∷ rest) tally
+  opened = subst (λ (m : List Mark). Spending n all before m tally) first old
+
+  pub spending_room : taken_in before + length all < 2 ^ 64 → taken_in tally < 2 ^ 64 - 1
+  spending_room room = omega (arith, room, opened.few, opened.lost)
+
+  pub spending_on : (marks' : List Mark) (tally' : Tallied) → begins_within n marks ≡ true → marks' ≡ rest →
+      tally' ≡ more_written 1 tally → Spending n all before marks' tally'
+  spending_on marks' tally' begun same one =
+      let is : nat_le x.ends n ≡ true = sym (ap (begins_within n) first) ∙ begun in
+      subst₂ (λ (m : List Mark) (t : Tallied). Spending n all before m t) (sym same) (sym one) (record {
+        order = in_order_rest x rest opened.order.0 opened.order.1 opened.order.2;
+        kept = sym (unspent_at true n x rest is) ∙ opened.kept;
+        spent = omega (arith, first_within true n x rest is, opened.spent);
+        lost = opened.lost;
+        few = omega (arith, opened.few);
+      })
+
+all_kept : (n : ℕ) (marks : List Mark) → IsAscending marks → begins_within n marks ≡ false → unspent n marks ≡ marks
+all_kept n [] order is = refl
+all_kept n (x ∷ xs) order is =
+    let lt : n < x.ends = grind (arith, nat_tests, is) in
+    unspent_at false n x xs is
+    ∙ ap (λ (l : List Mark). x ∷ l) (all_unspent n x.ends order.1 xs lt order.2.1)
+
+none_spent : (n : ℕ) (marks : List Mark) → IsAscending marks → begins_within n marks ≡ false → within n marks ≡ 0
+none_spent n [] order is = refl
+none_spent n (x ∷ xs) order is =
+    let lt : n < x.ends = grind (arith, nat_tests, is) in
+    omega (arith, first_within false n x xs is, none_within n x.ends order.1 xs lt order.2.1)
+
+-- No more marks are within.
+pub spending_ends : (n : ℕ) (all : List Mark) (before : Tallied) (marks : List Mark) (tally : Tallied) →
+    begins_within n marks ≡ false → Spending n all before marks tally →
+    (marks ≡ unspent n all) × (tally ≡ more_written (within n all) before)
+spending_ends n all before marks tally is old =
+    let written : tally.written ≡ before.written + within n all =
+    omega (arith, old.spent, none_spent n marks old.order is) in (
+      sym (all_kept n marks old.order is) ∙ old.kept,
+      ap₂ (λ (w l : ℕ). record { written = w; lost = l }) written old.lost,
+    )
+
+-- Marks are brought nearer, from the front to the back: all were but the first `left`.
+pub record Nearing (n left : ℕ) (all marks : List Mark) : Type 0 where
+  pub few : left ≤ length marks
+  pub moved : drop left marks ++ map (nearer n) (take left marks) ≡ map (nearer n) all
+
+pub nearing_starts : (n : ℕ) (all : List Mark) → Nearing n (length all) all all
+nearing_starts n all = record {
+  few = le_refl (length all);
+  moved = ap₂ (λ (back front : List Mark). back ++ map (nearer n) front) (drop-length all) (take-length all);
+}
+
+nearing : (n left : ℕ) (all : List Mark) (x : Mark) (xs : List Mark) → Nearing n (suc left) all (x ∷ xs) →
+    Nearing n left all (xs ++ nearer n x ∷ [])
+nearing n left all x xs old =
+    let few : left ≤ length xs = le_of_suc-le-suc old.few in
+    let front : take left (xs ++ nearer n x ∷ []) ≡ take left xs = take-append-le left xs (nearer n x ∷ []) few in
+    let back : drop left (xs ++ nearer n x ∷ []) ≡ drop left xs ++ nearer n x ∷ [] =
+    drop-append-le left xs (nearer n x ∷ []) few in
+    record {
+      few = omega (arith, few, length-append xs (nearer n x ∷ []));
+      moved = ap₂ (λ (b f : List Mark). b ++ map (nearer n) f) back front
+          ∙ append_assoc (drop left xs) (nearer n x ∷ []) (map (nearer n) (take left xs)) ∙ old.moved;
+    }
+
+pub nearing_on : (n few less : ℕ) (all marks marks' rest : List Mark) (x : Mark) → marks ≡ x ∷ rest → few ≡ suc less →
+    marks' ≡ rest ++ nearer n x ∷ [] → Nearing n few all marks → Nearing n less all marks'
+nearing_on n few less all marks marks' rest x first next back old =
+    subst (Nearing n less all) (sym back)
+    (nearing n less all x rest
+    (subst (λ (m : List Mark). Nearing n (suc less) all m) first
+    (subst (λ (k : ℕ). Nearing n k all marks) next old)))
+
+pub nearing_ends : (n : ℕ) (all marks : List Mark) → Nearing n 0 all marks → marks ≡ map (nearer n) all
+nearing_ends n all marks old = sym (append-nil marks) ∙ old.moved

@@ -1,0 +1,78 @@
+-- How a conversation stands, from its start on (this project's profile): under way, with a hello or a
+-- request that has no reply yet, or stopped. `taken` is what the connection has taken of its replies.
+use Rattle.std.specs.Prelude.{◌≡◌, ◌≤◌, ◌+◌, ◌⊎◌, ℕ, List, [], ◌++◌, Option, length}
+use Rattle.std.specs.List.{AllByRecursion}
+use Rattle.std.specs.Io.KnownBytes.{Consumes}
+use Rattle.sysv_model.specs.declared.cred.Cred.{Cred}
+use Rattle.sysv_queue.specs.Tally.{Tallied}
+use Rattle.sysv_session.specs.declared.served.End.{End}
+use Rattle.sysv_session.specs.declared.served.TheConstants.{SESSION_REQUESTS}
+use Rattle.sysv_session.specs.Calls.{Call, IsCall, Leads, Meaning, messages_of}
+use Rattle.sysv_session.specs.Conversation.{Talk}
+use Rattle.sysv_session.specs.Gathered.{Gathered, Gathers, messages_among}
+use Rattle.sysv_session.specs.Input.{EndsBefore, asked_spelling, hello_of, hello_spelling}
+use Rattle.sysv_session.specs.Together.{IsStoppedWithin, Replied, StopsAfter}
+use Rattle.sysv_session.specs.UnderWay.{Asking, Greets, UnderWay}
+use Rattle.sysv_wire.specs.declared.frame.Version.{Version}
+use Rattle.sysv_wire.specs.declared.request.Request.{Request}
+use Rattle.sysv_wire.specs.Requests.{FitsRequest}
+
+-- No message was written, and this many were lost.
+abbrev pub only_lost : ℕ → Tallied
+only_lost count = record { written = 0; lost = count }
+
+module _ {K : Type 0} where
+  -- All that was taken up has its reply.
+  pub record Stands (Means : Meaning K) (slots : ℕ) (talk : Talk) (old now : K) (left unread : Option (List ℕ))
+      (taken : List ℕ) : Type 0 where
+    pub replies : List Gathered
+    pub under_way : UnderWay Means slots talk.session old now left unread replies
+    pub gathers : Gathers (only_lost 0) replies taken talk.unsent talk.session.tally
+
+  -- A hello of this version was taken up, and its reply is not gathered yet.
+  pub record StandsGreeting (version : Version) (talk : Talk) (old now : K) (left unread : Option (List ℕ))
+      (taken : List ℕ) : Type 0 where
+    pub replies : List Gathered
+    pub greets : Greets version talk.session old now left unread replies
+    pub gathers : Gathers (only_lost 0) replies taken talk.unsent talk.session.tally
+
+  -- This request was taken up, and its call is not over yet, or its reply is not gathered.
+  pub record StandsAsking (Means : Meaning K) (slots : ℕ) (cred : Cred) (request : Request) (text : List ℕ)
+      (talk : Talk) (old now : K) (left unread : Option (List ℕ)) (taken : List ℕ) : Type 0 where
+    pub replies : List Gathered
+    pub asking : Asking Means slots cred request text talk.session old now left unread replies
+    pub gathers : Gathers (only_lost 0) replies taken talk.unsent talk.session.tally
+
+  -- It stopped for this reason before a hello was taken up.
+  pub record StoppedBefore (why : End) (talk : Talk) (old now : K) (left rest : Option (List ℕ)) (taken : List ℕ) :
+      Type 0 where
+    pub kernel : now ≡ old
+    pub ends : EndsBefore why left rest
+    pub gathers : Gathers (only_lost 0) [] taken talk.unsent talk.session.tally
+    pub counts : talk.session.requests ≡ 0
+
+  -- It stopped for this reason after its hello.
+  pub record StoppedAfter (Means : Meaning K) (slots : ℕ) (why : End) (talk : Talk) (old now : K)
+      (left rest : Option (List ℕ)) (taken : List ℕ) : Type 0 where
+    pub version : Version
+    pub cred : Cred
+    pub known : FitsRequest (hello_of version cred) []
+    pub calls : List Call
+    pub are_calls : AllByRecursion (IsCall version) calls
+    pub leads : Leads Means cred old calls now
+    pub unread : Option (List ℕ)
+    pub reads : Consumes left unread (hello_spelling version cred ++ asked_spelling calls)
+    pub ends : StopsAfter version why unread rest
+    pub within : IsStoppedWithin why talk.session.requests
+    pub replies : List Gathered
+    pub replied : Replied why version slots calls replies
+    pub lost : ℕ  -- the messages whose replies could not be gathered
+    pub gathers : Gathers (only_lost lost) replies taken talk.unsent talk.session.tally
+    pub all : messages_of calls ≡ lost + messages_among replies
+    pub counts : talk.session.requests ≡ 1 + length calls
+    pub bounded : talk.session.requests ≤ SESSION_REQUESTS
+
+  -- It stopped for this reason: it takes up no more.
+  abbrev pub Stopped : Meaning K → ℕ → End → Talk → (old now : K) → (left rest : Option (List ℕ)) → List ℕ → Type 0
+  Stopped Means slots why talk old now left rest taken =
+      StoppedBefore why talk old now left rest taken ⊎ StoppedAfter Means slots why talk old now left rest taken

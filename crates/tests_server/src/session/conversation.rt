@@ -1,0 +1,161 @@
+//! A session and its gathered replies as one value.
+ghost use Rattle.std.specs.Prelude.{◌≡◌, ◌≤◌, ◌<◌, ◌+◌, length, IfSome};
+ghost use Rattle.sysv_queue.specs.Tally.{taken_in};
+
+use super::served::counts_of;
+use super::shelf::Shelf;
+use std::alloc::Global;
+use std::process::Abort;
+use sysv_model::{Body, Watched};
+use sysv_session::{Conversation, End, Kernel, RequestOutcome, Served, TakenUp};
+use sysv_wire::Version;
+use tests_kit::worked::{ANSWERS, SESSION};
+use tests_kit::{Pieces, open_body};
+
+/// A conversation and its two bodies.
+struct Talking {
+    conversation: Conversation,
+    text: Body,
+    given: Body,
+}
+
+impl Talking {
+    /// Opens a conversation. Tolerates one refusal of memory.
+    fn open(rt: &impl Abort, alloc: Global) -> Talking
+        ensures { taken_in result.conversation.session.tally
+            + length result.conversation.unsent.marks ≡ 0 }
+    {
+        Talking {
+            conversation: Conversation::open(alloc),
+            text: open_body(alloc).expect(rt, "a second try"),
+            given: open_body(alloc).expect(rt, "a second try"),
+        }
+    }
+
+    /// Takes up what the input holds next, and gathers its reply.
+    fn step(&mut self, reader: &mut Watched<'_, Pieces<'_>>, kernel: &mut Shelf) -> Result<(), End>
+        requires room { taken_in self.old.conversation.session.tally
+            + length self.old.conversation.unsent.marks < 9 }
+        ensures more { taken_in self.new.conversation.session.tally
+            + length self.new.conversation.unsent.marks
+            ≤ taken_in self.old.conversation.session.tally
+            + length self.old.conversation.unsent.marks + 1 }
+    {
+        let taken = self.conversation.take_up(reader, &mut self.text)?;
+        self.given.clear();
+        match taken {
+            TakenUp::Hello(version) => {
+                self.conversation
+                    .greet(version, kernel.slots(), &self.given)
+            }
+            TakenUp::Request(cred, request) => {
+                let outcome = kernel.call(cred, &request, &self.text, &mut self.given);
+                self.conversation.put(request.version, outcome, &self.given)
+            }
+        }
+    }
+
+    /// Takes up requests until one of them ends the session.
+    fn talk(&mut self, text: &[u8], kernel: &mut Shelf) -> End
+        requires none { taken_in self.old.conversation.session.tally
+            + length self.old.conversation.unsent.marks ≡ 0 }
+        ensures few { taken_in self.new.conversation.session.tally
+            + length self.new.conversation.unsent.marks ≤ 9 }
+    {
+        let mut pieces = Pieces::new(text, usize::MAX);
+        let mut reader = Watched::new(&mut pieces);
+        for _ in 0..9 {
+            if let Err(end) = self.step(&mut reader, kernel) {
+                return end;
+            }
+        }
+        End::Bound
+    }
+}
+
+/// Holds the session whose bytes were worked out by hand, with a connection that takes nothing yet.
+/// Returns `None` if memory was refused: the session then ended.
+fn gathered(rt: &impl Abort, alloc: Global, kernel: &mut Shelf) -> Option<Conversation>
+    ensures { IfSome result (λ conversation. taken_in conversation.session.tally
+        + length conversation.unsent.marks ≤ 9) }
+{
+    let mut talking = Talking::open(rt, alloc);
+    assert!(rt; talking.conversation.is_empty());
+    let end = talking.talk(SESSION, kernel);
+    let Talking {
+        conversation,
+        text: _,
+        given: _,
+    } = talking;
+    if end == End::NoMemory {
+        let served = conversation.end(end);
+        assert!(rt; served.end == End::NoMemory || served.end == End::Write);
+        assert_eq!(rt; served.tally.taken(), served.tally.lost());
+        return None;
+    }
+    assert_eq!(rt; end, End::Ended);
+    Some(conversation)
+}
+
+// All replies are gathered before the connection takes any of them.
+#[test]
+fn the_replies_of_a_session_are_gathered(rt: HostRuntime) {
+    let mut kernel = Shelf::open(&rt, rt.alloc());
+    if let Some(mut conversation) = gathered(&rt, rt.alloc(), &mut kernel) {
+        assert_eq!(rt; conversation.unsent(), ANSWERS);
+        assert_eq!(rt; conversation.waiting_bytes(), 49);
+        conversation.sent(49);
+        assert!(rt; conversation.is_empty());
+        let served = conversation.end(End::Ended);
+        assert_eq!(rt;
+            (served.end, counts_of(&served)),
+            (End::Ended, (5, 1, 1, 0))
+        );
+    }
+    assert_eq!(rt; kernel.end(), 128);
+}
+
+// The message is written with the last byte of its frame, the 42nd.
+#[test]
+fn the_connection_takes_one_byte_after_another(rt: HostRuntime) {
+    for count in 0..50 {
+        let mut kernel = Shelf::open(&rt, rt.alloc());
+        if let Some(mut conversation) = gathered(&rt, rt.alloc(), &mut kernel) {
+            for taken in 0..count {
+                assert_eq!(rt; conversation.unsent(), &ANSWERS[taken..], "{count}");
+                conversation.sent(1);
+            }
+            let served = conversation.end(End::Ended);
+            let end = if count < 49 { End::Write } else { End::Ended };
+            let written = (count >= 42) as u64;
+            let counts = (5, 1, written, 1 - written);
+            assert_eq!(rt; (served.end, counts_of(&served)), (end, counts), "{count}");
+        }
+        assert_eq!(rt; kernel.end(), 128);
+    }
+}
+
+// The last call is left: it has no reply.
+#[test]
+fn a_call_that_was_left_has_no_reply(rt: HostRuntime) {
+    let mut kernel = Shelf::open(&rt, rt.alloc());
+    let mut talking = Talking::open(&rt, rt.alloc());
+    let mut pieces = Pieces::new(SESSION, usize::MAX);
+    let mut reader = Watched::new(&mut pieces);
+    let hello = talking.step(&mut reader, &mut kernel);
+    let Talking {
+        mut conversation,
+        text: _,
+        mut given,
+    } = talking;
+    given.clear();
+    let left = conversation.put(Version::One, RequestOutcome::Left, &given);
+    assert_eq!(rt; left, Err(End::Left));
+    if hello.is_ok() {
+        assert_eq!(rt; conversation.unsent(), &ANSWERS[..7]);
+        conversation.sent(7);
+    }
+    let served = conversation.end(End::Left);
+    assert_eq!(rt; (served.end, counts_of(&served)), (End::Left, (1, 0, 0, 0)));
+    assert_eq!(rt; kernel.end(), 128);
+}
