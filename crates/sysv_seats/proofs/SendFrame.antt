@@ -1,5 +1,7 @@
 -- The body in the frame of a send begins after 22 bytes.
-use Rattle.std.proofs.Common.{◌≡◌, ℕ, List, ◌∷◌, ◌++◌, drop, refl}
+use Rattle.std.proofs.Common.{◌≡◌, ℕ, ◌+◌, List, ◌∷◌, ◌++◌, length, drop, refl, sym, subst}
+use Rattle.std.specs.Prelude.{⊤}
+use Rattle.sysv_wire.specs.declared.frame.Op.{Op}
 use Rattle.sysv_wire.specs.declared.frame.Op.TheVariants as op
 use Rattle.sysv_wire.specs.declared.frame.Version.{Version}
 use Rattle.sysv_wire.specs.declared.request.Ask.{Ask}
@@ -9,11 +11,20 @@ use Rattle.sysv_wire.specs.Frames.{frame, op_number, version_number}
 use Rattle.sysv_wire.specs.Numbers.{u32_bytes, i32_bytes, i64_bytes}
 use Rattle.sysv_wire.specs.Requests.{ask_fields, ask_text, op_of, request_spelling}
 
-after_fields : (n : ℕ) (version : Version) (ask : Ask) (body : List ℕ) → op_of ask ≡ op.Snd →
-    drop 22 (u32_bytes n ++ (version_number version ∷ op_number (op_of ask)
-    ∷ (ask_fields ask ++ ask_text (op_of ask) body))) ≡ body
+-- The operation is a send.
+abbrev IsSnd : Op → Type 0
+IsSnd op.Snd = ⊤
+IsSnd o = ⊥
+
+-- A frame whose length field states this number of bytes.
+abbrev frame_of : ℕ → Version → Ask → List ℕ → List ℕ
+frame_of n version ask body =
+    u32_bytes n ++ (version_number version ∷ op_number (op_of ask) ∷ (ask_fields ask ++ ask_text (op_of ask) body))
+
+after_fields : (n : ℕ) (version : Version) (ask : Ask) (body : List ℕ) → IsSnd (op_of ask) →
+    (drop 22 (frame_of n version ask body) ≡ body) × (length (frame_of n version ask body) ≡ 22 + length body)
 unfolding ask_fields u32_bytes i32_bytes i64_bytes
-after_fields n version (Snd id mtype flags) body is = refl
+after_fields n version (Snd id mtype flags) body is = (refl, refl)
 after_fields n version (Hello cred) body is = absurd is
 after_fields n version (Get key flags) body is = absurd is
 after_fields n version (Rcv id size mtype flags) body is = absurd is
@@ -23,6 +34,6 @@ after_fields n version (Rm id) body is = absurd is
 after_fields n version (Row slot) body is = absurd is
 
 pub body_begins : (request : Request) (body : List ℕ) → op_of request.ask ≡ op.Snd →
-    drop 22 (request_spelling request body) ≡ body
+    (drop 22 (request_spelling request body) ≡ body) × (length (request_spelling request body) ≡ 22 + length body)
 unfolding frame
-body_begins request body is = after_fields _ request.version request.ask body is
+body_begins request body is = after_fields _ request.version request.ask body (subst IsSnd (sym is) tt)

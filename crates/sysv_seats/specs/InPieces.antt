@@ -1,5 +1,5 @@
 -- The pieces of a request, one after another, are the request. This project's profile.
-use Rattle.std.proofs.Common.{◌≡◌, ◌≤◌, ◌⊎◌, ⊥, ℕ, ℤ, List, [], length, Result, inl, inr, refl, sym, subst}
+use Rattle.std.proofs.Common.{◌≡◌, ◌≤◌, ◌⊎◌, ℕ, ℤ, List, [], length, Result, inl, inr, refl, sym, subst}
 use Rattle.std.specs.Prelude.{⊤}
 use Rattle.sysv_model.specs.declared.cred.Cred.{Cred}
 use Rattle.sysv_model.specs.declared.errno.Errno.{Errno}
@@ -16,7 +16,7 @@ use Rattle.sysv_service.specs.Ran.{Pass}
 use Rattle.sysv_service.specs.UnderWay.{ReceivesOn, SendsOn, IsReached, StillWaits, receive_wait, send_wait}
 use Rattle.sysv_steps.specs.Begin.{begin}
 use Rattle.sysv_steps.specs.Call.{Msgsnd, Msgrcv}
-use Rattle.sysv_steps.specs.State.{Goes}
+use Rattle.sysv_steps.specs.State.{Phase, Goes}
 use Rattle.sysv_wire.specs.declared.frame.Version.{Version}
 use Rattle.sysv_wire.specs.declared.request.Ask.{Ask}
 use Rattle.sysv_wire.specs.declared.request.Ask.TheVariants.{Hello, Get, Snd, Rcv, Stat, Set, Rm, Row}
@@ -118,7 +118,6 @@ module _ (may : ℕ → Type 0) (version : Version) (cred : Cred) where
   asks_any may_leave (Rm id) text before outcome given after asked = asked
   asks_any may_leave (Row slot) text before outcome given after asked = asked
 
-  -- A request that does not wait is made whole, whatever its caller may do.
   -- A parked call can be left, if its caller may leave.
   pub left : (may_leave : Type 0) (ask : Ask) (text : List ℕ) (before : Pass) (waiting : Waiting) (after : Pass) →
       may_leave → IsParked may cred ask text before waiting after →

@@ -1,7 +1,7 @@
 -- Requests that are made in pieces. A request is begun and makes its steps until it waits or is
 -- over. Only a send and a receive wait. A call that waits is parked. Later it looks at the count for
 -- which it waits, and goes on once the count is at its goal. This project's profile.
-use Rattle.std.specs.Prelude.{◌≡◌, ◌<◌, ◌≤◌, ◌⊎◌, ⊤, ⊥, ℕ, List, [], length, Option, Some, None, Result}
+use Rattle.std.specs.Prelude.{◌≡◌, ◌<◌, ◌≤◌, ◌⊎◌, ⊤, ℕ, List, [], length, Option, Some, None, Result}
 use Rattle.sysv_keys.specs.declared.identifier.TheConstants.{SLOTS}
 use Rattle.sysv_model.specs.declared.cred.Cred.{Cred}
 use Rattle.sysv_model.specs.declared.errno.Errno.{Errno}

@@ -10,7 +10,7 @@ mod kernel;
 mod kernel_pieces;
 mod memory_stream;
 mod non_blocking;
-mod snd_text;
+mod send_frame;
 mod socket_stream;
 mod waiting;
 
@@ -18,6 +18,6 @@ pub use book::Replies;
 pub use kernel::ServiceKernel;
 pub use memory_stream::{MemoryStream, Step};
 pub use non_blocking::{Drained, Filled, NonBlocking, Over};
-pub use snd_text::snd_text;
+pub use send_frame::snd_text;
 pub use socket_stream::SocketStream;
 pub use waiting::{Awaited, Waiting};
