@@ -1,5 +1,5 @@
 -- What a kernel may return for a send and a receive in pieces.
-use Rattle.std.proofs.Common.{◌≡◌, ℕ, ℤ, List, [], Result, Ok, Err, inl, inr, refl, sym, subst, arith}
+use Rattle.std.proofs.Common.{ℕ, ℤ, List, [], Result, Ok, Err, inl, inr, refl, sym, subst, arith}
 use Rattle.std.specs.Prelude.{⊤}
 use Rattle.sysv_model.specs.declared.errno.Errno.{Errno}
 use Rattle.sysv_model.specs.declared.flags.Flags.{Flags}
@@ -11,7 +11,7 @@ use Rattle.sysv_service.specs.declared.progress.ReceiveWait.{ReceiveWait}
 use Rattle.sysv_service.specs.declared.progress.SendWait.{SendWait}
 use Rattle.sysv_service.specs.Ran.{Pass}
 use Rattle.sysv_service.specs.Told.{TellsGot}
-use Rattle.sysv_service.specs.UnderWay.{ReceivesOn, SendsOn}
+use Rattle.sysv_service.specs.UnderWay.{ReceivesOn}
 use Rattle.sysv_steps.specs.State.{State, Ending, Got, Refused}
 use Rattle.sysv_wire.specs.declared.frame.Version.{Version}
 use Rattle.sysv_wire.specs.declared.request.Ask.{Ask}

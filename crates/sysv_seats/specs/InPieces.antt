@@ -1,5 +1,5 @@
 -- The pieces of a request, one after another, are the request. This project's profile.
-use Rattle.std.proofs.Common.{◌≡◌, ◌≤◌, ◌⊎◌, ℕ, ℤ, List, [], length, Result, inl, inr, refl, sym, subst}
+use Rattle.std.proofs.Common.{ℕ, ℤ, List, [], Result, inl, inr, refl, sym, subst}
 use Rattle.std.specs.Prelude.{⊤}
 use Rattle.sysv_model.specs.declared.cred.Cred.{Cred}
 use Rattle.sysv_model.specs.declared.errno.Errno.{Errno}
@@ -58,7 +58,7 @@ module _ (may : ℕ → Type 0) (version : Version) (cred : Cred) where
     parked.1,
     parked.2,
     comes_to_wait may (begin cred (Msgsnd id mtype flags text) parked.0) parked.1 (send_wait w text) before after
-    parked.3 still,
+        parked.3 still,
     parked.4,
   )
   still_parked (Rcv id size mtype flags) text start (Receive w) before after parked still =

@@ -1,13 +1,11 @@
 -- The call looked at its count once, whatever it had done before.
-use Rattle.std.proofs.Common.{subst, sym}
 use Rattle.sysv_seats.proofs.PieceAnswers.{go_answers}
 use Rattle.sysv_seats.specs.InPieces.{goes_on}
-use Rattle.sysv_seats.specs.Parked.{GoesOn}
 use Rattle.sysv_seats.proofs.kernel.ServiceKernel.go_on.Goals as goal
 
 pub returns-in-Send-clause-looks : goal.returns-in-Send-clause-looks
 returns-in-Send-clause-looks g c =
-    rw c.in-Send.is (subst (λ given. GoesOn _ _ _ _ _ _ given _) (sym c.requires.empty) c.send_on.ensures.looks)
+    rw c.in-Send.is (rw c.requires.empty c.send_on.ensures.looks)
 
 pub returns-in-Send-clause-begun : goal.returns-in-Send-clause-begun
 returns-in-Send-clause-begun g c = λ start cred parked.
