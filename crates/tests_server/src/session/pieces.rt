@@ -1,6 +1,7 @@
 //! Requests in pieces: a parked call is a value, and goes on when its count has risen.
 
 use crate::parts::{CLOCK, Still, closed, opened};
+use bitflags::Flags as _;
 use std::alloc::Global;
 use std::process::Abort;
 use std::sync::Wait;
@@ -20,13 +21,15 @@ fn request(ask: Ask) -> Request {
     }
 }
 
-/// A receive of at most 100 bytes of type 5 from queue 0.
-const RECEIVE: Ask = Ask::Rcv {
-    id: 0,
-    size: 100,
-    mtype: 5,
-    flags: Flags::empty(),
-};
+/// Returns a receive of at most 100 bytes of type 5 from queue 0.
+fn receiving() -> Ask {
+    Ask::Rcv {
+        id: 0,
+        size: 100,
+        mtype: 5,
+        flags: Flags::empty(),
+    }
+}
 
 /// Returns a send to queue `id`.
 fn sending(id: i32, mtype: i64) -> Request {
@@ -70,7 +73,7 @@ fn assert_replied(
     rt: &impl Abort,
     progress: Progress<Waiting, RequestOutcome>,
     op: Op,
-    result: ReplyContent,
+    content: ReplyContent,
 ) {
     let Progress::Over(outcome) = progress else {
         panic!(rt; "the request waits")
@@ -78,7 +81,7 @@ fn assert_replied(
     let reply = Reply {
         version: Version::Two,
         op: op.number(),
-        result,
+        result: content,
     };
     assert_eq!(rt; told(rt, outcome), (Some(reply), None));
 }
@@ -102,11 +105,11 @@ fn make<R: Abort + Wait>(
     alloc: Global,
     kernel: &mut ServiceKernel<'_, Still, R>,
     ask: Ask,
-    result: ReplyContent,
+    content: ReplyContent,
 ) {
     let (empty, mut given) = (body_of(rt, alloc, b""), body_of(rt, alloc, b""));
     let begun = kernel.begin(USER, &request(ask), &empty, &mut given);
-    assert_replied(rt, begun, ask.op(), result);
+    assert_replied(rt, begun, ask.op(), content);
     assert_eq!(rt; given.len(), 0);
 }
 
@@ -152,7 +155,13 @@ fn make_queue<R: Abort + Wait>(
     id: i32,
 ) {
     let flags = creating();
-    make(rt, alloc, kernel, Ask::Get { key, flags }, ReplyContent::Get { id });
+    make(
+        rt,
+        alloc,
+        kernel,
+        Ask::Get { key, flags },
+        ReplyContent::Get { id },
+    );
 }
 
 /// Opens a service, with two passes.
@@ -177,7 +186,7 @@ fn a_parked_receive_goes_on_after_a_send(rt: HostRuntime) {
     let mut sender = ServiceKernel::new(&rt, &service, &CLOCK, other);
     make_queue(&rt, alloc, &mut receiver, 7, 0);
     let (empty, mut given) = (body_of(&rt, alloc, b""), body_of(&rt, alloc, b""));
-    let receive = request(RECEIVE);
+    let receive = request(receiving());
     let begun = receiver.begin(USER, &receive, &empty, &mut given);
     let first = parked(&rt, begun);
     assert_eq!(rt; first.awaits(), Awaited::Arrived { slot: 0 });
@@ -193,7 +202,8 @@ fn a_parked_receive_goes_on_after_a_send(rt: HostRuntime) {
     let over = receiver.go_on(&receive, &empty, &mut given, second);
     assert_got(&rt, over, 5, 4);
     assert_eq!(rt; given.block(0), b"ping".as_slice());
-    close(&rt, service, receiver.into_pass(), sender.into_pass(), 1);
+    let (pass, other) = (receiver.into_pass(), sender.into_pass());
+    close(&rt, service, pass, other, 1);
 }
 
 #[test]
@@ -209,7 +219,13 @@ fn a_parked_send_goes_on_after_a_receive(rt: HostRuntime) {
         mode: 0o600,
         qbytes: 4,
     };
-    make(&rt, alloc, &mut sender, Ask::Set { id: 0, to }, ReplyContent::Set);
+    make(
+        &rt,
+        alloc,
+        &mut sender,
+        Ask::Set { id: 0, to },
+        ReplyContent::Set,
+    );
     send(&rt, alloc, &mut sender, &sending(0, 5), b"ping");
     let (text, mut given) = (body_of(&rt, alloc, b"pong"), body_of(&rt, alloc, b""));
     let begun = sender.begin(USER, &sending(0, 5), &text, &mut given);
@@ -221,7 +237,8 @@ fn a_parked_send_goes_on_after_a_receive(rt: HostRuntime) {
     take(&rt, alloc, &mut receiver, 0, 4);
     let over = sender.go_on(&sending(0, 5), &text, &mut given, waiting);
     assert_replied(&rt, over, Op::Snd, ReplyContent::Snd);
-    close(&rt, service, sender.into_pass(), receiver.into_pass(), 1);
+    let (pass, other) = (sender.into_pass(), receiver.into_pass());
+    close(&rt, service, pass, other, 1);
 }
 
 #[test]
@@ -240,7 +257,8 @@ fn a_parked_send_goes_on_after_blocks_were_released(rt: HostRuntime) {
     take(&rt, alloc, &mut receiver, 1, 8192);
     let over = sender.go_on(&sending(0, 5), &text, &mut given, waiting);
     assert_replied(&rt, over, Op::Snd, ReplyContent::Snd);
-    close(&rt, service, sender.into_pass(), receiver.into_pass(), 1);
+    let (pass, other) = (sender.into_pass(), receiver.into_pass());
+    close(&rt, service, pass, other, 1);
 }
 
 // The receive is parked when its queue is removed.
@@ -252,14 +270,21 @@ fn a_parked_receive_ends_with_its_queue(rt: HostRuntime) {
     let mut remover = ServiceKernel::new(&rt, &service, &CLOCK, other);
     make_queue(&rt, alloc, &mut receiver, 7, 0);
     let (empty, mut given) = (body_of(&rt, alloc, b""), body_of(&rt, alloc, b""));
-    let receive = request(RECEIVE);
+    let receive = request(receiving());
     let begun = receiver.begin(USER, &receive, &empty, &mut given);
     let waiting = parked(&rt, begun);
-    make(&rt, alloc, &mut remover, Ask::Rm { id: 0 }, ReplyContent::Rm);
+    make(
+        &rt,
+        alloc,
+        &mut remover,
+        Ask::Rm { id: 0 },
+        ReplyContent::Rm,
+    );
     let over = receiver.go_on(&receive, &empty, &mut given, waiting);
     assert_replied(&rt, over, Op::Rcv, ReplyContent::Refused(Errno::EIDRM));
     assert_eq!(rt; given.len(), 0);
-    close(&rt, service, receiver.into_pass(), remover.into_pass(), 0);
+    let (pass, other) = (receiver.into_pass(), remover.into_pass());
+    close(&rt, service, pass, other, 0);
 }
 
 // A parked call that is dropped takes no message and keeps none from others.
@@ -271,11 +296,12 @@ fn a_parked_receive_may_be_dropped(rt: HostRuntime) {
     let mut second = ServiceKernel::new(&rt, &service, &CLOCK, other);
     make_queue(&rt, alloc, &mut first, 7, 0);
     let (empty, mut given) = (body_of(&rt, alloc, b""), body_of(&rt, alloc, b""));
-    let begun = first.begin(USER, &request(RECEIVE), &empty, &mut given);
+    let begun = first.begin(USER, &request(receiving()), &empty, &mut given);
     let _dropped = parked(&rt, begun);
     send(&rt, alloc, &mut second, &sending(0, 5), b"ping");
     take(&rt, alloc, &mut second, 0, 4);
-    close(&rt, service, first.into_pass(), second.into_pass(), 0);
+    let (pass, other) = (first.into_pass(), second.into_pass());
+    close(&rt, service, pass, other, 0);
 }
 
 // Calls that are refused, and a receive that finds its message, are over at once.
@@ -284,14 +310,27 @@ fn requests_that_do_not_wait_are_over_at_once(rt: HostRuntime) {
     let alloc = rt.alloc();
     let (service, pass, other) = two_passes(&rt, alloc);
     let mut kernel = ServiceKernel::new(&rt, &service, &CLOCK, pass);
-    make(&rt, alloc, &mut kernel, RECEIVE, ReplyContent::Refused(Errno::EINVAL));
-    make(&rt, alloc, &mut kernel, Ask::Row { slot: 0 }, ReplyContent::Row(None));
+    make(
+        &rt,
+        alloc,
+        &mut kernel,
+        receiving(),
+        ReplyContent::Refused(Errno::EINVAL),
+    );
+    make(
+        &rt,
+        alloc,
+        &mut kernel,
+        Ask::Row { slot: 0 },
+        ReplyContent::Row(None),
+    );
     let stat = ReplyContent::Refused(Errno::EINVAL);
     make(&rt, alloc, &mut kernel, Ask::Stat { id: 0 }, stat);
     make_queue(&rt, alloc, &mut kernel, 7, 0);
     send(&rt, alloc, &mut kernel, &sending(0, 5), b"ping");
     take(&rt, alloc, &mut kernel, 0, 4);
-    close(&rt, service, kernel.into_pass(), other, 0);
+    let pass = kernel.into_pass();
+    close(&rt, service, pass, other, 0);
 }
 
 #[test]
@@ -301,8 +340,8 @@ fn the_body_of_a_send_is_copied_from_its_frame(rt: HostRuntime) {
     // A send of `hi` to queue 0 with type 5.
     snd_text(
         &[
-            0x00, 0x00, 0x00, 0x14, 0x01, 0x02, 0x00, 0x00, 0x00, 0x00, 0x00, 0x00, 0x00, 0x00, 0x00,
-            0x00, 0x00, 0x05, 0x00, 0x00, 0x00, 0x00, 0x68, 0x69,
+            0x00, 0x00, 0x00, 0x14, 0x01, 0x02, 0x00, 0x00, 0x00, 0x00, 0x00, 0x00, 0x00, 0x00,
+            0x00, 0x00, 0x00, 0x05, 0x00, 0x00, 0x00, 0x00, 0x68, 0x69,
         ],
         &mut copied,
     );
