@@ -171,7 +171,8 @@ fn two_passes(rt: &impl Abort, alloc: Global) -> (Service, Pass, Pass) {
     (service, pass, other)
 }
 
-/// Closes the service, and asserts that this number of messages was queued and that no gate is held.
+/// Closes the service. Asserts that this number of messages was queued, and that all blocks are then
+/// free.
 fn close(rt: &impl Abort, service: Service, mut pass: Pass, other: Pass, queued: u64) {
     service.join_pass(&mut pass, other);
     assert_eq!(rt; service.close(pass), closed(queued, 128));
