@@ -1,5 +1,5 @@
 //! What is kept of connections in memory.
-ghost use Rattle.std.specs.Prelude.{◌≡◌, IfSome, vec_capacity};
+ghost use Rattle.std.specs.Prelude.{◌≡◌, IfSome, [], vec_capacity};
 ghost use Rattle.sysv_seats.specs.Memory.{KeepsMore, replies_in};
 
 use std::alloc::Global;

@@ -7,12 +7,17 @@
 
 mod book;
 mod kernel;
+mod kernel_pieces;
 mod memory_stream;
 mod non_blocking;
+mod send_frame;
 mod socket_stream;
+mod waiting;
 
 pub use book::Replies;
 pub use kernel::ServiceKernel;
 pub use memory_stream::{MemoryStream, Step};
 pub use non_blocking::{Drained, Filled, NonBlocking, Over};
+pub use send_frame::snd_text;
 pub use socket_stream::SocketStream;
+pub use waiting::{Awaited, Waiting};

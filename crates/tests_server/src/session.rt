@@ -5,6 +5,7 @@ mod failing;
 mod gathered;
 mod growths;
 mod leaving;
+mod pieces;
 mod served;
 mod serving;
 mod shelf;

@@ -1,0 +1,351 @@
+//! Requests in pieces: a parked call is a value, and goes on when its count has risen.
+
+use crate::parts::{CLOCK, Still, closed, opened};
+use bitflags::Flags as _;
+use std::alloc::Global;
+use std::process::Abort;
+use std::sync::Wait;
+use sysv_model::{Body, Errno, Flags, Selector, SetTo};
+use sysv_queue::Tally;
+use sysv_seats::{Awaited, ServiceKernel, Waiting, snd_text};
+use sysv_service::{Pass, Progress, Service};
+use sysv_session::RequestOutcome;
+use sysv_wire::{Ask, Op, Reply, ReplyContent, Request, Version};
+use tests_kit::{USER, creating, open_body};
+
+/// Returns a request of version 2.
+fn request(ask: Ask) -> Request {
+    Request {
+        version: Version::Two,
+        ask,
+    }
+}
+
+/// Returns a receive of at most 100 bytes of type 5 from queue 0.
+fn receiving() -> Ask {
+    Ask::Rcv {
+        id: 0,
+        size: 100,
+        mtype: 5,
+        flags: Flags::empty(),
+    }
+}
+
+/// Returns a send to queue `id`.
+fn sending(id: i32, mtype: i64) -> Request {
+    let flags = Flags::empty();
+    request(Ask::Snd { id, mtype, flags })
+}
+
+/// Returns a body with these bytes. Tolerates one refusal of memory.
+fn body_of(rt: &impl Abort, alloc: Global, bytes: &[u8]) -> Body {
+    let mut body = open_body(alloc).expect(rt, "a second try");
+    assert!(rt; body.push_piece(bytes));
+    body
+}
+
+/// Returns the wait of a request that is parked.
+fn parked(rt: &impl Abort, progress: Progress<Waiting, RequestOutcome>) -> Waiting {
+    match progress {
+        Progress::Waits(waiting) => waiting,
+        Progress::Over(outcome) => {
+            let (reply, _) = told(rt, outcome);
+            panic!(rt; "{reply:?}")
+        }
+    }
+}
+
+/// Returns the reply in an outcome, or the type and the length of its message.
+fn told(rt: &impl Abort, outcome: RequestOutcome) -> (Option<Reply>, Option<(i64, usize)>) {
+    match outcome {
+        RequestOutcome::Reply(reply) => (Some(reply), None),
+        RequestOutcome::Got(delivery) => {
+            let message = (delivery.mtype(), delivery.len());
+            delivery.written(&mut Tally::open());
+            (None, Some(message))
+        }
+        RequestOutcome::Left => panic!(rt; "the call was left"),
+    }
+}
+
+/// Asserts that a request is over with this reply.
+fn assert_replied(
+    rt: &impl Abort,
+    progress: Progress<Waiting, RequestOutcome>,
+    op: Op,
+    content: ReplyContent,
+) {
+    let Progress::Over(outcome) = progress else {
+        panic!(rt; "the request waits")
+    };
+    let reply = Reply {
+        version: Version::Two,
+        op: op.number(),
+        result: content,
+    };
+    assert_eq!(rt; told(rt, outcome), (Some(reply), None));
+}
+
+/// Asserts that a receive is over with a message of this type and length.
+fn assert_got(
+    rt: &impl Abort,
+    progress: Progress<Waiting, RequestOutcome>,
+    mtype: i64,
+    length: usize,
+) {
+    let Progress::Over(outcome) = progress else {
+        panic!(rt; "the receive waits")
+    };
+    assert_eq!(rt; told(rt, outcome), (None, Some((mtype, length))));
+}
+
+/// Begins a request without a body, and asserts that it is over with this reply.
+fn make<R: Abort + Wait>(
+    rt: &R,
+    alloc: Global,
+    kernel: &mut ServiceKernel<'_, Still, R>,
+    ask: Ask,
+    content: ReplyContent,
+) {
+    let (empty, mut given) = (body_of(rt, alloc, b""), body_of(rt, alloc, b""));
+    let begun = kernel.begin(USER, &request(ask), &empty, &mut given);
+    assert_replied(rt, begun, ask.op(), content);
+    assert_eq!(rt; given.len(), 0);
+}
+
+/// Sends this body, and asserts that it is sent at once.
+fn send<R: Abort + Wait>(
+    rt: &R,
+    alloc: Global,
+    kernel: &mut ServiceKernel<'_, Still, R>,
+    request: &Request,
+    bytes: &[u8],
+) {
+    let (text, mut given) = (body_of(rt, alloc, bytes), body_of(rt, alloc, b""));
+    let begun = kernel.begin(USER, request, &text, &mut given);
+    assert_replied(rt, begun, Op::Snd, ReplyContent::Snd);
+}
+
+/// Takes the message of type 5 from queue `id`.
+fn take<R: Abort + Wait>(
+    rt: &R,
+    alloc: Global,
+    kernel: &mut ServiceKernel<'_, Still, R>,
+    id: i32,
+    length: usize,
+) {
+    let (empty, mut given) = (body_of(rt, alloc, b""), body_of(rt, alloc, b""));
+    let receive = request(Ask::Rcv {
+        id,
+        size: 8192,
+        mtype: 5,
+        flags: Flags::IPC_NOWAIT,
+    });
+    let begun = kernel.begin(USER, &receive, &empty, &mut given);
+    assert_got(rt, begun, 5, length);
+    assert_eq!(rt; given.len(), length);
+}
+
+/// Makes the queue of a key, which has this identifier.
+fn make_queue<R: Abort + Wait>(
+    rt: &R,
+    alloc: Global,
+    kernel: &mut ServiceKernel<'_, Still, R>,
+    key: i32,
+    id: i32,
+) {
+    let flags = creating();
+    make(
+        rt,
+        alloc,
+        kernel,
+        Ask::Get { key, flags },
+        ReplyContent::Get { id },
+    );
+}
+
+/// Opens a service, with two passes.
+fn two_passes(rt: &impl Abort, alloc: Global) -> (Service, Pass, Pass) {
+    let (service, mut pass) = opened(rt, alloc, 128, 0);
+    let other = service.split_pass(alloc, &mut pass).expect(rt, "a split");
+    (service, pass, other)
+}
+
+/// Closes the service. Asserts that this number of messages was queued, and that all blocks are then
+/// free.
+fn close(rt: &impl Abort, service: Service, mut pass: Pass, other: Pass, queued: u64) {
+    service.join_pass(&mut pass, other);
+    assert_eq!(rt; service.close(pass), closed(queued, 128));
+}
+
+// A message of another type ends the wait too: the receive looks at the queue, and is parked again.
+#[test]
+fn a_parked_receive_goes_on_after_a_send(rt: HostRuntime) {
+    let alloc = rt.alloc();
+    let (service, pass, other) = two_passes(&rt, alloc);
+    let mut receiver = ServiceKernel::new(&rt, &service, &CLOCK, pass);
+    let mut sender = ServiceKernel::new(&rt, &service, &CLOCK, other);
+    make_queue(&rt, alloc, &mut receiver, 7, 0);
+    let (empty, mut given) = (body_of(&rt, alloc, b""), body_of(&rt, alloc, b""));
+    let receive = request(receiving());
+    let begun = receiver.begin(USER, &receive, &empty, &mut given);
+    let first = parked(&rt, begun);
+    assert_eq!(rt; first.awaits(), Awaited::Arrived { slot: 0 });
+    assert_eq!(rt; first.selector(), Some(Selector::Exactly(5)));
+    let again = receiver.go_on(&receive, &empty, &mut given, first);
+    assert!(rt; parked(&rt, again) == first);
+    send(&rt, alloc, &mut sender, &sending(0, 6), b"x");
+    let again = receiver.go_on(&receive, &empty, &mut given, first);
+    let second = parked(&rt, again);
+    assert!(rt; second != first);
+    assert_eq!(rt; given.len(), 0);
+    send(&rt, alloc, &mut sender, &sending(0, 5), b"ping");
+    let over = receiver.go_on(&receive, &empty, &mut given, second);
+    assert_got(&rt, over, 5, 4);
+    assert_eq!(rt; given.block(0), b"ping".as_slice());
+    let (pass, other) = (receiver.into_pass(), sender.into_pass());
+    close(&rt, service, pass, other, 1);
+}
+
+#[test]
+fn a_parked_send_goes_on_after_a_receive(rt: HostRuntime) {
+    let alloc = rt.alloc();
+    let (service, pass, other) = two_passes(&rt, alloc);
+    let mut sender = ServiceKernel::new(&rt, &service, &CLOCK, pass);
+    let mut receiver = ServiceKernel::new(&rt, &service, &CLOCK, other);
+    make_queue(&rt, alloc, &mut sender, 7, 0);
+    let to = SetTo {
+        uid: 1000,
+        gid: 1000,
+        mode: 0o600,
+        qbytes: 4,
+    };
+    make(
+        &rt,
+        alloc,
+        &mut sender,
+        Ask::Set { id: 0, to },
+        ReplyContent::Set,
+    );
+    send(&rt, alloc, &mut sender, &sending(0, 5), b"ping");
+    let (text, mut given) = (body_of(&rt, alloc, b"pong"), body_of(&rt, alloc, b""));
+    let begun = sender.begin(USER, &sending(0, 5), &text, &mut given);
+    let waiting = parked(&rt, begun);
+    assert_eq!(rt; waiting.awaits(), Awaited::Freed { slot: 0 });
+    assert_eq!(rt; waiting.selector(), None);
+    let again = sender.go_on(&sending(0, 5), &text, &mut given, waiting);
+    assert!(rt; parked(&rt, again) == waiting);
+    take(&rt, alloc, &mut receiver, 0, 4);
+    let over = sender.go_on(&sending(0, 5), &text, &mut given, waiting);
+    assert_replied(&rt, over, Op::Snd, ReplyContent::Snd);
+    let (pass, other) = (sender.into_pass(), receiver.into_pass());
+    close(&rt, service, pass, other, 1);
+}
+
+#[test]
+fn a_parked_send_goes_on_after_blocks_were_released(rt: HostRuntime) {
+    let alloc = rt.alloc();
+    let (service, pass, other) = two_passes(&rt, alloc);
+    let mut sender = ServiceKernel::new(&rt, &service, &CLOCK, pass);
+    let mut receiver = ServiceKernel::new(&rt, &service, &CLOCK, other);
+    make_queue(&rt, alloc, &mut sender, 7, 0);
+    make_queue(&rt, alloc, &mut sender, 8, 1);
+    send(&rt, alloc, &mut sender, &sending(1, 5), &[b'x'; 8192]);
+    let (text, mut given) = (body_of(&rt, alloc, b"ping"), body_of(&rt, alloc, b""));
+    let begun = sender.begin(USER, &sending(0, 5), &text, &mut given);
+    let waiting = parked(&rt, begun);
+    assert_eq!(rt; waiting.awaits(), Awaited::Released);
+    take(&rt, alloc, &mut receiver, 1, 8192);
+    let over = sender.go_on(&sending(0, 5), &text, &mut given, waiting);
+    assert_replied(&rt, over, Op::Snd, ReplyContent::Snd);
+    let (pass, other) = (sender.into_pass(), receiver.into_pass());
+    close(&rt, service, pass, other, 1);
+}
+
+// The receive is parked when its queue is removed.
+#[test]
+fn a_parked_receive_ends_with_its_queue(rt: HostRuntime) {
+    let alloc = rt.alloc();
+    let (service, pass, other) = two_passes(&rt, alloc);
+    let mut receiver = ServiceKernel::new(&rt, &service, &CLOCK, pass);
+    let mut remover = ServiceKernel::new(&rt, &service, &CLOCK, other);
+    make_queue(&rt, alloc, &mut receiver, 7, 0);
+    let (empty, mut given) = (body_of(&rt, alloc, b""), body_of(&rt, alloc, b""));
+    let receive = request(receiving());
+    let begun = receiver.begin(USER, &receive, &empty, &mut given);
+    let waiting = parked(&rt, begun);
+    make(
+        &rt,
+        alloc,
+        &mut remover,
+        Ask::Rm { id: 0 },
+        ReplyContent::Rm,
+    );
+    let over = receiver.go_on(&receive, &empty, &mut given, waiting);
+    assert_replied(&rt, over, Op::Rcv, ReplyContent::Refused(Errno::EIDRM));
+    assert_eq!(rt; given.len(), 0);
+    let (pass, other) = (receiver.into_pass(), remover.into_pass());
+    close(&rt, service, pass, other, 0);
+}
+
+// A parked call that is dropped takes no message and keeps none from others.
+#[test]
+fn a_parked_receive_may_be_dropped(rt: HostRuntime) {
+    let alloc = rt.alloc();
+    let (service, pass, other) = two_passes(&rt, alloc);
+    let mut first = ServiceKernel::new(&rt, &service, &CLOCK, pass);
+    let mut second = ServiceKernel::new(&rt, &service, &CLOCK, other);
+    make_queue(&rt, alloc, &mut first, 7, 0);
+    let (empty, mut given) = (body_of(&rt, alloc, b""), body_of(&rt, alloc, b""));
+    let begun = first.begin(USER, &request(receiving()), &empty, &mut given);
+    let _dropped = parked(&rt, begun);
+    send(&rt, alloc, &mut second, &sending(0, 5), b"ping");
+    take(&rt, alloc, &mut second, 0, 4);
+    let (pass, other) = (first.into_pass(), second.into_pass());
+    close(&rt, service, pass, other, 0);
+}
+
+// Calls that are refused, and a receive that finds its message, are over at once.
+#[test]
+fn requests_that_do_not_wait_are_over_at_once(rt: HostRuntime) {
+    let alloc = rt.alloc();
+    let (service, pass, other) = two_passes(&rt, alloc);
+    let mut kernel = ServiceKernel::new(&rt, &service, &CLOCK, pass);
+    make(
+        &rt,
+        alloc,
+        &mut kernel,
+        receiving(),
+        ReplyContent::Refused(Errno::EINVAL),
+    );
+    make(
+        &rt,
+        alloc,
+        &mut kernel,
+        Ask::Row { slot: 0 },
+        ReplyContent::Row(None),
+    );
+    let stat = ReplyContent::Refused(Errno::EINVAL);
+    make(&rt, alloc, &mut kernel, Ask::Stat { id: 0 }, stat);
+    make_queue(&rt, alloc, &mut kernel, 7, 0);
+    send(&rt, alloc, &mut kernel, &sending(0, 5), b"ping");
+    take(&rt, alloc, &mut kernel, 0, 4);
+    let pass = kernel.into_pass();
+    close(&rt, service, pass, other, 0);
+}
+
+#[test]
+fn the_body_of_a_send_is_copied_from_its_frame(rt: HostRuntime) {
+    let alloc = rt.alloc();
+    let mut copied = body_of(&rt, alloc, b"what was there before");
+    // A send of `hi` to queue 0 with type 5.
+    snd_text(
+        &[
+            0x00, 0x00, 0x00, 0x14, 0x01, 0x02, 0x00, 0x00, 0x00, 0x00, 0x00, 0x00, 0x00, 0x00,
+            0x00, 0x00, 0x00, 0x05, 0x00, 0x00, 0x00, 0x00, 0x68, 0x69,
+        ],
+        &mut copied,
+    );
+    assert_eq!(rt; copied.len(), 2);
+    assert_eq!(rt; copied.block(0), b"hi".as_slice());
+}
