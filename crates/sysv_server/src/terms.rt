@@ -46,6 +46,7 @@ pub struct Ended {
     /// of a slot was found worn out.
     pub removed: Result<u32, Errno>,
     /// What was left of its service when it was closed, after these queues were removed. No gate is
-    /// held. The pool has all its blocks, if fewer than 2^62 turns were made at each object.
+    /// held. The pool has all its blocks and no message is queued, if fewer than 2^62 turns were
+    /// made at each object.
     pub closed: Closed,
 }
