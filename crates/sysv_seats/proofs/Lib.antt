@@ -1,3 +1,5 @@
 pub mod Sessions
 pub mod PieceAnswers
 pub mod SendFrame
+pub mod ClientLemmas
+pub mod ClientSteps

@@ -48,7 +48,7 @@ pub go_answers : (may : ℕ → Type 0) (version : Version) (ask : Ask) (waiting
     (result : Progress Waiting RequestOutcome) (given : List ℕ) (after : Pass) → IsWaitOf ask waiting →
     GoesOn may version waiting text before result given after → MayProgress version ask result given
 go_answers may version ask waiting text before result given after is (inl still) =
-    subst (λ r. MayProgress version ask r given) (sym still.1) tt
+    subst (λ r. MayProgress version ask r given) (sym still.1) is
 go_answers may version (Snd id mtype flags) (Send w) text before result given after is (inr went) =
     let on = went.3 in
     subst (λ r. MayProgress version (Snd id mtype flags) r given) (sym on.2)

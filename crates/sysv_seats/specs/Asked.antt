@@ -10,6 +10,7 @@ use Rattle.sysv_session.specs.declared.kernel.RequestOutcome.{RequestOutcome}
 use Rattle.sysv_session.specs.declared.served.Served.{Served}
 use Rattle.sysv_session.specs.Calls.{Meaning}
 use Rattle.sysv_session.specs.Session.{Serves}
+use Rattle.sysv_session.specs.Together.{ServesTogether}
 use Rattle.sysv_service.specs.Ran.{Pass, Comes}
 use Rattle.sysv_service.specs.Told.{TellsRow}
 use Rattle.sysv_steps.specs.Begin.{begin}
@@ -72,3 +73,9 @@ abbrev pub ServesPass : (ℕ → Type 0) → Type 0 → Served → (old new : Pa
     Type 0
 ServesPass may may_leave served old new left rest taken more =
     Serves (asks_with may may_leave) SLOTS served old new left rest taken more
+
+-- The same for a session whose replies were gathered.
+abbrev pub ServesPassTogether : (ℕ → Type 0) → Type 0 → Served → (old new : Pass) →
+    (left rest taken more : Option (List ℕ)) → Type 0
+ServesPassTogether may may_leave served old new left rest taken more =
+    ServesTogether (asks_with may may_leave) SLOTS served old new left rest taken more

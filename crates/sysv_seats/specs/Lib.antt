@@ -9,3 +9,4 @@ pub mod Untold
 pub mod Memory
 pub mod NonBlocking
 pub mod PacedStreams
+pub mod Sits

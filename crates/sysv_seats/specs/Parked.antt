@@ -83,9 +83,9 @@ HasBegun may version cred ask text before (progress.Waits waiting) given after =
 HasBegun may version cred ask text before (progress.Over outcome) given after =
     Asks may ⊥ version cred ask text before outcome given after
 
--- If the request is over, a kernel may return its outcome.
+-- If the request is over, a kernel may return its outcome. If it waits, the wait is one of its call.
 abbrev pub MayProgress : Version → Ask → Progress Waiting RequestOutcome → List ℕ → Type 0
-MayProgress version ask (progress.Waits waiting) given = ⊤
+MayProgress version ask (progress.Waits waiting) given = IsWaitOf ask waiting
 MayProgress version ask (progress.Over outcome) given = MayAnswer version ask outcome given
 
 -- ---- a parked call goes on

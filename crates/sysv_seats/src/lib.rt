@@ -6,18 +6,28 @@
 #![tactic(auto)]
 
 mod book;
+mod client;
 mod kernel;
 mod kernel_pieces;
 mod memory_stream;
+mod news;
 mod non_blocking;
+mod parked;
 mod send_frame;
 mod socket_stream;
+mod tools;
 mod waiting;
+mod zero;
 
 pub use book::Replies;
+pub use client::Client;
 pub use kernel::ServiceKernel;
 pub use memory_stream::{MemoryStream, Step};
+pub use news::News;
 pub use non_blocking::{Drained, Filled, NonBlocking, Over};
+pub use parked::Parked;
 pub use send_frame::snd_text;
 pub use socket_stream::SocketStream;
+pub use tools::Tools;
 pub use waiting::{Awaited, Waiting};
+pub use zero::{ZERO, Zero};

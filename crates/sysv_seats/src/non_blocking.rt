@@ -1,5 +1,5 @@
 //! Connections that never wait.
-ghost use Rattle.std.specs.Prelude.{◌≡◌, ℕ, List, Option, Some, IfSome};
+ghost use Rattle.std.specs.Prelude.{◌≡◌, ℕ, List, Option, None, Some, IfSome};
 ghost use Rattle.sysv_seats.specs.NonBlocking.{DrainAppends, FillConsumes};
 
 /// A connection whose reads and writes return at once.
@@ -32,6 +32,7 @@ pub trait NonBlocking {
     /// so.
     fn fill(&mut self, buf: &mut [u8]) -> Filled
         ensures bytes { FillConsumes (incoming self.old) (incoming self.new) result buf.new }
+        ensures untold { incoming self.old ≡ None → incoming self.new ≡ None }
         ensures over { (why : Over) → result ≡ Filled.Over why → over self.new ≡ Some why }
         ensures again { (why : Over) → over self.old ≡ Some why
             → (result ≡ Filled.Over why) × (over self.new ≡ Some why) }

@@ -1,5 +1,6 @@
 //! Sessions, with readers and writers of different behavior, over a real queue and over a service.
 
+mod client;
 mod conversation;
 mod failing;
 mod gathered;

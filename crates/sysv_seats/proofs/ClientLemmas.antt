@@ -1,0 +1,546 @@
+-- What the events of a client keep: how far its session is.
+use Rattle.std.proofs.Common.{◌≡◌, ◌≢◌, ◌≤◌, ◌<◌, ◌+◌, ◌-◌, ◌^◌, ℕ, ◌⊎◌, List, [], ◌∷◌, ◌++◌, length, take, drop, Option}
+use Rattle.std.proofs.Common.{None, Some, refl, sym, ap, subst, subst₂, ◌∙◌, arith, inl, inr, append_assoc, length-drop}
+use Rattle.std.specs.Prelude.{◌==◌, ⊤, Bool, true, false, not, is_some, unwrap_or}
+use Rattle.std.specs.Io.KnownBytes.{Appends, Consumes, Keeps as KeepsBytes, prepend_known}
+use Rattle.std.proofs.KnownBytes.{Appends-kept, Appends-nil, Appends-trans, Keeps-refl, prepend_known-nil}
+use Rattle.sysv_keys.specs.declared.identifier.TheConstants.{SLOTS}
+use Rattle.sysv_session.specs.declared.served.End.{End}
+use Rattle.sysv_session.specs.declared.served.End.TheVariants.{NoMemory, Fault, Write, Left}
+use Rattle.sysv_session.specs.declared.served.Served.{Served}
+use Rattle.sysv_session.specs.Conversation.{HasRoom, Talk, report, sent_on}
+use Rattle.sysv_session.specs.Outbox.{within, beyond}
+use Rattle.sysv_session.specs.Stands.{Stands, StandsAsking, Stopped}
+use Rattle.sysv_session.proofs.GoesOn.{ends, leaves, opens, sends, sends_asking, sends_stopped, stops_memory, stops_read}
+use Rattle.sysv_session.proofs.GoesOn.{stops_write}
+use Rattle.sysv_session.proofs.OutboxLemmas.{each_once}
+use Rattle.sysv_service.specs.Ran.{Pass}
+use Rattle.sysv_wire.specs.declared.fault.Fault.TheVariants.{Read}
+use Rattle.sysv_seats.specs.declared.parked.Parked.{Parked}
+use Rattle.sysv_seats.specs.Asked.{asks_with}
+use Rattle.sysv_seats.specs.InPieces.{left}
+use Rattle.sysv_seats.specs.Sits.{Arrives, HasFrame, HasStopped, IsAt, IsBehind, IsCounted, IsFree, IsOver, IsReady, IsWaiting}
+use Rattle.sysv_seats.specs.Sits.{Keeps, KeepsWith, Sits, Sitting, stopped_for, unread, with_input, zero_moment}
+use Rattle.sysv_seats.specs.declared.non_blocking.Drained.TheVariants.{Took}
+use Rattle.sysv_seats.specs.NonBlocking.{DrainAppends}
+use Rattle.sysv_seats.specs.Untold.{Closing}
+
+-- ---- what every client keeps
+
+-- The tally has room for each message in the outbox.
+pub has_room : (talk : Talk) (parked : Option Parked) → IsCounted talk parked → HasRoom talk
+has_room talk parked counted = omega (arith, counted.0, counted.1)
+
+-- The count, out of what every client keeps.
+pub counted_of : (start size : ℕ) (input : List ℕ) (talk : Talk) (parked : Option Parked) →
+    (start ≤ size) × HasFrame input parked × IsCounted talk parked → IsCounted talk parked
+counted_of start size input talk parked (fits, frame, counted) = counted
+
+-- A conversation that has taken up nothing.
+pub counted_none : (talk : Talk) → talk.session.tally ≡ record { written = 0; lost = 0 } →
+    talk.session.requests ≡ 0 → talk.unsent ≡ record { bytes = []; marks = [] } → IsCounted talk None
+counted_none talk tally requests unsent = (
+  omega (
+    arith,
+    ap (λ t. t.written) tally,
+    ap (λ t. t.lost) tally,
+    ap (λ b. length b.marks) unsent,
+    requests,
+  ),
+  omega (arith, requests),
+  λ none. requests,
+)
+
+-- The connection took n bytes more.
+pub counted_sent : (n : ℕ) (talk : Talk) (parked : Option Parked) → IsCounted talk parked →
+    IsCounted (sent_on n talk) parked
+counted_sent n talk parked counted =
+    (omega (arith, counted.0, each_once n talk.unsent.marks), counted.1, counted.2)
+
+-- A call that was parked is none any more.
+pub counted_left : (talk : Talk) (parked : Parked) → IsCounted talk (Some parked) → IsCounted talk None
+counted_left talk parked counted = (omega (arith, counted.0), counted.1, counted.2)
+
+pub kept_sent : (start size : ℕ) (input : List ℕ) (talk : Talk) (parked : Option Parked) (talk' : Talk) (n : ℕ) →
+    talk' ≡ sent_on n talk → (start ≤ size) × HasFrame input parked × IsCounted talk parked →
+    (start ≤ size) × HasFrame input parked × IsCounted talk' parked
+kept_sent start size input talk parked talk' n is (fits, frame, counted) =
+    (fits, frame, subst (λ (t : Talk). IsCounted t parked) (sym is) (counted_sent n talk parked counted))
+
+-- ---- the input
+
+-- What has arrived, and then what the connection has: the connection has the rest.
+behind : (later : List ℕ) (more : Option (List ℕ)) → IsBehind (prepend_known later more) more
+behind later None = (later, tt)
+behind later (Some xs) = (later, refl)
+
+-- Bytes were read and appended to those that had arrived.
+same_unread : (input bytes : List ℕ) (old new : Option (List ℕ)) → Consumes old new bytes → (old ≡ None → new ≡ None) →
+    prepend_known input old ≡ prepend_known (input ++ bytes) new
+same_unread input bytes None None took none = refl
+same_unread input bytes None (Some ys) took none = absurd (let no : Some ys ≡ None = none refl in cc)
+same_unread input bytes (Some xs) None took none = absurd took
+same_unread input bytes (Some xs) (Some ys) took none =
+    ap (λ (l : List ℕ). let o : Option (List ℕ) = Some l in o)
+    (ap (λ (l : List ℕ). input ++ l) took ∙ sym (append_assoc input bytes ys))
+
+-- Bytes were read and dropped.
+behind_read : (input bytes : List ℕ) (old new : Option (List ℕ)) → Consumes old new bytes →
+    IsBehind (prepend_known input old) new
+behind_read input bytes None new took = ([], tt)
+behind_read input bytes (Some xs) None took = absurd took
+behind_read input bytes (Some xs) (Some ys) took =
+    (input ++ bytes, ap (λ (l : List ℕ). input ++ l) took ∙ sym (append_assoc input bytes ys))
+
+-- No bytes were read.
+pub none_read : (old new : Option (List ℕ)) → KeepsBytes old new → (old ≡ None → new ≡ None) → new ≡ old
+none_read None new kept none = none refl
+none_read (Some xs) None kept none = absurd kept
+none_read (Some xs) (Some ys) kept none = ap (λ (l : List ℕ). let o : Option (List ℕ) = Some l in o) kept
+
+some_bytes : (bytes : List ℕ) → bytes ≢ [] → 0 < length bytes
+some_bytes [] some = absurd (some refl)
+some_bytes (x ∷ xs) some = omega arith
+
+-- It has not stopped.
+pub unstopped : (stopped : Option End) → is_some stopped ≡ not true → stopped ≡ None
+unstopped None none = refl
+unstopped (Some why) none = absurd (cc none)
+
+-- Some bytes wait.
+pub some_waits : (bytes : List ℕ) → (length bytes == 0) ≡ false → bytes ≢ []
+some_waits [] waits = absurd (cc waits)
+some_waits (x ∷ xs) waits = λ none. absurd (omega (arith, ap (length {A = ℕ}) none))
+
+-- The reason of a client that is closed: why it stopped, or that nothing more can be read.
+abbrev pub closing_end : Option End → End
+closing_end None = Fault Read
+closing_end (Some why) = why
+
+closing : (stopped : Option End) → unwrap_or stopped (Fault Read) ≡ closing_end stopped
+closing None = refl
+closing (Some why) = refl
+
+module _ {T : Type 0} (incoming outgoing : T → Option (List ℕ)) where
+  -- The client with this connection.
+  abbrev pub on : T → Sitting T → Sitting T
+  on connection client = record {
+    connection = connection;
+    talk = client.talk;
+    input = client.input;
+    parked = client.parked;
+    stopped = client.stopped;
+  }
+
+  -- The client, which has left its call. This is its input.
+  abbrev pub left_with : List ℕ → Sitting T → Sitting T
+  left_with input client = record {
+    connection = client.connection;
+    talk = client.talk;
+    input = input;
+    parked = None;
+    stopped = Some Left;
+  }
+
+  -- One event after another.
+  pub keeps_on : (old : Sitting T) (before : Pass) (mid : Sitting T) (between : Pass) (new : Sitting T) (after : Pass) →
+      KeepsWith incoming outgoing old before mid between → KeepsWith incoming outgoing mid between new after →
+      KeepsWith incoming outgoing old before new after
+  keeps_on old before mid between new after first second =
+      λ start origin sits. second start origin (first start origin sits)
+
+  -- The fields of the client say the same.
+  pub keeps_from : (old client new : Sitting T) → client ≡ old → Keeps incoming outgoing client new →
+      Keeps incoming outgoing old new
+  keeps_from old client new is keeps = subst (λ (c : Sitting T). Keeps incoming outgoing c new) is keeps
+
+  pub keeps_with_from : (old client : Sitting T) (before : Pass) (new : Sitting T) (after : Pass) → client ≡ old →
+      KeepsWith incoming outgoing client before new after → KeepsWith incoming outgoing old before new after
+  keeps_with_from old client before new after is keeps =
+      subst (λ (c : Sitting T). KeepsWith incoming outgoing c before new after) is keeps
+
+  pub keeps_to : (old new last : Sitting T) → last ≡ new → Keeps incoming outgoing old new →
+      Keeps incoming outgoing old last
+  keeps_to old new last is keeps = subst (Keeps incoming outgoing old) (sym is) keeps
+
+  pub keeps_then : (old mid new : Sitting T) → Keeps incoming outgoing old mid → Keeps incoming outgoing mid new →
+      Keeps incoming outgoing old new
+  keeps_then old mid new first second = λ now. keeps_on old now mid now new now (first now) (second now)
+
+  -- ---- a client that is free
+
+  is_ready : (start : Pass) (origin : T) (client : Sitting T) (now : Pass) (sent : List ℕ) → IsFree client →
+      IsAt incoming outgoing start origin client now sent client.parked client.stopped →
+      IsReady incoming outgoing start origin client now sent
+  is_ready start origin client now sent free at =
+      subst₂ (λ (p : Option Parked) (s : Option End). IsAt incoming outgoing start origin client now sent p s) free.0
+      free.1 at
+
+  is_at : (start : Pass) (origin : T) (client : Sitting T) (now : Pass) (sent : List ℕ) → IsFree client →
+      IsReady incoming outgoing start origin client now sent →
+      IsAt incoming outgoing start origin client now sent client.parked client.stopped
+  is_at start origin client now sent free ready =
+      subst₂ (λ (p : Option Parked) (s : Option End). IsAt incoming outgoing start origin client now sent p s)
+      (sym free.0) (sym free.1) ready
+
+  is_stopped : (start : Pass) (origin : T) (client : Sitting T) (now : Pass) (sent : List ℕ) (why : End) →
+      client.parked ≡ None → HasStopped incoming outgoing start origin client now sent why →
+      IsAt incoming outgoing start origin client now sent client.parked (Some why)
+  is_stopped start origin client now sent why none stopped =
+      subst (λ (p : Option Parked). IsAt incoming outgoing start origin client now sent p (Some why)) (sym none) stopped
+
+  -- The connection cannot be read.
+  read_at : (start : Pass) (origin : T) (client : Sitting T) (now : Pass) (sent : List ℕ) →
+      IsReady incoming outgoing start origin client now sent →
+      HasStopped incoming outgoing start origin client now sent (Fault Read)
+  read_at start origin client now sent ready = (
+    prepend_known client.input (incoming client.connection),
+    behind client.input (incoming client.connection),
+    stops_read (asks_with zero_moment ⊤) SLOTS client.talk start now (incoming origin)
+        (prepend_known client.input (incoming client.connection)) sent ready,
+  )
+
+  pub stops_reading : (client : Sitting T) → IsFree client →
+      Keeps incoming outgoing client (stopped_for (Fault Read) client)
+  stops_reading client free = λ now start origin sits. record {
+    sent = sits.sent;
+    wrote = sits.wrote;
+    at = is_stopped start origin (stopped_for (Fault Read) client) now sits.sent (Fault Read) free.0
+        (read_at start origin client now sits.sent (is_ready start origin client now sits.sent free sits.at));
+  }
+
+  -- The connection takes no more.
+  pub stops_writing : (client : Sitting T) → IsFree client → client.talk.unsent.bytes ≢ [] →
+      Keeps incoming outgoing client (stopped_for Write client)
+  stops_writing client free some = λ now start origin sits. record {
+    sent = sits.sent;
+    wrote = sits.wrote;
+    at = is_stopped start origin (stopped_for Write client) now sits.sent Write free.0 (
+      prepend_known client.input (incoming client.connection),
+      behind client.input (incoming client.connection),
+      stops_write (asks_with zero_moment ⊤) SLOTS client.talk start now (incoming origin)
+          (prepend_known client.input (incoming client.connection)) sits.sent
+          (some_bytes client.talk.unsent.bytes some) (is_ready start origin client now sits.sent free sits.at),
+    );
+  }
+
+  -- Bytes were read and appended to the input.
+  arrives_more : (client : Sitting T) (connection : T) (bytes : List ℕ) → IsFree client →
+      Consumes (incoming client.connection) (incoming connection) bytes →
+      (incoming client.connection ≡ None → incoming connection ≡ None) →
+      outgoing connection ≡ outgoing client.connection →
+      Keeps incoming outgoing client (with_input (client.input ++ bytes) (on connection client))
+  arrives_more client connection bytes free took none same = λ now start origin sits. record {
+    sent = sits.sent;
+    wrote = subst (λ (o : Option (List ℕ)). Appends (outgoing origin) o sits.sent) (sym same) sits.wrote;
+    at = is_at start origin (with_input (client.input ++ bytes) (on connection client)) now sits.sent free
+        (subst (λ (o : Option (List ℕ)). Stands (asks_with zero_moment ⊤) SLOTS client.talk start now (incoming origin)
+        o sits.sent)
+        (same_unread client.input bytes (incoming client.connection) (incoming connection) took none)
+        (is_ready start origin client now sits.sent free sits.at));
+  }
+
+  -- Bytes were read, and memory for them was refused.
+  arrives_not : (client : Sitting T) (connection : T) (bytes : List ℕ) → IsFree client →
+      Consumes (incoming client.connection) (incoming connection) bytes →
+      outgoing connection ≡ outgoing client.connection →
+      Keeps incoming outgoing client (stopped_for NoMemory (on connection client))
+  arrives_not client connection bytes free took same = λ now start origin sits. record {
+    sent = sits.sent;
+    wrote = subst (λ (o : Option (List ℕ)). Appends (outgoing origin) o sits.sent) (sym same) sits.wrote;
+    at = is_stopped start origin (stopped_for NoMemory (on connection client)) now sits.sent NoMemory free.0 (
+      prepend_known client.input (incoming client.connection),
+      behind_read client.input bytes (incoming client.connection) (incoming connection) took,
+      stops_memory (asks_with zero_moment ⊤) SLOTS client.talk start now (incoming origin)
+          (prepend_known client.input (incoming client.connection)) sits.sent
+          (is_ready start origin client now sits.sent free sits.at),
+    );
+  }
+
+  -- Bytes were read.
+  pub arrives : (client new : Sitting T) (connection : T) (bytes : List ℕ) → IsFree client →
+      Consumes (incoming client.connection) (incoming connection) bytes →
+      (incoming client.connection ≡ None → incoming connection ≡ None) →
+      outgoing connection ≡ outgoing client.connection → Arrives bytes (on connection client) new →
+      Keeps incoming outgoing client new
+  arrives client new connection bytes free took none same (inl is) =
+      subst (Keeps incoming outgoing client) (sym is) (arrives_more client connection bytes free took none same)
+  arrives client new connection bytes free took none same (inr is) =
+      subst (Keeps incoming outgoing client) (sym is) (arrives_not client connection bytes free took same)
+
+  -- A client without a parked call is given up: it stops, unless it has stopped.
+  pub breaks_reading : (old mid new : Sitting T) → Keeps incoming outgoing old mid → IsFree mid →
+      new ≡ stopped_for (Fault Read) mid → Keeps incoming outgoing old new
+  breaks_reading old mid new keeps free is =
+      keeps_to old (stopped_for (Fault Read) mid) new is
+      (keeps_then old mid (stopped_for (Fault Read) mid) keeps (stops_reading mid free))
+
+  pub breaks_writing : (old client mid new : Sitting T) → client ≡ old → Keeps incoming outgoing client mid →
+      mid.talk ≡ client.talk → IsFree mid → old.talk.unsent.bytes ≢ [] → new ≡ stopped_for Write mid →
+      Keeps incoming outgoing old new
+  breaks_writing old client mid new view keeps same free some is =
+      let talk = same ∙ ap (λ (c : Sitting T). c.talk) view in
+      keeps_to old (stopped_for Write mid) new is
+      (keeps_then old mid (stopped_for Write mid) (keeps_from old client mid view keeps)
+      (stops_writing mid free (subst (λ (t : Talk). t.unsent.bytes ≢ []) (sym talk) some)))
+
+  -- It has no parked call, and by its fields it has not stopped.
+  pub free_now : (mid client : Sitting T) → client ≡ mid → mid.parked ≡ None → is_some client.stopped ≡ not true →
+      IsFree mid
+  free_now mid client view none going =
+      (none, sym (ap (λ (c : Sitting T). c.stopped) view) ∙ unstopped client.stopped going)
+
+  pub free_as : (old client : Sitting T) → client ≡ old → IsFree old → IsFree client
+  free_as old client view free =
+      (ap (λ (c : Sitting T). c.parked) view ∙ free.0, ap (λ (c : Sitting T). c.stopped) view ∙ free.1)
+
+  -- ---- any client
+
+  -- The call is left.
+  left_at : (start : Pass) (origin : T) (client : Sitting T) (input : List ℕ) (now : Pass) (sent : List ℕ)
+      (parked : Parked) (stopped : Option End) →
+      IsAt incoming outgoing start origin client now sent (Some parked) stopped →
+      HasStopped incoming outgoing start origin (left_with input client) now sent Left
+  left_at start origin client input now sent parked None waits =
+      let told = left zero_moment parked.request.version parked.cred ⊤ parked.request.ask waits.text waits.before
+      parked.waiting now tt waits.waits in (
+        prepend_known waits.later (incoming client.connection),
+        behind waits.later (incoming client.connection),
+        leaves (asks_with zero_moment ⊤) SLOTS parked.cred parked.request waits.text [] client.talk start waits.before
+            now (incoming origin) (prepend_known waits.later (incoming client.connection)) sent waits.asking told refl,
+      )
+  left_at start origin client input now sent parked (Some why) none = absurd none
+
+  pub gives_up : (client : Sitting T) (input : List ℕ) (parked : Parked) → client.parked ≡ Some parked →
+      Keeps incoming outgoing client (left_with input client)
+  gives_up client input parked is = λ now start origin sits. record {
+    sent = sits.sent;
+    wrote = sits.wrote;
+    at = left_at start origin client input now sits.sent parked client.stopped
+        (subst (λ (p : Option Parked). IsAt incoming outgoing start origin client now sits.sent p client.stopped) is
+        sits.at);
+  }
+
+  -- The connection took or gave nothing.
+  turned_at : (start : Pass) (origin : T) (client : Sitting T) (connection : T) (now : Pass) (sent : List ℕ)
+      (parked : Option Parked) (stopped : Option End) → incoming connection ≡ incoming client.connection →
+      IsAt incoming outgoing start origin client now sent parked stopped →
+      IsAt incoming outgoing start origin (on connection client) now sent parked stopped
+  turned_at start origin client connection now sent None None same at =
+      subst (λ (o : Option (List ℕ)). Stands (asks_with zero_moment ⊤) SLOTS client.talk start now (incoming origin)
+      (prepend_known client.input o) sent) (sym same) at
+  turned_at start origin client connection now sent (Some parked) None same at = record {
+    text = at.text;
+    before = at.before;
+    later = at.later;
+    asking = subst (λ (o : Option (List ℕ)). StandsAsking (asks_with zero_moment ⊤) SLOTS parked.cred parked.request
+        at.text client.talk start at.before (incoming origin) (prepend_known at.later o) sent) (sym same) at.asking;
+    frame = at.frame;
+    size = at.size;
+    waits = at.waits;
+  }
+  turned_at start origin client connection now sent None (Some why) same at =
+      (at.0, subst (λ (o : Option (List ℕ)). IsBehind at.0 o) (sym same) at.1, at.2)
+  turned_at start origin client connection now sent (Some parked) (Some why) same at = absurd at
+
+  pub turned : (client : Sitting T) (connection : T) → incoming connection ≡ incoming client.connection →
+      KeepsBytes (outgoing client.connection) (outgoing connection) →
+      Keeps incoming outgoing client (on connection client)
+  turned client connection same kept = λ now start origin sits. record {
+    sent = sits.sent;
+    wrote = Appends-kept (outgoing origin) (outgoing client.connection) (outgoing connection) sits.sent sits.wrote kept;
+    at = turned_at start origin client connection now sits.sent client.parked client.stopped same sits.at;
+  }
+
+  -- A read returned nothing.
+  pub unread_still : (client : Sitting T) (connection : T) →
+      KeepsBytes (incoming client.connection) (incoming connection) →
+      (incoming client.connection ≡ None → incoming connection ≡ None) →
+      outgoing connection ≡ outgoing client.connection → Keeps incoming outgoing client (on connection client)
+  unread_still client connection kept none same =
+      turned client connection (none_read (incoming client.connection) (incoming connection) kept none)
+      (subst (λ (o : Option (List ℕ)). KeepsBytes (outgoing client.connection) o) (sym same)
+      (Keeps-refl (outgoing client.connection)))
+
+  -- One read, and then what is taken up.
+  pub filled : (old client mid new : Sitting T) (connection : T) (bytes : List ℕ) (before after : Pass) →
+      client ≡ old → IsFree old → Consumes (incoming client.connection) (incoming connection) bytes →
+      (incoming client.connection ≡ None → incoming connection ≡ None) →
+      outgoing connection ≡ outgoing client.connection → Arrives bytes (on connection client) mid →
+      KeepsWith incoming outgoing mid before new after → KeepsWith incoming outgoing old before new after
+  filled old client mid new connection bytes before after view free took none same arrived taken =
+      keeps_with_from old client before new after view
+      (keeps_on client before mid before new after
+      (arrives client mid connection bytes (free_as old client view free) took none same arrived before) taken)
+
+  -- Nothing more can be read.
+  pub filled_last : (old client new : Sitting T) (connection : T) (before after : Pass) → client ≡ old →
+      KeepsBytes (incoming client.connection) (incoming connection) →
+      (incoming client.connection ≡ None → incoming connection ≡ None) →
+      outgoing connection ≡ outgoing client.connection →
+      KeepsWith incoming outgoing (on connection client) before new after →
+      KeepsWith incoming outgoing old before new after
+  filled_last old client new connection before after view kept none same taken =
+      keeps_with_from old client before new after view
+      (keeps_on client before (on connection client) before new after
+      (unread_still client connection kept none same before) taken)
+
+  pub filled_none : (old client : Sitting T) (connection : T) (now : Pass) → client ≡ old →
+      KeepsBytes (incoming client.connection) (incoming connection) →
+      (incoming client.connection ≡ None → incoming connection ≡ None) →
+      outgoing connection ≡ outgoing client.connection →
+      KeepsWith incoming outgoing old now (on connection client) now
+  filled_none old client connection now view kept none same =
+      keeps_with_from old client now (on connection client) now view
+      (unread_still client connection kept none same now)
+
+  pub filled_not : (old client new : Sitting T) (connection : T) (now : Pass) → client ≡ old → IsFree old →
+      KeepsBytes (incoming client.connection) (incoming connection) →
+      (incoming client.connection ≡ None → incoming connection ≡ None) →
+      outgoing connection ≡ outgoing client.connection → new ≡ stopped_for (Fault Read) (on connection client) →
+      KeepsWith incoming outgoing old now new now
+  filled_not old client new connection now view free kept none same is =
+      keeps_with_from old client now new now view
+      (keeps_to client (stopped_for (Fault Read) (on connection client)) new is
+      (keeps_then client (on connection client) (stopped_for (Fault Read) (on connection client))
+      (unread_still client connection kept none same)
+      (stops_reading (on connection client) (free_as old client view free))) now)
+
+  -- A turn: what is taken up, then the leave of a peer, then what changes nothing.
+  pub turns : (old : Sitting T) (before : Pass) (mid left new : Sitting T) (after : Pass) →
+      KeepsWith incoming outgoing old before mid after → Keeps incoming outgoing mid left → new ≡ left →
+      KeepsWith incoming outgoing old before new after
+  turns old before mid left new after taken keeps is =
+      keeps_on old before mid after new after taken (keeps_to mid left new is keeps after)
+
+  -- The connection took n bytes of the replies.
+  abbrev pub with_sent : T → ℕ → Sitting T → Sitting T
+  with_sent connection n client = record {
+    connection = connection;
+    talk = sent_on n client.talk;
+    input = client.input;
+    parked = client.parked;
+    stopped = client.stopped;
+  }
+
+  drained_at : (start : Pass) (origin : T) (client : Sitting T) (connection : T) (n : ℕ) (now : Pass) (sent : List ℕ)
+      (parked : Option Parked) (stopped : Option End) → n ≤ length client.talk.unsent.bytes →
+      incoming connection ≡ incoming client.connection →
+      IsAt incoming outgoing start origin client now sent parked stopped →
+      IsAt incoming outgoing start origin (with_sent connection n client) now
+      (sent ++ take n client.talk.unsent.bytes) parked stopped
+  drained_at start origin client connection n now sent None None fits same at =
+      sends (asks_with zero_moment ⊤) SLOTS n client.talk (sent_on n client.talk) start now (incoming origin)
+      (prepend_known client.input (incoming connection)) sent fits refl
+      (subst (λ (o : Option (List ℕ)). Stands (asks_with zero_moment ⊤) SLOTS client.talk start now (incoming origin)
+      (prepend_known client.input o) sent) (sym same) at)
+  drained_at start origin client connection n now sent (Some parked) None fits same at = record {
+    text = at.text;
+    before = at.before;
+    later = at.later;
+    asking = sends_asking (asks_with zero_moment ⊤) SLOTS parked.cred parked.request at.text n client.talk
+        (sent_on n client.talk) start at.before (incoming origin) (prepend_known at.later (incoming connection)) sent
+        fits refl
+        (subst (λ (o : Option (List ℕ)). StandsAsking (asks_with zero_moment ⊤) SLOTS parked.cred parked.request
+        at.text client.talk start at.before (incoming origin) (prepend_known at.later o) sent) (sym same) at.asking);
+    frame = at.frame;
+    size = at.size;
+    waits = at.waits;
+  }
+  drained_at start origin client connection n now sent None (Some why) fits same at = (
+    at.0,
+    subst (λ (o : Option (List ℕ)). IsBehind at.0 o) (sym same) at.1,
+    sends_stopped (asks_with zero_moment ⊤) SLOTS why n client.talk (sent_on n client.talk) start now (incoming origin)
+        at.0 sent fits refl at.2,
+  )
+  drained_at start origin client connection n now sent (Some parked) (Some why) fits same at = absurd at
+
+  pub drained : (client : Sitting T) (connection : T) (n : ℕ) → n ≤ length client.talk.unsent.bytes →
+      incoming connection ≡ incoming client.connection →
+      Appends (outgoing client.connection) (outgoing connection) (take n client.talk.unsent.bytes) →
+      Keeps incoming outgoing client (with_sent connection n client)
+  drained client connection n fits same wrote = λ now start origin sits. record {
+    sent = sits.sent ++ take n client.talk.unsent.bytes;
+    wrote = Appends-trans (outgoing origin) (outgoing client.connection) (outgoing connection) sits.sent
+        (take n client.talk.unsent.bytes) sits.wrote wrote;
+    at = drained_at start origin client connection n now sits.sent client.parked client.stopped fits same sits.at;
+  }
+
+  abbrev pub with_talk : T → Talk → Sitting T → Sitting T
+  with_talk connection talk client = record {
+    connection = connection;
+    talk = talk;
+    input = client.input;
+    parked = client.parked;
+    stopped = client.stopped;
+  }
+
+  pub took : (client : Sitting T) (connection : T) (talk : Talk) (n : ℕ) (bytes : List ℕ) →
+      bytes ≡ client.talk.unsent.bytes → talk ≡ sent_on n client.talk →
+      incoming connection ≡ incoming client.connection →
+      DrainAppends (outgoing client.connection) (outgoing connection) (Took n) bytes →
+      Keeps incoming outgoing client (with_talk connection talk client)
+  took client connection talk n bytes all is same appends =
+      keeps_to client (with_sent connection n client) (with_talk connection talk client)
+      (ap (λ (t : Talk). with_talk connection t client) is)
+      (drained client connection n (subst (λ (l : List ℕ). n ≤ length l) all appends.1.0) same
+      (subst (λ (l : List ℕ). Appends (outgoing client.connection) (outgoing connection) (take n l)) all appends.2))
+
+  -- ---- the first and the last event
+
+  -- A new client.
+  pub opened : (client : Sitting T) (pass : Pass) → client.talk.session.caller ≡ None →
+      client.talk.session.tally ≡ record { written = 0; lost = 0 } → client.talk.session.requests ≡ 0 →
+      client.talk.unsent ≡ record { bytes = []; marks = [] } → client.input ≡ [] → IsFree client →
+      Sits incoming outgoing pass client.connection client pass
+  opened client pass caller tally requests unsent none free = record {
+    sent = [];
+    wrote = Appends-nil (outgoing client.connection);
+    at = is_at pass client.connection client pass [] free
+        (subst (λ (o : Option (List ℕ)). Stands (asks_with zero_moment ⊤) SLOTS client.talk pass pass
+        (incoming client.connection) o [])
+        (sym (ap (λ (l : List ℕ). prepend_known l (incoming client.connection)) none
+        ∙ prepend_known-nil (incoming client.connection)))
+        (opens (asks_with zero_moment ⊤) SLOTS client.talk pass (incoming client.connection) caller tally requests
+        unsent));
+  }
+
+  -- A client that has no parked call is closed.
+  stopped_at : (start : Pass) (origin : T) (client : Sitting T) (now : Pass) (sent : List ℕ)
+      (stopped : Option End) → IsAt incoming outgoing start origin client now sent None stopped →
+      HasStopped incoming outgoing start origin client now sent (closing_end stopped)
+  stopped_at start origin client now sent None at = read_at start origin client now sent at
+  stopped_at start origin client now sent (Some why) at = at
+
+  pub closed : {B : Type 0} (closes : Closing B) (start : Pass) (origin : T) (client : Sitting T) (now : Pass)
+      (book book' : B) → client.parked ≡ None → Sits incoming outgoing start origin client now →
+      closes book (incoming client.connection) (outgoing client.connection) book' →
+      IsOver incoming outgoing closes start origin (report (closing_end client.stopped) client.talk) now book book'
+  closed closes start origin client now book book' none sits done =
+      let stopped = stopped_at start origin client now sits.sent client.stopped
+      (subst (λ (p : Option Parked). IsAt incoming outgoing start origin client now sits.sent p client.stopped) none
+      sits.at) in
+      record {
+        rest = stopped.0;
+        kept = incoming client.connection;
+        more = outgoing client.connection;
+        serves = ends (asks_with zero_moment ⊤) SLOTS (closing_end client.stopped) client.talk start now
+            (incoming origin) stopped.0 (outgoing origin) (outgoing client.connection) sits.sent stopped.2 sits.wrote;
+        behind = stopped.1;
+        closed = done;
+      }
+
+  pub closed_over : {B : Type 0} (closes : Closing B) (old mid client : Sitting T) (why : End) (served : Served)
+      (book book' : B) → Keeps incoming outgoing old mid → mid.parked ≡ None → client ≡ mid →
+      why ≡ unwrap_or client.stopped (Fault Read) → served ≡ report why client.talk →
+      closes book (incoming client.connection) (outgoing client.connection) book' → (start now : Pass) (origin : T) →
+      Sits incoming outgoing start origin old now →
+      IsOver incoming outgoing closes start origin served now book book'
+  closed_over closes old mid client why served book book' keeps none same reason is done start now origin sits =
+      let left = ap (λ (c : Sitting T). c.parked) same ∙ none in
+      let here = subst (λ (c : Sitting T). Sits incoming outgoing start origin c now) (sym same)
+      (keeps now start origin sits) in
+      let why_is = reason ∙ closing client.stopped in
+      subst (λ (s : Served). IsOver incoming outgoing closes start origin s now book book')
+      (sym (is ∙ ap (λ (w : End). report w client.talk) why_is))
+      (closed closes start origin client now book book' left here done)

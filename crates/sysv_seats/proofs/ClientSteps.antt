@@ -1,0 +1,439 @@
+-- The steps of a client: what is taken up from its input, and what becomes of a request.
+use Rattle.std.proofs.Common.{◌≡◌, ◌∙◌, ℕ, ℤ, ◌+◌, ◌-◌, ◌≤◌, List, [], ◌++◌, length, take, drop, Option, None, Some}
+use Rattle.std.proofs.Common.{Result, Ok, Err, true, false, inl, inr, refl, sym, ap, ap₂, subst, subst₂, arith, length-append, length-drop}
+use Rattle.std.proofs.lemmas.List.{drop_at, take_all, take_at}
+use Rattle.std.specs.Prelude.{⊤}
+use Rattle.std.specs.Io.KnownBytes.{Appends, Consumes, IsAtEnd, prepend_known}
+use Rattle.sysv_keys.specs.declared.identifier.TheConstants.{SLOTS}
+use Rattle.sysv_model.specs.declared.cred.Cred.{Cred}
+use Rattle.sysv_model.specs.declared.flags.Flags.{Flags}
+use Rattle.sysv_model.specs.declared.limits.TheConstants.{MESSAGE_BYTES}
+use Rattle.sysv_session.specs.declared.kernel.RequestOutcome.{RequestOutcome}
+use Rattle.sysv_session.specs.declared.kernel.RequestOutcome.TheVariants.{Reply, Got, Left as WasLeft}
+use Rattle.sysv_session.specs.declared.served.End.{End}
+use Rattle.sysv_session.specs.declared.served.End.TheVariants.{Ended, NoMemory, NoHello, Fault, Write, Bound, Left}
+use Rattle.sysv_session.specs.declared.session.Session.{Session}
+use Rattle.sysv_session.specs.declared.session.TakenUp.{TakenUp}
+use Rattle.sysv_session.specs.declared.session.TakenUp.TheVariants.{Hello, Request as Asked}
+use Rattle.sysv_session.specs.Answers.{IsAsked, MayAnswer}
+use Rattle.sysv_session.specs.Calls.{Meaning}
+use Rattle.sysv_session.specs.Conversation.{Puts, Talk, gathered}
+use Rattle.sysv_session.specs.Outbox.{Unsent, with_frame}
+use Rattle.sysv_session.specs.Output.{hello_frame}
+use Rattle.sysv_session.specs.Stands.{Stands, StandsAsking, StandsGreeting, Stopped}
+use Rattle.sysv_session.specs.TakenUp.{TakesUp}
+use Rattle.sysv_session.proofs.Arrived.{IsSettled, IsSettledEnd, takes_up_more}
+use Rattle.sysv_session.proofs.GoesOn.{greets, greet_ends, puts, put_ends, stops, takes_hello, takes_request}
+use Rattle.sysv_service.specs.declared.progress.Progress.{Progress}
+use Rattle.sysv_service.specs.declared.progress.Progress.TheVariants as progress
+use Rattle.sysv_service.specs.Ran.{Pass}
+use Rattle.sysv_wire.specs.declared.fault.Fault.TheVariants.{Truncated, TooLong, BadOp, BadField, Read}
+use Rattle.sysv_wire.specs.declared.frame.Version.{Version}
+use Rattle.sysv_wire.specs.declared.request.Ask.{Ask}
+use Rattle.sysv_wire.specs.declared.request.Ask.TheVariants as kind
+use Rattle.sysv_wire.specs.declared.request.Request.{Request}
+use Rattle.sysv_wire.specs.Requests.{ask_text, op_of, request_spelling}
+use Rattle.sysv_seats.specs.declared.parked.Parked.{Parked}
+use Rattle.sysv_seats.specs.declared.waiting.Waiting.{Waiting}
+use Rattle.sysv_seats.specs.declared.waiting.Waiting.TheVariants.{Send, Receive}
+use Rattle.sysv_seats.specs.Asked.{Asks, asks_with}
+use Rattle.sysv_seats.specs.InPieces.{asks_any}
+use Rattle.sysv_seats.specs.Parked.{HasBegun, IsParked, IsWaitOf, MayProgress}
+use Rattle.sysv_seats.specs.Sits.{GreetsAs, HasAsked, HasFrame, HasStopped, IsAt, IsBehind, IsFree, IsPending, IsReady, IsWaiting}
+use Rattle.sysv_seats.specs.Sits.{ReadsNext, Sits, Sitting, is_early, is_wait_of, messages_so_far, stopped_for, talking}
+use Rattle.sysv_seats.specs.Sits.{with_input, zero_moment}
+
+-- What the calls of a client mean.
+abbrev Means : Meaning Pass
+Means = asks_with zero_moment ⊤
+
+-- ---- lists
+
+-- What was read ahead is behind what the connection still has.
+pub behind : (bytes : List ℕ) (more : Option (List ℕ)) → IsBehind (prepend_known bytes more) more
+behind bytes None = (bytes, tt)
+behind bytes (Some xs) = (bytes, refl)
+
+-- Without a frame at its front the input is what follows the frame.
+drops : (size : ℕ) (input spelling later : List ℕ) → size ≡ length spelling → input ≡ spelling ++ later →
+    drop size input ≡ later
+drops size input spelling later whole frame =
+    ap (drop size) frame ∙ drop_at spelling later size (sym whole)
+
+-- So many bytes were read, which were those of a frame.
+read_whole : (size : ℕ) (input spelling rest : List ℕ) → size ≡ length input - length rest →
+    input ≡ spelling ++ rest → size ≡ length spelling
+read_whole size input spelling rest read frame =
+    omega (arith, read, ap (length {A = ℕ}) frame, length-append spelling rest)
+
+-- The frame of a parked call is in the input.
+pub frame_fits : (input : List ℕ) (parked : Option Parked) (call : Parked) → parked ≡ Some call →
+    HasFrame input parked → call.length ≤ length input
+frame_fits input parked call is has =
+    (subst (λ (p : Option Parked). HasFrame input p) is has).0
+
+-- A frame at the front of the input is its first bytes.
+pub front : (input bytes later spelling : List ℕ) (start size until : ℕ) → until ≡ start + size →
+    drop start bytes ≡ input → size ≡ length spelling → input ≡ spelling ++ later →
+    take (until - start) (drop start bytes) ≡ spelling
+front input bytes later spelling start size until is same whole frame =
+    let n : until - start ≡ size = omega (arith, is) in
+    ap₂ (λ (k : ℕ) (l : List ℕ). take k l) n (same ∙ frame) ∙ take_at spelling later size (sym whole)
+
+-- ---- the kinds of waits
+
+pub is_of : (ask : Ask) (waiting : Waiting) → IsWaitOf ask waiting → is_wait_of ask waiting ≡ true
+is_of (kind.Snd id mtype flags) (Send w) is = refl
+is_of (kind.Rcv id size mtype flags) (Receive w) is = refl
+is_of ask waiting is = absurd is
+
+-- A call that waits waits by a wait of its request.
+pub waits_by : (version : Version) (ask : Ask) (came : Progress Waiting RequestOutcome) (given : List ℕ)
+    (waiting : Waiting) → came ≡ progress.Waits waiting → MayProgress version ask came given →
+    is_wait_of ask waiting ≡ true
+waits_by version ask came given waiting is may =
+    is_of ask waiting (subst (λ (p : Progress Waiting RequestOutcome). MayProgress version ask p given) is may)
+
+-- The outcome of a call that is over.
+pub answers : (version : Version) (ask : Ask) (came : Progress Waiting RequestOutcome) (given : List ℕ)
+    (outcome : RequestOutcome) → came ≡ progress.Over outcome → MayProgress version ask came given →
+    MayAnswer version ask outcome given
+answers version ask came given outcome is may =
+    subst (λ (p : Progress Waiting RequestOutcome). MayProgress version ask p given) is may
+
+-- A body that may be returned is short.
+pub short_given : (version : Version) (ask : Ask) (outcome : RequestOutcome) (given : List ℕ) →
+    MayAnswer version ask outcome given → length given ≤ MESSAGE_BYTES
+short_given version ask (Reply reply) given may = may.4
+short_given version ask (Got delivery) given may = may.2
+short_given version ask WasLeft given may = omega (arith, ap (length {A = ℕ}) may)
+
+-- The request is no send.
+abbrev IsNoSend : Ask → Type 0
+IsNoSend ask = (id mtype : ℤ) (flags : Flags) → ask ≡ kind.Snd id mtype flags → ⊥
+
+-- Only a send has a body.
+no_body_at : (ask : Ask) (body : List ℕ) → IsNoSend ask → body ≡ ask_text (op_of ask) body →
+    body ≡ []
+no_body_at (kind.Hello cred) body not is = is
+no_body_at (kind.Get key flags) body not is = is
+no_body_at (kind.Snd id mtype flags) body not is = absurd (not id mtype flags refl)
+no_body_at (kind.Rcv id size mtype flags) body not is = is
+no_body_at (kind.Stat id) body not is = is
+no_body_at (kind.Set id to) body not is = is
+no_body_at (kind.Rm id) body not is = is
+no_body_at (kind.Row slot) body not is = is
+
+pub no_body : (request : Request) (body : List ℕ) → IsNoSend request.ask → IsAsked request body → body ≡ []
+no_body request body not asked = no_body_at request.ask body not asked.2
+
+-- ---- ends that are settled
+
+-- An end that may not mean that more is to come does not depend on what follows.
+pub settled_early : (why : End) (more : Option (List ℕ)) → is_early why ≡ false → IsSettledEnd why more
+settled_early Ended more late = absurd (grind (arith, late))
+settled_early NoMemory more late = tt
+settled_early NoHello more late = tt
+settled_early (Fault Truncated) more late = absurd (grind (arith, late))
+settled_early (Fault TooLong) more late = tt
+settled_early (Fault BadOp) more late = tt
+settled_early (Fault BadField) more late = tt
+settled_early (Fault Read) more late = tt
+settled_early Write more late = tt
+settled_early Bound more late = tt
+settled_early Left more late = tt
+
+-- ---- requests that were taken up
+
+-- The same result, by what is in it.
+pub ok_of : (result : Result TakenUp End) (taken is : TakenUp) → result ≡ Ok taken → taken ≡ is → result ≡ Ok is
+ok_of result taken is same equal = subst (λ (t : TakenUp). result ≡ Ok t) equal same
+
+-- The reason why nothing was taken up is one.
+pub one_end : (result : Result TakenUp End) (a b : End) → result ≡ Err a → result ≡ Err b → a ≡ b
+one_end result a b first second = cc
+
+-- The bytes from here on are what is left of them.
+pub rest_from : (start : ℕ) (items bytes : List ℕ) → bytes ≡ items →
+    take (length bytes - start) (drop start bytes) ≡ drop start items
+rest_from start items bytes same =
+    take_all (length bytes - start) (drop start bytes) (omega (arith, length-drop start bytes)) ∙ ap (drop start) same
+
+-- What was taken up from the bytes of the input was taken up by the client.
+pub reads_from : {T : Type 0} (old new : Sitting T) (size : ℕ) (result : Result TakenUp End)
+    (text bytes rest : List ℕ) → bytes ≡ old.input →
+    TakesUp old.talk.session new.talk.session result (Some bytes) (Some rest) text →
+    new.talk.unsent ≡ old.talk.unsent → new ≡ talking new.talk old → size ≡ length bytes - length rest →
+    ReadsNext old size result text new
+reads_from old new size result text bytes rest same takes unsent still read = record {
+  rest = rest;
+  takes = subst (λ (l : List ℕ). TakesUp old.talk.session new.talk.session result (Some l) (Some rest) text) same takes;
+  unsent = unsent;
+  same = still;
+  read = subst (λ (l : List ℕ). size ≡ length l - length rest) same read;
+}
+
+-- A request that was taken up has no outcome yet.
+pub pending_next : {T : Type 0} (old new : Sitting T) (size : ℕ) (result : Result TakenUp End) (text : List ℕ)
+    (cred : Cred) (request : Request) → messages_so_far old.talk ≤ old.talk.session.requests →
+    ReadsNext old size result text new → result ≡ Ok (Asked cred request) → IsPending new
+pending_next old new size result text cred request counted reads is =
+    let took = subst (λ (r : Result TakenUp End). TakesUp old.talk.session new.talk.session r (Some old.input)
+        (Some reads.rest) text) is reads.takes in
+    omega (
+      arith,
+      counted,
+      ap (λ (s : Session). s.requests) took.4,
+      ap (λ (s : Session). s.tally.written) took.4,
+      ap (λ (s : Session). s.tally.lost) took.4,
+      ap (λ (u : Unsent). length u.marks) reads.unsent,
+    )
+
+module _ {T : Type 0} (incoming outgoing : T → Option (List ℕ)) where
+  -- A client that is free can take up more.
+  ready : (start : Pass) (origin : T) (client : Sitting T) (now : Pass) → IsFree client →
+      (sits : Sits incoming outgoing start origin client now) →
+      IsReady incoming outgoing start origin client now sits.sent
+  ready start origin client now free sits =
+      subst₂ (λ (p : Option Parked) (s : Option End). IsAt incoming outgoing start origin client now sits.sent p s)
+      free.0 free.1 sits.at
+
+  at_ready : (start : Pass) (origin : T) (client : Sitting T) (now : Pass) (sent : List ℕ) → client.parked ≡ None →
+      client.stopped ≡ None → IsReady incoming outgoing start origin client now sent →
+      IsAt incoming outgoing start origin client now sent client.parked client.stopped
+  at_ready start origin client now sent parked stopped at =
+      subst₂ (λ (p : Option Parked) (s : Option End). IsAt incoming outgoing start origin client now sent p s)
+      (sym parked) (sym stopped) at
+
+  at_stopped : (start : Pass) (origin : T) (client : Sitting T) (now : Pass) (sent : List ℕ) (why : End) →
+      client.parked ≡ None → client.stopped ≡ Some why →
+      HasStopped incoming outgoing start origin client now sent why →
+      IsAt incoming outgoing start origin client now sent client.parked client.stopped
+  at_stopped start origin client now sent why parked stopped at =
+      subst₂ (λ (p : Option Parked) (s : Option End). IsAt incoming outgoing start origin client now sent p s)
+      (sym parked) (sym stopped) at
+
+  at_waiting : (start : Pass) (origin : T) (client : Sitting T) (now : Pass) (sent : List ℕ) (parked : Parked) →
+      client.parked ≡ Some parked → client.stopped ≡ None →
+      IsWaiting incoming outgoing start origin client now sent parked →
+      IsAt incoming outgoing start origin client now sent client.parked client.stopped
+  at_waiting start origin client now sent parked parks stopped at =
+      subst₂ (λ (p : Option Parked) (s : Option End). IsAt incoming outgoing start origin client now sent p s)
+      (sym parks) (sym stopped) at
+
+  -- ---- a request has an outcome, or waits
+
+  module _ (start before now : Pass) (origin : T) (old new : Sitting T) (cred : Cred) (request : Request)
+      (text : List ℕ) (size : ℕ) (asked : HasAsked incoming outgoing start origin old cred request text size before)
+      (connection : new.connection ≡ old.connection) where
+    wrote : Appends (outgoing origin) (outgoing new.connection) asked.sent
+    wrote = subst (λ (t : T). Appends (outgoing origin) (outgoing t) asked.sent) (sym connection) asked.wrote
+
+    module _ (came : Progress Waiting RequestOutcome) (outcome : RequestOutcome) (given : List ℕ)
+        (is : came ≡ progress.Over outcome)
+        (begun : HasBegun zero_moment request.version cred request.ask text before came given now)
+        (may : MayProgress request.version request.ask came given) where
+      means : Means before cred request text outcome given now
+      means =
+          asks_any zero_moment request.version cred ⊤ request.ask text before outcome given now
+          (subst (λ (p : Progress Waiting RequestOutcome). HasBegun zero_moment request.version cred request.ask text
+          before p given now) is begun)
+
+      -- Its reply was gathered.
+      pub put_reply : Puts (Ok tt) request.version outcome given old.talk new.talk → new.input ≡ drop size old.input →
+          new.parked ≡ None → new.stopped ≡ old.stopped → Sits incoming outgoing start origin new now
+      put_reply put input parked stopped =
+          let stands = puts Means SLOTS cred request text outcome given old.talk start before now (incoming origin)
+              (prepend_known asked.later (incoming old.connection)) asked.sent asked.asking means
+              (answers request.version request.ask came given outcome is may) new.talk put in
+          let left : new.input ≡ asked.later =
+              input ∙ drops size old.input (request_spelling request text) asked.later asked.whole asked.frame in
+          record {
+            sent = asked.sent;
+            wrote = wrote;
+            at = at_ready start origin new now asked.sent parked (stopped ∙ asked.going)
+                (subst₂ (λ (l : List ℕ) (t : T). Stands Means SLOTS new.talk start now (incoming origin)
+                (prepend_known l (incoming t)) asked.sent) (sym left) (sym connection) stands);
+          }
+
+      -- It has no reply, and the client stops.
+      pub put_none : (why : End) → Puts (Err why) request.version outcome given old.talk new.talk →
+          new.parked ≡ None → new.stopped ≡ Some why → Sits incoming outgoing start origin new now
+      put_none why put parked stopped =
+          let rest = prepend_known asked.later (incoming old.connection) in
+          let stood = put_ends Means SLOTS cred request text outcome given old.talk start before now (incoming origin)
+              rest asked.sent asked.asking means (answers request.version request.ask came given outcome is may) why
+              new.talk put in
+          record {
+            sent = asked.sent;
+            wrote = wrote;
+            at = at_stopped start origin new now asked.sent why parked stopped
+                (rest, subst (λ (t : T). IsBehind rest (incoming t)) (sym connection)
+                (behind asked.later (incoming old.connection)), stood);
+          }
+
+    -- It waits, and is parked.
+    pub parks : (came : Progress Waiting RequestOutcome) (waiting : Waiting) (given : List ℕ) →
+        came ≡ progress.Waits waiting →
+        HasBegun zero_moment request.version cred request.ask text before came given now →
+        new.talk ≡ old.talk → new.input ≡ old.input →
+        new.parked ≡ Some (record { cred = cred; request = request; waiting = waiting; length = size }) →
+        new.stopped ≡ old.stopped → Sits incoming outgoing start origin new now
+    parks came waiting given is begun talk input parked stopped =
+        let waits = subst (λ (p : Progress Waiting RequestOutcome). HasBegun zero_moment request.version cred
+            request.ask text before p given now) is begun in
+        record {
+          sent = asked.sent;
+          wrote = wrote;
+          at = at_waiting start origin new now asked.sent
+              (record { cred = cred; request = request; waiting = waiting; length = size }) parked
+              (stopped ∙ asked.going) (record {
+                text = text;
+                before = before;
+                later = asked.later;
+                asking = subst₂ (λ (k : Talk) (t : T). StandsAsking Means SLOTS cred request text k start before
+                    (incoming origin) (prepend_known asked.later (incoming t)) asked.sent) (sym talk) (sym connection)
+                    asked.asking;
+                frame = input ∙ asked.frame;
+                size = asked.whole;
+                waits = waits.0;
+              });
+        }
+
+  -- ---- a parked call
+
+  parked_at : (start : Pass) (origin : T) (client : Sitting T) (now : Pass) (sent : List ℕ) (parked : Parked)
+      (stopped : Option End) → IsAt incoming outgoing start origin client now sent (Some parked) stopped →
+      (stopped ≡ None) × IsWaiting incoming outgoing start origin client now sent parked
+  parked_at start origin client now sent parked None at = (refl, at)
+  parked_at start origin client now sent parked (Some why) at = absurd at
+
+  -- A client with a parked call waits.
+  pub is_waiting : (start : Pass) (origin : T) (client : Sitting T) (now : Pass) (parked : Parked) →
+      client.parked ≡ Some parked → (sits : Sits incoming outgoing start origin client now) →
+      (client.stopped ≡ None) × IsWaiting incoming outgoing start origin client now sits.sent parked
+  is_waiting start origin client now parked is sits =
+      parked_at start origin client now sits.sent parked client.stopped
+      (subst (λ (p : Option Parked). IsAt incoming outgoing start origin client now sits.sent p client.stopped) is
+      sits.at)
+
+  -- Its request was taken up.
+  pub asked_before : (start : Pass) (origin : T) (client : Sitting T) (now : Pass) (parked : Parked)
+      (sits : Sits incoming outgoing start origin client now) → client.stopped ≡ None →
+      (waits : IsWaiting incoming outgoing start origin client now sits.sent parked) →
+      HasAsked incoming outgoing start origin client parked.cred parked.request waits.text parked.length waits.before
+  asked_before start origin client now parked sits going waits = record {
+    sent = sits.sent;
+    wrote = sits.wrote;
+    later = waits.later;
+    asking = waits.asking;
+    frame = waits.frame;
+    whole = waits.size;
+    going = going;
+  }
+
+  -- ---- what is taken up
+
+  module _ (start now : Pass) (origin : T) (old new : Sitting T) (size : ℕ) (result : Result TakenUp End)
+      (text : List ℕ) (free : IsFree old) (reads : ReadsNext old size result text new)
+      (sits : Sits incoming outgoing start origin old now) where
+    stays : new.connection ≡ old.connection
+    stays = ap (λ (s : Sitting T). s.connection) reads.same
+
+    wrote_still : Appends (outgoing origin) (outgoing new.connection) sits.sent
+    wrote_still = subst (λ (t : T). Appends (outgoing origin) (outgoing t) sits.sent) (sym stays) sits.wrote
+
+    took : (is : Result TakenUp End) → result ≡ is →
+        TakesUp old.talk.session new.talk.session is (Some old.input) (Some reads.rest) text
+    took is same =
+        subst (λ (r : Result TakenUp End). TakesUp old.talk.session new.talk.session r (Some old.input)
+        (Some reads.rest) text) same reads.takes
+
+    -- A request is taken up.
+    pub asks_next : (cred : Cred) (request : Request) → result ≡ Ok (Asked cred request) →
+        HasAsked incoming outgoing start origin new cred request text size now
+    asks_next cred request is =
+        let takes = took (Ok (Asked cred request)) is in
+        let took_more = takes_up_more old.talk.session new.talk.session (Ok (Asked cred request)) old.input reads.rest text
+            (incoming old.connection) tt takes in
+        let stands = takes_request Means SLOTS cred request old.talk new.talk start now (incoming origin)
+            (prepend_known old.input (incoming old.connection)) (prepend_known reads.rest (incoming old.connection))
+            sits.sent text (ready start origin old now free sits) took_more reads.unsent in
+        record {
+          sent = sits.sent;
+          wrote = wrote_still;
+          later = reads.rest;
+          asking = subst (λ (t : T). StandsAsking Means SLOTS cred request text new.talk start now (incoming origin)
+              (prepend_known reads.rest (incoming t)) sits.sent) (sym stays) stands;
+          frame = ap (λ (s : Sitting T). s.input) reads.same ∙ takes.3.0;
+          whole = read_whole size old.input (request_spelling request text) reads.rest reads.read takes.3.0;
+          going = ap (λ (s : Sitting T). s.stopped) reads.same ∙ free.1;
+        }
+
+    -- What is read ends the session.
+    pub stops_next : (why : End) (last : Sitting T) → result ≡ Err why → IsSettled (Err why) (incoming old.connection) →
+        last ≡ stopped_for why new → Sits incoming outgoing start origin last now
+    stops_next why last is settled same =
+        let took_more = takes_up_more old.talk.session new.talk.session (Err why) old.input reads.rest text
+            (incoming old.connection) settled (took (Err why) is) in
+        let rest = prepend_known reads.rest (incoming old.connection) in
+        let stood = stops Means SLOTS why old.talk new.talk start now (incoming origin)
+            (prepend_known old.input (incoming old.connection)) rest sits.sent text
+            (ready start origin old now free sits) took_more reads.unsent in
+        let at_new : HasStopped incoming outgoing start origin (stopped_for why new) now sits.sent why =
+            (rest, subst (λ (t : T). IsBehind rest (incoming t)) (sym stays)
+            (behind reads.rest (incoming old.connection)), stood) in
+        subst (λ (s : Sitting T). Sits incoming outgoing start origin s now) (sym same)
+        (record {
+          sent = sits.sent;
+          wrote = wrote_still;
+          at = at_stopped start origin (stopped_for why new) now sits.sent why
+              (ap (λ (s : Sitting T). s.parked) reads.same ∙ free.0) refl at_new;
+        })
+
+    -- A hello is taken up, and its reply is gathered, or memory is refused for it.
+    greeted : (version : Version) (last : Sitting T) → StandsGreeting version new.talk start now (incoming origin)
+        (prepend_known (drop size new.input) (incoming new.connection)) sits.sent →
+        GreetsAs version (with_input (drop size new.input) new) last → Sits incoming outgoing start origin last now
+    greeted version last stands (inl same) =
+        let answered = talking (gathered (with_frame (hello_frame version SLOTS)) new.talk)
+            (with_input (drop size new.input) new) in
+        subst (λ (s : Sitting T). Sits incoming outgoing start origin s now) (sym same)
+        (record {
+          sent = sits.sent;
+          wrote = wrote_still;
+          at = at_ready start origin answered now sits.sent (ap (λ (s : Sitting T). s.parked) reads.same ∙ free.0)
+              (ap (λ (s : Sitting T). s.stopped) reads.same ∙ free.1)
+              (greets Means SLOTS version new.talk answered.talk start now (incoming origin)
+              (prepend_known (drop size new.input) (incoming new.connection)) sits.sent stands refl);
+        })
+    greeted version last stands (inr same) =
+        subst (λ (s : Sitting T). Sits incoming outgoing start origin s now) (sym same)
+        (record {
+          sent = sits.sent;
+          wrote = wrote_still;
+          at = at_stopped start origin (stopped_for NoMemory (with_input (drop size new.input) new)) now sits.sent NoMemory
+              (ap (λ (s : Sitting T). s.parked) reads.same ∙ free.0) refl
+              (prepend_known (drop size new.input) (incoming new.connection),
+              behind (drop size new.input) (incoming new.connection),
+              greet_ends Means SLOTS version new.talk start now (incoming origin)
+              (prepend_known (drop size new.input) (incoming new.connection)) sits.sent stands);
+        })
+
+    pub greets_next : (version : Version) (last : Sitting T) → result ≡ Ok (Hello version) →
+        GreetsAs version (with_input (drop size new.input) new) last → Sits incoming outgoing start origin last now
+    greets_next version last is greets_as =
+        let takes = took (Ok (Hello version)) is in
+        let spelled = takes.2.1 in
+        let took_more = takes_up_more old.talk.session new.talk.session (Ok (Hello version)) old.input reads.rest text
+            (incoming old.connection) tt takes in
+        let stands = takes_hello Means SLOTS version old.talk new.talk start now (incoming origin)
+            (prepend_known old.input (incoming old.connection)) (prepend_known reads.rest (incoming old.connection))
+            sits.sent text (ready start origin old now free sits) took_more reads.unsent in
+        let input : new.input ≡ old.input = ap (λ (s : Sitting T). s.input) reads.same in
+        let left : drop size new.input ≡ reads.rest =
+            drops size new.input _ reads.rest (read_whole size old.input _ reads.rest reads.read spelled)
+            (input ∙ spelled) in
+        greeted version last
+        (subst₂ (λ (l : List ℕ) (t : T). StandsGreeting version new.talk start now (incoming origin)
+        (prepend_known l (incoming t)) sits.sent) (sym left) (sym stays) stands) greets_as

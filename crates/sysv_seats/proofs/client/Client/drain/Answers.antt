@@ -1,0 +1,31 @@
+-- The connection takes a part of the replies, or none.
+use Rattle.sysv_seats.proofs.ClientLemmas.{keeps_from, keeps_then, kept_sent, took, turned}
+use Rattle.sysv_seats.proofs.client.Client.drain.Goals as goal
+
+pub invariant_of-self : goal.invariant_of-self
+invariant_of-self g c =
+    kept_sent _ _ _ c.self.inside.conversation c.self.inside.parked c.sent.new.self c.in-Took.count c.sent.ensures
+    c.self.invariant
+
+pub returns-in-Took : goal.returns-in-Took
+returns-in-Took g c = record {
+  keeps = keeps_from g.T.NonBlocking.incoming g.T.NonBlocking.outgoing _ _ _ c.self.view_is
+      (took g.T.NonBlocking.incoming g.T.NonBlocking.outgoing _ c.drain.new.self c.sent.new.self c.in-Took.count _
+      c.unsent.ensures c.sent.ensures c.drain.ensures.unread c.in-Took.ensures.bytes);
+}
+
+pub returns-in-NothingNow : goal.returns-in-NothingNow
+returns-in-NothingNow g c = record {
+  keeps = keeps_from g.T.NonBlocking.incoming g.T.NonBlocking.outgoing _ _ _ c.self.view_is
+      (turned g.T.NonBlocking.incoming g.T.NonBlocking.outgoing _ c.drain.new.self c.drain.ensures.unread
+      c.in-NothingNow.ensures.bytes);
+}
+
+pub returns-in-Failed : goal.returns-in-Failed
+returns-in-Failed g c = record {
+  keeps = keeps_from g.T.NonBlocking.incoming g.T.NonBlocking.outgoing _ _ _ c.self.view_is
+      (keeps_then g.T.NonBlocking.incoming g.T.NonBlocking.outgoing _ _ _
+      (turned g.T.NonBlocking.incoming g.T.NonBlocking.outgoing _ c.drain.new.self c.drain.ensures.unread
+      c.in-Failed.ensures.bytes)
+      c.fail.ensures.keeps);
+}

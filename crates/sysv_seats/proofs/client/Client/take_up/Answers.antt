@@ -1,0 +1,70 @@
+-- What was taken up is answered, or ends the session.
+use Rattle.std.proofs.Common.{◌≡◌, ◌+◌, ◌∙◌, ℕ, List, Err, ap, subst, sym, drop, false}
+use Rattle.std.proofs.lemmas.List.{drop-drop}
+use Rattle.sysv_session.specs.declared.served.End.{End}
+use Rattle.sysv_session.specs.declared.session.TakenUp.TheVariants.{Hello, Request as Asked}
+use Rattle.sysv_session.proofs.Arrived.{settled_at_end}
+use Rattle.sysv_seats.specs.Sits.{GreetsAs, HasAsked, IsPending, ReadsNext, Sitting, is_early, stopped_for}
+use Rattle.sysv_seats.proofs.ClientSteps.{asks_next, greets_next, ok_of, one_end, settled_early, stops_next}
+use Rattle.sysv_seats.proofs.client.Client.take_up.Goals as goal
+use Rattle.sysv_seats.proofs.client.Client.take_up.Goals.{then-not-is_end+else-is_early, else-not-is_end}
+
+pub ask-requires-clause-pending : goal.ask-requires-clause-pending
+ask-requires-clause-pending g c =
+    subst (λ (s : Sitting g.row.T.Denot). IsPending s) (sym c.self.view_is)
+    (c.read_next-size.ensures.pending c.in-Ok-Request.cred c.in-Ok-Request.request
+    (ok_of c.read_next-size.result.1 c.in-Ok-Request.field-0 (Asked c.in-Ok-Request.cred c.in-Ok-Request.request)
+    c.in-Ok-Request.is (rw c.in-Ok-Request.is at c.in-Ok-Request.field-0-is)))
+
+pub returns-in-Ok-Hello-clause-keeps : goal.returns-in-Ok-Hello-clause-keeps
+returns-in-Ok-Hello-clause-keeps g c = λ start origin sits.
+    let reads = subst (λ (s : Sitting g.row.T.Denot). ReadsNext c.args.self.now c.read_next-size.result.0
+        c.read_next-size.result.1 c.read_next-size.new.text s) (sym c.self.view_is) c.read_next-size.ensures.takes in
+    let is = ok_of c.read_next-size.result.1 c.in-Ok-Hello.field-0 (Hello c.in-Ok-Hello.version) c.in-Ok-Hello.is
+        (rw c.in-Ok-Hello.is at c.in-Ok-Hello.field-0-is) in
+    let greets = subst (λ (l : List ℕ). GreetsAs c.in-Ok-Hello.version (let s : Sitting g.row.T.Denot = record {
+          connection = c.self.inside.connection;
+          talk = c.self.inside.conversation;
+          input = l;
+          parked = c.self.inside.parked;
+          stopped = c.self.inside.stopped;
+        } in s) c.greet.new.self)
+        (sym (drop-drop c.read_next-size.result.0 c.self.inside.start c.self.inside.input.items))
+        c.greet.ensures.greets in
+    greets_next g.T.NonBlocking.incoming g.T.NonBlocking.outgoing start c.args.kernel.now.pass origin c.args.self.now _
+    c.read_next-size.result.0 c.read_next-size.result.1 c.read_next-size.new.text c.requires.free reads sits
+    c.in-Ok-Hello.version c.greet.new.self is greets
+
+pub returns-in-Ok-Request-clause-keeps : goal.returns-in-Ok-Request-clause-keeps
+returns-in-Ok-Request-clause-keeps g c = λ start origin sits.
+    let is = ok_of c.read_next-size.result.1 c.in-Ok-Request.field-0
+        (Asked c.in-Ok-Request.cred c.in-Ok-Request.request) c.in-Ok-Request.is
+        (rw c.in-Ok-Request.is at c.in-Ok-Request.field-0-is) in
+    c.ask.ensures.keeps start origin
+    (subst (λ (s : Sitting g.row.T.Denot). HasAsked g.T.NonBlocking.incoming g.T.NonBlocking.outgoing start origin s
+    c.in-Ok-Request.cred c.in-Ok-Request.request c.read_next-size.new.text c.read_next-size.result.0
+    c.args.kernel.now.pass) (sym c.self.view_is)
+    (asks_next g.T.NonBlocking.incoming g.T.NonBlocking.outgoing start c.args.kernel.now.pass origin c.args.self.now
+    c.read_next-size.new.self c.read_next-size.result.0 c.read_next-size.result.1 c.read_next-size.new.text
+    c.requires.free c.read_next-size.ensures.takes sits c.in-Ok-Request.cred c.in-Ok-Request.request is))
+
+pub returns-in-Err-2-clause-keeps : goal.returns-in-Err-2-clause-keeps
+returns-in-Err-2-clause-keeps g c = λ start origin sits.
+    let reads = subst (λ (s : Sitting g.row.T.Denot). ReadsNext c.args.self.now c.read_next-size.result.0
+        c.read_next-size.result.1 c.read_next-size.new.text s) (sym c.self.view_is) c.read_next-size.ensures.takes in
+    elim c.if-not-is_end.branch [
+      | then-not-is_end+else-is_early w ↦
+          stops_next g.T.NonBlocking.incoming g.T.NonBlocking.outgoing start c.args.kernel.now.pass origin
+          c.args.self.now _ c.read_next-size.result.0 c.read_next-size.result.1 c.read_next-size.new.text
+          c.requires.free reads sits c.in-Err-2.why c.stop.new.self c.in-Err-2.is
+          (settled_early c.in-Err-2.why _ (subst (λ (e : End). is_early e ≡ false)
+          (one_end c.read_next-size.result.1 c.in-Err.why c.in-Err-2.why c.in-Err.is c.in-Err-2.is)
+          (sym w.is_early.ensures ∙ w.if-is_early.false)))
+          (c.stop.ensures ∙ ap (stopped_for c.in-Err-2.why) w.self-is)
+      | else-not-is_end w ↦
+          stops_next g.T.NonBlocking.incoming g.T.NonBlocking.outgoing start c.args.kernel.now.pass origin
+          c.args.self.now _ c.read_next-size.result.0 c.read_next-size.result.1 c.read_next-size.new.text
+          c.requires.free reads sits c.in-Err-2.why c.stop.new.self c.in-Err-2.is
+          (settled_at_end (Err c.in-Err-2.why) _ (c.requires.end w.if-not-is_end.false))
+          (c.stop.ensures ∙ ap (stopped_for c.in-Err-2.why) w.self-is)
+    ]

@@ -1,0 +1,222 @@
+-- A client of a server, and how far its session is (this project's profile). All that was read from
+-- its connection and was not taken up is its input. A client either can take up more, or has a call
+-- that is parked, or has stopped: then it takes up no more, and the replies that were gathered are
+-- still given to its connection.
+use Rattle.std.specs.Prelude.{◌≡◌, ◌≤◌, ◌<◌, ◌+◌, ◌-◌, ◌⊎◌, ◌^◌, ⊤, ℕ, Bool, true, false, List, ◌++◌, Option, None, Some}
+use Rattle.std.specs.Prelude.{IfSome, Result, length}
+use Rattle.std.specs.Io.KnownBytes.{Appends, Consumes, prepend_known}
+use Rattle.sysv_keys.specs.declared.identifier.TheConstants.{SLOTS}
+use Rattle.sysv_model.specs.declared.cred.Cred.{Cred}
+use Rattle.sysv_queue.specs.Tally.{taken_in}
+use Rattle.sysv_session.specs.declared.served.End.{End}
+use Rattle.sysv_session.specs.declared.served.Served.{Served}
+use Rattle.sysv_session.specs.declared.served.End.TheVariants.{Ended, NoMemory, NoHello, Fault, Write, Bound, Left}
+use Rattle.sysv_session.specs.declared.session.TakenUp.{TakenUp}
+use Rattle.sysv_session.specs.Conversation.{Talk, gathered}
+use Rattle.sysv_session.specs.Outbox.{with_frame}
+use Rattle.sysv_session.specs.Output.{hello_frame}
+use Rattle.sysv_session.specs.TakenUp.{TakesUp}
+use Rattle.sysv_session.specs.Stands.{Stands, StandsAsking, Stopped}
+use Rattle.sysv_service.specs.Ran.{Pass}
+use Rattle.sysv_wire.specs.declared.fault.Fault.TheVariants.{Truncated, TooLong, BadOp, BadField, Read}
+use Rattle.sysv_wire.specs.declared.frame.Version.{Version}
+use Rattle.sysv_wire.specs.declared.request.Ask.{Ask}
+use Rattle.sysv_wire.specs.declared.request.Ask.TheVariants.{Snd, Rcv}
+use Rattle.sysv_wire.specs.declared.request.Request.{Request}
+use Rattle.sysv_wire.specs.Requests.{request_spelling}
+use Rattle.sysv_seats.specs.declared.parked.Parked.{Parked}
+use Rattle.sysv_seats.specs.declared.waiting.Waiting.{Waiting}
+use Rattle.sysv_seats.specs.declared.waiting.Waiting.TheVariants.{Send, Receive}
+use Rattle.sysv_seats.specs.Asked.{ServesPassTogether, asks_with}
+use Rattle.sysv_seats.specs.Parked.{IsParked}
+use Rattle.sysv_seats.specs.Untold.{Closing}
+
+-- What the contracts see of a client.
+pub record Sitting (T : Type 0) : Type 0 where
+  pub connection : T
+  pub talk : Talk
+  pub input : List ℕ
+  pub parked : Option Parked
+  pub stopped : Option End
+
+-- Of the input that a session left, the connection still has this: what was not read ahead.
+abbrev pub IsBehind : (rest kept : Option (List ℕ)) → Type 0
+IsBehind rest kept = (ahead : List ℕ) × Consumes rest kept ahead
+
+-- Every time in a server is 0.
+abbrev pub zero_moment : ℕ → Type 0
+zero_moment now = now ≡ 0
+
+module _ {T : Type 0} (incoming outgoing : T → Option (List ℕ)) where
+  -- The input that was not taken up: what has arrived of it, and then what the connection still has.
+  abbrev pub unread : Sitting T → Option (List ℕ)
+  unread client = prepend_known client.input (incoming client.connection)
+
+  -- More can be taken up. The session began with the pass `start` and on the connection `origin`.
+  abbrev pub IsReady : Pass → T → Sitting T → Pass → List ℕ → Type 0
+  IsReady start origin client now sent =
+      Stands (asks_with zero_moment ⊤) SLOTS client.talk start now (incoming origin) (unread client) sent
+
+  -- The request of this call was taken up, and its frame is still at the front of the input. The call
+  -- waits.
+  pub record IsWaiting (start : Pass) (origin : T) (client : Sitting T) (now : Pass) (sent : List ℕ)
+      (parked : Parked) : Type 0 where
+    pub text : List ℕ
+    pub before : Pass
+    pub later : List ℕ
+    pub asking : StandsAsking (asks_with zero_moment ⊤) SLOTS parked.cred parked.request text client.talk start before
+        (incoming origin) (prepend_known later (incoming client.connection)) sent
+    pub frame : client.input ≡ request_spelling parked.request text ++ later
+    pub size : parked.length ≡ length (request_spelling parked.request text)
+    pub waits : IsParked zero_moment parked.cred parked.request.ask text before parked.waiting now
+
+  -- It takes up no more, for this reason.
+  abbrev pub HasStopped : Pass → T → Sitting T → Pass → List ℕ → End → Type 0
+  HasStopped start origin client now sent why = (rest : Option (List ℕ)) × IsBehind rest (incoming client.connection)
+      × Stopped (asks_with zero_moment ⊤) SLOTS why client.talk start now (incoming origin) rest sent
+
+  abbrev pub IsAt : Pass → T → Sitting T → Pass → List ℕ → Option Parked → Option End → Type 0
+  IsAt start origin client now sent None None = IsReady start origin client now sent
+  IsAt start origin client now sent (Some parked) None = IsWaiting start origin client now sent parked
+  IsAt start origin client now sent None (Some why) = HasStopped start origin client now sent why
+  IsAt start origin client now sent (Some parked) (Some why) = ⊥
+
+  -- The client's session began with the pass `start`, on the connection `origin`. Its connection has
+  -- taken these bytes of its replies since then, and the pass is now `now`.
+  pub record Sits (start : Pass) (origin : T) (client : Sitting T) (now : Pass) : Type 0 where
+    pub sent : List ℕ
+    pub wrote : Appends (outgoing origin) (outgoing client.connection) sent
+    pub at : IsAt start origin client now sent client.parked client.stopped
+
+  -- The client's session, which began with the pass `start` on the connection `origin`, is over. It
+  -- reported this, and its connection was closed into the book.
+  pub record IsOver {B : Type 0} (closes : Closing B) (start : Pass) (origin : T) (served : Served) (now : Pass)
+      (book book' : B) : Type 0 where
+    pub rest : Option (List ℕ)
+    pub kept : Option (List ℕ)
+    pub more : Option (List ℕ)
+    pub serves : ServesPassTogether zero_moment ⊤ served start now (incoming origin) rest (outgoing origin) more
+    pub behind : IsBehind rest kept
+    pub closed : closes book kept more book'
+
+  -- Wherever the client was before, it is still one of the same session.
+  abbrev pub KeepsWith : (old : Sitting T) → Pass → (new : Sitting T) → Pass → Type 0
+  KeepsWith old before new after =
+      (start : Pass) (origin : T) → Sits start origin old before → Sits start origin new after
+
+  -- The same, and no call was made.
+  abbrev pub Keeps : (old new : Sitting T) → Type 0
+  Keeps old new = (now : Pass) → KeepsWith old now new now
+
+  -- This request was taken up, and its frame, of this length, is at the front of the input. The pass
+  -- was `before` then. The client has not stopped.
+  pub record HasAsked (start : Pass) (origin : T) (client : Sitting T) (cred : Cred) (request : Request)
+      (text : List ℕ) (size : ℕ) (before : Pass) : Type 0 where
+    pub sent : List ℕ
+    pub wrote : Appends (outgoing origin) (outgoing client.connection) sent
+    pub later : List ℕ
+    pub asking : StandsAsking (asks_with zero_moment ⊤) SLOTS cred request text client.talk start before (incoming origin)
+        (prepend_known later (incoming client.connection)) sent
+    pub frame : client.input ≡ request_spelling request text ++ later
+    pub whole : size ≡ length (request_spelling request text)
+    pub going : client.stopped ≡ None
+
+-- ---- steps within an event
+
+module _ {T : Type 0} where
+  -- No call is parked, and the client has not stopped.
+  abbrev pub IsFree : Sitting T → Type 0
+  IsFree client = (client.parked ≡ None) × (client.stopped ≡ None)
+
+  -- The client with this talk, input or reason to stop.
+  abbrev pub talking : Talk → Sitting T → Sitting T
+  talking talk client = record {
+    connection = client.connection;
+    talk = talk;
+    input = client.input;
+    parked = client.parked;
+    stopped = client.stopped;
+  }
+
+  abbrev pub with_input : List ℕ → Sitting T → Sitting T
+  with_input input client = record {
+    connection = client.connection;
+    talk = client.talk;
+    input = input;
+    parked = client.parked;
+    stopped = client.stopped;
+  }
+
+  abbrev pub stopped_for : End → Sitting T → Sitting T
+  stopped_for why client = record {
+    connection = client.connection;
+    talk = client.talk;
+    input = client.input;
+    parked = client.parked;
+    stopped = Some why;
+  }
+
+  -- These bytes were appended to the input, or memory for them was refused.
+  abbrev pub Arrives : List ℕ → Sitting T → Sitting T → Type 0
+  Arrives bytes old new = (new ≡ with_input (old.input ++ bytes) old) ⊎ (new ≡ stopped_for NoMemory old)
+
+  -- The reply to a hello of this version was gathered, or memory for it was refused.
+  abbrev pub GreetsAs : Version → Sitting T → Sitting T → Type 0
+  GreetsAs version old new = (new ≡ talking (gathered (with_frame (hello_frame version SLOTS)) old.talk) old)
+      ⊎ (new ≡ stopped_for NoMemory old)
+
+  -- This was taken up at the front of the input, or this is why nothing was. So many bytes were
+  -- read, and they are still in the input.
+  pub record ReadsNext (old : Sitting T) (size : ℕ) (result : Result TakenUp End) (text : List ℕ)
+      (new : Sitting T) : Type 0 where
+    pub rest : List ℕ
+    pub takes : TakesUp old.talk.session new.talk.session result (Some old.input) (Some rest) text
+    pub unsent : new.talk.unsent ≡ old.talk.unsent
+    pub same : new ≡ talking new.talk old
+    pub read : size ≡ length old.input - length rest
+
+-- The end may only mean that more bytes are to come.
+abbrev pub is_early : End → Bool
+is_early Ended = true
+is_early NoMemory = false
+is_early NoHello = false
+is_early (Fault Truncated) = true
+is_early (Fault TooLong) = false
+is_early (Fault BadOp) = false
+is_early (Fault BadField) = false
+is_early (Fault Read) = false
+is_early Write = false
+is_early Bound = false
+is_early Left = false
+
+-- ---- what every client keeps
+
+-- The wait is one of a call of this request.
+abbrev pub is_wait_of : Ask → Waiting → Bool
+is_wait_of (Snd id mtype flags) (Send wait) = true
+is_wait_of (Rcv id size mtype flags) (Receive wait) = true
+is_wait_of ask waiting = false
+
+-- The frame of a parked call is in the input, and its wait is one of a call of its request.
+abbrev pub HasFrame : List ℕ → Option Parked → Type 0
+HasFrame input parked =
+    IfSome parked (λ p. (p.length ≤ length input) × (is_wait_of p.request.ask p.waiting ≡ true))
+
+-- The number of messages that were counted or are in the outbox.
+abbrev pub messages_so_far : Talk → ℕ
+messages_so_far talk = taken_in talk.session.tally + length talk.unsent.marks
+
+-- 1 for a parked call, whose request has no outcome yet.
+abbrev pub parked_calls : Option Parked → ℕ
+parked_calls None = 0
+parked_calls (Some parked) = 1
+
+-- There was at most one message for each request that was taken up, and none yet for that of a parked
+-- call.
+abbrev pub IsCounted : Talk → Option Parked → Type 0
+IsCounted talk parked = (messages_so_far talk + parked_calls parked ≤ talk.session.requests)
+    × (talk.session.requests < 2 ^ 32) × (talk.session.caller ≡ None → talk.session.requests ≡ 0)
+
+-- A request was taken up that has no outcome yet.
+abbrev pub IsPending : {T : Type 0} → Sitting T → Type 0
+IsPending client = messages_so_far client.talk < client.talk.session.requests

@@ -1,0 +1,564 @@
+//! A client of a server.
+ghost use Rattle.std.specs.Prelude.{◌≡◌, ◌≢◌, ◌≤◌, ℕ, List, [], ◌++◌, None, Ok, Some, true, false, length};
+ghost use Rattle.std.specs.Io.KnownBytes.{IsAtEnd};
+ghost use Rattle.sysv_service.specs.Ran.{Pass};
+ghost use Rattle.sysv_session.specs.Answers.{IsAsked};
+ghost use Rattle.sysv_session.specs.TakenUp.{TakesUp};
+ghost use Rattle.sysv_wire.specs.Requests.{op_of, request_spelling};
+ghost use Rattle.sysv_seats.specs.KernelHandles.{KeepsHandles};
+ghost use Rattle.sysv_seats.specs.Parked.{HasBegun, MayProgress};
+ghost use Rattle.sysv_seats.specs.Sits.{Arrives, GreetsAs, HasAsked, IsFree, IsOver, IsPending, Keeps, KeepsWith, ReadsNext, Sits, is_early as early, stopped_for, zero_moment};
+
+use crate::kernel::ServiceKernel;
+use crate::news::Told;
+use crate::non_blocking::{Drained, Filled, NonBlocking, Over};
+use crate::parked::Parked;
+use crate::send_frame::snd_text;
+use crate::tools::{SHARE, Tools};
+use crate::waiting::Waiting;
+use crate::zero::Zero;
+use std::alloc::Global;
+use std::io::Read;
+use std::marker::Model;
+use std::sync::Wait;
+use sysv_keys::SLOTS;
+use sysv_model::{Body, Cred, MESSAGE_BYTES, Watched};
+use sysv_service::Progress;
+use sysv_session::{Conversation, End, RequestOutcome, Served, TakenUp};
+use sysv_wire::{Ask, Fault, FrameIn, Op, Request, Version, frame_in};
+
+/// The number of bytes of replies above which nothing is read from a client.
+const MOST_UNSENT: usize = 65_536;
+
+/// The number of bytes above which the memory of an empty input is freed.
+const MOST_KEPT: usize = 1_024;
+
+/// One client on a connection, from the first byte of its session to the last.
+///
+/// All that happens to it is an event: bytes may be there to be read (`note_readable`, `take_turn`),
+/// the connection may take bytes (`drain`), what its parked call waits for may have changed
+/// (`go_on`), its peer has left (`leave`), or a limit has passed (`cut`). No event waits for the
+/// client or for a count. After each event `is_over` states whether to close it.
+///
+/// A client can be neither dropped nor copied. Spend it with `close`.
+pub struct Client<T: NonBlocking> {
+    connection: T,
+    conversation: Conversation,
+    /// The bytes that were read, of which the first `start` are done with.
+    input: Vec<u8>,
+    start: usize,
+    parked: Option<Parked>,
+    /// Why no more requests are taken up, if that is so.
+    stopped: Option<End>,
+    /// Whether bytes may be there to be read.
+    is_ready: bool,
+    /// Whether the input may hold a whole request.
+    has_input: bool,
+    /// Whether the peer has shut down its writing.
+    has_left: bool,
+    /// Whether the connection is of no use any more.
+    is_broken: bool,
+    /// The number of requests that were taken up, modulo 2^64.
+    requests: u64,
+    /// The number of bytes of replies that the connection has taken, modulo 2^64.
+    sent: u64,
+}
+
+impl<T: NonBlocking> Model for Client<T> {
+    ghost use Rattle.std.specs.Prelude.{◌≤◌, vec_len, drop};
+    ghost use Rattle.sysv_seats.specs.Sits.{HasFrame, IsCounted, Sitting};
+
+    ghost Value = { Sitting T };
+
+    ghost view = { λ c. record {
+      connection = c.connection;
+      talk = c.conversation;
+      input = drop c.start c.input.items;
+      parked = c.parked;
+      stopped = c.stopped;
+    } };
+
+    ghost invariant = { λ c. (c.start ≤ vec_len c.input)
+        × HasFrame (drop c.start c.input.items) c.parked × IsCounted c.conversation c.parked };
+}
+
+impl<T: NonBlocking> Client<T> {
+    /// Creates the client of a connection from which nothing was read. Allocates nothing.
+    pub fn open(alloc: Global, connection: T) -> Client<T>
+        ensures connection { result.connection ≡ connection }
+        ensures sits { (pass : Pass) → Sits T.incoming T.outgoing pass connection result pass }
+    {
+        Client {
+            connection,
+            conversation: Conversation::open(alloc),
+            input: Vec::new(alloc),
+            start: 0,
+            parked: None,
+            stopped: None,
+            is_ready: true,
+            has_input: false,
+            has_left: false,
+            is_broken: false,
+            requests: 0,
+            sent: 0,
+        }
+    }
+
+    /// Returns the connection.
+    pub fn connection(&self) -> &T
+        ensures { result.now ≡ self.now.connection }
+    {
+        &self.connection
+    }
+
+    /// Returns the parked call, if there is one.
+    pub fn parked(&self) -> Option<Parked>
+        ensures { result ≡ self.now.parked }
+    {
+        self.parked
+    }
+
+    /// Returns what the parked call waits for, if a call is parked.
+    pub fn waiting(&self) -> Option<Waiting> {
+        match self.parked {
+            Some(parked) => Some(parked.waiting),
+            None => None,
+        }
+    }
+
+    /// Returns the number of bytes in the frame of the parked call, or 0.
+    pub fn parked_length(&self) -> usize {
+        match self.parked {
+            Some(parked) => parked.length,
+            None => 0,
+        }
+    }
+
+    /// Returns whether replies wait for the connection.
+    pub fn has_unsent(&self) -> bool {
+        !self.conversation.is_empty()
+    }
+
+    /// Returns the number of bytes of replies that the connection has not taken.
+    pub fn unsent_bytes(&self) -> usize
+        ensures { result ≡ length self.now.talk.unsent.bytes }
+    {
+        self.conversation.waiting_bytes()
+    }
+
+    /// Returns the number of requests that were taken up, modulo 2^64.
+    pub fn requests(&self) -> u64 {
+        self.requests
+    }
+
+    /// Returns the number of bytes of replies that the connection has taken, modulo 2^64.
+    pub fn sent_bytes(&self) -> u64 {
+        self.sent
+    }
+
+    /// Returns whether a request has begun that has not arrived whole.
+    pub fn is_within_request(&self) -> bool {
+        self.start < self.input.len()
+    }
+
+    /// Returns whether nothing is taken up now.
+    fn is_held(&self) -> bool
+        ensures { result ≡ false → IsFree self.now }
+    {
+        self.parked.is_some() || self.stopped.is_some() || self.unsent_bytes() > MOST_UNSENT
+    }
+
+    /// Returns whether `take_turn` would go on.
+    pub fn has_more(&self) -> bool {
+        !self.is_held() && (self.is_ready || self.has_input)
+    }
+
+    /// Returns whether nothing is left to do but to close the client.
+    pub fn is_over(&self) -> bool {
+        self.is_broken || (self.stopped.is_some() && self.unsent_bytes() == 0)
+    }
+
+    /// Learns that bytes may be there to be read.
+    pub fn note_readable(&mut self)
+        ensures { self.new ≡ self.old }
+    {
+        self.is_ready = true;
+    }
+
+    /// Learns that the peer has shut down its writing. A parked call is left, now or when it is
+    /// parked.
+    pub fn leave(&mut self)
+        ensures keeps { Keeps T.incoming T.outgoing self.old self.new }
+    {
+        self.has_left = true;
+        self.give_up();
+    }
+
+    /// Ends the client because of a limit. A parked call is left, and the connection takes no more
+    /// replies.
+    pub fn cut(&mut self)
+        ensures keeps { Keeps T.incoming T.outgoing self.old self.new }
+    {
+        self.is_broken = true;
+        self.give_up();
+        if self.stopped.is_none() {
+            self.stop(End::Fault(Fault::Read));
+        }
+    }
+
+    /// Gives the connection as many bytes of the replies as it takes now.
+    pub fn drain(&mut self)
+        ensures keeps { Keeps T.incoming T.outgoing self.old self.new }
+    {
+        if self.is_broken || self.conversation.is_empty() {
+            return;
+        }
+        match self.connection.drain(self.conversation.unsent()) {
+            Drained::Took(count) => {
+                self.sent = self.sent.wrapping_add(count as u64);
+                self.conversation.sent(count);
+            }
+            Drained::NothingNow => {}
+            Drained::Failed => self.fail(),
+        }
+    }
+
+    /// Takes up and answers what has arrived: a share of the requests that are there, or what one
+    /// read returns.
+    pub fn take_turn<R: Wait>(&mut self, kernel: &mut ServiceKernel<'_, Zero, R>, tools: &mut Tools)
+        ensures keeps { KeepsWith T.incoming T.outgoing self.old kernel.old.pass self.new
+            kernel.new.pass }
+        ensures handles { KeepsHandles kernel.old kernel.new }
+    {
+        if self.is_held() {
+            return;
+        }
+        self.take_some(kernel, tools);
+        self.heed_leave();
+        self.compact();
+    }
+
+    /// Looks whether the parked call may go on, and continues it if so.
+    pub fn go_on<R: Wait>(&mut self, kernel: &mut ServiceKernel<'_, Zero, R>, tools: &mut Tools)
+        ensures keeps { KeepsWith T.incoming T.outgoing self.old kernel.old.pass self.new
+            kernel.new.pass }
+        ensures handles { KeepsHandles kernel.old kernel.new }
+    {
+        let Some(parked) = self.parked else {
+            return;
+        };
+        self.recall(&parked, &mut tools.text);
+        if tools.text.len() > MESSAGE_BYTES {
+            // (no send waits with a body that is longer)
+            return;
+        }
+        tools.given.clear();
+        let Parked {
+            cred,
+            request,
+            waiting,
+            length,
+        } = parked;
+        let progress = kernel.go_on(&request, &tools.text, &mut tools.given, waiting);
+        self.settle(cred, request, length, progress, tools);
+        self.has_input = true;
+    }
+
+    /// Closes the client, and returns what its session did. Replies that the connection has not
+    /// taken are lost.
+    pub fn close(mut self, book: &mut T::Book) -> Served
+        ensures { (start now : Pass) (origin : T) →
+            Sits T.incoming T.outgoing start origin self now →
+            IsOver T.incoming T.outgoing T.closes start origin result now book.old book.new }
+    {
+        self.give_up();
+        let Client {
+            connection,
+            conversation,
+            input: _,
+            start: _,
+            parked: _,
+            stopped,
+            is_ready: _,
+            has_input: _,
+            has_left: _,
+            is_broken: _,
+            requests: _,
+            sent: _,
+        } = self;
+        connection.close(book);
+        conversation.end(stopped.unwrap_or(End::Fault(Fault::Read)))
+    }
+
+    /// Gives up the parked call, if there is one: it is left, and nothing more is taken up.
+    fn give_up(&mut self)
+        ensures keeps { Keeps T.incoming T.outgoing self.old self.new }
+        ensures none { self.new.parked ≡ None }
+        ensures same { (self.new.connection ≡ self.old.connection)
+            × (self.new.talk ≡ self.old.talk) }
+    {
+        let Some(parked) = self.parked else {
+            return;
+        };
+        self.parked = None;
+        self.start += parked.length;
+        self.stopped = Some(End::Left);
+    }
+
+    /// Gives up the parked call if the peer has shut down its writing.
+    fn heed_leave(&mut self)
+        ensures keeps { Keeps T.incoming T.outgoing self.old self.new }
+    {
+        if self.has_left {
+            self.give_up();
+        }
+    }
+
+    /// Stops the client: nothing more is taken up, for this reason.
+    fn stop(&mut self, why: End)
+        ensures { self.new ≡ stopped_for why self.old }
+    {
+        self.stopped = Some(why);
+        self.has_input = false;
+    }
+
+    /// Ends the client because a write failed.
+    fn fail(&mut self)
+        requires { self.old.talk.unsent.bytes ≢ [] }
+        ensures keeps { Keeps T.incoming T.outgoing self.old self.new }
+    {
+        self.is_broken = true;
+        self.give_up();
+        if self.stopped.is_none() {
+            self.stop(End::Write);
+        }
+    }
+
+    /// Takes up a share of what has arrived, or what one read returns.
+    fn take_some<R: Wait>(&mut self, kernel: &mut ServiceKernel<'_, Zero, R>, tools: &mut Tools)
+        requires free { IsFree self.old }
+        ensures keeps { KeepsWith T.incoming T.outgoing self.old kernel.old.pass self.new
+            kernel.new.pass }
+        ensures handles { KeepsHandles kernel.old kernel.new }
+    {
+        if self.has_input {
+            self.take_share(kernel, tools);
+        } else if self.is_ready {
+            self.fill(kernel, tools);
+        }
+    }
+
+    /// Reads once, and takes up what has arrived.
+    fn fill<R: Wait>(&mut self, kernel: &mut ServiceKernel<'_, Zero, R>, tools: &mut Tools)
+        requires free { IsFree self.old }
+        ensures keeps { KeepsWith T.incoming T.outgoing self.old kernel.old.pass self.new
+            kernel.new.pass }
+        ensures handles { KeepsHandles kernel.old kernel.new }
+    {
+        match self.connection.fill(&mut tools.arrived) {
+            Filled::Bytes(count) => {
+                self.is_ready = count == tools.arrived.len();
+                self.arrive(&tools.arrived[..count]);
+                self.take_share(kernel, tools);
+            }
+            Filled::NothingNow => self.is_ready = false,
+            Filled::Over(Over::End) => self.take_up(true, kernel, tools),
+            Filled::Over(Over::Reset | Over::Failed) => self.stop(End::Fault(Fault::Read)),
+        }
+    }
+
+    /// Appends bytes that were read to the input, or stops if memory for them is refused.
+    fn arrive(&mut self, bytes: &[u8])
+        requires free { IsFree self.old }
+        ensures { Arrives bytes.now self.old self.new }
+    {
+        if self.input.extend_from_slice(bytes).is_err() {
+            self.stop(End::NoMemory);
+        }
+    }
+
+    /// Takes up a share of the requests in the input.
+    fn take_share<R: Wait>(&mut self, kernel: &mut ServiceKernel<'_, Zero, R>, tools: &mut Tools)
+        ensures keeps { KeepsWith T.incoming T.outgoing self.old kernel.old.pass self.new
+            kernel.new.pass }
+        ensures handles { KeepsHandles kernel.old kernel.new }
+    {
+        for _ in 0..SHARE {
+            self.has_input = true;
+            if self.is_held() {
+                return;
+            }
+            if let FrameIn::More { .. } = frame_in(&self.input[self.start..]) {
+                self.has_input = false;
+                return;
+            }
+            self.take_up(false, kernel, tools);
+        }
+    }
+
+    /// Takes up the request at the front of the input, and answers it unless it waits. `is_end` is
+    /// whether nothing follows the input.
+    fn take_up<R: Wait>(
+        &mut self,
+        is_end: bool,
+        kernel: &mut ServiceKernel<'_, Zero, R>,
+        tools: &mut Tools,
+    )
+        requires free { IsFree self.old }
+        requires end { is_end ≡ true → IsAtEnd (T.incoming self.old.connection) }
+        ensures keeps { KeepsWith T.incoming T.outgoing self.old kernel.old.pass self.new
+            kernel.new.pass }
+        ensures handles { KeepsHandles kernel.old kernel.new }
+    {
+        let (size, taken) = self.read_next(&mut tools.text);
+        self.requests = self.requests.wrapping_add(1);
+        match taken {
+            Ok(TakenUp::Hello(version)) => {
+                self.start += size;
+                self.greet(version, tools);
+            }
+            Ok(TakenUp::Request(cred, request)) => {
+                self.ask(cred, request, size, kernel, tools);
+            }
+            Err(why) if !is_end && is_early(why) => self.has_input = false,
+            Err(why) => self.stop(why),
+        }
+    }
+
+    /// Takes up what is at the front of the input. Returns the number of bytes that were read, and
+    /// what was taken up or why nothing was. The bytes are still in the input.
+    fn read_next(&mut self, text: &mut Body) -> (usize, Result<TakenUp, End>)
+        requires free { IsFree self.old }
+        ensures takes { ReadsNext self.old result.0 result.1 text.new self.new }
+        ensures pending { (cred : Cred) (request : Request) →
+            result.1 ≡ Ok (TakenUp.Request cred request) → IsPending self.new }
+    {
+        let mut rest = &self.input[self.start..];
+        let before = rest.len();
+        let taken = take_up_from(&mut self.conversation, &mut rest, text);
+        (before.saturating_sub(rest.len()), taken)
+    }
+
+    /// Gathers the reply to a hello of this version.
+    fn greet(&mut self, version: Version, tools: &mut Tools)
+        requires free { IsFree self.old }
+        ensures greets { GreetsAs version self.old self.new }
+    {
+        tools.given.clear();
+        if let Err(why) = self.conversation.greet(version, SLOTS as u32, &tools.given) {
+            self.stop(why);
+        }
+    }
+
+    /// Begins the call of a request that was taken up, whose frame of this length is at the front
+    /// of the input. `tools.text` is the body of the request.
+    fn ask<R: Wait>(
+        &mut self,
+        cred: Cred,
+        request: Request,
+        size: usize,
+        kernel: &mut ServiceKernel<'_, Zero, R>,
+        tools: &mut Tools,
+    )
+        requires asked { op_of request.ask ≢ Op.Hello }
+        requires pending { IsPending self.old }
+        requires frame { size ≤ length self.old.input }
+        ensures keeps { (start : Pass) (origin : T) →
+            HasAsked T.incoming T.outgoing start origin self.old cred request tools.old.text size
+            kernel.old.pass →
+            Sits T.incoming T.outgoing start origin self.new kernel.new.pass }
+        ensures handles { KeepsHandles kernel.old kernel.new }
+    {
+        tools.given.clear();
+        let progress = kernel.begin(cred, &request, &tools.text, &mut tools.given);
+        self.settle(cred, request, size, progress, tools);
+    }
+
+    /// Gathers the outcome of a request whose frame of this length is at the front of the input, or
+    /// parks its call.
+    fn settle(
+        &mut self,
+        cred: Cred,
+        request: Request,
+        size: usize,
+        progress: Progress<Waiting, RequestOutcome>,
+        tools: &mut Tools,
+    )
+        requires pending { IsPending self.old }
+        requires frame { size ≤ length self.old.input }
+        requires answer { MayProgress request.version request.ask progress tools.old.given }
+        ensures keeps { (start before now : Pass) (origin : T) (text : List ℕ) →
+            HasAsked T.incoming T.outgoing start origin self.old cred request text size before →
+            HasBegun zero_moment request.version cred request.ask text before progress tools.old.given now →
+            Sits T.incoming T.outgoing start origin self.new now }
+    {
+        match progress {
+            Progress::Over(outcome) => {
+                tools.tell(Told::by_end(&request, &outcome));
+                self.parked = None;
+                self.start += size;
+                if let Err(why) = self
+                    .conversation
+                    .put(request.version, outcome, &tools.given)
+                {
+                    self.stop(why);
+                }
+            }
+            Progress::Waits(waiting) => {
+                tools.tell(Told::by_wait(&waiting));
+                self.parked = Some(Parked {
+                    cred,
+                    request,
+                    waiting,
+                    length: size,
+                });
+            }
+        }
+    }
+
+    /// Copies the body of the parked call from its frame: that of a send, and else none.
+    fn recall(&self, parked: &Parked, text: &mut Body)
+        requires { self.now.parked ≡ Some parked.now }
+        ensures { (body later : List ℕ) → IsAsked parked.now.request body →
+            parked.now.length ≡ length (request_spelling parked.now.request body) →
+            self.now.input ≡ request_spelling parked.now.request body ++ later → text.new ≡ body }
+    {
+        text.clear();
+        if let Ask::Snd { .. } = parked.request.ask {
+            snd_text(&self.input[self.start..self.start + parked.length], text);
+        }
+    }
+
+    /// Removes the bytes of the input that are done with, and frees memory that is not needed.
+    fn compact(&mut self)
+        ensures { self.new ≡ self.old }
+    {
+        if self.start == self.input.len() && self.input.capacity() > MOST_KEPT {
+            self.input.clear();
+            self.input.shrink_to_fit();
+        } else {
+            self.input.drain(..self.start);
+        }
+        self.start = 0;
+    }
+}
+
+/// Takes up what the input holds next, as `Conversation::take_up` does.
+fn take_up_from<R: Read>(
+    conversation: &mut Conversation,
+    input: &mut R,
+    text: &mut Body,
+) -> Result<TakenUp, End>
+    ensures takes { TakesUp conversation.old.session conversation.new.session result
+        (R.remaining input.old) (R.remaining input.new) text.new }
+    ensures unsent { conversation.new.unsent ≡ conversation.old.unsent }
+{
+    conversation.take_up(&mut Watched::new(input), text)
+}
+
+/// Returns whether the end may only mean that more bytes are to come.
+fn is_early(why: End) -> bool
+    ensures { result ≡ early why }
+{
+    matches!(why, End::Ended | End::Fault(Fault::Truncated))
+}
