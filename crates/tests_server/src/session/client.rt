@@ -51,7 +51,8 @@ fn client<'a>(
     Client::open(alloc, stream)
 }
 
-/// Has the client take a turn, and gives its connection the replies.
+/// Reports that there may be something to read, has the client take a turn, and gives its connection
+/// the replies.
 fn turn<R: Abort + Wait>(
     kernel: &mut ServiceKernel<'_, Zero, R>,
     tools: &mut Tools,
@@ -59,6 +60,7 @@ fn turn<R: Abort + Wait>(
 )
     ensures { kernel.new.service ≡ kernel.old.service }
 {
+    client.note_readable();
     client.take_turn(kernel, tools);
     client.drain();
 }
