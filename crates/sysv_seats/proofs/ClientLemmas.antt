@@ -1,7 +1,8 @@
 -- What the events of a client keep: how far its session is.
-use Rattle.std.proofs.Common.{◌≡◌, ◌≢◌, ◌≤◌, ◌<◌, ◌+◌, ◌-◌, ◌^◌, ℕ, ◌⊎◌, List, [], ◌∷◌, ◌++◌, length, take, drop, Option}
-use Rattle.std.proofs.Common.{None, Some, refl, sym, ap, subst, subst₂, ◌∙◌, arith, inl, inr, append_assoc, length-drop}
-use Rattle.std.specs.Prelude.{◌==◌, ⊤, Bool, true, false, not, is_some, unwrap_or}
+use Rattle.std.proofs.Common.{◌≡◌, ◌≢◌, ◌≤◌, ◌<◌, ℕ, List, [], ◌∷◌, ◌++◌}
+use Rattle.std.proofs.Common.{length, take, Option}
+use Rattle.std.proofs.Common.{None, Some, refl, sym, ap, subst, subst₂, ◌∙◌, arith, inl, inr, append_assoc}
+use Rattle.std.specs.Prelude.{◌==◌, ⊤, true, false, not, is_some, unwrap_or}
 use Rattle.std.specs.Io.KnownBytes.{Appends, Consumes, Keeps as KeepsBytes, prepend_known}
 use Rattle.std.proofs.KnownBytes.{Appends-kept, Appends-nil, Appends-trans, Keeps-refl, prepend_known-nil}
 use Rattle.sysv_keys.specs.declared.identifier.TheConstants.{SLOTS}
@@ -9,9 +10,9 @@ use Rattle.sysv_session.specs.declared.served.End.{End}
 use Rattle.sysv_session.specs.declared.served.End.TheVariants.{NoMemory, Fault, Write, Left}
 use Rattle.sysv_session.specs.declared.served.Served.{Served}
 use Rattle.sysv_session.specs.Conversation.{HasRoom, Talk, report, sent_on}
-use Rattle.sysv_session.specs.Outbox.{within, beyond}
-use Rattle.sysv_session.specs.Stands.{Stands, StandsAsking, Stopped}
-use Rattle.sysv_session.proofs.GoesOn.{ends, leaves, opens, sends, sends_asking, sends_stopped, stops_memory, stops_read}
+use Rattle.sysv_session.specs.Stands.{Stands, StandsAsking}
+use Rattle.sysv_session.proofs.GoesOn.{ends, leaves, opens, sends, sends_asking, sends_stopped}
+use Rattle.sysv_session.proofs.GoesOn.{stops_memory, stops_read}
 use Rattle.sysv_session.proofs.GoesOn.{stops_write}
 use Rattle.sysv_session.proofs.OutboxLemmas.{each_once}
 use Rattle.sysv_service.specs.Ran.{Pass}
@@ -19,8 +20,9 @@ use Rattle.sysv_wire.specs.declared.fault.Fault.TheVariants.{Read}
 use Rattle.sysv_seats.specs.declared.parked.Parked.{Parked}
 use Rattle.sysv_seats.specs.Asked.{asks_with}
 use Rattle.sysv_seats.specs.InPieces.{left}
-use Rattle.sysv_seats.specs.Sits.{Arrives, HasFrame, HasStopped, IsAt, IsBehind, IsCounted, IsFree, IsOver, IsReady, IsWaiting}
-use Rattle.sysv_seats.specs.Sits.{Keeps, KeepsWith, Sits, Sitting, stopped_for, unread, with_input, zero_moment}
+use Rattle.sysv_seats.specs.Sits.{Arrives, HasFrame, HasStopped, IsAt, IsBehind, IsCounted, IsFree, IsOver}
+use Rattle.sysv_seats.specs.Sits.{IsReady}
+use Rattle.sysv_seats.specs.Sits.{Keeps, KeepsWith, Sits, Sitting, stopped_for, with_input, zero_moment}
 use Rattle.sysv_seats.specs.declared.non_blocking.Drained.TheVariants.{Took}
 use Rattle.sysv_seats.specs.NonBlocking.{DrainAppends}
 use Rattle.sysv_seats.specs.Untold.{Closing}

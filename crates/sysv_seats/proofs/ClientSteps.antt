@@ -1,9 +1,10 @@
 -- The steps of a client: what is taken up from its input, and what becomes of a request.
 use Rattle.std.proofs.Common.{◌≡◌, ◌∙◌, ℕ, ℤ, ◌+◌, ◌-◌, ◌≤◌, List, [], ◌++◌, length, take, drop, Option, None, Some}
-use Rattle.std.proofs.Common.{Result, Ok, Err, true, false, inl, inr, refl, sym, ap, ap₂, subst, subst₂, arith, length-append, length-drop}
+use Rattle.std.proofs.Common.{Result, Ok, Err, true, false, inl, inr, refl, sym, ap, ap₂, subst, subst₂, arith}
+use Rattle.std.proofs.Common.{length-append, length-drop}
 use Rattle.std.proofs.lemmas.List.{drop_at, take_all, take_at}
 use Rattle.std.specs.Prelude.{⊤}
-use Rattle.std.specs.Io.KnownBytes.{Appends, Consumes, IsAtEnd, prepend_known}
+use Rattle.std.specs.Io.KnownBytes.{Appends, prepend_known}
 use Rattle.sysv_keys.specs.declared.identifier.TheConstants.{SLOTS}
 use Rattle.sysv_model.specs.declared.cred.Cred.{Cred}
 use Rattle.sysv_model.specs.declared.flags.Flags.{Flags}
@@ -20,7 +21,7 @@ use Rattle.sysv_session.specs.Calls.{Meaning}
 use Rattle.sysv_session.specs.Conversation.{Puts, Talk, gathered}
 use Rattle.sysv_session.specs.Outbox.{Unsent, with_frame}
 use Rattle.sysv_session.specs.Output.{hello_frame}
-use Rattle.sysv_session.specs.Stands.{Stands, StandsAsking, StandsGreeting, Stopped}
+use Rattle.sysv_session.specs.Stands.{Stands, StandsAsking, StandsGreeting}
 use Rattle.sysv_session.specs.TakenUp.{TakesUp}
 use Rattle.sysv_session.proofs.Arrived.{IsSettled, IsSettledEnd, takes_up_more}
 use Rattle.sysv_session.proofs.GoesOn.{greets, greet_ends, puts, put_ends, stops, takes_hello, takes_request}
@@ -36,12 +37,12 @@ use Rattle.sysv_wire.specs.Requests.{ask_text, op_of, request_spelling}
 use Rattle.sysv_seats.specs.declared.parked.Parked.{Parked}
 use Rattle.sysv_seats.specs.declared.waiting.Waiting.{Waiting}
 use Rattle.sysv_seats.specs.declared.waiting.Waiting.TheVariants.{Send, Receive}
-use Rattle.sysv_seats.specs.Asked.{Asks, asks_with}
+use Rattle.sysv_seats.specs.Asked.{asks_with}
 use Rattle.sysv_seats.specs.InPieces.{asks_any}
-use Rattle.sysv_seats.specs.Parked.{HasBegun, IsParked, IsWaitOf, MayProgress}
-use Rattle.sysv_seats.specs.Sits.{GreetsAs, HasAsked, HasFrame, HasStopped, IsAt, IsBehind, IsFree, IsPending, IsReady, IsWaiting}
-use Rattle.sysv_seats.specs.Sits.{ReadsNext, Sits, Sitting, is_early, is_wait_of, messages_so_far, stopped_for, talking}
-use Rattle.sysv_seats.specs.Sits.{with_input, zero_moment}
+use Rattle.sysv_seats.specs.Parked.{HasBegun, IsWaitOf, MayProgress}
+use Rattle.sysv_seats.specs.Sits.{GreetsAs, HasAsked, HasFrame, HasStopped, IsAt, IsBehind, IsFree, IsPending, IsReady}
+use Rattle.sysv_seats.specs.Sits.{IsWaiting, ReadsNext, Sits, Sitting, is_early, is_wait_of}
+use Rattle.sysv_seats.specs.Sits.{messages_so_far, stopped_for, talking, with_input, zero_moment}
 
 -- What the calls of a client mean.
 abbrev Means : Meaning Pass
@@ -179,7 +180,7 @@ pub pending_next : {T : Type 0} (old new : Sitting T) (size : ℕ) (result : Res
     ReadsNext old size result text new → result ≡ Ok (Asked cred request) → IsPending new
 pending_next old new size result text cred request counted reads is =
     let took = subst (λ (r : Result TakenUp End). TakesUp old.talk.session new.talk.session r (Some old.input)
-        (Some reads.rest) text) is reads.takes in
+    (Some reads.rest) text) is reads.takes in
     omega (
       arith,
       counted,
@@ -244,10 +245,10 @@ module _ {T : Type 0} (incoming outgoing : T → Option (List ℕ)) where
           new.parked ≡ None → new.stopped ≡ old.stopped → Sits incoming outgoing start origin new now
       put_reply put input parked stopped =
           let stands = puts Means SLOTS cred request text outcome given old.talk start before now (incoming origin)
-              (prepend_known asked.later (incoming old.connection)) asked.sent asked.asking means
-              (answers request.version request.ask came given outcome is may) new.talk put in
+          (prepend_known asked.later (incoming old.connection)) asked.sent asked.asking means
+          (answers request.version request.ask came given outcome is may) new.talk put in
           let left : new.input ≡ asked.later =
-              input ∙ drops size old.input (request_spelling request text) asked.later asked.whole asked.frame in
+          input ∙ drops size old.input (request_spelling request text) asked.later asked.whole asked.frame in
           record {
             sent = asked.sent;
             wrote = wrote;
@@ -262,14 +263,17 @@ module _ {T : Type 0} (incoming outgoing : T → Option (List ℕ)) where
       put_none why put parked stopped =
           let rest = prepend_known asked.later (incoming old.connection) in
           let stood = put_ends Means SLOTS cred request text outcome given old.talk start before now (incoming origin)
-              rest asked.sent asked.asking means (answers request.version request.ask came given outcome is may) why
-              new.talk put in
+          rest asked.sent asked.asking means (answers request.version request.ask came given outcome is may) why
+          new.talk put in
           record {
             sent = asked.sent;
             wrote = wrote;
-            at = at_stopped start origin new now asked.sent why parked stopped
-                (rest, subst (λ (t : T). IsBehind rest (incoming t)) (sym connection)
-                (behind asked.later (incoming old.connection)), stood);
+            at = at_stopped start origin new now asked.sent why parked stopped (
+              rest,
+              subst (λ (t : T). IsBehind rest (incoming t)) (sym connection)
+                  (behind asked.later (incoming old.connection)),
+              stood,
+            );
           }
 
     -- It waits, and is parked.
@@ -281,7 +285,7 @@ module _ {T : Type 0} (incoming outgoing : T → Option (List ℕ)) where
         new.stopped ≡ old.stopped → Sits incoming outgoing start origin new now
     parks came waiting given is begun talk input parked stopped =
         let waits = subst (λ (p : Progress Waiting RequestOutcome). HasBegun zero_moment request.version cred
-            request.ask text before p given now) is begun in
+        request.ask text before p given now) is begun in
         record {
           sent = asked.sent;
           wrote = wrote;
@@ -354,11 +358,12 @@ module _ {T : Type 0} (incoming outgoing : T → Option (List ℕ)) where
         HasAsked incoming outgoing start origin new cred request text size now
     asks_next cred request is =
         let takes = took (Ok (Asked cred request)) is in
-        let took_more = takes_up_more old.talk.session new.talk.session (Ok (Asked cred request)) old.input reads.rest text
-            (incoming old.connection) tt takes in
+        let took_more = takes_up_more old.talk.session new.talk.session (Ok (Asked cred request)) old.input
+        reads.rest text
+        (incoming old.connection) tt takes in
         let stands = takes_request Means SLOTS cred request old.talk new.talk start now (incoming origin)
-            (prepend_known old.input (incoming old.connection)) (prepend_known reads.rest (incoming old.connection))
-            sits.sent text (ready start origin old now free sits) took_more reads.unsent in
+        (prepend_known old.input (incoming old.connection)) (prepend_known reads.rest (incoming old.connection))
+        sits.sent text (ready start origin old now free sits) took_more reads.unsent in
         record {
           sent = sits.sent;
           wrote = wrote_still;
@@ -375,14 +380,17 @@ module _ {T : Type 0} (incoming outgoing : T → Option (List ℕ)) where
         last ≡ stopped_for why new → Sits incoming outgoing start origin last now
     stops_next why last is settled same =
         let took_more = takes_up_more old.talk.session new.talk.session (Err why) old.input reads.rest text
-            (incoming old.connection) settled (took (Err why) is) in
+        (incoming old.connection) settled (took (Err why) is) in
         let rest = prepend_known reads.rest (incoming old.connection) in
         let stood = stops Means SLOTS why old.talk new.talk start now (incoming origin)
-            (prepend_known old.input (incoming old.connection)) rest sits.sent text
-            (ready start origin old now free sits) took_more reads.unsent in
-        let at_new : HasStopped incoming outgoing start origin (stopped_for why new) now sits.sent why =
-            (rest, subst (λ (t : T). IsBehind rest (incoming t)) (sym stays)
-            (behind reads.rest (incoming old.connection)), stood) in
+        (prepend_known old.input (incoming old.connection)) rest sits.sent text
+        (ready start origin old now free sits) took_more reads.unsent in
+        let at_new : HasStopped incoming outgoing start origin (stopped_for why new) now sits.sent why = (
+          rest,
+          subst (λ (t : T). IsBehind rest (incoming t)) (sym stays)
+              (behind reads.rest (incoming old.connection)),
+          stood,
+        ) in
         subst (λ (s : Sitting T). Sits incoming outgoing start origin s now) (sym same)
         (record {
           sent = sits.sent;
@@ -397,7 +405,7 @@ module _ {T : Type 0} (incoming outgoing : T → Option (List ℕ)) where
         GreetsAs version (with_input (drop size new.input) new) last → Sits incoming outgoing start origin last now
     greeted version last stands (inl same) =
         let answered = talking (gathered (with_frame (hello_frame version SLOTS)) new.talk)
-            (with_input (drop size new.input) new) in
+        (with_input (drop size new.input) new) in
         subst (λ (s : Sitting T). Sits incoming outgoing start origin s now) (sym same)
         (record {
           sent = sits.sent;
@@ -412,12 +420,14 @@ module _ {T : Type 0} (incoming outgoing : T → Option (List ℕ)) where
         (record {
           sent = sits.sent;
           wrote = wrote_still;
-          at = at_stopped start origin (stopped_for NoMemory (with_input (drop size new.input) new)) now sits.sent NoMemory
-              (ap (λ (s : Sitting T). s.parked) reads.same ∙ free.0) refl
-              (prepend_known (drop size new.input) (incoming new.connection),
-              behind (drop size new.input) (incoming new.connection),
-              greet_ends Means SLOTS version new.talk start now (incoming origin)
-              (prepend_known (drop size new.input) (incoming new.connection)) sits.sent stands);
+          at = at_stopped start origin (stopped_for NoMemory (with_input (drop size new.input) new)) now sits.sent
+              NoMemory
+              (ap (λ (s : Sitting T). s.parked) reads.same ∙ free.0) refl (
+                prepend_known (drop size new.input) (incoming new.connection),
+                behind (drop size new.input) (incoming new.connection),
+                greet_ends Means SLOTS version new.talk start now (incoming origin)
+                    (prepend_known (drop size new.input) (incoming new.connection)) sits.sent stands,
+              );
         })
 
     pub greets_next : (version : Version) (last : Sitting T) → result ≡ Ok (Hello version) →
@@ -426,14 +436,14 @@ module _ {T : Type 0} (incoming outgoing : T → Option (List ℕ)) where
         let takes = took (Ok (Hello version)) is in
         let spelled = takes.2.1 in
         let took_more = takes_up_more old.talk.session new.talk.session (Ok (Hello version)) old.input reads.rest text
-            (incoming old.connection) tt takes in
+        (incoming old.connection) tt takes in
         let stands = takes_hello Means SLOTS version old.talk new.talk start now (incoming origin)
-            (prepend_known old.input (incoming old.connection)) (prepend_known reads.rest (incoming old.connection))
-            sits.sent text (ready start origin old now free sits) took_more reads.unsent in
+        (prepend_known old.input (incoming old.connection)) (prepend_known reads.rest (incoming old.connection))
+        sits.sent text (ready start origin old now free sits) took_more reads.unsent in
         let input : new.input ≡ old.input = ap (λ (s : Sitting T). s.input) reads.same in
         let left : drop size new.input ≡ reads.rest =
-            drops size new.input _ reads.rest (read_whole size old.input _ reads.rest reads.read spelled)
-            (input ∙ spelled) in
+        drops size new.input _ reads.rest (read_whole size old.input _ reads.rest reads.read spelled)
+        (input ∙ spelled) in
         greeted version last
         (subst₂ (λ (l : List ℕ) (t : T). StandsGreeting version new.talk start now (incoming origin)
         (prepend_known l (incoming t)) sits.sent) (sym left) (sym stays) stands) greets_as

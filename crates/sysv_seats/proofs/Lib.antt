@@ -3,3 +3,4 @@ pub mod PieceAnswers
 pub mod SendFrame
 pub mod ClientLemmas
 pub mod ClientSteps
+pub mod Known

@@ -2,7 +2,8 @@
 -- its connection and was not taken up is its input. A client either can take up more, or has a call
 -- that is parked, or has stopped: then it takes up no more, and the replies that were gathered are
 -- still given to its connection.
-use Rattle.std.specs.Prelude.{◌≡◌, ◌≤◌, ◌<◌, ◌+◌, ◌-◌, ◌⊎◌, ◌^◌, ⊤, ℕ, Bool, true, false, List, ◌++◌, Option, None, Some}
+use Rattle.std.specs.Prelude.{◌≡◌, ◌≤◌, ◌<◌, ◌+◌, ◌-◌, ◌⊎◌, ◌^◌, ⊤, ℕ, Bool, true, false, List, ◌++◌}
+use Rattle.std.specs.Prelude.{Option, None, Some}
 use Rattle.std.specs.Prelude.{IfSome, Result, length}
 use Rattle.std.specs.Io.KnownBytes.{Appends, Consumes, prepend_known}
 use Rattle.sysv_keys.specs.declared.identifier.TheConstants.{SLOTS}
@@ -30,6 +31,16 @@ use Rattle.sysv_seats.specs.declared.waiting.Waiting.TheVariants.{Send, Receive}
 use Rattle.sysv_seats.specs.Asked.{ServesPassTogether, asks_with}
 use Rattle.sysv_seats.specs.Parked.{IsParked}
 use Rattle.sysv_seats.specs.Untold.{Closing}
+
+-- What the parked call waits for, if a call is parked.
+abbrev pub parked_wait : Option Parked → Option Waiting
+parked_wait None = None
+parked_wait (Some parked) = Some parked.waiting
+
+-- The number of bytes in the frame of the parked call, or 0.
+abbrev pub parked_bytes : Option Parked → ℕ
+parked_bytes None = 0
+parked_bytes (Some parked) = parked.length
 
 -- What the contracts see of a client.
 pub record Sitting (T : Type 0) : Type 0 where
@@ -115,8 +126,8 @@ module _ {T : Type 0} (incoming outgoing : T → Option (List ℕ)) where
     pub sent : List ℕ
     pub wrote : Appends (outgoing origin) (outgoing client.connection) sent
     pub later : List ℕ
-    pub asking : StandsAsking (asks_with zero_moment ⊤) SLOTS cred request text client.talk start before (incoming origin)
-        (prepend_known later (incoming client.connection)) sent
+    pub asking : StandsAsking (asks_with zero_moment ⊤) SLOTS cred request text client.talk start before
+        (incoming origin) (prepend_known later (incoming client.connection)) sent
     pub frame : client.input ≡ request_spelling request text ++ later
     pub whole : size ≡ length (request_spelling request text)
     pub going : client.stopped ≡ None

@@ -1,5 +1,5 @@
 //! A client of a server.
-ghost use Rattle.std.specs.Prelude.{◌≡◌, ◌≢◌, ◌≤◌, ℕ, List, [], ◌++◌, None, Ok, Some, true, false, length};
+ghost use Rattle.std.specs.Prelude.{◌≡◌, ◌≢◌, ◌≤◌, ◌==◌, ℕ, List, [], ◌++◌, None, Ok, Some, true, false, not, length};
 ghost use Rattle.std.specs.Io.KnownBytes.{IsAtEnd};
 ghost use Rattle.sysv_service.specs.Ran.{Pass};
 ghost use Rattle.sysv_session.specs.Answers.{IsAsked};
@@ -7,7 +7,7 @@ ghost use Rattle.sysv_session.specs.TakenUp.{TakesUp};
 ghost use Rattle.sysv_wire.specs.Requests.{op_of, request_spelling};
 ghost use Rattle.sysv_seats.specs.KernelHandles.{KeepsHandles};
 ghost use Rattle.sysv_seats.specs.Parked.{HasBegun, MayProgress};
-ghost use Rattle.sysv_seats.specs.Sits.{Arrives, GreetsAs, HasAsked, IsFree, IsOver, IsPending, Keeps, KeepsWith, ReadsNext, Sits, is_early as early, stopped_for, zero_moment};
+ghost use Rattle.sysv_seats.specs.Sits.{Arrives, GreetsAs, HasAsked, IsFree, IsOver, IsPending, Keeps, KeepsWith, ReadsNext, Sits, is_early as early, parked_bytes, parked_wait, stopped_for, zero_moment};
 
 use crate::kernel::ServiceKernel;
 use crate::news::Told;
@@ -119,7 +119,9 @@ impl<T: NonBlocking> Client<T> {
     }
 
     /// Returns what the parked call waits for, if a call is parked.
-    pub fn waiting(&self) -> Option<Waiting> {
+    pub fn waiting(&self) -> Option<Waiting>
+        ensures { result ≡ parked_wait self.now.parked }
+    {
         match self.parked {
             Some(parked) => Some(parked.waiting),
             None => None,
@@ -127,7 +129,9 @@ impl<T: NonBlocking> Client<T> {
     }
 
     /// Returns the number of bytes in the frame of the parked call, or 0.
-    pub fn parked_length(&self) -> usize {
+    pub fn parked_length(&self) -> usize
+        ensures { result ≡ parked_bytes self.now.parked }
+    {
         match self.parked {
             Some(parked) => parked.length,
             None => 0,
@@ -135,7 +139,9 @@ impl<T: NonBlocking> Client<T> {
     }
 
     /// Returns whether replies wait for the connection.
-    pub fn has_unsent(&self) -> bool {
+    pub fn has_unsent(&self) -> bool
+        ensures { result ≡ not (length self.now.talk.unsent.bytes == 0) }
+    {
         !self.conversation.is_empty()
     }
 

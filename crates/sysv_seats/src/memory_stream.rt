@@ -101,7 +101,7 @@ impl<'a> MemoryStream<'a> {
 }
 
 impl<'a> NonBlocking for MemoryStream<'a> {
-    ghost use Rattle.std.specs.Prelude.{◌≡◌, Some};
+    ghost use Rattle.std.specs.Prelude.{◌≡◌, None, Some};
     ghost use Rattle.sysv_seats.specs.Memory.{Keeps};
     ghost use Rattle.sysv_seats.specs.PacedStreams.{DrainsAt, FailsAt, FillsAs, next_step, over_of};
     ghost use Rattle.sysv_seats.specs.NonBlocking.{DrainAppends, FillConsumes};
@@ -118,9 +118,11 @@ impl<'a> NonBlocking for MemoryStream<'a> {
 
     ghost closes = { Keeps };
 
+    #[tactic(auto, using(crate::proofs::Known::never_none))]
     fn fill(&mut self, buf: &mut [u8]) -> Filled
         ensures exact { FillsAs (over_of self.old) self.old result buf.new self.new }
         ensures bytes { FillConsumes (Some self.old.unread) (Some self.new.unread) result buf.new }
+        ensures untold { Some self.old.unread ≡ None → Some self.new.unread ≡ None }
         ensures over { (why : Over) → result ≡ Filled.Over why → over_of self.new ≡ Some why }
         ensures again { (why : Over) → over_of self.old ≡ Some why
             → (result ≡ Filled.Over why) × (over_of self.new ≡ Some why) }

@@ -29,7 +29,7 @@ pub trait NonBlocking {
     ghost closes: { Self.Book → Option (List ℕ) → Option (List ℕ) → Self.Book → Type 0 };
 
     /// Reads into the front of `buf` what can be read now. Once reading is over, every read says
-    /// so.
+    /// so. A connection that does not tell its bytes does not tell them after a read either.
     fn fill(&mut self, buf: &mut [u8]) -> Filled
         ensures bytes { FillConsumes (incoming self.old) (incoming self.new) result buf.new }
         ensures untold { incoming self.old ≡ None → incoming self.new ≡ None }

@@ -14,7 +14,8 @@ use Rattle.sysv_server.specs.OneRun.{NoLifeLeavesAGateHeld, Stopped}
 use Rattle.sysv_server.specs.Serving.{HasLived, HiredFrom}
 
 module _ (run : EachLifeIsOneRun) (whole : EachLifeLeavesThePoolWhole) (none_held : NoLifeLeavesAGateHeld)
-    (empty : EachLifeEndsEmpty) (blocks : ℕ) (gates : Gates) (told : Result ℕ Errno) (stopped : Stopped gates told) (closed : Closed)
+    (empty : EachLifeEndsEmpty) (blocks : ℕ) (gates : Gates) (told : Result ℕ Errno) (stopped : Stopped gates told)
+    (closed : Closed)
     (counted : IsCounted stopped.after.seats stopped.after.held closed) (opened : AreOpen 0 blocks 0 gates)
     (fits : AreOf gates stopped.after.seats) where
   unfoldable pub lived : (shifts : List Shift) →

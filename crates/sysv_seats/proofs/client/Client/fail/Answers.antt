@@ -6,6 +6,7 @@ pub returns-then-is_none : goal.returns-then-is_none
 returns-then-is_none g c = record {
   keeps = breaks_writing g.T.NonBlocking.incoming g.T.NonBlocking.outgoing _ _ c.give_up.new.self c.stop.new.self
       c.self.view_is c.give_up.ensures.keeps c.give_up.ensures.same.1
-      (free_now g.T.NonBlocking.incoming g.T.NonBlocking.outgoing _ _ c.self-2.view_is c.give_up.ensures.none c.if-is_none.ensures)
+      (free_now g.T.NonBlocking.incoming g.T.NonBlocking.outgoing _ _ c.self-2.view_is c.give_up.ensures.none
+      c.if-is_none.ensures)
       c.requires c.stop.ensures;
 }

@@ -1,14 +1,40 @@
 -- What one read returned is taken up, or stops the client.
-use Rattle.sysv_seats.proofs.ClientLemmas.{filled, filled_last, filled_none, filled_not, free_as}
+use Rattle.std.proofs.Common.{◌≡◌, ◌++◌, ◌∙◌, ℕ, List, ap, arith, length, refl, subst, sym, take}
+use Rattle.std.proofs.Math.Seq.{take-append_seam}
+use Rattle.std.specs.Io.KnownBytes.{Consumes}
+use Rattle.sysv_seats.proofs.ClientLemmas.{filled, filled_last, filled_none, filled_not}
 use Rattle.sysv_seats.proofs.client.Client.fill.Goals as goal
+
+-- The whole buffer.
+all_taken : (bytes buffer more : List ℕ) (n : ℕ) → bytes ≡ take n (buffer ++ more) → n ≡ length buffer → bytes ≡ buffer
+all_taken bytes buffer more n is size =
+    is ∙ ap (λ (k : ℕ). take k (buffer ++ more)) size ∙ take-append_seam buffer more
 
 pub returns-in-Bytes-clause-keeps : goal.returns-in-Bytes-clause-keeps
 returns-in-Bytes-clause-keeps g c =
-    filled g.T.NonBlocking.incoming g.T.NonBlocking.outgoing _ _ c.arrive.new.self _ c.fill.new.self _ _ _ c.self.view_is
-    c.requires.free c.in-Bytes.ensures.bytes.2 c.fill.ensures.untold c.fill.ensures.written c.arrive.ensures
-    c.take_share.ensures.keeps
+    let size : c.args.tools.now.arrived.len ≡ length c.fill.new.buf =
+    omega (arith, c.fill.auto.buf, c.deref_mut.ensures.len) in
+    let same = all_taken _ c.fill.new.buf _ c.args.tools.now.arrived.len c.deref.ensures.value size in
+    filled g.T.NonBlocking.incoming g.T.NonBlocking.outgoing _ _ c.arrive.new.self _ c.fill.new.self _ _ _
+    c.self.view_is c.requires.free
+    (subst (λ (l : List ℕ). Consumes (g.T.NonBlocking.incoming c.self.inside.connection)
+    (g.T.NonBlocking.incoming c.fill.new.self) (take c.in-Bytes.count l)) (sym same) c.in-Bytes.ensures.bytes.2)
+    c.fill.ensures.untold c.fill.ensures.written c.arrive.ensures c.take_share.ensures.keeps
 
 pub returns-in-NothingNow-clause-keeps : goal.returns-in-NothingNow-clause-keeps
 returns-in-NothingNow-clause-keeps g c =
     filled_none g.T.NonBlocking.incoming g.T.NonBlocking.outgoing _ _ c.fill.new.self _ c.self.view_is
     c.in-NothingNow.ensures.bytes c.fill.ensures.untold c.fill.ensures.written
+
+pub returns-in-Over-End-clause-keeps : goal.returns-in-Over-End-clause-keeps
+returns-in-Over-End-clause-keeps g c =
+    filled_last g.T.NonBlocking.incoming g.T.NonBlocking.outgoing _ _ _ c.fill.new.self _ _ c.self.view_is
+    c.in-Over-End.ensures.bytes.0 c.fill.ensures.untold c.fill.ensures.written c.take_up.ensures.keeps
+
+pub returns-in-Over-Reset : goal.returns-in-Over-Reset
+returns-in-Over-Reset g c = record {
+  keeps = filled_not g.T.NonBlocking.incoming g.T.NonBlocking.outgoing _ _ c.stop.new.self c.fill.new.self _
+      c.self.view_is c.requires.free c.in-Over-Reset.ensures.bytes.0 c.fill.ensures.untold c.fill.ensures.written
+      c.stop.ensures;
+  handles = (refl, refl, refl);
+}

@@ -1,5 +1,5 @@
 -- What is taken up from the bytes of the input.
-use Rattle.std.proofs.Common.{◌≡◌, ◌≤◌, arith, drop, refl, subst}
+use Rattle.std.proofs.Common.{◌≤◌, arith, drop, refl, subst}
 use Rattle.sysv_seats.specs.Sits.{ReadsNext, Sitting, messages_so_far}
 use Rattle.sysv_seats.proofs.ClientSteps.{pending_next, reads_from, rest_from}
 use Rattle.sysv_seats.proofs.client.Client.read_next.Goals as goal
@@ -21,7 +21,8 @@ returns-clause-takes g c =
 
 pub returns-clause-pending : goal.returns-clause-pending
 returns-clause-pending g c = λ cred request is.
-    pending_next c.args.self.now _ c.saturating_sub.result c.take_up_from-taken.result c.take_up_from-taken.new.text cred
+    pending_next c.args.self.now _ c.saturating_sub.result c.take_up_from-taken.result c.take_up_from-taken.new.text
+    cred
     request
     (subst (λ (s : Sitting g.row.T.Denot). messages_so_far s.talk ≤ s.talk.session.requests) c.self.view_is
     (omega (arith, c.self.invariant.2.0)))

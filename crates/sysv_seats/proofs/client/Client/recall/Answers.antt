@@ -1,5 +1,5 @@
 -- The body of a send is in its frame, at the front of the input.
-use Rattle.std.proofs.Common.{◌≡◌, ◌≤◌, ◌+◌, ◌∙◌, ℕ, List, length, drop, ap, arith, rules, refl, sym, length-drop}
+use Rattle.std.proofs.Common.{◌+◌, ◌∙◌, drop, ap, rules, refl, sym, length-drop}
 use Rattle.sysv_wire.specs.Requests.{op_of, request_spelling}
 use Rattle.sysv_seats.specs.Sits.{Sitting}
 use Rattle.sysv_seats.proofs.ClientSteps.{frame_fits, front, no_body}
@@ -8,14 +8,14 @@ use Rattle.sysv_seats.proofs.client.Client.recall.Goals as goal
 pub overflow_add-self-inside : goal.overflow_add-self-inside
 overflow_add-self-inside g c =
     let fits = frame_fits (drop c.self.inside.start c.self.inside.input.items) c.self.inside.parked c.args.parked.now
-        (ap (λ (s : Sitting g.row.T.Denot). s.parked) c.self.view_is ∙ c.requires) c.self.invariant.1 in
+    (ap (λ (s : Sitting g.row.T.Denot). s.parked) c.self.view_is ∙ c.requires) c.self.invariant.1 in
     let long = length-drop c.self.inside.start c.self.inside.input.items in
     search (rules, fits, long)
 
 pub slice_bounds-snd_text-end : goal.slice_bounds-snd_text-end
 slice_bounds-snd_text-end g c =
     let fits = frame_fits (drop c.self.inside.start c.self.inside.input.items) c.self.inside.parked c.args.parked.now
-        (ap (λ (s : Sitting g.row.T.Denot). s.parked) c.self.view_is ∙ c.requires) c.self.invariant.1 in
+    (ap (λ (s : Sitting g.row.T.Denot). s.parked) c.self.view_is ∙ c.requires) c.self.invariant.1 in
     let long = length-drop c.self.inside.start c.self.inside.input.items in
     search (rules, fits, long)
 

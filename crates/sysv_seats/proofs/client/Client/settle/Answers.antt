@@ -17,7 +17,7 @@ put-requires-clause-text g c =
 pub invariant_of-self-in-Waits : goal.invariant_of-self-in-Waits
 invariant_of-self-in-Waits g c =
     let waits : is_wait_of c.args.request.ask c.in-Waits.waiting ≡ true =
-        waits_by _ _ c.args.progress _ _ c.in-Waits.is c.requires.answer in
+    waits_by _ _ c.args.progress _ _ c.in-Waits.is c.requires.answer in
     let same = sym c.self-in-Waits.view_is in
     let frame = subst (λ (s : Sitting g.row.T.Denot). c.args.size ≤ length s.input) same c.requires.frame in
     let pending = subst (λ (s : Sitting g.row.T.Denot). IsPending s) same c.requires.pending in
@@ -27,9 +27,9 @@ pub returns-in-Err : goal.returns-in-Err
 returns-in-Err g c = record {
   keeps = λ start before now origin text asked begun.
       let there = subst (λ (s : Sitting g.row.T.Denot). HasAsked g.T.NonBlocking.incoming g.T.NonBlocking.outgoing start
-          origin s c.args.cred c.args.request text c.args.size before) (sym c.self.view_is) asked in
+      origin s c.args.cred c.args.request text c.args.size before) (sym c.self.view_is) asked in
       let put = subst₂ (λ (r : Result ⊤ End) (l : List ℕ). Puts r c.args.request.version c.in-Over.outcome l
-          c.self.inside.conversation c.put.new.self) c.in-Err.is c.tell.ensures.given c.put.ensures in
+      c.self.inside.conversation c.put.new.self) c.in-Err.is c.tell.ensures.given c.put.ensures in
       subst (λ (s : Sitting g.row.T.Denot). Sits g.T.NonBlocking.incoming g.T.NonBlocking.outgoing start origin s now)
       (sym c.stop.ensures)
       (put_none g.T.NonBlocking.incoming g.T.NonBlocking.outgoing start before now origin _ _ c.args.cred c.args.request
@@ -41,9 +41,9 @@ pub returns-in_default : goal.returns-in_default
 returns-in_default g c = record {
   keeps = λ start before now origin text asked begun.
       let there = subst (λ (s : Sitting g.row.T.Denot). HasAsked g.T.NonBlocking.incoming g.T.NonBlocking.outgoing start
-          origin s c.args.cred c.args.request text c.args.size before) (sym c.self.view_is) asked in
+      origin s c.args.cred c.args.request text c.args.size before) (sym c.self.view_is) asked in
       let put = subst₂ (λ (r : Result ⊤ End) (l : List ℕ). Puts r c.args.request.version c.in-Over.outcome l
-          c.self.inside.conversation c.put.new.self) c.in_default.is c.tell.ensures.given c.put.ensures in
+      c.self.inside.conversation c.put.new.self) c.in_default.is c.tell.ensures.given c.put.ensures in
       put_reply g.T.NonBlocking.incoming g.T.NonBlocking.outgoing start before now origin _ _ c.args.cred c.args.request
       text c.args.size there refl c.args.progress c.in-Over.outcome c.args.tools.now.given c.in-Over.is begun
       c.requires.answer put (sym (drop-drop c.args.size c.self.inside.start c.self.inside.input.items)) refl refl;
@@ -53,8 +53,9 @@ pub returns-in-Waits : goal.returns-in-Waits
 returns-in-Waits g c = record {
   keeps = λ start before now origin text asked begun.
       let there = subst (λ (s : Sitting g.row.T.Denot). HasAsked g.T.NonBlocking.incoming g.T.NonBlocking.outgoing start
-          origin s c.args.cred c.args.request text c.args.size before) (sym c.self-in-Waits.view_is) asked in
+      origin s c.args.cred c.args.request text c.args.size before) (sym c.self-in-Waits.view_is) asked in
       parks g.T.NonBlocking.incoming g.T.NonBlocking.outgoing start before now origin _ _ c.args.cred c.args.request
-      text c.args.size there refl c.args.progress c.in-Waits.waiting c.args.tools.now.given c.in-Waits.is begun refl refl
+      text c.args.size there refl c.args.progress c.in-Waits.waiting c.args.tools.now.given c.in-Waits.is begun refl
+      refl
       refl refl;
 }

@@ -1,5 +1,5 @@
 -- What was taken up is answered, or ends the session.
-use Rattle.std.proofs.Common.{◌≡◌, ◌+◌, ◌∙◌, ℕ, List, Err, ap, subst, sym, drop, false}
+use Rattle.std.proofs.Common.{◌≡◌, ◌∙◌, ℕ, List, Err, ap, subst, sym, false}
 use Rattle.std.proofs.lemmas.List.{drop-drop}
 use Rattle.sysv_session.specs.declared.served.End.{End}
 use Rattle.sysv_session.specs.declared.session.TakenUp.TheVariants.{Hello, Request as Asked}
@@ -19,18 +19,18 @@ ask-requires-clause-pending g c =
 pub returns-in-Ok-Hello-clause-keeps : goal.returns-in-Ok-Hello-clause-keeps
 returns-in-Ok-Hello-clause-keeps g c = λ start origin sits.
     let reads = subst (λ (s : Sitting g.row.T.Denot). ReadsNext c.args.self.now c.read_next-size.result.0
-        c.read_next-size.result.1 c.read_next-size.new.text s) (sym c.self.view_is) c.read_next-size.ensures.takes in
+    c.read_next-size.result.1 c.read_next-size.new.text s) (sym c.self.view_is) c.read_next-size.ensures.takes in
     let is = ok_of c.read_next-size.result.1 c.in-Ok-Hello.field-0 (Hello c.in-Ok-Hello.version) c.in-Ok-Hello.is
-        (rw c.in-Ok-Hello.is at c.in-Ok-Hello.field-0-is) in
+    (rw c.in-Ok-Hello.is at c.in-Ok-Hello.field-0-is) in
     let greets = subst (λ (l : List ℕ). GreetsAs c.in-Ok-Hello.version (let s : Sitting g.row.T.Denot = record {
-          connection = c.self.inside.connection;
-          talk = c.self.inside.conversation;
-          input = l;
-          parked = c.self.inside.parked;
-          stopped = c.self.inside.stopped;
-        } in s) c.greet.new.self)
-        (sym (drop-drop c.read_next-size.result.0 c.self.inside.start c.self.inside.input.items))
-        c.greet.ensures.greets in
+      connection = c.self.inside.connection;
+      talk = c.self.inside.conversation;
+      input = l;
+      parked = c.self.inside.parked;
+      stopped = c.self.inside.stopped;
+    } in s) c.greet.new.self)
+    (sym (drop-drop c.read_next-size.result.0 c.self.inside.start c.self.inside.input.items))
+    c.greet.ensures.greets in
     greets_next g.T.NonBlocking.incoming g.T.NonBlocking.outgoing start c.args.kernel.now.pass origin c.args.self.now _
     c.read_next-size.result.0 c.read_next-size.result.1 c.read_next-size.new.text c.requires.free reads sits
     c.in-Ok-Hello.version c.greet.new.self is greets
@@ -38,8 +38,8 @@ returns-in-Ok-Hello-clause-keeps g c = λ start origin sits.
 pub returns-in-Ok-Request-clause-keeps : goal.returns-in-Ok-Request-clause-keeps
 returns-in-Ok-Request-clause-keeps g c = λ start origin sits.
     let is = ok_of c.read_next-size.result.1 c.in-Ok-Request.field-0
-        (Asked c.in-Ok-Request.cred c.in-Ok-Request.request) c.in-Ok-Request.is
-        (rw c.in-Ok-Request.is at c.in-Ok-Request.field-0-is) in
+    (Asked c.in-Ok-Request.cred c.in-Ok-Request.request) c.in-Ok-Request.is
+    (rw c.in-Ok-Request.is at c.in-Ok-Request.field-0-is) in
     c.ask.ensures.keeps start origin
     (subst (λ (s : Sitting g.row.T.Denot). HasAsked g.T.NonBlocking.incoming g.T.NonBlocking.outgoing start origin s
     c.in-Ok-Request.cred c.in-Ok-Request.request c.read_next-size.new.text c.read_next-size.result.0
@@ -51,7 +51,7 @@ returns-in-Ok-Request-clause-keeps g c = λ start origin sits.
 pub returns-in-Err-2-clause-keeps : goal.returns-in-Err-2-clause-keeps
 returns-in-Err-2-clause-keeps g c = λ start origin sits.
     let reads = subst (λ (s : Sitting g.row.T.Denot). ReadsNext c.args.self.now c.read_next-size.result.0
-        c.read_next-size.result.1 c.read_next-size.new.text s) (sym c.self.view_is) c.read_next-size.ensures.takes in
+    c.read_next-size.result.1 c.read_next-size.new.text s) (sym c.self.view_is) c.read_next-size.ensures.takes in
     elim c.if-not-is_end.branch [
       | then-not-is_end+else-is_early w ↦
           stops_next g.T.NonBlocking.incoming g.T.NonBlocking.outgoing start c.args.kernel.now.pass origin
