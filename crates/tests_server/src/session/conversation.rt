@@ -105,18 +105,18 @@ fn take_bytes(rt: &impl Abort, conversation: &mut Conversation, count: usize)
     ensures { taken_in conversation.new.session.tally + length conversation.new.unsent.marks ≤ 6 }
 {
     for taken in 0..count {
-        take_byte(rt, conversation, &ANSWERS[taken.min(49)..]);
+        take(rt, conversation, &ANSWERS[taken.min(49)..], 1);
     }
 }
 
-/// Lets the connection take one byte, and asserts which are left before.
-fn take_byte(rt: &impl Abort, conversation: &mut Conversation, left: &[u8])
+/// Asserts that these bytes are left, and lets the connection take the first `count` of them.
+fn take(rt: &impl Abort, conversation: &mut Conversation, left: &[u8], count: usize)
     requires { taken_in conversation.old.session.tally + length conversation.old.unsent.marks ≤ 6 }
     ensures { taken_in conversation.new.session.tally + length conversation.new.unsent.marks ≤ 6 }
 {
     assert_eq!(rt; conversation.unsent(), left);
-    assert!(rt; conversation.waiting_bytes() > 0);
-    conversation.sent(1);
+    assert!(rt; count <= conversation.waiting_bytes());
+    conversation.sent(count);
 }
 
 // All replies are gathered before the connection takes any of them.
@@ -124,9 +124,8 @@ fn take_byte(rt: &impl Abort, conversation: &mut Conversation, left: &[u8])
 fn the_replies_of_a_session_are_gathered(rt: HostRuntime) {
     let mut kernel = Shelf::open(&rt, rt.alloc());
     if let Some(mut conversation) = gathered(&rt, rt.alloc(), &mut kernel) {
-        assert_eq!(rt; conversation.unsent(), ANSWERS);
         assert_eq!(rt; conversation.waiting_bytes(), 49);
-        conversation.sent(49);
+        take(&rt, &mut conversation, ANSWERS, 49);
         assert!(rt; conversation.is_empty());
         let served = conversation.end(End::Ended);
         assert_eq!(rt;
@@ -174,9 +173,7 @@ fn a_call_that_was_left_has_no_reply(rt: HostRuntime) {
     let left = conversation.put(Version::One, RequestOutcome::Left, &given);
     assert_eq!(rt; left, Err(End::Left));
     if hello.is_ok() {
-        assert_eq!(rt; conversation.unsent(), &ANSWERS[..7]);
-        assert_eq!(rt; conversation.waiting_bytes(), 7);
-        conversation.sent(7);
+        take(&rt, &mut conversation, &ANSWERS[..7], 7);
     }
     let served = conversation.end(End::Left);
     assert_eq!(rt; (served.end, counts_of(&served)), (End::Left, (1, 0, 0, 0)));

@@ -1,5 +1,5 @@
 //! Requests in pieces: a parked call is a value, and goes on when its count has risen.
-ghost use Rattle.std.specs.Prelude.{◌≡◌, ◌≢◌, ◌≤◌, ◌×◌, [], length};
+ghost use Rattle.std.specs.Prelude.{◌≡◌, ◌≢◌, ◌≤◌, [], length};
 ghost use Rattle.sysv_model.specs.declared.limits.TheConstants.{MESSAGE_BYTES};
 ghost use Rattle.sysv_seats.specs.Parked.{IsWaitOf};
 ghost use Rattle.sysv_service.specs.Seats.{AreOf};
