@@ -172,9 +172,8 @@ fn a_call_that_was_left_has_no_reply(rt: HostRuntime) {
     given.clear();
     let left = conversation.put(Version::One, RequestOutcome::Left, &given);
     assert_eq!(rt; left, Err(End::Left));
-    if hello.is_ok() {
-        take(&rt, &mut conversation, &ANSWERS[..7], 7);
-    }
+    let gathered: &[u8] = if hello.is_ok() { &ANSWERS[..7] } else { &[] };
+    take(&rt, &mut conversation, gathered, gathered.len());
     let served = conversation.end(End::Left);
     assert_eq!(rt; (served.end, counts_of(&served)), (End::Left, (1, 0, 0, 0)));
     assert_eq!(rt; kernel.end(), 128);

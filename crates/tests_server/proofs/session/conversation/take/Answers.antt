@@ -6,7 +6,7 @@ use Rattle.tests_server.proofs.session.conversation.take.Goals as goal
 
 -- Each mark is within the bytes that were taken, or beyond them.
 pub returns : goal.returns
-returns c =
+returns g c =
     omega (
       arith,
       c.requires,
