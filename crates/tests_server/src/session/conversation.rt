@@ -7,7 +7,7 @@ use super::shelf::Shelf;
 use std::alloc::Global;
 use std::process::Abort;
 use sysv_model::{Body, Watched};
-use sysv_session::{Conversation, End, Kernel, RequestOutcome, Served, TakenUp};
+use sysv_session::{Conversation, End, Kernel, RequestOutcome, TakenUp};
 use sysv_wire::Version;
 use tests_kit::worked::{ANSWERS, SESSION};
 use tests_kit::{Pieces, open_body};
@@ -55,21 +55,22 @@ impl Talking {
         }
     }
 
-    /// Takes up requests until one of them ends the session.
-    fn talk(&mut self, text: &[u8], kernel: &mut Shelf) -> End
+    /// Takes up the five requests of the session whose bytes were worked out by hand, and its end.
+    /// Ends earlier if memory is refused.
+    fn talk(&mut self, kernel: &mut Shelf) -> Result<(), End>
         requires none { taken_in self.old.conversation.session.tally
             + length self.old.conversation.unsent.marks ≡ 0 }
         ensures few { taken_in self.new.conversation.session.tally
-            + length self.new.conversation.unsent.marks ≤ 9 }
+            + length self.new.conversation.unsent.marks ≤ 6 }
     {
-        let mut pieces = Pieces::new(text, usize::MAX);
+        let mut pieces = Pieces::new(SESSION, usize::MAX);
         let mut reader = Watched::new(&mut pieces);
-        for _ in 0..9 {
-            if let Err(end) = self.step(&mut reader, kernel) {
-                return end;
-            }
-        }
-        End::Bound
+        self.step(&mut reader, kernel)?;
+        self.step(&mut reader, kernel)?;
+        self.step(&mut reader, kernel)?;
+        self.step(&mut reader, kernel)?;
+        self.step(&mut reader, kernel)?;
+        self.step(&mut reader, kernel)
     }
 }
 
@@ -77,24 +78,45 @@ impl Talking {
 /// Returns `None` if memory was refused: the session then ended.
 fn gathered(rt: &impl Abort, alloc: Global, kernel: &mut Shelf) -> Option<Conversation>
     ensures { IfSome result (λ conversation. taken_in conversation.session.tally
-        + length conversation.unsent.marks ≤ 9) }
+        + length conversation.unsent.marks ≤ 6) }
 {
     let mut talking = Talking::open(rt, alloc);
     assert!(rt; talking.conversation.is_empty());
-    let end = talking.talk(SESSION, kernel);
+    let end = talking.talk(kernel);
     let Talking {
         conversation,
         text: _,
         given: _,
     } = talking;
-    if end == End::NoMemory {
-        let served = conversation.end(end);
+    if end == Err(End::NoMemory) {
+        let served = conversation.end(End::NoMemory);
         assert!(rt; served.end == End::NoMemory || served.end == End::Write);
         assert_eq!(rt; served.tally.taken(), served.tally.lost());
         return None;
     }
-    assert_eq!(rt; end, End::Ended);
+    assert_eq!(rt; end, Err(End::Ended));
     Some(conversation)
+}
+
+/// Lets the connection take this number of bytes, one after another, and asserts before each which
+/// are left.
+fn take_bytes(rt: &impl Abort, conversation: &mut Conversation, count: usize)
+    requires { taken_in conversation.old.session.tally + length conversation.old.unsent.marks ≤ 6 }
+    ensures { taken_in conversation.new.session.tally + length conversation.new.unsent.marks ≤ 6 }
+{
+    for taken in 0..count {
+        take(rt, conversation, &ANSWERS[taken.min(49)..], 1);
+    }
+}
+
+/// Asserts that these bytes are left, and lets the connection take the first `count` of them.
+fn take(rt: &impl Abort, conversation: &mut Conversation, left: &[u8], count: usize)
+    requires { taken_in conversation.old.session.tally + length conversation.old.unsent.marks ≤ 6 }
+    ensures { taken_in conversation.new.session.tally + length conversation.new.unsent.marks ≤ 6 }
+{
+    assert_eq!(rt; conversation.unsent(), left);
+    assert!(rt; count <= conversation.waiting_bytes());
+    conversation.sent(count);
 }
 
 // All replies are gathered before the connection takes any of them.
@@ -102,9 +124,8 @@ fn gathered(rt: &impl Abort, alloc: Global, kernel: &mut Shelf) -> Option<Conver
 fn the_replies_of_a_session_are_gathered(rt: HostRuntime) {
     let mut kernel = Shelf::open(&rt, rt.alloc());
     if let Some(mut conversation) = gathered(&rt, rt.alloc(), &mut kernel) {
-        assert_eq!(rt; conversation.unsent(), ANSWERS);
         assert_eq!(rt; conversation.waiting_bytes(), 49);
-        conversation.sent(49);
+        take(&rt, &mut conversation, ANSWERS, 49);
         assert!(rt; conversation.is_empty());
         let served = conversation.end(End::Ended);
         assert_eq!(rt;
@@ -121,15 +142,15 @@ fn the_connection_takes_one_byte_after_another(rt: HostRuntime) {
     for count in 0..50 {
         let mut kernel = Shelf::open(&rt, rt.alloc());
         if let Some(mut conversation) = gathered(&rt, rt.alloc(), &mut kernel) {
-            for taken in 0..count {
-                assert_eq!(rt; conversation.unsent(), &ANSWERS[taken..], "{count}");
-                conversation.sent(1);
-            }
+            take_bytes(&rt, &mut conversation, count);
             let served = conversation.end(End::Ended);
             let end = if count < 49 { End::Write } else { End::Ended };
-            let written = (count >= 42) as u64;
-            let counts = (5, 1, written, 1 - written);
-            assert_eq!(rt; (served.end, counts_of(&served)), (end, counts), "{count}");
+            let (written, lost) = if count < 42 { (0, 1) } else { (1, 0) };
+            assert_eq!(rt;
+                (served.end, counts_of(&served)),
+                (end, (5, 1, written, lost)),
+                "{count}"
+            );
         }
         assert_eq!(rt; kernel.end(), 128);
     }
@@ -151,10 +172,8 @@ fn a_call_that_was_left_has_no_reply(rt: HostRuntime) {
     given.clear();
     let left = conversation.put(Version::One, RequestOutcome::Left, &given);
     assert_eq!(rt; left, Err(End::Left));
-    if hello.is_ok() {
-        assert_eq!(rt; conversation.unsent(), &ANSWERS[..7]);
-        conversation.sent(7);
-    }
+    let gathered: &[u8] = if hello.is_ok() { &ANSWERS[..7] } else { &[] };
+    take(&rt, &mut conversation, gathered, gathered.len());
     let served = conversation.end(End::Left);
     assert_eq!(rt; (served.end, counts_of(&served)), (End::Left, (1, 0, 0, 0)));
     assert_eq!(rt; kernel.end(), 128);

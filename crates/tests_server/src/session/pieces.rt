@@ -1,11 +1,18 @@
 //! Requests in pieces: a parked call is a value, and goes on when its count has risen.
+ghost use Rattle.std.specs.Prelude.{◌≡◌, ◌≢◌, ◌≤◌, [], length};
+ghost use Rattle.sysv_model.specs.declared.limits.TheConstants.{MESSAGE_BYTES};
+ghost use Rattle.sysv_seats.specs.Parked.{IsWaitOf};
+ghost use Rattle.sysv_service.specs.Seats.{AreOf};
+ghost use Rattle.sysv_service.specs.declared.progress.ReceiveWait.{ReceiveWait};
+ghost use Rattle.sysv_service.specs.declared.progress.SendWait.{SendWait};
+ghost use Rattle.sysv_wire.specs.Requests.{op_of};
 
 use crate::parts::{CLOCK, Still, closed, opened};
 use bitflags::Flags as _;
 use std::alloc::Global;
 use std::process::Abort;
 use std::sync::Wait;
-use sysv_model::{Body, Errno, Flags, Selector, SetTo};
+use sysv_model::{Body, Errno, Flags, MESSAGE_BYTES, Selector, SetTo};
 use sysv_queue::Tally;
 use sysv_seats::{Awaited, ServiceKernel, Waiting, snd_text};
 use sysv_service::{Pass, Progress, Service};
@@ -14,7 +21,9 @@ use sysv_wire::{Ask, Op, Reply, ReplyContent, Request, Version};
 use tests_kit::{USER, creating, open_body};
 
 /// Returns a request of version 2.
-fn request(ask: Ask) -> Request {
+fn request(ask: Ask) -> Request
+    ensures { result.ask ≡ ask }
+{
     Request {
         version: Version::Two,
         ask,
@@ -22,7 +31,10 @@ fn request(ask: Ask) -> Request {
 }
 
 /// Returns a receive of at most 100 bytes of type 5 from queue 0.
-fn receiving() -> Ask {
+fn receiving() -> Ask
+    ensures op { op_of result ≡ Op.Rcv }
+    ensures waits { (wait : ReceiveWait) → IsWaitOf result (Waiting.Receive wait) }
+{
     Ask::Rcv {
         id: 0,
         size: 100,
@@ -32,15 +44,28 @@ fn receiving() -> Ask {
 }
 
 /// Returns a send to queue `id`.
-fn sending(id: i32, mtype: i64) -> Request {
+fn sending(id: i32, mtype: i64) -> Request
+    ensures op { op_of result.ask ≡ Op.Snd }
+    ensures waits { (wait : SendWait) → IsWaitOf result.ask (Waiting.Send wait) }
+{
     let flags = Flags::empty();
     request(Ask::Snd { id, mtype, flags })
 }
 
+/// Returns an empty body. Tolerates one refusal of memory.
+fn empty_body(rt: &impl Abort, alloc: Global) -> Body
+    ensures { result ≡ [] }
+{
+    open_body(alloc).expect(rt, "a second try")
+}
+
 /// Returns a body with these bytes. Tolerates one refusal of memory.
-fn body_of(rt: &impl Abort, alloc: Global, bytes: &[u8]) -> Body {
-    let mut body = open_body(alloc).expect(rt, "a second try");
+fn body_of(rt: &impl Abort, alloc: Global, bytes: &[u8]) -> Body
+    ensures { length result ≤ MESSAGE_BYTES }
+{
+    let mut body = empty_body(rt, alloc);
     assert!(rt; body.push_piece(bytes));
+    assert!(rt; body.len() <= MESSAGE_BYTES);
     body
 }
 
@@ -106,8 +131,11 @@ fn make<R: Abort + Wait>(
     kernel: &mut ServiceKernel<'_, Still, R>,
     ask: Ask,
     content: ReplyContent,
-) {
-    let (empty, mut given) = (body_of(rt, alloc, b""), body_of(rt, alloc, b""));
+)
+    requires { op_of ask ≢ Op.Hello }
+    ensures { kernel.new.service ≡ kernel.old.service }
+{
+    let (empty, mut given) = (empty_body(rt, alloc), empty_body(rt, alloc));
     let begun = kernel.begin(USER, &request(ask), &empty, &mut given);
     assert_replied(rt, begun, ask.op(), content);
     assert_eq!(rt; given.len(), 0);
@@ -120,8 +148,11 @@ fn send<R: Abort + Wait>(
     kernel: &mut ServiceKernel<'_, Still, R>,
     request: &Request,
     bytes: &[u8],
-) {
-    let (text, mut given) = (body_of(rt, alloc, bytes), body_of(rt, alloc, b""));
+)
+    requires { op_of request.now.ask ≢ Op.Hello }
+    ensures { kernel.new.service ≡ kernel.old.service }
+{
+    let (text, mut given) = (body_of(rt, alloc, bytes), empty_body(rt, alloc));
     let begun = kernel.begin(USER, request, &text, &mut given);
     assert_replied(rt, begun, Op::Snd, ReplyContent::Snd);
 }
@@ -133,8 +164,10 @@ fn take<R: Abort + Wait>(
     kernel: &mut ServiceKernel<'_, Still, R>,
     id: i32,
     length: usize,
-) {
-    let (empty, mut given) = (body_of(rt, alloc, b""), body_of(rt, alloc, b""));
+)
+    ensures { kernel.new.service ≡ kernel.old.service }
+{
+    let (empty, mut given) = (empty_body(rt, alloc), empty_body(rt, alloc));
     let receive = request(Ask::Rcv {
         id,
         size: 8192,
@@ -153,7 +186,9 @@ fn make_queue<R: Abort + Wait>(
     kernel: &mut ServiceKernel<'_, Still, R>,
     key: i32,
     id: i32,
-) {
+)
+    ensures { kernel.new.service ≡ kernel.old.service }
+{
     let flags = creating();
     make(
         rt,
@@ -164,8 +199,48 @@ fn make_queue<R: Abort + Wait>(
     );
 }
 
+/// Continues the receive of `receiving`. No call of it has returned a message before.
+fn receive_on<R: Abort + Wait>(
+    rt: &R,
+    alloc: Global,
+    kernel: &mut ServiceKernel<'_, Still, R>,
+    given: &mut Body,
+    waiting: Waiting,
+) -> Progress<Waiting, RequestOutcome>
+    ensures { kernel.new.service ≡ kernel.old.service }
+{
+    assert_eq!(rt; given.len(), 0);
+    given.clear();
+    let Waiting::Receive(wait) = waiting else {
+        panic!(rt; "a send waits")
+    };
+    let receive = request(receiving());
+    let empty = empty_body(rt, alloc);
+    kernel.go_on(&receive, &empty, given, Waiting::Receive(wait))
+}
+
+/// Continues the send of `text` with type 5 to queue 0.
+fn send_on<R: Abort + Wait>(
+    rt: &R,
+    alloc: Global,
+    kernel: &mut ServiceKernel<'_, Still, R>,
+    text: &Body,
+    waiting: Waiting,
+) -> Progress<Waiting, RequestOutcome>
+    requires { length text.now ≤ MESSAGE_BYTES }
+    ensures { kernel.new.service ≡ kernel.old.service }
+{
+    let mut given = empty_body(rt, alloc);
+    let Waiting::Send(wait) = waiting else {
+        panic!(rt; "a receive waits")
+    };
+    kernel.go_on(&sending(0, 5), text, &mut given, Waiting::Send(wait))
+}
+
 /// Opens a service, with two passes.
-fn two_passes(rt: &impl Abort, alloc: Global) -> (Service, Pass, Pass) {
+fn two_passes(rt: &impl Abort, alloc: Global) -> (Service, Pass, Pass)
+    ensures { AreOf result.0 result.1.seats × AreOf result.0 result.2.seats }
+{
     let (service, mut pass) = opened(rt, alloc, 128, 0);
     let other = service.split_pass(alloc, &mut pass).expect(rt, "a split");
     (service, pass, other)
@@ -173,7 +248,10 @@ fn two_passes(rt: &impl Abort, alloc: Global) -> (Service, Pass, Pass) {
 
 /// Closes the service. Asserts that this number of messages was queued, and that all blocks are then
 /// free.
-fn close(rt: &impl Abort, service: Service, mut pass: Pass, other: Pass, queued: u64) {
+fn close(rt: &impl Abort, service: Service, mut pass: Pass, other: Pass, queued: u64)
+    requires pass { AreOf service pass.seats }
+    requires other { AreOf service other.seats }
+{
     service.join_pass(&mut pass, other);
     assert_eq!(rt; service.close(pass), closed(queued, 128));
 }
@@ -186,21 +264,21 @@ fn a_parked_receive_goes_on_after_a_send(rt: HostRuntime) {
     let mut receiver = ServiceKernel::new(&rt, &service, &CLOCK, pass);
     let mut sender = ServiceKernel::new(&rt, &service, &CLOCK, other);
     make_queue(&rt, alloc, &mut receiver, 7, 0);
-    let (empty, mut given) = (body_of(&rt, alloc, b""), body_of(&rt, alloc, b""));
+    let (empty, mut given) = (empty_body(&rt, alloc), empty_body(&rt, alloc));
     let receive = request(receiving());
     let begun = receiver.begin(USER, &receive, &empty, &mut given);
     let first = parked(&rt, begun);
     assert_eq!(rt; first.awaits(), Awaited::Arrived { slot: 0 });
     assert_eq!(rt; first.selector(), Some(Selector::Exactly(5)));
-    let again = receiver.go_on(&receive, &empty, &mut given, first);
+    let again = receive_on(&rt, alloc, &mut receiver, &mut given, first);
     assert!(rt; parked(&rt, again) == first);
     send(&rt, alloc, &mut sender, &sending(0, 6), b"x");
-    let again = receiver.go_on(&receive, &empty, &mut given, first);
+    let again = receive_on(&rt, alloc, &mut receiver, &mut given, first);
     let second = parked(&rt, again);
     assert!(rt; second != first);
     assert_eq!(rt; given.len(), 0);
     send(&rt, alloc, &mut sender, &sending(0, 5), b"ping");
-    let over = receiver.go_on(&receive, &empty, &mut given, second);
+    let over = receive_on(&rt, alloc, &mut receiver, &mut given, second);
     assert_got(&rt, over, 5, 4);
     assert_eq!(rt; given.block(0), b"ping".as_slice());
     let (pass, other) = (receiver.into_pass(), sender.into_pass());
@@ -228,15 +306,15 @@ fn a_parked_send_goes_on_after_a_receive(rt: HostRuntime) {
         ReplyContent::Set,
     );
     send(&rt, alloc, &mut sender, &sending(0, 5), b"ping");
-    let (text, mut given) = (body_of(&rt, alloc, b"pong"), body_of(&rt, alloc, b""));
+    let (text, mut given) = (body_of(&rt, alloc, b"pong"), empty_body(&rt, alloc));
     let begun = sender.begin(USER, &sending(0, 5), &text, &mut given);
     let waiting = parked(&rt, begun);
     assert_eq!(rt; waiting.awaits(), Awaited::Freed { slot: 0 });
     assert_eq!(rt; waiting.selector(), None);
-    let again = sender.go_on(&sending(0, 5), &text, &mut given, waiting);
+    let again = send_on(&rt, alloc, &mut sender, &text, waiting);
     assert!(rt; parked(&rt, again) == waiting);
     take(&rt, alloc, &mut receiver, 0, 4);
-    let over = sender.go_on(&sending(0, 5), &text, &mut given, waiting);
+    let over = send_on(&rt, alloc, &mut sender, &text, waiting);
     assert_replied(&rt, over, Op::Snd, ReplyContent::Snd);
     let (pass, other) = (sender.into_pass(), receiver.into_pass());
     close(&rt, service, pass, other, 1);
@@ -251,12 +329,12 @@ fn a_parked_send_goes_on_after_blocks_were_released(rt: HostRuntime) {
     make_queue(&rt, alloc, &mut sender, 7, 0);
     make_queue(&rt, alloc, &mut sender, 8, 1);
     send(&rt, alloc, &mut sender, &sending(1, 5), &[b'x'; 8192]);
-    let (text, mut given) = (body_of(&rt, alloc, b"ping"), body_of(&rt, alloc, b""));
+    let (text, mut given) = (body_of(&rt, alloc, b"ping"), empty_body(&rt, alloc));
     let begun = sender.begin(USER, &sending(0, 5), &text, &mut given);
     let waiting = parked(&rt, begun);
     assert_eq!(rt; waiting.awaits(), Awaited::Released);
     take(&rt, alloc, &mut receiver, 1, 8192);
-    let over = sender.go_on(&sending(0, 5), &text, &mut given, waiting);
+    let over = send_on(&rt, alloc, &mut sender, &text, waiting);
     assert_replied(&rt, over, Op::Snd, ReplyContent::Snd);
     let (pass, other) = (sender.into_pass(), receiver.into_pass());
     close(&rt, service, pass, other, 1);
@@ -270,7 +348,7 @@ fn a_parked_receive_ends_with_its_queue(rt: HostRuntime) {
     let mut receiver = ServiceKernel::new(&rt, &service, &CLOCK, pass);
     let mut remover = ServiceKernel::new(&rt, &service, &CLOCK, other);
     make_queue(&rt, alloc, &mut receiver, 7, 0);
-    let (empty, mut given) = (body_of(&rt, alloc, b""), body_of(&rt, alloc, b""));
+    let (empty, mut given) = (empty_body(&rt, alloc), empty_body(&rt, alloc));
     let receive = request(receiving());
     let begun = receiver.begin(USER, &receive, &empty, &mut given);
     let waiting = parked(&rt, begun);
@@ -281,7 +359,7 @@ fn a_parked_receive_ends_with_its_queue(rt: HostRuntime) {
         Ask::Rm { id: 0 },
         ReplyContent::Rm,
     );
-    let over = receiver.go_on(&receive, &empty, &mut given, waiting);
+    let over = receive_on(&rt, alloc, &mut receiver, &mut given, waiting);
     assert_replied(&rt, over, Op::Rcv, ReplyContent::Refused(Errno::EIDRM));
     assert_eq!(rt; given.len(), 0);
     let (pass, other) = (receiver.into_pass(), remover.into_pass());
@@ -296,7 +374,7 @@ fn a_parked_receive_may_be_dropped(rt: HostRuntime) {
     let mut first = ServiceKernel::new(&rt, &service, &CLOCK, pass);
     let mut second = ServiceKernel::new(&rt, &service, &CLOCK, other);
     make_queue(&rt, alloc, &mut first, 7, 0);
-    let (empty, mut given) = (body_of(&rt, alloc, b""), body_of(&rt, alloc, b""));
+    let (empty, mut given) = (empty_body(&rt, alloc), empty_body(&rt, alloc));
     let begun = first.begin(USER, &request(receiving()), &empty, &mut given);
     let _dropped = parked(&rt, begun);
     send(&rt, alloc, &mut second, &sending(0, 5), b"ping");
