@@ -2,10 +2,13 @@ pub mod SessionMakesCalls
 pub mod SessionsPerConnection
 pub mod Accepted
 pub mod SumsOfSessions
-pub mod Crossing
-pub mod OneSession
 pub mod LifeIsOneRun
 pub mod GatesHaveLived
 pub mod FaultLeaves
-pub mod LostByFailedWrites
 pub mod Shifts
+pub mod Adopting
+pub mod PlacesRun
+pub mod PlaceLemmas
+pub mod PlaceLists
+pub mod Reversed
+pub mod Staffed

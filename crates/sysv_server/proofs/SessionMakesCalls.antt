@@ -217,12 +217,18 @@ module _ (may : ℕ → Type 0) (may_leave : Type 0) (any : EachRunIsAtAnyMoment
           leads = done.leads made;
           unread = talks.unread;
           reads = talks.reads;
+          stopped = talks.stopped;
           ends = talks.ends;
-          replies = talks.replies;
-          writes = talks.writes;
-          tallies = talks.tallies;
-          counts = talks.counts;
           bounded = talks.bounded;
+          replies = talks.replies;
+          replied = talks.replied;
+          sent = talks.sent;
+          prefix = talks.prefix;
+          writes = talks.writes;
+          reports = talks.reports;
+          all = talks.all;
+          written = talks.written;
+          counts = talks.counts;
         }),
         done.rests,
       )

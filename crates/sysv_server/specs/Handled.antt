@@ -1,8 +1,9 @@
 -- What a worker of a server does with its connections (this project's profile).
-use Rattle.std.specs.Prelude.{◌≡◌, ◌+◌, ℕ, List, [], Option, None, Some, map, flat_map, cond}
+use Rattle.std.specs.Prelude.{◌≡◌, ◌+◌, ℕ, Bool, true, false, List, [], Option, None, Some, map, flat_map, cond}
 use Rattle.std.specs.List.{FoldsTo, sum_by}
 use Rattle.sysv_session.specs.declared.served.Served.{Served}
-use Rattle.sysv_session.specs.Failing.{is_failed_write}
+use Rattle.sysv_session.specs.declared.served.End.{End}
+use Rattle.sysv_session.specs.declared.served.End.TheVariants.{Ended, NoMemory, NoHello, Fault, Write, Bound, Left}
 use Rattle.sysv_service.specs.Ran.{Pass}
 use Rattle.sysv_thread_laws.specs.Order.{Called}
 use Rattle.sysv_server.specs.Made.{trail}
@@ -11,15 +12,20 @@ use Rattle.sysv_server.specs.Added.{added, all_added, capped, one_session}
 use Rattle.sysv_server.specs.Talks.{Talk, Talks, TalksIn, IsOn, Closes, tally_of}
 use Rattle.sysv_seats.specs.Untold.{Closing}
 
--- 1 for a session whose memory was refused, and 0 for one that reported.
+-- The end is that memory was refused.
+abbrev pub is_starved : End → Bool
+is_starved Ended = false
+is_starved NoMemory = true
+is_starved NoHello = false
+is_starved (Fault fault) = false
+is_starved Write = false
+is_starved Bound = false
+is_starved Left = false
+
+-- 1 for a session whose memory was refused, at its start or later, and 0 for any other.
 abbrev pub one_refused : Option Served → ℕ
 one_refused None = 1
-one_refused (Some served) = 0
-
--- 1 for a session that ended because its writer failed, and else 0.
-abbrev pub one_failed : Option Served → ℕ
-one_failed None = 0
-one_failed (Some served) = cond (is_failed_write served.«end») 1 0
+one_refused (Some served) = cond (is_starved served.«end») 1 0
 
 -- The sums of sessions with these reports.
 abbrev pub sums_of : List (Option Served) → Sums
@@ -28,10 +34,6 @@ sums_of told = all_added (map (λ t. one_session (tally_of t)) told)
 -- The number of sessions with these reports whose memory was refused.
 abbrev pub refused_of : List (Option Served) → ℕ
 refused_of told = capped (sum_by one_refused told)
-
--- The number of sessions with these reports that ended because their writer failed.
-abbrev pub failed_of : List (Option Served) → ℕ
-failed_of told = sum_by one_failed told
 
 module _ {T B : Type 0} (incoming outgoing : T → Option (List ℕ)) (closes : Closing B) where
   -- One session with this report was held on the connection, which was then closed.

@@ -17,7 +17,7 @@ use Rattle.sysv_service.specs.Seats.{Gates}
 use Rattle.sysv_workers.specs.Sources.{GivesAll}
 use Rattle.sysv_server.specs.declared.terms.Ended.{Ended}
 use Rattle.sysv_server.specs.Desks.{Desk, Crewed, AreServedInOrder, all_connections}
-use Rattle.sysv_server.specs.Handled.{Shift, failed_of, sums_of, refused_of, told_in}
+use Rattle.sysv_server.specs.Handled.{Shift, sums_of, refused_of, told_in}
 use Rattle.sysv_server.specs.OneRun.{Lived}
 use Rattle.sysv_seats.specs.Untold.{Closing}
 
@@ -45,9 +45,6 @@ pub record ServesConnections {S T B : Type 0} (incoming outgoing : T → Option 
   -- The sums are those of all sessions, and so is the number of sessions whose memory was refused.
   pub sums : ended.sums ≡ sums_of (told_in shifts)
   pub refused : ended.refused ≡ refused_of (told_in shifts)
-  -- A message was lost only in a session that ended because its writer failed, and at most one in
-  -- each of them.
-  pub lost : ended.sums.lost ≤ failed_of (told_in shifts)
   -- The calls of these very sessions and the removals of the stop are one run, which obeys, and the
   -- gates were closed after it.
   pub lived : Lived blocks gates shifts ended.removed

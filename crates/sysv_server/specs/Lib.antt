@@ -8,3 +8,4 @@ pub mod Accepts
 pub mod OneRun
 pub mod Serving
 pub mod Headline
+pub mod Places

@@ -11,13 +11,13 @@ use Rattle.sysv_thread_laws.specs.AtRest.{Rests}
 use Rattle.sysv_thread_laws.specs.Order.{Called}
 use Rattle.sysv_session.specs.declared.served.Served.{Served}
 use Rattle.sysv_session.specs.Calls.{Meaning}
-use Rattle.sysv_session.specs.Session.{Serves}
+use Rattle.sysv_session.specs.Together.{ServesTogether}
 use Rattle.sysv_thread_laws.specs.Life.{call_of}
 use Rattle.sysv_service.specs.Ran.{Pass, Ran}
 use Rattle.sysv_service.specs.Told.{TellsRow}
 use Rattle.sysv_thread_laws.specs.Working.{Works}
 use Rattle.sysv_steps.specs.Begin.{begin}
-use Rattle.sysv_seats.specs.Asked.{ReadsReleased, ServesPass}
+use Rattle.sysv_seats.specs.Asked.{ReadsReleased, ServesPassTogether}
 use Rattle.sysv_seats.specs.Requests as requests
 use Rattle.sysv_seats.specs.Requests.{Going}
 
@@ -54,7 +54,7 @@ makes_with may may_leave old cred request text outcome given new =
 abbrev pub ServesTrail : (ℕ → Type 0) → Type 0 → Served → (old new : Trail) → (left rest taken more : Option (List ℕ)) →
     Type 0
 ServesTrail may may_leave served old new left rest taken more =
-    Serves (makes_with may may_leave) SLOTS served old new left rest taken more
+    ServesTogether (makes_with may may_leave) SLOTS served old new left rest taken more
 
 -- Each session over a service makes such calls, and no other call is made with its pass: together
 -- with the calls that were made from a start up to the session, they are all that the pass made
@@ -62,7 +62,7 @@ ServesTrail may may_leave served old new left rest taken more =
 abbrev pub EachSessionMakesCalls : (ℕ → Type 0) → Type 0 → Type 0
 EachSessionMakesCalls may may_leave =
     (start old new : Pass) (made : List Called) (served : Served) (left rest taken more : Option (List ℕ)) →
-    Works start made old → ServesPass may may_leave served old new left rest taken more →
+    Works start made old → ServesPassTogether may may_leave served old new left rest taken more →
     (calls : List Called) × Works start (made ++ calls) new
     × ServesTrail may may_leave served (trail old made) (trail new (made ++ calls)) left rest taken more ×
     AllByRecursion (λ (call : Called). Rests call.state) calls

@@ -23,7 +23,7 @@ use Rattle.sysv_server.specs.declared.sums.Sums.{Sums}
 use Rattle.sysv_server.specs.declared.terms.Ended.{Ended}
 use Rattle.sysv_server.specs.Added.{nothing}
 use Rattle.sysv_server.specs.Desks.{Desk, Crewed, Sat, AreServedInOrder, all_connections}
-use Rattle.sysv_server.specs.Handled.{Shift, failed_of, first_passes, last_passes, sums_of, refused_of, told_in}
+use Rattle.sysv_server.specs.Handled.{Shift, first_passes, last_passes, sums_of, refused_of, told_in}
 use Rattle.sysv_server.specs.OneRun.{Lived}
 use Rattle.sysv_seats.specs.Untold.{Closing, untold, leaves_nothing}
 
@@ -32,13 +32,11 @@ abbrev pub IsNew : Gates → Pass → Sums → ℕ → Type 0
 IsNew gates pass sums refused = AreOf gates pass.seats × (pass.held ≡ 0) × (sums ≡ nothing) × (refused ≡ 0)
 
 -- This number of workers worked these shifts at the gates. Each began with a pass of the gates that
--- holds no chain, and these are the sums of all their sessions. A message was lost only in a session
--- that ended because its writer failed, and at most one in each of them.
+-- holds no chain, and these are the sums of all their sessions.
 pub record Worked (gates : Gates) (count : ℕ) (shifts : List Shift) (all : Sums) : Type 0 where
   pub workers : length shifts ≡ count
   pub passes : AllByRecursion (λ (shift : Shift). AreOf gates shift.before.seats × (shift.before.held ≡ 0)) shifts
   pub sums : all ≡ sums_of (told_in shifts)
-  pub lost : all.lost ≤ failed_of (told_in shifts)
 
 -- The workers of these shifts had passes that were split off from the pass `old` of these gates, and
 -- the passes that they left were joined back into it.

@@ -3,7 +3,8 @@ use Rattle.std.specs.Prelude.{◌≡◌, ℕ, ⊤, List, Option, None, Some}
 use Rattle.sysv_queue.specs.Tally.{Tallied}
 use Rattle.sysv_session.specs.declared.served.Served.{Served}
 use Rattle.sysv_service.specs.Ran.{Pass}
-use Rattle.sysv_seats.specs.Asked.{ServesPass}
+use Rattle.sysv_seats.specs.Asked.{ServesPassTogether}
+use Rattle.sysv_seats.specs.Sits.{IsBehind, zero_moment}
 use Rattle.sysv_seats.specs.Untold.{Closing}
 use Rattle.sysv_server.specs.Made.{Trail, ServesTrail}
 
@@ -17,16 +18,12 @@ pub record Talk : Type 0 where
   pub taken : Option (List ℕ)
   pub more : Option (List ℕ)
 
--- Every time in a server is 0.
-abbrev pub zero_moment : ℕ → Type 0
-zero_moment now = now ≡ 0
-
--- A session that reported this led from the one pass to the other. Without a report its memory was
--- refused; it read nothing, wrote nothing, and made no call.
+-- A session that reported this, whose replies were gathered, led from the one pass to the other.
+-- Without a report its memory was refused; it read nothing, wrote nothing, and made no call.
 abbrev pub TalksAs : Pass → Option Served → (left rest taken more : Option (List ℕ)) → Pass → Type 0
 TalksAs before None left rest taken more after = (after ≡ before) × (rest ≡ left) × (more ≡ taken)
 TalksAs before (Some served) left rest taken more after =
-    ServesPass zero_moment ⊤ served before after left rest taken more
+    ServesPassTogether zero_moment ⊤ served before after left rest taken more
 
 -- The session led from the one pass to the other. Its client may leave a call that waits.
 abbrev pub Talks : Pass → Talk → Pass → Type 0
@@ -55,6 +52,7 @@ TalksIn before talk after = TalksAsIn before talk.told talk.left talk.rest talk.
 abbrev pub IsOn : {T : Type 0} → (incoming outgoing : T → Option (List ℕ)) → T → Talk → Type 0
 IsOn incoming outgoing connection talk = (talk.left ≡ incoming connection) × (talk.taken ≡ outgoing connection)
 
--- The connection of the session was closed with the bytes that the session left.
+-- The connection of the session was closed with what the session had written, and with the bytes
+-- that the session left, except those that were read ahead.
 abbrev pub Closes : {B : Type 0} → Closing B → B → Talk → B → Type 0
-Closes closes book talk book' = closes book talk.rest talk.more book'
+Closes closes book talk book' = (kept : Option (List ℕ)) × IsBehind talk.rest kept × closes book kept talk.more book'

@@ -9,7 +9,9 @@ use sysv_service::Closed;
 pub struct Terms {
     /// The number of blocks in the pool, 128 to 65,536.
     pub blocks: u32,
-    /// The maximum number of sessions that run at once, each in a thread of its own: 1 to 256.
+    /// The number of threads that serve clients, 1 to 16.
+    pub workers: u32,
+    /// The maximum number of clients at once, 1 to 16,384.
     pub at_once: u32,
     /// The number of connections to accept, 0 for no limit.
     pub sessions: u64,
@@ -46,7 +48,6 @@ pub struct Ended {
     /// of a slot was found worn out.
     pub removed: Result<u32, Errno>,
     /// What was left of its service when it was closed, after these queues were removed. No gate is
-    /// held. The pool has all its blocks and no message is queued, if fewer than 2^62 turns were
-    /// made at each object.
+    /// held. The pool has all its blocks, if fewer than 2^62 turns were made at each object.
     pub closed: Closed,
 }

@@ -7,7 +7,6 @@ use Rattle.sysv_server.specs.Handled.{first_passes, last_passes, told_in}
 use Rattle.sysv_server.specs.OneRun.{Stopped}
 use Rattle.sysv_server.specs.Serving.{HasLived, HiredFrom}
 use Rattle.sysv_server.proofs.FaultLeaves.{fault_says}
-use Rattle.sysv_server.proofs.LostByFailedWrites.{lost_by_failed_writes}
 use Rattle.sysv_server.proofs.GatesHaveLived.{have_lived, lived}
 use Rattle.sysv_server.proofs.SumsOfSessions.{balanced}
 use Rattle.sysv_server.proofs.connections.serve_all.Goals as goal
@@ -44,9 +43,8 @@ returns-in-Ok-outcome-clause-ok g c =
       crewed = worked.crewed;
       sums = worked.adds;
       refused = worked.counts;
-      lost = lost_by_failed_writes shifts c.in-Ok-outcome.sums worked.adds;
-      lived = lived laws.run laws.whole laws.none_held laws.empty c.args.blocks c.in-Ok.service c.stop-removed.result
-          stopped c.close-closed.result c.close-closed.ensures opened.0 c.stop-removed.ensures.pass shifts hires;
+      lived = lived laws.run laws.whole laws.none_held c.args.blocks c.in-Ok.service c.stop-removed.result stopped
+          c.close-closed.result c.close-closed.ensures opened.0 c.stop-removed.ensures.pass shifts hires;
       closed = refl;
     }
 
@@ -69,8 +67,8 @@ returns-in-Err-clause-err g c =
     fault_says t.incoming t.outgoing t.closes g.S.Source.gives c.args.source.now c.serve_with-outcome.new.source
     c.args.books.now.items c.serve_with-outcome.new.books.items
     (HiredFrom c.in-Ok.service first c.serve_with-outcome.new.pass) (HasLived c.args.blocks)
-    (have_lived laws.run laws.whole laws.none_held laws.empty c.args.blocks c.in-Ok.service c.stop-removed.result
-    stopped c.close-closed.result c.close-closed.ensures opened.0 c.stop-removed.ensures.pass first opened.1)
+    (have_lived laws.run laws.whole laws.none_held c.args.blocks c.in-Ok.service c.stop-removed.result stopped
+    c.close-closed.result c.close-closed.ensures opened.0 c.stop-removed.ensures.pass first opened.1)
     c.in-Err.why c.in-Err.ensures.err
 
 pub returns-in-Ok-outcome-clause-balance : goal.returns-in-Ok-outcome-clause-balance
