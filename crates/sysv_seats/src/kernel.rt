@@ -25,10 +25,10 @@ use sysv_wire::{Ask, MAX_MODE, Op, Reply, ReplyContent, Request, Version};
 /// that is checked while a call waits: if the caller has left, the call is left. A kernel can be
 /// neither dropped nor copied; end it with `into_pass`.
 pub struct ServiceKernel<'a, C: Clock, R: Wait, K: Caller + Copy = Stays> {
-    rt: &'a R,
-    service: &'a Service,
-    clock: &'a C,
-    pass: Pass,
+    pub(crate) rt: &'a R,
+    pub(crate) service: &'a Service,
+    pub(crate) clock: &'a C,
+    pub(crate) pass: Pass,
     caller: K,
     ghost fits: { AreOf service.now pass.seats },
 }
@@ -334,7 +334,7 @@ impl<C: Clock, R: Wait, K: Caller + Copy> Kernel for ServiceKernel<'_, C, R, K> 
 }
 
 /// Returns the reply of an operation, in the version of its request.
-fn reply(version: Version, op: Op, content: ReplyContent) -> RequestOutcome
+pub(crate) fn reply(version: Version, op: Op, content: ReplyContent) -> RequestOutcome
     ensures { result ≡ the_reply version op content }
 {
     RequestOutcome::Reply(Reply {

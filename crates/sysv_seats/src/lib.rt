@@ -6,13 +6,23 @@
 #![tactic(auto)]
 
 mod book;
+mod client;
 mod kernel;
+mod kernel_pieces;
 mod memory_stream;
+mod news;
 mod non_blocking;
 mod socket_stream;
+mod text;
+mod tools;
+mod waiting;
 
 pub use book::Replies;
+pub use client::{Client, Parked};
 pub use kernel::ServiceKernel;
 pub use memory_stream::{MemoryStream, Step};
+pub use news::News;
 pub use non_blocking::{Drained, Filled, NonBlocking, Over};
 pub use socket_stream::SocketStream;
+pub use tools::{FILL_BYTES, SHARE, Tools};
+pub use waiting::{Awaited, Waiting};

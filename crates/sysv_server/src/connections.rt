@@ -1,35 +1,27 @@
-//! A server over any connections.
-ghost use Rattle.std.specs.Prelude.{◌≡◌, ◌≢◌, ◌≤◌, IfOk, IfErr, vec_len};
-ghost use Rattle.sysv_model.specs.declared.limits.TheConstants.{MIN_BLOCKS, MAX_BLOCKS};
-ghost use Rattle.sysv_workers.specs.declared.workers.TheConstants.{MAX_CROWD};
-ghost use Rattle.sysv_service.specs.Seats.{AreOf};
-ghost use Rattle.sysv_server.specs.Added.{IsBalanced};
-ghost use Rattle.sysv_server.specs.Headline.{ServesConnections};
-ghost use Rattle.sysv_server.specs.Serving.{FaultOf, HasLived, HiredFrom, LeavesConnections, WorkedFrom};
+//! A server over any connections that never wait.
 
 use crate::common::Common;
-use crate::connection::Connection;
-use crate::crew::{dismiss, hire};
+use crate::crew::{Left, dismiss, hire};
+use crate::dealing::Dealing;
 use crate::fault::ServeFault;
-use crate::laws::each_life_is_one_run;
-use crate::session::Sessions;
 use crate::sums::Sums;
 use crate::terms::{Ended, Patience};
+use crate::watch::{Rounds, Watch};
+use crate::worker::{Kit, Serving, Worker};
 use std::alloc::Global;
 use std::sync::Wait;
 use std::thread::Threads;
+use sysv_seats::NonBlocking;
 use sysv_service::{Pass, Service};
 use sysv_workers::{Source, WorkersFault, WorkersRefused, run_crowd};
 
 /// Serves the connections of a source on a new service, each as one session, and removes the queues
 /// that are left.
 ///
-/// There is a worker thread for each book. A worker opens a connection, runs its session, and
-/// closes it into its book. Each worker serves its connections in the order in which the source
-/// returned them, so a worker that is alone serves all of them in that order. `blocks` is the
-/// number of blocks in the pool. The server ends when the source has ended and the sessions of its
-/// connections are over. Every timestamp of its queues is 0. A session whose memory is refused is
-/// counted; nothing was read or written in it.
+/// There is a place for each book, which serves one connection after another and closes each into
+/// its book. `workers` workers share the places evenly. `blocks` is the number of blocks in the
+/// pool. The server ends when the source has ended and the sessions of its connections are over.
+/// Every timestamp of its queues is 0.
 ///
 /// # Errors
 ///
@@ -40,64 +32,67 @@ use sysv_workers::{Source, WorkersFault, WorkersRefused, run_crowd};
 /// # Conditions
 ///
 /// - `blocks` is 128 to 65,536.
-/// - There are 1 to 256 books.
-pub fn serve_connections<T: Connection + Drop + Send, S: Source<T>, R: Threads + Wait + Sync>(
+/// - `workers` is 1 to 16.
+/// - There are at least as many books as workers.
+pub fn serve_connections<
+    T: NonBlocking + Drop + Send,
+    S: Source<T>,
+    R: Threads + Wait + Sync,
+>(
     rt: &R,
     alloc: Global,
     source: &mut S,
     books: &mut Vec<T::Book>,
+    workers: u32,
     blocks: u32,
 ) -> Result<Ended, ServeFault>
 where
-    T::Input: Send,
-    T::Output: Send,
     T::Book: Send,
-    requires blocks { (MIN_BLOCKS ≤ blocks) × (blocks ≤ MAX_BLOCKS) }
-    requires workers { (1 ≤ vec_len books.old) × (vec_len books.old ≤ MAX_CROWD) }
-    ensures ok { IfOk result (λ ended. ServesConnections T.incoming T.outgoing T.closes S.gives
-        blocks source.old books.old.items ended source.new books.new.items) }
-    ensures balance { IfOk result (λ ended. IsBalanced ended.sums) }
-    ensures err { IfErr result (λ why. LeavesConnections T.incoming T.outgoing T.closes S.gives
-        (HasLived blocks) source.old books.old.items why source.new books.new.items) }
 {
-    let count = books.len() as u32;
-    let common = Common::new(count, Patience::UNBOUNDED, 0);
-    serve_all(rt, alloc, source, books, blocks, &common)
+    let (count, places) = (workers as usize, books.len());
+    let Some(common) = Common::open(alloc, count, places, Patience::UNBOUNDED, 0) else {
+        return Err(ServeFault::NoMemory);
+    };
+    let Ok(mut watches) = Vec::with_capacity(alloc, count) else {
+        return Err(ServeFault::NoMemory);
+    };
+    for _ in 0..count {
+        let Some(watch) = Rounds::open(alloc, places) else {
+            return Err(ServeFault::NoMemory);
+        };
+        watches.push_reserved(watch);
+    }
+    serve_all(rt, alloc, source, books, blocks, watches, &common)
 }
 
-/// Serves the connections of a source like `serve_connections`. The sessions share `common` with
-/// the source.
-pub(crate) fn serve_all<T: Connection + Drop + Send, S: Source<T>, R: Threads + Wait + Sync>(
+/// Serves the connections of a source like `serve_connections`, with a worker for each watch.
+pub(crate) fn serve_all<
+    T: NonBlocking + Drop + Send,
+    S: Source<T>,
+    W: Watch<T> + Drop + Send,
+    R: Threads + Wait + Sync,
+>(
     rt: &R,
     alloc: Global,
     source: &mut S,
     books: &mut Vec<T::Book>,
     blocks: u32,
+    watches: Vec<W>,
     common: &Common,
 ) -> Result<Ended, ServeFault>
 where
-    T::Input: Send,
-    T::Output: Send,
     T::Book: Send,
-    requires blocks { (MIN_BLOCKS ≤ blocks) × (blocks ≤ MAX_BLOCKS) }
-    requires workers { (1 ≤ vec_len books.old) × (vec_len books.old ≤ MAX_CROWD) }
-    ensures ok { IfOk result (λ ended. ServesConnections T.incoming T.outgoing T.closes S.gives
-        blocks source.old books.old.items ended source.new books.new.items) }
-    ensures balance { IfOk result (λ ended. IsBalanced ended.sums) }
-    ensures err { IfErr result (λ why. LeavesConnections T.incoming T.outgoing T.closes S.gives
-        (HasLived blocks) source.old books.old.items why source.new books.new.items) }
 {
     let Ok((service, mut pass)) = Service::open(alloc, blocks) else {
         return Err(ServeFault::NoMemory);
     };
-    let outcome = serve_with(rt, alloc, &service, &mut pass, source, books, common);
+    let outcome = serve_with(rt, alloc, &service, &mut pass, source, books, watches, common);
     let removed = service.stop(rt, &mut pass);
     let closed = service.close(pass);
-    each_life_is_one_run();
     match outcome {
-        Ok((sums, refused)) => Ok(Ended {
-            sums,
-            refused,
+        Ok(left) => Ok(Ended {
+            sums: left.sums,
+            refused: left.refused,
             removed,
             closed,
         }),
@@ -106,56 +101,118 @@ where
 }
 
 /// Serves the connections of a source on this service, and takes back the passes and the books of
-/// all workers. Returns the sums of the sessions, and the number of those whose memory was refused.
-fn serve_with<T: Connection + Drop + Send, S: Source<T>, R: Threads + Wait + Sync>(
+/// all places. Returns what the places leave.
+fn serve_with<
+    T: NonBlocking + Drop + Send,
+    S: Source<T>,
+    W: Watch<T> + Drop + Send,
+    R: Threads + Wait + Sync,
+>(
     rt: &R,
     alloc: Global,
     service: &Service,
     pass: &mut Pass,
     source: &mut S,
     books: &mut Vec<T::Book>,
+    watches: Vec<W>,
     common: &Common,
-) -> Result<(Sums, u64), ServeFault>
+) -> Result<Left, ServeFault>
 where
-    T::Input: Send,
-    T::Output: Send,
     T::Book: Send,
-    requires pass { AreOf service.now pass.old.seats }
-    requires count { (1 ≤ vec_len books.old) × (vec_len books.old ≤ MAX_CROWD) }
-    ensures pass { AreOf service.now pass.new.seats }
-    ensures ok { IfOk result (λ told. WorkedFrom T.incoming T.outgoing T.closes S.gives service.now
-        pass.old source.old books.old.items told.0 told.1 pass.new source.new books.new.items) }
-    ensures err { IfErr result (λ why. LeavesConnections T.incoming T.outgoing T.closes S.gives
-        (HiredFrom service.now pass.old pass.new) source.old books.old.items why source.new
-        books.new.items) }
 {
-    let Ok(mut workers) = Vec::with_capacity(alloc, books.len()) else {
+    let count = watches.len();
+    let Ok(told) = vec![in alloc; 1u64; count] else {
         return Err(ServeFault::NoMemory);
     };
-    hire(rt, alloc, service, pass, books, &mut workers);
-    let job = Sessions {
-        rt,
-        alloc,
-        service,
-        common,
+    let Some(kits) = kits(alloc, watches, books.len()) else {
+        return Err(ServeFault::NoMemory);
     };
-    match run_crowd(rt, alloc, workers, source, &job) {
-        Ok(workers) => Ok(dismiss(service, pass, workers, books)),
+    let Ok(mut workers) = Vec::with_capacity(alloc, count) else {
+        return Err(ServeFault::NoMemory);
+    };
+    if !hire_all(rt, alloc, service, pass, books, kits, &mut workers) {
+        dismiss_all(service, pass, workers, books);
+        return Err(ServeFault::NoMemory);
+    }
+    let job = Serving { rt, alloc, common };
+    let mut dealing = Dealing::new(source, common, told);
+    match run_crowd(rt, alloc, workers, &mut dealing, &job) {
+        Ok(workers) => Ok(dismiss_all(service, pass, workers, books)),
         Err(refused) => {
             let WorkersRefused { why, states } = refused;
-            dismiss(service, pass, states, books);
+            dismiss_all(service, pass, states, books);
             Err(fault(why))
         }
     }
 }
 
-/// Returns the server's fault for a refusal of the workers.
-fn fault(why: WorkersFault) -> ServeFault
-    requires { why ≢ WorkersFault.BadCount }
-    ensures { FaultOf why result }
+/// Allocates the tools of a worker for each watch, which share `places` places evenly. Returns
+/// `None` if memory is refused.
+fn kits<W: Drop>(alloc: Global, watches: Vec<W>, places: usize) -> Option<Vec<Kit<W>>> {
+    let mut watches = watches;
+    let count = watches.len();
+    let mut kits = Vec::with_capacity(alloc, count).ok()?;
+    let mut left = places;
+    while let Some(watch) = watches.pop() {
+        let share = left / (watches.len() + 1);
+        left -= share;
+        kits.push_reserved(Kit::open(alloc, share, watch)?);
+    }
+    Some(kits)
+}
+
+/// Adds a worker for each kit. Returns whether there was memory for all.
+fn hire_all<'a, T: NonBlocking, W, R: Wait>(
+    rt: &'a R,
+    alloc: Global,
+    service: &'a Service,
+    pass: &mut Pass,
+    books: &mut Vec<T::Book>,
+    kits: Vec<Kit<W>>,
+    workers: &mut Vec<Worker<'a, R, T, W>>,
+) -> bool
+where
+    W: Watch<T> + Drop,
 {
+    let mut kits = kits;
+    while let Some(kit) = kits.pop() {
+        let count = kit.places();
+        let Ok(mut places) = Vec::with_capacity(alloc, count) else {
+            return false;
+        };
+        hire(rt, alloc, service, pass, books, count, &mut places);
+        let number = workers.len();
+        workers.push_reserved(Worker::new(number, places, kit));
+    }
+    true
+}
+
+/// Takes back the passes and the books of all workers, and returns what their places leave.
+fn dismiss_all<T: NonBlocking, W, R: Wait>(
+    service: &Service,
+    pass: &mut Pass,
+    workers: Vec<Worker<'_, R, T, W>>,
+    books: &mut Vec<T::Book>,
+) -> Left
+where
+    W: Watch<T> + Drop,
+{
+    let mut workers = workers;
+    let mut left = Left {
+        sums: Sums::open(),
+        refused: 0,
+    };
+    while let Some(worker) = workers.pop() {
+        dismiss(service, pass, worker.into_places(), books, &mut left);
+    }
+    workers.destroy_empty();
+    left
+}
+
+/// Returns the server's fault for a refusal of the workers.
+fn fault(why: WorkersFault) -> ServeFault {
     match why {
-        WorkersFault::BadCount => unreachable!(),
+        WorkersFault::BadCount => ServeFault::Missed,
         WorkersFault::NoMemory => ServeFault::NoMemory,
         WorkersFault::Thread => ServeFault::Thread,
         WorkersFault::Worn => ServeFault::Worn,

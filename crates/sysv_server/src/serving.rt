@@ -11,15 +11,21 @@ use crate::common::Common;
 use crate::connections::serve_all;
 use crate::fault::ServeFault;
 use crate::host::{Host, Quiet, Reason};
-use crate::socket::empty_books;
 use crate::sums::Sums;
 use crate::terms::{Ended, Patience, Terms};
+use crate::watch::Polled;
 use std::alloc::Global;
 use std::io::Read;
 use std::os::fd::AsRawFd;
 use std::os::unix::net::{UnixListener, UnixStream};
+use std::net::Net;
 use std::sync::Wait;
 use std::thread::Threads;
+use sysv_seats::SocketStream;
+use sysv_workers::Source;
+
+/// The largest number of clients at once.
+pub const MAX_CLIENTS: u32 = 16_384;
 
 /// Serves the connections of `listener` on a new service, each as one session, and returns the sums
 /// of the sessions.
@@ -47,7 +53,7 @@ use std::thread::Threads;
 ///
 /// - `blocks` is 128 to 65,536.
 /// - `workers` is 1 to 16.
-pub fn serve_on<R: Threads + Wait + Sync>(
+pub fn serve_on<R: Threads + Wait + Net + Sync>(
     rt: &R,
     alloc: Global,
     listener: &UnixListener,
@@ -61,12 +67,19 @@ pub fn serve_on<R: Threads + Wait + Sync>(
     ensures balance { IfOk result IsBalanced }
     ensures err { IfErr result (FailsOn blocks workers) }
 {
-    let Some(mut books) = empty_books(alloc, workers) else {
+    let terms = Terms {
+        blocks,
+        workers,
+        at_once: MAX_CLIENTS,
+        sessions,
+        patience: Patience::UNBOUNDED,
+        drain: 0,
+    };
+    let Some(common) = common_of(alloc, &terms) else {
         return Err(ServeFault::NoMemory);
     };
-    let common = Common::new(workers, Patience::UNBOUNDED, 0);
     let mut source = lent(listener, sessions, &common);
-    match serve_all(rt, alloc, &mut source, &mut books, blocks, &common) {
+    match serve_sockets(rt, alloc, &mut source, &terms, &common) {
         Ok(ended) => Ok(ended.sums),
         Err(why) => Err(why),
     }
@@ -103,7 +116,7 @@ fn lent<'a>(
 ///
 /// - `terms.blocks` is 128 to 65,536.
 /// - `terms.at_once` is 1 to 256.
-pub fn serve_listener<I: Read + AsRawFd + Drop, H: Host + Drop, R: Threads + Wait + Sync>(
+pub fn serve_listener<I: Read + AsRawFd + Drop, H: Host + Drop, R: Threads + Wait + Net + Sync>(
     rt: &R,
     alloc: Global,
     host: H,
@@ -119,23 +132,47 @@ pub fn serve_listener<I: Read + AsRawFd + Drop, H: Host + Drop, R: Threads + Wai
     ensures balance { IfOk result (λ ended. IsBalanced ended.sums) }
     ensures err { IfErr result (FailsOn terms.blocks terms.at_once) }
 {
-    let Terms {
-        blocks,
-        at_once,
-        sessions,
-        patience,
-        drain,
-    } = terms;
     *reason = None;
-    let common = Common::new(at_once, patience, drain);
-    if !common.can_cut() {
-        return Err(ServeFault::NoMemory);
-    }
-    let Some(mut books) = empty_books(alloc, at_once) else {
+    let Some(common) = common_of(alloc, &terms) else {
         return Err(ServeFault::NoMemory);
     };
-    let mut source = Accepting::new(Listening::Unopened, input, sessions, &common, host);
-    let outcome = serve_all(rt, alloc, &mut source, &mut books, blocks, &common);
+    let (listening, sessions) = (Listening::Unopened, terms.sessions);
+    let mut source = Accepting::new(listening, input, sessions, &common, host);
+    let outcome = serve_sockets(rt, alloc, &mut source, &terms, &common);
     *reason = source.into_reason();
     outcome
+}
+
+/// Returns what the workers of a server on these terms share. Returns `None` if memory or a
+/// descriptor is refused.
+fn common_of(alloc: Global, terms: &Terms) -> Option<Common> {
+    let workers = terms.workers.min(terms.at_once) as usize;
+    let at_once = terms.at_once as usize;
+    Common::open(alloc, workers, at_once, terms.patience, terms.drain)
+}
+
+/// Serves the sockets of a source.
+fn serve_sockets<S: Source<SocketStream>, R: Threads + Wait + Net + Sync>(
+    rt: &R,
+    alloc: Global,
+    source: &mut S,
+    terms: &Terms,
+    common: &Common,
+) -> Result<Ended, ServeFault> {
+    let Ok(mut books) = vec![in alloc; (); terms.at_once as usize] else {
+        return Err(ServeFault::NoMemory);
+    };
+    let Some(watches) = watches(rt, alloc, common) else {
+        return Err(ServeFault::NoMemory);
+    };
+    serve_all(rt, alloc, source, &mut books, terms.blocks, watches, common)
+}
+
+/// Opens a watch for each worker. Returns `None` if memory or a descriptor is refused.
+fn watches(net: &impl Net, alloc: Global, common: &Common) -> Option<Vec<Polled>> {
+    let mut watches = Vec::with_capacity(alloc, common.workers()).ok()?;
+    for worker in 0..common.workers() {
+        watches.push_reserved(Polled::open(net, alloc, common.bell_of(worker))?);
+    }
+    Some(watches)
 }

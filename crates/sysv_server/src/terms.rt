@@ -9,7 +9,9 @@ use sysv_service::Closed;
 pub struct Terms {
     /// The number of blocks in the pool, 128 to 65,536.
     pub blocks: u32,
-    /// The maximum number of sessions that run at once, each in a thread of its own: 1 to 256.
+    /// The number of threads that serve clients, 1 to 16.
+    pub workers: u32,
+    /// The maximum number of clients at once, 1 to 16,384.
     pub at_once: u32,
     /// The number of connections to accept, 0 for no limit.
     pub sessions: u64,

@@ -4,6 +4,7 @@
 //! why it ends.
 #![tactic(auto)]
 
+mod conversation;
 mod kernel;
 mod laws;
 mod outbox;
@@ -11,6 +12,7 @@ mod served;
 mod session;
 mod turn;
 
+pub use conversation::Conversation;
 pub use kernel::{Kernel, RequestOutcome};
 pub use laws::{gathered_replies, numeral_of_requests};
 pub use outbox::Outbox;

@@ -130,12 +130,12 @@ Example:
         (
             "workers",
             Form::Value("W"),
-            "The number of sessions at once, 1 to 16",
+            "The number of threads that serve clients, 1 to 16 [default: 4]",
         ),
         (
             "at-once",
             Form::Value("N"),
-            "The number of sessions at once, 1 to 256 [default: 256]",
+            "The maximum number of clients at once, 1 to 16384 [default: as descriptors allow]",
         ),
         (
             "sessions",
@@ -163,10 +163,7 @@ Example:
             "Ends the sessions left this long after the last accept, 0 for never [default: 0]",
         ),
     ],
-    groups: &[Group {
-        of: &["workers", "at-once"],
-        required: false,
-    }],
+    groups: &[],
     usage: None,
 };
 

@@ -36,12 +36,12 @@ impl<R: Files + Net + Eprint + AllocGlobal + Clone + Drop> Host for Reporter<'_,
         let listener = listen_at(rt, &serving.file)?;
         let at_once = serving.terms.at_once;
         let room = room(rt.alloc(), at_once);
-        let sessions = if at_once == 1 { "session" } else { "sessions" };
+        let clients = if at_once == 1 { "client" } else { "clients" };
         let path = serving.file.path;
-        let _ = eprintln!(*rt; "sysvmsg: serving {path}, up to {at_once} {sessions} at once");
+        let _ = eprintln!(*rt; "sysvmsg: serving {path}, up to {at_once} {clients} at once");
         if room < at_once {
             let _ = eprintln!(*rt;
-                "sysvmsg: descriptors for {room} sessions at once: raise the limit of open files"
+                "sysvmsg: descriptors for {room} clients at once: raise the limit of open files"
             );
         }
         Ok(listener)
@@ -53,11 +53,6 @@ impl<R: Files + Net + Eprint + AllocGlobal + Clone + Drop> Host for Reporter<'_,
             Notice::Held(why) => complain(rt, "cannot accept, and tries again", &why, ""),
             Notice::Resumed => {
                 let _ = eprintln!(*rt; "sysvmsg: accepts again");
-            }
-            Notice::Busy { sessions, waiting } => {
-                let _ = eprintln!(*rt;
-                    "sysvmsg: no worker is free: sessions {sessions}, waiting {waiting}"
-                );
             }
             Notice::NoMemory => {
                 let _ = eprintln!(*rt; "sysvmsg: no memory for a session");
@@ -135,15 +130,16 @@ fn end<R: Print + Eprint + AllocGlobal, S: Write>(
 fn explain(rt: &impl Eprint, fault: ServeFault, terms: &Terms) {
     let Terms {
         blocks,
+        workers,
         at_once,
         ..
     } = *terms;
     let _ = match fault {
         ServeFault::NoMemory => {
-            eprintln!(rt; "sysvmsg: no memory for {blocks} blocks and {at_once} sessions")
+            eprintln!(rt; "sysvmsg: no memory for {blocks} blocks and {at_once} clients")
         }
         ServeFault::Thread => {
-            eprintln!(rt; "sysvmsg: cannot start {at_once} threads: the system refuses more")
+            eprintln!(rt; "sysvmsg: cannot start {workers} threads: the system refuses more")
         }
         ServeFault::Worn | ServeFault::Missed => eprintln!(rt; "sysvmsg: {fault}"),
     };

@@ -1,0 +1,97 @@
+//! What a call may have changed for calls that wait.
+
+use sysv_keys::slot_of_id;
+use sysv_session::RequestOutcome;
+use sysv_wire::{Ask, ReplyContent, Request};
+
+/// What a call may have changed for calls that wait.
+#[derive(Clone, Copy, PartialEq, Eq, Debug)]
+pub enum News {
+    /// A message of this type was placed on the queue of this slot.
+    Arrived {
+        /// The slot, below `sysv_keys::SLOTS`.
+        slot: usize,
+        /// The message's type.
+        mtype: i64,
+    },
+    /// A message of this type was taken from the queue of this slot.
+    Freed {
+        /// The slot, below `sysv_keys::SLOTS`.
+        slot: usize,
+        /// The message's type.
+        mtype: i64,
+    },
+    /// Blocks were returned to the pool.
+    Released,
+    /// The queue of this slot was removed, or its limits were set.
+    Changed {
+        /// The slot, below `sysv_keys::SLOTS`.
+        slot: usize,
+    },
+}
+
+/// What one call may have changed: at most two things.
+#[derive(Clone, Copy, PartialEq, Eq, Debug)]
+pub struct Told {
+    /// What it may have changed at a slot.
+    pub there: Option<News>,
+    /// Whether blocks may have been returned to the pool.
+    pub released: bool,
+}
+
+impl Told {
+    /// Returns what a call changes that waits. It may have reserved blocks and returned them.
+    pub(crate) fn by_wait(request: &Request) -> Told {
+        Told {
+            there: None,
+            released: matches!(request.ask, Ask::Snd { .. }),
+        }
+    }
+
+    /// Returns what a call changes that is over.
+    pub(crate) fn by_end(request: &Request, outcome: &RequestOutcome) -> Told {
+        Told {
+            there: there(request, outcome),
+            released: match request.ask {
+                Ask::Snd { .. } => !is_done(outcome),
+                Ask::Rcv { .. } | Ask::Rm { .. } => is_done(outcome),
+                _ => false,
+            },
+        }
+    }
+}
+
+/// Returns what the call may have changed at a slot.
+fn there(request: &Request, outcome: &RequestOutcome) -> Option<News> {
+    match request.ask {
+        Ask::Snd { id, mtype, .. } if is_done(outcome) => Some(News::Arrived {
+            slot: slot_of_id(id),
+            mtype,
+        }),
+        Ask::Rcv { id, .. } => freed(id, outcome),
+        Ask::Set { id, .. } | Ask::Rm { id } => Some(News::Changed {
+            slot: slot_of_id(id),
+        }),
+        _ => None,
+    }
+}
+
+/// Returns what a receive has changed.
+fn freed(id: i32, outcome: &RequestOutcome) -> Option<News> {
+    match outcome {
+        RequestOutcome::Got(delivery) => Some(News::Freed {
+            slot: slot_of_id(id),
+            mtype: delivery.mtype(),
+        }),
+        _ => None,
+    }
+}
+
+/// Returns whether the call did what was requested.
+fn is_done(outcome: &RequestOutcome) -> bool {
+    match outcome {
+        RequestOutcome::Reply(reply) => !matches!(reply.result, ReplyContent::Refused(_)),
+        RequestOutcome::Got(_) => true,
+        RequestOutcome::Left => false,
+    }
+}

@@ -1,0 +1,54 @@
+//! Calls that wait, as values.
+
+use sysv_keys::slot_of_id;
+use sysv_model::Selector;
+use sysv_service::{ReceiveWait, SendWait};
+
+/// A call that waits. It holds no blocks and no message, so a caller gives it up by dropping it.
+#[derive(Clone, Copy, PartialEq, Eq)]
+pub enum Waiting {
+    /// A `msgsnd` that waits for room in its queue or for blocks.
+    Send(SendWait),
+    /// A `msgrcv` that waits for a message.
+    Receive(ReceiveWait),
+}
+
+/// The count for which a call waits.
+#[derive(Clone, Copy, PartialEq, Eq, Debug)]
+pub enum Awaited {
+    /// The arrived count of a slot: the call waits for a message.
+    Arrived {
+        /// The slot, below `sysv_keys::SLOTS`.
+        slot: usize,
+    },
+    /// The freed count of a slot: the call waits for room in its queue.
+    Freed {
+        /// The slot, below `sysv_keys::SLOTS`.
+        slot: usize,
+    },
+    /// The released count of the pool: the call waits for blocks.
+    Released,
+}
+
+impl Waiting {
+    /// Returns the count for which the call waits.
+    pub fn awaits(&self) -> Awaited {
+        match *self {
+            Waiting::Send(SendWait::Room { send, .. }) => Awaited::Freed {
+                slot: slot_of_id(send.id),
+            },
+            Waiting::Send(SendWait::Blocks { .. }) => Awaited::Released,
+            Waiting::Receive(wait) => Awaited::Arrived {
+                slot: slot_of_id(wait.receive.id),
+            },
+        }
+    }
+
+    /// Returns which messages the call requests, or `None` if it is a send.
+    pub fn selector(&self) -> Option<Selector> {
+        match *self {
+            Waiting::Send(_) => None,
+            Waiting::Receive(wait) => Some(wait.receive.selector),
+        }
+    }
+}
