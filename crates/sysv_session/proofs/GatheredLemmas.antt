@@ -1,6 +1,6 @@
 -- What an outbox stands for, after each of its calls.
-use Rattle.std.proofs.Common.{◌≡◌, ℕ, ◌+◌, ◌-◌, ◌<◌, false, not, nat_le, List, [], ◌∷◌, ◌++◌}
-use Rattle.std.proofs.Common.{length, take, drop, map, refl, sym, ap, ap₂, ◌∙◌, arith, append_assoc, append-nil}
+use Rattle.std.proofs.Common.{◌≡◌, ℕ, ◌+◌, ◌-◌, ◌<◌, ◌≤◌, false, not, nat_le, List, [], ◌∷◌, ◌++◌}
+use Rattle.std.proofs.Common.{Option, length, take, drop, map, refl, sym, ap, ap₂, ◌∙◌, arith, append_assoc, append-nil}
 use Rattle.std.proofs.Common.{length-append, length-take-le, take-append-drop, zero-add}
 use Rattle.std.proofs.KnownBytes.{Appends-trans}
 use Rattle.std.proofs.lemmas.Bool.Decides.{nat_tests}
@@ -14,6 +14,7 @@ use Rattle.sysv_session.specs.Gathered.{GathersOn, GathersReply, all_bytes, mark
 use Rattle.sysv_session.specs.Gathered.{message_of, plain}
 use Rattle.sysv_session.specs.Outbox.{Mark, beyond, is_within, mark_at, nearer}
 use Rattle.sysv_session.specs.Outbox.{within}
+use Rattle.sysv_session.specs.Output.{BreaksOff}
 use Rattle.sysv_session.proofs.ListLemmas.{concat_more}
 use Rattle.sysv_session.proofs.OutboxLemmas.{beyond-add, each_once, within-add}
 use Rattle.sysv_wire.specs.declared.frame.Version.{Version}
@@ -156,3 +157,9 @@ breaks_off frames old new broken =
     ap concat broken.3 ∙ concat_more broken.0 broken.1 ∙ ap (λ l. done ++ l) part.1.1
     ∙ sym (append_assoc done part.0 part.1.0) in
     (done ++ part.0, (part.1.0, whole), Appends-trans old broken.2 new done part.0 broken.4 part.2)
+
+-- What was taken holds all frames but the last.
+pub breaks_off_far : (frames : List (List ℕ)) (old new : Option (List ℕ)) (broken : BreaksOff frames old new) →
+    length (concat broken.0) ≤ length (breaks_off frames old new broken).0
+unfolding breaks_off
+breaks_off_far frames old new broken = omega (arith, length-append (concat broken.0) broken.5.0)

@@ -5,3 +5,5 @@ pub mod LaterLemmas
 pub mod Courses
 pub mod OutboxLemmas
 pub mod GatheredLemmas
+pub mod UnderWayLemmas
+pub mod TogetherLemmas

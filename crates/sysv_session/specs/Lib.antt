@@ -11,3 +11,6 @@ pub mod Failing
 pub mod Outbox
 pub mod Gathered
 pub mod TakenUp
+pub mod Conversation
+pub mod UnderWay
+pub mod Together

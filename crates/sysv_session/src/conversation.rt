@@ -1,4 +1,14 @@
-//! A session under way whose replies are gathered.
+//! A session whose replies are gathered.
+ghost use Rattle.std.specs.Prelude.{◌≡◌, ◌≤◌, ◌<◌, ◌+◌, ◌-◌, ◌^◌, ◌==◌, [], None, false, length, IfErr, OnErr, OnOk};
+ghost use Rattle.sysv_model.specs.Watched.{stream_of, KeepsStream};
+ghost use Rattle.sysv_model.specs.declared.limits.TheConstants.{MESSAGE_BYTES};
+ghost use Rattle.sysv_queue.specs.Tally.{taken_in};
+ghost use Rattle.sysv_session.specs.Answers.{HasAnswer};
+ghost use Rattle.sysv_session.specs.Conversation.{HasRoom, Puts, gathered, report, sent_on};
+ghost use Rattle.sysv_session.specs.Failing.{ends_by_read, ends_by_write};
+ghost use Rattle.sysv_session.specs.Outbox.{with_frame};
+ghost use Rattle.sysv_session.specs.Output.{hello_frame};
+ghost use Rattle.sysv_session.specs.TakenUp.{TakesUp};
 
 use crate::kernel::RequestOutcome;
 use crate::outbox::Outbox;
@@ -7,10 +17,14 @@ use crate::session::{Session, TakenUp};
 use crate::turn::hello_reply;
 use std::alloc::{AllocFailed, Global};
 use std::io::Read;
-use sysv_model::{Body, Watched};
+use std::marker::Model;
+use sysv_model::{Body, NoMemory, Watched};
 use sysv_wire::Version;
 
 /// A session under way, and the replies that its connection has not taken yet.
+///
+/// It takes up requests from what has arrived of the input. Give `unsent` to the connection, and
+/// report with `sent` how many bytes it took.
 ///
 /// A conversation can be neither dropped nor copied. Spend it with `end`.
 pub struct Conversation {
@@ -18,56 +32,98 @@ pub struct Conversation {
     outbox: Outbox,
 }
 
+impl Model for Conversation {
+    ghost use Rattle.sysv_session.specs.Conversation.{Talk};
+
+    ghost Value = { Talk };
+
+    ghost view = { λ c. record { session = c.session; unsent = c.outbox } };
+}
+
 impl Conversation {
-    /// Creates a conversation in which nothing was read. Allocates nothing.
-    pub fn open(alloc: Global) -> Conversation {
+    /// Returns a conversation that has taken up nothing. Allocates nothing.
+    pub fn open(alloc: Global) -> Conversation
+        ensures caller { result.session.caller ≡ None }
+        ensures tally { result.session.tally ≡ record { written = 0; lost = 0 } }
+        ensures count { result.session.requests ≡ 0 }
+        ensures unsent { result.unsent ≡ record { bytes = []; marks = [] } }
+    {
         Conversation {
             session: Session::open(),
             outbox: Outbox::open(alloc),
         }
     }
 
-    /// Takes up what the input holds next, like `Session::take_up`.
+    /// Takes up what the input holds next, like `Session::take_up`. `text` is then the body of the
+    /// request.
     ///
     /// # Errors
     ///
-    /// - The errors of `Session::take_up`.
+    /// Those of `Session::take_up`. The conversation is unchanged.
     pub fn take_up<R: Read>(
         &mut self,
         reader: &mut Watched<'_, R>,
         text: &mut Body,
-    ) -> Result<TakenUp, End> {
+    ) -> Result<TakenUp, End>
+        ensures takes { TakesUp self.old.session self.new.session result
+            (R.remaining (stream_of reader.old)) (R.remaining (stream_of reader.new)) text.new }
+        ensures unsent { self.new.unsent ≡ self.old.unsent }
+        ensures reader { KeepsStream reader.old reader.new (ends_by_read result) }
+        ensures write { ends_by_write result ≡ false }
+    {
         self.session.take_up(reader, text)
     }
 
-    /// Gathers the reply to the hello.
+    /// Gathers the reply to a hello of this version. `text` is ignored.
     ///
     /// # Errors
     ///
-    /// - `NoMemory` if allocation fails. Nothing was gathered.
-    pub fn greet(&mut self, version: Version, slots: u32, given: &Body) -> Result<(), End> {
-        match self.outbox.put(&hello_reply(version, slots), given) {
+    /// - `NoMemory` if allocation fails. The conversation is unchanged.
+    ///
+    /// # Conditions
+    ///
+    /// - `text` has at most 8,192 bytes.
+    pub fn greet(&mut self, version: Version, slots: u32, text: &Body) -> Result<(), End>
+        requires text { length text.now ≤ MESSAGE_BYTES }
+        ensures ok { OnOk result
+            (self.new ≡ gathered (with_frame (hello_frame version slots)) self.old) }
+        ensures err { OnErr result (self.new ≡ self.old) }
+        ensures why { IfErr result (λ why. why ≡ End.NoMemory) }
+    {
+        let reply = hello_reply(version, slots);
+        match self.outbox.put(&reply, text) {
             Ok(()) => Ok(()),
-            Err(_) => Err(End::NoMemory),
+            Err(NoMemory) => Err(End::NoMemory),
         }
     }
 
-    /// Gathers the outcome of a request of this version.
+    /// Gathers the reply of a call's outcome in this version. `given` is its body.
     ///
     /// # Errors
     ///
-    /// - `Left` if the call was left. Nothing was gathered.
-    /// - `NoMemory` if allocation fails. Nothing was gathered, and a message counts as lost.
+    /// - `NoMemory` if allocation fails. No reply was gathered, and a message counts as lost.
+    /// - `Left` if the call was left. The conversation is unchanged.
+    ///
+    /// # Conditions
+    ///
+    /// - A reply in the outcome is one that its operation has in its version.
+    /// - `given` has at most 8,192 bytes.
+    /// - The tally can count one more message.
     pub fn put(
         &mut self,
         version: Version,
         outcome: RequestOutcome,
         given: &Body,
-    ) -> Result<(), End> {
+    ) -> Result<(), End>
+        requires reply { HasAnswer outcome }
+        requires text { length given.now ≤ MESSAGE_BYTES }
+        requires room { taken_in self.old.session.tally < 2 ^ 64 - 1 }
+        ensures { Puts result version outcome given.now self.old self.new }
+    {
         match outcome {
             RequestOutcome::Reply(reply) => match self.outbox.put(&reply, given) {
                 Ok(()) => Ok(()),
-                Err(_) => Err(End::NoMemory),
+                Err(NoMemory) => Err(End::NoMemory),
             },
             RequestOutcome::Got(delivery) => {
                 match self.outbox.put_message(version, delivery, given) {
@@ -82,29 +138,62 @@ impl Conversation {
         }
     }
 
-    /// Returns the bytes of the replies that the connection has not taken yet.
-    pub fn unsent(&self) -> &[u8] {
+    /// Returns the bytes that the connection has not taken yet.
+    pub fn unsent(&self) -> &[u8]
+        ensures { result.now ≡ self.now.unsent.bytes }
+    {
         self.outbox.unsent()
     }
 
-    /// Removes the first `n` bytes, which the connection has taken.
-    pub fn sent(&mut self, n: usize) {
+    /// Returns the number of bytes that the connection has not taken yet.
+    pub fn waiting_bytes(&self) -> usize
+        ensures { result ≡ length self.now.unsent.bytes }
+    {
+        self.outbox.unsent().len()
+    }
+
+    /// Returns whether the connection has taken all bytes.
+    pub fn is_empty(&self) -> bool
+        ensures { result ≡ (length self.now.unsent.bytes == 0) }
+    {
+        self.outbox.unsent().is_empty()
+    }
+
+    /// Removes the first `n` bytes, which the connection has taken, and counts as written each
+    /// message whose frame ends in them.
+    ///
+    /// # Conditions
+    ///
+    /// - There are at least `n` bytes.
+    /// - The tally can count one more message for each that is in the outbox.
+    pub fn sent(&mut self, n: usize)
+        requires some { n ≤ length self.old.unsent.bytes }
+        requires room { HasRoom self.old }
+        ensures { self.new ≡ sent_on n self.old }
+    {
         self.outbox.sent(n, &mut self.session.tally);
     }
 
-    /// Ends the conversation for this reason, or for `Write` if replies are left, and returns what
-    /// it did. The deliveries that are left are lost.
-    pub fn end(self, why: End) -> Served {
+    /// Ends the session for this reason, and returns what it did. Messages that the connection has
+    /// not taken whole count as lost. If it has not taken all bytes, the session ends with `Write`.
+    ///
+    /// # Conditions
+    ///
+    /// - The tally can count one more message for each that is in the outbox.
+    pub fn end(self, why: End) -> Served
+        requires room { HasRoom self }
+        ensures { result ≡ report why self }
+    {
         let Conversation {
             mut session,
             outbox,
         } = self;
-        let end = if outbox.unsent().is_empty() {
+        let why = if outbox.unsent().is_empty() {
             why
         } else {
             End::Write
         };
         outbox.end(&mut session.tally);
-        session.end(end)
+        session.end(why)
     }
 }

@@ -2,6 +2,9 @@
 ghost use Rattle.std.specs.Prelude.{◌≡◌, ◌-◌, ◌^◌};
 ghost use Rattle.sysv_session.specs.declared.served.TheConstants.{SESSION_REQUESTS};
 ghost use Rattle.sysv_session.specs.Gathered.{BreaksOffWithin, ClosesAll, GathersMessage, GathersNone, GathersOn, GathersReply};
+ghost use Rattle.sysv_session.specs.Together.{AreTogether};
+
+use crate::kernel::Kernel;
 
 /// States the maximum number of requests in a session.
 pub fn numeral_of_requests()
@@ -21,4 +24,10 @@ pub fn gathered_replies()
     ensures closed { ClosesAll }
     // The writer of a session that ended with `Write` has taken such a prefix too.
     ensures broken_off { BreaksOffWithin }
+{}
+
+/// States that a session of which the writer took one reply after another is one whose replies were
+/// gathered, if a writer that failed had not taken all of them.
+pub fn sessions_together<K: Kernel>()
+    ensures { AreTogether K.meaning }
 {}

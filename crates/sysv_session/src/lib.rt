@@ -14,7 +14,7 @@ mod turn;
 
 pub use conversation::Conversation;
 pub use kernel::{Kernel, RequestOutcome};
-pub use laws::{gathered_replies, numeral_of_requests};
+pub use laws::{gathered_replies, numeral_of_requests, sessions_together};
 pub use outbox::Outbox;
 pub use served::{End, Served};
 pub use session::{Session, TakenUp, Texts, serve, serve_watched, serve_with};

@@ -1,0 +1,385 @@
+-- Replies as they are gathered, and a session whose writer took one after another.
+use Rattle.std.proofs.Common.{◌≡◌, ◌≢◌, ℕ, ◌+◌, ◌-◌, ◌<◌, ◌≤◌, List, [], ◌∷◌, ◌++◌, length, take, map, Option, None, Some}
+use Rattle.std.proofs.Common.{cond, refl, sym, ap, ap₂, subst, ◌∙◌, arith, inl, inr, ◌⊎◌, append-nil, length-append}
+use Rattle.std.proofs.lemmas.Bool.Decides.{nat_tests}
+use Rattle.std.proofs.lemmas.List.{map-append, take_at}
+use Rattle.std.proofs.lemmas.List.Sums.{sum_by-cons}
+use Rattle.std.specs.Io.KnownBytes.{Appends}
+use Rattle.std.specs.List.{concat}
+use Rattle.sysv_queue.specs.Delivery.{Given}
+use Rattle.sysv_queue.specs.Tally.{Tallied}
+use Rattle.sysv_session.specs.declared.kernel.RequestOutcome.{RequestOutcome}
+use Rattle.sysv_session.specs.declared.kernel.RequestOutcome.TheVariants.{Reply, Got, Left as WasLeft}
+use Rattle.sysv_session.specs.declared.served.End.{End}
+use Rattle.sysv_session.specs.declared.served.End.TheVariants.{Ended, NoMemory, NoHello, Fault, Write, Bound, Left}
+use Rattle.sysv_session.specs.Answers.{IsReplied, is_message, message_reply, messages_in, outcome_spelling}
+use Rattle.sysv_session.specs.Calls.{Call, Meaning, messages_of}
+use Rattle.sysv_session.specs.Gathered.{Gathered, all_bytes, marks_at, marks_from, messages_among, messages_within}
+use Rattle.sysv_session.specs.Outbox.{within}
+use Rattle.sysv_session.specs.Output.{AreReplied, BreaksOff, frames_of, hello_frame}
+use Rattle.sysv_session.specs.Session.{Talks}
+use Rattle.sysv_session.specs.Together.{AreTogether, FailsEarly, IsStoppedWithin, Replied, StopsAfter, TalksTogether}
+use Rattle.sysv_session.specs.UnderWay.{greeting, replies_to, reply_for, reply_to}
+use Rattle.sysv_session.proofs.GatheredLemmas.{all_more, breaks_off, breaks_off_far, marks_more, within-append}
+use Rattle.sysv_session.proofs.ListLemmas.{all_but_last, concat_more, frames_more}
+use Rattle.sysv_wire.specs.declared.frame.Version.{Version}
+use Rattle.sysv_wire.specs.declared.reply.Reply.{Reply as Answer}
+use Rattle.sysv_wire.specs.Frames.{frame}
+use Rattle.sysv_wire.specs.Numbers.{u32_bytes}
+use Rattle.sysv_wire.specs.Replies.{reply_spelling}
+
+-- A reply has the bytes that are written for its outcome.
+pub reply_bytes : (version : Version) (outcome : RequestOutcome) (given : List ℕ) →
+    (reply_for version outcome given).frame ≡ outcome_spelling version outcome given
+reply_bytes version (Reply reply) given = refl
+reply_bytes version (Got delivery) given = refl
+reply_bytes version WasLeft given = refl
+
+pub calls_bytes : (calls : List Call) → all_bytes (map reply_to calls) ≡ concat (frames_of calls)
+calls_bytes [] = refl
+calls_bytes (call ∷ calls) =
+    ap₂ (λ (a b : List ℕ). a ++ b) (reply_bytes call.request.version call.outcome call.given) (calls_bytes calls)
+
+-- The frames of all replies are what a writer takes, one after another.
+pub replies_bytes : (version : Version) (slots : ℕ) (calls : List Call) →
+    all_bytes (replies_to version slots calls) ≡ concat (hello_frame version slots ∷ frames_of calls)
+replies_bytes version slots calls = ap (λ (l : List ℕ). hello_frame version slots ++ l) (calls_bytes calls)
+
+pub replies_more : (version : Version) (slots : ℕ) (calls : List Call) (call : Call) →
+    replies_to version slots (calls ++ call ∷ []) ≡ replies_to version slots calls ++ reply_to call ∷ []
+replies_more version slots calls call =
+    ap (λ (l : List Gathered). greeting version slots ∷ l) (map-append reply_to calls (call ∷ []))
+
+marks_in : (place : ℕ) (version : Version) (outcome : RequestOutcome) (given : List ℕ) →
+    length (marks_at place (reply_for version outcome given).message) ≡ messages_in outcome
+marks_in place version (Reply reply) given = refl
+marks_in place version (Got delivery) given = refl
+marks_in place version WasLeft given = refl
+
+calls_marks : (start : ℕ) (calls : List Call) → length (marks_from start (map reply_to calls)) ≡ messages_of calls
+calls_marks start [] = refl
+calls_marks start (call ∷ calls) =
+    let place = start + length (reply_to call).frame in
+    let more : messages_of (call ∷ calls) ≡ messages_in call.outcome + messages_of calls =
+    sum_by-cons (λ (c : Call). cond (is_message c.outcome) 1 0) call calls in
+    omega (
+      arith,
+      length-append (marks_at place (reply_to call).message) (marks_from place (map reply_to calls)),
+      marks_in place call.request.version call.outcome call.given,
+      calls_marks place calls,
+      more,
+    )
+
+-- The messages among the replies are those that the kernel returned.
+pub replies_messages : (version : Version) (slots : ℕ) (calls : List Call) →
+    messages_among (replies_to version slots calls) ≡ messages_of calls
+replies_messages version slots calls = calls_marks (0 + length (hello_frame version slots)) calls
+
+one_within : (n place : ℕ) (message : Option Given) → place ≤ n →
+    within n (marks_at place message) ≡ length (marks_at place message)
+one_within n place None le = refl
+one_within n place (Some given) le = grind (arith, nat_tests)
+
+one_beyond : (n place : ℕ) (message : Option Given) → n < place → within n (marks_at place message) ≡ 0
+one_beyond n place None lt = refl
+one_beyond n place (Some given) lt = grind (arith, nat_tests)
+
+-- All messages lie within the frames.
+pub all_within : (n start : ℕ) (replies : List Gathered) → start + length (all_bytes replies) ≤ n →
+    within n (marks_from start replies) ≡ length (marks_from start replies)
+all_within n start [] le = refl
+all_within n start (reply ∷ more) le =
+    let place = start + length reply.frame in
+    let long : length (all_bytes (reply ∷ more)) ≡ length reply.frame + length (all_bytes more) =
+    length-append reply.frame (all_bytes more) in
+    omega (
+      arith,
+      within-append n (marks_at place reply.message) (marks_from place more),
+      length-append (marks_at place reply.message) (marks_from place more),
+      one_within n place reply.message (omega (arith, le, long)),
+      all_within n place more (omega (arith, le, long)),
+    )
+
+-- Of all but the last reply the frames were taken whole, and of the last it was not.
+pub front_within : (n : ℕ) (front : List Gathered) (reply : Gathered) → length (all_bytes front) ≤ n →
+    n < length (all_bytes (front ++ reply ∷ [])) →
+    messages_within n (front ++ reply ∷ []) ≡ messages_among front
+front_within n front reply le lt =
+    let place = 0 + length (all_bytes (front ++ reply ∷ [])) in
+    omega (
+      arith,
+      ap (within n) (marks_more 0 front reply),
+      within-append n (marks_from 0 front) (marks_at place reply.message),
+      all_within n 0 front (omega (arith, le)),
+      one_beyond n place reply.message (omega (arith, lt)),
+    )
+
+-- A frame has bytes.
+some_bytes : (reply : Answer) (text : List ℕ) → 0 < length (reply_spelling reply text)
+unfolding frame u32_bytes
+some_bytes reply text = omega arith
+
+pub replied_bytes : (version : Version) (outcome : RequestOutcome) (given : List ℕ) → IsReplied outcome →
+    0 < length (outcome_spelling version outcome given)
+replied_bytes version (Reply reply) given replied = some_bytes reply given
+replied_bytes version (Got delivery) given replied = some_bytes (message_reply version delivery.mtype) given
+replied_bytes version WasLeft given replied = absurd replied
+
+pub hello_bytes : (version : Version) (slots : ℕ) → 0 < length (hello_frame version slots)
+hello_bytes version slots = some_bytes _ []
+
+-- A writer took the first frames whole, and not all of the last.
+pub record Broken (front : List (List ℕ)) (last : List ℕ) (old new : Option (List ℕ)) : Type 0 where
+  pub sent : List ℕ
+  pub rest : List ℕ
+  pub whole : concat (front ++ last ∷ []) ≡ sent ++ rest
+  pub some : 0 < length rest
+  pub far : length (concat front) ≤ length sent
+  pub writes : Appends old new sent
+
+known_rest : (front : List (List ℕ)) (last xs ys sent rest : List ℕ) → concat (front ++ last ∷ []) ≡ sent ++ rest →
+    ys ≡ xs ++ sent → Some ys ≢ Some (xs ++ concat (front ++ last ∷ [])) → 0 < length rest
+known_rest front last xs ys sent [] whole grown not_all =
+    absurd (not_all (ap Some (grown ∙ ap (λ (l : List ℕ). xs ++ l) (sym (whole ∙ append-nil sent)))))
+known_rest front last xs ys sent (byte ∷ rest) whole grown not_all = omega arith
+
+-- The frames before the last that the writer was given, and what it took of the last.
+module _ (front : List (List ℕ)) (last : List ℕ) (old new : Option (List ℕ))
+    (cut : BreaksOff (front ++ last ∷ []) old new) where
+  same_length : length cut.0 ≡ length front
+  same_length =
+      omega (
+        arith,
+        ap (length {A = List ℕ}) cut.3,
+        length-append front (last ∷ []),
+        length-append cut.0 (cut.1 ∷ []),
+      )
+
+  same_front : cut.0 ≡ front
+  same_front =
+      sym (take_at cut.0 (cut.1 ∷ []) (length front) same_length)
+      ∙ ap (take (length front)) (sym cut.3) ∙ take_at front (last ∷ []) (length front) refl
+
+  whole_last : concat (front ++ last ∷ []) ≡ concat front ++ cut.1
+  whole_last = ap concat cut.3 ∙ concat_more cut.0 cut.1 ∙ ap (λ (l : List (List ℕ)). concat l ++ cut.1) same_front
+
+  last_bytes : length cut.1 ≡ length last
+  last_bytes =
+      omega (
+        arith,
+        ap (length {A = ℕ}) whole_last,
+        ap (length {A = ℕ}) (concat_more front last),
+        length-append (concat front) cut.1,
+        length-append (concat front) last,
+      )
+
+  -- What the writer took, if it took this much.
+  took_part : (sent rest : List ℕ) → concat (front ++ last ∷ []) ≡ sent ++ rest → 0 < length rest →
+      length (concat cut.0) ≤ length sent → Appends old new sent → Broken front last old new
+  took_part sent rest whole some far writes = record {
+    sent = sent;
+    rest = rest;
+    whole = whole;
+    some = some;
+    far = omega (arith, far, ap (λ (l : List (List ℕ)). length (concat l)) same_front);
+    writes = writes;
+  }
+
+pub broken : (front : List (List ℕ)) (last : List ℕ) (old new : Option (List ℕ)) → 0 < length last →
+    ((before : List ℕ) → old ≡ Some before → new ≢ Some (before ++ concat (front ++ last ∷ []))) →
+    BreaksOff (front ++ last ∷ []) old new → Broken front last old new
+broken front last None new some not_all cut =
+    took_part front last None new cut (concat front) cut.1 (whole_last front last None new cut)
+    (omega (arith, some, last_bytes front last None new cut))
+    (omega (arith, ap (λ (l : List (List ℕ)). length (concat l)) (same_front front last None new cut))) tt
+broken front last (Some xs) None some not_all cut =
+    absurd (breaks_off (front ++ last ∷ []) (Some xs) None cut).2
+broken front last (Some xs) (Some ys) some not_all cut =
+    let took = breaks_off (front ++ last ∷ []) (Some xs) (Some ys) cut in
+    took_part front last (Some xs) (Some ys) cut took.0 took.1.0 took.1.1
+    (known_rest front last xs ys took.0 took.1.0 took.1.1 took.2 (not_all xs refl))
+    (breaks_off_far (front ++ last ∷ []) (Some xs) (Some ys) cut) took.2
+
+last_after : (call : Call) (calls : List Call) →
+    (calls ≡ []) ⊎ ((done : List Call) × (last : Call) × (calls ≡ done ++ last ∷ [])) →
+    (call ∷ calls ≡ []) ⊎ ((done : List Call) × (last : Call) × (call ∷ calls ≡ done ++ last ∷ []))
+last_after call calls (inl none) = inr ([], call, ap (λ (l : List Call). call ∷ l) none)
+last_after call calls (inr some) = inr (call ∷ some.0, some.1, ap (λ (l : List Call). call ∷ l) some.2)
+
+last_of : (calls : List Call) →
+    (calls ≡ []) ⊎ ((done : List Call) × (last : Call) × (calls ≡ done ++ last ∷ []))
+last_of [] = inl refl
+last_of (call ∷ calls) = last_after call calls (last_of calls)
+
+last_replied : (done : List Call) (last : Call) → AreReplied (done ++ last ∷ []) → IsReplied last.outcome
+last_replied [] last all = all.0
+last_replied (first ∷ done) last all = last_replied done last all.1
+
+module _ {K : Type 0} where
+  -- All was sent: the replies to the hello and to these calls.
+  whole : (Means : Meaning K) (slots : ℕ) (why : End) (tally : Tallied) (requests : ℕ) (old new : K)
+      (left rest taken more : Option (List ℕ))
+      (talks : Talks Means slots why tally requests old new left rest taken more) (done : List Call)
+      → StopsAfter talks.version why talks.unread rest → IsStoppedWithin why requests
+      → Replied why talks.version slots talks.calls (replies_to talks.version slots done)
+      → Appends taken more (concat (hello_frame talks.version slots ∷ frames_of done))
+      → tally.written ≡ messages_of done
+      → TalksTogether Means slots why tally requests old new left rest taken more
+  whole Means slots why tally requests old new left rest taken more talks done ends bounded replied writes written =
+      let replies = replies_to talks.version slots done in
+      record {
+        version = talks.version;
+        cred = talks.cred;
+        known = talks.known;
+        calls = talks.calls;
+        are_calls = talks.are_calls;
+        leads = talks.leads;
+        unread = talks.unread;
+        reads = talks.reads;
+        stopped = why;
+        ends = ends;
+        bounded = bounded;
+        replies = replies;
+        replied = replied;
+        sent = all_bytes replies;
+        prefix = ([], sym (append-nil (all_bytes replies)));
+        writes = subst (Appends taken more) (sym (replies_bytes talks.version slots done)) writes;
+        reports = inl (refl, refl);
+        all = talks.tallies.0;
+        written = omega (
+          arith,
+          written,
+          all_within (length (all_bytes replies)) 0 replies (omega arith),
+          replies_messages talks.version slots done,
+        );
+        counts = talks.counts;
+      }
+
+  -- The writer failed at the last reply.
+  failed : (Means : Meaning K) (slots : ℕ) (tally : Tallied) (requests : ℕ) (old new : K)
+      (left rest taken more : Option (List ℕ))
+      (talks : Talks Means slots Write tally requests old new left rest taken more) (front : List Gathered)
+      (last : Gathered) (before : List (List ℕ))
+      → replies_to talks.version slots talks.calls ≡ front ++ last ∷ []
+      → all_bytes (front ++ last ∷ []) ≡ concat (before ++ last.frame ∷ []) → all_bytes front ≡ concat before
+      → tally.written ≡ messages_among front → Broken before last.frame taken more
+      → TalksTogether Means slots Write tally requests old new left rest taken more
+  failed Means slots tally requests old new left rest taken more talks front last before are bytes first written cut =
+      let replies = replies_to talks.version slots talks.calls in
+      let all : all_bytes replies ≡ cut.sent ++ cut.rest = ap all_bytes are ∙ bytes ∙ cut.whole in
+      let long : length (all_bytes (front ++ last ∷ [])) ≡ length cut.sent + length cut.rest =
+      ap (length {A = ℕ}) (bytes ∙ cut.whole) ∙ length-append cut.sent cut.rest in
+      record {
+        version = talks.version;
+        cred = talks.cred;
+        known = talks.known;
+        calls = talks.calls;
+        are_calls = talks.are_calls;
+        leads = talks.leads;
+        unread = talks.unread;
+        reads = talks.reads;
+        stopped = Write;
+        ends = talks.ends;
+        bounded = tt;
+        replies = replies;
+        replied = (talks.replies, refl);
+        sent = cut.sent;
+        prefix = (cut.rest, all);
+        writes = cut.writes;
+        reports = inr (
+          refl,
+          λ same. absurd (omega (
+            arith,
+            cut.some,
+            ap (length {A = ℕ}) (same ∙ all),
+            length-append cut.sent cut.rest,
+          )),
+        );
+        all = talks.tallies.0;
+        written = omega (
+          arith,
+          written,
+          ap (messages_within (length cut.sent)) are,
+          front_within (length cut.sent) front last
+              (omega (arith, cut.far, ap (length {A = ℕ}) first)) (omega (arith, cut.some, long)),
+        );
+        counts = talks.counts;
+      }
+
+  fails : (Means : Meaning K) (slots : ℕ) (tally : Tallied) (requests : ℕ) (old new : K)
+      (left rest taken more : Option (List ℕ))
+      (talks : Talks Means slots Write tally requests old new left rest taken more)
+      → FailsEarly Write (hello_frame talks.version slots ∷ frames_of talks.calls) taken more
+      → (talks.calls ≡ []) ⊎ ((done : List Call) × (last : Call) × (talks.calls ≡ done ++ last ∷ []))
+      → TalksTogether Means slots Write tally requests old new left rest taken more
+  fails Means slots tally requests old new left rest taken more talks early (inl none) =
+      failed Means slots tally requests old new left rest taken more talks [] (greeting talks.version slots) []
+      (rw none refl) (replies_bytes talks.version slots []) refl
+      (talks.tallies.1 ∙ rw none refl)
+      (broken [] (hello_frame talks.version slots) taken more (hello_bytes talks.version slots)
+      (rw none at early refl) (rw none at talks.writes))
+  fails Means slots tally requests old new left rest taken more talks early (inr some) =
+      let version = talks.version in
+      let done = some.0 in
+      let last = some.1 in
+      let frame = outcome_spelling last.request.version last.outcome last.given in
+      let before = hello_frame version slots ∷ frames_of done in
+      let same : (reply_to last).frame ≡ frame = reply_bytes last.request.version last.outcome last.given in
+      let frames : hello_frame version slots ∷ frames_of talks.calls ≡ before ++ frame ∷ [] =
+      ap (λ (l : List Call). hello_frame version slots ∷ frames_of l) some.2
+      ∙ ap (λ (l : List (List ℕ)). hello_frame version slots ∷ l) (frames_more done last) in
+      let cut : Broken before frame taken more =
+      broken before frame taken more
+      (replied_bytes last.request.version last.outcome last.given
+      (last_replied done last (subst AreReplied some.2 talks.replies)))
+      (subst (λ (l : List (List ℕ)). (known : List ℕ) → taken ≡ Some known → more ≢ Some (known ++ concat l)) frames
+      (early refl))
+      (subst (λ (l : List (List ℕ)). BreaksOff l taken more) frames talks.writes) in
+      failed Means slots tally requests old new left rest taken more talks (replies_to version slots done)
+      (reply_to last) before (ap (replies_to version slots) some.2 ∙ replies_more version slots done last)
+      (all_more (replies_to version slots done) (reply_to last)
+      ∙ ap (λ (l : List ℕ). l ++ (reply_to last).frame) (replies_bytes version slots done)
+      ∙ sym (concat_more before (reply_to last).frame))
+      (replies_bytes version slots done)
+      (talks.tallies.1 ∙ ap (λ (l : List Call). messages_of (take (length l - 1) l)) some.2
+      ∙ ap messages_of (all_but_last done last) ∙ sym (replies_messages version slots done))
+      (subst (λ (l : List ℕ). Broken before l taken more) (sym same) cut)
+
+  -- The last call was left.
+  leaves : (Means : Meaning K) (slots : ℕ) (tally : Tallied) (requests : ℕ) (old new : K)
+      (left rest taken more : Option (List ℕ))
+      (talks : Talks Means slots Left tally requests old new left rest taken more)
+      → TalksTogether Means slots Left tally requests old new left rest taken more
+  leaves Means slots tally requests old new left rest taken more talks =
+      let version = talks.version in
+      let done = talks.replies.0 in
+      let last = talks.replies.1 in
+      let is : talks.calls ≡ done ++ last ∷ [] = talks.replies.2 in
+      let none : outcome_spelling last.request.version last.outcome last.given ≡ [] =
+      ap (λ (o : RequestOutcome). outcome_spelling last.request.version o last.given) talks.replies.4 in
+      let frames : concat (frames_of talks.calls) ≡ concat (frames_of done) =
+      ap (λ (l : List Call). concat (frames_of l)) is ∙ ap concat (frames_more done last)
+      ∙ concat_more (frames_of done) (outcome_spelling last.request.version last.outcome last.given)
+      ∙ ap (λ (l : List ℕ). concat (frames_of done) ++ l) none ∙ append-nil (concat (frames_of done)) in
+      whole Means slots Left tally requests old new left rest taken more talks done talks.ends tt
+      (done, last, is, talks.replies.4, (talks.replies.3, refl))
+      (subst (λ (l : List ℕ). Appends taken more (hello_frame version slots ++ l)) frames talks.writes)
+      (talks.tallies.1 ∙ ap (λ (l : List Call). messages_of (take (length l - 1) l)) is
+      ∙ ap messages_of (all_but_last done last))
+
+  pub together : (Means : Meaning K) → AreTogether Means
+  together Means slots Ended tally requests old new left rest taken more talks early =
+      whole Means slots Ended tally requests old new left rest taken more talks talks.calls talks.ends talks.bounded
+      (talks.replies, refl) talks.writes talks.tallies.1
+  together Means slots NoMemory tally requests old new left rest taken more talks early = absurd talks.ends
+  together Means slots NoHello tally requests old new left rest taken more talks early = absurd talks.ends
+  together Means slots (Fault fault) tally requests old new left rest taken more talks early =
+      whole Means slots (Fault fault) tally requests old new left rest taken more talks talks.calls talks.ends
+      talks.bounded (talks.replies, refl) talks.writes talks.tallies.1
+  together Means slots Write tally requests old new left rest taken more talks early =
+      fails Means slots tally requests old new left rest taken more talks early (last_of talks.calls)
+  together Means slots Bound tally requests old new left rest taken more talks early =
+      whole Means slots Bound tally requests old new left rest taken more talks talks.calls talks.ends talks.bounded
+      (talks.replies, refl) talks.writes talks.tallies.1
+  together Means slots Left tally requests old new left rest taken more talks early =
+      leaves Means slots tally requests old new left rest taken more talks

@@ -1,0 +1,76 @@
+-- A session under way and the replies that its connection has not taken (this project's profile).
+use Rattle.std.specs.Prelude.{◌≡◌, ◌+◌, ◌<◌, ◌^◌, ⊤, ℕ, List, [], ◌∷◌, Result, Ok, Err, length}
+use Rattle.sysv_queue.specs.Tally.{Tallied, taken_in}
+use Rattle.sysv_session.specs.declared.kernel.RequestOutcome.{RequestOutcome}
+use Rattle.sysv_session.specs.declared.kernel.RequestOutcome.TheVariants.{Reply, Got, Left as WasLeft}
+use Rattle.sysv_session.specs.declared.served.End.{End}
+use Rattle.sysv_session.specs.declared.served.End.TheVariants.{Ended, NoMemory, NoHello, Fault, Write, Bound, Left}
+use Rattle.sysv_session.specs.declared.served.Served.{Served}
+use Rattle.sysv_session.specs.declared.session.Session.{Session}
+use Rattle.sysv_session.specs.Answers.{IsReplied}
+use Rattle.sysv_session.specs.Gathered.{message_frame}
+use Rattle.sysv_session.specs.Outbox.{Unsent, more_lost, more_written, with_frame, with_message, within, without}
+use Rattle.sysv_session.specs.Turn.{one_lost}
+use Rattle.sysv_wire.specs.declared.frame.Version.{Version}
+use Rattle.sysv_wire.specs.Replies.{reply_spelling}
+
+-- What the contracts see of a conversation.
+pub record Talk : Type 0 where
+  pub session : Session
+  pub unsent : Unsent
+
+-- The session with this tally.
+abbrev pub tallied : Tallied → Session → Session
+tallied tally session = record { caller = session.caller; tally = tally; requests = session.requests }
+
+-- One more reply is gathered.
+abbrev pub gathered : (Unsent → Unsent) → Talk → Talk
+gathered add talk = record { session = talk.session; unsent = add talk.unsent }
+
+-- The outbox with the reply of an outcome in this version. A call that was left has none.
+abbrev pub with_outcome : Version → RequestOutcome → List ℕ → Unsent → Unsent
+with_outcome version (Reply reply) given box = with_frame (reply_spelling reply given) box
+with_outcome version (Got delivery) given box = with_message (message_frame version delivery given) delivery box
+with_outcome version WasLeft given box = box
+
+-- The message of an outcome whose reply could not be gathered is lost.
+abbrev pub lost_outcome : RequestOutcome → Talk → Talk
+lost_outcome outcome talk =
+    record { session = tallied (one_lost outcome talk.session.tally) talk.session; unsent = talk.unsent }
+
+-- The connection has taken n bytes more.
+abbrev pub sent_on : ℕ → Talk → Talk
+sent_on n talk = record {
+  session = tallied (more_written (within n talk.unsent.marks) talk.session.tally) talk.session;
+  unsent = without n talk.unsent;
+}
+
+-- Why a session ends whose replies were all sent, or were not.
+abbrev pub reported : End → List ℕ → End
+reported why [] = why
+reported why (byte ∷ more) = Write
+
+-- What a session reports that ends for this reason. The messages in its outbox are lost.
+abbrev pub report : End → Talk → Served
+report why talk = record {
+  «end» = reported why talk.unsent.bytes;
+  tally = more_lost (length talk.unsent.marks) talk.session.tally;
+  requests = talk.session.requests;
+}
+
+-- The outcome has a reply, which was gathered; or memory was refused for it, and a message in it is
+-- lost; or the call was left, and nothing happened.
+abbrev pub Puts : Result ⊤ End → Version → RequestOutcome → List ℕ → (old new : Talk) → Type 0
+Puts (Ok done) version outcome given old new =
+    IsReplied outcome × (new ≡ gathered (with_outcome version outcome given) old)
+Puts (Err NoMemory) version outcome given old new = IsReplied outcome × (new ≡ lost_outcome outcome old)
+Puts (Err Left) version outcome given old new = (outcome ≡ WasLeft) × (new ≡ old)
+Puts (Err Ended) version outcome given old new = ⊥
+Puts (Err NoHello) version outcome given old new = ⊥
+Puts (Err (Fault fault)) version outcome given old new = ⊥
+Puts (Err Write) version outcome given old new = ⊥
+Puts (Err Bound) version outcome given old new = ⊥
+
+-- The tally can count one more message for each delivery in the outbox.
+abbrev pub HasRoom : Talk → Type 0
+HasRoom talk = taken_in talk.session.tally + length talk.unsent.marks < 2 ^ 64
