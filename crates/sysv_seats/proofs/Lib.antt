@@ -1,1 +1,3 @@
 pub mod Sessions
+pub mod PieceAnswers
+pub mod SendFrame

@@ -3,6 +3,8 @@ pub mod Replies
 pub mod Requests
 pub mod Asked
 pub mod KernelHandles
+pub mod Parked
+pub mod InPieces
 pub mod Untold
 pub mod Memory
 pub mod NonBlocking

@@ -3,7 +3,7 @@
 use crate::kernel::ServiceKernel;
 use crate::news::Told;
 use crate::non_blocking::{Drained, Filled, NonBlocking, Over};
-use crate::text::snd_text;
+use crate::snd_text::snd_text;
 use crate::tools::{SHARE, Tools};
 use crate::waiting::Waiting;
 use std::alloc::Global;

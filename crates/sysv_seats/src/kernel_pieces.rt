@@ -1,5 +1,11 @@
 //! The calls of a kernel in pieces.
 
+ghost use Rattle.std.specs.Prelude.{◌≡◌, ◌≢◌, ◌≤◌, ℕ, List, [], length};
+ghost use Rattle.sysv_model.specs.declared.limits.TheConstants.{MESSAGE_BYTES};
+ghost use Rattle.sysv_service.specs.Ran.{Pass as Seen};
+ghost use Rattle.sysv_wire.specs.Requests.{op_of};
+ghost use Rattle.sysv_seats.specs.Parked.{GoesOn, HasBegun, IsParked, IsWaitOf, MayProgress, receive_progress, send_progress};
+
 use crate::kernel::{ServiceKernel, reply};
 use crate::waiting::Waiting;
 use std::sync::Wait;
@@ -10,6 +16,7 @@ use sysv_session::{Kernel, RequestOutcome};
 use sysv_wire::{Ask, Op, ReplyContent, Request, Version};
 
 impl<'a, C: Clock, R: Wait, K: Caller + Copy> ServiceKernel<'a, C, R, K> {
+    ghost use Rattle.sysv_seats.specs.KernelHandles.{KeepsHandles};
 
     /// Begins a request. A send and a receive make their steps until they wait or are over, and
     /// never sleep until a count changes. Any other request is carried out as by `call`.
@@ -28,7 +35,14 @@ impl<'a, C: Clock, R: Wait, K: Caller + Copy> ServiceKernel<'a, C, R, K> {
         request: &Request,
         text: &Body,
         given: &mut Body,
-    ) -> Progress<Waiting, RequestOutcome> {
+    ) -> Progress<Waiting, RequestOutcome>
+        requires asked { op_of request.now.ask ≢ Op.Hello }
+        requires empty { given.old ≡ [] }
+        ensures begun { HasBegun (C.may self.old.clock.now) request.now.version cred request.now.ask
+            text.now self.old.pass result given.new self.new.pass }
+        ensures answer { MayProgress request.now.version request.now.ask result given.new }
+        ensures handles { KeepsHandles self.old self.new }
+    {
         let version = request.version;
         match request.ask {
             Ask::Snd { id, mtype, flags } => self.begin_send(version, cred, id, mtype, flags, text),
@@ -51,7 +65,12 @@ impl<'a, C: Clock, R: Wait, K: Caller + Copy> ServiceKernel<'a, C, R, K> {
         mtype: i64,
         flags: Flags,
         text: &Body,
-    ) -> Progress<Waiting, RequestOutcome> {
+    ) -> Progress<Waiting, RequestOutcome>
+        ensures begun { HasBegun (C.may self.old.clock.now) version cred (Ask.Snd id mtype flags)
+            text.now self.old.pass result [] self.new.pass }
+        ensures answer { MayProgress version (Ask.Snd id mtype flags) result [] }
+        ensures handles { KeepsHandles self.old self.new }
+    {
         let pass = &mut self.pass;
         let came = self
             .service
@@ -69,7 +88,12 @@ impl<'a, C: Clock, R: Wait, K: Caller + Copy> ServiceKernel<'a, C, R, K> {
         mtype: i64,
         flags: Flags,
         given: &mut Body,
-    ) -> Progress<Waiting, RequestOutcome> {
+    ) -> Progress<Waiting, RequestOutcome>
+        ensures begun { (text : List ℕ) → HasBegun (C.may self.old.clock.now) version cred
+            (Ask.Rcv id size mtype flags) text self.old.pass result given.new self.new.pass }
+        ensures answer { MayProgress version (Ask.Rcv id size mtype flags) result given.new }
+        ensures handles { KeepsHandles self.old self.new }
+    {
         let pass = &mut self.pass;
         let came = self.service.msgrcv_begin(
             self.rt, pass, self.clock, cred, id, given, size, mtype, flags,
@@ -94,7 +118,21 @@ impl<'a, C: Clock, R: Wait, K: Caller + Copy> ServiceKernel<'a, C, R, K> {
         text: &Body,
         given: &mut Body,
         waiting: Waiting,
-    ) -> Progress<Waiting, RequestOutcome> {
+    ) -> Progress<Waiting, RequestOutcome>
+        requires kind { IsWaitOf request.now.ask waiting }
+        requires short { length text.now ≤ MESSAGE_BYTES }
+        requires empty { given.old ≡ [] }
+        ensures begun { (start : Seen) (cred : Cred) →
+            IsParked (C.may self.old.clock.now) cred request.now.ask text.now start waiting
+            self.old.pass →
+            HasBegun (C.may self.old.clock.now) request.now.version cred request.now.ask text.now
+            start result given.new self.new.pass }
+        // The count is read in each case.
+        ensures looks { GoesOn (C.may self.old.clock.now) request.now.version waiting text.now
+            self.old.pass result given.new self.new.pass }
+        ensures answer { MayProgress request.now.version request.now.ask result given.new }
+        ensures handles { KeepsHandles self.old self.new }
+    {
         match waiting {
             Waiting::Send(wait) => self.send_on(request.version, text, wait),
             Waiting::Receive(wait) => self.receive_on(request.version, given, wait),
@@ -107,7 +145,12 @@ impl<'a, C: Clock, R: Wait, K: Caller + Copy> ServiceKernel<'a, C, R, K> {
         version: Version,
         text: &Body,
         wait: SendWait,
-    ) -> Progress<Waiting, RequestOutcome> {
+    ) -> Progress<Waiting, RequestOutcome>
+        requires { length text.now ≤ MESSAGE_BYTES }
+        ensures looks { GoesOn (C.may self.old.clock.now) version (Waiting.Send wait) text.now
+            self.old.pass result [] self.new.pass }
+        ensures handles { KeepsHandles self.old self.new }
+    {
         let pass = &mut self.pass;
         let Some(send) = self.service.msgsnd_look(pass, &wait) else {
             return Progress::Waits(Waiting::Send(wait));
@@ -124,7 +167,12 @@ impl<'a, C: Clock, R: Wait, K: Caller + Copy> ServiceKernel<'a, C, R, K> {
         version: Version,
         given: &mut Body,
         wait: ReceiveWait,
-    ) -> Progress<Waiting, RequestOutcome> {
+    ) -> Progress<Waiting, RequestOutcome>
+        requires { given.old ≡ [] }
+        ensures looks { (text : List ℕ) → GoesOn (C.may self.old.clock.now) version
+            (Waiting.Receive wait) text self.old.pass result given.new self.new.pass }
+        ensures handles { KeepsHandles self.old self.new }
+    {
         let pass = &mut self.pass;
         let Some(receive) = self.service.msgrcv_look(pass, &wait) else {
             return Progress::Waits(Waiting::Receive(wait));
@@ -140,7 +188,9 @@ impl<'a, C: Clock, R: Wait, K: Caller + Copy> ServiceKernel<'a, C, R, K> {
 fn send_came(
     version: Version,
     came: Progress<SendWait, Result<(), Errno>>,
-) -> Progress<Waiting, RequestOutcome> {
+) -> Progress<Waiting, RequestOutcome>
+    ensures { result ≡ send_progress version came }
+{
     match came {
         Progress::Waits(wait) => Progress::Waits(Waiting::Send(wait)),
         Progress::Over(Ok(())) => Progress::Over(reply(version, Op::Snd, ReplyContent::Snd)),
@@ -154,7 +204,9 @@ fn send_came(
 fn receive_came(
     version: Version,
     came: Progress<ReceiveWait, Result<Delivery, Errno>>,
-) -> Progress<Waiting, RequestOutcome> {
+) -> Progress<Waiting, RequestOutcome>
+    ensures { result ≡ receive_progress version came }
+{
     match came {
         Progress::Waits(wait) => Progress::Waits(Waiting::Receive(wait)),
         Progress::Over(Ok(delivery)) => Progress::Over(RequestOutcome::Got(delivery)),

@@ -12,8 +12,8 @@ mod kernel_pieces;
 mod memory_stream;
 mod news;
 mod non_blocking;
+mod snd_text;
 mod socket_stream;
-mod text;
 mod tools;
 mod waiting;
 
@@ -23,6 +23,7 @@ pub use kernel::ServiceKernel;
 pub use memory_stream::{MemoryStream, Step};
 pub use news::News;
 pub use non_blocking::{Drained, Filled, NonBlocking, Over};
+pub use snd_text::snd_text;
 pub use socket_stream::SocketStream;
 pub use tools::{FILL_BYTES, SHARE, Tools};
 pub use waiting::{Awaited, Waiting};

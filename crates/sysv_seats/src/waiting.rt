@@ -1,5 +1,10 @@
 //! Calls that wait, as values.
 
+ghost use Rattle.std.specs.Prelude.{◌≡◌, ◌<◌, List, ℕ};
+ghost use Rattle.sysv_keys.specs.declared.identifier.TheConstants.{SLOTS};
+ghost use Rattle.sysv_steps.specs.Resume.{awaited};
+ghost use Rattle.sysv_seats.specs.Parked.{awaited_count, selector_in, wait_in, IsWithinSlots};
+
 use sysv_keys::slot_of_id;
 use sysv_model::Selector;
 use sysv_service::{ReceiveWait, SendWait};
@@ -32,7 +37,10 @@ pub enum Awaited {
 
 impl Waiting {
     /// Returns the count for which the call waits.
-    pub fn awaits(&self) -> Awaited {
+    pub fn awaits(&self) -> Awaited
+        ensures count { (text : List ℕ) → awaited_count result ≡ awaited (wait_in self.now text) }
+        ensures within { IsWithinSlots result }
+    {
         match *self {
             Waiting::Send(SendWait::Room { send, .. }) => Awaited::Freed {
                 slot: slot_of_id(send.id),
@@ -45,7 +53,9 @@ impl Waiting {
     }
 
     /// Returns which messages the call requests, or `None` if it is a send.
-    pub fn selector(&self) -> Option<Selector> {
+    pub fn selector(&self) -> Option<Selector>
+        ensures { result ≡ selector_in self.now }
+    {
         match *self {
             Waiting::Send(_) => None,
             Waiting::Receive(wait) => Some(wait.receive.selector),
