@@ -202,7 +202,7 @@ impl<T: NonBlocking> Client<T> {
     ) {
         match self.connection.fill(&mut tools.arrived) {
             Filled::Bytes(count) => {
-                self.ready = count == tools.arrived.len();
+                self.ready = self.left || count == tools.arrived.len();
                 self.arrive(alloc, count, kernel, tools);
             }
             Filled::NothingNow => self.ready = false,
@@ -350,7 +350,9 @@ impl<T: NonBlocking> Client<T> {
                 length
             }
             Progress::Waits(waiting) => {
-                tools.tell(Told::by_wait(&request));
+                if self.waiting() != Some(waiting) {
+                    tools.tell(Told::by_wait(&waiting));
+                }
                 self.parked = Some(Parked {
                     request,
                     cred,

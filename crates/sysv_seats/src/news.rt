@@ -1,6 +1,8 @@
 //! What a call may have changed for calls that wait.
 
+use crate::waiting::Waiting;
 use sysv_keys::slot_of_id;
+use sysv_service::SendWait;
 use sysv_session::RequestOutcome;
 use sysv_wire::{Ask, ReplyContent, Request};
 
@@ -40,11 +42,12 @@ pub struct Told {
 }
 
 impl Told {
-    /// Returns what a call changes that waits. It may have reserved blocks and returned them.
-    pub(crate) fn by_wait(request: &Request) -> Told {
+    /// Returns what a call changes that has come to this wait. A send that waits for room may have
+    /// reserved blocks and returned them.
+    pub(crate) fn by_wait(waiting: &Waiting) -> Told {
         Told {
             there: None,
-            released: matches!(request.ask, Ask::Snd { .. }),
+            released: matches!(waiting, Waiting::Send(SendWait::Room { .. })),
         }
     }
 
