@@ -1,6 +1,7 @@
 //! The places of a server: each serves one client after another.
 
 use crate::lines::Key;
+use crate::moment::Moment;
 use crate::sums::Sums;
 use crate::terms::Patience;
 use crate::times::Times;
@@ -201,14 +202,20 @@ impl<'a, R: Wait, T: NonBlocking> Place<'a, R, T> {
         }
     }
 
-    /// Returns when the client's time is over. Called after each event.
-    pub(crate) fn limit(&mut self, patience: Patience) -> Option<crate::moment::Moment> {
+    /// Takes note of how long the client may take after an event. Returns when its time is over.
+    pub(crate) fn set_time(&mut self, patience: Patience) -> Option<Moment> {
         let client = self.client.as_ref()?;
         self.times.note(client, patience)
     }
 
     /// Returns when the client's time is over.
-    pub(crate) fn due(&self) -> Option<crate::moment::Moment> {
+    pub(crate) fn due(&self) -> Option<Moment> {
+        self.client.as_ref()?;
         self.times.due()
+    }
+
+    /// Returns whether the client's time is over.
+    pub(crate) fn is_late(&self) -> bool {
+        self.due().is_some_and(|due| due.left() == 0)
     }
 }

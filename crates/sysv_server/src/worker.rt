@@ -579,7 +579,7 @@ impl<'r, 'c, R: Wait> Serving<'r, 'c, R> {
         if self.common.patience() == Patience::UNBOUNDED {
             return;
         }
-        let due = worker.places[place].limit(self.common.patience());
+        let due = worker.places[place].set_time(self.common.patience());
         worker.check = sooner(worker.check, due);
     }
 
@@ -598,23 +598,22 @@ impl<'r, 'c, R: Wait> Serving<'r, 'c, R> {
         self.spread(worker);
     }
 
-    /// Closes a client whose time is over.
+    /// Closes a client whose time is over. What has arrived until then is read first.
     fn look_at_time<T: NonBlocking, W: Watch<T>>(
         &self,
         worker: &mut Worker<'_, R, T, W>,
         place: usize,
     ) {
-        let there = &mut worker.places[place];
-        if !there.is_taken() {
-            return;
+        if worker.places[place].is_late() {
+            worker.places[place].note(&last_look(place));
+            self.turn(worker, place);
         }
-        let due = there.due();
-        if due.is_some_and(|due| due.left() == 0) {
-            there.cut();
+        if worker.places[place].is_late() {
+            worker.places[place].cut();
             self.settle(worker, place);
-        } else {
-            worker.check = sooner(worker.check, due);
         }
+        let due = worker.places[place].due();
+        worker.check = sooner(worker.check, due);
     }
 
     /// Closes all clients.
@@ -626,6 +625,16 @@ impl<'r, 'c, R: Wait> Serving<'r, 'c, R> {
                 self.settle(worker, place);
             }
         }
+    }
+}
+
+/// Returns the news of a place to be looked at although nothing was reported.
+fn last_look(place: usize) -> Ready {
+    Ready {
+        place,
+        readable: true,
+        writable: true,
+        left: false,
     }
 }
 

@@ -19,29 +19,34 @@ use std::process::ExitCode;
 use std::rt::Files;
 use std::sync::Wait;
 use std::thread::Threads;
-use sysv_server::{Ended, Host, Notice, Reason, ServeFault, Sums, Terms, serve_listener};
+use sysv_server::{Ended, Host, MAX_CLIENTS, Notice, Reason, ServeFault, Sums, Terms, serve_listener};
 
 /// The host of a server: it opens the socket, and reports on standard error.
 #[derive(Drop)]
 struct Reporter<'a, R> {
     rt: &'a R,
     serving: &'a Serving<'a>,
+    /// The maximum number of clients at once.
+    at_once: u32,
 }
 
 impl<R: Files + Net + Eprint + AllocGlobal + Clone + Drop> Host for Reporter<'_, R> {
     /// Opens the socket, and reports that the server listens, or why it does not. If there are
-    /// fewer descriptors than sessions at once, that is reported too.
+    /// fewer descriptors than the clients that were asked for, that is reported too.
     fn listen(&self) -> io::Result<UnixListener> {
-        let Reporter { rt, serving } = *self;
+        let Reporter {
+            rt,
+            serving,
+            at_once,
+        } = *self;
         let listener = listen_at(rt, &serving.file)?;
-        let at_once = serving.terms.at_once;
-        let room = room(rt.alloc(), at_once);
         let clients = if at_once == 1 { "client" } else { "clients" };
         let path = serving.file.path;
         let _ = eprintln!(*rt; "sysvmsg: serving {path}, up to {at_once} {clients} at once");
-        if room < at_once {
+        let asked = serving.terms.at_once;
+        if at_once < asked && asked < MAX_CLIENTS {
             let _ = eprintln!(*rt;
-                "sysvmsg: descriptors for {room} clients at once: raise the limit of open files"
+                "sysvmsg: descriptors for {at_once} {clients} at once: raise the limit of open files"
             );
         }
         Ok(listener)
@@ -96,9 +101,15 @@ fn run_server<
     ensures meant { IfOk result (λ ended. HasReason serving.now.until_eof
         serving.now.terms.sessions ended.sums.sessions reason.new) }
 {
-    let host = Reporter { rt, serving };
+    let mut terms = serving.terms;
+    terms.at_once = room(terms.workers, terms.at_once);
+    let host = Reporter {
+        rt,
+        serving,
+        at_once: terms.at_once,
+    };
     let input = serving.until_eof.then_some(input);
-    serve_listener(rt, rt.alloc(), host, input, serving.terms, reason)
+    serve_listener(rt, rt.alloc(), host, input, terms, reason)
 }
 
 /// Prints how a server ended that accepted no more connections for this reason. If an accept
