@@ -19,6 +19,9 @@ import sysvmsg
 from sysvmsg import CREAT, EXCEPT, EXCL, GET, HELLO, NOERROR, NOWAIT, RCV, RM, ROW, SET, SND, STAT, Request, frame
 
 SLOTS = 256
+# The descriptors of a server with the default number of workers, beside those of its clients.
+OWN_DESCRIPTORS = 13
+MOST_SESSIONS = 16384
 LIBC = ctypes.CDLL(None)
 PR_SET_PDEATHSIG = 1
 
@@ -68,6 +71,11 @@ def finished(process, seconds=60):
 
 def hello(uid, gid, pid, version=2):
     return Request.hello(uid, gid, pid).frame(version)
+
+
+def sessions_at_once(limit):
+    """The number of sessions that a server without options serves at once under this limit of open files."""
+    return min(MOST_SESSIONS, limit - OWN_DESCRIPTORS)
 
 
 class Session:

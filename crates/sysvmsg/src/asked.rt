@@ -108,7 +108,7 @@ const BAD_BLOCKS: Bad = "the number of blocks is 128 to 65536";
 
 const BAD_WORKERS: Bad = "the number of workers is 1 to 16";
 
-const BAD_AT_ONCE: Bad = "the number of clients at once is 1 to 16384";
+const BAD_AT_ONCE: Bad = "the number of sessions at once is 1 to 16384";
 
 const BAD_SECONDS: Bad = "the number of seconds is 0 to 4294967295";
 

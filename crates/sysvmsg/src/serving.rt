@@ -40,13 +40,13 @@ impl<R: Files + Net + Eprint + AllocGlobal + Clone + Drop> Host for Reporter<'_,
             at_once,
         } = *self;
         let listener = listen_at(rt, &serving.file)?;
-        let clients = if at_once == 1 { "client" } else { "clients" };
+        let sessions = if at_once == 1 { "session" } else { "sessions" };
         let path = serving.file.path;
-        let _ = eprintln!(*rt; "sysvmsg: serving {path}, up to {at_once} {clients} at once");
+        let _ = eprintln!(*rt; "sysvmsg: serving {path}, up to {at_once} {sessions} at once");
         let asked = serving.terms.at_once;
         if at_once < asked && asked < MAX_CLIENTS {
             let _ = eprintln!(*rt;
-                "sysvmsg: descriptors for {at_once} {clients} at once: raise the limit of open files"
+                "sysvmsg: descriptors for {at_once} {sessions} at once: raise the limit of open files"
             );
         }
         Ok(listener)
@@ -147,7 +147,7 @@ fn explain(rt: &impl Eprint, fault: ServeFault, terms: &Terms) {
     } = *terms;
     let _ = match fault {
         ServeFault::NoMemory => {
-            eprintln!(rt; "sysvmsg: no memory for {blocks} blocks and {at_once} clients")
+            eprintln!(rt; "sysvmsg: no memory for {blocks} blocks and {at_once} sessions")
         }
         ServeFault::Thread => {
             eprintln!(rt; "sysvmsg: cannot start {workers} threads: the system refuses more")
