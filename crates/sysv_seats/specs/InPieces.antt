@@ -58,7 +58,7 @@ module _ (may : ℕ → Type 0) (version : Version) (cred : Cred) where
     parked.1,
     parked.2,
     comes_to_wait may (begin cred (Msgsnd id mtype flags text) parked.0) parked.1 (send_wait w text) before after
-    parked.3 still,
+        parked.3 still,
     parked.4,
   )
   still_parked (Rcv id size mtype flags) text start (Receive w) before after parked still =

@@ -232,7 +232,11 @@ impl<T: NonBlocking> Client<T> {
         tools: &mut Tools,
     ) {
         if !self.input.is_empty() {
-            if self.input.extend_from_slice(&tools.arrived[..count]).is_err() {
+            if self
+                .input
+                .extend_from_slice(&tools.arrived[..count])
+                .is_err()
+            {
                 self.stop(End::NoMemory);
                 return;
             }
@@ -241,7 +245,11 @@ impl<T: NonBlocking> Client<T> {
         }
         let arrived = std::mem::replace(&mut tools.arrived, Vec::new(alloc));
         let taken = self.take_up_all(&arrived[..count], kernel, tools);
-        if self.input.extend_from_slice(&arrived[taken..count]).is_err() {
+        if self
+            .input
+            .extend_from_slice(&arrived[taken..count])
+            .is_err()
+        {
             self.drop_parked();
             self.stop(End::NoMemory);
         }
@@ -343,7 +351,9 @@ impl<T: NonBlocking> Client<T> {
             Progress::Over(outcome) => {
                 tools.tell(Told::by_end(&request, &outcome));
                 self.parked = None;
-                let put = self.conversation.put(request.version, outcome, &tools.given);
+                let put = self
+                    .conversation
+                    .put(request.version, outcome, &tools.given);
                 if let Err(why) = put {
                     self.stop(why);
                 }

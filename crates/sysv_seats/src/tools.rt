@@ -55,9 +55,7 @@ impl Tools {
 
     /// Returns whether a message of this type was taken since the news were taken.
     pub fn has_taken(&self, taken: i64) -> bool {
-        self.news
-            .iter()
-            .any(|news| matches!(news, News::Freed { mtype, .. } if *mtype == taken))
+        self.news.iter().any(|news| matches!(news, News::Freed { mtype, .. } if *mtype == taken))
     }
 
     /// Keeps what a call may have changed.

@@ -34,11 +34,7 @@ use sysv_workers::{Source, WorkersFault, WorkersRefused, run_crowd};
 /// - `blocks` is 128 to 65,536.
 /// - `workers` is 1 to 16.
 /// - There are at least as many books as workers.
-pub fn serve_connections<
-    T: NonBlocking + Drop + Send,
-    S: Source<T>,
-    R: Threads + Wait + Sync,
->(
+pub fn serve_connections<T: NonBlocking + Drop + Send, S: Source<T>, R: Threads + Wait + Sync>(
     rt: &R,
     alloc: Global,
     source: &mut S,
@@ -86,7 +82,9 @@ where
     let Ok((service, mut pass)) = Service::open(alloc, blocks) else {
         return Err(ServeFault::NoMemory);
     };
-    let outcome = serve_with(rt, alloc, &service, &mut pass, source, books, watches, common);
+    let outcome = serve_with(
+        rt, alloc, &service, &mut pass, source, books, watches, common,
+    );
     let removed = service.stop(rt, &mut pass);
     let closed = service.close(pass);
     match outcome {

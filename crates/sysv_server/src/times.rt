@@ -61,7 +61,11 @@ impl Times {
         if client.has_unsent() {
             return match self.awaits {
                 Awaits::Room(up_to) if client.sent_bytes() < up_to => self.awaits,
-                _ => Awaits::Room(client.sent_bytes().saturating_add(client.unsent_bytes() as u64)),
+                _ => Awaits::Room(
+                    client
+                        .sent_bytes()
+                        .saturating_add(client.unsent_bytes() as u64),
+                ),
             };
         }
         if client.waiting().is_some() {

@@ -149,8 +149,7 @@ pub(crate) struct Serving<'r, 'c, R> {
 }
 
 impl<'a, 'r, 'c, R: Wait, T: NonBlocking + Drop, W: Watch<T>> Job<Worker<'a, R, T, W>, T>
-    for Serving<'r, 'c, R>
-{
+    for Serving<'r, 'c, R> {
     ghost use Rattle.std.specs.Prelude.{⊤};
 
     ghost fits = { λ _ _. ⊤ };
@@ -240,11 +239,7 @@ impl<'r, 'c, R: Wait> Serving<'r, 'c, R> {
     }
 
     /// Serves a client of which the watch reports news.
-    fn report<T: NonBlocking, W: Watch<T>>(
-        &self,
-        worker: &mut Worker<'_, R, T, W>,
-        ready: &Ready,
-    ) {
+    fn report<T: NonBlocking, W: Watch<T>>(&self, worker: &mut Worker<'_, R, T, W>, ready: &Ready) {
         let place = ready.place;
         let Some(there) = worker.places.get_mut(place) else {
             return;

@@ -19,7 +19,9 @@ use std::process::ExitCode;
 use std::rt::Files;
 use std::sync::Wait;
 use std::thread::Threads;
-use sysv_server::{Ended, Host, MAX_CLIENTS, Notice, Reason, ServeFault, Sums, Terms, serve_listener};
+use sysv_server::{
+    Ended, Host, MAX_CLIENTS, Notice, Reason, ServeFault, Sums, Terms, serve_listener,
+};
 
 /// The host of a server: it opens the socket, and reports on standard error.
 #[derive(Drop)]
