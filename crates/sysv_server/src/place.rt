@@ -141,6 +141,15 @@ impl<'a, R: Wait, T: NonBlocking> Place<'a, R, T> {
         }
     }
 
+    /// Drops the parked call if the peer has left: what came since is not for it.
+    pub(crate) fn leave_if_gone<W: Watch<T>>(&mut self, watch: &W) {
+        if let Some(client) = &mut self.client {
+            if watch.has_left(client.connection()) {
+                client.leave();
+            }
+        }
+    }
+
     /// Continues the parked call, if it may go on.
     pub(crate) fn go_on(&mut self, tools: &mut Tools) {
         if let Some(client) = &mut self.client {

@@ -1,6 +1,7 @@
 //! What reports which clients have news.
 
-use crate::moment::pause;
+use crate::moment::{asking, pause};
+use libc::net::{POLLRDHUP, poll};
 use mio::unix::SourceFd;
 use mio::{Events, Interest, Poll, Token};
 use std::alloc::Global;
@@ -39,6 +40,10 @@ pub trait Watch<T> {
 
     /// Has the place reported also when the connection may take bytes, or not any more.
     fn await_room(&mut self, connection: &T, place: usize, awaits: bool);
+
+    /// Returns whether the peer has shut down its writing, or the connection has failed, as the
+    /// system knows it now.
+    fn has_left(&self, connection: &T) -> bool;
 
     /// Waits until a place has news or the bell is rung, for at most `limit` milliseconds, and puts
     /// what is reported into `ready`. It may return early.
@@ -89,6 +94,11 @@ impl<T: AsRawFd> Watch<T> for Polled {
             .reregister(&mut SourceFd(&fd), Token(place), interest);
     }
 
+    fn has_left(&self, connection: &T) -> bool {
+        let mut asked = [asking(connection.as_raw_fd(), POLLRDHUP)];
+        poll(&mut asked, 0) > 0
+    }
+
     fn wait(&mut self, limit: Option<u64>, ready: &mut Vec<Ready>) {
         ready.clear();
         if self
@@ -136,6 +146,10 @@ impl<T> Watch<T> for Rounds {
     }
 
     fn await_room(&mut self, _connection: &T, _place: usize, _awaits: bool) {}
+
+    fn has_left(&self, _connection: &T) -> bool {
+        false
+    }
 
     fn wait(&mut self, limit: Option<u64>, ready: &mut Vec<Ready>) {
         ready.clear();

@@ -548,6 +548,7 @@ impl<'r, 'c, R: Wait> Serving<'r, 'c, R> {
         mtype: i64,
     ) -> Found {
         let there = &mut worker.places[place];
+        there.leave_if_gone(&worker.watch);
         there.go_on(&mut worker.tools);
         if there.key().is_some() {
             self.settle(worker, place);
