@@ -92,7 +92,7 @@ const ME: Argument = (
 
 const WAIT: Argument = (
     "wait",
-    Form::Value("SECONDS"),
+    Form::Value("SECS"),
     "Waits at most that long for each reply",
 );
 

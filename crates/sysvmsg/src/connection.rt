@@ -204,7 +204,11 @@ fn run_within<R: Leave + Drop, W: Write + Drop, S: Write>(
 fn status_within(status: i32, has_left: bool) -> i32
     ensures { result ≡ pos 0 → status ≡ pos 0 }
 {
-    if status != 0 && has_left { LATE } else { status }
+    if status != 0 && has_left {
+        LATE
+    } else {
+        status
+    }
 }
 
 /// Returns what is shown of a command that ended with this status: the page, or the line of an error
