@@ -18,8 +18,8 @@ use std::alloc::Global;
 use std::io::{BufReader, BufWriter, Eprint, Read, Write};
 use std::process::ExitCode;
 use sysv_clients::{
-    ClientFault, Cut, Receipt, Receiving, Refusal, Sending, Stop, Target, Task, Unsent, receive_all,
-    remove_all, send_lines,
+    ClientFault, Cut, Receipt, Receiving, Refusal, Sending, Stop, Target, Task, Unsent,
+    receive_all, remove_all, send_lines,
 };
 use sysv_model::{Cred, Errno};
 
