@@ -3,16 +3,20 @@ ghost use Rattle.std.specs.Prelude.{◌≡◌};
 ghost use Rattle.sysv_clients.specs.Faults.{fault_line};
 
 use sysv_model::{Errno, NoMemory};
+use thiserror::Error;
 
 /// Why a client does not complete its task.
-#[derive(Clone, Copy, PartialEq, Eq, Debug)]
+#[derive(Clone, Copy, PartialEq, Eq, Debug, Error)]
 pub enum ClientFault {
     /// The server refused a request with this error.
+    #[error("{0}")]
     Refused(Errno),
     /// A request could not be written, or no reply to it could be read.
+    #[error("no reply")]
     NoReply,
     /// Memory was refused: before anything was written or read, or for the line of a row that an
     /// `ipcs` had just read.
+    #[error("no memory")]
     NoMemory,
 }
 

@@ -26,15 +26,19 @@ use sysv_keys::{GENERATION_LAST, Registry, SLOTS, slot_of_id};
 use sysv_model::{MAX_BLOCKS, MIN_BLOCKS};
 use sysv_pool::{Chain, Pool};
 use sysv_queue::QueueSlot;
+use thiserror::Error;
 
 /// Why the objects were not opened.
-#[derive(Clone, Copy, PartialEq, Eq, Debug)]
+#[derive(Clone, Copy, PartialEq, Eq, Debug, Error)]
 pub enum ObjectsRefused {
     /// Allocation failed.
+    #[error("no memory")]
     NoMemory,
     /// The generation is above the last one, `GENERATION_LAST`.
+    #[error("the generation is above the last one")]
     BadStart,
     /// The number of blocks is not 128 to 65,536.
+    #[error("the number of blocks is not 128 to 65,536")]
     BadSize,
 }
 

@@ -18,17 +18,20 @@ use sysv_keys::{GENERATION_LAST, Registry, SLOTS};
 use sysv_model::{MAX_BLOCKS, MIN_BLOCKS};
 use sysv_pool::Pool;
 use sysv_queue::QueueSlot;
+use thiserror::Error;
 
 /// The largest first ticket of a gate.
 const MAX_FIRST: u64 = 1 << 62;
 
 /// The reasons why gates were not opened.
-#[derive(Clone, Copy, PartialEq, Eq, Debug)]
+#[derive(Clone, Copy, PartialEq, Eq, Debug, Error)]
 pub enum OpenRefused {
     /// Memory was refused.
+    #[error("no memory")]
     NoMemory,
     /// The number of blocks is not 128 to 65,536, the first ticket is above 2^62, or the generation
     /// is above the last one.
+    #[error("the number of blocks, the first ticket or the generation is out of range")]
     BadSize,
 }
 
