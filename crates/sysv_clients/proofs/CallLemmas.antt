@@ -22,13 +22,13 @@ pub none_made : (Passes : Call → Type 0) (plan : Plan) (left taken : Option (L
 none_made Passes plan left taken =
     record { follows = tt; reads = Consumes-nil left; writes = Appends-nil taken }
 
-read_more : (calls : List Call) (one : Call) →
+pub read_more : (calls : List Call) (one : Call) →
     read_by (calls ++ one ∷ []) ≡ read_by calls ++ reply_spelling (reply_to one.ask one.answer) one.given
 read_more calls one =
     flat_map-append (λ (e : Call). reply_spelling (reply_to e.ask e.answer) e.given) calls (one ∷ [])
     ∙ ap (λ l. read_by calls ++ l) (append-nil (reply_spelling (reply_to one.ask one.answer) one.given))
 
-written_more : (calls : List Call) (one : Call) →
+pub written_more : (calls : List Call) (one : Call) →
     written_by (calls ++ one ∷ []) ≡ written_by calls ++ request_spelling (request_of one.ask) one.text
 written_more calls one =
     flat_map-append (λ (e : Call). request_spelling (request_of e.ask) e.text) calls (one ∷ [])

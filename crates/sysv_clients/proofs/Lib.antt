@@ -5,3 +5,5 @@ pub mod CallLemmas
 pub mod StreamLemmas
 pub mod SendLemmas
 pub mod ClearLemmas
+mod RefusalLemmas
+mod LineLemmas

@@ -1,11 +1,11 @@
 -- A talk in progress, and how it ends.
 use Rattle.std.proofs.Common.{◌≡◌, ℕ, ℤ, pos, ◌+◌, ◌*◌, List, [], ◌∷◌, ◌++◌, length, Option, None, Some, Ok, Err, cond}
-use Rattle.std.proofs.Common.{ltb, refl, sym, ap, subst, ◌∙◌, ◌⊎◌, inl, inr, ◌≤◌, ◌<◌, true, arith, append_assoc}
+use Rattle.std.proofs.Common.{ltb, refl, sym, ap, subst, ◌∙◌, ◌⊎◌, inl, inr, ◌≤◌, true, arith, append_assoc}
 use Rattle.std.proofs.Common.{append-nil, length-append}
 use Rattle.std.proofs.lemmas.Bool.Decides.{nat_tests}
 use Rattle.std.proofs.lemmas.List.Concat.{flat_map-append}
 use Rattle.std.proofs.lemmas.List.Sums.{fold-append}
-use Rattle.std.specs.Prelude.{⊤, flat_map, slice_get}
+use Rattle.std.specs.Prelude.{⊤, slice_get}
 use Rattle.std.specs.Io.KnownBytes.{Appends, Consumes}
 use Rattle.std.proofs.KnownBytes.{Appends-nil, Appends-trans, Consumes-nil, Consumes-trans}
 use Rattle.sysv_clients.specs.declared.command.Command.{Command}

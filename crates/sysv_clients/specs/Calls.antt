@@ -33,6 +33,11 @@ id_in calls = fold (λ found call. id_after found call.answer) (pos 0) calls
 abbrev pub IsCallDone : Call → Type 0
 IsCallDone call = IsDone call.ask call.answer call.given
 
+-- Each of these calls passes.
+abbrev pub Each : (Call → Type 0) → List Call → Type 0
+Each Passes [] = ⊤
+Each Passes (call ∷ more) = Passes call × Each Passes more
+
 -- A plan of requests: what is requested after these calls. Nothing if all requests were made.
 abbrev pub Plan : Type 0
 Plan = List Call → Option Ask

@@ -1,7 +1,7 @@
 -- What an input makes of a command, considered alone (this project's programs): the replies in it,
 -- and how a talk that reads them ends. A stream may fail with any input; that is not considered
 -- here.
-use Rattle.std.specs.Prelude.{◌≡◌, ◌≢◌, ◌⊎◌, ⊤, ℕ, ℤ, pos, List, ◌++◌, Option, None, Some, Result, Ok, Err}
+use Rattle.std.specs.Prelude.{◌≡◌, ◌⊎◌, ⊤, ℕ, ℤ, pos, List, ◌++◌, Option, None, Some, Result, Ok, Err}
 use Rattle.sysv_clients.specs.declared.command.Command.{Command}
 use Rattle.sysv_clients.specs.declared.fault.ClientFault.{ClientFault}
 use Rattle.sysv_clients.specs.declared.fault.ClientFault.TheVariants as fault
@@ -12,9 +12,7 @@ use Rattle.sysv_wire.specs.declared.fault.Fault.{Fault}
 use Rattle.sysv_wire.specs.declared.reply.ReplyContent.TheVariants.{Refused}
 use Rattle.sysv_wire.specs.declared.reply.Reply.{Reply}
 use Rattle.sysv_wire.specs.declared.request.Ask.{Ask}
-use Rattle.sysv_wire.specs.Frames.{op_number}
 use Rattle.sysv_wire.specs.OneAnswer.{ReplyAt}
-use Rattle.sysv_wire.specs.Requests.{op_of}
 use Rattle.sysv_model.specs.Writing.{AppendsPrefix}
 
 -- What a reader returns is no reply to the request: none, none that can be read, or another reply.

@@ -15,4 +15,5 @@ pub mod Stream
 pub mod Feed
 pub mod Lines
 pub mod Sending
+pub mod Window
 pub mod Clearing

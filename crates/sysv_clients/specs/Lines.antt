@@ -8,7 +8,7 @@ use Rattle.std.specs.declared.io.ErrorKind.{ErrorKind}
 use Rattle.sysv_clients.specs.declared.lines.Fetched.{Fetched}
 use Rattle.sysv_clients.specs.declared.lines.Fetched.TheVariants.{Line, Last, Nothing}
 use Rattle.sysv_clients.specs.declared.sending.Unsent.{Unsent}
-use Rattle.sysv_clients.specs.declared.sending.Unsent.TheVariants.{Fault, Long, Many, Input}
+use Rattle.sysv_clients.specs.declared.sending.Unsent.TheVariants.{Fault, Cut, Long, Many, Input}
 use Rattle.sysv_model.specs.declared.limits.TheConstants.{MESSAGE_BYTES}
 
 -- No byte is an LF.
@@ -43,11 +43,27 @@ is_nothing Nothing = true
 is_nothing Line = false
 is_nothing Last = false
 
--- The last line was read, which has no LF.
-abbrev pub is_last : Fetched → Bool
-is_last Last = true
-is_last Line = false
-is_last Nothing = false
+-- A line was read that ended with an LF.
+abbrev pub is_line : Fetched → Bool
+is_line Line = true
+is_line Last = false
+is_line Nothing = false
+
+-- Bytes moved to the end of a line, up to an LF (true), or as many as there were or as a line that
+-- is too long has (false).
+abbrev pub Gives : Bool → (bytes left line more : List ℕ) → Type 0
+Gives true bytes left line more =
+    (text : List ℕ) × HasNoEnd text × (length line + length text ≤ MESSAGE_BYTES) × (bytes ≡ text ++ 10 ∷ left)
+    × (more ≡ line ++ text)
+Gives false bytes left line more =
+    (text : List ℕ) × HasNoEnd text × (1 ≤ length text) × (length line + length text ≤ MESSAGE_BYTES + 1)
+    × (bytes ≡ text ++ left) × (more ≡ line ++ text)
+
+-- What was read of an input that is at its end, after these bytes of a line.
+abbrev pub Ends : Fetched → List ℕ → Type 0
+Ends Nothing line = line ≡ []
+Ends Last line = line ≢ []
+Ends Line line = ⊥
 
 -- What was read as the next line.
 abbrev pub Fetches : Result Fetched Unsent → (left rest : Option (List ℕ)) → List ℕ → Type 0
@@ -58,6 +74,7 @@ Fetches (Err Long) left rest text = IsTooLong text left rest
 Fetches (Err (Input why)) left rest text = ⊤
 Fetches (Err Many) left rest text = ⊥
 Fetches (Err (Fault why)) left rest text = ⊥
+Fetches (Err (Cut cut)) left rest text = ⊥
 
 -- If the input could not be read, its last read failed, with an error of this kind.
 abbrev pub FailsBy : {T : Type 0} → Result T Unsent → Option ErrorKind → Type 0
@@ -65,4 +82,5 @@ FailsBy (Err (Input why)) failure = failure ≡ Some (error_kind why)
 FailsBy (Err Long) failure = ⊤
 FailsBy (Err Many) failure = ⊤
 FailsBy (Err (Fault why)) failure = ⊤
+FailsBy (Err (Cut cut)) failure = ⊤
 FailsBy (Ok done) failure = ⊤

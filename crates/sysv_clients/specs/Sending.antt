@@ -1,18 +1,27 @@
--- A snd of several messages (this project's programs): each line of an input is a message.
-use Rattle.std.specs.Prelude.{◌≡◌, ⊤, ℕ, ℤ, ◌+◌, ◌^◌, List, [], ◌∷◌, codes, ◌++◌, length, Option, Some, Result, Ok}
-use Rattle.std.specs.Prelude.{Err}
-use Rattle.std.specs.Io.KnownBytes.{Consumes}
+-- A snd of several messages (this project's programs): each line of an input is a message. Sends
+-- may be on their way together: written, and without a reply.
+use Rattle.std.specs.Prelude.{◌≡◌, ◌≤◌, ◌⊎◌, ⊤, ℕ, ℤ, ◌+◌, ◌-◌, ◌^◌, List, [], ◌∷◌, codes, ◌++◌, length, map}
+use Rattle.std.specs.Prelude.{flat_map, if◌then◌else◌, Option, Some, None, Result, Ok, Err}
+use Rattle.std.specs.Io.KnownBytes.{Appends, Consumes, prepend_known}
 use Rattle.sysv_clients.specs.declared.fault.ClientFault.{ClientFault}
 use Rattle.sysv_clients.specs.declared.fault.ClientFault.TheVariants as fault
+use Rattle.sysv_clients.specs.declared.sending.Cut.{Cut as ACut}
 use Rattle.sysv_clients.specs.declared.sending.Sending.{Sending}
+use Rattle.sysv_clients.specs.declared.sending.TheConstants.{WINDOW}
 use Rattle.sysv_clients.specs.declared.sending.Unsent.{Unsent}
-use Rattle.sysv_clients.specs.declared.sending.Unsent.TheVariants.{Fault, Long, Many, Input}
-use Rattle.sysv_clients.specs.Asks.{flags_to_create, flags_to_wait}
-use Rattle.sysv_clients.specs.Calls.{BreaksPlan, Call, IsCallDone, Made, Plan, id_in}
+use Rattle.sysv_clients.specs.declared.sending.Unsent.TheVariants.{Fault, Cut, Long, Many, Input}
+use Rattle.sysv_clients.specs.Asks.{flags_to_create, flags_to_wait, request_of}
+use Rattle.sysv_clients.specs.Calls.{BreaksPlan, Call, Each, FollowsPlan, IsCallDone, Plan, id_in, read_by, written_by}
 use Rattle.sysv_clients.specs.Faults.{fault_line}
 use Rattle.sysv_clients.specs.Lines.{HasNone, IsNext, IsTooLong}
+use Rattle.sysv_clients.specs.Talk.{HasNoReply}
+use Rattle.sysv_model.specs.declared.errno.Errno.{Errno}
+use Rattle.sysv_model.specs.Writing.{AppendsPrefix}
+use Rattle.sysv_wire.specs.declared.reply.ReplyContent.{ReplyContent}
+use Rattle.sysv_wire.specs.declared.reply.ReplyContent.TheVariants as content
 use Rattle.sysv_wire.specs.declared.request.Ask.{Ask}
 use Rattle.sysv_wire.specs.declared.request.Ask.TheVariants.{Hello, Get, Snd}
+use Rattle.sysv_wire.specs.Requests.{request_spelling}
 
 -- The request that finds the queue.
 abbrev pub find_to_send : Sending → Ask
@@ -22,71 +31,171 @@ find_to_send sending = Get sending.key flags_to_create
 abbrev pub send_ask : Sending → ℤ → Ask
 send_ask sending found = Snd found sending.mtype (flags_to_wait sending.nowait)
 
--- What is requested after these calls: the hello, the msgget, and then one send after another.
-abbrev pub sending_plan : Sending → Plan
-sending_plan sending [] = Some (Hello sending.cred)
-sending_plan sending (first ∷ []) = Some (find_to_send sending)
-sending_plan sending (first ∷ second ∷ sends) = Some (send_ask sending (id_in (first ∷ second ∷ sends)))
+-- What is requested before the first send: the hello, and then the msgget.
+abbrev pub opening_plan : Sending → Plan
+opening_plan sending [] = Some (Hello sending.cred)
+opening_plan sending (first ∷ []) = Some (find_to_send sending)
+opening_plan sending (first ∷ second ∷ more) = None
 
--- The bodies of these calls are the next lines, in order.
-abbrev pub AreLines : List Call → (fed rest : Option (List ℕ)) → Type 0
+-- The number of sends that may be on their way.
+abbrev pub window_of : Sending → ℕ
+window_of sending = if sending.nowait then 1 else WINDOW
+
+-- These bodies are the next lines, in order.
+abbrev pub AreLines : List (List ℕ) → (fed rest : Option (List ℕ)) → Type 0
 AreLines [] fed rest = Consumes fed rest []
-AreLines (call ∷ more) fed rest =
-    (mid : Option (List ℕ)) × IsNext call.text fed mid × AreLines more mid rest
+AreLines (text ∷ more) fed rest = (mid : Option (List ℕ)) × IsNext text fed mid × AreLines more mid rest
 
--- The bodies of the sends among the calls of a session are the next lines, in order.
-abbrev pub SendsLines : List Call → (fed rest : Option (List ℕ)) → Type 0
-SendsLines [] fed rest = rest ≡ fed
-SendsLines (first ∷ []) fed rest = rest ≡ fed
-SendsLines (first ∷ second ∷ sends) fed rest = AreLines sends fed rest
+-- The bodies of these calls.
+abbrev pub bodies_of : List Call → List (List ℕ)
+bodies_of calls = map (λ call. call.text) calls
 
--- The body of the call after these is the next line if that call is a send, and otherwise empty.
-abbrev pub IsBody : List Call → List ℕ → (fed rest : Option (List ℕ)) → Type 0
-IsBody [] text fed rest = (text ≡ []) × (rest ≡ fed)
-IsBody (first ∷ []) text fed rest = (text ≡ []) × (rest ≡ fed)
-IsBody (first ∷ second ∷ sends) text fed rest = IsNext text fed rest
+-- The frames of this request with these bodies, in order.
+abbrev pub frames_of : Ask → List (List ℕ) → List ℕ
+frames_of ask texts = flat_map (λ text. request_spelling (request_of ask) text) texts
 
--- A request after these calls ends the session with a fault.
-abbrev pub BreaksSends : Sending → List Call → ClientFault → (left rest taken more fed unfed : Option (List ℕ)) → Type 0
-BreaksSends sending calls why left rest taken more fed unfed =
-    (text : List ℕ) × IsBody calls text fed unfed
-    × BreaksPlan (sending_plan sending) calls text why left rest taken more
+-- The call was refused with this error.
+abbrev pub Refuses : Errno → Call → Type 0
+Refuses error call = (call.answer ≡ content.Refused error) × (call.given ≡ [])
 
--- How a session ends after these calls: the input has no further line, or the next line is too
--- long, or 2^64 - 1 lines were sent, or the input could not be read, or the next request ends it, or
--- memory was refused before the first request.
-abbrev pub EndsSends : Sending → List Call → Result ⊤ Unsent → (left rest taken more fed unfed : Option (List ℕ)) →
-    Type 0
-EndsSends sending calls (Ok done) left rest taken more fed unfed =
-    (rest ≡ left) × (more ≡ taken) × HasNone fed unfed
-EndsSends sending calls (Err Long) left rest taken more fed unfed =
-    (rest ≡ left) × (more ≡ taken) × (text : List ℕ) × IsTooLong text fed unfed
-EndsSends sending calls (Err Many) left rest taken more fed unfed =
-    (rest ≡ left) × (more ≡ taken) × (unfed ≡ fed) × (length calls ≡ 2 ^ 64 + 1)
-EndsSends sending calls (Err (Input why)) left rest taken more fed unfed = (rest ≡ left) × (more ≡ taken)
-EndsSends sending calls (Err (Fault (fault.Refused error))) left rest taken more fed unfed =
-    BreaksSends sending calls (fault.Refused error) left rest taken more fed unfed
-EndsSends sending calls (Err (Fault fault.NoReply)) left rest taken more fed unfed =
-    BreaksSends sending calls fault.NoReply left rest taken more fed unfed
-EndsSends sending calls (Err (Fault fault.NoMemory)) left rest taken more fed unfed =
-    (calls ≡ []) × (rest ≡ left) × (more ≡ taken) × (unfed ≡ fed)
+-- The request of the call has a reply: it was done or refused.
+abbrev pub HasReply : Call → Type 0
+HasReply call = IsCallDone call ⊎ ((error : Errno) × Refuses error call)
+
+-- The call is this request, and has a reply.
+abbrev pub IsAnswered : Ask → Call → Type 0
+IsAnswered ask call = (call.ask ≡ ask) × HasReply call
+
+-- 1 if a send with this result was accepted, and otherwise 0.
+abbrev pub accepts : ReplyContent → ℕ
+accepts (content.Refused error) = 0
+accepts content.Hello = 1
+accepts (content.HelloSlots slots) = 1
+accepts (content.Get id) = 1
+accepts content.Snd = 1
+accepts (content.Rcv mtype) = 1
+accepts (content.Stat stat) = 1
+accepts content.Set = 1
+accepts content.Rm = 1
+accepts (content.Row row) = 1
+
+-- The number of these sends that were accepted.
+abbrev pub accepted_in : List Call → ℕ
+accepted_in [] = 0
+accepted_in (call ∷ more) = accepts call.answer + accepted_in more
+
+-- Of these sends the first ones were accepted, the next one was refused with this error, and some
+-- later ones were accepted. The numbers are those of the cut.
+pub record IsRefusedAt (error : Errno) (cut : ACut) (sends : List Call) : Type 0 where
+  pub first : List Call
+  pub one : Call
+  pub later : List Call
+  pub split : sends ≡ first ++ one ∷ later
+  pub done : Each IsCallDone first
+  pub refused : Refuses error one
+  pub before : cut.before ≡ length first
+  pub after : cut.after ≡ accepted_in later
+
+-- The sends with a reply, by the fault of a cut: one was refused, or all were accepted and a later
+-- one has no reply.
+abbrev pub IsCutBy : ClientFault → ACut → List Call → Type 0
+IsCutBy (fault.Refused error) cut sends = IsRefusedAt error cut sends
+IsCutBy fault.NoReply cut sends =
+    Each IsCallDone sends × (cut.before ≡ length sends) × (cut.after ≡ 0) × (1 ≤ cut.unknown)
+IsCutBy fault.NoMemory cut sends = ⊥
+
+-- Why there is no reply to the sends with these bodies: there are none; or the writer failed, and
+-- took a prefix of their frames, which may be all of them; or what was read is no reply.
+abbrev pub EndsReplies : Ask → List (List ℕ) → (left rest taken more : Option (List ℕ)) → Type 0
+EndsReplies ask waiting left rest taken more =
+    ((waiting ≡ []) × (rest ≡ left) × (more ≡ taken))
+    ⊎ (AppendsPrefix taken more (frames_of ask waiting) × (rest ≡ left))
+    ⊎ (Appends taken more (frames_of ask waiting) × HasNoReply ask left rest)
+
+-- The queue was found, and every send that was written was done.
+pub record AreDone (sending : Sending) (opened sends : List Call) (waiting : List (List ℕ))
+    (left rest taken more : Option (List ℕ)) : Type 0 where
+  pub found : opening_plan sending opened ≡ None
+  pub done : Each IsCallDone sends
+  pub none : waiting ≡ []
+  pub read : rest ≡ left
+  pub wrote : more ≡ taken
+
+-- No send was written, since a request before the first one ends the session with this fault.
+pub record BreaksOpening (sending : Sending) (why : ClientFault) (opened sends : List Call)
+    (waiting : List (List ℕ)) (left rest taken more : Option (List ℕ)) : Type 0 where
+  pub no_sends : sends ≡ []
+  pub none : waiting ≡ []
+  pub breaks : BreaksPlan (opening_plan sending) opened [] why left rest taken more
+
+-- Memory was refused before the first request.
+pub record IsUnopened (opened sends : List Call) (waiting : List (List ℕ)) (left rest taken more : Option (List ℕ)) :
+    Type 0 where
+  pub no_calls : opened ≡ []
+  pub no_sends : sends ≡ []
+  pub none : waiting ≡ []
+  pub read : rest ≡ left
+  pub wrote : more ≡ taken
+
+-- The queue was found, and a send was refused or has no reply.
+pub record IsCutOff (sending : Sending) (cut : ACut) (opened sends : List Call) (waiting : List (List ℕ))
+    (left rest taken more : Option (List ℕ)) : Type 0 where
+  pub found : opening_plan sending opened ≡ None
+  pub by : IsCutBy cut.fault cut sends
+  pub unknown : cut.unknown ≡ length waiting
+  pub ends : EndsReplies (send_ask sending (id_in opened)) waiting left rest taken more
+
+-- How a session ends after these calls, with these sends on their way: the input has no further
+-- line, or the next line is too long, or 2^64 - 1 lines were sent, or the input could not be read,
+-- or a send was refused or has no reply, or a request before the first send ends it, or memory was
+-- refused before the first request.
+abbrev pub EndsSends : Sending → Result ⊤ Unsent → (opened sends : List Call) → (waiting : List (List ℕ)) →
+    (left rest taken more fed unfed : Option (List ℕ)) → Type 0
+EndsSends sending (Ok done) opened sends waiting left rest taken more fed unfed =
+    AreDone sending opened sends waiting left rest taken more × HasNone fed unfed
+EndsSends sending (Err Long) opened sends waiting left rest taken more fed unfed =
+    AreDone sending opened sends waiting left rest taken more × (text : List ℕ) × IsTooLong text fed unfed
+EndsSends sending (Err Many) opened sends waiting left rest taken more fed unfed =
+    AreDone sending opened sends waiting left rest taken more × (unfed ≡ fed) × (length sends ≡ 2 ^ 64 - 1)
+EndsSends sending (Err (Input why)) opened sends waiting left rest taken more fed unfed =
+    AreDone sending opened sends waiting left rest taken more
+EndsSends sending (Err (Cut cut)) opened sends waiting left rest taken more fed unfed =
+    IsCutOff sending cut opened sends waiting left rest taken more
+EndsSends sending (Err (Fault (fault.Refused error))) opened sends waiting left rest taken more fed unfed =
+    BreaksOpening sending (fault.Refused error) opened sends waiting left rest taken more × (unfed ≡ fed)
+EndsSends sending (Err (Fault fault.NoReply)) opened sends waiting left rest taken more fed unfed =
+    BreaksOpening sending fault.NoReply opened sends waiting left rest taken more × (unfed ≡ fed)
+EndsSends sending (Err (Fault fault.NoMemory)) opened sends waiting left rest taken more fed unfed =
+    IsUnopened opened sends waiting left rest taken more × (unfed ≡ fed)
 
 -- A session that ended this way. What was read is the replies to its requests, and then what ended
--- it. What was written is those requests, each whole except perhaps the last. The bodies of its
--- sends are the lines of the input, in order.
+-- it. What was written is those requests, and then the sends without a reply, or a prefix of them.
+-- The bodies of all its sends are the lines of the input, in order.
 pub record SendsAll (sending : Sending) (ended : Result ⊤ Unsent) (left rest taken more fed unfed : Option (List ℕ)) :
     Type 0 where
-  pub calls : List Call
-  pub unread : Option (List ℕ)  -- what the reader had left after these calls
-  pub written : Option (List ℕ)  -- what the writer had taken
-  pub unsent : Option (List ℕ)  -- what the input had left
-  pub made : Made IsCallDone (sending_plan sending) calls left unread taken written
-  pub lines : SendsLines calls fed unsent
-  pub ends : EndsSends sending calls ended unread rest written more unsent unfed
+  pub opened : List Call  -- the requests before the first send, with their replies
+  pub sends : List Call  -- the sends with a reply
+  pub waiting : List (List ℕ)  -- the bodies of the sends without one
+  pub unread : Option (List ℕ)  -- what the reader had left after the replies
+  pub written : Option (List ℕ)  -- what the writer had taken of the requests with a reply
+  pub unsent : Option (List ℕ)  -- what the input had left after the lines
+  pub follows : FollowsPlan IsCallDone (opening_plan sending) [] opened
+  pub answered : Each (IsAnswered (send_ask sending (id_in opened))) sends
+  pub few : length waiting ≤ window_of sending
+  pub reads : Consumes left unread (read_by (opened ++ sends))
+  pub writes : Appends taken written (written_by (opened ++ sends))
+  pub lines : AreLines (bodies_of sends ++ waiting) fed unsent
+  pub ends : EndsSends sending ended opened sends waiting unread rest written more unsent unfed
+
+-- The same session, whose input was read further than the lines that it took: these bytes more.
+abbrev pub SendsAhead : Sending → Result ⊤ Unsent → (left rest taken more fed unfed : Option (List ℕ)) → Type 0
+SendsAhead sending ended left rest taken more fed unfed =
+    (ahead : List ℕ) × SendsAll sending ended left rest taken more fed (prepend_known ahead unfed)
 
 -- The line that reports why a session ended early. A line that is too long is an invalid argument.
 abbrev pub unsent_line : Unsent → List ℕ
 unsent_line (Fault why) = fault_line why
+unsent_line (Cut cut) = fault_line cut.fault
 unsent_line Long = codes "sysvmsg: EINVAL" ++ 10 ∷ []
 unsent_line Many = codes "sysvmsg: too many lines" ++ 10 ∷ []
 unsent_line (Input why) = codes "sysvmsg: cannot read" ++ 10 ∷ []

@@ -1,6 +1,6 @@
 -- A client's talk with a server (this project's programs): the client writes a request and reads
 -- the reply, and its next request depends on the replies before.
-use Rattle.std.specs.Prelude.{◌≡◌, ◌≢◌, ◌⊎◌, ⊤, ℕ, ℤ, pos, List, [], ◌∷◌, ◌++◌, length, Bool, true, false, Option, None}
+use Rattle.std.specs.Prelude.{◌≡◌, ◌≢◌, ◌⊎◌, ⊤, ℕ, ℤ, pos, List, [], ◌∷◌, ◌++◌, length, true, Option, None}
 use Rattle.std.specs.Prelude.{Some, Result, Ok, Err, flat_map, fold, slice_get}
 use Rattle.std.specs.Io.KnownBytes.{Appends, Consumes, IsAtEnd}
 use Rattle.sysv_clients.specs.declared.command.Command.{Command}

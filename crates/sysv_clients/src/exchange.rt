@@ -48,19 +48,34 @@ fn send<W: Write>(writer: &mut Watched<'_, W>, ask: Ask, text: &Body) -> Result<
         (W.contents (stream_of writer.new)) (request_spelling (request_of ask) text.now)) }
     ensures stream { KeepsStream writer.old writer.new (is_err result) }
 {
-    let request = Request {
-        version: SPOKEN,
-        ask,
-    };
-    write_request(writer, &request, text)?;
+    put(writer, ask, text)?;
     match writer.flush() {
         Ok(()) => Ok(()),
         Err(_) => Err(WriteFault),
     }
 }
 
+/// Writes a request, and flushes nothing.
+pub(crate) fn put<W: Write>(
+    writer: &mut Watched<'_, W>,
+    ask: Ask,
+    text: &Body,
+) -> Result<(), WriteFault>
+    ensures ok { OnOk result (Appends (W.contents (stream_of writer.old))
+        (W.contents (stream_of writer.new)) (request_spelling (request_of ask) text.now)) }
+    ensures err { OnErr result (AppendsPrefix (W.contents (stream_of writer.old))
+        (W.contents (stream_of writer.new)) (request_spelling (request_of ask) text.now)) }
+    ensures stream { KeepsStream writer.old writer.new (is_err result) }
+{
+    let request = Request {
+        version: SPOKEN,
+        ask,
+    };
+    write_request(writer, &request, text)
+}
+
 /// Reads the reply to a request.
-fn hear<R: Read>(
+pub(crate) fn hear<R: Read>(
     reader: &mut Watched<'_, R>,
     ask: Ask,
     given: &mut Body,

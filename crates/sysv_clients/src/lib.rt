@@ -24,6 +24,6 @@ pub use command::{Command, Format, Making, Receipt, Target, Task};
 pub use fault::ClientFault;
 pub use feed::Feed;
 pub use laws::numerals_of_commands;
-pub use sending::{Sending, Unsent, send_feed, send_lines};
+pub use sending::{Cut, Sending, Unsent, send_feed, send_lines};
 pub use stream::{MAX_MESSAGES, Receiving, Stop, receive_all, receive_watched};
 pub use words::{id_of, key_of, type_of};

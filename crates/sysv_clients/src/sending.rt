@@ -1,21 +1,26 @@
 //! A `snd` of several messages: a session that sends each line of an input as a message.
 
-ghost use Rattle.std.specs.Prelude.{◌≡◌, [], IfOk};
+ghost use Rattle.std.specs.Prelude.{◌≡◌, ◌⊎◌, ◌+◌, ◌<◌, ◌≤◌, ◌^◌, ℕ, List, Option, [], IfErr, IfOk, OnOk};
+ghost use Rattle.sysv_clients.specs.declared.sending.Heard.TheVariants as heards;
+ghost use Rattle.sysv_clients.specs.declared.sending.Sending.{Sending as ASending};
+ghost use Rattle.sysv_clients.specs.declared.sending.TheConstants.{WINDOW};
+ghost use Rattle.sysv_clients.specs.declared.sending.Unsent.TheVariants as unsents;
 ghost use Rattle.sysv_clients.specs.Feed.{failure_of, feed_name, feed_stream};
-ghost use Rattle.sysv_clients.specs.Lines.{FailsBy};
-ghost use Rattle.sysv_clients.specs.Sending.{SendsAll, unsent_line, find_to_send, send_ask};
+ghost use Rattle.sysv_clients.specs.Lines.{FailsBy, IsNext};
+ghost use Rattle.sysv_clients.specs.Sending.{SendsAhead, SendsAll, unsent_line, find_to_send, send_ask, window_of};
+ghost use Rattle.sysv_clients.specs.Window.{Drains, EndsCut, EndsLines, IsCut, HearsSend, Opens, Sends, lost};
 ghost use Rattle.sysv_model.specs.Watched.{stream_name, stream_of};
 
 use crate::client::found;
 use crate::command::{create_flags, wait_flags};
-use crate::exchange::exchange;
+use crate::exchange::{exchange, hear, put};
 use crate::fault::ClientFault;
 use crate::feed::Feed;
-use crate::lines::fetch;
+use crate::lines::{Chunk, fetch};
 use std::alloc::Global;
 use std::io;
 use std::io::{Read, Write};
-use sysv_model::{Body, Cred, Errno, NoMemory, Watched};
+use sysv_model::{Body, Cred, Errno, NoMemory, Watched, WriteFault};
 use sysv_wire::Ask;
 
 /// A `snd` of several messages, with the credentials for it.
@@ -31,11 +36,30 @@ pub struct Sending {
     pub nowait: bool,
 }
 
+/// The maximum number of sends that are on their way: written, and without a reply.
+pub(crate) const WINDOW: u32 = 64;
+
+/// How a session of sends ended at a send that was refused or has no reply.
+#[derive(Clone, Copy, PartialEq, Eq, Debug)]
+pub struct Cut {
+    /// The number of lines before it. All of them were accepted.
+    pub before: u64,
+    /// Why it was not accepted.
+    pub fault: ClientFault,
+    /// The number of later lines that were accepted.
+    pub after: u32,
+    /// The number of lines that were requested and have no reply. Whether they were accepted is
+    /// unknown.
+    pub unknown: u32,
+}
+
 /// Why a session of sends ends early.
 #[derive(Drop)]
 pub enum Unsent {
-    /// A request ends it, or memory was refused.
+    /// A request before the first send ends it, or memory was refused.
     Fault(ClientFault),
+    /// A send ends it.
+    Cut(Cut),
     /// A line is longer than the body of a message may be.
     Long,
     /// 2^64 - 1 lines were sent, each with its LF, and no more are.
@@ -45,9 +69,7 @@ pub enum Unsent {
 }
 
 impl From<ClientFault> for Unsent {
-    ghost use Rattle.sysv_clients.specs.declared.sending.Unsent.TheVariants as reasons;
-
-    ghost from_gives = { λ fault given. given ≡ reasons.Fault fault };
+    ghost from_gives = { λ fault given. given ≡ unsents.Fault fault };
 
     fn from(fault: ClientFault) -> Unsent {
         Unsent::Fault(fault)
@@ -61,6 +83,7 @@ impl Unsent {
     {
         match self {
             Unsent::Fault(fault) => fault.line(),
+            Unsent::Cut(cut) => cut.fault.line(),
             Unsent::Long => ClientFault::Refused(Errno::EINVAL).line(),
             Unsent::Many => "sysvmsg: too many lines\n",
             Unsent::Input(_) => "sysvmsg: cannot read\n",
@@ -115,7 +138,7 @@ pub fn send_lines<I: Read, R: Read, W: Write>(
     reader: &mut R,
     writer: &mut W,
 ) -> Result<(), Unsent>
-    ensures { SendsAll sending.now result (R.remaining reader.old) (R.remaining reader.new)
+    ensures { SendsAhead sending.now result (R.remaining reader.old) (R.remaining reader.new)
         (W.contents writer.old) (W.contents writer.new)
         (I.remaining input.old) (I.remaining input.new) }
 {
@@ -135,7 +158,7 @@ pub fn send_feed<I: Read, R: Read, W: Write>(
     reader: &mut R,
     writer: &mut W,
 ) -> Result<(), Unsent>
-    ensures sends { SendsAll sending.now result (R.remaining reader.old) (R.remaining reader.new)
+    ensures sends { SendsAhead sending.now result (R.remaining reader.old) (R.remaining reader.new)
         (W.contents writer.old) (W.contents writer.new)
         (I.remaining (feed_stream input.old)) (I.remaining (feed_stream input.new)) }
     ensures failed { FailsBy result (failure_of input.new) }
@@ -159,7 +182,7 @@ fn send_watched<I: Read, R: Read, W: Write>(
     reader: &mut Watched<'_, R>,
     writer: &mut Watched<'_, W>,
 ) -> Result<(), Unsent>
-    ensures sends { SendsAll sending.now result
+    ensures sends { SendsAhead sending.now result
         (R.remaining (stream_of reader.old)) (R.remaining (stream_of reader.new))
         (W.contents (stream_of writer.old)) (W.contents (stream_of writer.new))
         (I.remaining (feed_stream input.old)) (I.remaining (feed_stream input.new)) }
@@ -174,6 +197,17 @@ fn send_watched<I: Read, R: Read, W: Write>(
     }
 }
 
+/// What was read as the reply to a send.
+#[derive(Clone, Copy)]
+enum Heard {
+    /// It was done.
+    Done,
+    /// It was refused.
+    Refused(Errno),
+    /// There is no reply.
+    Lost,
+}
+
 /// A client that sends several messages.
 #[derive(Drop)]
 struct Sender {
@@ -181,16 +215,19 @@ struct Sender {
     text: Body,
     /// The body that it received last, which is not used.
     given: Body,
+    /// What it read of its input and has not sent.
+    chunk: Chunk,
 }
 
 impl Sender {
     /// Creates a client that has made no request. Fails with `NoMemory` if allocation fails.
     fn open(alloc: Global) -> Result<Sender, NoMemory>
-        ensures { IfOk result (λ sender. sender.text ≡ []) }
+        ensures { IfOk result (λ sender. (sender.text ≡ []) × (sender.chunk ≡ [])) }
     {
         Ok(Sender {
             text: Body::open(alloc)?,
             given: Body::open(alloc)?,
+            chunk: Chunk::open(alloc)?,
         })
     }
 
@@ -202,8 +239,9 @@ impl Sender {
         reader: &mut Watched<'_, R>,
         writer: &mut Watched<'_, W>,
     ) -> Result<(), Unsent>
-        requires { self.old.text ≡ [] }
-        ensures sends { SendsAll sending.now result
+        requires text { self.old.text ≡ [] }
+        requires chunk { self.old.chunk ≡ [] }
+        ensures sends { SendsAhead sending.now result
             (R.remaining (stream_of reader.old)) (R.remaining (stream_of reader.new))
             (W.contents (stream_of writer.old)) (W.contents (stream_of writer.new))
             (I.remaining (feed_stream input.old)) (I.remaining (feed_stream input.new)) }
@@ -212,29 +250,254 @@ impl Sender {
         ensures same_reader { stream_name reader.new ≡ stream_name reader.old }
         ensures same_writer { stream_name writer.new ≡ stream_name writer.old }
     {
+        let mut window = self.find(sending, reader, writer)?;
+        let mut lines = 0;
+        while lines < u64::MAX {
+            let fetched = match fetch(input, &mut self.chunk, &mut self.text) {
+                Ok(fetched) => fetched,
+                Err(why) => return self.finish(reader, writer, &mut window, Err(why)),
+            };
+            if fetched.is_nothing() {
+                return self.finish(reader, writer, &mut window, Ok(()));
+            }
+            self.send(writer, &mut window)?;
+            if !fetched.is_line() {
+                return self.finish(reader, writer, &mut window, Ok(()));
+            }
+            let keep = kept(sending, window.waiting, self.chunk.has_line());
+            self.drain(reader, writer, &mut window, keep)?;
+            lines += 1;
+        }
+        self.finish(reader, writer, &mut window, Err(Unsent::Many))
+    }
+
+    /// Makes the requests before the first send. Returns the window of the sends.
+    fn find<R: Read, W: Write>(
+        &mut self,
+        sending: &Sending,
+        reader: &mut Watched<'_, R>,
+        writer: &mut Watched<'_, W>,
+    ) -> Result<Window, ClientFault>
+        requires { self.old.text ≡ [] }
+        ensures opens { Opens sending.now result
+            (R.remaining (stream_of reader.old)) (R.remaining (stream_of reader.new))
+            (W.contents (stream_of writer.old)) (W.contents (stream_of writer.new)) }
+        ensures chunk { self.new.chunk ≡ self.old.chunk }
+        ensures same_reader { stream_name reader.new ≡ stream_name reader.old }
+        ensures same_writer { stream_name writer.new ≡ stream_name writer.old }
+    {
         let hello = Ask::Hello(sending.cred);
         let welcome = exchange(reader, writer, hello, &self.text, &mut self.given)?;
         let got = exchange(reader, writer, sending.find(), &self.text, &mut self.given)?;
-        let mut id = found(found(0, &welcome), &got);
-        let mut sent = 0;
-        while sent < u64::MAX {
-            let fetched = fetch(input, &mut self.text)?;
-            if fetched.is_nothing() {
-                return Ok(());
-            }
-            let answer = exchange(
-                reader,
-                writer,
-                sending.send(id),
-                &self.text,
-                &mut self.given,
-            )?;
-            id = found(id, &answer);
-            if fetched.is_last() {
-                return Ok(());
-            }
-            sent += 1;
+        let id = found(found(0, &welcome), &got);
+        Ok(Window {
+            ask: sending.send(id),
+            done: 0,
+            waiting: 0,
+        })
+    }
+
+    /// Writes the send of a line, and flushes nothing.
+    fn send<W: Write>(
+        &mut self,
+        writer: &mut Watched<'_, W>,
+        window: &mut Window,
+    ) -> Result<(), Unsent>
+        requires { window.old.waiting < WINDOW }
+        ensures sends { (sending : ASending) (left rest taken fed unsent unfed : Option (List ℕ)) →
+            Sends sending left rest taken (W.contents (stream_of writer.old)) fed unsent window.old
+            → IsNext self.old.text unsent unfed → window.old.waiting < window_of sending
+            → Drains sending result (window.old.waiting + 1) left rest taken
+            (W.contents (stream_of writer.new)) fed unfed
+            (record { ask = window.old.ask; done = window.old.done; waiting = window.old.waiting + 1 })
+            window.new }
+        ensures len { OnOk result ((window.new.waiting ≡ window.old.waiting + 1)
+            × (window.new.done ≡ window.old.done)) }
+        ensures cut { IfErr result IsCut }
+        ensures chunk { self.new.chunk ≡ self.old.chunk }
+        ensures same_writer { stream_name writer.new ≡ stream_name writer.old }
+    {
+        window.waiting += 1;
+        match put(writer, window.ask, &self.text) {
+            Ok(()) => Ok(()),
+            Err(WriteFault) => Err(Unsent::Cut(lost(window))),
         }
-        Err(Unsent::Many)
+    }
+
+    /// Flushes the sends, and reads replies until no more than `keep` of the sends have none. If
+    /// no more have none already, it does nothing.
+    fn drain<R: Read, W: Write>(
+        &mut self,
+        reader: &mut Watched<'_, R>,
+        writer: &mut Watched<'_, W>,
+        window: &mut Window,
+        keep: u32,
+    ) -> Result<(), Unsent>
+        requires { window.old.done + window.old.waiting < 2 ^ 64 }
+        ensures drains { (sending : ASending) (left taken fed unsent : Option (List ℕ)) →
+            Sends sending left (R.remaining (stream_of reader.old)) taken
+            (W.contents (stream_of writer.old)) fed unsent window.old
+            → Drains sending result keep left (R.remaining (stream_of reader.new)) taken
+            (W.contents (stream_of writer.new)) fed unsent window.old window.new }
+        ensures cut { IfErr result IsCut }
+        ensures few { OnOk result (window.new.waiting ≤ keep) }
+        ensures len { OnOk result (window.new.done + window.new.waiting
+            ≡ window.old.done + window.old.waiting) }
+        ensures chunk { self.new.chunk ≡ self.old.chunk }
+        ensures same_reader { stream_name reader.new ≡ stream_name reader.old }
+        ensures same_writer { stream_name writer.new ≡ stream_name writer.old }
+    {
+        if window.waiting <= keep {
+            return Ok(());
+        }
+        if writer.flush().is_err() {
+            return Err(Unsent::Cut(lost(window)));
+        }
+        self.hear_until(reader, window, keep)
+    }
+
+    /// Reads replies until no more than `keep` of the sends have none.
+    fn hear_until<R: Read>(
+        &mut self,
+        reader: &mut Watched<'_, R>,
+        window: &mut Window,
+        keep: u32,
+    ) -> Result<(), Unsent>
+        requires { window.old.done + window.old.waiting < 2 ^ 64 }
+        ensures drains { (sending : ASending) (left taken more fed unsent : Option (List ℕ)) →
+            Sends sending left (R.remaining (stream_of reader.old)) taken more fed unsent window.old
+            → Drains sending result keep left (R.remaining (stream_of reader.new)) taken more fed
+            unsent window.old window.new }
+        ensures cut { IfErr result IsCut }
+        ensures few { OnOk result (window.new.waiting ≤ keep) }
+        ensures len { OnOk result (window.new.done + window.new.waiting
+            ≡ window.old.done + window.old.waiting) }
+        ensures chunk { self.new.chunk ≡ self.old.chunk }
+        ensures same_reader { stream_name reader.new ≡ stream_name reader.old }
+    {
+        while window.waiting > keep {
+            match self.hear_send(reader, window.ask) {
+                Heard::Done => {
+                    window.done += 1;
+                    window.waiting -= 1;
+                }
+                Heard::Refused(error) => {
+                    return Err(Unsent::Cut(self.refused(reader, window, error)));
+                }
+                Heard::Lost => return Err(Unsent::Cut(lost(window))),
+            }
+        }
+        Ok(())
+    }
+
+    /// Reads the reply to a send.
+    fn hear_send<R: Read>(&mut self, reader: &mut Watched<'_, R>, ask: Ask) -> Heard
+        ensures hears { HearsSend ask result (R.remaining (stream_of reader.old))
+            (R.remaining (stream_of reader.new)) }
+        ensures chunk { self.new.chunk ≡ self.old.chunk }
+        ensures same_reader { stream_name reader.new ≡ stream_name reader.old }
+    {
+        match hear(reader, ask, &mut self.given) {
+            Ok(_) => Heard::Done,
+            Err(ClientFault::Refused(error)) => Heard::Refused(error),
+            Err(ClientFault::NoReply) => Heard::Lost,
+            Err(ClientFault::NoMemory) => Heard::Lost,
+        }
+    }
+
+    /// Reads the replies to the sends after one that was refused with this error. Returns how the
+    /// session ended.
+    fn refused<R: Read>(
+        &mut self,
+        reader: &mut Watched<'_, R>,
+        window: &Window,
+        error: Errno,
+    ) -> Cut
+        requires { 0 < window.now.waiting }
+        ensures ends { (sending : ASending) (left mid taken more fed unsent : Option (List ℕ)) →
+            Sends sending left mid taken more fed unsent window.now
+            → HearsSend window.now.ask (heards.Refused error) mid
+            (R.remaining (stream_of reader.old))
+            → EndsCut sending (unsents.Cut result) left (R.remaining (stream_of reader.new))
+            taken more fed }
+        ensures chunk { self.new.chunk ≡ self.old.chunk }
+        ensures same_reader { stream_name reader.new ≡ stream_name reader.old }
+    {
+        let mut cut = Cut {
+            before: window.done,
+            fault: ClientFault::Refused(error),
+            after: 0,
+            unknown: window.waiting - 1,
+        };
+        while cut.unknown > 0 {
+            match self.hear_send(reader, window.ask) {
+                Heard::Done => cut.after += 1,
+                Heard::Refused(_) => {}
+                Heard::Lost => return cut,
+            }
+            cut.unknown -= 1;
+        }
+        cut
+    }
+
+    /// Reads the replies that are left, and ends the session like the lines of the input.
+    fn finish<R: Read, W: Write>(
+        &mut self,
+        reader: &mut Watched<'_, R>,
+        writer: &mut Watched<'_, W>,
+        window: &mut Window,
+        ended: Result<(), Unsent>,
+    ) -> Result<(), Unsent>
+        requires { window.old.done + window.old.waiting < 2 ^ 64 }
+        ensures ends { (sending : ASending) (left taken fed unsent unfed : Option (List ℕ)) →
+            Sends sending left (R.remaining (stream_of reader.old)) taken
+            (W.contents (stream_of writer.old)) fed unsent window.old
+            → EndsLines ended (window.old.done + window.old.waiting) unsent unfed
+            → SendsAll sending result left (R.remaining (stream_of reader.new)) taken
+            (W.contents (stream_of writer.new)) fed unfed }
+        ensures same_end { (result ≡ ended) ⊎ IfErr result IsCut }
+        ensures chunk { self.new.chunk ≡ self.old.chunk }
+        ensures same_reader { stream_name reader.new ≡ stream_name reader.old }
+        ensures same_writer { stream_name writer.new ≡ stream_name writer.old }
+    {
+        self.drain(reader, writer, window, 0)?;
+        ended
+    }
+}
+
+/// The sends of a session.
+#[derive(Clone, Copy)]
+struct Window {
+    /// The request of each send.
+    ask: Ask,
+    /// The number of sends that were done.
+    done: u64,
+    /// The number of sends that were written and have no reply yet.
+    waiting: u32,
+}
+
+/// Returns how a session ends that has no reply to the sends on their way.
+fn lost(window: &Window) -> Cut
+    ensures { result ≡ lost window.now }
+{
+    Cut {
+        before: window.done,
+        fault: ClientFault::NoReply,
+        after: 0,
+        unknown: window.waiting,
+    }
+}
+
+/// Returns how many sends may stay on their way once this number is: fewer than a window, and none
+/// if the next line was not read yet. If the window is full, half of it may.
+fn kept(sending: &Sending, waiting: u32, has_line: bool) -> u32
+    ensures { result < window_of sending.now }
+{
+    if sending.nowait || !has_line {
+        0
+    } else if waiting < WINDOW {
+        waiting
+    } else {
+        WINDOW / 2
     }
 }

@@ -13,7 +13,7 @@ use Rattle.sysv_clients.specs.declared.stream.Receiving.{Receiving}
 use Rattle.sysv_clients.specs.declared.stream.Stop.{Stop}
 use Rattle.sysv_clients.specs.Clearing.{ClearsAll}
 use Rattle.sysv_clients.specs.Run.{Runs}
-use Rattle.sysv_clients.specs.Sending.{SendsAll}
+use Rattle.sysv_clients.specs.Sending.{SendsAhead}
 use Rattle.sysv_clients.specs.Stream.{TakesAll}
 use Rattle.sysv_model.specs.declared.cred.Cred.{Cred}
 use Rattle.sysv_model.specs.declared.limits.TheConstants.{BODY_ROOM}
@@ -35,7 +35,7 @@ HasReceived receiving ended left taken shown after =
 -- A client sent the lines of an input that had these bytes, and ended like this.
 abbrev pub HasSent : Sending → Result ⊤ Unsent → (left taken fed : Option (List ℕ)) → Type 0
 HasSent sending ended left taken fed =
-    (rest more unfed : Option (List ℕ)) × SendsAll sending ended left rest taken more fed unfed
+    (rest more unfed : Option (List ℕ)) × SendsAhead sending ended left rest taken more fed unfed
 
 -- A client removed all queues but those that it was refused, and ended like this. The refusals
 -- were `before` before, and are `reported` now.

@@ -18,8 +18,8 @@ use std::alloc::Global;
 use std::io::{BufReader, BufWriter, Eprint, Read, Write};
 use std::process::ExitCode;
 use sysv_clients::{
-    ClientFault, Receipt, Receiving, Refusal, Sending, Stop, Target, Task, Unsent, receive_all,
-    remove_all, send_lines,
+    ClientFault, Cut, Receipt, Receiving, Refusal, Sending, Stop, Target, Task, Unsent,
+    receive_all, remove_all, send_lines,
 };
 use sysv_model::{Cred, Errno};
 
@@ -213,11 +213,34 @@ fn send_on<I: Read, R: Leave + Drop, W: Write + Drop>(
         Ok(()) => return ExitCode::SUCCESS,
         Err(unsent) => unsent,
     };
-    if let Unsent::Input(why) = &unsent {
-        complain(rt, "standard input", why, "");
+    match &unsent {
+        Unsent::Input(why) => complain(rt, "standard input", why, ""),
+        Unsent::Cut(cut) => explain(rt, cut),
+        _ => {}
     }
     let _ = print!(rt; "{}", unsent.line());
     ExitCode::from(FAULT)
+}
+
+/// Reports on standard error which lines were sent: the first that was refused and why, and how many
+/// later ones were sent, or how many were sent if the connection was lost.
+fn explain(rt: &impl Eprint, cut: &Cut) {
+    let Cut {
+        before,
+        fault,
+        after,
+        unknown,
+    } = *cut;
+    let _ = match fault {
+        ClientFault::Refused(error) => {
+            let line = before.saturating_add(1);
+            eprintln!(rt; "sysvmsg: line {line}: {error}; later lines that were sent: {after}")
+        }
+        _ => eprintln!(rt; "sysvmsg: lines that were sent: {before}"),
+    };
+    if unknown > 0 {
+        let _ = eprintln!(rt; "sysvmsg: lines that may have been sent: {unknown}");
+    }
 }
 
 /// Sends lines over a connection. A send that is left after this number of seconds fails with
@@ -239,6 +262,13 @@ fn send_over<I: Read, R: Leave + Drop, W: Write + Drop>(
         Err(Unsent::Fault(ClientFault::NoReply)) if leaver.is_over(&outgoing) => {
             Err(Unsent::Fault(ClientFault::Refused(Errno::EAGAIN)))
         }
+        Err(Unsent::Cut(cut)) if cut.fault == ClientFault::NoReply && leaver.is_over(&outgoing) => {
+            Err(Unsent::Cut(Cut {
+                fault: ClientFault::Refused(Errno::EAGAIN),
+                unknown: 0,
+                ..cut
+            }))
+        }
         outcome => outcome,
     }
 }
@@ -254,16 +284,12 @@ fn send_through<I: Read, R: Read + Drop, W: Write + Drop>(
     ensures { HasSent sending.now result (R.remaining reader) (W.contents writer)
         (I.remaining input.old) }
 {
-    let Ok(mut lines) = BufReader::new(alloc, input) else {
-        return Err(Unsent::Fault(NO_MEMORY));
-    };
-    let (Ok(mut reader), Ok(mut writer)) = (
-        BufReader::new(alloc, reader),
-        BufWriter::new(alloc, writer),
-    ) else {
-        return Err(Unsent::Fault(NO_MEMORY));
-    };
-    send_lines(alloc, sending, &mut lines, &mut reader, &mut writer)
+    match (BufReader::new(alloc, reader), BufWriter::new(alloc, writer)) {
+        (Ok(mut reader), Ok(mut writer)) => {
+            send_lines(alloc, sending, input, &mut reader, &mut writer)
+        }
+        _ => Err(Unsent::Fault(NO_MEMORY)),
+    }
 }
 
 /// Connects to the server at `path` and removes all queues there that the caller may remove. Each

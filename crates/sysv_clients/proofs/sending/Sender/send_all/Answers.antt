@@ -1,94 +1,105 @@
-use Rattle.std.proofs.Common.{◌∙◌, arith, refl, sym}
-use Rattle.std.specs.Int.{w32}
-use Rattle.std.proofs.lemmas.Int.{to_z-of_z}
+use Rattle.std.proofs.Common.{[], ◌∙◌, arith, refl, sym}
 use Rattle.std.proofs.lemmas.Result.{err_from_is_err_and}
-use Rattle.sysv_clients.proofs.SendLemmas.{at_end, breaks_off, finishes, finishes_last, is_line, no_hello, no_more}
-use Rattle.sysv_clients.proofs.SendLemmas.{none_left, not_found, opens, sends_more, unfetched}
+use Rattle.sysv_clients.proofs.SendLemmas.{begins, begins_there, ends_unread, is_next, none_after, none_left, not_ahead}
+use Rattle.sysv_clients.proofs.SendLemmas.{has_space, same_ahead, unopened}
 use Rattle.sysv_clients.proofs.sending.Sender.send_all.Goals as goal
 
-pub returns-in_err-welcome-clause-sends : goal.returns-in_err-welcome-clause-sends
-returns-in_err-welcome-clause-sends g c =
+pub returns-in_err-window-clause-sends : goal.returns-in_err-window-clause-sends
+returns-in_err-window-clause-sends g c =
     let p = err_from_is_err_and c.from_residual.result c.from_residual.ensures.1 in
-    rw (p.1, p.2)
-    (no_hello c.args.sending.now c.in_err-welcome.field-0.0 c.exchange.new.given c.args.self.now.text _ _ _ _ _
-    c.requires c.in_err-welcome.ensures.exchanges)
+    rw (p.1, p.2) (
+      [],
+      not_ahead c.args.sending.now _ [] _ _ _ _ _ _ refl
+          (unopened c.args.sending.now c.in_err-window.field-0.0 _ _ _ _ _ c.in_err-window.ensures.opens),
+    )
 
-pub returns-in_err-got-clause-sends : goal.returns-in_err-got-clause-sends
-returns-in_err-got-clause-sends g c =
-    let p = err_from_is_err_and c.from_residual-in_err-got.result c.from_residual-in_err-got.ensures.1 in
-    rw (p.1, p.2)
-    (not_found c.args.sending.now c.in_ok-welcome.welcome c.in_err-got.field-0.0 c.exchange.new.given
-    c.exchange-2.new.given c.args.self.now.text _ _ _ _ _ _ _ c.find.result c.requires
-    c.in_ok-welcome.ensures.exchanges c.find.ensures c.in_err-got.ensures.exchanges)
+pub loop-lines-init : goal.loop-lines-init
+loop-lines-init g c =
+    let opened = c.in_ok-window.ensures.opens in
+    record {
+      sends = begins_there c.args.sending.now _ _ _ _ _ _ c.in_ok-window.window
+          (c.find.ensures.chunk ∙ c.requires.chunk)
+          (begins c.args.sending.now c.in_ok-window.window _ _ _ _ _ opened);
+      lines = omega (arith, opened.4, opened.5);
+      room = has_space _ c.args.sending.now opened.5;
+      same_input = refl;
+      same_reader = c.find.ensures.same_reader;
+      same_writer = c.find.ensures.same_writer;
+    }
 
-pub loop-sent-init : goal.loop-sent-init
-loop-sent-init g c = record {
-  sends = rw (
-    to_z-of_z w32 c.found-id.result (record { sfits = c.found-id.type_inv }),
-    c.found-id.ensures,
-    to_z-of_z w32 c.found.result (record { sfits = c.found.type_inv }),
-    c.found.ensures,
-  )
-      (opens c.args.sending.now c.in_ok-welcome.welcome c.in_ok-got.got c.exchange.new.given c.exchange-2.new.given
-      c.args.self.now.text _ _ _ _ _ _ _ c.find.result c.in_ok-welcome.ensures.exchanges c.find.ensures
-      c.in_ok-got.ensures.exchanges);
-  same_input = refl;
-  same_reader = c.exchange-2.ensures.same_reader ∙ c.exchange.ensures.same_reader;
-  same_writer = c.exchange-2.ensures.same_writer ∙ c.exchange.ensures.same_writer;
-}
-
-pub returns-in_err-fetched-clause-sends : goal.returns-in_err-fetched-clause-sends
-returns-in_err-fetched-clause-sends g c =
-    let p = err_from_is_err_and c.from_residual-in_err-fetched.result c.from_residual-in_err-fetched.ensures.1 in
-    rw (p.1, p.2)
-    (unfetched c.args.sending.now c.in_err-fetched.field-0.0 c.fetch.new.line _ _ _ _ _ _ _ _ _
-    c.loop-sent.invariant.sends c.in_err-fetched.ensures.fetches)
+pub returns-in-Err-clause-sends : goal.returns-in-Err-clause-sends
+returns-in-Err-clause-sends g c = (
+  c.fetch.new.chunk,
+  c.finish.ensures.ends c.args.sending.now _ _ _ _ _ c.loop-lines.invariant.sends
+      (ends_unread c.in-Err.why _ _ _ c.fetch.new.line c.in-Err.ensures.fetches),
+)
 
 pub returns-then-is_nothing-clause-sends : goal.returns-then-is_nothing-clause-sends
-returns-then-is_nothing-clause-sends g c =
-    finishes c.args.sending.now _ _ _ _ _ _ _ _ _ _ c.loop-sent.invariant.sends
-    (none_left c.in_ok-fetched.fetched _ _ c.fetch.new.line (sym c.is_nothing.ensures ∙ c.if-is_nothing.true)
-    c.in_ok-fetched.ensures.fetches)
+returns-then-is_nothing-clause-sends g c = (
+  c.fetch.new.chunk,
+  c.finish-then-is_nothing.ensures.ends c.args.sending.now _ _ _ _ _ c.loop-lines.invariant.sends
+      (none_left c.in-Ok.fetched _ _ c.fetch.new.line (sym c.is_nothing.ensures ∙ c.if-is_nothing.true)
+      c.in-Ok.ensures.fetches),
+)
 
-pub returns-in_err-answer-clause-sends : goal.returns-in_err-answer-clause-sends
-returns-in_err-answer-clause-sends g c =
-    let p = err_from_is_err_and c.from_residual-in_err-answer.result c.from_residual-in_err-answer.ensures.1 in
+pub returns-in_err-send-clause-sends : goal.returns-in_err-send-clause-sends
+returns-in_err-send-clause-sends g c =
+    let p = err_from_is_err_and c.from_residual-in_err-send.result c.from_residual-in_err-send.ensures.1 in
+    rw (p.1, p.2) (
+      c.fetch.new.chunk,
+      c.in_err-send.ensures.sends c.args.sending.now _ _ _ _ _ _ c.loop-lines.invariant.sends
+          (is_next c.in-Ok.fetched _ _ c.fetch.new.line (sym c.is_nothing.ensures ∙ c.if-is_nothing.false)
+          c.in-Ok.ensures.fetches)
+          c.loop-lines.invariant.room _,
+    )
+
+pub returns-then-not-is_line-clause-sends : goal.returns-then-not-is_line-clause-sends
+returns-then-not-is_line-clause-sends g c =
+    let some = sym c.is_nothing.ensures ∙ c.if-is_nothing.false in
+    let sent = c.in_ok-send.ensures.sends c.args.sending.now _ _ _ _ _ _ c.loop-lines.invariant.sends
+    (is_next c.in-Ok.fetched _ _ c.fetch.new.line some c.in-Ok.ensures.fetches) c.loop-lines.invariant.room in (
+      c.fetch.new.chunk,
+      c.finish-then-not-is_line.ensures.ends c.args.sending.now _ _ _ _ _ sent.0
+          (none_after c.in-Ok.fetched _ _ c.fetch.new.line some (sym c.is_line.ensures ∙ c.if-not-is_line.true)
+          c.in-Ok.ensures.fetches),
+    )
+
+pub returns-in_err-drain-clause-sends : goal.returns-in_err-drain-clause-sends
+returns-in_err-drain-clause-sends g c =
+    let p = err_from_is_err_and c.from_residual-in_err-drain.result c.from_residual-in_err-drain.ensures.1 in
+    let some = sym c.is_nothing.ensures ∙ c.if-is_nothing.false in
+    let sent = c.in_ok-send.ensures.sends c.args.sending.now _ _ _ _ _ _ c.loop-lines.invariant.sends
+    (is_next c.in-Ok.fetched _ _ c.fetch.new.line some c.in-Ok.ensures.fetches) c.loop-lines.invariant.room in
     rw (p.1, p.2)
-    (breaks_off c.args.sending.now c.in_err-answer.field-0.0 c.exchange-in-loop-sent.new.given c.fetch.new.line _ _ _ _
-    _ _ _ _ _ _ _ c.send.result c.loop-sent.invariant.sends
-    (is_line c.in_ok-fetched.fetched _ _ c.fetch.new.line (sym c.is_nothing.ensures ∙ c.if-is_nothing.false)
-    c.in_ok-fetched.ensures.fetches)
-    c.send.ensures c.in_err-answer.ensures.exchanges)
+    (c.fetch.new.chunk, c.in_err-drain.ensures.drains c.args.sending.now _ _ _ _ sent.0 _)
 
-pub returns-then-is_last-clause-sends : goal.returns-then-is_last-clause-sends
-returns-then-is_last-clause-sends g c =
-    finishes_last c.args.sending.now _ _ _ _ _ _ _ _ _
-    (sends_more c.args.sending.now c.in_ok-answer.answer c.exchange-in-loop-sent.new.given c.fetch.new.line _ _ _ _ _ _
-    _ _ _ _ _ c.send.result c.loop-sent.invariant.sends
-    (is_line c.in_ok-fetched.fetched _ _ c.fetch.new.line (sym c.is_nothing.ensures ∙ c.if-is_nothing.false)
-    c.in_ok-fetched.ensures.fetches)
-    c.send.ensures c.in_ok-answer.ensures.exchanges)
-    (at_end c.in_ok-fetched.fetched _ _ c.fetch.new.line (sym c.is_last.ensures ∙ c.if-is_last.true)
-    c.in_ok-fetched.ensures.fetches)
-
-pub loop-sent-preserved : goal.loop-sent-preserved
-loop-sent-preserved g c = record {
-  sends = rw (
-    to_z-of_z w32 c.found-id-in-loop-sent.result (record { sfits = c.found-id-in-loop-sent.type_inv }),
-    c.found-id-in-loop-sent.ensures,
-  )
-      (sends_more c.args.sending.now c.in_ok-answer.answer c.exchange-in-loop-sent.new.given c.fetch.new.line _ _ _ _ _
-      _ _ _ _ _ _ c.send.result c.loop-sent.invariant.sends
-      (is_line c.in_ok-fetched.fetched _ _ c.fetch.new.line (sym c.is_nothing.ensures ∙ c.if-is_nothing.false)
-      c.in_ok-fetched.ensures.fetches)
-      c.send.ensures c.in_ok-answer.ensures.exchanges);
-  same_input = c.in_ok-fetched.ensures.same ∙ c.loop-sent.invariant.same_input;
-  same_reader = c.exchange-in-loop-sent.ensures.same_reader ∙ c.loop-sent.invariant.same_reader;
-  same_writer = c.exchange-in-loop-sent.ensures.same_writer ∙ c.loop-sent.invariant.same_writer;
-}
+pub loop-lines-preserved : goal.loop-lines-preserved
+loop-lines-preserved g c =
+    let some = sym c.is_nothing.ensures ∙ c.if-is_nothing.false in
+    let sent = c.in_ok-send.ensures.sends c.args.sending.now _ _ _ _ _ _ c.loop-lines.invariant.sends
+    (is_next c.in-Ok.fetched _ _ c.fetch.new.line some c.in-Ok.ensures.fetches) c.loop-lines.invariant.room in
+    let drained = c.in_ok-drain.ensures.drains c.args.sending.now _ _ _ _ sent.0 in
+    record {
+      sends = same_ahead c.args.sending.now _ c.fetch.new.chunk _ _ _ _ _ _ c.drain.new.window
+          (c.drain.ensures.chunk ∙ c.send.ensures.chunk) drained.0;
+      lines = omega (
+        arith,
+        c.in_ok-drain.ensures.len,
+        c.in_ok-send.ensures.len.0,
+        c.in_ok-send.ensures.len.1,
+        c.loop-lines.invariant.lines,
+      );
+      room = omega (arith, c.in_ok-drain.ensures.few, c.kept-keep.ensures);
+      same_input = c.fetch.ensures.same ∙ c.loop-lines.invariant.same_input;
+      same_reader = c.drain.ensures.same_reader ∙ c.loop-lines.invariant.same_reader;
+      same_writer = c.drain.ensures.same_writer ∙ c.send.ensures.same_writer
+          ∙ c.loop-lines.invariant.same_writer;
+    }
 
 pub returns-clause-sends : goal.returns-clause-sends
 returns-clause-sends g c =
-    let test = c.loop-sent-test.false in
-    let fits = c.loop-sent.auto.sent-fits in
-    no_more c.args.sending.now _ _ _ _ _ _ _ _ c.loop-sent.invariant.sends (omega arith)
+    let fits = c.loop-lines.auto.lines-fits in (
+      c.loop-lines.self.chunk,
+      c.finish-2.ensures.ends c.args.sending.now _ _ _ _ _ c.loop-lines.invariant.sends
+          (refl, omega (arith, c.loop-lines-test.false, c.loop-lines.invariant.lines, fits)),
+    )

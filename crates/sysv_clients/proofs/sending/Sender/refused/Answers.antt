@@ -1,0 +1,61 @@
+use Rattle.std.proofs.Common.{ℕ, [], arith, ◌∙◌, ◌-◌, ◌+◌, sym, refl, inl, inr, ap}
+use Rattle.sysv_wire.specs.declared.reply.ReplyContent.TheVariants.{Refused}
+use Rattle.sysv_clients.proofs.RefusalLemmas.{done_accepts, refuses, refuses_all, refuses_lost, refuses_more}
+use Rattle.sysv_clients.proofs.sending.Sender.refused.Goals as goal
+use Rattle.sysv_clients.proofs.sending.Sender.refused.Goals.{in-Done, in-Refused}
+
+pub loop-cut-init : goal.loop-cut-init
+loop-cut-init g c = record {
+  refusing = λ sending left mid taken more fed unsent so_far replied.
+      refuses sending c.args.error left mid _ taken more fed unsent c.args.window.now
+      (c.args.window.now.waiting - 1) so_far (omega (arith, c.requires)) replied;
+  few = omega (arith, c.requires);
+  chunk = refl;
+  same_reader = refl;
+}
+
+pub loop-cut-preserved : goal.loop-cut-preserved
+loop-cut-preserved g c =
+    let cut = c.loop-cut.cut in
+    elim c.match-hear_send.branch [
+      | in-Done w ↦
+          let h = w.in-Done.ensures.hears in
+          record {
+            refusing = λ sending left mid taken more fed unsent so_far replied.
+                rw w.cut-is
+                (refuses_more sending c.args.error h.0 h.1 left _ _ taken more fed unsent c.args.window.now.ask cut
+                (cut.after + 1) (cut.unknown - 1)
+                (c.loop-cut.invariant.refusing sending left mid taken more fed unsent so_far replied)
+                (omega (arith, c.loop-cut-test.true))
+                (ap (λ (n : ℕ). cut.after + n) (sym (done_accepts h.0 h.3.done))) h.2 (λ text. inl h.3));
+            few = rw w.cut-is (omega (arith, c.loop-cut-test.true, c.loop-cut.invariant.few));
+            chunk = c.hear_send.ensures.chunk ∙ c.loop-cut.invariant.chunk;
+            same_reader = c.hear_send.ensures.same_reader ∙ c.loop-cut.invariant.same_reader;
+          }
+      | in-Refused w ↦
+          let error = w.in-Refused.field-0 in
+          record {
+            refusing = λ sending left mid taken more fed unsent so_far replied.
+                rw w.cut-is
+                (refuses_more sending c.args.error (Refused error) [] left _ _ taken more fed unsent
+                c.args.window.now.ask cut cut.after (cut.unknown - 1)
+                (c.loop-cut.invariant.refusing sending left mid taken more fed unsent so_far replied)
+                (omega (arith, c.loop-cut-test.true)) (omega arith) w.in-Refused.ensures.hears
+                (λ text. inr (error, (refl, refl))));
+            few = rw w.cut-is (omega (arith, c.loop-cut-test.true, c.loop-cut.invariant.few));
+            chunk = c.hear_send.ensures.chunk ∙ c.loop-cut.invariant.chunk;
+            same_reader = c.hear_send.ensures.same_reader ∙ c.loop-cut.invariant.same_reader;
+          }
+    ]
+
+pub returns-in-Lost-clause-ends : goal.returns-in-Lost-clause-ends
+returns-in-Lost-clause-ends g c = λ sending left mid taken more fed unsent so_far replied unfed.
+    refuses_lost sending c.args.error left _ _ taken more fed unsent c.args.window.now.ask c.loop-cut.cut
+    (c.loop-cut.invariant.refusing sending left mid taken more fed unsent so_far replied)
+    c.in-Lost.ensures.hears unfed
+
+pub returns-clause-ends : goal.returns-clause-ends
+returns-clause-ends g c = λ sending left mid taken more fed unsent so_far replied unfed.
+    refuses_all sending c.args.error left _ taken more fed unsent c.args.window.now.ask c.loop-cut.cut
+    (c.loop-cut.invariant.refusing sending left mid taken more fed unsent so_far replied)
+    (omega (arith, c.loop-cut-test.false)) unfed

@@ -1,0 +1,23 @@
+-- A send was refused, and some replies after it were read.
+use Rattle.std.proofs.Common.{◌≡◌, ◌<◌, ◌+◌, ℕ, List, Option}
+use Rattle.sysv_clients.specs.declared.sending.Heard.TheVariants.{Refused}
+use Rattle.sysv_clients.specs.declared.sending.Sending.{Sending as ASending}
+use Rattle.sysv_clients.specs.Window.{HearsSend, Sends}
+use Rattle.sysv_model.specs.Watched.{stream_name, stream_of}
+use Rattle.sysv_clients.proofs.RefusalLemmas.{Refusing}
+use Rattle.sysv_clients.proofs.sending.Sender.refused.Given as goal
+
+abbrev pub invariant-loop-cut : goal.invariant-loop-cut
+invariant-loop-cut g l = record {
+  refusing : (sending : ASending) (left mid taken more fed unsent : Option (List ℕ))
+      → Sends sending left mid taken more fed unsent l.window
+      → HearsSend l.window.ask (Refused l.fn.error) mid (g.R.Read.remaining (stream_of l.initial.reader))
+      → Refusing sending l.fn.error left (g.R.Read.remaining (stream_of l.reader)) taken more fed unsent l.window.ask
+      l.cut;
+  few : l.cut.after + l.cut.unknown < l.window.waiting;
+  chunk : l.self.chunk ≡ l.initial.self.chunk;
+  same_reader : stream_name l.reader ≡ stream_name l.initial.reader;
+}
+
+abbrev pub decreases-loop-cut : goal.decreases-loop-cut
+decreases-loop-cut g l = l.cut.unknown
