@@ -6,7 +6,7 @@
 -- then waits for room, raises the released count.
 use Rattle.std.specs.Prelude.{◌≡◌, ◌++◌, ◌≤◌, ℤ, Bool, true, false, not, List, [], ◌∷◌, length}
 use Rattle.std.specs.Prelude.{Option, None, Some, if◌then◌else◌, vec_capacity}
-use Rattle.std.specs.Cmp.{int_eq}
+use Rattle.std.specs.Ordering.{int_eq}
 use Rattle.std.specs.Option.{option_to_list}
 use Rattle.sysv_keys.specs.Identifier.{slot_of_id}
 use Rattle.sysv_service.specs.declared.progress.Progress.{Progress}

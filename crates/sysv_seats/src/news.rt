@@ -82,7 +82,10 @@ fn there(request: &Request, outcome: &RequestOutcome) -> Option<News>
             slot: slot_of_id(id),
             mtype,
         }),
-        Ask::Set { id, .. } | Ask::Rm { id } if is_done(outcome) => Some(News::Changed {
+        Ask::Set { id, .. } if is_done(outcome) => Some(News::Changed {
+            slot: slot_of_id(id),
+        }),
+        Ask::Rm { id } if is_done(outcome) => Some(News::Changed {
             slot: slot_of_id(id),
         }),
         _ => None,
