@@ -10,15 +10,15 @@ _sysvmsg_words() {
     case $1 in
     script) echo "--help --version" ;;
     serve) echo "$_sysvmsg_server --until-eof --help --version" ;;
-    ipcs) echo "-i --json $credentials --help --version" ;;
-    ipcmk) echo "--mode --qbytes $credentials --help --version" ;;
-    ipcrm) echo "-q -Q --all $credentials --help --version" ;;
+    ipcs) echo "-i --json --wait $credentials --help --version" ;;
+    ipcmk) echo "--mode --qbytes --wait $credentials --help --version" ;;
+    ipcrm) echo "-q -Q --all --wait $credentials --help --version" ;;
     snd) echo "--stdin --lines --type --nowait --wait $credentials --help --version" ;;
     rcv)
         echo "--type --upto --except --size --nowait --noerror --wait --count --follow --show-type --raw --create --mode"
         echo "$credentials --help --version"
         ;;
-    *) echo "serve snd rcv ipcs ipcrm ipcmk script --help --version" ;;
+    *) echo "serve snd rcv ipcs ipcrm ipcmk script help --help --version" ;;
     esac
 }
 

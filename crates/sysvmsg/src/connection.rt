@@ -13,13 +13,16 @@ use crate::leaver::Leaver;
 use crate::place::{Leave, Place};
 use crate::plain::complain;
 use crate::several::{Way, receive_at, remove_at, send_at, way_of};
-use crate::{FAULT, say};
+use crate::{FAULT, TIMED_OUT, say};
 use std::alloc::Global;
 use std::io;
 use std::io::{BufReader, BufWriter, Eprint, Read, Write};
 use std::process::ExitCode;
 use sysv_clients::{ClientFault, Command, Task, run_client};
 use sysv_model::{BODY_ROOM, Errno};
+
+/// The status of a client whose call was left.
+const LATE: i32 = 3;
 
 /// More bytes than a client shows of one message.
 const PAGE_ROOM: usize = 8_300;
@@ -47,7 +50,7 @@ pub(crate) fn run_as<I: Read, P: Place, S: Write>(
     match way_of(command.cred, &command.task, how) {
         Way::Stream(receiving) => receive_at(rt, place, path, &receiving, how.wait, screen),
         Way::Lines(sending) => send_at(rt, input, place, path, &sending, how.wait),
-        Way::Clear => remove_at(rt, place, path, command.cred),
+        Way::Clear => remove_at(rt, place, path, command.cred, how.wait),
         Way::Once => run_one(rt, input, place, path, command, how, screen),
     }
 }
@@ -169,7 +172,7 @@ fn run_at<P: Place, S: Write>(
 
 /// Runs a command over a connection like `run_over`, but leaves a call that has no reply after this
 /// number of seconds. If the server then ends the session without a reply, the call had no effect:
-/// the line of ENOMSG or, for a `snd`, of EAGAIN is shown.
+/// of a `rcv` the line of ENOMSG is shown, and of a `snd` that of EAGAIN.
 ///
 /// # Conditions
 ///
@@ -191,12 +194,25 @@ fn run_within<R: Leave + Drop, W: Write + Drop, S: Write>(
         return no_memory(screen);
     };
     let status = run_through(alloc, &mut leaver, writer, command, &mut page);
-    let text = text_within(command, status, page.as_slice(), leaver.has_left());
-    show(screen, text, status)
+    let has_left = leaver.has_left();
+    let text = text_within(command, status, page.as_slice(), has_left);
+    show(screen, text, status_within(status, has_left))
+}
+
+/// Returns the status of a command that ended with this status: that of a time-out if it had an
+/// error and the call was left.
+fn status_within(status: i32, has_left: bool) -> i32
+    ensures { result ≡ pos 0 → status ≡ pos 0 }
+{
+    if status != 0 && has_left {
+        LATE
+    } else {
+        status
+    }
 }
 
 /// Returns what is shown of a command that ended with this status: the page, or the line of an error
-/// if the call was left.
+/// if a send or a receive was left.
 fn text_within<'a>(command: &Command<'_>, status: i32, page: &'a [u8], has_left: bool) -> &'a [u8]
     ensures { status ≡ pos 0 → result.now ≡ page.now }
 {
@@ -205,7 +221,8 @@ fn text_within<'a>(command: &Command<'_>, status: i32, page: &'a [u8], has_left:
     }
     let error = match command.task {
         Task::Send { .. } => Errno::EAGAIN,
-        _ => Errno::ENOMSG,
+        Task::Receive(_) => Errno::ENOMSG,
+        _ => return page,
     };
     ClientFault::Refused(error).line().as_bytes()
 }
@@ -275,7 +292,19 @@ fn ended(status: i32) -> ExitCode
 {
     match status {
         0 => ExitCode::SUCCESS,
+        LATE => ExitCode::from(TIMED_OUT),
         _ => ExitCode::from(FAULT),
+    }
+}
+
+/// Returns the status of a fault, or that of a time-out if a call was left.
+pub(crate) fn failed(is_late: bool) -> ExitCode
+    ensures { Succeeds result → ⊥ }
+{
+    if is_late {
+        ExitCode::from(TIMED_OUT)
+    } else {
+        ExitCode::from(FAULT)
     }
 }
 

@@ -10,7 +10,7 @@ ghost use Rattle.sysvmsg.specs.Several.{is_of_stream, receiving_of, way_by};
 
 use crate::FAULT;
 use crate::asked::How;
-use crate::connection::no_server;
+use crate::connection::{failed, no_server};
 use crate::leaver::{Leaver, Outgoing};
 use crate::place::{Leave, Place};
 use crate::plain::{complain, report};
@@ -127,15 +127,15 @@ fn receive_on<R: Leave + Drop, W: Write + Drop, S: Write>(
 {
     match receive_over(rt.alloc(), reader, writer, receiving, wait, screen) {
         Ok(()) => ExitCode::SUCCESS,
-        Err(stop) => {
+        Err((stop, is_late)) => {
             report(rt, stop.line());
-            ExitCode::from(FAULT)
+            failed(is_late)
         }
     }
 }
 
 /// Receives messages over a connection. A receive that is left after this number of seconds fails
-/// with ENOMSG.
+/// with ENOMSG, and the error states that it was.
 fn receive_over<R: Leave + Drop, W: Write + Drop, S: Write>(
     alloc: Global,
     reader: R,
@@ -143,7 +143,7 @@ fn receive_over<R: Leave + Drop, W: Write + Drop, S: Write>(
     receiving: &Receiving,
     wait: Option<u32>,
     screen: &mut S,
-) -> Result<(), Stop>
+) -> Result<(), (Stop, bool)>
     ensures { (ended : Result ⊤ AStop) × HasReceived receiving.now ended
         (R.remaining reader) (W.contents writer) (S.contents screen.old) (S.contents screen.new)
         × (is_ok result ≡ is_ok ended) }
@@ -151,9 +151,10 @@ fn receive_over<R: Leave + Drop, W: Write + Drop, S: Write>(
     let (mut leaver, mut outgoing) = (Leaver::new(reader, wait), Outgoing::new(writer));
     match receive_through(alloc, &mut leaver, &mut outgoing, receiving, screen) {
         Err(Stop::Fault(ClientFault::NoReply)) if leaver.is_over(&outgoing) => {
-            Err(Stop::Fault(ClientFault::Refused(Errno::ENOMSG)))
+            Err((Stop::Fault(ClientFault::Refused(Errno::ENOMSG)), true))
         }
-        outcome => outcome,
+        Err(stop) => Err((stop, false)),
+        Ok(()) => Ok(()),
     }
 }
 
@@ -209,9 +210,9 @@ fn send_on<I: Read, R: Leave + Drop, W: Write + Drop>(
         (R.remaining reader) (W.contents writer) (I.remaining input.old)
         × SucceedsIf (ended ≡ Ok tt) result }
 {
-    let unsent = match send_over(rt.alloc(), input, reader, writer, sending, wait) {
+    let (unsent, is_late) = match send_over(rt.alloc(), input, reader, writer, sending, wait) {
         Ok(()) => return ExitCode::SUCCESS,
-        Err(unsent) => unsent,
+        Err(why) => why,
     };
     match &unsent {
         Unsent::Input(why) => complain(rt, "standard input", why, ""),
@@ -219,7 +220,7 @@ fn send_on<I: Read, R: Leave + Drop, W: Write + Drop>(
         _ => {}
     }
     let _ = print!(rt; "{}", unsent.line());
-    ExitCode::from(FAULT)
+    failed(is_late)
 }
 
 /// Reports on standard error which lines were sent: the first that was refused and why, and how many
@@ -244,7 +245,7 @@ fn explain(rt: &impl Eprint, cut: &Cut) {
 }
 
 /// Sends lines over a connection. A send that is left after this number of seconds fails with
-/// EAGAIN.
+/// EAGAIN, and the error states that it was.
 fn send_over<I: Read, R: Leave + Drop, W: Write + Drop>(
     alloc: Global,
     input: &mut I,
@@ -252,7 +253,7 @@ fn send_over<I: Read, R: Leave + Drop, W: Write + Drop>(
     writer: W,
     sending: &Sending,
     wait: Option<u32>,
-) -> Result<(), Unsent>
+) -> Result<(), (Unsent, bool)>
     ensures { (ended : Result ⊤ AnUnsent) × HasSent sending.now ended
         (R.remaining reader) (W.contents writer) (I.remaining input.old)
         × (is_ok result ≡ is_ok ended) }
@@ -260,16 +261,21 @@ fn send_over<I: Read, R: Leave + Drop, W: Write + Drop>(
     let (mut leaver, mut outgoing) = (Leaver::new(reader, wait), Outgoing::new(writer));
     match send_through(alloc, input, &mut leaver, &mut outgoing, sending) {
         Err(Unsent::Fault(ClientFault::NoReply)) if leaver.is_over(&outgoing) => {
-            Err(Unsent::Fault(ClientFault::Refused(Errno::EAGAIN)))
+            Err((Unsent::Fault(ClientFault::Refused(Errno::EAGAIN)), true))
         }
         Err(Unsent::Cut(cut)) if cut.fault == ClientFault::NoReply && leaver.is_over(&outgoing) => {
-            Err(Unsent::Cut(Cut {
-                fault: ClientFault::Refused(Errno::EAGAIN),
-                unknown: 0,
-                ..cut
-            }))
+            let fault = ClientFault::Refused(Errno::EAGAIN);
+            Err((
+                Unsent::Cut(Cut {
+                    fault,
+                    unknown: 0,
+                    ..cut
+                }),
+                true,
+            ))
         }
-        outcome => outcome,
+        Err(unsent) => Err((unsent, false)),
+        Ok(()) => Ok(()),
     }
 }
 
@@ -293,35 +299,39 @@ fn send_through<I: Read, R: Read + Drop, W: Write + Drop>(
 }
 
 /// Connects to the server at `path` and removes all queues there that the caller may remove. Each
-/// other queue is named on standard error, and the status is that of a fault then.
+/// other queue is named on standard error, and the status is that of a fault then. Each reply is
+/// waited for no longer than this number of seconds, if there is one.
 pub(crate) fn remove_at<P: Place>(
     rt: &(impl Print + Eprint + AllocGlobal),
     place: P,
     path: &str,
     cred: Cred,
+    wait: Option<u32>,
 ) -> ExitCode
     ensures { SucceedsOnlyIf (HasCleared cred (Ok tt) (P.incoming place)
         (P.outgoing place) [] []) result }
 {
     match place.connect() {
-        Ok((reader, writer)) => remove_on(rt, reader, writer, cred),
+        Ok((reader, writer)) => remove_on(rt, reader, writer, cred, wait),
         Err(why) => no_server(rt, path, &why),
     }
 }
 
 /// Removes queues over a connection like `remove_at`.
-fn remove_on<R: Read + Drop, W: Write + Drop>(
+fn remove_on<R: Leave + Drop, W: Write + Drop>(
     rt: &(impl Print + Eprint + AllocGlobal),
     reader: R,
     writer: W,
     cred: Cred,
+    wait: Option<u32>,
 ) -> ExitCode
     ensures { (ended : Result ⊤ AFault) × (refusals : List ARefusal)
         × HasCleared cred ended (R.remaining reader) (W.contents writer) [] refusals
         × SucceedsIf ((ended ≡ Ok tt) × (refusals ≡ [])) result }
 {
     let mut refusals = Vec::new(rt.alloc());
-    let outcome = remove_through(rt.alloc(), reader, writer, cred, &mut refusals);
+    let leaver = Leaver::new(reader, wait);
+    let outcome = remove_through(rt.alloc(), leaver, writer, cred, &mut refusals);
     for Refusal { id, error } in &refusals {
         let _ = eprintln!(rt; "sysvmsg: queue {id}: {error}");
     }
