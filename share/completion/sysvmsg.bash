@@ -4,6 +4,8 @@
 # The options of a server with which sysvmsg-serve can be called too.
 _sysvmsg_server="--mode --replace --blocks --workers --at-once --sessions --idle --stall --drain"
 
+_sysvmsg_commands="serve snd rcv ipcs ipcrm ipcmk script"
+
 # Prints the options of a command, or the commands if the word is not a command.
 _sysvmsg_words() {
     local credentials="--me --uid --gid --pid"
@@ -18,7 +20,8 @@ _sysvmsg_words() {
         echo "--type --upto --except --size --nowait --noerror --wait --count --follow --show-type --raw --create --mode"
         echo "$credentials --help --version"
         ;;
-    *) echo "serve snd rcv ipcs ipcrm ipcmk script help --help --version" ;;
+    help) echo "$_sysvmsg_commands" ;;
+    *) echo "$_sysvmsg_commands help --help --version" ;;
     esac
 }
 
@@ -36,7 +39,7 @@ _sysvmsg() {
     COMPREPLY=()
     # After -- a word is never an option.
     [ -z "$(_sysvmsg_dashes)" ] || return 0
-    if [ -z "$command" ] || [[ $word == -* ]]; then
+    if [ -z "$command" ] || [ "$command $COMP_CWORD" = "help 2" ] || [[ $word == -* ]]; then
         mapfile -t COMPREPLY < <(compgen -W "$(_sysvmsg_words "$command")" -- "$word")
     fi
 }

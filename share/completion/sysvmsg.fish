@@ -35,6 +35,8 @@ complete $bare -a ipcrm -d 'Remove a queue, or all'
 complete $bare -a ipcmk -d 'Make a queue and print its identifier'
 complete $bare -a script -d 'Run the script on standard input'
 complete $bare -a help -d 'Print the help of a command'
+complete -c sysvmsg -n '__sysvmsg_is help' -f
+complete -c sysvmsg -n '__sysvmsg_is help; and __sysvmsg_has_words 2' -a 'serve snd rcv ipcs ipcrm ipcmk script'
 
 set -l clients -c sysvmsg -n '__sysvmsg_is snd rcv ipcs ipcrm ipcmk'
 complete $clients -l me -d 'By default your own IDs'

@@ -9,7 +9,7 @@ ghost use Rattle.sysvmsg.specs.Ends.{Succeeds, SucceedsIf, SucceedsOnlyIf};
 
 use crate::asked::How;
 use crate::input::{Unread, read_body};
-use crate::leaver::Leaver;
+use crate::leaver::{Leaver, bound};
 use crate::place::{Leave, Place};
 use crate::plain::complain;
 use crate::several::{Way, receive_at, remove_at, send_at, way_of};
@@ -142,9 +142,9 @@ fn with_body<'a>(command: &Command<'_>, body: &'a [u8]) -> Command<'a>
     }
 }
 
-/// Connects to the server at `path` and runs a command there, which waits no longer than this number
-/// of seconds, if there is one. If no connection can be made, the reason is reported on standard
-/// error.
+/// Connects to the server at `path` and runs a command there. Each reply is waited for no longer than
+/// this number of seconds, if there is one. If no connection can be made, the reason is reported on
+/// standard error.
 ///
 /// # Conditions
 ///
@@ -161,18 +161,30 @@ fn run_at<P: Place, S: Write>(
     ensures { SucceedsOnlyIf (HasRun command.now (pos 0) (P.incoming place) (P.outgoing place)
         (S.contents screen.old) (S.contents screen.new)) result }
 {
-    match (place.connect(), wait) {
-        (Ok((reader, writer)), Some(seconds)) => {
+    let (reader, writer) = match place.connect() {
+        Ok(ends) => ends,
+        Err(why) => return no_server(rt, path, &why),
+    };
+    match wait {
+        Some(seconds) if can_wait(&command.task) => {
             run_within(rt.alloc(), reader, writer, command, seconds, screen)
         }
-        (Ok((reader, writer)), None) => run_over(rt.alloc(), reader, writer, command, screen),
-        (Err(why), _) => no_server(rt, path, &why),
+        _ => {
+            bound(&reader, wait);
+            run_over(rt.alloc(), reader, writer, command, screen)
+        }
     }
 }
 
-/// Runs a command over a connection like `run_over`, but leaves a call that has no reply after this
-/// number of seconds. If the server then ends the session without a reply, the call had no effect:
-/// of a `rcv` the line of ENOMSG is shown, and of a `snd` that of EAGAIN.
+/// Returns whether a task has a call that waits: for a message, or for room.
+fn can_wait(task: &Task<'_>) -> bool {
+    matches!(task, Task::Send { .. } | Task::Receive(_))
+}
+
+/// Runs a `snd` or a `rcv` over a connection like `run_over`, but leaves a call that has no reply
+/// after this number of seconds. If the server then ends the session without a reply, the call had
+/// no effect: the line of ENOMSG or, for a `snd`, of EAGAIN is shown, and the status is that of a
+/// time-out.
 ///
 /// # Conditions
 ///
@@ -212,7 +224,7 @@ fn status_within(status: i32, has_left: bool) -> i32
 }
 
 /// Returns what is shown of a command that ended with this status: the page, or the line of an error
-/// if a send or a receive was left.
+/// if the call was left.
 fn text_within<'a>(command: &Command<'_>, status: i32, page: &'a [u8], has_left: bool) -> &'a [u8]
     ensures { status ≡ pos 0 → result.now ≡ page.now }
 {
@@ -221,8 +233,7 @@ fn text_within<'a>(command: &Command<'_>, status: i32, page: &'a [u8], has_left:
     }
     let error = match command.task {
         Task::Send { .. } => Errno::EAGAIN,
-        Task::Receive(_) => Errno::ENOMSG,
-        _ => return page,
+        _ => Errno::ENOMSG,
     };
     ClientFault::Refused(error).line().as_bytes()
 }

@@ -29,9 +29,7 @@ impl<R: Leave> Leaver<R> {
     pub(crate) fn new(reader: R, seconds: Option<u32>) -> Leaver<R>
         ensures { result.reader ≡ reader }
     {
-        if let Some(seconds) = seconds {
-            reader.limit(limit(seconds));
-        }
+        bound(&reader, seconds);
         Leaver {
             reader,
             is_served: false,
@@ -50,6 +48,14 @@ impl<R: Leave> Leaver<R> {
     /// be written.
     pub(crate) fn is_over<W: Write>(&self, writer: &Outgoing<W>) -> bool {
         self.has_left || (self.is_leaving && self.is_served && writer.has_failed)
+    }
+}
+
+/// Lets each read of a connection wait at most this number of seconds, or without end if there is
+/// none.
+pub(crate) fn bound<R: Leave>(reader: &R, seconds: Option<u32>) {
+    if let Some(seconds) = seconds {
+        reader.limit(limit(seconds));
     }
 }
 

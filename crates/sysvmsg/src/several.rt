@@ -11,7 +11,7 @@ ghost use Rattle.sysvmsg.specs.Several.{is_of_stream, receiving_of, way_by};
 use crate::FAULT;
 use crate::asked::How;
 use crate::connection::{failed, no_server};
-use crate::leaver::{Leaver, Outgoing};
+use crate::leaver::{Leaver, Outgoing, bound};
 use crate::place::{Leave, Place};
 use crate::plain::{complain, report};
 use std::alloc::Global;
@@ -37,6 +37,31 @@ pub(crate) enum Way {
     Clear,
     /// By a client that runs this one command.
     Once,
+}
+
+/// The error of a client, and whether it left a call because the time was over.
+#[derive(Drop)]
+struct Failure<E> {
+    error: E,
+    is_late: bool,
+}
+
+impl<E> Failure<E> {
+    /// Returns the error of a client that left no call.
+    fn of(error: E) -> Failure<E> {
+        Failure {
+            error,
+            is_late: false,
+        }
+    }
+
+    /// Returns the error of a client that left a call.
+    fn late(error: E) -> Failure<E> {
+        Failure {
+            error,
+            is_late: true,
+        }
+    }
 }
 
 /// Returns how a task with these options is done.
@@ -127,15 +152,15 @@ fn receive_on<R: Leave + Drop, W: Write + Drop, S: Write>(
 {
     match receive_over(rt.alloc(), reader, writer, receiving, wait, screen) {
         Ok(()) => ExitCode::SUCCESS,
-        Err((stop, is_late)) => {
-            report(rt, stop.line());
-            failed(is_late)
+        Err(failure) => {
+            report(rt, failure.error.line());
+            failed(failure.is_late)
         }
     }
 }
 
 /// Receives messages over a connection. A receive that is left after this number of seconds fails
-/// with ENOMSG, and the error states that it was.
+/// with ENOMSG.
 fn receive_over<R: Leave + Drop, W: Write + Drop, S: Write>(
     alloc: Global,
     reader: R,
@@ -143,7 +168,7 @@ fn receive_over<R: Leave + Drop, W: Write + Drop, S: Write>(
     receiving: &Receiving,
     wait: Option<u32>,
     screen: &mut S,
-) -> Result<(), (Stop, bool)>
+) -> Result<(), Failure<Stop>>
     ensures { (ended : Result ⊤ AStop) × HasReceived receiving.now ended
         (R.remaining reader) (W.contents writer) (S.contents screen.old) (S.contents screen.new)
         × (is_ok result ≡ is_ok ended) }
@@ -151,9 +176,9 @@ fn receive_over<R: Leave + Drop, W: Write + Drop, S: Write>(
     let (mut leaver, mut outgoing) = (Leaver::new(reader, wait), Outgoing::new(writer));
     match receive_through(alloc, &mut leaver, &mut outgoing, receiving, screen) {
         Err(Stop::Fault(ClientFault::NoReply)) if leaver.is_over(&outgoing) => {
-            Err((Stop::Fault(ClientFault::Refused(Errno::ENOMSG)), true))
+            Err(Failure::late(Stop::Fault(ClientFault::Refused(Errno::ENOMSG))))
         }
-        Err(stop) => Err((stop, false)),
+        Err(stop) => Err(Failure::of(stop)),
         Ok(()) => Ok(()),
     }
 }
@@ -210,17 +235,17 @@ fn send_on<I: Read, R: Leave + Drop, W: Write + Drop>(
         (R.remaining reader) (W.contents writer) (I.remaining input.old)
         × SucceedsIf (ended ≡ Ok tt) result }
 {
-    let (unsent, is_late) = match send_over(rt.alloc(), input, reader, writer, sending, wait) {
+    let failure = match send_over(rt.alloc(), input, reader, writer, sending, wait) {
         Ok(()) => return ExitCode::SUCCESS,
-        Err(why) => why,
+        Err(failure) => failure,
     };
-    match &unsent {
+    match &failure.error {
         Unsent::Input(why) => complain(rt, "standard input", why, ""),
         Unsent::Cut(cut) => explain(rt, cut),
         _ => {}
     }
-    let _ = print!(rt; "{}", unsent.line());
-    failed(is_late)
+    let _ = print!(rt; "{}", failure.error.line());
+    failed(failure.is_late)
 }
 
 /// Reports on standard error which lines were sent: the first that was refused and why, and how many
@@ -245,7 +270,7 @@ fn explain(rt: &impl Eprint, cut: &Cut) {
 }
 
 /// Sends lines over a connection. A send that is left after this number of seconds fails with
-/// EAGAIN, and the error states that it was.
+/// EAGAIN.
 fn send_over<I: Read, R: Leave + Drop, W: Write + Drop>(
     alloc: Global,
     input: &mut I,
@@ -253,7 +278,7 @@ fn send_over<I: Read, R: Leave + Drop, W: Write + Drop>(
     writer: W,
     sending: &Sending,
     wait: Option<u32>,
-) -> Result<(), (Unsent, bool)>
+) -> Result<(), Failure<Unsent>>
     ensures { (ended : Result ⊤ AnUnsent) × HasSent sending.now ended
         (R.remaining reader) (W.contents writer) (I.remaining input.old)
         × (is_ok result ≡ is_ok ended) }
@@ -261,20 +286,16 @@ fn send_over<I: Read, R: Leave + Drop, W: Write + Drop>(
     let (mut leaver, mut outgoing) = (Leaver::new(reader, wait), Outgoing::new(writer));
     match send_through(alloc, input, &mut leaver, &mut outgoing, sending) {
         Err(Unsent::Fault(ClientFault::NoReply)) if leaver.is_over(&outgoing) => {
-            Err((Unsent::Fault(ClientFault::Refused(Errno::EAGAIN)), true))
+            Err(Failure::late(Unsent::Fault(ClientFault::Refused(Errno::EAGAIN))))
         }
         Err(Unsent::Cut(cut)) if cut.fault == ClientFault::NoReply && leaver.is_over(&outgoing) => {
-            let fault = ClientFault::Refused(Errno::EAGAIN);
-            Err((
-                Unsent::Cut(Cut {
-                    fault,
-                    unknown: 0,
-                    ..cut
-                }),
-                true,
-            ))
+            Err(Failure::late(Unsent::Cut(Cut {
+                fault: ClientFault::Refused(Errno::EAGAIN),
+                unknown: 0,
+                ..cut
+            })))
         }
-        Err(unsent) => Err((unsent, false)),
+        Err(unsent) => Err(Failure::of(unsent)),
         Ok(()) => Ok(()),
     }
 }
@@ -330,8 +351,8 @@ fn remove_on<R: Leave + Drop, W: Write + Drop>(
         × SucceedsIf ((ended ≡ Ok tt) × (refusals ≡ [])) result }
 {
     let mut refusals = Vec::new(rt.alloc());
-    let leaver = Leaver::new(reader, wait);
-    let outcome = remove_through(rt.alloc(), leaver, writer, cred, &mut refusals);
+    bound(&reader, wait);
+    let outcome = remove_through(rt.alloc(), reader, writer, cred, &mut refusals);
     for Refusal { id, error } in &refusals {
         let _ = eprintln!(rt; "sysvmsg: queue {id}: {error}");
     }
