@@ -59,10 +59,11 @@ pub(crate) fn bound<R: Leave>(reader: &R, seconds: Option<u32>) {
     }
 }
 
-/// Returns the time of this number of seconds, or a short one for 0.
+/// Returns the time of this number of seconds, or a tenth of a second for 0: a server may need some
+/// time for each reply.
 fn limit(seconds: u32) -> Duration {
     match seconds {
-        0 => Duration::from_millis(1),
+        0 => Duration::from_millis(100),
         _ => Duration::from_secs(u64::from(seconds)),
     }
 }

@@ -288,7 +288,7 @@ fn send_over<I: Read, R: Leave + Drop, W: Write + Drop>(
         Err(Unsent::Fault(ClientFault::NoReply)) if leaver.is_over(&outgoing) => {
             Err(Failure::late(Unsent::Fault(ClientFault::Refused(Errno::EAGAIN))))
         }
-        Err(Unsent::Cut(cut)) if cut.fault == ClientFault::NoReply && leaver.is_over(&outgoing) => {
+        Err(Unsent::Cut(cut)) if is_late(&cut, &leaver, &outgoing) => {
             Err(Failure::late(Unsent::Cut(Cut {
                 fault: ClientFault::Refused(Errno::EAGAIN),
                 unknown: 0,
@@ -298,6 +298,13 @@ fn send_over<I: Read, R: Leave + Drop, W: Write + Drop>(
         Err(unsent) => Err(Failure::of(unsent)),
         Ok(()) => Ok(()),
     }
+}
+
+/// Returns whether sends were cut off because the time was over, so that no line from that one on
+/// was sent: its send was left, or is the only one without a reply and could not be written.
+fn is_late<R: Leave, W: Write>(cut: &Cut, leaver: &Leaver<R>, outgoing: &Outgoing<W>) -> bool {
+    cut.fault == ClientFault::NoReply
+        && (leaver.has_left() || (cut.unknown == 1 && leaver.is_over(outgoing)))
 }
 
 /// Sends lines through buffers, so that a request is one write.
