@@ -1,0 +1,13 @@
+pub mod SessionMakesCalls
+pub mod SessionsPerConnection
+pub mod SumsOfSessions
+pub mod LifeIsOneRun
+pub mod GatesHaveLived
+pub mod FaultLeaves
+pub mod Shifts
+pub mod Adopting
+pub mod PlacesRun
+pub mod PlaceLemmas
+pub mod PlaceLists
+pub mod Reversed
+pub mod Staffed

@@ -1,0 +1,138 @@
+-- The life of a server's service is that of a service with workers whose sessions make its calls.
+use Rattle.std.proofs.Common.{◌∙◌, ℕ, List, [], ◌∷◌, ◌++◌, Option, Some, None, ap, sym, subst}
+use Rattle.std.specs.Prelude.{⊤}
+use Rattle.std.specs.List.{All, AllByRecursion, FoldsTo}
+use Rattle.std.proofs.lemmas.List.{append-nil, append_assoc}
+use Rattle.std.proofs.lemmas.List.Elements.{All-from_recursion}
+use Rattle.sysv_bank.specs.Banks.{Each2, Each3}
+use Rattle.sysv_thread_laws.specs.AtRest.{Rests}
+use Rattle.sysv_thread_laws.specs.Order.{Called}
+use Rattle.sysv_session.specs.declared.served.Served.{Served}
+use Rattle.sysv_thread_laws.specs.Hiring.{all_of, IsRemoval, EveryHiringObeys, EveryStopRemoves}
+use Rattle.sysv_thread_laws.specs.PoolWhole.{EveryHiringLeavesThePoolWhole, NoHiringLeavesAGateHeld}
+use Rattle.sysv_service.specs.Ran.{Pass}
+use Rattle.sysv_thread_laws.specs.Working as working
+use Rattle.sysv_thread_laws.specs.Working.{Works}
+use Rattle.sysv_engine.specs.Made.{trail, EachSessionMakesCalls}
+use Rattle.sysv_engine.specs.Handled.{Shift, first_passes, last_passes, AreMadeBy}
+use Rattle.sysv_engine.specs.Talks.{Talk, TalksAs, Talks, TalksAsIn, TalksIn}
+use Rattle.sysv_seats.specs.Sits.{zero_moment}
+use Rattle.sysv_engine.specs.OneRun.{EachLifeIsOneRun, EachLifeLeavesThePoolWhole, NoLifeLeavesAGateHeld}
+
+-- The call is over or was left at a wait.
+abbrev Resting : Called → Type 0
+Resting call = Rests call.state
+
+both : (xs ys : List Called) → AllByRecursion Resting xs → AllByRecursion Resting ys → AllByRecursion Resting (xs ++ ys)
+both [] ys one two = two
+both (x ∷ xs) ys one two = (one.0, both xs ys one.1 two)
+
+removals_rest : (calls : List Called) → AllByRecursion IsRemoval calls → AllByRecursion Resting calls
+removals_rest [] are = tt
+removals_rest (c ∷ calls) are = (subst Rests (sym are.0.2.1) tt, removals_rest calls are.1)
+
+module _ (law : EachSessionMakesCalls zero_moment ⊤) where
+  -- The calls that were made in a session with this report.
+  record InSession (start old : Pass) (told : Option Served) (left rest taken more : Option (List ℕ)) (new : Pass)
+      (made : List Called) : Type 0 where
+    calls : List Called
+    rests : AllByRecursion Resting calls
+    works : Works start (made ++ calls) new
+    talks : TalksAsIn (trail old made) told left rest taken more (trail new (made ++ calls))
+
+  in_session : (start old : Pass) (told : Option Served) (left rest taken more : Option (List ℕ)) (new : Pass)
+      (made : List Called) → Works start made old → TalksAs old told left rest taken more new →
+      InSession start old told left rest taken more new made
+  in_session start old None left rest taken more new made works talks = record {
+    calls = [];
+    rests = tt;
+    works = subst (Works start (made ++ [])) (sym talks.0)
+        (subst (λ calls. Works start calls old) (sym (append-nil made)) works);
+    talks = (
+      ap (λ (p : Pass). trail p (made ++ [])) talks.0 ∙ ap (trail old) (append-nil made),
+      talks.1,
+      talks.2,
+    );
+  }
+  in_session start old (Some served) left rest taken more new made works talks =
+      let one = law start old new made served left rest taken more works talks in
+      record { calls = one.0; rests = one.3; works = one.1; talks = one.2 }
+
+  -- The calls that were made in further sessions.
+  record InSessions (start old : Pass) (talks : List Talk) (new : Pass) (made : List Called) : Type 0 where
+    calls : List Called
+    rests : AllByRecursion Resting calls
+    works : Works start (made ++ calls) new
+    folds : FoldsTo TalksIn (trail old made) talks (trail new (made ++ calls))
+
+  in_sessions : (start old : Pass) (talks : List Talk) (new : Pass) (made : List Called) →
+      Works start made old → FoldsTo Talks old talks new → InSessions start old talks new made
+  in_sessions start old [] new made works is = record {
+    calls = [];
+    rests = tt;
+    works = subst (Works start (made ++ [])) is (subst (λ calls. Works start calls old) (sym (append-nil made)) works);
+    folds = ap (trail old) (sym (append-nil made)) ∙ ap (λ (p : Pass). trail p (made ++ [])) is;
+  }
+  in_sessions start old (talk ∷ talks) new made works folds =
+      let one = in_session start old talk.told talk.left talk.rest talk.taken talk.more folds.0 made works folds.1 in
+      let more = in_sessions start folds.0 talks new (made ++ one.calls) one.works folds.2 in
+      record {
+        calls = one.calls ++ more.calls;
+        rests = both one.calls more.calls one.rests more.rests;
+        works = subst (λ calls. Works start calls new) (append_assoc made one.calls more.calls) more.works;
+        folds = (
+          trail folds.0 (made ++ one.calls),
+          one.talks,
+          subst (λ calls. FoldsTo TalksIn (trail folds.0 (made ++ one.calls)) talks (trail new calls))
+              (append_assoc made one.calls more.calls) more.folds,
+        );
+      }
+
+  -- The calls of all workers.
+  record InShifts (shifts : List Shift) : Type 0 where
+    each : List (List Called)
+    rests : AllByRecursion Resting (all_of each)
+    works : Each3 Works (first_passes shifts) each (last_passes shifts)
+    made : Each2 AreMadeBy shifts each
+
+  in_shifts : (shifts : List Shift) → InShifts shifts
+  in_shifts [] = record { each = []; rests = tt; works = tt; made = tt }
+  in_shifts (shift ∷ shifts) =
+      let one = in_sessions shift.before shift.before shift.talks shift.after [] working.begins shift.worked in
+      let rest = in_shifts shifts in
+      record {
+        each = one.calls ∷ rest.each;
+        rests = both one.calls (all_of rest.each) one.rests rest.rests;
+        works = (one.works, rest.works);
+        made = (one.folds, rest.made);
+      }
+
+  pub each_life : EveryHiringObeys → EveryStopRemoves → EachLifeIsOneRun
+  each_life obeys stops blocks gates shifts removed stopped closed counted opened fits hires turns_left =
+      let done = in_shifts shifts in
+      let stop = stops _ stopped.removed stopped.worn stopped.before stopped.after stopped.stops in
+      record {
+        each = done.each;
+        made = done.made;
+        removals = stop.0;
+        are_removals = stop.2;
+        counted = stop.3;
+        served = obeys 0 blocks 0 gates (first_passes shifts) (last_passes shifts) stopped.before stopped.after
+            done.each stop.0 closed opened hires done.works stop.1 fits counted turns_left;
+      }
+
+  pub each_whole : EveryHiringLeavesThePoolWhole → EveryStopRemoves → EachLifeLeavesThePoolWhole
+  each_whole home stops blocks gates shifts removed stopped closed counted opened fits hires turns_left =
+      let done = in_shifts shifts in
+      let stop = stops _ stopped.removed stopped.worn stopped.before stopped.after stopped.stops in
+      let rest : All Resting (all_of done.each ++ stop.0) = All-from_recursion Resting (all_of done.each ++ stop.0)
+      (both (all_of done.each) stop.0 done.rests (removals_rest stop.0 stop.2)) in
+      home 0 blocks 0 gates (first_passes shifts) (last_passes shifts) stopped.before stopped.after done.each stop.0
+      closed opened hires done.works stop.1 fits counted turns_left rest
+
+  pub each_none_held : NoHiringLeavesAGateHeld → EveryStopRemoves → NoLifeLeavesAGateHeld
+  each_none_held none stops gates shifts removed stopped closed counted hires =
+      let done = in_shifts shifts in
+      let stop = stops _ stopped.removed stopped.worn stopped.before stopped.after stopped.stops in
+      none gates (first_passes shifts) (last_passes shifts) stopped.before stopped.after done.each stop.0 closed hires
+      done.works stop.1 counted

@@ -1,0 +1,234 @@
+-- A session served with a pass makes calls of the service.
+use Rattle.std.proofs.Common.{◌∙◌, ℕ, List, [], ◌∷◌, ◌++◌, ap, sym, subst, refl, inl, inr}
+use Rattle.std.proofs.lemmas.List.{append-nil, append_assoc}
+use Rattle.sysv_model.specs.declared.cred.Cred.{Cred}
+use Rattle.sysv_model.specs.Turn.{Deed}
+use Rattle.sysv_steps.specs.Begin.{begin}
+use Rattle.sysv_steps.specs.Call.{SystemCall, Msgget, Msgsnd, Msgrcv, MsgctlStat, MsgctlSet, MsgctlRmid}
+use Rattle.sysv_steps.specs.Resume.{Released}
+use Rattle.sysv_steps.specs.State.{State, Waits, Over}
+use Rattle.std.specs.List.{AllByRecursion}
+use Rattle.sysv_thread_laws.specs.AtRest.{Rests}
+use Rattle.sysv_thread_laws.specs.Order.{Called}
+use Rattle.sysv_session.specs.declared.kernel.RequestOutcome.{RequestOutcome}
+use Rattle.sysv_session.specs.Calls.{Call, Leads}
+use Rattle.sysv_wire.specs.declared.frame.Version.{Version}
+use Rattle.sysv_wire.specs.declared.request.Ask.{Ask}
+use Rattle.sysv_wire.specs.declared.request.Ask.TheVariants.{Hello, Get, Snd, Rcv, Stat, Set, Rm, Row}
+use Rattle.sysv_thread_laws.specs.Life.{EachRunIsAtAnyMoment, call_of}
+use Rattle.sysv_steps.specs.Stepping.{no_moment}
+use Rattle.sysv_service.specs.Ran.{Pass, Ran}
+use Rattle.sysv_thread_laws.specs.Working as working
+use Rattle.sysv_thread_laws.specs.Working.{Works}
+use Rattle.sysv_seats.specs.Asked.{Asks, asks_with}
+use Rattle.sysv_engine.specs.Made.{trail, MakesCall, ReadsBeside, ShowsBeside, makes_with, EachSessionMakesCalls}
+use Rattle.sysv_seats.specs.Requests as requests
+
+-- The call is over or was left at a wait.
+abbrev Resting : Called → Type 0
+Resting call = Rests call.state
+
+both : (xs ys : List Called) → AllByRecursion Resting xs → AllByRecursion Resting ys → AllByRecursion Resting (xs ++ ys)
+both [] ys one two = two
+both (x ∷ xs) ys one two = (one.0, both xs ys one.1 two)
+
+-- One call more.
+one_call : (may : ℕ → Type 0) → EachRunIsAtAnyMoment may →
+    (cred : Cred) (asked : SystemCall) (released : ℕ) (start mid : Pass) (made : List Called) (deeds : List Deed)
+    (state : State) (new : Pass) →
+    Ran may (begin cred asked released) mid deeds state new → Works start made mid →
+    Works start (made ++ call_of mid cred asked released deeds state ∷ []) new
+one_call may any cred asked released start mid made deeds state new ran works =
+    working.calls cred asked released deeds state new works (any (begin cred asked released) mid deeds state new ran).0
+
+module _ (may : ℕ → Type 0) (may_leave : Type 0) (any : EachRunIsAtAnyMoment may)
+    (unstamped : EachRunIsAtAnyMoment no_moment) (version : Version) (cred : Cred) where
+  -- The calls that a request makes, whatever calls were made before.
+  record Makes (ask : Ask) (text : List ℕ) (old : Pass) (outcome : RequestOutcome) (given : List ℕ)
+      (new : Pass) : Type 0 where
+    calls : List Called
+    rests : AllByRecursion Resting calls
+    works : (start : Pass) (made : List Called) → Works start made old → Works start (made ++ calls) new
+    asks : (made : List Called) →
+        requests.Asks MakesCall ReadsBeside ShowsBeside may may_leave version cred ask text (trail old made) outcome
+        given (trail new (made ++ calls))
+
+  -- Only this call.
+  abbrev only : Pass → SystemCall → ℕ → List Deed → State → List Called
+  only pass asked released deeds state = call_of pass cred asked released deeds state ∷ []
+
+  makes : (ask : Ask) (text : List ℕ) (old : Pass) (outcome : RequestOutcome) (given : List ℕ) (new : Pass) →
+      Asks may may_leave version cred ask text old outcome given new → Makes ask text old outcome given new
+  makes (Hello other) text old outcome given new asked = absurd asked
+  makes (Get key flags) text old outcome given new asked =
+      let did = asked.0 in
+      record {
+        calls = only old (Msgget key flags) 0 did.2.0 (Over did.1);
+        rests = (tt, tt);
+        works = λ start made.
+            one_call may any cred (Msgget key flags) 0 start old made did.2.0 (Over did.1) new did.2.1;
+        asks = λ made. ((did.0, did.1, (did.2.0, did.2.1, refl), did.3, did.4), asked.1);
+      }
+  makes (Snd id mtype flags) text old outcome given new asked =
+      let sends = asked.0 in
+      let call = Msgsnd id mtype flags text in
+      elim sends.3 [
+        | inl did ↦ record {
+          calls = only sends.1 call sends.0 did.2.0 (Over did.1);
+          rests = (tt, tt);
+          works = λ start made works.
+              one_call may any cred call sends.0 start sends.1 made did.2.0 (Over did.1) new did.2.1
+              (working.reads_count Released sends.0 sends.1 works sends.2.0 sends.2.1);
+          asks = λ made. (
+            (sends.0, trail sends.1 made, (sends.2, refl), inl (did.0, did.1, (did.2.0, did.2.1, refl), did.3, did.4)),
+            asked.1,
+          );
+        }
+        | inr left ↦ record {
+          calls = only sends.1 call sends.0 left.0.2.0 (Waits left.0.1);
+          rests = (tt, tt);
+          works = λ start made works.
+              one_call may any cred call sends.0 start sends.1 made left.0.2.0 (Waits left.0.1) new left.0.2.1
+              (working.reads_count Released sends.0 sends.1 works sends.2.0 sends.2.1);
+          asks = λ made. (
+            (
+              sends.0,
+              trail sends.1 made,
+              (sends.2, refl),
+              inr ((left.0.0, left.0.1, (left.0.2.0, left.0.2.1, refl)), left.1),
+            ),
+            asked.1,
+          );
+        }
+      ]
+  makes (Rcv id size mtype flags) text old outcome given new asked =
+      let call = Msgrcv id size mtype flags in
+      elim asked [
+        | inl did ↦ record {
+          calls = only old call 0 did.2.0 (Over did.1);
+          rests = (tt, tt);
+          works = λ start made. one_call may any cred call 0 start old made did.2.0 (Over did.1) new did.2.1;
+          asks = λ made. inl (did.0, did.1, (did.2.0, did.2.1, refl), did.3, did.4);
+        }
+        | inr left ↦ record {
+          calls = only old call 0 left.0.2.0 (Waits left.0.1);
+          rests = (tt, tt);
+          works = λ start made. one_call may any cred call 0 start old made left.0.2.0 (Waits left.0.1) new left.0.2.1;
+          asks = λ made. inr ((left.0.0, left.0.1, (left.0.2.0, left.0.2.1, refl)), left.1, left.2);
+        }
+      ]
+  makes (Stat id) text old outcome given new asked =
+      let did = asked.0 in
+      record {
+        calls = only old (MsgctlStat id) 0 did.2.0 (Over did.1);
+        rests = (tt, tt);
+        works = λ start made.
+            one_call no_moment unstamped cred (MsgctlStat id) 0 start old made did.2.0 (Over did.1) new did.2.1;
+        asks = λ made. ((did.0, did.1, (did.2.0, did.2.1, refl), did.3, did.4), asked.1);
+      }
+  makes (Set id to) text old outcome given new asked =
+      let did = asked.0 in
+      record {
+        calls = only old (MsgctlSet id to) 0 did.2.0 (Over did.1);
+        rests = (tt, tt);
+        works = λ start made. one_call may any cred (MsgctlSet id to) 0 start old made did.2.0 (Over did.1) new did.2.1;
+        asks = λ made. ((did.0, did.1, (did.2.0, did.2.1, refl), did.3, did.4), asked.1);
+      }
+  makes (Rm id) text old outcome given new asked =
+      let did = asked.0 in
+      record {
+        calls = only old (MsgctlRmid id) 0 did.2.0 (Over did.1);
+        rests = (tt, tt);
+        works = λ start made.
+            one_call no_moment unstamped cred (MsgctlRmid id) 0 start old made did.2.0 (Over did.1) new did.2.1;
+        asks = λ made. ((did.0, did.1, (did.2.0, did.2.1, refl), did.3, did.4), asked.1);
+      }
+  makes (Row slot) text old outcome given new asked = record {
+    calls = [];
+    rests = tt;
+    works = λ start made works.
+        subst (λ calls. Works start calls new) (sym (append-nil made))
+        (working.asks_row slot asked.0.0 new works asked.0.1);
+    asks = λ made. ((asked.0.0, (asked.0.1, append-nil made), asked.0.2), asked.1);
+  }
+
+module _ (may : ℕ → Type 0) (may_leave : Type 0) (any : EachRunIsAtAnyMoment may)
+    (unstamped : EachRunIsAtAnyMoment no_moment) where
+  -- The calls that the requests of a session make.
+  record Led (cred : Cred) (old : Pass) (calls : List Call) (new : Pass) : Type 0 where
+    calls_made : List Called
+    rests : AllByRecursion Resting calls_made
+    works : (start : Pass) (made : List Called) → Works start made old → Works start (made ++ calls_made) new
+    leads : (made : List Called) →
+        Leads (makes_with may may_leave) cred (trail old made) calls (trail new (made ++ calls_made))
+
+  led : (cred : Cred) (old : Pass) (calls : List Call) (new : Pass) →
+      Leads (asks_with may may_leave) cred old calls new → Led cred old calls new
+  led cred old [] new is = record {
+    calls_made = [];
+    rests = tt;
+    works = λ start made works.
+        subst (Works start (made ++ [])) (sym is)
+        (subst (λ calls. Works start calls old) (sym (append-nil made)) works);
+    leads = λ made. ap (λ (p : Pass). trail p (made ++ [])) is ∙ ap (trail old) (append-nil made);
+  }
+  led cred old (call ∷ calls) new leads =
+      let one = makes may may_leave any unstamped call.request.version cred call.request.ask call.text old call.outcome
+      call.given leads.0 leads.1 in
+      let more = led cred leads.0 calls new leads.2 in
+      record {
+        calls_made = one.calls ++ more.calls_made;
+        rests = both one.calls more.calls_made one.rests more.rests;
+        works = λ start made works.
+            subst (λ calls. Works start calls new) (append_assoc made one.calls more.calls_made)
+            (more.works start (made ++ one.calls) (one.works start made works));
+        leads = λ made. (
+          trail leads.0 (made ++ one.calls),
+          one.asks made,
+          subst (λ all. Leads (makes_with may may_leave) cred (trail leads.0 (made ++ one.calls)) calls (trail new all))
+              (append_assoc made one.calls more.calls_made) (more.leads (made ++ one.calls)),
+        );
+      }
+
+  pub each_session : EachSessionMakesCalls may may_leave
+  each_session start old new made served left rest taken more works (inl stays) = (
+    [],
+    subst (Works start (made ++ [])) (sym stays.kernel)
+        (subst (λ calls. Works start calls old) (sym (append-nil made)) works),
+    inl (record {
+      kernel = ap (λ (p : Pass). trail p (made ++ [])) stays.kernel ∙ ap (trail old) (append-nil made);
+      ends = stays.ends;
+      writes = stays.writes;
+      tallies = stays.tallies;
+      counts = stays.counts;
+    }),
+    tt,
+  )
+  each_session start old new made served left rest taken more works (inr talks) =
+      let done = led talks.cred old talks.calls new talks.leads in (
+        done.calls_made,
+        done.works start made works,
+        inr (record {
+          version = talks.version;
+          cred = talks.cred;
+          known = talks.known;
+          calls = talks.calls;
+          are_calls = talks.are_calls;
+          leads = done.leads made;
+          unread = talks.unread;
+          reads = talks.reads;
+          stopped = talks.stopped;
+          ends = talks.ends;
+          bounded = talks.bounded;
+          replies = talks.replies;
+          replied = talks.replied;
+          sent = talks.sent;
+          prefix = talks.prefix;
+          writes = talks.writes;
+          reports = talks.reports;
+          all = talks.all;
+          written = talks.written;
+          counts = talks.counts;
+        }),
+        done.rests,
+      )

@@ -1,0 +1,245 @@
+-- What a server did whose workers shared out its places, from what their run led to.
+use Rattle.std.proofs.Common.{◌≡◌, ◌∙◌, ℕ, ◌≤◌, List, [], ◌∷◌, ◌++◌, map, reverse, length, Option, Some, None, ap, refl}
+use Rattle.std.proofs.Common.{sym, subst, arith}
+use Rattle.std.specs.List.{All, FoldsTo, flat_map, sum_by}
+use Rattle.std.proofs.lemmas.List.{reverse-append, reverse-reverse}
+use Rattle.std.proofs.lemmas.List.Elements.{All-head, All-tail, All-cons}
+use Rattle.sysv_bank.specs.Banks.{Each2}
+use Rattle.sysv_service.specs.Seats.{Gates}
+use Rattle.sysv_service.specs.Ran.{Pass}
+use Rattle.sysv_thread_laws.specs.Hiring.{Gives, TakesIn}
+use Rattle.sysv_workers.specs.Running.{GivesBack, LeavesSource, RunsAll}
+use Rattle.sysv_workers.specs.declared.refusals.WorkersFault.{WorkersFault}
+use Rattle.sysv_seats.specs.Untold.{Closing}
+use Rattle.sysv_engine.specs.declared.fault.ServeFault.{ServeFault}
+use Rattle.sysv_engine.specs.declared.sums.Sums.{Sums}
+use Rattle.sysv_engine.specs.Added.{all_added, capped}
+use Rattle.sysv_engine.specs.Places.{Handled, IsOpened, IsPlace, IsStaffed, KeepsAll, Seated, Standing, Stands, View}
+use Rattle.sysv_engine.specs.Places.{view_of}
+use Rattle.sysv_engine.specs.Serving.{FaultOf, HiredFrom, IsNew, LeavesConnections, WorkedFrom}
+use Rattle.sysv_engine.proofs.PlacesRun as run
+use Rattle.sysv_engine.proofs.Reversed.{all_reverse, back_reverse, map_reverse, runs_reverse}
+use Rattle.sysv_engine.proofs.Shifts as shifts
+use Rattle.sysv_engine.proofs.SumsOfSessions.{sum_by_map}
+
+reverse_cons : {X : Type 0} (x : X) (xs : List X) → reverse (x ∷ xs) ≡ reverse xs ++ x ∷ []
+reverse_cons x xs = reverse-append (x ∷ []) xs
+
+module _ {A C : Type 0} (R : A → C → Type 0) where
+  each_append : (xs : List A) (ys : List C) (us : List A) (vs : List C) → Each2 R xs ys → Each2 R us vs →
+      Each2 R (xs ++ us) (ys ++ vs)
+  each_append [] [] us vs one two = two
+  each_append [] (y ∷ ys) us vs one two = absurd one
+  each_append (x ∷ xs) [] us vs one two = absurd one
+  each_append (x ∷ xs) (y ∷ ys) us vs one two = (one.0, each_append xs ys us vs one.1 two)
+
+  pub each_reverse : (xs : List A) (ys : List C) → Each2 R xs ys → Each2 R (reverse xs) (reverse ys)
+  each_reverse [] [] each = tt
+  each_reverse [] (y ∷ ys) each = absurd each
+  each_reverse (x ∷ xs) [] each = absurd each
+  each_reverse (x ∷ xs) (y ∷ ys) each =
+      subst (λ l. Each2 R l (reverse (y ∷ ys))) (sym (reverse_cons x xs))
+      (subst (λ l. Each2 R (reverse xs ++ x ∷ []) l) (sym (reverse_cons y ys))
+      (each_append (reverse xs) (reverse ys) (x ∷ []) (y ∷ []) (each_reverse xs ys each.1) (each.0, tt)))
+
+map_both : {X Y Z : Type 0} (g : Y → Z) (f : X → Y) (xs : List X) → map g (map f xs) ≡ map (λ x. g (f x)) xs
+map_both g f [] = refl
+map_both g f (x ∷ xs) = ap (λ l. g (f x) ∷ l) (map_both g f xs)
+
+module _ {X : Type 0} (P : X → Type 0) where
+  pub first_all : (xs ys : List X) → All P (xs ++ ys) → All P xs
+  first_all [] ys all = λ k d low. absurd (omega arith)
+  first_all (x ∷ xs) ys all =
+      All-cons P x xs (All-head P x (xs ++ ys) all) (first_all xs ys (All-tail P x (xs ++ ys) all))
+
+  pub later_all : (xs ys : List X) → All P (xs ++ ys) → All P ys
+  later_all [] ys all = all
+  later_all (x ∷ xs) ys all = later_all xs ys (All-tail P x (xs ++ ys) all)
+
+module _ {T B : Type 0} (incoming outgoing : T → Option (List ℕ)) (closes : Closing B) (gates : Gates) where
+  abbrev St : Standing (View B) T → Seated B T → Type 0
+  St = Stands incoming outgoing closes gates
+
+  abbrev Over : Standing (View B) T → Seated B T → Type 0
+  Over = run.IsOver view_of St (Handled incoming outgoing closes)
+
+  opened_stands : (p : Seated B T) → IsOpened gates p → St (record { start = view_of p; had = [] }) p
+  opened_stands p is = (
+    is.0,
+    subst (λ c. IsPlace incoming outgoing closes _ (record { start = view_of p; had = [] }) (view_of p) c) (sym is.2)
+        refl,
+  )
+
+  begun_stand : (ps : List (Seated B T)) → All (IsOpened gates) ps → Each2 St (run.begun view_of St ps) ps
+  begun_stand [] all = tt
+  begun_stand (p ∷ ps) all =
+      (opened_stands p (All-head (IsOpened gates) p ps all), begun_stand ps (All-tail (IsOpened gates) p ps all))
+
+  new_views : (ps : List (Seated B T)) → All (IsOpened gates) ps →
+      All (λ (v : View B). IsNew gates v.pass v.sums v.refused) (map view_of ps)
+  new_views [] all = λ k d low. absurd (omega arith)
+  new_views (p ∷ ps) all =
+      All-cons (λ (v : View B). IsNew gates v.pass v.sums v.refused) (view_of p) (map view_of ps)
+      (All-head (IsOpened gates) p ps all).1 (new_views ps (All-tail (IsOpened gates) p ps all))
+
+  vacant_over : (ss : List (Standing (View B) T)) (ps : List (Seated B T)) → Each2 St ss ps →
+      All (λ (p : Seated B T). p.client ≡ None) ps → Each2 Over ss ps
+  vacant_over [] [] each all = tt
+  vacant_over [] (p ∷ ps) each all = absurd each
+  vacant_over (s ∷ ss) [] each all = absurd each
+  vacant_over (s ∷ ss) (p ∷ ps) each all = (
+    subst (λ c. IsPlace incoming outgoing closes _ s (view_of p) c)
+        (All-head (λ (p : Seated B T). p.client ≡ None) p ps all) each.0.1,
+    vacant_over ss ps each.1 (All-tail (λ (p : Seated B T). p.client ≡ None) p ps all),
+  )
+
+  pub same_gates : (ss : List (Standing (View B) T)) (ps : List (Seated B T)) → Each2 St ss ps →
+      All (λ (p : Seated B T). p.gates ≡ gates) ps
+  same_gates [] [] each = λ k d low. absurd (omega arith)
+  same_gates [] (p ∷ ps) each = absurd each
+  same_gates (s ∷ ss) [] each = absurd each
+  same_gates (s ∷ ss) (p ∷ ps) each =
+      All-cons (λ (p : Seated B T). p.gates ≡ gates) p ps each.0.0 (same_gates ss ps each.1)
+
+  module _ {W : Type 0} (places : W → List (Seated B T)) where
+    abbrev all_of : List W → List (Seated B T)
+    all_of ws = flat_map places ws
+
+    fresh : (ws : List W) → All (IsOpened gates) (all_of ws) → All (λ w. 1 ≤ length (places w)) ws →
+        All (run.IsFresh places view_of St) ws
+    fresh [] opened some = λ k d low. absurd (omega arith)
+    fresh (w ∷ ws) opened some =
+        All-cons (run.IsFresh places view_of St) w ws
+        (
+          All-head (λ w. 1 ≤ length (places w)) w ws some,
+          begun_stand (places w) (first_all (IsOpened gates) (places w) (all_of ws) opened),
+        )
+        (fresh ws (later_all (IsOpened gates) (places w) (all_of ws) opened)
+        (All-tail (λ w. 1 ≤ length (places w)) w ws some))
+
+    -- Each worker has places that stand.
+    pub staffed : (ws : List W) → All (IsOpened gates) (all_of ws) → All (λ w. 1 ≤ length (places w)) ws →
+        All (λ w. IsStaffed incoming outgoing closes gates (places w)) ws
+    staffed [] opened some = λ k d low. absurd (omega arith)
+    staffed (w ∷ ws) opened some =
+        All-cons (λ w. IsStaffed incoming outgoing closes gates (places w)) w ws
+        (
+          All-head (λ w. 1 ≤ length (places w)) w ws some,
+          (
+            run.begun view_of St (places w),
+            begun_stand (places w) (first_all (IsOpened gates) (places w) (all_of ws) opened),
+          ),
+        )
+        (staffed ws (later_all (IsOpened gates) (places w) (all_of ws) opened)
+        (All-tail (λ w. 1 ≤ length (places w)) w ws some))
+
+    all_stand : (ws : List W) → All (λ w. IsStaffed incoming outgoing closes gates (places w)) ws →
+        (ss : List (Standing (View B) T)) × Each2 St ss (all_of ws)
+    all_stand [] all = ([], tt)
+    all_stand (w ∷ ws) all =
+        let one = All-head (λ w. IsStaffed incoming outgoing closes gates (places w)) w ws all in
+        let rest = all_stand ws (All-tail (λ w. IsStaffed incoming outgoing closes gates (places w)) w ws all) in
+        (one.1.0 ++ rest.0, each_append St one.1.0 (places w) rest.0 (all_of ws) one.1.1 rest.1)
+
+    -- The gates of the places that were taken back.
+    pub gates_again : (ws' : List W) (ps : List (Seated B T)) →
+        All (λ w. IsStaffed incoming outgoing closes gates (places w)) ws' →
+        KeepsAll incoming outgoing closes (reverse (all_of ws')) ps → All (λ (p : Seated B T). p.gates ≡ gates) ps
+    gates_again ws' ps all keeps =
+        let stand = all_stand ws' all in
+        same_gates (reverse stand.0) ps
+        (keeps gates (reverse stand.0) (each_reverse St stand.0 (all_of ws') stand.1))
+
+    vacated : (ws' : List W) (ps : List (Seated B T)) → KeepsAll incoming outgoing closes (reverse (all_of ws')) ps →
+        All (λ (p : Seated B T). p.client ≡ None) ps →
+        run.Vacates view_of St (Handled incoming outgoing closes) (all_of ws') (reverse ps)
+    vacated ws' ps keeps vacant ss each =
+        let kept = keeps gates (reverse ss) (each_reverse St ss (all_of ws') each) in
+        subst (λ l. Each2 Over l (reverse ps)) (reverse-reverse ss)
+        (each_reverse Over (reverse ss) ps (vacant_over (reverse ss) ps kept vacant))
+
+    abbrev pub Runs : W → T → W → Type 0
+    Runs = run.Runs places view_of St
+
+    module _ {S : Type 0} (gives : S → Option T → S → Type 0) (source source' : S) (ws ws' : List W)
+        (opened ps : List (Seated B T)) (all_opened : All (IsOpened gates) opened)
+        (shared : all_of ws ≡ reverse opened) (some : All (λ w. 1 ≤ length (places w)) ws)
+        (keeps : KeepsAll incoming outgoing closes (reverse (all_of ws')) ps)
+        (vacant : All (λ (p : Seated B T). p.client ≡ None) ps) where
+      all_fresh : All (run.IsFresh places view_of St) ws
+      all_fresh = fresh ws
+          (subst (All (IsOpened gates)) (sym shared) (all_reverse (IsOpened gates) opened all_opened)) some
+
+      first_views : reverse (map view_of (all_of ws)) ≡ map view_of opened
+      first_views = ap (λ l. reverse (map view_of l)) shared
+          ∙ (ap reverse (map_reverse view_of opened) ∙ reverse-reverse (map view_of opened))
+
+      last_views : reverse (map view_of (reverse ps)) ≡ map view_of ps
+      last_views = ap reverse (map_reverse view_of ps) ∙ reverse-reverse (map view_of ps)
+
+      -- The places had sessions over all connections of the source.
+      places_ran : RunsAll Runs gives ws source ws' source' →
+          RunsAll (Handled incoming outgoing closes) gives (map view_of opened) source (map view_of ps) source'
+      places_ran ran =
+          subst (λ l. RunsAll (Handled incoming outgoing closes) gives l source (map view_of ps) source') first_views
+          (subst (λ l. RunsAll (Handled incoming outgoing closes) gives (reverse (map view_of (all_of ws))) source l
+          source') last_views
+          (runs_reverse (Handled incoming outgoing closes) gives (map view_of (all_of ws)) (map view_of (reverse ps))
+          source source'
+          (run.all_run places view_of St (Handled incoming outgoing closes) gives ws ws' source source' (reverse ps)
+          ran all_fresh (vacated ws' ps keeps vacant))))
+
+      places_back : (why : WorkersFault) → GivesBack Runs ws why ws' →
+          GivesBack (Handled incoming outgoing closes) (map view_of opened) why (map view_of ps)
+      places_back why back =
+          subst (λ l. GivesBack (Handled incoming outgoing closes) l why (map view_of ps)) first_views
+          (subst (λ l. GivesBack (Handled incoming outgoing closes) (reverse (map view_of (all_of ws))) why l)
+          last_views
+          (back_reverse (Handled incoming outgoing closes) why (map view_of (all_of ws)) (map view_of (reverse ps))
+          (run.given_back places view_of St (Handled incoming outgoing closes) why ws ws' (reverse ps) back all_fresh
+          (vacated ws' ps keeps vacant))))
+
+      module _ (books books' : List B) (old kept new : Pass)
+          (first_books : books ≡ reverse (map (λ (p : Seated B T). p.book) opened))
+          (last_books : books' ≡ reverse (map (λ (p : Seated B T). p.book) ps))
+          (given : FoldsTo Gives old (map (λ (p : Seated B T). p.pass) opened) kept)
+          (taken : FoldsTo TakesIn kept (reverse (map (λ (p : Seated B T). p.pass) ps)) new) where
+        pub all_worked : (total : Sums) (missed : ℕ) → total ≡ all_added (map (λ (p : Seated B T). p.sums) ps) →
+            missed ≡ capped (sum_by (λ (p : Seated B T). p.refused) ps) → RunsAll Runs gives ws source ws' source' →
+            WorkedFrom incoming outgoing closes gives gates old source books total missed new source' books'
+        all_worked total missed adds counts ran =
+            shifts.all_shifted incoming outgoing closes (λ (v : View B). v.pass) (λ (v : View B). v.sums)
+            (λ (v : View B). v.refused) (λ (v : View B). v.book) gives gates (map view_of opened) (map view_of ps)
+            source source' books books' total missed old kept new (places_ran ran) (new_views opened all_opened)
+            (first_books ∙ ap reverse (sym (map_both (λ (v : View B). v.book) view_of opened)))
+            (last_books ∙ ap reverse (sym (map_both (λ (v : View B). v.book) view_of ps)))
+            (adds ∙ ap all_added (sym (map_both (λ (v : View B). v.sums) view_of ps)))
+            (counts ∙ ap capped (sum_by_map (λ (v : View B). v.refused) view_of ps))
+            (subst (λ l. FoldsTo Gives old l kept) (sym (map_both (λ (v : View B). v.pass) view_of opened)) given)
+            (subst (λ l. FoldsTo TakesIn kept (reverse l) new) (sym (map_both (λ (v : View B). v.pass) view_of ps))
+            taken)
+
+        pub all_left : (why : WorkersFault) (told : ServeFault) → FaultOf why told →
+            LeavesSource gives source why source' → GivesBack Runs ws why ws' →
+            LeavesConnections incoming outgoing closes gives (HiredFrom gates old new) source books told source' books'
+        all_left why told named leaves back =
+            shifts.all_left incoming outgoing closes (λ (v : View B). v.pass) (λ (v : View B). v.sums)
+            (λ (v : View B). v.refused) (λ (v : View B). v.book) gives gates (map view_of opened) (map view_of ps)
+            source source' books books' old kept new (new_views opened all_opened)
+            (first_books ∙ ap reverse (sym (map_both (λ (v : View B). v.book) view_of opened)))
+            (last_books ∙ ap reverse (sym (map_both (λ (v : View B). v.book) view_of ps)))
+            (subst (λ l. FoldsTo Gives old l kept) (sym (map_both (λ (v : View B). v.pass) view_of opened)) given)
+            (subst (λ l. FoldsTo TakesIn kept (reverse l) new) (sym (map_both (λ (v : View B). v.pass) view_of ps))
+            taken) why told named leaves (places_back why back)
+
+-- ---- a source behind another
+
+module _ {D S T : Type 0} (of : D → S) (gives : S → Option T → S → Type 0) where
+  abbrev pub Behind : D → Option T → D → Type 0
+  Behind old item new = gives (of old) item (of new)
+
+  folds_behind : (items : List T) (old new : D) →
+      FoldsTo (λ s x s'. Behind s (Some x) s') old items new →
+      FoldsTo (λ s x s'. gives s (Some x) s') (of old) items (of new)
+  folds_behind [] old new is = ap of is
+  folds_behind (x ∷ items) old new all = (of all.0, all.1, folds_behind items all.0 new all.2)

@@ -1,0 +1,77 @@
+-- The gates that were opened are those that were served, stopped and closed, also after a fault. The
+-- messages that were taken were written or lost.
+use Rattle.std.proofs.Common.{subst, refl}
+use Rattle.sysv_thread_laws.specs.Hiring.{Hires}
+use Rattle.sysv_service.specs.Ran.{Pass}
+use Rattle.sysv_engine.specs.Handled.{first_passes, last_passes, told_in}
+use Rattle.sysv_engine.specs.OneRun.{Stopped}
+use Rattle.sysv_engine.specs.Serving.{HasLived, HiredFrom}
+use Rattle.sysv_engine.proofs.FaultLeaves.{fault_says}
+use Rattle.sysv_engine.proofs.GatesHaveLived.{have_lived, lived}
+use Rattle.sysv_engine.proofs.SumsOfSessions.{balanced}
+use Rattle.sysv_engine.proofs.connections.serve_all.Goals as goal
+
+pub returns-in-Ok-outcome-clause-ok : goal.returns-in-Ok-outcome-clause-ok
+unfolding lived
+returns-in-Ok-outcome-clause-ok g c =
+    let stop = c.stop-removed.ensures.stopped in
+    let opened = c.in-Ok.ensures.open in
+    let worked = c.in-Ok-outcome.ensures.ok in
+    let shifts = worked.shifts in
+    let hires = subst (λ (p : Pass). Hires p (first_passes shifts) (last_passes shifts) c.serve_with-outcome.new.pass)
+    opened.1 worked.hires in
+    let stopped : Stopped c.in-Ok.service c.stop-removed.result = record {
+      before = c.serve_with-outcome.new.pass;
+      after = c.stop-removed.new.pass;
+      pass = c.serve_with-outcome.ensures.pass;
+      removed = stop.0;
+      worn = stop.1;
+      stops = stop.2;
+      tells = stop.3;
+    } in
+    let laws = c.each_life_is_one_run.ensures in
+    record {
+      given = worked.given;
+      gave = worked.gave;
+      desks = worked.desks;
+      dealt = worked.dealt;
+      ordered = worked.ordered;
+      alone = worked.alone;
+      gates = c.in-Ok.service;
+      opened = opened.0;
+      shifts = shifts;
+      crewed = worked.crewed;
+      sums = worked.adds;
+      refused = worked.counts;
+      lived = lived laws.run laws.whole laws.none_held c.args.blocks c.in-Ok.service c.stop-removed.result stopped
+          c.close-closed.result c.close-closed.ensures opened.0 c.stop-removed.ensures.pass shifts hires;
+      closed = refl;
+    }
+
+pub returns-in-Err-clause-err : goal.returns-in-Err-clause-err
+returns-in-Err-clause-err g c =
+    let t = g.T.Connection in
+    let stop = c.stop-removed.ensures.stopped in
+    let opened = c.in-Ok.ensures.open in
+    let first = c.in-Ok.pass in
+    let stopped : Stopped c.in-Ok.service c.stop-removed.result = record {
+      before = c.serve_with-outcome.new.pass;
+      after = c.stop-removed.new.pass;
+      pass = c.serve_with-outcome.ensures.pass;
+      removed = stop.0;
+      worn = stop.1;
+      stops = stop.2;
+      tells = stop.3;
+    } in
+    let laws = c.each_life_is_one_run.ensures in
+    fault_says t.incoming t.outgoing t.closes g.S.Source.gives c.args.source.now c.serve_with-outcome.new.source
+    c.args.books.now.items c.serve_with-outcome.new.books.items
+    (HiredFrom c.in-Ok.service first c.serve_with-outcome.new.pass) (HasLived c.args.blocks)
+    (have_lived laws.run laws.whole laws.none_held c.args.blocks c.in-Ok.service c.stop-removed.result stopped
+    c.close-closed.result c.close-closed.ensures opened.0 c.stop-removed.ensures.pass first opened.1)
+    c.in-Err.why c.in-Err.ensures.err
+
+pub returns-in-Ok-outcome-clause-balance : goal.returns-in-Ok-outcome-clause-balance
+returns-in-Ok-outcome-clause-balance g c =
+    let worked = c.in-Ok-outcome.ensures.ok in
+    balanced (told_in worked.shifts) c.in-Ok-outcome.sums worked.adds

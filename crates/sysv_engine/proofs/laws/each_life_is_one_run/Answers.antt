@@ -1,0 +1,14 @@
+use Rattle.sysv_engine.proofs.LifeIsOneRun.{each_life, each_none_held, each_whole}
+use Rattle.sysv_engine.proofs.laws.each_life_is_one_run.Goals as goal
+
+pub returns-clause-run : goal.returns-clause-run
+returns-clause-run c =
+    each_life c.each_session_makes_calls.ensures c.every_hiring_obeys.ensures.obeys c.every_hiring_obeys.ensures.stops
+
+pub returns-clause-whole : goal.returns-clause-whole
+returns-clause-whole c =
+    each_whole c.each_session_makes_calls.ensures c.every_pool_is_whole.ensures.hired c.every_hiring_obeys.ensures.stops
+
+pub returns-clause-none_held : goal.returns-clause-none_held
+returns-clause-none_held c = each_none_held c.each_session_makes_calls.ensures c.every_pool_is_whole.ensures.none_held
+    c.every_hiring_obeys.ensures.stops

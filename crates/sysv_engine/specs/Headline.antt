@@ -1,0 +1,51 @@
+-- The headline of the server. It serves the connections that its source returns, each once, over a
+-- new service. Each worker serves its connections in the order in which the source returned them, so
+-- a server with one worker serves all of them in that order. Each connection has one session, over
+-- the very bytes of that connection, and is then closed with what the session left. The calls of all
+-- sessions, each with the reply that was written to it or left without one, and the removals of the
+-- stop are one run of the service, and that run obeys the headline of threads, if fewer than 2^62
+-- turns were made at each object (this project's profile).
+--
+-- ServesConnections is this statement. The bytes of a connection are those that it tells: a
+-- connection in memory tells them all, and a socket tells none, since no contract speaks of what the
+-- system does with them. What is kept of a connection when it is closed is in the book of the
+-- worker that served it.
+use Rattle.std.specs.Prelude.{◌≡◌, ◌≤◌, ℕ, List, Option, length}
+use Rattle.std.specs.List.Sorted.{IsPermutation}
+use Rattle.sysv_service.specs.Opened.{AreOpen}
+use Rattle.sysv_service.specs.Seats.{Gates}
+use Rattle.sysv_workers.specs.Sources.{GivesAll}
+use Rattle.sysv_engine.specs.declared.terms.Ended.{Ended}
+use Rattle.sysv_engine.specs.Desks.{Desk, Crewed, AreServedInOrder, all_connections}
+use Rattle.sysv_engine.specs.Handled.{Shift, sums_of, refused_of, told_in}
+use Rattle.sysv_engine.specs.OneRun.{Lived}
+use Rattle.sysv_seats.specs.Untold.{Closing}
+
+pub record ServesConnections {S T B : Type 0} (incoming outgoing : T → Option (List ℕ)) (closes : Closing B)
+    (gives : S → Option T → S → Type 0) (blocks : ℕ) (source : S) (books : List B) (ended : Ended) (source' : S)
+    (books' : List B) : Type 0 where
+  -- The source returned these connections, one after the other, and then reported its end.
+  pub given : List T
+  pub gave : GivesAll gives source given source'
+  -- The workers had these connections, and no others. Each was with one worker, once.
+  pub desks : List (Desk T B)
+  pub dealt : IsPermutation (all_connections desks) given
+  -- Each worker had its connections in the order in which the source returned them. So one worker
+  -- alone had just the connections of the source, in that order.
+  pub ordered : AreServedInOrder given desks
+  pub alone : length books ≡ 1 → all_connections desks ≡ given
+  -- The service was opened with this number of blocks.
+  pub gates : Gates
+  pub opened : AreOpen 0 blocks 0 gates
+  -- Each worker had one session on each of its connections, in order: the session began with what
+  -- the connection had to be read and with what was written to it, and the connection was closed
+  -- with what the session left to be read and with what it had written then.
+  pub shifts : List Shift
+  pub crewed : Crewed incoming outgoing closes gates books desks shifts books'
+  -- The sums are those of all sessions, and so is the number of sessions whose memory was refused.
+  pub sums : ended.sums ≡ sums_of (told_in shifts)
+  pub refused : ended.refused ≡ refused_of (told_in shifts)
+  -- The calls of these very sessions and the removals of the stop are one run, which obeys, and the
+  -- gates were closed after it.
+  pub lived : Lived blocks gates shifts ended.removed
+  pub closed : ended.closed ≡ lived.closed

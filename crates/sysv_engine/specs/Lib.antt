@@ -1,0 +1,10 @@
+-- The definitions of the server.
+pub mod Made
+pub mod Added
+pub mod Talks
+pub mod Handled
+pub mod Desks
+pub mod OneRun
+pub mod Serving
+pub mod Headline
+pub mod Places

@@ -1,0 +1,83 @@
+-- The one run that the sessions of a server make of its service (this project's profile).
+use Rattle.std.specs.Prelude.{◌≡◌, ℕ, Bool, List, ◌++◌, Result}
+use Rattle.std.specs.List.{AllByRecursion, sum_by}
+use Rattle.sysv_bank.specs.Banks.{Each2}
+use Rattle.sysv_model.specs.Turns.{Numbered}
+use Rattle.sysv_thread_laws.specs.Order.{Called}
+use Rattle.sysv_thread_laws.specs.Crew.{IsServed}
+use Rattle.sysv_service.specs.Opened.{AreOpen}
+use Rattle.sysv_service.specs.Seats.{Gates, AreOf}
+use Rattle.sysv_keys.specs.declared.identifier.TheConstants.{SLOTS as slot_count}
+use Rattle.sysv_model.specs.declared.errno.Errno.{Errno}
+use Rattle.sysv_service.specs.declared.closing.Closed.{Closed}
+use Rattle.sysv_service.specs.Closing.{IsCounted}
+use Rattle.sysv_thread_laws.specs.Hiring.{first_pass, Hires, all_of, IsRemoval, removed_at}
+use Rattle.sysv_thread_laws.specs.PoolWhole.{IsWholeAgain}
+use Rattle.sysv_service.specs.Ran.{Pass}
+use Rattle.sysv_service.specs.Stopped.{Stops, TellsStop}
+use Rattle.sysv_service.specs.TurnsLeft.{EachGateHasTurnsLeft}
+use Rattle.sysv_engine.specs.Handled.{Shift, first_passes, last_passes, AreMadeBy}
+
+-- The calls of the sessions, each answered as it ended or left without a reply, and the removals of
+-- the stop, which removed this number of queues, are all the calls that made the order of turns. The
+-- order is a run of a world with these calls, and the run obeys the headline of threads.
+pub record IsOneRun (blocks : ℕ) (shifts : List Shift) (removed : ℕ) (order : List Numbered) : Type 0 where
+  pub each : List (List Called)
+  pub made : Each2 AreMadeBy shifts each
+  pub removals : List Called
+  pub are_removals : AllByRecursion IsRemoval removals
+  pub counted : sum_by (λ (call : Called). removed_at call.state) removals ≡ removed
+  pub served : IsServed 0 blocks order (all_of each ++ removals)
+
+-- A stop of these gates reported this. At each slot it read the row and tried to remove the queue
+-- that it found.
+pub record Stopped (gates : Gates) (told : Result ℕ Errno) : Type 0 where
+  pub before : Pass
+  pub after : Pass
+  pub pass : AreOf gates before.seats
+  pub removed : ℕ
+  pub worn : Bool
+  pub stops : Stops before slot_count removed worn after
+  pub tells : TellsStop removed worn told
+
+-- What a server did with these gates from their opening to their close. Its first pass gave each
+-- worker a pass and took all passes back, made the stop, and closed the gates. All of it is one run
+-- if each gate has turns left at the close, that is, if fewer than 2^62 turns were made at each
+-- object. Then the pool has all its blocks. No gate is held in either case.
+pub record Lived (blocks : ℕ) (gates : Gates) (shifts : List Shift) (removed : Result ℕ Errno) : Type 0 where
+  pub stopped : Stopped gates removed
+  pub hires : Hires (first_pass gates) (first_passes shifts) (last_passes shifts) stopped.before
+  pub closed : Closed
+  pub counted : IsCounted stopped.after.seats stopped.after.held closed
+  pub run : EachGateHasTurnsLeft 0 counted.all.order → IsOneRun blocks shifts stopped.removed counted.all.order
+  pub held : closed.held ≡ 0
+  pub whole : EachGateHasTurnsLeft 0 counted.all.order → IsWholeAgain blocks closed
+
+-- ---- the laws
+
+-- The gates were opened for a service with this number of blocks. The first pass gave the workers
+-- their passes, took them back and made a stop, and the gates were closed with it. If each gate has
+-- turns left at the close, then all of it is one run.
+abbrev pub EachLifeIsOneRun : Type 0
+EachLifeIsOneRun = (blocks : ℕ) (gates : Gates) (shifts : List Shift) (removed : Result ℕ Errno)
+    (stopped : Stopped gates removed) (closed : Closed) →
+    (counted : IsCounted stopped.after.seats stopped.after.held closed) → AreOpen 0 blocks 0 gates →
+    AreOf gates stopped.after.seats →
+    Hires (first_pass gates) (first_passes shifts) (last_passes shifts) stopped.before →
+    EachGateHasTurnsLeft 0 counted.all.order → IsOneRun blocks shifts stopped.removed counted.all.order
+
+-- No gate is held after the close of such gates, also if one was found worn out.
+abbrev pub NoLifeLeavesAGateHeld : Type 0
+NoLifeLeavesAGateHeld = (gates : Gates) (shifts : List Shift) (removed : Result ℕ Errno)
+    (stopped : Stopped gates removed) (closed : Closed) →
+    IsCounted stopped.after.seats stopped.after.held closed →
+    Hires (first_pass gates) (first_passes shifts) (last_passes shifts) stopped.before → closed.held ≡ 0
+
+-- The pool has all its blocks too, if each gate has turns left at the close.
+abbrev pub EachLifeLeavesThePoolWhole : Type 0
+EachLifeLeavesThePoolWhole = (blocks : ℕ) (gates : Gates) (shifts : List Shift) (removed : Result ℕ Errno)
+    (stopped : Stopped gates removed) (closed : Closed) →
+    (counted : IsCounted stopped.after.seats stopped.after.held closed) → AreOpen 0 blocks 0 gates →
+    AreOf gates stopped.after.seats →
+    Hires (first_pass gates) (first_passes shifts) (last_passes shifts) stopped.before →
+    EachGateHasTurnsLeft 0 counted.all.order → IsWholeAgain blocks closed

@@ -1,0 +1,130 @@
+-- The places of a worker (this project's profile). A worker of a server has several places, each
+-- with a pass of its own. A place has one client after another.
+use Rattle.std.specs.Prelude.{◌≡◌, ℕ, List, [], ◌∷◌, ◌++◌, ◌≤◌, length, Option, None, Some}
+use Rattle.std.specs.List.{FoldsTo}
+use Rattle.sysv_bank.specs.Banks.{Each2}
+use Rattle.sysv_service.specs.Ran.{Pass}
+use Rattle.sysv_service.specs.Seats.{Gates}
+use Rattle.sysv_seats.specs.Sits.{Sits, Sitting}
+use Rattle.sysv_seats.specs.Untold.{Closing}
+use Rattle.sysv_engine.specs.declared.sums.Sums.{Sums}
+use Rattle.sysv_engine.specs.Handled.{Handles}
+
+-- A place as the server began with it, and the connections that were adopted in it since then, in
+-- order.
+pub record Standing (V T : Type 0) : Type 0 where
+  pub start : V
+  pub had : List T
+
+module _ {V T : Type 0} where
+  -- The place with one more connection.
+  abbrev pub with_one : T → Standing V T → Standing V T
+  with_one connection place = record { start = place.start; had = place.had ++ connection ∷ [] }
+
+  -- The connection was adopted in one of the places, and in no other.
+  pub record Adopts (old : List (Standing V T)) (connection : T) (new : List (Standing V T)) : Type 0 where
+    pub before : List (Standing V T)
+    pub place : Standing V T
+    pub after : List (Standing V T)
+    pub was : old ≡ before ++ place ∷ after
+    pub now : new ≡ before ++ with_one connection place ∷ after
+
+  -- A worker with the places `old` adopted the connection and served its clients, which led to the
+  -- places `new`. `Stands` states what a place is, given how it began and what it has had.
+  abbrev pub Serves : {P : Type 0} → (Standing V T → P → Type 0) → List P → T → List P → Type 0
+  Serves Stands old connection new =
+      (was : List (Standing V T)) → Each2 Stands was old →
+      (now : List (Standing V T)) × Adopts was connection now × Each2 Stands now new
+
+-- ---- a place of a server
+
+-- What the contracts see of a place without a client: its pass, the sums of its sessions, the number
+-- of those whose memory was refused, and its book.
+pub record View (B : Type 0) : Type 0 where
+  pub pass : Pass
+  pub sums : Sums
+  pub refused : ℕ
+  pub book : B
+
+-- The same place with this pass.
+abbrev pub with_pass : {B : Type 0} → Pass → View B → View B
+with_pass pass view = record { pass = pass; sums = view.sums; refused = view.refused; book = view.book }
+
+module _ {T B : Type 0} (incoming outgoing : T → Option (List ℕ)) (closes : Closing B) where
+  -- The place had one more session, on this connection.
+  abbrev pub Handled : View B → T → View B → Type 0
+  Handled old connection new = Handles incoming outgoing closes connection old.pass old.sums old.refused old.book
+      new.pass new.sums new.refused new.book
+
+  -- A place without a client has had a session on each of its connections. A place with a client has
+  -- had one on each connection but the last, and the client is on the last: its session began with
+  -- the pass that the place had then. `Sits` states how far it is.
+  abbrev pub IsPlace : {C : Type 0} → (Sits : Pass → T → C → Pass → Type 0) → Standing (View B) T → View B → Option C →
+      Type 0
+  IsPlace Sits place view None = FoldsTo Handled place.start place.had view
+  IsPlace Sits place view (Some client) = (done : List T) × (connection : T) × (pass : Pass)
+      × (place.had ≡ done ++ connection ∷ []) × FoldsTo Handled place.start done (with_pass pass view)
+      × Sits pass connection client view.pass
+
+-- What the contracts see of a place: the gates of its service, its pass, the sums of its sessions,
+-- the number of those whose memory was refused, its book, and its client, if it has one.
+pub record Seated (B T : Type 0) : Type 0 where
+  pub gates : Gates
+  pub pass : Pass
+  pub sums : Sums
+  pub refused : ℕ
+  pub book : B
+  pub client : Option (Sitting T)
+
+abbrev pub view_of : {B T : Type 0} → Seated B T → View B
+view_of place = record { pass = place.pass; sums = place.sums; refused = place.refused; book = place.book }
+
+-- The place, taken by this client.
+abbrev pub taken_by : {B T : Type 0} → Sitting T → Seated B T → Seated B T
+taken_by client place = record {
+  gates = place.gates;
+  pass = place.pass;
+  sums = place.sums;
+  refused = place.refused;
+  book = place.book;
+  client = Some client;
+}
+
+module _ {T B : Type 0} (incoming outgoing : T → Option (List ℕ)) (closes : Closing B) where
+  -- The place is one of a service with these gates, and is what it has to be after what it has had.
+  abbrev pub Stands : Gates → Standing (View B) T → Seated B T → Type 0
+  Stands gates standing place = (place.gates ≡ gates)
+      × IsPlace incoming outgoing closes (Sits incoming outgoing) standing (view_of place) place.client
+
+  -- Whatever the place has had, it has had the same now.
+  abbrev pub KeepsPlace : (old new : Seated B T) → Type 0
+  KeepsPlace old new =
+      (gates : Gates) (standing : Standing (View B) T) → Stands gates standing old → Stands gates standing new
+
+  -- The place has had this connection too.
+  abbrev pub TakesIn : T → (old new : Seated B T) → Type 0
+  TakesIn connection old new = (gates : Gates) (standing : Standing (View B) T) → Stands gates standing old
+      → Stands gates (with_one connection standing) new
+
+  -- Whatever the places of a worker have had, they have had the same now.
+  abbrev pub KeepsAll : (old new : List (Seated B T)) → Type 0
+  KeepsAll old new = (gates : Gates) (standings : List (Standing (View B) T)) → Each2 (Stands gates) standings old →
+      Each2 (Stands gates) standings new
+
+  -- One of the places of a worker has had this connection too.
+  abbrev pub AdoptsOne : T → (old new : List (Seated B T)) → Type 0
+  AdoptsOne connection old new = (gates : Gates) → Serves (Stands gates) old connection new
+
+  -- The worker has places, they are of a service with these gates, and each is what it has to be after
+  -- what it has had.
+  abbrev pub IsStaffed : Gates → List (Seated B T) → Type 0
+  IsStaffed gates places =
+      (1 ≤ length places) × ((standings : List (Standing (View B) T)) × Each2 (Stands gates) standings places)
+
+  -- A worker adopted the connection and served its clients, which led to these places.
+  abbrev pub AdoptsAt : Gates → T → (old new : List (Seated B T)) → Type 0
+  AdoptsAt gates connection old new = Serves (Stands gates) old connection new
+
+-- The place is one of a service with these gates, and no client has had it yet.
+abbrev pub IsOpened : {B T : Type 0} → Gates → Seated B T → Type 0
+IsOpened gates place = (place.gates ≡ gates) × IsNew gates place.pass place.sums place.refused × (place.client ≡ None)

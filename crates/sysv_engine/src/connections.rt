@@ -1,0 +1,207 @@
+//! A server over any connections that never wait.
+ghost use Rattle.std.specs.Prelude.{◌≡◌, ◌≢◌, ◌≤◌, IfOk, IfErr, vec_len};
+ghost use Rattle.sysv_model.specs.declared.limits.TheConstants.{MIN_BLOCKS, MAX_BLOCKS};
+ghost use Rattle.sysv_workers.specs.declared.workers.TheConstants.{MAX_CROWD, MAX_WORKERS};
+ghost use Rattle.sysv_service.specs.Seats.{AreOf};
+ghost use Rattle.sysv_engine.specs.Added.{IsBalanced};
+ghost use Rattle.sysv_engine.specs.Headline.{ServesConnections};
+ghost use Rattle.sysv_engine.specs.Serving.{FaultOf, HasLived, HiredFrom, LeavesConnections, WorkedFrom};
+
+use crate::common::Common;
+use crate::crew::{dismiss, hire};
+use crate::dealing::Dealing;
+use crate::fault::ServeFault;
+use crate::laws::each_life_is_one_run;
+use crate::rounds::Serving;
+use crate::staff::{discard, gather, kits, staff};
+use crate::sums::Sums;
+use crate::terms::{Ended, Patience};
+use crate::watch::{Rounds, Watch};
+use crate::worker::{Kit, Worker};
+use std::alloc::Global;
+use std::sync::Wait;
+use std::thread::Threads;
+use sysv_seats::NonBlocking;
+use sysv_service::{Pass, Service};
+use sysv_workers::{Source, WorkersFault, WorkersRefused, run_crowd};
+
+/// Serves the connections of a source on a new service, each as one session, and removes the queues
+/// that are left.
+///
+/// There is a place for each book, which serves one connection after another and closes each into
+/// its book. `workers` workers share the places evenly. `blocks` is the number of blocks in the
+/// pool. The server ends when the source has ended and the sessions of its connections are over.
+/// Every timestamp of its queues is 0.
+///
+/// # Errors
+///
+/// The errors are those of `serve_on`. After `NoMemory` and `Thread` no connection was requested
+/// from the source, and the books are unchanged. After `Worn` and `Missed` the books have the
+/// connections that were closed. The queues that are left are removed after a fault too.
+///
+/// # Conditions
+///
+/// - `blocks` is 128 to 65,536.
+/// - `workers` is 1 to 16.
+/// - There are at least as many books as workers.
+pub fn serve_connections<T: NonBlocking + Drop + Send, S: Source<T>, R: Threads + Wait + Sync>(
+    rt: &R,
+    alloc: Global,
+    source: &mut S,
+    books: &mut Vec<T::Book>,
+    workers: u32,
+    blocks: u32,
+) -> Result<Ended, ServeFault>
+where
+    T::Book: Send,
+    requires blocks { (MIN_BLOCKS ≤ blocks) × (blocks ≤ MAX_BLOCKS) }
+    requires workers { (1 ≤ workers) × (workers ≤ MAX_WORKERS) × (workers ≤ vec_len books.old) }
+    ensures ok { IfOk result (λ ended. ServesConnections T.incoming T.outgoing T.closes S.gives
+        blocks source.old books.old.items ended source.new books.new.items) }
+    ensures balance { IfOk result (λ ended. IsBalanced ended.sums) }
+    ensures err { IfErr result (λ why. LeavesConnections T.incoming T.outgoing T.closes S.gives
+        (HasLived blocks) source.old books.old.items why source.new books.new.items) }
+{
+    let (count, places) = (workers as usize, books.len());
+    let Some(common) = Common::open(alloc, count, places, Patience::UNBOUNDED, 0) else {
+        return Err(ServeFault::NoMemory);
+    };
+    let Ok(mut watches) = Vec::with_capacity(alloc, count) else {
+        return Err(ServeFault::NoMemory);
+    };
+    for _ in 0..count {
+        let Some(watch) = Rounds::open(alloc, places) else {
+            return Err(ServeFault::NoMemory);
+        };
+        watches.push_reserved(watch);
+    }
+    serve_all(rt, alloc, source, books, blocks, watches, &common)
+}
+
+/// Serves the connections of a source like `serve_connections`, with a worker for each watch.
+pub(crate) fn serve_all<
+    T: NonBlocking + Drop + Send,
+    S: Source<T>,
+    W: Watch<T> + Drop + Send,
+    R: Threads + Wait + Sync,
+>(
+    rt: &R,
+    alloc: Global,
+    source: &mut S,
+    books: &mut Vec<T::Book>,
+    blocks: u32,
+    watches: Vec<W>,
+    common: &Common,
+) -> Result<Ended, ServeFault>
+where
+    T::Book: Send,
+    requires blocks { (MIN_BLOCKS ≤ blocks) × (blocks ≤ MAX_BLOCKS) }
+    requires workers { (1 ≤ vec_len watches) × (vec_len watches ≤ vec_len books.old)
+        × (vec_len watches ≤ MAX_CROWD) }
+    ensures ok { IfOk result (λ ended. ServesConnections T.incoming T.outgoing T.closes S.gives
+        blocks source.old books.old.items ended source.new books.new.items) }
+    ensures balance { IfOk result (λ ended. IsBalanced ended.sums) }
+    ensures err { IfErr result (λ why. LeavesConnections T.incoming T.outgoing T.closes S.gives
+        (HasLived blocks) source.old books.old.items why source.new books.new.items) }
+{
+    let Ok((service, mut pass)) = Service::open(alloc, blocks) else {
+        return Err(ServeFault::NoMemory);
+    };
+    let outcome = serve_with(
+        rt, alloc, &service, &mut pass, source, books, watches, common,
+    );
+    let removed = service.stop(rt, &mut pass);
+    let closed = service.close(pass);
+    each_life_is_one_run();
+    match outcome {
+        Ok((sums, refused)) => Ok(Ended {
+            sums,
+            refused,
+            removed,
+            closed,
+        }),
+        Err(why) => Err(why),
+    }
+}
+
+/// Serves the connections of a source on this service, and takes back the passes and the books of
+/// all places. Returns the sums of the sessions, and the number of those whose memory was refused.
+fn serve_with<
+    T: NonBlocking + Drop + Send,
+    S: Source<T>,
+    W: Watch<T> + Drop + Send,
+    R: Threads + Wait + Sync,
+>(
+    rt: &R,
+    alloc: Global,
+    service: &Service,
+    pass: &mut Pass,
+    source: &mut S,
+    books: &mut Vec<T::Book>,
+    watches: Vec<W>,
+    common: &Common,
+) -> Result<(Sums, u64), ServeFault>
+where
+    T::Book: Send,
+    requires pass { AreOf service.now pass.old.seats }
+    requires count { (1 ≤ vec_len watches) × (vec_len watches ≤ vec_len books.old)
+        × (vec_len watches ≤ MAX_CROWD) }
+    ensures pass { AreOf service.now pass.new.seats }
+    ensures ok { IfOk result (λ told. WorkedFrom T.incoming T.outgoing T.closes S.gives service.now
+        pass.old source.old books.old.items told.0 told.1 pass.new source.new books.new.items) }
+    ensures err { IfErr result (λ why. LeavesConnections T.incoming T.outgoing T.closes S.gives
+        (HiredFrom service.now pass.old pass.new) source.old books.old.items why source.new
+        books.new.items) }
+{
+    let count = watches.len();
+    let Ok(told) = vec![in alloc; 1u64; count] else {
+        return Err(ServeFault::NoMemory);
+    };
+    let Some(kits) = kits(alloc, watches, books.len()) else {
+        return Err(ServeFault::NoMemory);
+    };
+    let Ok(mut workers) = Vec::with_capacity(alloc, count) else {
+        discard(kits);
+        return Err(ServeFault::NoMemory);
+    };
+    let Ok(mut places) = Vec::with_capacity(alloc, books.len()) else {
+        workers.destroy_empty();
+        discard(kits);
+        return Err(ServeFault::NoMemory);
+    };
+    hire(rt, alloc, service, pass, books, &mut places);
+    staff(kits, &mut places, &mut workers);
+    let job = Serving {
+        rt,
+        alloc,
+        service,
+        common,
+    };
+    let mut dealing = Dealing::new(source, common, told);
+    match run_crowd(rt, alloc, workers, &mut dealing, &job) {
+        Ok(workers) => {
+            gather(workers, &mut places);
+            Ok(dismiss(service, pass, places, books))
+        }
+        Err(refused) => {
+            let WorkersRefused { why, states } = refused;
+            gather(states, &mut places);
+            dismiss(service, pass, places, books);
+            Err(fault(why))
+        }
+    }
+}
+
+/// Returns the server's fault for a refusal of the workers.
+fn fault(why: WorkersFault) -> ServeFault
+    requires { why ≢ WorkersFault.BadCount }
+    ensures { FaultOf why result }
+{
+    match why {
+        WorkersFault::BadCount => unreachable!(),
+        WorkersFault::NoMemory => ServeFault::NoMemory,
+        WorkersFault::Thread => ServeFault::Thread,
+        WorkersFault::Worn => ServeFault::Worn,
+        WorkersFault::Missed => ServeFault::Missed,
+    }
+}

@@ -1,0 +1,87 @@
+//! The places of a server: a pass is split off for each, and joined back at the end.
+ghost use Rattle.std.specs.Prelude.{◌≡◌, ◌≤◌, ◌+◌, ◌++◌, map, reverse, vec_len, vec_capacity, [], None};
+ghost use Rattle.std.specs.List.{All, FoldsTo, sum_by};
+ghost use Rattle.sysv_service.specs.Seats.{AreOf};
+ghost use Rattle.sysv_thread_laws.specs.Hiring.{Gives, TakesIn};
+ghost use Rattle.sysv_engine.specs.Added.{all_added, capped};
+ghost use Rattle.sysv_engine.specs.Places.{IsOpened, KeepsAll};
+
+use crate::place::Place;
+use crate::sums::Sums;
+use std::alloc::Global;
+use std::sync::Wait;
+use sysv_seats::NonBlocking;
+use sysv_service::{Pass, Service};
+
+/// Adds a place for each book, from the last to the first, each with a pass that is split off from
+/// `pass`.
+pub(crate) fn hire<'a, R: Wait, T: NonBlocking>(
+    rt: &'a R,
+    alloc: Global,
+    service: &'a Service,
+    pass: &mut Pass,
+    books: &mut Vec<T::Book>,
+    places: &mut Vec<Place<'a, R, T>>,
+)
+    requires pass { AreOf service.now pass.old.seats }
+    requires none { places.old.items ≡ [] }
+    requires room { vec_len books.old ≤ vec_capacity places.old }
+    ensures pass { AreOf service.now pass.new.seats }
+    ensures places { All (IsOpened service.now) places.new.items }
+    ensures count { vec_len places.new ≡ vec_len books.old }
+    ensures books { books.old.items ≡ reverse (map (λ p. p.book) places.new.items) }
+    ensures taken { (books.new.items ≡ []) × (vec_capacity books.new ≡ vec_capacity books.old) }
+    ensures gives { FoldsTo Gives pass.old (map (λ p. p.pass) places.new.items) pass.new }
+{
+    while let Some(book) = books.pop() {
+        let Ok(theirs) = service.split_pass(alloc, pass) else {
+            unreachable!()
+        };
+        places.push_reserved(Place::new(rt, service, theirs, book));
+    }
+}
+
+/// Closes the clients that are left in the places.
+pub(crate) fn vacate<R: Wait, T: NonBlocking>(places: &mut Vec<Place<'_, R, T>>)
+    ensures keeps { KeepsAll T.incoming T.outgoing T.closes places.old.items places.new.items }
+    ensures vacant { All (λ p. p.client ≡ None) places.new.items }
+{
+    for at in 0..places.len() {
+        places[at].close();
+    }
+}
+
+/// Joins the passes of all these places, which are vacant, into `pass`, and puts their books into
+/// `books`. Returns the sum of their sums, and the number of their sessions whose memory was
+/// refused.
+pub(crate) fn dismiss<R: Wait, T: NonBlocking>(
+    service: &Service,
+    pass: &mut Pass,
+    places: Vec<Place<'_, R, T>>,
+    books: &mut Vec<T::Book>,
+) -> (Sums, u64)
+    requires pass { AreOf service.now pass.old.seats }
+    requires places { All (λ p. p.gates ≡ service.now) places.items }
+    requires vacant { All (λ p. p.client ≡ None) places.items }
+    requires room { vec_len books.old + vec_len places ≤ vec_capacity books.old }
+    ensures pass { AreOf service.now pass.new.seats }
+    ensures sums { result.0 ≡ all_added (map (λ p. p.sums) places.entry.items) }
+    ensures refused { result.1 ≡ capped (sum_by (λ p. p.refused) places.entry.items) }
+    ensures books { books.new.items
+        ≡ books.old.items ++ reverse (map (λ p. p.book) places.entry.items) }
+    ensures takes { FoldsTo TakesIn pass.old
+        (reverse (map (λ p. p.pass) places.entry.items)) pass.new }
+{
+    let mut places = places;
+    let mut sums = Sums::open();
+    let mut refused: u64 = 0;
+    while let Some(place) = places.pop() {
+        let (theirs, more, missed, book) = place.into_parts();
+        service.join_pass(pass, theirs);
+        sums.add(more);
+        refused = refused.saturating_add(missed);
+        books.push_reserved(book);
+    }
+    places.destroy_empty();
+    (sums, refused)
+}

@@ -1,0 +1,36 @@
+//! Laws about the definitions.
+ghost use Rattle.std.specs.Prelude.{⊤};
+ghost use Rattle.sysv_engine.specs.Made.{EachSessionMakesCalls};
+ghost use Rattle.sysv_engine.specs.OneRun.{EachLifeIsOneRun, EachLifeLeavesThePoolWhole, NoLifeLeavesAGateHeld};
+
+use sysv_seats::ZERO;
+use sysv_service::Clock;
+use sysv_thread_laws::{every_hiring_obeys, every_pool_is_whole, every_service_obeys};
+
+/// States which calls of a service a session makes.
+///
+/// It makes one call for each request, except for a request for a row, which is no call. Each
+/// request is answered as its call ended, or its call was left and has no reply. The session makes
+/// no other call with its pass.
+pub fn each_session_makes_calls<C: Clock>(clock: &C)
+    ensures { EachSessionMakesCalls (C.may clock.now) ⊤ }
+{
+    every_service_obeys(clock);
+}
+
+/// States that the sessions of a server are one run of its service, if fewer than 2^62 turns were
+/// made at each object.
+///
+/// The calls of all sessions, each answered as it ended or left without a reply, and the removals
+/// of the stop are all the calls that made the order of turns of the service. That order is a run
+/// of a world with those calls, and the run obeys the headline of threads. The pool has all its
+/// blocks after the close. No gate is held then, also if one was found worn out.
+pub fn each_life_is_one_run()
+    ensures run { EachLifeIsOneRun }
+    ensures whole { EachLifeLeavesThePoolWhole }
+    ensures none_held { NoLifeLeavesAGateHeld }
+{
+    every_hiring_obeys();
+    every_pool_is_whole();
+    each_session_makes_calls(&ZERO);
+}

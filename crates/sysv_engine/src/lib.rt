@@ -1,0 +1,36 @@
+//! The engine of a server of message queues: any number of clients on a few workers.
+//!
+//! A worker is an event loop. It has a number of places, each with a pass of its own, and each place
+//! serves one client after another. A client is a value: its session does not wait, neither for its
+//! connection nor inside a call. A call that waits is parked, and its worker looks at it again when
+//! what it waits for may have come.
+//!
+//! `serve_connections` serves the connections of a source on a new service. All sessions share the
+//! service, which is the kernel of each session: each request, except one for a row, is one call of
+//! the service, and its reply reports how that call ended.
+#![tactic(auto)]
+
+mod bell;
+mod common;
+mod connections;
+mod crew;
+mod dealing;
+mod fault;
+mod laws;
+mod lines;
+mod moment;
+mod place;
+mod rounds;
+mod staff;
+mod sums;
+mod terms;
+mod times;
+mod watch;
+mod worker;
+
+pub use connections::serve_connections;
+pub use fault::ServeFault;
+pub use laws::{each_life_is_one_run, each_session_makes_calls};
+pub use sums::Sums;
+pub use terms::{Ended, Patience};
+pub use watch::{Ready, Watch};

@@ -1,0 +1,281 @@
+//! The places of a server: each serves one client after another.
+ghost use Rattle.std.specs.Prelude.{◌≡◌, ◌+◌, None, Some};
+ghost use Rattle.sysv_service.specs.Seats.{AreOf};
+ghost use Rattle.sysv_engine.specs.Added.{added, capped, nothing, one_session};
+ghost use Rattle.sysv_engine.specs.Handled.{one_refused};
+ghost use Rattle.sysv_engine.specs.Places.{KeepsPlace, TakesIn, taken_by};
+
+use crate::lines::Key;
+use crate::moment::Moment;
+use crate::sums::Sums;
+use crate::terms::Patience;
+use crate::times::Times;
+use crate::watch::{Ready, Watch};
+use std::alloc::Global;
+use std::marker::Model;
+use std::sync::Wait;
+use sysv_seats::{Client, NonBlocking, ServiceKernel, Tools, ZERO, Zero};
+use sysv_service::{Pass, Service};
+use sysv_session::{End, Served};
+
+/// A place of a server. Clients have it one after another.
+///
+/// It has a kernel with a pass of its own, the client that has it now, the sums of its sessions, the
+/// number of those whose memory was refused, and its book.
+pub(crate) struct Place<'a, R: Wait, T: NonBlocking> {
+    kernel: ServiceKernel<'a, Zero, R>,
+    client: Option<Client<T>>,
+    sums: Sums,
+    refused: u64,
+    book: T::Book,
+    times: Times,
+    /// Whether the place is in the line of those that have more to do.
+    pub(crate) in_turns: bool,
+    /// Whether the watch reports when the connection may take bytes.
+    awaits_room: bool,
+}
+
+impl<'a, R: Wait, T: NonBlocking> Model for Place<'a, R, T> {
+    ghost use Rattle.sysv_engine.specs.Places.{Seated};
+
+    ghost Value = { Seated T.Book T };
+
+    ghost view = { λ p. record {
+      gates = p.kernel.service.now;
+      pass = p.kernel.pass;
+      sums = p.sums;
+      refused = p.refused;
+      book = p.book;
+      client = p.client;
+    } };
+}
+
+impl<'a, R: Wait, T: NonBlocking> Place<'a, R, T> {
+    /// Creates a place that no client has had.
+    ///
+    /// # Conditions
+    ///
+    /// - `pass` is a pass of `service`.
+    pub(crate) fn new(rt: &'a R, service: &'a Service, pass: Pass, book: T::Book) -> Place<'a, R, T>
+        requires { AreOf service.now pass.seats }
+        ensures { result ≡ record {
+          gates = service.now;
+          pass = pass;
+          sums = nothing;
+          refused = 0;
+          book = book;
+          client = None;
+        } }
+    {
+        Place {
+            kernel: ServiceKernel::new(rt, service, &ZERO, pass),
+            client: None,
+            sums: Sums::open(),
+            refused: 0,
+            book,
+            times: Times::new(),
+            in_turns: false,
+            awaits_room: false,
+        }
+    }
+
+    /// Returns the pass of a vacant place, its sums, the number of its sessions whose memory was
+    /// refused, and its book.
+    pub(crate) fn into_parts(self) -> (Pass, Sums, u64, T::Book)
+        requires { self.client ≡ None }
+        ensures parts { (result.0 ≡ self.pass) × (result.1 ≡ self.sums) × (result.2 ≡ self.refused)
+            × (result.3 ≡ self.book) }
+        ensures fits { AreOf self.gates result.0.seats }
+    {
+        let Place {
+            kernel,
+            client,
+            sums,
+            refused,
+            book,
+            times: _,
+            in_turns: _,
+            awaits_room: _,
+        } = self;
+        match client {
+            Some(_) => unreachable!(),
+            None => (kernel.into_pass(), sums, refused, book),
+        }
+    }
+
+    /// Gives the place to the client of a connection. If there is a client already, it is closed.
+    pub(crate) fn adopt(&mut self, alloc: Global, connection: T)
+        ensures { TakesIn T.incoming T.outgoing T.closes connection self.old self.new }
+    {
+        self.close();
+        self.times = Times::new();
+        self.awaits_room = false;
+        self.seat(Client::open(alloc, connection));
+    }
+
+    /// Gives a vacant place to a client.
+    fn seat(&mut self, client: Client<T>)
+        requires { self.old.client ≡ None }
+        ensures { self.new ≡ taken_by client self.old }
+    {
+        match self.client.replace(client) {
+            Some(_) => unreachable!(),
+            None => {}
+        }
+    }
+
+    /// Closes the client, if there is one, and returns what its session did.
+    pub(crate) fn close(&mut self) -> Option<Served>
+        ensures keeps { KeepsPlace T.incoming T.outgoing T.closes self.old self.new }
+        ensures vacant { self.new.client ≡ None }
+    {
+        let client = self.client.take()?;
+        let served = client.close(&mut self.book);
+        self.count(&served);
+        Some(served)
+    }
+
+    /// Counts a session that is over.
+    fn count(&mut self, served: &Served)
+        ensures sums { self.new.sums ≡ added self.old.sums (one_session served.now.tally) }
+        ensures refused { self.new.refused
+            ≡ capped (self.old.refused + one_refused (Some served.now)) }
+        ensures same { (self.new.gates ≡ self.old.gates) × (self.new.pass ≡ self.old.pass)
+            × (self.new.book ≡ self.old.book) × (self.new.client ≡ self.old.client) }
+    {
+        self.sums.add(Sums::of(&served.tally));
+        self.refused = self.refused.saturating_add(refusals(served));
+    }
+
+    /// Has the client's connection watched. If that is refused, the client ends.
+    pub(crate) fn begin<W: Watch<T>>(&mut self, watch: &mut W, place: usize)
+        ensures keeps { KeepsPlace T.incoming T.outgoing T.closes self.old self.new }
+    {
+        let Some(client) = &mut self.client else {
+            return;
+        };
+        if !watch.add(client.connection(), place) {
+            client.cut();
+        }
+    }
+
+    /// Learns what a watch reports.
+    pub(crate) fn note(&mut self, ready: &Ready)
+        ensures keeps { KeepsPlace T.incoming T.outgoing T.closes self.old self.new }
+    {
+        let Some(client) = &mut self.client else {
+            return;
+        };
+        if ready.readable || ready.left {
+            client.note_readable();
+        }
+        if ready.left {
+            client.leave();
+        }
+        if ready.writable {
+            client.drain();
+        }
+    }
+
+    /// Takes up and answers a share of the requests that have arrived.
+    pub(crate) fn take_turn(&mut self, tools: &mut Tools)
+        ensures keeps { KeepsPlace T.incoming T.outgoing T.closes self.old self.new }
+    {
+        if let Some(client) = &mut self.client {
+            client.take_turn(&mut self.kernel, tools);
+            client.drain();
+        }
+    }
+
+    /// Continues the parked call, if it may go on.
+    pub(crate) fn go_on(&mut self, tools: &mut Tools)
+        ensures keeps { KeepsPlace T.incoming T.outgoing T.closes self.old self.new }
+    {
+        if let Some(client) = &mut self.client {
+            client.go_on(&mut self.kernel, tools);
+        }
+    }
+
+    /// Gives the connection as many bytes of the replies as it takes now.
+    pub(crate) fn drain(&mut self)
+        ensures keeps { KeepsPlace T.incoming T.outgoing T.closes self.old self.new }
+    {
+        if let Some(client) = &mut self.client {
+            client.drain();
+        }
+    }
+
+    /// Ends the client because of a limit.
+    pub(crate) fn cut(&mut self)
+        ensures keeps { KeepsPlace T.incoming T.outgoing T.closes self.old self.new }
+    {
+        if let Some(client) = &mut self.client {
+            client.drain();
+            client.cut();
+        }
+    }
+
+    /// Returns what the parked call waits for, if there is one.
+    pub(crate) fn key(&self) -> Option<Key> {
+        let client = self.client.as_ref()?;
+        let waiting = client.waiting()?;
+        Some(Key::of(&waiting, client.parked_length()))
+    }
+
+    /// Returns whether there is a client.
+    pub(crate) fn is_taken(&self) -> bool {
+        self.client.is_some()
+    }
+
+    /// Returns whether nothing is left to do but to close the client.
+    pub(crate) fn is_over(&self) -> bool {
+        match &self.client {
+            Some(client) => client.is_over(),
+            None => false,
+        }
+    }
+
+    /// Returns whether the client has more to do.
+    pub(crate) fn has_more(&self) -> bool {
+        match &self.client {
+            Some(client) => client.has_more(),
+            None => false,
+        }
+    }
+
+    /// Has the watch report when the connection may take bytes, if and only if some wait for it.
+    pub(crate) fn await_room<W: Watch<T>>(&mut self, watch: &mut W, place: usize)
+        ensures keeps { KeepsPlace T.incoming T.outgoing T.closes self.old self.new }
+    {
+        let Some(client) = &self.client else {
+            return;
+        };
+        if client.has_unsent() != self.awaits_room {
+            self.awaits_room = client.has_unsent();
+            watch.await_room(client.connection(), place, self.awaits_room);
+        }
+    }
+
+    /// Returns when the client's time is over. Called after each event.
+    pub(crate) fn limit(&mut self, patience: Patience) -> Option<Moment>
+        ensures keeps { KeepsPlace T.incoming T.outgoing T.closes self.old self.new }
+    {
+        let client = self.client.as_ref()?;
+        self.times.note(client, patience)
+    }
+
+    /// Returns when the client's time is over.
+    pub(crate) fn due(&self) -> Option<Moment> {
+        self.times.due()
+    }
+}
+
+/// Returns 1 for a session whose memory was refused, and else 0.
+fn refusals(served: &Served) -> u64
+    ensures { result ≡ one_refused (Some served.now) }
+{
+    match served.end {
+        End::NoMemory => 1,
+        _ => 0,
+    }
+}

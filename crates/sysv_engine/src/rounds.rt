@@ -1,0 +1,579 @@
+//! The event loop of a worker.
+ghost use Rattle.std.specs.Prelude.{◌≡◌, ◌≤◌, vec_len};
+ghost use Rattle.sysv_engine.specs.Places.{AdoptsOne, KeepsAll};
+
+use crate::common::{Common, Letter, bit};
+use crate::lines::Key;
+use crate::moment::Moment;
+use crate::watch::{Ready, Watch};
+use crate::worker::{Worker, sooner};
+use std::alloc::Global;
+use std::sync::Wait;
+use sysv_keys::SLOTS;
+use sysv_rules::qualifies;
+use sysv_seats::{News, NonBlocking};
+use sysv_service::Service;
+use sysv_session::End;
+use sysv_workers::Job;
+
+/// The job that serves the clients of a worker.
+///
+/// A run takes one more connection, and then serves the clients of the worker until the worker is
+/// told to take another one, or until there are no clients and no more connections come.
+#[derive(Drop)]
+pub(crate) struct Serving<'a, 'c, R> {
+    pub(crate) rt: &'a R,
+    pub(crate) alloc: Global,
+    pub(crate) service: &'a Service,
+    pub(crate) common: &'c Common,
+}
+
+impl<'a, 'c, R: Wait, T: NonBlocking + Drop, W: Watch<T>> Job<Worker<'a, R, T, W>, T>
+    for Serving<'a, 'c, R> {
+    ghost use Rattle.sysv_engine.specs.Places.{AdoptsAt, IsStaffed};
+
+    ghost fits = { λ job worker. IsStaffed T.incoming T.outgoing T.closes job.service.now
+        worker.places.items };
+
+    ghost runs = { λ job old connection new. AdoptsAt T.incoming T.outgoing T.closes
+        job.service.now connection old.places.items new.places.items };
+
+    fn run(&self, worker: &mut Worker<'a, R, T, W>, connection: T) {
+        self.make_room(worker);
+        let place = worker.adopt(self.alloc, connection);
+        self.turn(worker, place);
+        self.serve(worker);
+    }
+}
+
+impl<'a, 'c, R: Wait> Serving<'a, 'c, R> {
+    /// Serves the clients until a place is vacant.
+    fn make_room<T: NonBlocking, W: Watch<T>>(&self, worker: &mut Worker<'_, R, T, W>)
+        ensures { KeepsAll T.incoming T.outgoing T.closes worker.old.places.items
+            worker.new.places.items }
+    {
+        for _ in self.rt.forever() {
+            if !worker.free.is_empty() {
+                return;
+            }
+            self.round(worker);
+        }
+    }
+
+    /// Serves the clients until the worker is to return.
+    fn serve<T: NonBlocking, W: Watch<T>>(&self, worker: &mut Worker<'_, R, T, W>)
+        ensures { KeepsAll T.incoming T.outgoing T.closes worker.old.places.items
+            worker.new.places.items }
+    {
+        for _ in self.rt.forever() {
+            if self.is_called(worker) {
+                return;
+            }
+            self.round(worker);
+        }
+    }
+
+    /// Returns whether the worker is to return: to take one more connection, or because there are
+    /// no clients and no more connections come.
+    fn is_called<T: NonBlocking, W: Watch<T>>(&self, worker: &mut Worker<'_, R, T, W>) -> bool
+        ensures { KeepsAll T.incoming T.outgoing T.closes worker.old.places.items
+            worker.new.places.items }
+    {
+        if self.common.coming(worker.number) > worker.answered {
+            worker.answered += 1;
+            return true;
+        }
+        worker.is_empty() && self.common.is_finished()
+    }
+
+    /// Waits for news, and serves each client that has some.
+    fn round<T: NonBlocking, W: Watch<T>>(&self, worker: &mut Worker<'_, R, T, W>)
+        ensures { KeepsAll T.incoming T.outgoing T.closes worker.old.places.items
+            worker.new.places.items }
+    {
+        self.rest(worker);
+        for at in 0..worker.ready.len() {
+            let ready = worker.ready[at];
+            self.report(worker, &ready);
+        }
+        self.take_turns(worker);
+        self.look_at_times(worker);
+        if self.common.is_cut() {
+            self.cut_all(worker);
+        }
+    }
+
+    /// Waits until a client has news, or something came for the worker.
+    fn rest<T: NonBlocking, W: Watch<T>>(&self, worker: &mut Worker<'_, R, T, W>)
+        ensures { KeepsAll T.incoming T.outgoing T.closes worker.old.places.items
+            worker.new.places.items }
+    {
+        let number = worker.number;
+        let may_sleep = self.common.fall_asleep(number);
+        let limit = if may_sleep && worker.turns.is_empty() {
+            worker.check.map(Moment::left)
+        } else {
+            Some(0)
+        };
+        worker.watch.wait(limit, &mut worker.ready);
+        if self.common.wake_up(number) {
+            self.read_letters(worker);
+        }
+    }
+
+    /// Serves a client of which the watch reports news.
+    fn report<T: NonBlocking, W: Watch<T>>(&self, worker: &mut Worker<'_, R, T, W>, ready: &Ready)
+        ensures { KeepsAll T.incoming T.outgoing T.closes worker.old.places.items
+            worker.new.places.items }
+    {
+        worker.note(ready);
+        self.turn(worker, ready.place);
+    }
+
+    /// Gives each client in the line of those that have more to do one turn.
+    fn take_turns<T: NonBlocking, W: Watch<T>>(&self, worker: &mut Worker<'_, R, T, W>)
+        ensures { KeepsAll T.incoming T.outgoing T.closes worker.old.places.items
+            worker.new.places.items }
+    {
+        for _ in 0..worker.turns.len() {
+            let Some(place) = worker.next_turn() else {
+                return;
+            };
+            self.turn(worker, place);
+        }
+    }
+
+    /// Has a client take up and answer a share of what has arrived.
+    fn turn<T: NonBlocking, W: Watch<T>>(&self, worker: &mut Worker<'_, R, T, W>, place: usize)
+        ensures { KeepsAll T.incoming T.outgoing T.closes worker.old.places.items
+            worker.new.places.items }
+    {
+        if !worker.is_taken(place) {
+            return;
+        }
+        worker.take_turn(place);
+        self.settle(worker, place);
+        self.spread(worker);
+    }
+
+    /// Puts a client where it belongs after an event.
+    fn settle<T: NonBlocking, W: Watch<T>>(&self, worker: &mut Worker<'_, R, T, W>, place: usize)
+        ensures { KeepsAll T.incoming T.outgoing T.closes worker.old.places.items
+            worker.new.places.items }
+    {
+        self.line_up(worker, place);
+        if worker.is_over(place) {
+            self.close(worker, place);
+            return;
+        }
+        worker.await_more(place);
+        worker.set_time(place, self.common.patience());
+    }
+
+    /// Puts a client into the line of what its parked call waits for, and out of any other line. A
+    /// call that enters a line is looked at once more, since what it waits for may have come before
+    /// that was known.
+    fn line_up<T: NonBlocking, W: Watch<T>>(&self, worker: &mut Worker<'_, R, T, W>, place: usize)
+        ensures { KeepsAll T.incoming T.outgoing T.closes worker.old.places.items
+            worker.new.places.items }
+    {
+        let mut looked = false;
+        for _ in self.rt.forever() {
+            let key = worker.key(place);
+            if key == worker.lines.key(place) {
+                break;
+            }
+            worker.lines.leave(place);
+            let Some(key) = key else {
+                break;
+            };
+            worker.lines.enter(place, key);
+            self.common.mark(key.word(), worker.number);
+            worker.go_on(place);
+            looked = true;
+        }
+        if looked {
+            worker.drain(place);
+        }
+    }
+
+    /// Closes a client whose session is over.
+    fn close<T: NonBlocking, W: Watch<T>>(&self, worker: &mut Worker<'_, R, T, W>, place: usize)
+        ensures { KeepsAll T.incoming T.outgoing T.closes worker.old.places.items
+            worker.new.places.items }
+    {
+        worker.lines.leave(place);
+        let Some(served) = worker.close(place) else {
+            return;
+        };
+        if served.end == End::NoMemory {
+            self.common.starve();
+        }
+        if worker.free.len() < worker.free.capacity() {
+            worker.free.push_reserved(place);
+        }
+        self.common.close(worker.number);
+    }
+
+    /// Reads what came for the worker from other workers.
+    fn read_letters<T: NonBlocking, W: Watch<T>>(&self, worker: &mut Worker<'_, R, T, W>)
+        ensures { KeepsAll T.incoming T.outgoing T.closes worker.old.places.items
+            worker.new.places.items }
+    {
+        for _ in self.rt.forever() {
+            let Some(letter) = self.common.letter(self.rt, worker.number) else {
+                break;
+            };
+            self.heed(worker, letter);
+            self.spread(worker);
+        }
+        if self.common.has_lost(worker.number) {
+            self.look_at_all(worker);
+            self.spread(worker);
+        }
+    }
+
+    /// Looks at the parked calls that what calls have changed may end, here and in other workers.
+    fn spread<T: NonBlocking, W: Watch<T>>(&self, worker: &mut Worker<'_, R, T, W>)
+        ensures { KeepsAll T.incoming T.outgoing T.closes worker.old.places.items
+            worker.new.places.items }
+    {
+        self.collect(worker);
+        for _ in self.rt.forever() {
+            let Some(letter) = worker.letters.pop_front() else {
+                return;
+            };
+            self.heed(worker, letter);
+        }
+    }
+
+    /// Keeps what calls have changed since the last time, if calls that wait for it are parked.
+    fn collect<T: NonBlocking, W: Watch<T>>(&self, worker: &mut Worker<'_, R, T, W>)
+        ensures { KeepsAll T.incoming T.outgoing T.closes worker.old.places.items
+            worker.new.places.items }
+    {
+        while let Some(news) = worker.tools.take_news() {
+            let rest = self.parked_for(news);
+            if rest == 0 {
+                continue;
+            }
+            let letter = Letter {
+                news,
+                rest,
+                least: usize::MAX,
+            };
+            if worker.letters.push_back(letter).is_err() {
+                self.look_everywhere();
+            }
+        }
+    }
+
+    /// Has all workers look at all their parked calls.
+    fn look_everywhere(&self) {
+        for worker in 0..self.common.workers() {
+            self.common.send_everything(worker);
+        }
+    }
+
+    /// Returns which workers have parked calls that such news may end.
+    fn parked_for(&self, news: News) -> u64 {
+        match news {
+            News::Arrived { slot, .. } => self.common.word(slot),
+            News::Freed { slot, .. } => self.common.word(SLOTS + slot),
+            News::Released => self.common.word(2 * SLOTS),
+            News::Changed { slot } => self.common.word(slot) | self.common.word(SLOTS + slot),
+        }
+    }
+
+    /// Looks at the parked calls that the news of a letter may end, and passes it on.
+    fn heed<T: NonBlocking, W: Watch<T>>(
+        &self,
+        worker: &mut Worker<'_, R, T, W>,
+        mut letter: Letter,
+    )
+        ensures { KeepsAll T.incoming T.outgoing T.closes worker.old.places.items
+            worker.new.places.items }
+    {
+        let own = bit(worker.number);
+        let is_here = letter.rest & own != 0;
+        letter.rest &= !own;
+        let is_done = is_here && self.look_for(worker, &mut letter);
+        if !is_done {
+            self.pass_on(worker.number, letter);
+        }
+    }
+
+    /// Gives a letter to the next worker that has not had it, or to all of them.
+    fn pass_on(&self, number: usize, mut letter: Letter) {
+        for _ in 0..self.common.workers() {
+            if letter.rest == 0 {
+                return;
+            }
+            let next = next_of(letter.rest, number);
+            letter.rest &= !bit(next);
+            let is_for_all = matches!(letter.news, News::Changed { .. });
+            let rest = letter.rest;
+            if is_for_all {
+                letter.rest = 0;
+            }
+            letter.rest |= bit(next);
+            let is_sent = self.common.send(self.rt, next, letter);
+            letter.rest = rest;
+            if is_sent && !is_for_all {
+                return;
+            }
+        }
+    }
+
+    /// Looks at the parked calls of this worker that the news of a letter may end. Returns whether
+    /// no other worker is to look.
+    fn look_for<T: NonBlocking, W: Watch<T>>(
+        &self,
+        worker: &mut Worker<'_, R, T, W>,
+        letter: &mut Letter,
+    ) -> bool
+        ensures { KeepsAll T.incoming T.outgoing T.closes worker.old.places.items
+            worker.new.places.items }
+    {
+        match letter.news {
+            News::Arrived { slot, mtype } => self.look_for_message(worker, slot, mtype),
+            News::Freed { slot, .. } => {
+                let first = worker.lines.senders(slot);
+                self.look_for_room(worker, first, &mut letter.least);
+                self.unmark(worker, SLOTS + slot);
+                false
+            }
+            News::Released => {
+                let first = worker.lines.reservers();
+                self.look_for_room(worker, first, &mut letter.least);
+                self.unmark(worker, 2 * SLOTS);
+                false
+            }
+            News::Changed { slot } => {
+                self.look_at(worker, slot);
+                false
+            }
+        }
+    }
+
+    /// Says that no calls are parked under this word, if that is so.
+    fn unmark<T: NonBlocking, W: Watch<T>>(&self, worker: &Worker<'_, R, T, W>, word: usize) {
+        if worker.lines.count(word) == 0 {
+            self.common.unmark(word, worker.number);
+        }
+    }
+
+    /// Looks at the receives that may name a message of this type, until one takes such a message
+    /// or finds none. Returns whether one took such a message.
+    fn look_for_message<T: NonBlocking, W: Watch<T>>(
+        &self,
+        worker: &mut Worker<'_, R, T, W>,
+        slot: usize,
+        mtype: i64,
+    ) -> bool
+        ensures { KeepsAll T.incoming T.outgoing T.closes worker.old.places.items
+            worker.new.places.items }
+    {
+        for first in worker.lines.receivers(slot, mtype) {
+            match self.look_along(worker, first, slot, mtype) {
+                Found::Nothing => return false,
+                Found::Message => return true,
+                Found::Other => {}
+            }
+        }
+        self.unmark(worker, slot);
+        false
+    }
+
+    /// Looks at the receives of a line that may name a message of this type.
+    fn look_along<T: NonBlocking, W: Watch<T>>(
+        &self,
+        worker: &mut Worker<'_, R, T, W>,
+        first: Option<usize>,
+        slot: usize,
+        mtype: i64,
+    ) -> Found
+        ensures { KeepsAll T.incoming T.outgoing T.closes worker.old.places.items
+            worker.new.places.items }
+    {
+        let mut at = first;
+        for _ in self.rt.forever() {
+            let Some(place) = at else {
+                return Found::Other;
+            };
+            at = worker.lines.after(place);
+            if !may_name(worker.lines.key(place), slot, mtype) {
+                continue;
+            }
+            match self.wake(worker, place, mtype) {
+                Found::Other => {}
+                found => return found,
+            }
+        }
+        Found::Other
+    }
+
+    /// Looks at the sends of a line, but at none whose frame is as long as one that has already
+    /// found no room.
+    fn look_for_room<T: NonBlocking, W: Watch<T>>(
+        &self,
+        worker: &mut Worker<'_, R, T, W>,
+        first: Option<usize>,
+        least: &mut usize,
+    )
+        ensures { KeepsAll T.incoming T.outgoing T.closes worker.old.places.items
+            worker.new.places.items }
+    {
+        let mut at = first;
+        for _ in self.rt.forever() {
+            let Some(place) = at else {
+                return;
+            };
+            at = worker.lines.after(place);
+            let length = length_of(worker.lines.key(place));
+            if length < *least {
+                if let Found::Nothing = self.wake(worker, place, 0) {
+                    *least = length;
+                }
+            }
+        }
+    }
+
+    /// Looks at all parked calls at a slot.
+    fn look_at<T: NonBlocking, W: Watch<T>>(&self, worker: &mut Worker<'_, R, T, W>, slot: usize)
+        ensures { KeepsAll T.incoming T.outgoing T.closes worker.old.places.items
+            worker.new.places.items }
+    {
+        for place in 0..worker.places.len() {
+            if worker.lines.key(place).is_some_and(|key| key.is_at(slot)) {
+                self.wake(worker, place, 0);
+            }
+        }
+    }
+
+    /// Looks at all parked calls.
+    fn look_at_all<T: NonBlocking, W: Watch<T>>(&self, worker: &mut Worker<'_, R, T, W>)
+        ensures { KeepsAll T.incoming T.outgoing T.closes worker.old.places.items
+            worker.new.places.items }
+    {
+        for place in 0..worker.places.len() {
+            if worker.lines.key(place).is_some() {
+                self.wake(worker, place, 0);
+            }
+        }
+    }
+
+    /// Looks whether the parked call of a client may go on. Returns what it found, if news came
+    /// that a message of this type has arrived.
+    fn wake<T: NonBlocking, W: Watch<T>>(
+        &self,
+        worker: &mut Worker<'_, R, T, W>,
+        place: usize,
+        mtype: i64,
+    ) -> Found
+        ensures { KeepsAll T.incoming T.outgoing T.closes worker.old.places.items
+            worker.new.places.items }
+    {
+        worker.go_on(place);
+        if worker.key(place).is_some() {
+            self.settle(worker, place);
+            self.collect(worker);
+            return Found::Nothing;
+        }
+        worker.drain(place);
+        self.settle(worker, place);
+        let found = if worker.tools.has_taken(mtype) {
+            Found::Message
+        } else {
+            Found::Other
+        };
+        self.collect(worker);
+        found
+    }
+
+    /// Closes each client whose time is over, if it may be over for some.
+    fn look_at_times<T: NonBlocking, W: Watch<T>>(&self, worker: &mut Worker<'_, R, T, W>)
+        ensures { KeepsAll T.incoming T.outgoing T.closes worker.old.places.items
+            worker.new.places.items }
+    {
+        let Some(check) = worker.check else {
+            return;
+        };
+        if check.left() > 0 {
+            return;
+        }
+        worker.check = None;
+        for place in 0..worker.places.len() {
+            self.look_at_time(worker, place);
+        }
+        self.spread(worker);
+    }
+
+    /// Closes a client whose time is over.
+    fn look_at_time<T: NonBlocking, W: Watch<T>>(
+        &self,
+        worker: &mut Worker<'_, R, T, W>,
+        place: usize,
+    )
+        ensures { KeepsAll T.incoming T.outgoing T.closes worker.old.places.items
+            worker.new.places.items }
+    {
+        if !worker.is_taken(place) {
+            return;
+        }
+        let due = worker.due(place);
+        if due.is_some_and(|due| due.left() == 0) {
+            worker.cut(place);
+            self.settle(worker, place);
+        } else {
+            worker.check = sooner(worker.check, due);
+        }
+    }
+
+    /// Closes all clients.
+    fn cut_all<T: NonBlocking, W: Watch<T>>(&self, worker: &mut Worker<'_, R, T, W>)
+        ensures { KeepsAll T.incoming T.outgoing T.closes worker.old.places.items
+            worker.new.places.items }
+    {
+        for place in 0..worker.places.len() {
+            if worker.is_taken(place) {
+                worker.cut(place);
+                self.settle(worker, place);
+            }
+        }
+    }
+}
+
+/// What a look at a parked call found.
+#[derive(Clone, Copy, PartialEq, Eq)]
+enum Found {
+    /// The call still waits.
+    Nothing,
+    /// The call is over, and took a message of the type that had arrived.
+    Message,
+    /// The call is over otherwise.
+    Other,
+}
+
+/// Returns the first worker of these after this one, or else the first of these.
+fn next_of(workers: u64, number: usize) -> usize {
+    let later = workers & !(bit(number) | (bit(number) - 1));
+    let among = if later == 0 { workers } else { later };
+    among.trailing_zeros() as usize
+}
+
+/// Returns whether a receive that waits for this may name a message of this type at this slot.
+fn may_name(key: Option<Key>, at: usize, mtype: i64) -> bool {
+    match key {
+        Some(Key::Message { slot, selector }) => slot == at && qualifies(selector, mtype),
+        _ => false,
+    }
+}
+
+/// Returns the length of the frame of a send that waits for this.
+fn length_of(key: Option<Key>) -> usize {
+    match key {
+        Some(Key::Room { length, .. } | Key::Blocks { length }) => length,
+        _ => 0,
+    }
+}

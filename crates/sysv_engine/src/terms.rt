@@ -1,0 +1,35 @@
+//! How long a client may take, and the result of a server.
+
+use crate::sums::Sums;
+use sysv_model::Errno;
+use sysv_service::Closed;
+
+/// The number of seconds that a client may take before its session ends, 0 for no limit.
+#[derive(Clone, Copy, PartialEq, Eq, Debug)]
+pub struct Patience {
+    /// The limit until a request begins, or the hello.
+    pub idle: u32,
+    /// The limit from the first byte of a request to its last, and from the first byte of a reply
+    /// until the client has room for its last.
+    pub stall: u32,
+}
+
+impl Patience {
+    /// No limits.
+    pub const UNBOUNDED: Patience = Patience { idle: 0, stall: 0 };
+}
+
+/// How a server ended.
+#[derive(Clone, Copy, PartialEq, Eq, Debug)]
+pub struct Ended {
+    /// The sums of its sessions.
+    pub sums: Sums,
+    /// The number of its sessions whose memory was refused, at most 2^64 - 1.
+    pub refused: u64,
+    /// The number of queues that were left at the end and were removed, or `EOVERFLOW` if the gate
+    /// of a slot was found worn out.
+    pub removed: Result<u32, Errno>,
+    /// What was left of its service when it was closed, after these queues were removed. No gate is
+    /// held. The pool has all its blocks, if fewer than 2^62 turns were made at each object.
+    pub closed: Closed,
+}

@@ -1,0 +1,79 @@
+//! How long a client may take.
+
+use crate::moment::Moment;
+use crate::terms::Patience;
+use sysv_seats::{Client, NonBlocking};
+
+/// What the time of a client runs for.
+#[derive(Clone, Copy, PartialEq, Eq)]
+enum Awaits {
+    /// The next request, after this number of requests.
+    Begin(u64),
+    /// The rest of a request, after this number of requests.
+    Rest(u64),
+    /// Room for the replies up to this number of bytes of all that were gathered.
+    Room(u64),
+    /// The end of a call that waits. It has no limit.
+    Call,
+}
+
+/// How long a client may take: what its time runs for, and when it is over.
+#[derive(Clone, Copy)]
+pub(crate) struct Times {
+    awaits: Awaits,
+    due: Option<Moment>,
+}
+
+impl Times {
+    /// Returns the times of a client before its first event.
+    pub(crate) fn new() -> Times {
+        Times {
+            awaits: Awaits::Call,
+            due: None,
+        }
+    }
+
+    /// Returns when the client's time is over.
+    pub(crate) fn due(&self) -> Option<Moment> {
+        self.due
+    }
+
+    /// Takes note of what the client awaits after an event, and returns when its time is over.
+    pub(crate) fn note<T: NonBlocking>(
+        &mut self,
+        client: &Client<T>,
+        patience: Patience,
+    ) -> Option<Moment> {
+        let awaits = self.awaited(client);
+        if awaits != self.awaits {
+            self.awaits = awaits;
+            self.due = match awaits {
+                Awaits::Begin(_) => Moment::after(patience.idle),
+                Awaits::Rest(_) | Awaits::Room(_) => Moment::after(patience.stall),
+                Awaits::Call => None,
+            };
+        }
+        self.due
+    }
+
+    /// Returns what the client awaits.
+    fn awaited<T: NonBlocking>(&self, client: &Client<T>) -> Awaits {
+        if client.has_unsent() {
+            return match self.awaits {
+                Awaits::Room(up_to) if client.sent_bytes() < up_to => self.awaits,
+                _ => Awaits::Room(
+                    client
+                        .sent_bytes()
+                        .saturating_add(client.unsent_bytes() as u64),
+                ),
+            };
+        }
+        if client.waiting().is_some() {
+            return Awaits::Call;
+        }
+        if client.is_within_request() {
+            return Awaits::Rest(client.requests());
+        }
+        Awaits::Begin(client.requests())
+    }
+}

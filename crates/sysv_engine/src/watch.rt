@@ -1,0 +1,156 @@
+//! What reports which clients have news.
+
+use crate::moment::pause;
+use mio::unix::SourceFd;
+use mio::{Events, Interest, Poll, Token};
+use std::alloc::Global;
+use std::net::Net;
+use std::os::fd::AsRawFd;
+use std::time::Duration;
+
+/// The token of a worker's bell.
+const BELL: usize = usize::MAX;
+
+/// The number of events that one wait reports at most.
+const MOST_EVENTS: usize = 256;
+
+/// The time between two rounds over connections that report nothing, in milliseconds.
+const ROUND_MILLIS: i32 = 1;
+
+/// News of a place.
+#[derive(Clone, Copy)]
+pub struct Ready {
+    /// The place.
+    pub place: usize,
+    /// Whether bytes may be there to be read.
+    pub readable: bool,
+    /// Whether the connection may take bytes.
+    pub writable: bool,
+    /// Whether the peer has shut down its writing, or the connection has failed.
+    pub left: bool,
+}
+
+/// Reports which places have news. What it reports may be anything: a client that has no news only
+/// looks in vain.
+pub trait Watch<T> {
+    /// Has the place reported, whose client is on this connection, from now on. Returns whether
+    /// that succeeded.
+    fn add(&mut self, connection: &T, place: usize) -> bool;
+
+    /// Has the place reported also when the connection may take bytes, or not any more.
+    fn await_room(&mut self, connection: &T, place: usize, awaits: bool);
+
+    /// Waits until a place has news or the bell is rung, for at most `limit` milliseconds, and puts
+    /// what is reported into `ready`. It may return early.
+    fn wait(&mut self, limit: Option<u64>, ready: &mut Vec<Ready>);
+}
+
+/// A `Watch` over the system's poll.
+#[derive(Drop)]
+pub(crate) struct Polled {
+    poll: Poll,
+    events: Events,
+}
+
+impl Polled {
+    /// Opens a poll that the bell, whose descriptor is given, ends. Returns `None` if the system
+    /// refuses one.
+    pub(crate) fn open(net: &impl Net, alloc: Global, bell: i32) -> Option<Polled> {
+        let poll = Poll::new(net).ok()?;
+        let events = Events::with_capacity(alloc, MOST_EVENTS).ok()?;
+        let interest = Interest::READABLE;
+        poll.registry()
+            .register(&mut SourceFd(&bell), Token(BELL), interest)
+            .ok()?;
+        Some(Polled { poll, events })
+    }
+}
+
+impl<T: AsRawFd> Watch<T> for Polled {
+    fn add(&mut self, connection: &T, place: usize) -> bool {
+        let fd = connection.as_raw_fd();
+        let interest = Interest::READABLE;
+        self.poll
+            .registry()
+            .register(&mut SourceFd(&fd), Token(place), interest)
+            .is_ok()
+    }
+
+    fn await_room(&mut self, connection: &T, place: usize, awaits: bool) {
+        let fd = connection.as_raw_fd();
+        let interest = if awaits {
+            Interest::READABLE | Interest::WRITABLE
+        } else {
+            Interest::READABLE
+        };
+        let _ = self
+            .poll
+            .registry()
+            .reregister(&mut SourceFd(&fd), Token(place), interest);
+    }
+
+    fn wait(&mut self, limit: Option<u64>, ready: &mut Vec<Ready>) {
+        ready.clear();
+        if self
+            .poll
+            .poll(&mut self.events, limit.map(Duration::from_millis))
+            .is_err()
+        {
+            return;
+        }
+        for event in self.events.iter() {
+            let Token(place) = event.token();
+            if place != BELL && ready.len() < ready.capacity() {
+                ready.push_reserved(Ready {
+                    place,
+                    readable: event.is_readable(),
+                    writable: event.is_writable(),
+                    left: event.is_read_closed() || event.is_error(),
+                });
+            }
+        }
+    }
+}
+
+/// A `Watch` over connections that do not report: it reports every place that was added, round
+/// after round.
+#[derive(Drop)]
+pub(crate) struct Rounds {
+    places: Vec<usize>,
+}
+
+impl Rounds {
+    /// Creates a watch of at most `room` places. Returns `None` if memory is refused.
+    pub(crate) fn open(alloc: Global, room: usize) -> Option<Rounds> {
+        let places = Vec::with_capacity(alloc, room).ok()?;
+        Some(Rounds { places })
+    }
+}
+
+impl<T> Watch<T> for Rounds {
+    fn add(&mut self, _connection: &T, place: usize) -> bool {
+        if !self.places.contains(&place) && self.places.len() < self.places.capacity() {
+            self.places.push_reserved(place);
+        }
+        true
+    }
+
+    fn await_room(&mut self, _connection: &T, _place: usize, _awaits: bool) {}
+
+    fn wait(&mut self, limit: Option<u64>, ready: &mut Vec<Ready>) {
+        ready.clear();
+        if limit != Some(0) {
+            pause(ROUND_MILLIS);
+        }
+        for place in self.places.iter() {
+            if ready.len() < ready.capacity() {
+                ready.push_reserved(Ready {
+                    place: *place,
+                    readable: true,
+                    writable: true,
+                    left: false,
+                });
+            }
+        }
+    }
+}

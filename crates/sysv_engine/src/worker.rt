@@ -1,0 +1,346 @@
+//! The workers of a server: their places, and what happens at each.
+ghost use Rattle.std.specs.Prelude.{◌≡◌, ◌≤◌, ◌++◌, reverse, vec_len, vec_capacity, [], IfSome};
+ghost use Rattle.sysv_engine.specs.Places.{AdoptsOne, KeepsAll};
+
+use crate::common::Letter;
+use crate::lines::{Key, Lines};
+use crate::moment::Moment;
+use crate::place::Place;
+use crate::terms::Patience;
+use crate::watch::{Ready, Watch};
+use std::alloc::Global;
+use std::collections::VecDeque;
+use std::sync::Wait;
+use sysv_seats::{NonBlocking, Tools};
+use sysv_session::Served;
+
+/// The number of places of which one wait reports news at most.
+const MOST_READY: usize = 256;
+
+/// A worker of a server: places with their clients, and what watches the connections.
+pub(crate) struct Worker<'a, R: Wait, T: NonBlocking, W> {
+    /// The worker's number.
+    pub(crate) number: usize,
+    pub(crate) places: Vec<Place<'a, R, T>>,
+    /// The places without a client.
+    pub(crate) free: Vec<usize>,
+    pub(crate) watch: W,
+    pub(crate) ready: Vec<Ready>,
+    pub(crate) lines: Lines,
+    /// The places that have more to do.
+    pub(crate) turns: VecDeque<usize>,
+    /// What calls may have changed, and was not looked at yet.
+    pub(crate) letters: VecDeque<Letter>,
+    pub(crate) tools: Tools,
+    /// The number of connections for which the worker has left its clients.
+    pub(crate) answered: u64,
+    /// When to look for clients whose time is over.
+    pub(crate) check: Option<Moment>,
+}
+
+/// The tools of a worker, and room for its places.
+pub(crate) struct Kit<'a, R: Wait, T: NonBlocking, W> {
+    pub(crate) places: Vec<Place<'a, R, T>>,
+    free: Vec<usize>,
+    ready: Vec<Ready>,
+    lines: Lines,
+    turns: VecDeque<usize>,
+    letters: VecDeque<Letter>,
+    tools: Tools,
+    watch: W,
+}
+
+impl<'a, R: Wait, T: NonBlocking, W: Drop> Kit<'a, R, T, W> {
+    /// Allocates the tools of a worker with this number of places. Returns `None` if memory is
+    /// refused.
+    pub(crate) fn open(alloc: Global, count: usize, watch: W) -> Option<Kit<'a, R, T, W>>
+        ensures { IfSome result (λ kit. (kit.places.items ≡ [])
+            × (vec_capacity kit.places ≡ count)) }
+    {
+        let mut free = Vec::with_capacity(alloc, count).ok()?;
+        for place in 0..count {
+            free.push_reserved(count - 1 - place);
+        }
+        let ready = Vec::with_capacity(alloc, MOST_READY).ok()?;
+        let lines = Lines::open(alloc, count)?;
+        let turns = VecDeque::with_capacity(alloc, count).ok()?;
+        let tools = Tools::open(alloc).ok()?;
+        let places = Vec::with_capacity(alloc, count).ok()?;
+        Some(Kit {
+            places,
+            free,
+            ready,
+            lines,
+            turns,
+            letters: VecDeque::new(alloc),
+            tools,
+            watch,
+        })
+    }
+}
+
+impl<R: Wait, T: NonBlocking, W: Drop> Kit<'_, R, T, W> {
+    /// Frees a kit, which has no places.
+    pub(crate) fn discard(self)
+        requires { self.places.items ≡ [] }
+    {
+        let Kit {
+            places,
+            free: _,
+            ready: _,
+            lines: _,
+            turns: _,
+            letters: _,
+            tools: _,
+            watch: _,
+        } = self;
+        places.destroy_empty();
+    }
+}
+
+impl<'a, R: Wait, T: NonBlocking, W: Watch<T>> Worker<'a, R, T, W> {
+    /// Creates a worker without clients, with as many of the last places as its kit has room for.
+    pub(crate) fn new(
+        number: usize,
+        kit: Kit<'a, R, T, W>,
+        from: &mut Vec<Place<'a, R, T>>,
+    ) -> Worker<'a, R, T, W>
+        requires none { kit.places.items ≡ [] }
+        requires some { vec_capacity kit.places ≤ vec_len from.old }
+        ensures count { vec_len result.places ≡ vec_capacity kit.places }
+        ensures places { from.old.items ≡ from.new.items ++ reverse result.places.items }
+        ensures room { vec_capacity from.new ≡ vec_capacity from.old }
+    {
+        let Kit {
+            mut places,
+            free,
+            ready,
+            lines,
+            turns,
+            letters,
+            tools,
+            watch,
+        } = kit;
+        fill(&mut places, from);
+        Worker {
+            number,
+            places,
+            free,
+            watch,
+            ready,
+            lines,
+            turns,
+            letters,
+            tools,
+            answered: 0,
+            check: None,
+        }
+    }
+
+    /// Ends the worker, and returns its places.
+    pub(crate) fn into_places(self) -> Vec<Place<'a, R, T>>
+    where
+        W: Drop,
+        ensures { result ≡ self.places }
+    {
+        let Worker {
+            number: _,
+            places,
+            free: _,
+            watch: _,
+            ready: _,
+            lines: _,
+            turns: _,
+            letters: _,
+            tools: _,
+            answered: _,
+            check: _,
+        } = self;
+        places
+    }
+
+    /// Returns whether there are no clients.
+    pub(crate) fn is_empty(&self) -> bool {
+        self.free.len() == self.places.len()
+    }
+
+    /// Gives a vacant place to the client of a connection, and has its connection watched. Returns
+    /// the place. If no place is vacant, the client of the first place is closed.
+    #[tactic(auto, using(crate::proofs::PlaceLists::adopted_at))]
+    pub(crate) fn adopt(&mut self, alloc: Global, connection: T) -> usize
+        requires { 1 ≤ vec_len self.old.places }
+        ensures { AdoptsOne T.incoming T.outgoing T.closes connection self.old.places.items
+            self.new.places.items }
+    {
+        let place = match self.free.pop() {
+            Some(place) if place < self.places.len() => place,
+            _ => 0,
+        };
+        let there = &mut self.places[place];
+        there.adopt(alloc, connection);
+        there.begin(&mut self.watch, place);
+        place
+    }
+
+    /// Returns whether the place has a client.
+    pub(crate) fn is_taken(&self, place: usize) -> bool {
+        match self.places.get(place) {
+            Some(there) => there.is_taken(),
+            None => false,
+        }
+    }
+
+    /// Returns whether nothing is left to do at the place but to close its client.
+    pub(crate) fn is_over(&self, place: usize) -> bool {
+        match self.places.get(place) {
+            Some(there) => there.is_over(),
+            None => false,
+        }
+    }
+
+    /// Returns what the parked call of the client waits for, if there is one.
+    pub(crate) fn key(&self, place: usize) -> Option<Key> {
+        self.places.get(place)?.key()
+    }
+
+    /// Returns when the client's time is over.
+    pub(crate) fn due(&self, place: usize) -> Option<Moment> {
+        self.places.get(place)?.due()
+    }
+
+    /// Has the client learn what the watch reports of it.
+    #[tactic(auto, using(crate::proofs::PlaceLists::kept_at))]
+    pub(crate) fn note(&mut self, ready: &Ready)
+        ensures { KeepsAll T.incoming T.outgoing T.closes self.old.places.items
+            self.new.places.items }
+    {
+        if let Some(there) = self.places.get_mut(ready.place) {
+            there.note(ready);
+        }
+    }
+
+    /// Has the client take up and answer a share of what has arrived.
+    #[tactic(auto, using(crate::proofs::PlaceLists::kept_at))]
+    pub(crate) fn take_turn(&mut self, place: usize)
+        ensures { KeepsAll T.incoming T.outgoing T.closes self.old.places.items
+            self.new.places.items }
+    {
+        if let Some(there) = self.places.get_mut(place) {
+            there.take_turn(&mut self.tools);
+        }
+    }
+
+    /// Continues the client's parked call, if it may go on.
+    #[tactic(auto, using(crate::proofs::PlaceLists::kept_at))]
+    pub(crate) fn go_on(&mut self, place: usize)
+        ensures { KeepsAll T.incoming T.outgoing T.closes self.old.places.items
+            self.new.places.items }
+    {
+        if let Some(there) = self.places.get_mut(place) {
+            there.go_on(&mut self.tools);
+        }
+    }
+
+    /// Gives the client's connection as many bytes of the replies as it takes now.
+    #[tactic(auto, using(crate::proofs::PlaceLists::kept_at))]
+    pub(crate) fn drain(&mut self, place: usize)
+        ensures { KeepsAll T.incoming T.outgoing T.closes self.old.places.items
+            self.new.places.items }
+    {
+        if let Some(there) = self.places.get_mut(place) {
+            there.drain();
+        }
+    }
+
+    /// Ends the client because of a limit.
+    #[tactic(auto, using(crate::proofs::PlaceLists::kept_at))]
+    pub(crate) fn cut(&mut self, place: usize)
+        ensures { KeepsAll T.incoming T.outgoing T.closes self.old.places.items
+            self.new.places.items }
+    {
+        if let Some(there) = self.places.get_mut(place) {
+            there.cut();
+        }
+    }
+
+    /// Closes the client, and returns what its session did.
+    #[tactic(auto, using(crate::proofs::PlaceLists::kept_at))]
+    pub(crate) fn close(&mut self, place: usize) -> Option<Served>
+        ensures { KeepsAll T.incoming T.outgoing T.closes self.old.places.items
+            self.new.places.items }
+    {
+        let Some(there) = self.places.get_mut(place) else {
+            return None;
+        };
+        there.close()
+    }
+
+    /// Has the watch report when the client's connection may take bytes, if some wait for it, and
+    /// puts the place into the line of those that have more to do, if the client has.
+    #[tactic(auto, using(crate::proofs::PlaceLists::kept_at))]
+    pub(crate) fn await_more(&mut self, place: usize)
+        ensures { KeepsAll T.incoming T.outgoing T.closes self.old.places.items
+            self.new.places.items }
+    {
+        let Some(there) = self.places.get_mut(place) else {
+            return;
+        };
+        there.await_room(&mut self.watch, place);
+        if there.has_more() && !there.in_turns {
+            there.in_turns = self.turns.push_back(place).is_ok();
+        }
+    }
+
+    /// Takes the first place out of the line of those that have more to do.
+    #[tactic(auto, using(crate::proofs::PlaceLists::kept_at))]
+    pub(crate) fn next_turn(&mut self) -> Option<usize>
+        ensures { KeepsAll T.incoming T.outgoing T.closes self.old.places.items
+            self.new.places.items }
+    {
+        let place = self.turns.pop_front()?;
+        if let Some(there) = self.places.get_mut(place) {
+            there.in_turns = false;
+        }
+        Some(place)
+    }
+
+    /// Sets when the client's time is over.
+    #[tactic(auto, using(crate::proofs::PlaceLists::kept_at))]
+    pub(crate) fn set_time(&mut self, place: usize, patience: Patience)
+        ensures { KeepsAll T.incoming T.outgoing T.closes self.old.places.items
+            self.new.places.items }
+    {
+        if patience == Patience::UNBOUNDED {
+            return;
+        }
+        if let Some(there) = self.places.get_mut(place) {
+            let due = there.limit(patience);
+            self.check = sooner(self.check, due);
+        }
+    }
+}
+
+/// Fills `places` with the last places of `from`, the last one first.
+fn fill<P>(places: &mut Vec<P>, from: &mut Vec<P>)
+    requires none { places.old.items ≡ [] }
+    requires some { vec_capacity places.old ≤ vec_len from.old }
+    ensures count { vec_len places.new ≡ vec_capacity places.old }
+    ensures items { from.old.items ≡ from.new.items ++ reverse places.new.items }
+    ensures room { vec_capacity from.new ≡ vec_capacity from.old }
+{
+    while places.len() < places.capacity() {
+        let Some(place) = from.pop() else {
+            unreachable!()
+        };
+        places.push_reserved(place);
+    }
+}
+
+/// Returns the sooner of two moments, if any is given.
+pub(crate) fn sooner(one: Option<Moment>, other: Option<Moment>) -> Option<Moment> {
+    match (one, other) {
+        (Some(one), Some(other)) => Some(one.min(other)),
+        (Some(one), None) => Some(one),
+        (None, other) => other,
+    }
+}
