@@ -6,23 +6,23 @@ use std::alloc::Global;
 use std::process::Abort;
 use std::sync::Wait;
 use std::thread::Threads;
-use sysv_seats::Replies;
-use sysv_server::{Ended, MemoryConnection, serve_connections};
+use sysv_engine::{Ended, serve_connections};
+use sysv_seats::{MemoryStream, Replies, Step};
 use sysv_workers::Source;
 use tests_kit::worked::{ANSWERS, SESSION};
 
 /// A source of the connections of a list, the last one first.
 #[derive(Drop)]
 struct Listed<'a> {
-    left: Vec<MemoryConnection<'a>>,
+    left: Vec<MemoryStream<'a>>,
 }
 
-impl<'a> Source<MemoryConnection<'a>> for Listed<'a> {
+impl<'a> Source<MemoryStream<'a>> for Listed<'a> {
     ghost gives = { λ old given new. old.left.items ≡ new.left.items ++ option_to_list given };
 
     ghost use Rattle.std.specs.Prelude.{◌≡◌, ◌++◌, option_to_list};
 
-    fn next(&mut self) -> Option<MemoryConnection<'a>> {
+    fn next(&mut self) -> Option<MemoryStream<'a>> {
         self.left.pop()
     }
 }
@@ -36,23 +36,29 @@ fn joined(rt: &impl Abort, alloc: Global, parts: &[&[u8]]) -> Vec<u8> {
     all
 }
 
-/// Serves connections on which clients write these bytes, with one worker for each book.
+/// The room for the replies of a connection.
+const ROOM: usize = 512;
+
+/// Serves connections on which clients write these bytes, with a place for each book and this number
+/// of workers. Each read and write of a connection goes by the steps.
 fn served<R: Threads + Wait + Abort + Sync>(
     rt: &R,
     alloc: Global,
     clients: &[&[u8]],
+    steps: &[Step],
     books: &mut Vec<Replies>,
+    workers: u32,
 ) -> Ended
-    requires { (1 ≤ vec_len books.old) × (vec_len books.old ≤ 2) }
+    requires { (1 ≤ workers) × (workers ≤ 16) × (workers ≤ vec_len books.old) }
 {
     let mut source = Listed {
         left: Vec::new(alloc),
     };
     for input in clients {
-        let connection = MemoryConnection::new(alloc, input);
+        let connection = MemoryStream::new(alloc, input, ROOM, steps, steps).expect(rt, "memory");
         source.left.push(connection).expect(rt, "memory");
     }
-    serve_connections(rt, alloc, &mut source, books, 128).expect(rt, "memory and threads")
+    serve_connections(rt, alloc, &mut source, books, workers, 128).expect(rt, "memory and threads")
 }
 
 /// Returns a book with room for two connections.
@@ -78,7 +84,7 @@ fn count(books: &[Replies], replies: &[u8]) -> usize {
 fn a_worked_session_in_memory(rt: HostRuntime) {
     let alloc = rt.alloc();
     let mut books = Vec::from_array(alloc, [book(&rt, alloc)]).expect(&rt, "memory");
-    let ended = served(&rt, alloc, &[SESSION], &mut books);
+    let ended = served(&rt, alloc, &[SESSION], &[], &mut books, 1);
     assert_eq!(rt;
         ended,
         Ended {
@@ -106,7 +112,7 @@ fn two_clients_in_memory(rt: HostRuntime) {
     ] {
         let books = [book(&rt, alloc), book(&rt, alloc)];
         let mut books = Vec::from_array(alloc, books).expect(&rt, "memory");
-        let ended = served(&rt, alloc, &clients, &mut books);
+        let ended = served(&rt, alloc, &clients, &[], &mut books, 2);
         assert_eq!(rt;
             ended,
             Ended {
@@ -121,10 +127,10 @@ fn two_clients_in_memory(rt: HostRuntime) {
     }
 }
 
-// With one worker, the replies are in the order of the connections. The source returns the last
+// With one place, the replies are in the order of the connections. The source returns the last
 // client first: the message is there when the other client receives it.
 #[test]
-fn one_worker_serves_in_order(rt: HostRuntime) {
+fn one_place_serves_in_order(rt: HostRuntime) {
     let alloc = rt.alloc();
     let sender = joined(&rt, alloc, &[HELLO, CREATE, SEND]);
     let receiver = joined(&rt, alloc, &[HELLO, CREATE, RECEIVE]);
@@ -132,7 +138,7 @@ fn one_worker_serves_in_order(rt: HostRuntime) {
     let received = joined(&rt, alloc, &[KNOWN, FOUND, RECEIVED]);
     let mut books = Vec::from_array(alloc, [book(&rt, alloc)]).expect(&rt, "memory");
     let clients = [receiver.as_slice(), sender.as_slice()];
-    let ended = served(&rt, alloc, &clients, &mut books);
+    let ended = served(&rt, alloc, &clients, &[], &mut books, 1);
     assert_eq!(rt;
         ended,
         Ended {
@@ -146,4 +152,51 @@ fn one_worker_serves_in_order(rt: HostRuntime) {
     assert_eq!(rt; kept.len(), 2);
     assert_eq!(rt; kept[0].as_slice(), sent.as_slice());
     assert_eq!(rt; kept[1].as_slice(), received.as_slice());
+}
+
+/// Steps that move a few bytes at a time, with nothing to move between.
+const PIECES: &[Step] = &[
+    Step::AtMost(3),
+    Step::AtMost(0),
+    Step::AtMost(1),
+    Step::AtMost(16),
+    Step::AtMost(0),
+    Step::AtMost(2),
+    Step::AtMost(7),
+];
+
+// Two workers serve three connections that move in pieces. One client waits for the message of
+// another, and the third waits for nobody. Any of them may be first, and any may be with either
+// worker.
+#[test]
+fn three_clients_in_pieces(rt: HostRuntime) {
+    let alloc = rt.alloc();
+    let sender = joined(&rt, alloc, &[HELLO, CREATE, SEND]);
+    let receiver = joined(&rt, alloc, &[HELLO, CREATE, RECEIVE]);
+    let sent = joined(&rt, alloc, &[KNOWN, FOUND, SENT]);
+    let received = joined(&rt, alloc, &[KNOWN, FOUND, RECEIVED]);
+    let found = joined(&rt, alloc, &[KNOWN, FOUND]);
+    let finder = joined(&rt, alloc, &[HELLO, CREATE]);
+    let (sender, receiver, finder) = (sender.as_slice(), receiver.as_slice(), finder.as_slice());
+    for clients in [
+        [sender, receiver, finder],
+        [receiver, finder, sender],
+        [finder, sender, receiver],
+    ] {
+        let books = [book(&rt, alloc), book(&rt, alloc), book(&rt, alloc)];
+        let mut books = Vec::from_array(alloc, books).expect(&rt, "memory");
+        let ended = served(&rt, alloc, &clients, PIECES, &mut books, 2);
+        assert_eq!(rt;
+            ended,
+            Ended {
+                sums: sums(3, 1, 0),
+                refused: 0,
+                removed: Ok(1),
+                closed: EMPTY,
+            }
+        );
+        assert_eq!(rt; count(books.as_slice(), sent.as_slice()), 1);
+        assert_eq!(rt; count(books.as_slice(), received.as_slice()), 1);
+        assert_eq!(rt; count(books.as_slice(), found.as_slice()), 1);
+    }
 }
