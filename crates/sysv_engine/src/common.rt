@@ -46,7 +46,7 @@ struct Post {
 
 /// What the workers share.
 #[derive(Drop)]
-pub(crate) struct Common {
+pub struct Common {
     posts: Vec<Post>,
     /// Which workers have parked calls, a bit for each worker.
     words: Vec<AtomicU64>,
@@ -73,7 +73,7 @@ pub(crate) struct Common {
 impl Common {
     /// Returns what `workers` workers share before the first connection. Returns `None` if memory
     /// or a descriptor is refused.
-    pub(crate) fn open(
+    pub fn open(
         alloc: Global,
         workers: usize,
         at_once: usize,
@@ -242,22 +242,22 @@ impl Common {
     }
 
     /// Returns whether the memory of a session was refused.
-    pub(crate) fn is_starved(&self) -> bool {
+    pub fn is_starved(&self) -> bool {
         self.starved.load(Ordering::SeqCst)
     }
 
     /// Returns the descriptor of the bell for the accepting thread.
-    pub(crate) fn bell(&self) -> i32 {
+    pub fn bell(&self) -> i32 {
         self.turn.fd()
     }
 
     /// Ends the ringing of that bell.
-    pub(crate) fn hush(&self) {
+    pub fn hush(&self) {
         self.turn.hush();
     }
 
     /// Returns whether one more client may be accepted, of which this many were.
-    pub(crate) fn has_room(&self, accepted: u64) -> bool {
+    pub fn has_room(&self, accepted: u64) -> bool {
         accepted.saturating_sub(self.over.load(Ordering::SeqCst)) < self.at_once
     }
 
@@ -267,13 +267,13 @@ impl Common {
     }
 
     /// Says whether the accepting thread waits from now on for a session to be over.
-    pub(crate) fn await_turn(&self, awaits: bool) {
+    pub fn await_turn(&self, awaits: bool) {
         self.is_awaited.store(awaits, Ordering::SeqCst);
     }
 
     /// Waits for the sessions, of which this many were accepted, and cuts those off that are still
     /// there when the time for an orderly end is over. Returns whether it cut any off.
-    pub(crate) fn drain(&self, accepted: u64) -> bool {
+    pub fn drain(&self, accepted: u64) -> bool {
         let Some(deadline) = Moment::after(self.drain) else {
             return false;
         };

@@ -79,7 +79,7 @@ where
 }
 
 /// Serves the connections of a source like `serve_connections`, with a worker for each watch.
-pub(crate) fn serve_all<
+pub fn serve_all<
     T: NonBlocking + Drop + Send,
     S: Source<T>,
     W: Watch<T> + Drop + Send,

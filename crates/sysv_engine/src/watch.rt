@@ -1,5 +1,7 @@
 //! What reports which clients have news.
+ghost use Rattle.std.specs.Prelude.{◌≡◌, IfSome, vec_len};
 
+use crate::common::Common;
 use crate::moment::pause;
 use mio::unix::SourceFd;
 use mio::{Events, Interest, Poll, Token};
@@ -47,7 +49,7 @@ pub trait Watch<T> {
 
 /// A `Watch` over the system's poll.
 #[derive(Drop)]
-pub(crate) struct Polled {
+pub struct Polled {
     poll: Poll,
     events: Events,
 }
@@ -110,6 +112,17 @@ impl<T: AsRawFd> Watch<T> for Polled {
             }
         }
     }
+}
+
+/// Opens a watch for each worker. Returns `None` if memory or a descriptor is refused.
+pub fn watches(net: &impl Net, alloc: Global, common: &Common) -> Option<Vec<Polled>>
+    ensures { IfSome result (λ watches. vec_len watches ≡ vec_len common.now.posts) }
+{
+    let mut watches = Vec::with_capacity(alloc, common.workers()).ok()?;
+    for worker in 0..common.workers() {
+        watches.push_reserved(Polled::open(net, alloc, common.bell_of(worker))?);
+    }
+    Some(watches)
 }
 
 /// A `Watch` over connections that do not report: it reports every place that was added, round
