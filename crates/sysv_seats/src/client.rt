@@ -363,7 +363,8 @@ impl<T: NonBlocking> Client<T> {
     {
         match self.connection.fill(&mut tools.arrived) {
             Filled::Bytes(count) => {
-                self.is_ready = count == tools.arrived.len();
+                // (a peer that has left is reported once, so its connection is read to the end)
+                self.is_ready = self.has_left || count == tools.arrived.len();
                 self.arrive(&tools.arrived[..count]);
                 self.take_share(kernel, tools);
             }
