@@ -37,7 +37,7 @@ static void ignore_ends(void)
         signal(ends[i], SIG_IGN);
 }
 
-/* The server serves as many clients at once as the soft limit has descriptors for. */
+/* The soft limit decides how many clients the server serves at once. */
 static void raise_descriptor_limit(void)
 {
     struct rlimit limit;
