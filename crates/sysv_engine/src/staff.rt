@@ -19,7 +19,7 @@ pub(crate) fn kits<'a, R: Wait, T: NonBlocking, W: Drop>(
     places: usize,
 ) -> Option<Vec<Kit<'a, R, T, W>>>
     requires { (1 ≤ vec_len watches) × (vec_len watches ≤ places) }
-    ensures count { IfSome result (λ kits. vec_len kits ≡ vec_len watches.entry) }
+    ensures count { IfSome result (λ kits. vec_len kits ≡ vec_len watches) }
     ensures room { IfSome result (λ kits. sum_by (λ k. vec_capacity k.places) kits.items ≡ places) }
     ensures each { IfSome result (λ kits.
         All (λ k. (k.places.items ≡ []) × (1 ≤ vec_capacity k.places)) kits.items) }
