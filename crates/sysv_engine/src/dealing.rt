@@ -1,4 +1,5 @@
 //! A source whose connections are dealt out to workers.
+ghost use Rattle.std.specs.Prelude.{◌≡◌};
 
 use crate::common::Common;
 use sysv_workers::Source;
@@ -34,7 +35,9 @@ impl<'s, 'c, S> Dealing<'s, 'c, S> {
     }
 
     /// Tells the worker with the fewest clients to take one more connection.
-    fn tell(&mut self) {
+    fn tell(&mut self)
+        ensures { self.new.source ≡ self.old.source }
+    {
         let worker = self.fewest();
         self.next = self.after(worker);
         if let Some(told) = self.told.get_mut(worker) {

@@ -180,22 +180,39 @@ impl<'a, 'c, R: Wait> Serving<'a, 'c, R> {
     {
         let mut looked = false;
         for _ in self.rt.forever() {
-            let key = worker.key(place);
-            if key == worker.lines.key(place) {
+            if !self.enter_line(worker, place) {
                 break;
             }
-            worker.lines.leave(place);
-            let Some(key) = key else {
-                break;
-            };
-            worker.lines.enter(place, key);
-            self.common.mark(key.word(), worker.number);
-            worker.go_on(place);
             looked = true;
         }
         if looked {
             worker.drain(place);
         }
+    }
+
+    /// Puts a client into the line of what its parked call waits for, unless it is there, and has the
+    /// call go on if it may. Returns whether it entered a line: its call may wait for something else
+    /// then.
+    fn enter_line<T: NonBlocking, W: Watch<T>>(
+        &self,
+        worker: &mut Worker<'_, R, T, W>,
+        place: usize,
+    ) -> bool
+        ensures { KeepsAll T.incoming T.outgoing T.closes worker.old.places.items
+            worker.new.places.items }
+    {
+        let key = worker.key(place);
+        if key == worker.lines.key(place) {
+            return false;
+        }
+        worker.lines.leave(place);
+        let Some(key) = key else {
+            return false;
+        };
+        worker.lines.enter(place, key);
+        self.common.mark(key.word(), worker.number);
+        worker.go_on(place);
+        true
     }
 
     /// Closes a client whose session is over.
