@@ -10,8 +10,8 @@ use std::sync::atomic::{AtomicBool, AtomicU64, Ordering};
 use sysv_keys::SLOTS;
 use sysv_seats::News;
 
-/// The word of the sends that wait for blocks. Before it are the words of the receives at each slot,
-/// and then those of the sends at each slot.
+/// The word of the sends that wait for blocks. Before it are the words of the receives at each
+/// slot, and then those of the sends at each slot.
 pub(crate) const BLOCKS_WORD: usize = 2 * SLOTS;
 
 /// The number of words that say which workers have parked calls.
@@ -52,7 +52,8 @@ struct Post {
 
 /// What the workers share.
 ///
-/// A worker that is not there has no bell and no letters, nothing comes for it, and it may not sleep.
+/// A worker that is not there has no bell and no letters. Nothing comes for it, and it may not
+/// sleep.
 #[derive(Drop)]
 pub struct Common {
     posts: Vec<Post>,
@@ -79,8 +80,8 @@ pub struct Common {
 }
 
 impl Common {
-    /// Returns what `workers` workers, at most 64, share before the first connection. Returns `None`
-    /// if memory or a descriptor is refused.
+    /// Returns what `workers` workers, at most 64, share before the first connection. Returns
+    /// `None` if memory or a descriptor is refused.
     ///
     /// At most `at_once` clients are served at once. After `drain` seconds an orderly end cuts
     /// sessions off, or never for 0.

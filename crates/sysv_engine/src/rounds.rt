@@ -1,6 +1,5 @@
 //! The event loop of a worker.
-ghost use Rattle.std.specs.Prelude.{◌≡◌, ◌≤◌, vec_len};
-ghost use Rattle.sysv_engine.specs.Places.{AdoptsOne, KeepsAll};
+ghost use Rattle.sysv_engine.specs.Places.{KeepsAll};
 
 use crate::common::{BLOCKS_WORD, Common, Letter, bit, room_word};
 use crate::lines::Key;
@@ -190,9 +189,9 @@ impl<'a, 'c, R: Wait> Serving<'a, 'c, R> {
         }
     }
 
-    /// Puts a client into the line of what its parked call waits for, unless it is there, and has the
-    /// call go on if it may. Returns whether it entered a line: its call may wait for something else
-    /// then.
+    /// Puts a client into the line of what its parked call waits for, unless it is there, and has
+    /// the call go on if it may. Returns whether it entered a line: then its call may wait for
+    /// something else.
     fn enter_line<T: NonBlocking, W: Watch<T>>(
         &self,
         worker: &mut Worker<'_, R, T, W>,
