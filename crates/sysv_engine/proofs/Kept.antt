@@ -1,5 +1,5 @@
 -- A worker keeps its places.
-use Rattle.std.proofs.Common.{◌≡◌, ◌∙◌, ℕ, List, [], ◌∷◌, ◌++◌, ◌≤◌, length, length-append, ap, arith, refl, suc}
+use Rattle.std.proofs.Common.{◌≡◌, ◌∙◌, List, [], ◌∷◌, ◌≤◌, length, length-append, ap, arith, refl, suc}
 use Rattle.sysv_bank.specs.Banks.{Each2}
 use Rattle.sysv_engine.specs.Places.{Adopts, Standing, with_one}
 
