@@ -9,12 +9,13 @@ use Rattle.sysv_service.specs.Closing.{IsCounted}
 use Rattle.sysv_thread_laws.specs.Hiring.{first_pass, Hires}
 use Rattle.sysv_service.specs.Ran.{Pass}
 use Rattle.sysv_engine.specs.Handled.{Shift, first_passes, last_passes}
-use Rattle.sysv_engine.specs.OneRun.{EachLifeIsOneRun, EachLifeLeavesThePoolWhole, Lived, NoLifeLeavesAGateHeld}
-use Rattle.sysv_engine.specs.OneRun.{Stopped}
+use Rattle.sysv_engine.specs.OneRun.{EachLifeEndsEmpty, EachLifeIsOneRun, EachLifeLeavesThePoolWhole, Lived}
+use Rattle.sysv_engine.specs.OneRun.{NoLifeLeavesAGateHeld, Stopped}
 use Rattle.sysv_engine.specs.Serving.{HasLived, HiredFrom}
 
-module _ (run : EachLifeIsOneRun) (whole : EachLifeLeavesThePoolWhole) (none_held : NoLifeLeavesAGateHeld) (blocks : ℕ)
-    (gates : Gates) (told : Result ℕ Errno) (stopped : Stopped gates told) (closed : Closed)
+module _ (run : EachLifeIsOneRun) (whole : EachLifeLeavesThePoolWhole) (none_held : NoLifeLeavesAGateHeld)
+    (empty : EachLifeEndsEmpty) (blocks : ℕ) (gates : Gates) (told : Result ℕ Errno) (stopped : Stopped gates told)
+    (closed : Closed)
     (counted : IsCounted stopped.after.seats stopped.after.held closed) (opened : AreOpen 0 blocks 0 gates)
     (fits : AreOf gates stopped.after.seats) where
   unfoldable pub lived : (shifts : List Shift) →
@@ -28,6 +29,7 @@ module _ (run : EachLifeIsOneRun) (whole : EachLifeLeavesThePoolWhole) (none_hel
     run = run blocks gates shifts told stopped closed counted opened fits hires;
     held = none_held gates shifts told stopped closed counted hires;
     whole = whole blocks gates shifts told stopped closed counted opened fits hires;
+    empty = empty blocks gates shifts told stopped closed counted opened fits hires;
   }
 
   -- The same, if the passes were split off from the pass with which the gates were opened.

@@ -9,5 +9,6 @@ pub mod Adopting
 pub mod PlacesRun
 pub mod PlaceLemmas
 pub mod PlaceLists
+pub mod Kept
 pub mod Reversed
 pub mod Staffed

@@ -10,14 +10,16 @@ use Rattle.sysv_thread_laws.specs.Order.{Called}
 use Rattle.sysv_session.specs.declared.served.Served.{Served}
 use Rattle.sysv_thread_laws.specs.Hiring.{all_of, IsRemoval, EveryHiringObeys, EveryStopRemoves}
 use Rattle.sysv_thread_laws.specs.PoolWhole.{EveryHiringLeavesThePoolWhole, NoHiringLeavesAGateHeld}
+use Rattle.sysv_thread_laws.specs.AfterStop.{EveryStopEmpties}
 use Rattle.sysv_service.specs.Ran.{Pass}
 use Rattle.sysv_thread_laws.specs.Working as working
 use Rattle.sysv_thread_laws.specs.Working.{Works}
 use Rattle.sysv_engine.specs.Made.{trail, EachSessionMakesCalls}
 use Rattle.sysv_engine.specs.Handled.{Shift, first_passes, last_passes, AreMadeBy}
 use Rattle.sysv_engine.specs.Talks.{Talk, TalksAs, Talks, TalksAsIn, TalksIn}
+use Rattle.sysv_engine.specs.OneRun.{EachLifeEndsEmpty, EachLifeIsOneRun, EachLifeLeavesThePoolWhole}
+use Rattle.sysv_engine.specs.OneRun.{NoLifeLeavesAGateHeld}
 use Rattle.sysv_seats.specs.Sits.{zero_moment}
-use Rattle.sysv_engine.specs.OneRun.{EachLifeIsOneRun, EachLifeLeavesThePoolWhole, NoLifeLeavesAGateHeld}
 
 -- The call is over or was left at a wait.
 abbrev Resting : Called → Type 0
@@ -136,3 +138,10 @@ module _ (law : EachSessionMakesCalls zero_moment ⊤) where
       let stop = stops _ stopped.removed stopped.worn stopped.before stopped.after stopped.stops in
       none gates (first_passes shifts) (last_passes shifts) stopped.before stopped.after done.each stop.0 closed hires
       done.works stop.1 counted
+
+  pub each_empty : EveryStopEmpties → EachLifeEndsEmpty
+  each_empty empties blocks gates shifts removed stopped closed counted opened fits hires turns_left =
+      let done = in_shifts shifts in
+      (empties 0 blocks 0 gates (first_passes shifts) (last_passes shifts) stopped.before stopped.before stopped.after
+      done.each [] stopped.removed stopped.worn closed opened hires done.works working.begins stopped.stops fits
+      counted turns_left).0

@@ -1,6 +1,6 @@
 -- What a server did whose workers shared out its places, from what their run led to.
 use Rattle.std.proofs.Common.{◌≡◌, ◌∙◌, ℕ, ◌≤◌, List, [], ◌∷◌, ◌++◌, map, reverse, length, Option, Some, None, ap, refl}
-use Rattle.std.proofs.Common.{sym, subst, arith}
+use Rattle.std.proofs.Common.{sym, subst, arith, inl, inr}
 use Rattle.std.specs.List.{All, FoldsTo, flat_map, sum_by}
 use Rattle.std.proofs.lemmas.List.{reverse-append, reverse-reverse}
 use Rattle.std.proofs.lemmas.List.Elements.{All-head, All-tail, All-cons}
@@ -10,6 +10,9 @@ use Rattle.sysv_service.specs.Ran.{Pass}
 use Rattle.sysv_thread_laws.specs.Hiring.{Gives, TakesIn}
 use Rattle.sysv_workers.specs.Running.{GivesBack, LeavesSource, RunsAll}
 use Rattle.sysv_workers.specs.declared.refusals.WorkersFault.{WorkersFault}
+use Rattle.sysv_workers.specs.declared.refusals.WorkersFault.TheVariants.{BadCount, NoMemory, Thread, Worn, Missed}
+use Rattle.sysv_workers.specs.Sources.{Gave, GivesAll, Returned}
+use Rattle.sysv_seats.specs.Sits.{Sits}
 use Rattle.sysv_seats.specs.Untold.{Closing}
 use Rattle.sysv_engine.specs.declared.fault.ServeFault.{ServeFault}
 use Rattle.sysv_engine.specs.declared.sums.Sums.{Sums}
@@ -60,17 +63,22 @@ module _ {T B : Type 0} (incoming outgoing : T → Option (List ℕ)) (closes : 
   abbrev St : Standing (View B) T → Seated B T → Type 0
   St = Stands incoming outgoing closes gates
 
+  -- What the place has had is over.
   abbrev Over : Standing (View B) T → Seated B T → Type 0
-  Over = run.IsOver view_of St (Handled incoming outgoing closes)
+  Over s p = FoldsTo (Handled incoming outgoing closes) s.start s.had (view_of p)
+
+  -- The places, as a server begins with them.
+  abbrev begun : List (Seated B T) → List (Standing (View B) T)
+  begun ps = map (λ (p : Seated B T). record { start = view_of p; had = [] }) ps
 
   opened_stands : (p : Seated B T) → IsOpened gates p → St (record { start = view_of p; had = [] }) p
   opened_stands p is = (
     is.0,
-    subst (λ c. IsPlace incoming outgoing closes _ (record { start = view_of p; had = [] }) (view_of p) c) (sym is.2)
+    subst (λ c. IsPlace incoming outgoing closes (Sits incoming outgoing) (record { start = view_of p; had = [] }) (view_of p) c) (sym is.2)
         refl,
   )
 
-  begun_stand : (ps : List (Seated B T)) → All (IsOpened gates) ps → Each2 St (run.begun view_of St ps) ps
+  begun_stand : (ps : List (Seated B T)) → All (IsOpened gates) ps → Each2 St (begun ps) ps
   begun_stand [] all = tt
   begun_stand (p ∷ ps) all =
       (opened_stands p (All-head (IsOpened gates) p ps all), begun_stand ps (All-tail (IsOpened gates) p ps all))
@@ -88,7 +96,7 @@ module _ {T B : Type 0} (incoming outgoing : T → Option (List ℕ)) (closes : 
   vacant_over [] (p ∷ ps) each all = absurd each
   vacant_over (s ∷ ss) [] each all = absurd each
   vacant_over (s ∷ ss) (p ∷ ps) each all = (
-    subst (λ c. IsPlace incoming outgoing closes _ s (view_of p) c)
+    subst (λ c. IsPlace incoming outgoing closes (Sits incoming outgoing) s (view_of p) c)
         (All-head (λ (p : Seated B T). p.client ≡ None) p ps all) each.0.1,
     vacant_over ss ps each.1 (All-tail (λ (p : Seated B T). p.client ≡ None) p ps all),
   )
@@ -126,7 +134,7 @@ module _ {T B : Type 0} (incoming outgoing : T → Option (List ℕ)) (closes : 
         (
           All-head (λ w. 1 ≤ length (places w)) w ws some,
           (
-            run.begun view_of St (places w),
+            begun (places w),
             begun_stand (places w) (first_all (IsOpened gates) (places w) (all_of ws) opened),
           ),
         )
@@ -152,7 +160,7 @@ module _ {T B : Type 0} (incoming outgoing : T → Option (List ℕ)) (closes : 
 
     vacated : (ws' : List W) (ps : List (Seated B T)) → KeepsAll incoming outgoing closes (reverse (all_of ws')) ps →
         All (λ (p : Seated B T). p.client ≡ None) ps →
-        run.Vacates view_of St (Handled incoming outgoing closes) (all_of ws') (reverse ps)
+        run.Vacates places view_of St (Handled incoming outgoing closes) (all_of ws') (reverse ps)
     vacated ws' ps keeps vacant ss each =
         let kept = keeps gates (reverse ss) (each_reverse St ss (all_of ws') each) in
         subst (λ l. Each2 Over l (reverse ps)) (reverse-reverse ss)
@@ -214,7 +222,7 @@ module _ {T B : Type 0} (incoming outgoing : T → Option (List ℕ)) (closes : 
             (first_books ∙ ap reverse (sym (map_both (λ (v : View B). v.book) view_of opened)))
             (last_books ∙ ap reverse (sym (map_both (λ (v : View B). v.book) view_of ps)))
             (adds ∙ ap all_added (sym (map_both (λ (v : View B). v.sums) view_of ps)))
-            (counts ∙ ap capped (sum_by_map (λ (v : View B). v.refused) view_of ps))
+            (counts ∙ ap capped (sym (sum_by_map (λ (v : View B). v.refused) view_of ps)))
             (subst (λ l. FoldsTo Gives old l kept) (sym (map_both (λ (v : View B). v.pass) view_of opened)) given)
             (subst (λ l. FoldsTo TakesIn kept (reverse l) new) (sym (map_both (λ (v : View B). v.pass) view_of ps))
             taken)
@@ -234,12 +242,50 @@ module _ {T B : Type 0} (incoming outgoing : T → Option (List ℕ)) (closes : 
 
 -- ---- a source behind another
 
+-- The items of a source that returns what another one returns.
 module _ {D S T : Type 0} (of : D → S) (gives : S → Option T → S → Type 0) where
   abbrev pub Behind : D → Option T → D → Type 0
   Behind old item new = gives (of old) item (of new)
 
-  folds_behind : (items : List T) (old new : D) →
-      FoldsTo (λ s x s'. Behind s (Some x) s') old items new →
+  folds_behind : (items : List T) (old new : D) → FoldsTo (λ s x s'. Behind s (Some x) s') old items new →
       FoldsTo (λ s x s'. gives s (Some x) s') (of old) items (of new)
   folds_behind [] old new is = ap of is
   folds_behind (x ∷ items) old new all = (of all.0, all.1, folds_behind items all.0 new all.2)
+
+  all_behind : (items : List T) (old new : D) → GivesAll Behind old items new → GivesAll gives (of old) items (of new)
+  all_behind items old new all = record {
+    last = of all.last;
+    gave = folds_behind items old all.last all.gave;
+    ended = all.ended;
+  }
+
+  returned_behind : (items : List T) (old new : D) → Returned Behind old items new →
+      Returned gives (of old) items (of new)
+  returned_behind items old new (inl some) = inl (folds_behind items old new some)
+  returned_behind items old new (inr all) = inr (all_behind items old new all)
+
+  gave_behind : (items : List T) (old new : D) → Gave Behind old items new → Gave gives (of old) items (of new)
+  gave_behind items old new (inl all) = inl (all_behind items old new all)
+  gave_behind items old new (inr none) = inr (none.0, ap of none.1)
+
+  -- What a refused run left of it.
+  pub leaves_behind : (why : WorkersFault) (old new : D) → LeavesSource Behind old why new →
+      LeavesSource gives (of old) why (of new)
+  leaves_behind BadCount old new leaves = ap of leaves
+  leaves_behind NoMemory old new leaves = ap of leaves
+  leaves_behind Thread old new leaves = ap of leaves
+  leaves_behind Worn old new leaves = (leaves.0, returned_behind leaves.0 old new leaves.1)
+  leaves_behind Missed old new leaves = (leaves.0, gave_behind leaves.0 old new leaves.1)
+
+  -- A run over all its items.
+  pub runs_behind : {W : Type 0} (runs : W → T → W → Type 0) (ws ws' : List W) (old new : D) →
+      RunsAll runs Behind ws old ws' new → RunsAll runs gives ws (of old) ws' (of new)
+  runs_behind runs ws ws' old new ran = record {
+    parts = ran.parts;
+    given = ran.given;
+    leads = ran.leads;
+    gave = all_behind ran.given old new ran.gave;
+    dealt = ran.dealt;
+    ordered = ran.ordered;
+    alone = ran.alone;
+  }

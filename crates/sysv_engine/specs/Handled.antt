@@ -1,4 +1,4 @@
--- What a worker of a server does with its connections (this project's profile).
+-- What a place of a server does with its connections (this project's profile).
 use Rattle.std.specs.Prelude.{◌≡◌, ◌+◌, ℕ, Bool, true, false, List, [], Option, None, Some, map, flat_map, cond}
 use Rattle.std.specs.List.{FoldsTo, sum_by}
 use Rattle.sysv_session.specs.declared.served.Served.{Served}
@@ -53,7 +53,7 @@ module _ {T B : Type 0} (incoming outgoing : T → Option (List ℕ)) (closes : 
     pub adds : sums' ≡ added sums (one_session (tally_of told))
     pub counts : refused' ≡ capped (refused + one_refused told)
 
--- One worker: the pass with which it began, its sessions in order, and the pass with which it ended.
+-- One place: the pass with which it began, its sessions in order, and the pass with which it ended.
 -- Each session begins with the pass with which the session before it ended.
 pub record Shift : Type 0 where
   pub before : Pass
@@ -61,11 +61,11 @@ pub record Shift : Type 0 where
   pub after : Pass
   pub worked : FoldsTo Talks before talks after
 
--- The passes with which the workers began.
+-- The passes with which the places began.
 abbrev pub first_passes : List Shift → List Pass
 first_passes shifts = map (λ (shift : Shift). shift.before) shifts
 
--- The passes with which the workers ended.
+-- The passes with which the places ended.
 abbrev pub last_passes : List Shift → List Pass
 last_passes shifts = map (λ (shift : Shift). shift.after) shifts
 
@@ -73,10 +73,10 @@ last_passes shifts = map (λ (shift : Shift). shift.after) shifts
 abbrev pub reports_of : List Talk → List (Option Served)
 reports_of talks = map (λ (talk : Talk). talk.told) talks
 
--- The reports of the sessions of all workers.
+-- The reports of the sessions of all places.
 abbrev pub told_in : List Shift → List (Option Served)
 told_in shifts = flat_map (λ (shift : Shift). reports_of shift.talks) shifts
 
--- All sessions of the worker together made these calls.
+-- All sessions of the place together made these calls.
 abbrev pub AreMadeBy : Shift → List Called → Type 0
 AreMadeBy shift calls = FoldsTo TalksIn (trail shift.before []) shift.talks (trail shift.after calls)

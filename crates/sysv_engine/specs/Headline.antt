@@ -1,15 +1,16 @@
 -- The headline of the server. It serves the connections that its source returns, each once, over a
--- new service. Each worker serves its connections in the order in which the source returned them, so
--- a server with one worker serves all of them in that order. Each connection has one session, over
--- the very bytes of that connection, and is then closed with what the session left. The calls of all
--- sessions, each with the reply that was written to it or left without one, and the removals of the
--- stop are one run of the service, and that run obeys the headline of threads, if fewer than 2^62
--- turns were made at each object (this project's profile).
+-- new service. Its workers have places, each with a pass and a book of its own, and each place
+-- serves one connection after another, in the order in which the source returned them. So a server
+-- with one place serves all of them in that order. Each connection has one session, over the very
+-- bytes of that connection, and is then closed with what the session left. The calls of all
+-- sessions, each with its reply, which the connection may not have taken whole, or left without one,
+-- and the removals of the stop are one run of the service, and that run obeys the headline of
+-- threads, if fewer than 2^62 turns were made at each object (this project's profile).
 --
 -- ServesConnections is this statement. The bytes of a connection are those that it tells: a
 -- connection in memory tells them all, and a socket tells none, since no contract speaks of what the
--- system does with them. What is kept of a connection when it is closed is in the book of the
--- worker that served it.
+-- system does with them. What is kept of a connection when it is closed is in the book of the place
+-- that served it.
 use Rattle.std.specs.Prelude.{◌≡◌, ◌≤◌, ℕ, List, Option, length}
 use Rattle.std.specs.List.Sorted.{IsPermutation}
 use Rattle.sysv_service.specs.Opened.{AreOpen}
@@ -27,19 +28,20 @@ pub record ServesConnections {S T B : Type 0} (incoming outgoing : T → Option 
   -- The source returned these connections, one after the other, and then reported its end.
   pub given : List T
   pub gave : GivesAll gives source given source'
-  -- The workers had these connections, and no others. Each was with one worker, once.
+  -- The places had these connections, and no others. Each was with one place, once.
   pub desks : List (Desk T B)
   pub dealt : IsPermutation (all_connections desks) given
-  -- Each worker had its connections in the order in which the source returned them. So one worker
-  -- alone had just the connections of the source, in that order.
+  -- Each place had its connections in the order in which the source returned them. So one place alone
+  -- had just the connections of the source, in that order.
   pub ordered : AreServedInOrder given desks
   pub alone : length books ≡ 1 → all_connections desks ≡ given
   -- The service was opened with this number of blocks.
   pub gates : Gates
   pub opened : AreOpen 0 blocks 0 gates
-  -- Each worker had one session on each of its connections, in order: the session began with what
-  -- the connection had to be read and with what was written to it, and the connection was closed
-  -- with what the session left to be read and with what it had written then.
+  -- Each place had one session on each of its connections, in order: the session began with what the
+  -- connection had to be read and with what was written to it. The connection was closed with what it
+  -- had taken of the replies then, and with what the session left to be read, except for what was
+  -- read ahead.
   pub shifts : List Shift
   pub crewed : Crewed incoming outgoing closes gates books desks shifts books'
   -- The sums are those of all sessions, and so is the number of sessions whose memory was refused.

@@ -11,6 +11,7 @@ use Rattle.sysv_keys.specs.declared.identifier.TheConstants.{SLOTS as slot_count
 use Rattle.sysv_model.specs.declared.errno.Errno.{Errno}
 use Rattle.sysv_service.specs.declared.closing.Closed.{Closed}
 use Rattle.sysv_service.specs.Closing.{IsCounted}
+use Rattle.sysv_thread_laws.specs.AfterStop.{IsEmpty}
 use Rattle.sysv_thread_laws.specs.Hiring.{first_pass, Hires, all_of, IsRemoval, removed_at}
 use Rattle.sysv_thread_laws.specs.PoolWhole.{IsWholeAgain}
 use Rattle.sysv_service.specs.Ran.{Pass}
@@ -41,9 +42,10 @@ pub record Stopped (gates : Gates) (told : Result ℕ Errno) : Type 0 where
   pub tells : TellsStop removed worn told
 
 -- What a server did with these gates from their opening to their close. Its first pass gave each
--- worker a pass and took all passes back, made the stop, and closed the gates. All of it is one run
+-- place a pass and took all passes back, made the stop, and closed the gates. All of it is one run
 -- if each gate has turns left at the close, that is, if fewer than 2^62 turns were made at each
--- object. Then the pool has all its blocks. No gate is held in either case.
+-- object. Then the pool has all its blocks, no slot has a live queue and no message is queued. No gate
+-- is held in either case.
 pub record Lived (blocks : ℕ) (gates : Gates) (shifts : List Shift) (removed : Result ℕ Errno) : Type 0 where
   pub stopped : Stopped gates removed
   pub hires : Hires (first_pass gates) (first_passes shifts) (last_passes shifts) stopped.before
@@ -52,10 +54,11 @@ pub record Lived (blocks : ℕ) (gates : Gates) (shifts : List Shift) (removed :
   pub run : EachGateHasTurnsLeft 0 counted.all.order → IsOneRun blocks shifts stopped.removed counted.all.order
   pub held : closed.held ≡ 0
   pub whole : EachGateHasTurnsLeft 0 counted.all.order → IsWholeAgain blocks closed
+  pub empty : EachGateHasTurnsLeft 0 counted.all.order → IsEmpty counted.all.order closed
 
 -- ---- the laws
 
--- The gates were opened for a service with this number of blocks. The first pass gave the workers
+-- The gates were opened for a service with this number of blocks. The first pass gave the places
 -- their passes, took them back and made a stop, and the gates were closed with it. If each gate has
 -- turns left at the close, then all of it is one run.
 abbrev pub EachLifeIsOneRun : Type 0
@@ -81,3 +84,12 @@ EachLifeLeavesThePoolWhole = (blocks : ℕ) (gates : Gates) (shifts : List Shift
     AreOf gates stopped.after.seats →
     Hires (first_pass gates) (first_passes shifts) (last_passes shifts) stopped.before →
     EachGateHasTurnsLeft 0 counted.all.order → IsWholeAgain blocks closed
+
+-- No slot has a live queue and no message is queued, if each gate has turns left at the close.
+abbrev pub EachLifeEndsEmpty : Type 0
+EachLifeEndsEmpty = (blocks : ℕ) (gates : Gates) (shifts : List Shift) (removed : Result ℕ Errno)
+    (stopped : Stopped gates removed) (closed : Closed) →
+    (counted : IsCounted stopped.after.seats stopped.after.held closed) → AreOpen 0 blocks 0 gates →
+    AreOf gates stopped.after.seats →
+    Hires (first_pass gates) (first_passes shifts) (last_passes shifts) stopped.before →
+    EachGateHasTurnsLeft 0 counted.all.order → IsEmpty counted.all.order closed

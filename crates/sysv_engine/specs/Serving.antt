@@ -1,10 +1,8 @@
--- How a server serves a listener, what its workers do, and what a fault leaves (this project's
--- profile). Its workers share one service, each worker has a pass of its own, and there is one
--- session for each connection.
-use Rattle.std.specs.Prelude.{◌≡◌, ◌≢◌, ◌≤◌, ⊤, ℕ, Bool, true, List, [], Option, Some, None, Result, length}
-use Rattle.std.specs.List.{AllByRecursion}
+-- How a server serves a source of connections, and what a fault leaves (this project's profile). Its
+-- places share one service, each place has a pass of its own, and there is one session for each
+-- connection.
+use Rattle.std.specs.Prelude.{◌≡◌, ℕ, List, [], Option, Some, Result, length}
 use Rattle.std.specs.List.Sorted.{IsPermutation}
-use Rattle.sysv_bank.specs.Banks.{Each2}
 use Rattle.sysv_service.specs.Opened.{AreOpen}
 use Rattle.sysv_service.specs.Seats.{Gates, AreOf}
 use Rattle.sysv_model.specs.declared.errno.Errno.{Errno}
@@ -16,25 +14,17 @@ use Rattle.sysv_workers.specs.Sources.{GivesAll, Gave, Returned}
 use Rattle.sysv_engine.specs.declared.fault.ServeFault.{ServeFault}
 use Rattle.sysv_engine.specs.declared.fault.ServeFault.TheVariants.{NoMemory, Thread, Worn, Missed}
 use Rattle.sysv_engine.specs.declared.sums.Sums.{Sums}
-use Rattle.sysv_engine.specs.declared.terms.Ended.{Ended}
 use Rattle.sysv_engine.specs.Added.{nothing}
-use Rattle.sysv_engine.specs.Desks.{Desk, Crewed, Sat, AreServedInOrder, all_connections}
+use Rattle.sysv_engine.specs.Desks.{Desk, Crewed, AreServedInOrder, all_connections}
 use Rattle.sysv_engine.specs.Handled.{Shift, first_passes, last_passes, sums_of, refused_of, told_in}
 use Rattle.sysv_engine.specs.OneRun.{Lived}
-use Rattle.sysv_seats.specs.Untold.{Closing, untold, leaves_nothing}
+use Rattle.sysv_seats.specs.Untold.{Closing}
 
 -- A pass of these gates that holds no chain, with the sums of no sessions.
 abbrev pub IsNew : Gates → Pass → Sums → ℕ → Type 0
 IsNew gates pass sums refused = AreOf gates pass.seats × (pass.held ≡ 0) × (sums ≡ nothing) × (refused ≡ 0)
 
--- This number of workers worked these shifts at the gates. Each began with a pass of the gates that
--- holds no chain, and these are the sums of all their sessions.
-pub record Worked (gates : Gates) (count : ℕ) (shifts : List Shift) (all : Sums) : Type 0 where
-  pub workers : length shifts ≡ count
-  pub passes : AllByRecursion (λ (shift : Shift). AreOf gates shift.before.seats × (shift.before.held ≡ 0)) shifts
-  pub sums : all ≡ sums_of (told_in shifts)
-
--- The workers of these shifts had passes that were split off from the pass `old` of these gates, and
+-- The places of these shifts had passes that were split off from the pass `old` of these gates, and
 -- the passes that they left were joined back into it.
 abbrev pub HiredFrom : Gates → Pass → Pass → Gates → List Shift → Type 0
 HiredFrom own old new gates shifts = (gates ≡ own) × Hires old (first_passes shifts) (last_passes shifts) new
@@ -47,7 +37,7 @@ pub record HasLived (blocks : ℕ) (gates : Gates) (shifts : List Shift) : Type 
   pub lived : Lived blocks gates shifts removed
 
 module _ {T B : Type 0} (incoming outgoing : T → Option (List ℕ)) (closes : Closing B) where
-  -- Sessions on connections led from the books `books` to the others. Each worker had one session on
+  -- Sessions on connections led from the books `books` to the others. Each place had one session on
   -- each of its connections, in order. `Ran` is so of the gates and of the shifts.
   pub record LeavesBooks (Ran : Gates → List Shift → Type 0) (books books' : List B) : Type 0 where
     pub gates : Gates
@@ -63,7 +53,7 @@ module _ {T B : Type 0} (incoming outgoing : T → Option (List ℕ)) (closes : 
 
 module _ {S T B : Type 0} (incoming outgoing : T → Option (List ℕ)) (closes : Closing B)
     (gives : S → Option T → S → Type 0) where
-  -- The workers served the connections that the source returned. They began with passes that were
+  -- The places served the connections that the source returned. They began with passes that were
   -- split off from the pass `old`, and the passes that they left were joined back into it.
   pub record WorkedFrom (gates : Gates) (old : Pass) (source : S) (books : List B) (sums : Sums) (refused : ℕ)
       (new : Pass) (source' : S) (books' : List B) : Type 0 where

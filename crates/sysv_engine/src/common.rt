@@ -1,7 +1,7 @@
 //! What the workers of a server share with one another and with the thread that accepts
 //! connections.
 use crate::bell::Bell;
-use crate::moment::{Moment, await_bell};
+use crate::moment::{Moment, NO_DESCRIPTOR, await_bell};
 use crate::terms::Patience;
 use crossbeam_queue::ArrayQueue;
 use std::alloc::Global;
@@ -10,9 +10,15 @@ use std::sync::atomic::{AtomicBool, AtomicU64, Ordering};
 use sysv_keys::SLOTS;
 use sysv_seats::News;
 
-/// The number of words that say which workers have parked calls: for each slot one for its
-/// receives and one for its sends, and one for the sends that wait for blocks.
-const WORDS: usize = 2 * SLOTS + 1;
+/// The word of the sends that wait for blocks. Before it are the words of the receives at each
+/// slot, and then those of the sends at each slot.
+pub(crate) const BLOCKS_WORD: usize = 2 * SLOTS;
+
+/// The number of words that say which workers have parked calls.
+const WORDS: usize = BLOCKS_WORD + 1;
+
+/// The number of bits in a word, and so of workers that a word can name.
+const BITS: usize = 64;
 
 /// The number of letters that a worker's mailbox holds.
 const LETTERS: usize = 512;
@@ -45,6 +51,9 @@ struct Post {
 }
 
 /// What the workers share.
+///
+/// A worker that is not there has no bell and no letters. Nothing comes for it, and it may not
+/// sleep.
 #[derive(Drop)]
 pub struct Common {
     posts: Vec<Post>,
@@ -71,8 +80,11 @@ pub struct Common {
 }
 
 impl Common {
-    /// Returns what `workers` workers share before the first connection. Returns `None` if memory
-    /// or a descriptor is refused.
+    /// Returns what `workers` workers, at most 64, share before the first connection. Returns
+    /// `None` if memory or a descriptor is refused.
+    ///
+    /// At most `at_once` clients are served at once. After `drain` seconds an orderly end cuts
+    /// sessions off, or never for 0.
     pub fn open(
         alloc: Global,
         workers: usize,
@@ -80,14 +92,12 @@ impl Common {
         patience: Patience,
         drain: u32,
     ) -> Option<Common> {
-        let mut posts = Vec::with_capacity(alloc, workers).ok()?;
-        for _ in 0..workers {
-            posts.push_reserved(Post::open(alloc)?);
+        let turn = Bell::open();
+        if !turn.is_open() {
+            return None;
         }
-        let mut words = Vec::with_capacity(alloc, WORDS).ok()?;
-        for _ in 0..WORDS {
-            words.push_reserved(AtomicU64::new(0));
-        }
+        let posts = open_posts(alloc, workers)?;
+        let words = open_words(alloc)?;
         Some(Common {
             posts,
             words,
@@ -99,7 +109,7 @@ impl Common {
             over: AtomicU64::new(0),
             starved: AtomicBool::new(false),
             is_awaited: AtomicBool::new(false),
-            turn: Bell::open(),
+            turn,
         })
     }
 
@@ -113,98 +123,125 @@ impl Common {
         self.patience
     }
 
-    /// Returns the descriptor of a worker's bell.
-    pub(crate) fn bell_of(&self, worker: usize) -> i32 {
-        self.posts[worker].bell.fd()
+    /// Returns the descriptor of a worker's bell, or a negative number.
+    pub fn bell_of(&self, worker: usize) -> i32 {
+        match self.posts.get(worker) {
+            Some(post) => post.bell.fd(),
+            None => NO_DESCRIPTOR,
+        }
     }
 
     /// Has a worker look for what came for it.
     fn ring(&self, worker: usize) {
-        let post = &self.posts[worker];
-        post.rung.store(true, Ordering::SeqCst);
-        if post.asleep.swap(false, Ordering::SeqCst) {
-            post.bell.ring();
+        if let Some(post) = self.posts.get(worker) {
+            post.ring();
+        }
+    }
+
+    /// Has all workers look for what came for them.
+    fn ring_all(&self) {
+        for post in &self.posts {
+            post.ring();
         }
     }
 
     /// Says that a worker is about to sleep. Returns whether it may: nothing came for it.
     pub(crate) fn fall_asleep(&self, worker: usize) -> bool {
-        let post = &self.posts[worker];
-        post.asleep.store(true, Ordering::SeqCst);
-        !post.rung.load(Ordering::SeqCst)
+        match self.posts.get(worker) {
+            Some(post) => post.fall_asleep(),
+            None => false,
+        }
     }
 
     /// Says that a worker is awake. Returns whether something came for it.
     pub(crate) fn wake_up(&self, worker: usize) -> bool {
-        let post = &self.posts[worker];
-        post.asleep.store(false, Ordering::SeqCst);
-        post.rung.swap(false, Ordering::SeqCst)
+        match self.posts.get(worker) {
+            Some(post) => post.wake_up(),
+            None => false,
+        }
     }
 
     /// Returns the next letter of a worker.
     pub(crate) fn letter(&self, rt: &impl Wait, worker: usize) -> Option<Letter> {
-        self.posts[worker].letters.pop(rt)
+        self.posts.get(worker)?.letters.pop(rt)
     }
 
     /// Returns whether letters of the worker were lost since the last call.
     pub(crate) fn has_lost(&self, worker: usize) -> bool {
-        let post = &self.posts[worker];
-        post.everything.load(Ordering::SeqCst) && post.everything.swap(false, Ordering::SeqCst)
+        match self.posts.get(worker) {
+            Some(post) => post.has_lost(),
+            None => false,
+        }
     }
 
     /// Gives a worker a letter. If its mailbox is full, it looks at all its parked calls, and the
-    /// result is `false`: the letter is still to be passed on.
+    /// result is `false`: the letter is still to be passed on. So is one to a worker that is not
+    /// there.
     pub(crate) fn send(&self, rt: &impl Wait, worker: usize, letter: Letter) -> bool {
-        let post = &self.posts[worker];
-        let kept = post.letters.push(rt, letter).is_ok();
-        if !kept {
-            post.everything.store(true, Ordering::SeqCst);
+        match self.posts.get(worker) {
+            Some(post) => post.send(rt, letter),
+            None => false,
         }
-        self.ring(worker);
-        kept
     }
 
-    /// Has a worker look at all its parked calls.
-    pub(crate) fn send_everything(&self, worker: usize) {
-        self.posts[worker].everything.store(true, Ordering::SeqCst);
-        self.ring(worker);
+    /// Has all workers look at all their parked calls.
+    pub(crate) fn send_everything(&self) {
+        for post in &self.posts {
+            post.send_everything();
+        }
     }
 
     /// Returns which workers have calls parked under this word.
     pub(crate) fn word(&self, word: usize) -> u64 {
-        self.words[word].load(Ordering::SeqCst)
+        match self.words.get(word) {
+            Some(workers) => workers.load(Ordering::SeqCst),
+            None => 0,
+        }
     }
 
     /// Says that the worker has calls parked under this word.
     pub(crate) fn mark(&self, word: usize, worker: usize) {
-        if self.word(word) & bit(worker) == 0 {
-            self.words[word].fetch_or(bit(worker), Ordering::SeqCst);
+        let Some(workers) = self.words.get(word) else {
+            return;
+        };
+        if workers.load(Ordering::SeqCst) & bit(worker) == 0 {
+            workers.fetch_or(bit(worker), Ordering::SeqCst);
         }
     }
 
     /// Says that the worker has no calls parked under this word.
     pub(crate) fn unmark(&self, word: usize, worker: usize) {
-        self.words[word].fetch_and(!bit(worker), Ordering::SeqCst);
+        if let Some(workers) = self.words.get(word) {
+            workers.fetch_and(!bit(worker), Ordering::SeqCst);
+        }
     }
 
     /// Tells a worker to take one more connection.
     pub(crate) fn call(&self, worker: usize) {
-        self.posts[worker].coming.fetch_add(1, Ordering::SeqCst);
-        self.ring(worker);
+        if let Some(post) = self.posts.get(worker) {
+            post.coming.fetch_add(1, Ordering::SeqCst);
+            post.ring();
+        }
     }
 
     /// Returns the number of connections that the worker was told to take.
     pub(crate) fn coming(&self, worker: usize) -> u64 {
-        self.posts[worker].coming.load(Ordering::SeqCst)
+        match self.posts.get(worker) {
+            Some(post) => post.coming.load(Ordering::SeqCst),
+            None => 0,
+        }
     }
 
     /// Returns the number of clients of the worker that were closed.
     pub(crate) fn closed(&self, worker: usize) -> u64 {
-        self.posts[worker].closed.load(Ordering::SeqCst)
+        match self.posts.get(worker) {
+            Some(post) => post.closed.load(Ordering::SeqCst),
+            None => 0,
+        }
     }
 
     /// Tells all workers that no more connections come.
-    pub(crate) fn finish(&self) {
+    pub fn finish(&self) {
         self.finished.store(true, Ordering::SeqCst);
         self.ring_all();
     }
@@ -219,16 +256,11 @@ impl Common {
         self.is_cut.load(Ordering::SeqCst)
     }
 
-    /// Has all workers look.
-    fn ring_all(&self) {
-        for worker in 0..self.posts.len() {
-            self.ring(worker);
-        }
-    }
-
     /// Counts a session of a worker that is over.
     pub(crate) fn close(&self, worker: usize) {
-        self.posts[worker].closed.fetch_add(1, Ordering::SeqCst);
+        if let Some(post) = self.posts.get(worker) {
+            post.closed.fetch_add(1, Ordering::SeqCst);
+        }
         self.over.fetch_add(1, Ordering::SeqCst);
         if self.is_awaited.load(Ordering::SeqCst) {
             self.turn.ring();
@@ -246,7 +278,7 @@ impl Common {
         self.starved.load(Ordering::SeqCst)
     }
 
-    /// Returns the descriptor of the bell for the accepting thread.
+    /// Returns the descriptor of the bell for the accepting thread, or a negative number.
     pub fn bell(&self) -> i32 {
         self.turn.fd()
     }
@@ -311,9 +343,74 @@ impl Post {
             closed: AtomicU64::new(0),
         })
     }
+
+    /// Has the worker look for what came for it.
+    fn ring(&self) {
+        self.rung.store(true, Ordering::SeqCst);
+        if self.asleep.swap(false, Ordering::SeqCst) {
+            self.bell.ring();
+        }
+    }
+
+    /// Says that the worker is about to sleep. Returns whether it may: nothing came for it.
+    fn fall_asleep(&self) -> bool {
+        self.asleep.store(true, Ordering::SeqCst);
+        !self.rung.load(Ordering::SeqCst)
+    }
+
+    /// Says that the worker is awake. Returns whether something came for it.
+    fn wake_up(&self) -> bool {
+        self.asleep.store(false, Ordering::SeqCst);
+        self.rung.swap(false, Ordering::SeqCst)
+    }
+
+    /// Returns whether letters were lost since the last call.
+    fn has_lost(&self) -> bool {
+        self.everything.load(Ordering::SeqCst) && self.everything.swap(false, Ordering::SeqCst)
+    }
+
+    /// Gives the worker a letter. Returns whether there was room for it. If there was none, the
+    /// worker looks at all its parked calls.
+    fn send(&self, rt: &impl Wait, letter: Letter) -> bool {
+        let kept = self.letters.push(rt, letter).is_ok();
+        if !kept {
+            self.everything.store(true, Ordering::SeqCst);
+        }
+        self.ring();
+        kept
+    }
+
+    /// Has the worker look at all its parked calls.
+    fn send_everything(&self) {
+        self.everything.store(true, Ordering::SeqCst);
+        self.ring();
+    }
+}
+
+/// Opens the posts of this number of workers. Returns `None` if memory or a descriptor is refused.
+fn open_posts(alloc: Global, workers: usize) -> Option<Vec<Post>> {
+    let mut posts = Vec::with_capacity(alloc, workers).ok()?;
+    for _ in 0..workers {
+        posts.push(Post::open(alloc)?).ok()?;
+    }
+    Some(posts)
+}
+
+/// Returns the words, under which no calls are parked. Returns `None` if memory is refused.
+fn open_words(alloc: Global) -> Option<Vec<AtomicU64>> {
+    let mut words = Vec::with_capacity(alloc, WORDS).ok()?;
+    for _ in 0..WORDS {
+        words.push(AtomicU64::new(0)).ok()?;
+    }
+    Some(words)
+}
+
+/// Returns the word of the sends that wait for room at a slot.
+pub(crate) fn room_word(slot: usize) -> usize {
+    SLOTS.saturating_add(slot)
 }
 
 /// Returns the bit of a worker.
 pub(crate) fn bit(worker: usize) -> u64 {
-    1 << worker
+    1 << (worker % BITS)
 }

@@ -31,6 +31,7 @@ pub(crate) fn hire<'a, R: Wait, T: NonBlocking>(
     ensures count { vec_len places.new ≡ vec_len books.old }
     ensures books { books.old.items ≡ reverse (map (λ p. p.book) places.new.items) }
     ensures taken { (books.new.items ≡ []) × (vec_capacity books.new ≡ vec_capacity books.old) }
+    ensures room { vec_capacity places.new ≡ vec_capacity places.old }
     ensures gives { FoldsTo Gives pass.old (map (λ p. p.pass) places.new.items) pass.new }
 {
     while let Some(book) = books.pop() {
@@ -45,6 +46,7 @@ pub(crate) fn hire<'a, R: Wait, T: NonBlocking>(
 pub(crate) fn vacate<R: Wait, T: NonBlocking>(places: &mut Vec<Place<'_, R, T>>)
     ensures keeps { KeepsAll T.incoming T.outgoing T.closes places.old.items places.new.items }
     ensures vacant { All (λ p. p.client ≡ None) places.new.items }
+    ensures count { vec_len places.new ≡ vec_len places.old }
 {
     for at in 0..places.len() {
         places[at].close();

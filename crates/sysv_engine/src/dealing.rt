@@ -1,4 +1,5 @@
 //! A source whose connections are dealt out to workers.
+ghost use Rattle.std.specs.Prelude.{◌≡◌};
 
 use crate::common::Common;
 use sysv_workers::Source;
@@ -34,26 +35,46 @@ impl<'s, 'c, S> Dealing<'s, 'c, S> {
     }
 
     /// Tells the worker with the fewest clients to take one more connection.
-    fn tell(&mut self) {
+    fn tell(&mut self)
+        ensures { self.new.source ≡ self.old.source }
+    {
         let worker = self.fewest();
-        self.next = (worker + 1) % self.told.len();
-        self.told[worker] = self.told[worker].saturating_add(1);
+        self.next = self.after(worker);
+        if let Some(told) = self.told.get_mut(worker) {
+            *told = told.saturating_add(1);
+        }
         self.common.call(worker);
     }
 
-    /// Returns the worker with the fewest clients.
+    /// Returns the worker with the fewest clients. Of several it returns the first one, and begins
+    /// after the worker that was told last.
     fn fewest(&self) -> usize {
         let mut best = self.next;
         let mut least = u64::MAX;
-        for step in 0..self.told.len() {
-            let worker = (self.next + step) % self.told.len();
-            let clients = self.told[worker].saturating_sub(self.common.closed(worker));
+        let mut worker = self.next;
+        for _ in 0..self.told.len() {
+            let clients = self.clients(worker);
             if clients < least {
                 best = worker;
                 least = clients;
             }
+            worker = self.after(worker);
         }
         best
+    }
+
+    /// Returns the number of clients that a worker has or was told to take.
+    fn clients(&self, worker: usize) -> u64 {
+        match self.told.get(worker) {
+            Some(told) => told.saturating_sub(self.common.closed(worker)),
+            None => u64::MAX,
+        }
+    }
+
+    /// Returns the worker after this one, or the first worker after the last one.
+    fn after(&self, worker: usize) -> usize {
+        let next = worker.saturating_add(1);
+        if next < self.told.len() { next } else { 0 }
     }
 }
 

@@ -1,15 +1,13 @@
 //! The event loop of a worker.
-ghost use Rattle.std.specs.Prelude.{◌≡◌, ◌≤◌, vec_len};
-ghost use Rattle.sysv_engine.specs.Places.{AdoptsOne, KeepsAll};
+ghost use Rattle.sysv_engine.specs.Places.{KeepsAll};
 
-use crate::common::{Common, Letter, bit};
+use crate::common::{BLOCKS_WORD, Common, Letter, bit, room_word};
 use crate::lines::Key;
 use crate::moment::Moment;
 use crate::watch::{Ready, Watch};
 use crate::worker::{Worker, sooner};
 use std::alloc::Global;
 use std::sync::Wait;
-use sysv_keys::SLOTS;
 use sysv_rules::qualifies;
 use sysv_seats::{News, NonBlocking};
 use sysv_service::Service;
@@ -93,7 +91,9 @@ impl<'a, 'c, R: Wait> Serving<'a, 'c, R> {
     {
         self.rest(worker);
         for at in 0..worker.ready.len() {
-            let ready = worker.ready[at];
+            let Some(ready) = worker.ready.get(at).copied() else {
+                break;
+            };
             self.report(worker, &ready);
         }
         self.take_turns(worker);
@@ -179,22 +179,39 @@ impl<'a, 'c, R: Wait> Serving<'a, 'c, R> {
     {
         let mut looked = false;
         for _ in self.rt.forever() {
-            let key = worker.key(place);
-            if key == worker.lines.key(place) {
+            if !self.enter_line(worker, place) {
                 break;
             }
-            worker.lines.leave(place);
-            let Some(key) = key else {
-                break;
-            };
-            worker.lines.enter(place, key);
-            self.common.mark(key.word(), worker.number);
-            worker.go_on(place);
             looked = true;
         }
         if looked {
             worker.drain(place);
         }
+    }
+
+    /// Puts a client into the line of what its parked call waits for, unless it is there, and has
+    /// the call go on if it may. Returns whether it entered a line: then its call may wait for
+    /// something else.
+    fn enter_line<T: NonBlocking, W: Watch<T>>(
+        &self,
+        worker: &mut Worker<'_, R, T, W>,
+        place: usize,
+    ) -> bool
+        ensures { KeepsAll T.incoming T.outgoing T.closes worker.old.places.items
+            worker.new.places.items }
+    {
+        let key = worker.key(place);
+        if key == worker.lines.key(place) {
+            return false;
+        }
+        worker.lines.leave(place);
+        let Some(key) = key else {
+            return false;
+        };
+        worker.lines.enter(place, key);
+        self.common.mark(key.word(), worker.number);
+        worker.go_on(place);
+        true
     }
 
     /// Closes a client whose session is over.
@@ -252,26 +269,30 @@ impl<'a, 'c, R: Wait> Serving<'a, 'c, R> {
         ensures { KeepsAll T.incoming T.outgoing T.closes worker.old.places.items
             worker.new.places.items }
     {
-        while let Some(news) = worker.tools.take_news() {
-            let rest = self.parked_for(news);
-            if rest == 0 {
-                continue;
-            }
-            let letter = Letter {
-                news,
-                rest,
-                least: usize::MAX,
+        for _ in self.rt.forever() {
+            let Some(news) = worker.tools.take_news() else {
+                return;
             };
-            if worker.letters.push_back(letter).is_err() {
-                self.look_everywhere();
-            }
+            self.keep(worker, news);
         }
     }
 
-    /// Has all workers look at all their parked calls.
-    fn look_everywhere(&self) {
-        for worker in 0..self.common.workers() {
-            self.common.send_everything(worker);
+    /// Keeps what a call has changed, if calls that wait for it are parked.
+    fn keep<T: NonBlocking, W: Watch<T>>(&self, worker: &mut Worker<'_, R, T, W>, news: News)
+        ensures { KeepsAll T.incoming T.outgoing T.closes worker.old.places.items
+            worker.new.places.items }
+    {
+        let rest = self.parked_for(news);
+        if rest == 0 {
+            return;
+        }
+        let letter = Letter {
+            news,
+            rest,
+            least: usize::MAX,
+        };
+        if worker.letters.push_back(letter).is_err() {
+            self.common.send_everything();
         }
     }
 
@@ -279,9 +300,9 @@ impl<'a, 'c, R: Wait> Serving<'a, 'c, R> {
     fn parked_for(&self, news: News) -> u64 {
         match news {
             News::Arrived { slot, .. } => self.common.word(slot),
-            News::Freed { slot, .. } => self.common.word(SLOTS + slot),
-            News::Released => self.common.word(2 * SLOTS),
-            News::Changed { slot } => self.common.word(slot) | self.common.word(SLOTS + slot),
+            News::Freed { slot, .. } => self.common.word(room_word(slot)),
+            News::Released => self.common.word(BLOCKS_WORD),
+            News::Changed { slot } => self.common.word(slot) | self.common.word(room_word(slot)),
         }
     }
 
@@ -340,13 +361,13 @@ impl<'a, 'c, R: Wait> Serving<'a, 'c, R> {
             News::Freed { slot, .. } => {
                 let first = worker.lines.senders(slot);
                 self.look_for_room(worker, first, &mut letter.least);
-                self.unmark(worker, SLOTS + slot);
+                self.unmark(worker, room_word(slot));
                 false
             }
             News::Released => {
                 let first = worker.lines.reservers();
                 self.look_for_room(worker, first, &mut letter.least);
-                self.unmark(worker, 2 * SLOTS);
+                self.unmark(worker, BLOCKS_WORD);
                 false
             }
             News::Changed { slot } => {
@@ -557,7 +578,8 @@ enum Found {
 
 /// Returns the first worker of these after this one, or else the first of these.
 fn next_of(workers: u64, number: usize) -> usize {
-    let later = workers & !(bit(number) | (bit(number) - 1));
+    let own = bit(number);
+    let later = workers & !(own | own.wrapping_sub(1));
     let among = if later == 0 { workers } else { later };
     among.trailing_zeros() as usize
 }

@@ -28,9 +28,9 @@ pub(crate) fn kits<'a, R: Wait, T: NonBlocking, W: Drop>(
     let mut kits = Vec::with_capacity(alloc, watches.len()).ok()?;
     let mut left = places;
     while let Some(watch) = watches.pop() {
-        let share = share(left, watches.len());
-        left -= share;
-        let Some(kit) = Kit::open(alloc, share, watch) else {
+        let count = share(left, watches.len());
+        left -= count;
+        let Some(kit) = Kit::open(alloc, count, watch) else {
             discard(kits);
             return None;
         };
@@ -73,7 +73,7 @@ pub(crate) fn staff<'a, R: Wait, T: NonBlocking, W: Watch<T>>(
     requires room { vec_len kits ≤ vec_capacity workers.old }
     requires places { sum_by (λ k. vec_capacity k.places) kits.items ≡ vec_len places.old }
     requires each { All (λ k. (k.places.items ≡ []) × (1 ≤ vec_capacity k.places)) kits.items }
-    ensures count { vec_len workers.new ≡ vec_len kits }
+    ensures count { vec_len workers.new ≡ vec_len kits.entry }
     ensures all { flat_map (λ w. w.places.items) workers.new.items ≡ reverse places.old.items }
     ensures each { All (λ w. 1 ≤ vec_len w.places) workers.new.items }
     ensures taken { (places.new.items ≡ []) × (vec_capacity places.new ≡ vec_capacity places.old) }
@@ -96,6 +96,7 @@ pub(crate) fn gather<'a, R: Wait, T: NonBlocking, W: Watch<T> + Drop>(
     ensures keeps { KeepsAll T.incoming T.outgoing T.closes
         (reverse (flat_map (λ w. w.places.items) workers.entry.items)) places.new.items }
     ensures vacant { All (λ p. p.client ≡ None) places.new.items }
+    ensures count { vec_len places.new ≡ sum_by (λ w. vec_len w.places) workers.entry.items }
 {
     let mut workers = workers;
     while let Some(worker) = workers.pop() {

@@ -1,4 +1,4 @@
-use Rattle.std.proofs.Common.{◌≡◌, ◌≤◌, ◌+◌, ◌++◌, map, reverse, vec_len, vec_capacity}
+use Rattle.std.proofs.Common.{◌≡◌, ◌≤◌, ◌+◌, ◌++◌, map, reverse, vec_len, vec_capacity, None}
 use Rattle.std.specs.Prelude.{◌^◌, ◌-◌}
 use Rattle.std.specs.List.{All, FoldsTo, sum_by}
 use Rattle.sysv_service.specs.Seats.{AreOf}
@@ -8,22 +8,23 @@ use Rattle.sysv_engine.specs.Added.{capped}
 use Rattle.sysv_engine.proofs.SumsOfSessions.{Adding}
 use Rattle.sysv_engine.proofs.crew.dismiss.Given as goal
 
--- The sums of the dismissed workers and those of the remaining ones are the sums of all. The passes
--- of the dismissed workers were joined in, and their books were put back.
-abbrev pub invariant-loop-worker : goal.invariant-loop-worker
-invariant-loop-worker g l = record {
+-- The sums of the dismissed places and those of the remaining ones are the sums of all. The passes of
+-- the dismissed places were joined in, and their books were put back.
+abbrev pub invariant-loop-place : goal.invariant-loop-place
+invariant-loop-place g l = record {
   pass : AreOf l.service l.pass.seats;
-  workers : All (λ w. w.kernel.service.now ≡ l.service) l.workers.items;
-  sums : Adding (map (λ w. w.sums) l.fn.workers.items) l.sums (map (λ w. w.sums) l.workers.items);
-  refused : capped (l.refused + sum_by (λ w. w.refused) l.workers.items)
-      ≡ capped (sum_by (λ w. w.refused) l.fn.workers.items);
+  places : All (λ p. p.gates ≡ l.service) l.places.items;
+  vacant : All (λ p. p.client ≡ None) l.places.items;
+  sums : Adding (map (λ p. p.sums) l.fn.places.items) l.sums (map (λ p. p.sums) l.places.items);
+  refused : capped (l.refused + sum_by (λ p. p.refused) l.places.items)
+      ≡ capped (sum_by (λ p. p.refused) l.fn.places.items);
   small : l.refused ≤ 2 ^ 64 - 1;
-  takes : (home : Pass) → FoldsTo TakesIn l.pass (reverse (map (λ w. w.kernel.pass) l.workers.items)) home →
-      FoldsTo TakesIn l.fn.pass (reverse (map (λ w. w.kernel.pass) l.fn.workers.items)) home;
-  books : l.books.items ++ reverse (map (λ w. w.book) l.workers.items)
-      ≡ l.fn.books.items ++ reverse (map (λ w. w.book) l.fn.workers.items);
-  room : vec_len l.books + vec_len l.workers ≤ vec_capacity l.books;
+  takes : (home : Pass) → FoldsTo TakesIn l.pass (reverse (map (λ p. p.pass) l.places.items)) home →
+      FoldsTo TakesIn l.fn.pass (reverse (map (λ p. p.pass) l.fn.places.items)) home;
+  books : l.books.items ++ reverse (map (λ p. p.book) l.places.items)
+      ≡ l.fn.books.items ++ reverse (map (λ p. p.book) l.fn.places.items);
+  room : vec_len l.books + vec_len l.places ≤ vec_capacity l.books;
 }
 
-abbrev pub decreases-loop-worker : goal.decreases-loop-worker
-decreases-loop-worker g l = vec_len l.workers
+abbrev pub decreases-loop-place : goal.decreases-loop-place
+decreases-loop-place g l = vec_len l.places

@@ -1,4 +1,4 @@
-use Rattle.sysv_engine.proofs.LifeIsOneRun.{each_life, each_none_held, each_whole}
+use Rattle.sysv_engine.proofs.LifeIsOneRun.{each_empty, each_life, each_none_held, each_whole}
 use Rattle.sysv_engine.proofs.laws.each_life_is_one_run.Goals as goal
 
 pub returns-clause-run : goal.returns-clause-run
@@ -12,3 +12,6 @@ returns-clause-whole c =
 pub returns-clause-none_held : goal.returns-clause-none_held
 returns-clause-none_held c = each_none_held c.each_session_makes_calls.ensures c.every_pool_is_whole.ensures.none_held
     c.every_hiring_obeys.ensures.stops
+
+pub returns-clause-empty : goal.returns-clause-empty
+returns-clause-empty c = each_empty c.each_session_makes_calls.ensures c.every_stop_empties.ensures
