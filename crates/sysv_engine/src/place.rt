@@ -179,6 +179,19 @@ impl<'a, R: Wait, T: NonBlocking> Place<'a, R, T> {
         }
     }
 
+    /// Leaves the parked call if the peer has shut down its writing: what has come since is not for
+    /// it.
+    pub(crate) fn leave_if_gone<W: Watch<T>>(&mut self, watch: &W)
+        ensures keeps { KeepsPlace T.incoming T.outgoing T.closes self.old self.new }
+    {
+        let Some(client) = &mut self.client else {
+            return;
+        };
+        if watch.has_left(client.connection()) {
+            client.leave();
+        }
+    }
+
     /// Continues the parked call, if it may go on.
     pub(crate) fn go_on(&mut self, tools: &mut Tools)
         ensures keeps { KeepsPlace T.incoming T.outgoing T.closes self.old self.new }

@@ -484,8 +484,8 @@ impl<'a, 'c, R: Wait> Serving<'a, 'c, R> {
         }
     }
 
-    /// Looks whether the parked call of a client may go on. Returns what it found, if news came
-    /// that a message of this type has arrived.
+    /// Looks whether the parked call of a client may go on, unless its peer has gone. Returns what it
+    /// found, if news came that a message of this type has arrived.
     fn wake<T: NonBlocking, W: Watch<T>>(
         &self,
         worker: &mut Worker<'_, R, T, W>,
@@ -495,6 +495,7 @@ impl<'a, 'c, R: Wait> Serving<'a, 'c, R> {
         ensures { KeepsAll T.incoming T.outgoing T.closes worker.old.places.items
             worker.new.places.items }
     {
+        worker.leave_if_gone(place);
         worker.go_on(place);
         if worker.key(place).is_some() {
             self.settle(worker, place);
@@ -530,7 +531,7 @@ impl<'a, 'c, R: Wait> Serving<'a, 'c, R> {
         self.spread(worker);
     }
 
-    /// Closes a client whose time is over.
+    /// Closes a client whose time is over, unless something has come for it that was not read yet.
     fn look_at_time<T: NonBlocking, W: Watch<T>>(
         &self,
         worker: &mut Worker<'_, R, T, W>,
@@ -542,8 +543,11 @@ impl<'a, 'c, R: Wait> Serving<'a, 'c, R> {
         if !worker.is_taken(place) {
             return;
         }
+        if is_over(worker.due(place)) {
+            self.report(worker, &Ready::unasked(place));
+        }
         let due = worker.due(place);
-        if due.is_some_and(|due| due.left() == 0) {
+        if is_over(due) {
             worker.cut(place);
             self.settle(worker, place);
         } else {
@@ -574,6 +578,11 @@ enum Found {
     Message,
     /// The call is over otherwise.
     Other,
+}
+
+/// Returns whether this moment has come.
+fn is_over(due: Option<Moment>) -> bool {
+    due.is_some_and(|due| due.left() == 0)
 }
 
 /// Returns the first worker of these after this one, or else the first of these.

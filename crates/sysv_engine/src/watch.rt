@@ -2,7 +2,8 @@
 ghost use Rattle.std.specs.Prelude.{◌≡◌, IfSome, vec_len};
 
 use crate::common::Common;
-use crate::moment::pause;
+use crate::moment::{asking, pause};
+use libc::net::{POLLRDHUP, poll};
 use mio::unix::SourceFd;
 use mio::{Events, Interest, Poll, Token};
 use std::alloc::Global;
@@ -32,6 +33,18 @@ pub struct Ready {
     pub left: bool,
 }
 
+impl Ready {
+    /// News of a place that nothing has reported: it may have any.
+    pub(crate) fn unasked(place: usize) -> Ready {
+        Ready {
+            place,
+            readable: true,
+            writable: true,
+            left: false,
+        }
+    }
+}
+
 /// Reports which places have news. What it reports may be anything: a client that has no news only
 /// looks in vain.
 pub trait Watch<T> {
@@ -41,6 +54,10 @@ pub trait Watch<T> {
 
     /// Has the place reported also when the connection may take bytes, or not any more.
     fn await_room(&mut self, connection: &T, place: usize, awaits: bool);
+
+    /// Returns whether the peer has shut down its writing, or the connection has failed, as far as
+    /// the system knows now.
+    fn has_left(&self, connection: &T) -> bool;
 
     /// Waits until a place has news or the bell is rung, for at most `limit` milliseconds, and puts
     /// what is reported into `ready`. It may return early.
@@ -89,6 +106,10 @@ impl<T: AsRawFd> Watch<T> for Polled {
             .poll
             .registry()
             .reregister(&mut SourceFd(&fd), Token(place), interest);
+    }
+
+    fn has_left(&self, connection: &T) -> bool {
+        poll(&mut [asking(connection.as_raw_fd(), POLLRDHUP)], 0) > 0
     }
 
     fn wait(&mut self, limit: Option<u64>, ready: &mut Vec<Ready>) {
@@ -150,6 +171,10 @@ impl<T> Watch<T> for Rounds {
 
     fn await_room(&mut self, _connection: &T, _place: usize, _awaits: bool) {}
 
+    fn has_left(&self, _connection: &T) -> bool {
+        false
+    }
+
     fn wait(&mut self, limit: Option<u64>, ready: &mut Vec<Ready>) {
         ready.clear();
         if limit != Some(0) {
@@ -157,12 +182,7 @@ impl<T> Watch<T> for Rounds {
         }
         for place in self.places.iter() {
             if ready.len() < ready.capacity() {
-                ready.push_reserved(Ready {
-                    place: *place,
-                    readable: true,
-                    writable: true,
-                    left: false,
-                });
+                ready.push_reserved(Ready::unasked(*place));
             }
         }
     }

@@ -227,6 +227,17 @@ impl<'a, R: Wait, T: NonBlocking, W: Watch<T>> Worker<'a, R, T, W> {
         }
     }
 
+    /// Leaves the client's parked call if its peer has shut down its writing.
+    #[tactic(auto, using(crate::proofs::PlaceLists::keeps_at))]
+    pub(crate) fn leave_if_gone(&mut self, place: usize)
+        ensures { KeepsAll T.incoming T.outgoing T.closes self.old.places.items
+            self.new.places.items }
+    {
+        if let Some(there) = self.places.get_mut(place) {
+            there.leave_if_gone(&self.watch);
+        }
+    }
+
     /// Continues the client's parked call, if it may go on.
     #[tactic(auto, using(crate::proofs::PlaceLists::keeps_at))]
     pub(crate) fn go_on(&mut self, place: usize)
