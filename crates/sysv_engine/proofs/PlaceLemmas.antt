@@ -97,10 +97,12 @@ module _ {T B : Type 0} (incoming outgoing : T → Option (List ℕ)) (closes : 
       TakesIn incoming outgoing closes connection old new
   takes old vacant new connection client keeps none is sits = λ gates standing stands.
       let stood = keeps gates standing stands in
-      subst (λ p. Stands incoming outgoing closes gates (with_one connection standing) p) (sym is)
-      (stood.0, adopts incoming outgoing closes (Sits incoming outgoing) standing (view_of vacant) connection client
-      (subst (λ c. IsPlace incoming outgoing closes (Sits incoming outgoing) standing (view_of vacant) c) none stood.1)
-      (sits vacant.pass))
+      subst (λ p. Stands incoming outgoing closes gates (with_one connection standing) p) (sym is) (
+        stood.0,
+        adopts incoming outgoing closes (Sits incoming outgoing) standing (view_of vacant) connection client
+            (subst (λ c. IsPlace incoming outgoing closes (Sits incoming outgoing) standing (view_of vacant) c) none stood.1)
+            (sits vacant.pass),
+      )
 
   -- The client was closed, and its session was counted.
   pub closed_at : (old new : Seated B T) (client : Sitting T) (served : Served) (book' : B) →

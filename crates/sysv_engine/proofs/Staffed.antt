@@ -117,8 +117,7 @@ module _ {T B : Type 0} (incoming outgoing : T → Option (List ℕ)) (closes : 
         All (run.IsFresh places view_of St) ws
     fresh [] opened some = λ k d low. absurd (omega arith)
     fresh (w ∷ ws) opened some =
-        All-cons (run.IsFresh places view_of St) w ws
-        (
+        All-cons (run.IsFresh places view_of St) w ws (
           All-head (λ w. 1 ≤ length (places w)) w ws some,
           begun_stand (places w) (first_all (IsOpened gates) (places w) (all_of ws) opened),
         )
@@ -130,8 +129,7 @@ module _ {T B : Type 0} (incoming outgoing : T → Option (List ℕ)) (closes : 
         All (λ w. IsStaffed incoming outgoing closes gates (places w)) ws
     staffed [] opened some = λ k d low. absurd (omega arith)
     staffed (w ∷ ws) opened some =
-        All-cons (λ w. IsStaffed incoming outgoing closes gates (places w)) w ws
-        (
+        All-cons (λ w. IsStaffed incoming outgoing closes gates (places w)) w ws (
           All-head (λ w. 1 ≤ length (places w)) w ws some,
           (
             begun (places w),

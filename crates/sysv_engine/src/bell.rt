@@ -1,5 +1,4 @@
 //! A bell: one thread rings it, and others wait for it in a `poll`.
-use crate::moment::NO_DESCRIPTOR;
 use libc::net::{EFD_CLOEXEC, EFD_NONBLOCK, eventfd};
 use libc::{close, read, write};
 
@@ -12,26 +11,15 @@ pub(crate) struct Bell {
 }
 
 impl Bell {
-    /// Returns a bell without a descriptor. Nobody hears it.
-    pub(crate) fn none() -> Bell {
-        Bell { fd: NO_DESCRIPTOR }
+    /// Opens a bell. Returns `None` if the system refuses a descriptor.
+    pub(crate) fn open() -> Option<Bell> {
+        let fd = eventfd(0, EFD_CLOEXEC | EFD_NONBLOCK);
+        if fd < 0 { None } else { Some(Bell { fd }) }
     }
 
-    /// Opens a bell. If the system refuses a descriptor, it has none.
-    pub(crate) fn open() -> Bell {
-        Bell {
-            fd: eventfd(0, EFD_CLOEXEC | EFD_NONBLOCK),
-        }
-    }
-
-    /// Returns the descriptor, or a negative number.
+    /// Returns the descriptor.
     pub(crate) fn fd(&self) -> i32 {
         self.fd
-    }
-
-    /// Returns whether the bell has a descriptor.
-    pub(crate) fn is_open(&self) -> bool {
-        self.fd >= 0
     }
 
     /// Rings the bell.
@@ -48,9 +36,6 @@ impl Bell {
 
 impl Drop for Bell {
     fn drop(self) {
-        let Bell { fd } = self;
-        if fd >= 0 {
-            close(fd);
-        }
+        close(self.fd);
     }
 }

@@ -92,10 +92,7 @@ impl Common {
         patience: Patience,
         drain: u32,
     ) -> Option<Common> {
-        let turn = Bell::open();
-        if !turn.is_open() {
-            return None;
-        }
+        let turn = Bell::open()?;
         let posts = open_posts(alloc, workers)?;
         let words = open_words(alloc)?;
         Some(Common {
@@ -329,10 +326,7 @@ impl Common {
 impl Post {
     /// Opens the post of a worker. Returns `None` if memory or a descriptor is refused.
     fn open(alloc: Global) -> Option<Post> {
-        let bell = Bell::open();
-        if !bell.is_open() {
-            return None;
-        }
+        let bell = Bell::open()?;
         Some(Post {
             bell,
             asleep: AtomicBool::new(false),

@@ -28,10 +28,10 @@ mod times;
 mod watch;
 mod worker;
 
+pub use common::Common;
+pub use connections::{serve_all, serve_connections};
 pub use fault::ServeFault;
 pub use laws::{each_life_is_one_run, each_session_makes_calls};
 pub use sums::Sums;
 pub use terms::{Ended, Patience};
-pub use common::Common;
-pub use connections::{serve_all, serve_connections};
 pub use watch::{Polled, Ready, Watch, watches};

@@ -184,9 +184,14 @@ impl Lines {
     /// Returns the first places of the lines in which a receive may name a message of this type at
     /// this slot.
     pub(crate) fn receivers(&self, slot: usize, mtype: i64) -> [Option<usize>; 4] {
-        let Some(SlotLines {
-            any, up_to, except, ..
-        }) = self.slots.get(slot)
+        let Some(
+            SlotLines {
+                any,
+                up_to,
+                except,
+                ..
+            },
+        ) = self.slots.get(slot)
         else {
             return [None; 4];
         };

@@ -2,8 +2,6 @@
 use libc::net::{POLLIN, poll};
 use libc::types::{pollfd, timespec};
 use libc::{CLOCK_MONOTONIC, clock_gettime};
-use std::io;
-use std::io::ErrorKind;
 
 /// A descriptor that refers to no file. `poll` ignores negative descriptors.
 pub(crate) const NO_DESCRIPTOR: i32 = -1;
@@ -11,9 +9,6 @@ pub(crate) const NO_DESCRIPTOR: i32 = -1;
 const MILLIS_PER_SECOND: u64 = 1000;
 
 const NANOS_PER_MILLI: i64 = 1_000_000;
-
-/// The time between two looks at what a bell would tell.
-const SHORT_MILLIS: i32 = 10;
 
 /// A point in time: a number of milliseconds since some start. The time in which the system is
 /// suspended does not count.
@@ -57,48 +52,14 @@ pub(crate) fn pause(millis: i32) {
     poll(&mut [asking(NO_DESCRIPTOR, 0)], millis);
 }
 
-/// Waits until the bell is rung, or until the deadline. Without a bell it waits a little.
+/// Waits until the bell is rung, or until the deadline.
 pub(crate) fn await_bell(bell: i32, deadline: Option<Moment>) {
-    let limit = bell_timeout(bell, deadline.map(Moment::left));
+    let limit = timeout(deadline.map(Moment::left));
     poll(&mut [asking(bell, POLLIN)], limit);
 }
 
-/// Returns the time limit of a wait for this bell: that of `timeout`, or a short one without a bell.
-pub(crate) fn bell_timeout(bell: i32, left: Option<u64>) -> i32 {
-    if bell < 0 {
-        SHORT_MILLIS
-    } else {
-        timeout(left)
-    }
-}
-
-/// Waits until `fd` has one of these events. Fails if `cut` can be read, or if the deadline passes
-/// and `fd` has none of the events then.
-pub(crate) fn await_ready(
-    fd: i32,
-    events: i16,
-    cut: i32,
-    deadline: Option<Moment>,
-) -> io::Result<()> {
-    for _ in 0..u64::MAX {
-        let left = deadline.map(Moment::left);
-        let mut asked = [asking(fd, events), asking(cut, POLLIN)];
-        let ready = poll(&mut asked, timeout(left));
-        if ready > 0 && asked[1].revents != 0 {
-            return Err(io::Error::from(ErrorKind::ConnectionAborted));
-        }
-        if ready > 0 {
-            return Ok(());
-        }
-        if left == Some(0) {
-            break;
-        }
-    }
-    Err(io::Error::from(ErrorKind::TimedOut))
-}
-
 /// Returns the time limit of a `poll` for this number of milliseconds, or none.
-pub(crate) fn timeout(left: Option<u64>) -> i32 {
+fn timeout(left: Option<u64>) -> i32 {
     match left {
         Some(millis) => i32::try_from(millis).unwrap_or(i32::MAX),
         None => -1,
