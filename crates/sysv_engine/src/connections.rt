@@ -9,7 +9,7 @@ ghost use Rattle.sysv_engine.specs.Serving.{FaultOf, HasLived, HiredFrom, Leaves
 
 use crate::common::Common;
 use crate::crew::{dismiss, hire};
-use crate::dealing::Dealing;
+use crate::dealing::{Dealing, shares};
 use crate::fault::ServeFault;
 use crate::laws::each_life_is_one_run;
 use crate::rounds::Serving;
@@ -154,7 +154,7 @@ where
         books.new.items) }
 {
     let count = watches.len();
-    let Ok(told) = vec![in alloc; 1u64; count] else {
+    let Some(shares) = shares(alloc, count, books.len()) else {
         return Err(ServeFault::NoMemory);
     };
     let Some(kits) = kits(alloc, watches, books.len()) else {
@@ -177,7 +177,7 @@ where
         service,
         common,
     };
-    let mut dealing = Dealing::new(source, common, told);
+    let mut dealing = Dealing::new(source, common, shares);
     match run_crowd(rt, alloc, workers, &mut dealing, &job) {
         Ok(workers) => {
             gather(workers, &mut places);

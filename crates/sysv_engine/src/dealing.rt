@@ -2,79 +2,112 @@
 ghost use Rattle.std.specs.Prelude.{◌≡◌};
 
 use crate::common::Common;
+use std::alloc::Global;
 use sysv_workers::Source;
+
+/// What a worker has for clients, and what it was given.
+#[derive(Clone, Copy)]
+pub(crate) struct Share {
+    /// The number of its places.
+    places: u64,
+    /// The number of connections that it was told to take, and the one that it takes untold.
+    told: u64,
+}
+
+/// Returns the shares of this number of workers of this number of places. Returns `None` if memory
+/// is refused.
+pub(crate) fn shares(alloc: Global, workers: usize, places: usize) -> Option<Vec<Share>> {
+    let none = Share { places: 0, told: 1 };
+    let mut shares = vec![in alloc; none; workers].ok()?;
+    let mut left = places;
+    for worker in (0..workers).rev() {
+        // (places are shared out from the last worker to the first)
+        let own = left / worker.saturating_add(1);
+        left -= own;
+        if let Some(share) = shares.get_mut(worker) {
+            share.places = own as u64;
+        }
+    }
+    Some(shares)
+}
 
 /// A source that tells a worker about each connection that another source returns.
 ///
 /// A worker serves the clients that it has, and takes a connection only if it is told to. The first
 /// connections, one for each worker, need no telling: at first all workers wait for one. For each
-/// later connection one worker is told, just before the connection is returned, so that the worker
-/// does not wait for it.
+/// later connection the worker with the most vacant places is told, just before the connection is
+/// returned, so that the worker does not wait for it.
 #[derive(Drop)]
 pub(crate) struct Dealing<'s, 'c, S> {
     source: &'s mut S,
     common: &'c Common,
     /// The number of connections that were returned, up to the number of workers.
     dealt: usize,
-    /// The number of connections that each worker was told to take.
-    told: Vec<u64>,
+    /// The shares of the workers.
+    shares: Vec<Share>,
     /// The worker after the one that was told last.
     next: usize,
 }
 
 impl<'s, 'c, S> Dealing<'s, 'c, S> {
-    /// Creates a source that has returned no connection. `told` has a 1 for each worker.
-    pub(crate) fn new(source: &'s mut S, common: &'c Common, told: Vec<u64>) -> Dealing<'s, 'c, S> {
+    /// Creates a source that has returned no connection.
+    pub(crate) fn new(
+        source: &'s mut S,
+        common: &'c Common,
+        shares: Vec<Share>,
+    ) -> Dealing<'s, 'c, S> {
         Dealing {
             source,
             common,
             dealt: 0,
-            told,
+            shares,
             next: 0,
         }
     }
 
-    /// Tells the worker with the fewest clients to take one more connection.
+    /// Tells the worker with the most vacant places to take one more connection.
     fn tell(&mut self)
         ensures { self.new.source ≡ self.old.source }
     {
-        let worker = self.fewest();
+        let worker = self.emptiest();
         self.next = self.after(worker);
-        if let Some(told) = self.told.get_mut(worker) {
-            *told = told.saturating_add(1);
+        if let Some(share) = self.shares.get_mut(worker) {
+            share.told = share.told.saturating_add(1);
         }
         self.common.call(worker);
     }
 
-    /// Returns the worker with the fewest clients. Of several it returns the first one, and begins
-    /// after the worker that was told last.
-    fn fewest(&self) -> usize {
+    /// Returns the worker with the most vacant places. Of several it returns the first one, and
+    /// begins after the worker that was told last.
+    fn emptiest(&self) -> usize {
         let mut best = self.next;
-        let mut least = u64::MAX;
+        let mut most = 0;
         let mut worker = self.next;
-        for _ in 0..self.told.len() {
-            let clients = self.clients(worker);
-            if clients < least {
+        for _ in 0..self.shares.len() {
+            let vacant = self.vacant(worker);
+            if vacant > most {
                 best = worker;
-                least = clients;
+                most = vacant;
             }
             worker = self.after(worker);
         }
         best
     }
 
-    /// Returns the number of clients that a worker has or was told to take.
-    fn clients(&self, worker: usize) -> u64 {
-        match self.told.get(worker) {
-            Some(told) => told.saturating_sub(self.common.closed(worker)),
-            None => u64::MAX,
-        }
+    /// Returns the number of a worker's places that have no client, and for which it was told to
+    /// take none.
+    fn vacant(&self, worker: usize) -> u64 {
+        let Some(share) = self.shares.get(worker) else {
+            return 0;
+        };
+        let clients = share.told.saturating_sub(self.common.closed(worker));
+        share.places.saturating_sub(clients)
     }
 
     /// Returns the worker after this one, or the first worker after the last one.
     fn after(&self, worker: usize) -> usize {
         let next = worker.saturating_add(1);
-        if next < self.told.len() { next } else { 0 }
+        if next < self.shares.len() { next } else { 0 }
     }
 }
 
@@ -86,7 +119,7 @@ impl<T, S: Source<T>> Source<T> for Dealing<'_, '_, S> {
             self.common.finish();
             return None;
         };
-        if self.dealt < self.told.len() {
+        if self.dealt < self.shares.len() {
             self.dealt += 1;
         } else {
             self.tell();

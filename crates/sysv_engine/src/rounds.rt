@@ -14,6 +14,9 @@ use sysv_service::Service;
 use sysv_session::End;
 use sysv_workers::Job;
 
+/// Of this number of messages a worker offers all but one to its own clients first.
+const OWN_MESSAGES: usize = 8;
+
 /// The job that serves the clients of a worker.
 ///
 /// A run takes one more connection, and then serves the clients of the worker until the worker is
@@ -260,8 +263,44 @@ impl<'a, 'c, R: Wait> Serving<'a, 'c, R> {
             let Some(letter) = worker.letters.pop_front() else {
                 return;
             };
-            self.heed(worker, letter);
+            self.send_off(worker, letter);
         }
+    }
+
+    /// Looks at the parked calls that the news of a letter of this worker may end, here first or, in
+    /// turn, in another worker first.
+    fn send_off<T: NonBlocking, W: Watch<T>>(
+        &self,
+        worker: &mut Worker<'_, R, T, W>,
+        letter: Letter,
+    )
+        ensures { KeepsAll T.incoming T.outgoing T.closes worker.old.places.items
+            worker.new.places.items }
+    {
+        worker.written = worker.written.wrapping_add(1);
+        let first = self.first_for(&letter, worker.number, worker.written);
+        if first == worker.number {
+            self.heed(worker, letter);
+        } else {
+            self.pass_on(first, letter);
+        }
+    }
+
+    /// Returns the worker that looks first at the parked calls that the news of a letter may end.
+    ///
+    /// The fastest way is the worker that wrote the letter. But with each letter about room, and with
+    /// every eighth about a message, it is another worker's turn: else the clients of one worker
+    /// might have all, and those of the others wait.
+    fn first_for(&self, letter: &Letter, writer: usize, written: usize) -> usize {
+        let turn = match letter.news {
+            News::Freed { .. } | News::Released => written,
+            News::Arrived { .. } if written % OWN_MESSAGES == 0 => written / OWN_MESSAGES,
+            News::Arrived { .. } | News::Changed { .. } => return writer,
+        };
+        next_of(
+            letter.rest,
+            turn.checked_rem(self.common.workers()).unwrap_or(0),
+        )
     }
 
     /// Keeps what calls have changed since the last time, if calls that wait for it are parked.
@@ -320,17 +359,18 @@ impl<'a, 'c, R: Wait> Serving<'a, 'c, R> {
         letter.rest &= !own;
         let is_done = is_here && self.look_for(worker, &mut letter);
         if !is_done {
-            self.pass_on(worker.number, letter);
+            self.pass_on(worker.number.wrapping_add(1), letter);
         }
     }
 
-    /// Gives a letter to the next worker that has not had it, or to all of them.
-    fn pass_on(&self, number: usize, mut letter: Letter) {
+    /// Gives a letter to the first worker that has not had it, from the one of this number on, or to
+    /// all of them.
+    fn pass_on(&self, from: usize, mut letter: Letter) {
         for _ in 0..self.common.workers() {
             if letter.rest == 0 {
                 return;
             }
-            let next = next_of(letter.rest, number);
+            let next = next_of(letter.rest, from);
             letter.rest &= !bit(next);
             let is_for_all = matches!(letter.news, News::Changed { .. });
             let rest = letter.rest;
@@ -585,10 +625,10 @@ fn is_over(due: Option<Moment>) -> bool {
     due.is_some_and(|due| due.left() == 0)
 }
 
-/// Returns the first worker of these after this one, or else the first of these.
-fn next_of(workers: u64, number: usize) -> usize {
-    let own = bit(number);
-    let later = workers & !(own | own.wrapping_sub(1));
+/// Returns the first worker of these from this one on, or else the first of these.
+fn next_of(workers: u64, from: usize) -> usize {
+    let before = bit(from).wrapping_sub(1);
+    let later = workers & !before;
     let among = if later == 0 { workers } else { later };
     among.trailing_zeros() as usize
 }

@@ -36,6 +36,8 @@ pub(crate) struct Worker<'a, R: Wait, T: NonBlocking, W> {
     pub(crate) answered: u64,
     /// When to look for clients whose time is over.
     pub(crate) check: Option<Moment>,
+    /// The number of letters that this worker has written, modulo 2^64.
+    pub(crate) written: usize,
 }
 
 /// The tools of a worker, and room for its places.
@@ -131,6 +133,7 @@ impl<'a, R: Wait, T: NonBlocking, W: Watch<T>> Worker<'a, R, T, W> {
             tools,
             answered: 0,
             check: None,
+            written: 0,
         }
     }
 
@@ -152,6 +155,7 @@ impl<'a, R: Wait, T: NonBlocking, W: Watch<T>> Worker<'a, R, T, W> {
             tools: _,
             answered: _,
             check: _,
+            written: _,
         } = self;
         places
     }
