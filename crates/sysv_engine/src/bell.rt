@@ -36,6 +36,7 @@ impl Bell {
 
 impl Drop for Bell {
     fn drop(self) {
-        close(self.fd);
+        let Bell { fd } = self;
+        close(fd);
     }
 }
