@@ -364,7 +364,7 @@ impl<T: NonBlocking> Client<T> {
         match self.connection.fill(&mut tools.arrived) {
             Filled::Bytes(count) => {
                 // (a peer that has left is reported once, so its connection is read to the end)
-                self.is_ready = self.has_left || count == tools.arrived.len();
+                self.is_ready = self.has_left | (count == tools.arrived.len());
                 self.arrive(&tools.arrived[..count]);
                 self.take_share(kernel, tools);
             }
