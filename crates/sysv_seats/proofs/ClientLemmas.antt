@@ -22,7 +22,7 @@ use Rattle.sysv_seats.specs.Asked.{asks_with}
 use Rattle.sysv_seats.specs.InPieces.{left}
 use Rattle.sysv_seats.specs.Sits.{Arrives, HasFrame, HasStopped, IsAt, IsBehind, IsCounted, IsFree, IsOver}
 use Rattle.sysv_seats.specs.Sits.{IsReady}
-use Rattle.sysv_seats.specs.Sits.{Keeps, KeepsWith, Sits, Sitting, stopped_for, with_input, zero_moment}
+use Rattle.sysv_seats.specs.Sits.{Keeps, KeepsWith, Sits, Sitting, broken_off, stopped_for, with_input, zero_moment}
 use Rattle.sysv_seats.specs.declared.non_blocking.Drained.TheVariants.{Took}
 use Rattle.sysv_seats.specs.NonBlocking.{DrainAppends}
 use Rattle.sysv_seats.specs.Untold.{Closing}
@@ -132,6 +132,7 @@ module _ {T : Type 0} (incoming outgoing : T → Option (List ℕ)) where
     input = client.input;
     parked = client.parked;
     stopped = client.stopped;
+    broken = client.broken;
   }
 
   -- The client, which has left its call. This is its input.
@@ -142,6 +143,7 @@ module _ {T : Type 0} (incoming outgoing : T → Option (List ℕ)) where
     input = input;
     parked = None;
     stopped = Some Left;
+    broken = client.broken;
   }
 
   -- One event after another.
@@ -270,6 +272,36 @@ module _ {T : Type 0} (incoming outgoing : T → Option (List ℕ)) where
   arrives client new connection bytes free took none same (inr is) =
       subst (Keeps incoming outgoing client) (sym is) (arrives_not client connection bytes free took same)
 
+  -- The connection takes no more replies.
+  broken_at : (start : Pass) (origin : T) (client : Sitting T) (now : Pass) (sent : List ℕ) (parked : Option Parked)
+      (stopped : Option End) → IsAt incoming outgoing start origin client now sent parked stopped →
+      IsAt incoming outgoing start origin (broken_off client) now sent parked stopped
+  broken_at start origin client now sent None None at = at
+  broken_at start origin client now sent (Some parked) None at = record {
+    text = at.text;
+    before = at.before;
+    later = at.later;
+    asking = at.asking;
+    frame = at.frame;
+    size = at.size;
+    waits = at.waits;
+  }
+  broken_at start origin client now sent None (Some why) at = at
+  broken_at start origin client now sent (Some parked) (Some why) at = absurd at
+
+  breaks : (client : Sitting T) → Keeps incoming outgoing client (broken_off client)
+  breaks client = λ now start origin sits. record {
+    sent = sits.sent;
+    wrote = sits.wrote;
+    at = broken_at start origin client now sits.sent client.parked client.stopped sits.at;
+  }
+
+  -- The same, and then what keeps the session.
+  pub breaks_then : (old client new : Sitting T) → client ≡ old →
+      Keeps incoming outgoing (broken_off client) new → Keeps incoming outgoing old new
+  breaks_then old client new view keeps =
+      keeps_from old client new view (keeps_then client (broken_off client) new (breaks client) keeps)
+
   -- A client without a parked call is given up: it stops, unless it has stopped.
   pub breaks_reading : (old mid new : Sitting T) → Keeps incoming outgoing old mid → IsFree mid →
       new ≡ stopped_for (Fault Read) mid → Keeps incoming outgoing old new
@@ -277,13 +309,13 @@ module _ {T : Type 0} (incoming outgoing : T → Option (List ℕ)) where
       keeps_to old (stopped_for (Fault Read) mid) new is
       (keeps_then old mid (stopped_for (Fault Read) mid) keeps (stops_reading mid free))
 
-  pub breaks_writing : (old client mid new : Sitting T) → client ≡ old → Keeps incoming outgoing client mid →
-      mid.talk ≡ client.talk → IsFree mid → old.talk.unsent.bytes ≢ [] → new ≡ stopped_for Write mid →
-      Keeps incoming outgoing old new
+  pub breaks_writing : (old client mid new : Sitting T) → client ≡ old →
+      Keeps incoming outgoing (broken_off client) mid → mid.talk ≡ client.talk → IsFree mid →
+      old.talk.unsent.bytes ≢ [] → new ≡ stopped_for Write mid → Keeps incoming outgoing old new
   breaks_writing old client mid new view keeps same free some is =
       let talk = same ∙ ap (λ (c : Sitting T). c.talk) view in
       keeps_to old (stopped_for Write mid) new is
-      (keeps_then old mid (stopped_for Write mid) (keeps_from old client mid view keeps)
+      (keeps_then old mid (stopped_for Write mid) (breaks_then old client mid view keeps)
       (stops_writing mid free (subst (λ (t : Talk). t.unsent.bytes ≢ []) (sym talk) some)))
 
   -- It has no parked call, and by its fields it has not stopped.
@@ -423,6 +455,7 @@ module _ {T : Type 0} (incoming outgoing : T → Option (List ℕ)) where
     input = client.input;
     parked = client.parked;
     stopped = client.stopped;
+    broken = client.broken;
   }
 
   drained_at : (start : Pass) (origin : T) (client : Sitting T) (connection : T) (n : ℕ) (now : Pass) (sent : List ℕ)
@@ -475,6 +508,7 @@ module _ {T : Type 0} (incoming outgoing : T → Option (List ℕ)) where
     input = client.input;
     parked = client.parked;
     stopped = client.stopped;
+    broken = client.broken;
   }
 
   pub took : (client : Sitting T) (connection : T) (talk : Talk) (n : ℕ) (bytes : List ℕ) →

@@ -4,6 +4,7 @@ pub mod Requests
 pub mod Asked
 pub mod KernelHandles
 pub mod Parked
+pub mod News
 pub mod InPieces
 pub mod Untold
 pub mod Memory

@@ -2,8 +2,8 @@
 -- its connection and was not taken up is its input. A client either can take up more, or has a call
 -- that is parked, or has stopped: then it takes up no more, and the replies that were gathered are
 -- still given to its connection.
-use Rattle.std.specs.Prelude.{◌≡◌, ◌≤◌, ◌<◌, ◌+◌, ◌-◌, ◌⊎◌, ◌^◌, ⊤, ℕ, Bool, true, false, List, ◌++◌}
-use Rattle.std.specs.Prelude.{Option, None, Some}
+use Rattle.std.specs.Prelude.{◌≡◌, ◌≤◌, ◌<◌, ◌+◌, ◌-◌, ◌⊎◌, ◌^◌, ◌||◌, ◌&&◌, ◌==◌, ⊤, ℕ, Bool, true, false, List, ◌++◌}
+use Rattle.std.specs.Prelude.{Option, None, Some, is_some}
 use Rattle.std.specs.Prelude.{IfSome, Result, length}
 use Rattle.std.specs.Io.KnownBytes.{Appends, Consumes, prepend_known}
 use Rattle.sysv_keys.specs.declared.identifier.TheConstants.{SLOTS}
@@ -49,6 +49,7 @@ pub record Sitting (T : Type 0) : Type 0 where
   pub input : List ℕ
   pub parked : Option Parked
   pub stopped : Option End
+  pub broken : Bool  -- the connection takes no more replies
 
 -- Of the input that a session left, the connection still has this: what was not read ahead.
 abbrev pub IsBehind : (rest kept : Option (List ℕ)) → Type 0
@@ -147,6 +148,7 @@ module _ {T : Type 0} where
     input = client.input;
     parked = client.parked;
     stopped = client.stopped;
+    broken = client.broken;
   }
 
   abbrev pub with_input : List ℕ → Sitting T → Sitting T
@@ -156,6 +158,7 @@ module _ {T : Type 0} where
     input = input;
     parked = client.parked;
     stopped = client.stopped;
+    broken = client.broken;
   }
 
   abbrev pub stopped_for : End → Sitting T → Sitting T
@@ -165,7 +168,24 @@ module _ {T : Type 0} where
     input = client.input;
     parked = client.parked;
     stopped = Some why;
+    broken = client.broken;
   }
+
+  -- The client, whose connection takes no more replies.
+  abbrev pub broken_off : Sitting T → Sitting T
+  broken_off client = record {
+    connection = client.connection;
+    talk = client.talk;
+    input = client.input;
+    parked = client.parked;
+    stopped = client.stopped;
+    broken = true;
+  }
+
+  -- Nothing is left to do but to close the client: its connection takes no more replies, or it has
+  -- stopped and its connection has taken all of them.
+  abbrev pub is_finished : Sitting T → Bool
+  is_finished client = client.broken || (is_some client.stopped && (length client.talk.unsent.bytes == 0))
 
   -- These bytes were appended to the input, or memory for them was refused.
   abbrev pub Arrives : List ℕ → Sitting T → Sitting T → Type 0

@@ -6,8 +6,9 @@ ghost use Rattle.sysv_session.specs.Answers.{IsAsked};
 ghost use Rattle.sysv_session.specs.TakenUp.{TakesUp};
 ghost use Rattle.sysv_wire.specs.Requests.{op_of, request_spelling};
 ghost use Rattle.sysv_seats.specs.KernelHandles.{KeepsHandles};
+ghost use Rattle.sysv_seats.specs.News.{Keeps as KeepsNews, news_of, told_of};
 ghost use Rattle.sysv_seats.specs.Parked.{HasBegun, MayProgress};
-ghost use Rattle.sysv_seats.specs.Sits.{Arrives, GreetsAs, HasAsked, IsFree, IsOver, IsPending, Keeps, KeepsWith, ReadsNext, Sits, is_early as early, parked_bytes, parked_wait, stopped_for, zero_moment};
+ghost use Rattle.sysv_seats.specs.Sits.{Arrives, GreetsAs, HasAsked, IsFree, IsOver, IsPending, Keeps, KeepsWith, ReadsNext, Sits, is_early as early, is_finished, parked_bytes, parked_wait, stopped_for, zero_moment};
 
 use crate::kernel::ServiceKernel;
 use crate::news::Told;
@@ -58,7 +59,7 @@ pub struct Client<T: NonBlocking> {
     has_left: bool,
     /// Whether the connection is of no use any more.
     is_broken: bool,
-    /// The number of requests that were taken up, modulo 2^64.
+    /// The number of requests that were taken up, including the hello, modulo 2^64.
     requests: u64,
     /// The number of bytes of replies that the connection has taken, modulo 2^64.
     sent: u64,
@@ -76,6 +77,7 @@ impl<T: NonBlocking> Model for Client<T> {
       input = drop c.start c.input.items;
       parked = c.parked;
       stopped = c.stopped;
+      broken = c.is_broken;
     } };
 
     ghost invariant = { λ c. (c.start ≤ vec_len c.input)
@@ -152,7 +154,7 @@ impl<T: NonBlocking> Client<T> {
         self.conversation.waiting_bytes()
     }
 
-    /// Returns the number of requests that were taken up, modulo 2^64.
+    /// Returns the number of requests that were taken up, including the hello, modulo 2^64.
     pub fn requests(&self) -> u64 {
         self.requests
     }
@@ -162,8 +164,11 @@ impl<T: NonBlocking> Client<T> {
         self.sent
     }
 
-    /// Returns whether a request has begun that has not arrived whole.
-    pub fn is_within_request(&self) -> bool {
+    /// Returns whether bytes have arrived that were not taken up: the beginning of a request, whole
+    /// requests, or the request of a parked call.
+    pub fn is_within_request(&self) -> bool
+        ensures { result ≡ not (length self.now.input == 0) }
+    {
         self.start < self.input.len()
     }
 
@@ -175,12 +180,16 @@ impl<T: NonBlocking> Client<T> {
     }
 
     /// Returns whether `take_turn` would go on.
-    pub fn has_more(&self) -> bool {
+    pub fn has_more(&self) -> bool
+        ensures { result ≡ true → IsFree self.now }
+    {
         !self.is_held() && (self.is_ready || self.has_input)
     }
 
     /// Returns whether nothing is left to do but to close the client.
-    pub fn is_over(&self) -> bool {
+    pub fn is_over(&self) -> bool
+        ensures { result ≡ is_finished self.now }
+    {
         self.is_broken || (self.stopped.is_some() && self.unsent_bytes() == 0)
     }
 
@@ -204,6 +213,7 @@ impl<T: NonBlocking> Client<T> {
     /// replies.
     pub fn cut(&mut self)
         ensures keeps { Keeps T.incoming T.outgoing self.old self.new }
+        ensures broken { self.new.broken ≡ true }
     {
         self.is_broken = true;
         self.give_up();
@@ -215,6 +225,7 @@ impl<T: NonBlocking> Client<T> {
     /// Gives the connection as many bytes of the replies as it takes now.
     pub fn drain(&mut self)
         ensures keeps { Keeps T.incoming T.outgoing self.old self.new }
+        ensures broken { self.old.broken ≡ true → self.new ≡ self.old }
     {
         if self.is_broken || self.conversation.is_empty() {
             return;
@@ -301,7 +312,7 @@ impl<T: NonBlocking> Client<T> {
         ensures keeps { Keeps T.incoming T.outgoing self.old self.new }
         ensures none { self.new.parked ≡ None }
         ensures same { (self.new.connection ≡ self.old.connection)
-            × (self.new.talk ≡ self.old.talk) }
+            × (self.new.talk ≡ self.old.talk) × (self.new.broken ≡ self.old.broken) }
     {
         let Some(parked) = self.parked else {
             return;
@@ -332,6 +343,7 @@ impl<T: NonBlocking> Client<T> {
     fn fail(&mut self)
         requires { self.old.talk.unsent.bytes ≢ [] }
         ensures keeps { Keeps T.incoming T.outgoing self.old self.new }
+        ensures broken { self.new.broken ≡ true }
     {
         self.is_broken = true;
         self.give_up();
@@ -418,7 +430,7 @@ impl<T: NonBlocking> Client<T> {
         ensures handles { KeepsHandles kernel.old kernel.new }
     {
         let (size, taken) = self.read_next(&mut tools.text);
-        self.requests = self.requests.wrapping_add(1);
+        self.requests = self.requests.wrapping_add(u64::from(taken.is_ok()));
         match taken {
             Ok(TakenUp::Hello(version)) => {
                 self.start += size;
@@ -496,8 +508,10 @@ impl<T: NonBlocking> Client<T> {
         requires answer { MayProgress request.version request.ask progress tools.old.given }
         ensures keeps { (start before now : Pass) (origin : T) (text : List ℕ) →
             HasAsked T.incoming T.outgoing start origin self.old cred request text size before →
-            HasBegun zero_moment request.version cred request.ask text before progress tools.old.given now →
+            HasBegun zero_moment request.version cred request.ask text before progress
+            tools.old.given now →
             Sits T.incoming T.outgoing start origin self.new now }
+        ensures news { KeepsNews (news_of (told_of request.ask progress)) tools.old tools.new }
     {
         match progress {
             Progress::Over(outcome) => {

@@ -1,4 +1,6 @@
 //! What a call may have changed for calls that wait.
+ghost use Rattle.std.specs.Prelude.{◌≡◌};
+ghost use Rattle.sysv_seats.specs.News.{changed_by, freed_by, is_done as does, told_at, told_by};
 
 use crate::waiting::Waiting;
 use sysv_keys::slot_of_id;
@@ -23,9 +25,9 @@ pub enum News {
         /// The message's type.
         mtype: i64,
     },
-    /// Blocks were returned to the pool.
+    /// Blocks were returned to the pool, or a queue was set or removed.
     Released,
-    /// The queue of this slot was removed, or its limits were set.
+    /// The queue of this slot was set or removed.
     Changed {
         /// The slot, below `sysv_keys::SLOTS`.
         slot: usize,
@@ -37,53 +39,63 @@ pub enum News {
 pub struct Told {
     /// What it may have changed at a slot.
     pub there: Option<News>,
-    /// Whether blocks may have been returned to the pool.
+    /// Whether it may have raised the released count of the pool.
     pub released: bool,
 }
 
 impl Told {
     /// Returns what a call changes that has come to this wait. A send that waits for room may have
     /// reserved blocks and returned them.
-    pub(crate) fn by_wait(waiting: &Waiting) -> Told {
+    pub(crate) fn by_wait(waiting: &Waiting) -> Told
+        ensures { result ≡ told_at waiting.now }
+    {
         Told {
             there: None,
             released: matches!(waiting, Waiting::Send(SendWait::Room { .. })),
         }
     }
 
-    /// Returns what a call changes that is over.
-    pub(crate) fn by_end(request: &Request, outcome: &RequestOutcome) -> Told {
+    /// Returns what a call changes that is over. A send that is refused may have reserved blocks and
+    /// returned them. A queue that is set counts as a return of blocks, so that sends that wait for
+    /// blocks look at it again.
+    pub(crate) fn by_end(request: &Request, outcome: &RequestOutcome) -> Told
+        ensures { result ≡ told_by request.now.ask outcome.now }
+    {
         Told {
             there: there(request, outcome),
             released: match request.ask {
                 Ask::Snd { .. } => !is_done(outcome),
-                Ask::Rcv { .. } | Ask::Rm { .. } => is_done(outcome),
+                Ask::Rcv { .. } | Ask::Set { .. } | Ask::Rm { .. } => is_done(outcome),
                 _ => false,
             },
         }
     }
 }
 
-/// Returns what the call may have changed at a slot.
-fn there(request: &Request, outcome: &RequestOutcome) -> Option<News> {
+/// Returns what the call changed at a slot.
+fn there(request: &Request, outcome: &RequestOutcome) -> Option<News>
+    ensures { result ≡ changed_by request.now.ask outcome.now }
+{
     match request.ask {
+        Ask::Rcv { id, .. } => freed(id, outcome),
         Ask::Snd { id, mtype, .. } if is_done(outcome) => Some(News::Arrived {
             slot: slot_of_id(id),
             mtype,
         }),
-        Ask::Rcv { id, .. } => freed(id, outcome),
-        Ask::Set { id, .. } => Some(News::Changed {
+        Ask::Set { id, .. } if is_done(outcome) => Some(News::Changed {
             slot: slot_of_id(id),
         }),
-        Ask::Rm { id } => Some(News::Changed {
+        Ask::Rm { id } if is_done(outcome) => Some(News::Changed {
             slot: slot_of_id(id),
         }),
         _ => None,
     }
 }
 
-/// Returns what a receive has changed.
-fn freed(id: i32, outcome: &RequestOutcome) -> Option<News> {
+/// Returns what a receive of this queue changed.
+fn freed(id: i32, outcome: &RequestOutcome) -> Option<News>
+    ensures { result ≡ freed_by id outcome.now }
+{
     match outcome {
         RequestOutcome::Got(delivery) => Some(News::Freed {
             slot: slot_of_id(id),
@@ -94,7 +106,9 @@ fn freed(id: i32, outcome: &RequestOutcome) -> Option<News> {
 }
 
 /// Returns whether the call did what was requested.
-fn is_done(outcome: &RequestOutcome) -> bool {
+fn is_done(outcome: &RequestOutcome) -> bool
+    ensures { result ≡ does outcome.now }
+{
     match outcome {
         RequestOutcome::Reply(reply) => !matches!(reply.result, ReplyContent::Refused(_)),
         RequestOutcome::Got(_) => true,

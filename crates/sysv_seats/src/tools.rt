@@ -1,5 +1,8 @@
 //! What the clients of one worker use one after another.
-ghost use Rattle.std.specs.Prelude.{◌≡◌};
+ghost use Rattle.std.specs.Prelude.{◌≡◌, ◌∷◌, [], IfOk, vec_capacity};
+ghost use Rattle.std.specs.List.{list_any};
+ghost use Rattle.sysv_seats.specs.declared.tools.TheConstants.{MOST_NEWS};
+ghost use Rattle.sysv_seats.specs.News.{Keeps, TakesLast, is_taken, news_in, news_of};
 
 use crate::news::{News, Told};
 use std::alloc::Global;
@@ -26,12 +29,15 @@ pub struct Tools {
 }
 
 impl Tools {
-    /// Allocates the buffers.
+    /// Allocates the buffers. There are no news.
     ///
     /// # Errors
     ///
     /// - `NoMemory` if allocation fails.
-    pub fn open(alloc: Global) -> Result<Tools, NoMemory> {
+    pub fn open(alloc: Global) -> Result<Tools, NoMemory>
+        ensures news { IfOk result (λ tools. news_in tools ≡ []) }
+        ensures room { IfOk result (λ tools. vec_capacity tools.news ≡ MOST_NEWS) }
+    {
         let text = Body::open(alloc)?;
         let given = Body::open(alloc)?;
         let Ok(arrived) = vec![in alloc; 0u8; FILL_BYTES] else {
@@ -48,20 +54,24 @@ impl Tools {
         })
     }
 
-    /// Removes one of the things that calls may have changed since the tools were opened, the last
-    /// one first.
-    pub fn take_news(&mut self) -> Option<News> {
+    /// Removes the last of the things that calls may have changed since the tools were opened, and
+    /// returns it.
+    pub fn take_news(&mut self) -> Option<News>
+        ensures { TakesLast self.old result self.new }
+    {
         self.news.pop()
     }
 
     /// Returns whether a message of this type was taken since the news were taken.
-    pub fn has_taken(&self, taken: i64) -> bool {
+    pub fn has_taken(&self, taken: i64) -> bool
+        ensures { result ≡ list_any (is_taken taken) (news_in self.now) }
+    {
         self.news.iter().any(|news| matches!(news, News::Freed { mtype, .. } if *mtype == taken))
     }
 
     /// Keeps what a call may have changed.
     pub(crate) fn tell(&mut self, told: Told)
-        ensures given { self.new.given ≡ self.old.given }
+        ensures { Keeps (news_of told) self.old self.new }
     {
         if let Some(there) = told.there {
             self.keep(there);
@@ -73,7 +83,7 @@ impl Tools {
 
     /// Keeps one more thing, if there is room.
     fn keep(&mut self, news: News)
-        ensures given { self.new.given ≡ self.old.given }
+        ensures { Keeps (news ∷ []) self.old self.new }
     {
         if self.news.len() < self.news.capacity() {
             self.news.push_reserved(news);

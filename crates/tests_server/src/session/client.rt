@@ -7,7 +7,7 @@ use crate::parts::opened;
 use std::alloc::Global;
 use std::process::Abort;
 use std::sync::Wait;
-use sysv_seats::{Client, MemoryStream, Replies, ServiceKernel, Step, Tools, ZERO, Zero};
+use sysv_seats::{Client, MemoryStream, News, Replies, ServiceKernel, Step, Tools, ZERO, Zero};
 use sysv_service::{Pass, Service};
 use sysv_session::{End, Served};
 use tests_kit::worked::{ANSWERS, SESSION};
@@ -28,6 +28,37 @@ const RECEIVED: &[u8] = &[
     0, 5, 104, 105,
 ];
 
+/// A hello, a get of key 7, a set of its limit to 2 bytes, a send of 3 bytes without waiting, and
+/// the same removal twice.
+const CONTROLLED: &[u8] = &[
+    0, 0, 0, 14, 1, 0, 0, 0, 3, 0xe8, 0, 0, 3, 0xe8, 0, 0, 0, 101, 0, 0, 0, 10, 1, 1, 0, 0, 0, 7,
+    0, 0, 3, 0x80, 0, 0, 0, 22, 1, 5, 0, 0, 0, 0, 0, 0, 3, 0xe8, 0, 0, 3, 0xe8, 0, 0, 1, 0x80, 0,
+    0, 0, 2, 0, 0, 0, 21, 1, 2, 0, 0, 0, 0, 0, 0, 0, 0, 0, 0, 0, 5, 0, 0, 8, 0, 104, 105, 33, 0, 0,
+    0, 6, 1, 6, 0, 0, 0, 0, 0, 0, 0, 6, 1, 6, 0, 0, 0, 0,
+];
+
+/// The replies to `CONTROLLED`: the send fails with EAGAIN, and the second removal with EINVAL.
+const CONTROLS: &[u8] = &[
+    0, 0, 0, 3, 1, 0, 0, 0, 0, 0, 7, 1, 1, 0, 0, 0, 0, 0, 0, 0, 0, 3, 1, 5, 0, 0, 0, 0, 3, 1, 2,
+    11, 0, 0, 0, 3, 1, 6, 0, 0, 0, 0, 3, 1, 6, 22,
+];
+
+/// A hello, a get of key 7, a set of its limit to 2 bytes, and a send of 3 bytes that waits.
+const CROWDED: &[u8] = &[
+    0, 0, 0, 14, 1, 0, 0, 0, 3, 0xe8, 0, 0, 3, 0xe8, 0, 0, 0, 101, 0, 0, 0, 10, 1, 1, 0, 0, 0, 7,
+    0, 0, 3, 0x80, 0, 0, 0, 22, 1, 5, 0, 0, 0, 0, 0, 0, 3, 0xe8, 0, 0, 3, 0xe8, 0, 0, 1, 0x80, 0,
+    0, 0, 2, 0, 0, 0, 21, 1, 2, 0, 0, 0, 0, 0, 0, 0, 0, 0, 0, 0, 5, 0, 0, 0, 0, 104, 105, 33,
+];
+
+/// A message of type 5 has arrived at the first slot.
+const ARRIVED: News = News::Arrived { slot: 0, mtype: 5 };
+
+/// A message of type 5 was taken from the first slot.
+const FREED: News = News::Freed { slot: 0, mtype: 5 };
+
+/// The queue of the first slot was set or removed.
+const CHANGED: News = News::Changed { slot: 0 };
+
 /// Returns the tools of a worker. Tolerates one refusal of memory.
 fn tools(rt: &impl Abort, alloc: Global) -> Tools {
     match Tools::open(alloc) {
@@ -44,11 +75,45 @@ fn client<'a>(
     input: &'a [u8],
     writes: &'a [Step],
 ) -> Client<MemoryStream<'a>> {
-    let stream = match MemoryStream::new(alloc, input, 100, &[], writes) {
+    paced(rt, alloc, input, &[], writes)
+}
+
+/// Returns a client that writes these bytes. Its connection gives and takes bytes by these steps.
+/// Tolerates one refusal of memory.
+fn paced<'a>(
+    rt: &impl Abort,
+    alloc: Global,
+    input: &'a [u8],
+    reads: &'a [Step],
+    writes: &'a [Step],
+) -> Client<MemoryStream<'a>> {
+    let stream = match MemoryStream::new(alloc, input, 1_000, reads, writes) {
         Some(stream) => stream,
-        None => MemoryStream::new(alloc, input, 100, &[], writes).expect(rt, "a second try"),
+        None => MemoryStream::new(alloc, input, 1_000, reads, writes).expect(rt, "a second try"),
     };
     Client::open(alloc, stream)
+}
+
+/// Asserts that a client has taken up this number of requests, that its connection has taken this
+/// number of bytes, whether more bytes have arrived, and whether the client would go on.
+fn assert_counts(
+    rt: &impl Abort,
+    client: &Client<MemoryStream<'_>>,
+    counts: (u64, u64),
+    is_within: bool,
+    has_more: bool,
+) {
+    assert_eq!(rt; (client.requests(), client.sent_bytes()), counts);
+    assert_eq!(rt; client.is_within_request(), is_within);
+    assert_eq!(rt; client.has_more(), has_more);
+}
+
+/// Asserts that these are the news, the last one first, and removes them.
+fn assert_news(rt: &impl Abort, tools: &mut Tools, expected: &[News]) {
+    for news in expected {
+        assert_eq!(rt; tools.take_news(), Some(*news));
+    }
+    assert_eq!(rt; tools.take_news(), None);
 }
 
 /// Reports that there may be something to read, has the client take a turn, and gives its connection
@@ -75,14 +140,31 @@ fn assert_closed(
     counts: (u32, u64, u64),
     replies: &[u8],
 ) {
-    let mut book = match Replies::with_room(alloc, 1) {
-        Some(book) => book,
-        None => Replies::with_room(alloc, 1).expect(rt, "a second try"),
-    };
+    let mut book = book(rt, alloc);
     let served = client.close(&mut book);
     assert_served(rt, &served, end, counts);
     for kept in book.kept() {
         assert_eq!(rt; kept.as_slice(), replies);
+    }
+}
+
+/// Closes the client, and returns what its session did.
+fn closed_early(rt: &impl Abort, alloc: Global, client: Client<MemoryStream<'_>>) -> Served {
+    client.close(&mut book(rt, alloc))
+}
+
+/// Returns a book with room for one connection. Tolerates one refusal of memory.
+fn book(rt: &impl Abort, alloc: Global) -> Replies {
+    match Replies::with_room(alloc, 1) {
+        Some(book) => book,
+        None => Replies::with_room(alloc, 1).expect(rt, "a second try"),
+    }
+}
+
+/// Appends bytes. Tolerates one refusal of memory.
+fn append(rt: &impl Abort, bytes: &mut Vec<u8>, more: &[u8]) {
+    if bytes.extend_from_slice(more).is_err() {
+        bytes.extend_from_slice(more).expect(rt, "a second try");
     }
 }
 
@@ -104,6 +186,144 @@ fn the_session_of_one_client(rt: HostRuntime) {
     turn(&mut kernel, &mut tools, &mut client);
     assert!(rt; client.is_over());
     assert_closed(&rt, alloc, client, End::Ended, (5, 1, 0), ANSWERS);
+    let pass = kernel.into_pass();
+    ended(&rt, service, pass, 0);
+}
+
+// The hello arrives in two pieces. The get and the send arrive with the beginning of a receive.
+#[test]
+fn the_counts_of_a_client_in_pieces(rt: HostRuntime) {
+    let alloc = rt.alloc();
+    let (service, pass) = opened(&rt, alloc, 128, 0);
+    let mut kernel = ServiceKernel::new(&rt, &service, &ZERO, pass);
+    let mut tools = tools(&rt, alloc);
+    let reads = [
+        Step::AtMost(10),
+        Step::AtMost(0),
+        Step::AtMost(8),
+        Step::AtMost(43),
+    ];
+    let mut client = paced(&rt, alloc, SESSION, &reads, &[]);
+    assert_counts(&rt, &client, (0, 0), false, true);
+    turn(&mut kernel, &mut tools, &mut client);
+    assert_counts(&rt, &client, (0, 0), true, false);
+    turn(&mut kernel, &mut tools, &mut client);
+    assert_counts(&rt, &client, (0, 0), true, false);
+    turn(&mut kernel, &mut tools, &mut client);
+    assert_counts(&rt, &client, (1, 7), false, false);
+    turn(&mut kernel, &mut tools, &mut client);
+    assert_counts(&rt, &client, (3, 25), true, false);
+    client.note_readable();
+    assert!(rt; client.has_more() && !client.is_over());
+    turn(&mut kernel, &mut tools, &mut client);
+    assert_counts(&rt, &client, (5, 49), false, false);
+    turn(&mut kernel, &mut tools, &mut client);
+    assert_counts(&rt, &client, (5, 49), false, false);
+    assert!(rt; client.is_over());
+    assert_closed(&rt, alloc, client, End::Ended, (5, 1, 0), ANSWERS);
+    let pass = kernel.into_pass();
+    ended(&rt, service, pass, 0);
+}
+
+// A turn takes up 64 requests. Those that have arrived and are left are more to do.
+#[test]
+fn a_client_with_more_than_a_share(rt: HostRuntime) {
+    let alloc = rt.alloc();
+    let (service, pass) = opened(&rt, alloc, 128, 0);
+    let mut kernel = ServiceKernel::new(&rt, &service, &ZERO, pass);
+    let mut tools = tools(&rt, alloc);
+    let mut input = Vec::new(alloc);
+    append(&rt, &mut input, &SESSION[..18]);
+    for _ in 0..70 {
+        append(&rt, &mut input, &SESSION[18..32]);
+    }
+    let mut client = paced(&rt, alloc, &input, &[], &[]);
+    turn(&mut kernel, &mut tools, &mut client);
+    assert_counts(&rt, &client, (64, 7 + 63 * 11), true, true);
+    client.take_turn(&mut kernel, &mut tools);
+    assert_counts(&rt, &client, (71, 7 + 63 * 11), false, false);
+    assert!(rt; client.has_unsent() && !client.is_over());
+    turn(&mut kernel, &mut tools, &mut client);
+    assert_counts(&rt, &client, (71, 7 + 70 * 11), false, false);
+    assert!(rt; client.is_over());
+    let served = closed_early(&rt, alloc, client);
+    assert_served(&rt, &served, End::Ended, (71, 0, 0));
+    assert_news(&rt, &mut tools, &[]);
+    let pass = kernel.into_pass();
+    ended(&rt, service, pass, 0);
+}
+
+#[test]
+fn the_news_of_a_send_and_a_receive(rt: HostRuntime) {
+    let alloc = rt.alloc();
+    let (service, pass) = opened(&rt, alloc, 128, 0);
+    let mut kernel = ServiceKernel::new(&rt, &service, &ZERO, pass);
+    let mut tools = tools(&rt, alloc);
+    let mut client = paced(&rt, alloc, SESSION, &[Step::AtMost(56)], &[]);
+    turn(&mut kernel, &mut tools, &mut client);
+    assert!(rt; !tools.has_taken(5));
+    assert_news(&rt, &mut tools, &[ARRIVED]);
+    turn(&mut kernel, &mut tools, &mut client);
+    assert!(rt; tools.has_taken(5) && !tools.has_taken(4));
+    assert_eq!(rt; tools.take_news(), Some(News::Released));
+    assert!(rt; tools.has_taken(5));
+    assert_news(&rt, &mut tools, &[FREED]);
+    assert!(rt; !tools.has_taken(5));
+    turn(&mut kernel, &mut tools, &mut client);
+    assert_news(&rt, &mut tools, &[]);
+    assert_closed(&rt, alloc, client, End::Ended, (5, 1, 0), ANSWERS);
+    let pass = kernel.into_pass();
+    ended(&rt, service, pass, 0);
+}
+
+// A set and a removal are told to all that wait at the slot and to all that wait for blocks. A send
+// that is refused may have returned blocks. A removal that fails changes nothing.
+#[test]
+fn the_news_of_a_set_a_refused_send_and_a_removal(rt: HostRuntime) {
+    let alloc = rt.alloc();
+    let (service, pass) = opened(&rt, alloc, 128, 0);
+    let mut kernel = ServiceKernel::new(&rt, &service, &ZERO, pass);
+    let mut tools = tools(&rt, alloc);
+    let mut client = paced(
+        &rt,
+        alloc,
+        CONTROLLED,
+        &[Step::AtMost(58), Step::AtMost(25)],
+        &[],
+    );
+    turn(&mut kernel, &mut tools, &mut client);
+    assert_news(&rt, &mut tools, &[News::Released, CHANGED]);
+    turn(&mut kernel, &mut tools, &mut client);
+    assert_news(&rt, &mut tools, &[News::Released]);
+    turn(&mut kernel, &mut tools, &mut client);
+    assert_news(&rt, &mut tools, &[News::Released, CHANGED]);
+    turn(&mut kernel, &mut tools, &mut client);
+    assert_closed(&rt, alloc, client, End::Ended, (6, 0, 0), CONTROLS);
+    let pass = kernel.into_pass();
+    ended(&rt, service, pass, 0);
+}
+
+// A send that waits for room may have returned blocks, and a receive that waits has changed nothing.
+#[test]
+fn the_news_of_calls_that_wait(rt: HostRuntime) {
+    let alloc = rt.alloc();
+    let (service, pass) = opened(&rt, alloc, 128, 0);
+    let mut kernel = ServiceKernel::new(&rt, &service, &ZERO, pass);
+    let mut tools = tools(&rt, alloc);
+    let mut receives = client(&rt, alloc, WAITING, &[]);
+    turn(&mut kernel, &mut tools, &mut receives);
+    assert!(rt; receives.waiting().is_some() && receives.is_within_request());
+    assert_news(&rt, &mut tools, &[]);
+    let mut sends = paced(&rt, alloc, CROWDED, &[Step::AtMost(58)], &[]);
+    turn(&mut kernel, &mut tools, &mut sends);
+    assert_news(&rt, &mut tools, &[News::Released, CHANGED]);
+    turn(&mut kernel, &mut tools, &mut sends);
+    assert!(rt; sends.waiting().is_some());
+    assert_news(&rt, &mut tools, &[News::Released]);
+    let sent = closed_early(&rt, alloc, sends);
+    assert_served(&rt, &sent, End::Left, (4, 0, 0));
+    let received = closed_early(&rt, alloc, receives);
+    assert_served(&rt, &received, End::Left, (3, 0, 0));
     let pass = kernel.into_pass();
     ended(&rt, service, pass, 0);
 }

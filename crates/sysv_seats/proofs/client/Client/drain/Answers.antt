@@ -7,25 +7,19 @@ invariant_of-self g c =
     kept_sent _ _ _ c.self.inside.conversation c.self.inside.parked c.sent.new.self c.in-Took.count c.sent.ensures
     c.self.invariant
 
-pub returns-in-Took : goal.returns-in-Took
-returns-in-Took g c = record {
-  keeps = keeps_from g.T.NonBlocking.incoming g.T.NonBlocking.outgoing _ _ _ c.self.view_is
-      (took g.T.NonBlocking.incoming g.T.NonBlocking.outgoing _ c.drain.new.self c.sent.new.self c.in-Took.count _
-      c.unsent.ensures c.sent.ensures c.drain.ensures.unread c.in-Took.ensures.bytes);
-}
+pub returns-in-Took-clause-keeps : goal.returns-in-Took-clause-keeps
+returns-in-Took-clause-keeps g c = keeps_from g.T.NonBlocking.incoming g.T.NonBlocking.outgoing _ _ _ c.self.view_is
+    (took g.T.NonBlocking.incoming g.T.NonBlocking.outgoing _ c.drain.new.self c.sent.new.self c.in-Took.count _
+    c.unsent.ensures c.sent.ensures c.drain.ensures.unread c.in-Took.ensures.bytes)
 
-pub returns-in-NothingNow : goal.returns-in-NothingNow
-returns-in-NothingNow g c = record {
-  keeps = keeps_from g.T.NonBlocking.incoming g.T.NonBlocking.outgoing _ _ _ c.self.view_is
-      (turned g.T.NonBlocking.incoming g.T.NonBlocking.outgoing _ c.drain.new.self c.drain.ensures.unread
-      c.in-NothingNow.ensures.bytes);
-}
+pub returns-in-NothingNow-clause-keeps : goal.returns-in-NothingNow-clause-keeps
+returns-in-NothingNow-clause-keeps g c = keeps_from g.T.NonBlocking.incoming g.T.NonBlocking.outgoing _ _ _ c.self.view_is
+    (turned g.T.NonBlocking.incoming g.T.NonBlocking.outgoing _ c.drain.new.self c.drain.ensures.unread
+    c.in-NothingNow.ensures.bytes)
 
-pub returns-in-Failed : goal.returns-in-Failed
-returns-in-Failed g c = record {
-  keeps = keeps_from g.T.NonBlocking.incoming g.T.NonBlocking.outgoing _ _ _ c.self.view_is
-      (keeps_then g.T.NonBlocking.incoming g.T.NonBlocking.outgoing _ _ _
-      (turned g.T.NonBlocking.incoming g.T.NonBlocking.outgoing _ c.drain.new.self c.drain.ensures.unread
-      c.in-Failed.ensures.bytes)
-      c.fail.ensures.keeps);
-}
+pub returns-in-Failed-clause-keeps : goal.returns-in-Failed-clause-keeps
+returns-in-Failed-clause-keeps g c = keeps_from g.T.NonBlocking.incoming g.T.NonBlocking.outgoing _ _ _ c.self.view_is
+    (keeps_then g.T.NonBlocking.incoming g.T.NonBlocking.outgoing _ _ _
+    (turned g.T.NonBlocking.incoming g.T.NonBlocking.outgoing _ c.drain.new.self c.drain.ensures.unread
+    c.in-Failed.ensures.bytes)
+    c.fail.ensures.keeps)

@@ -12,6 +12,7 @@ returns-clause-takes g c =
       input = drop c.self.inside.start c.self.inside.input.items;
       parked = c.self.inside.parked;
       stopped = c.self.inside.stopped;
+      broken = c.self.inside.is_broken;
     } in
     subst (λ (s : Sitting g.row.T.Denot). ReadsNext s c.saturating_sub.result c.take_up_from-taken.result
     c.take_up_from-taken.new.text last) c.self.view_is

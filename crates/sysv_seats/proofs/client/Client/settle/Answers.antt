@@ -1,16 +1,21 @@
 -- The outcome is put, and the client stops if that fails; or the call is parked.
-use Rattle.std.proofs.Common.{◌≡◌, ◌≤◌, ℕ, List, length, Result, refl, sym, subst, subst₂, arith, true}
+use Rattle.std.proofs.Common.{◌≡◌, ◌≤◌, ℕ, List, length, Result, ap, refl, sym, subst, subst₂, arith, true}
 use Rattle.std.proofs.lemmas.List.{drop-drop}
 use Rattle.std.specs.Prelude.{⊤}
 use Rattle.sysv_session.specs.declared.served.End.{End}
 use Rattle.sysv_session.specs.Conversation.{Puts}
+use Rattle.sysv_seats.specs.declared.tools.Tools.{Tools}
 use Rattle.sysv_seats.specs.Sits.{HasAsked, IsPending, Sits, Sitting, is_wait_of}
 use Rattle.sysv_seats.proofs.ClientSteps.{answers, parks, put_none, put_reply, short_given, waits_by}
 use Rattle.sysv_seats.proofs.client.Client.settle.Goals as goal
 
+-- The body that was given is the same.
+given_still : (old new : Tools) → new ≡ record old { news = new.news } → new.given ≡ old.given
+given_still old new is = ap (λ (t : Tools). t.given) is
+
 pub put-requires-clause-text : goal.put-requires-clause-text
 put-requires-clause-text g c =
-    rw c.tell.ensures.given
+    rw (given_still c.args.tools.now c.tell.new.self c.tell.ensures.0)
     (short_given c.args.request.version c.args.request.ask c.in-Over.outcome c.args.tools.now.given
     (answers _ _ c.args.progress _ _ c.in-Over.is c.requires.answer))
 
@@ -23,39 +28,35 @@ invariant_of-self-in-Waits g c =
     let pending = subst (λ (s : Sitting g.row.T.Denot). IsPending s) same c.requires.pending in
     (omega arith, (frame, waits), (omega (arith, pending), omega arith, c.self-in-Waits.invariant.2.2))
 
-pub returns-in-Err : goal.returns-in-Err
-returns-in-Err g c = record {
-  keeps = λ start before now origin text asked begun.
-      let there = subst (λ (s : Sitting g.row.T.Denot). HasAsked g.T.NonBlocking.incoming g.T.NonBlocking.outgoing start
-      origin s c.args.cred c.args.request text c.args.size before) (sym c.self.view_is) asked in
-      let put = subst₂ (λ (r : Result ⊤ End) (l : List ℕ). Puts r c.args.request.version c.in-Over.outcome l
-      c.self.inside.conversation c.put.new.self) c.in-Err.is c.tell.ensures.given c.put.ensures in
-      subst (λ (s : Sitting g.row.T.Denot). Sits g.T.NonBlocking.incoming g.T.NonBlocking.outgoing start origin s now)
-      (sym c.stop.ensures)
-      (put_none g.T.NonBlocking.incoming g.T.NonBlocking.outgoing start before now origin _ _ c.args.cred c.args.request
-      text c.args.size there refl c.args.progress c.in-Over.outcome c.args.tools.now.given c.in-Over.is begun
-      c.requires.answer c.in-Err.why put refl refl);
-}
+pub returns-in-Err-clause-keeps : goal.returns-in-Err-clause-keeps
+returns-in-Err-clause-keeps g c = λ start before now origin text asked begun.
+    let there = subst (λ (s : Sitting g.row.T.Denot). HasAsked g.T.NonBlocking.incoming g.T.NonBlocking.outgoing start
+    origin s c.args.cred c.args.request text c.args.size before) (sym c.self.view_is) asked in
+    let put = subst₂ (λ (r : Result ⊤ End) (l : List ℕ). Puts r c.args.request.version c.in-Over.outcome l
+    c.self.inside.conversation c.put.new.self) c.in-Err.is
+    (given_still c.args.tools.now c.tell.new.self c.tell.ensures.0) c.put.ensures in
+    subst (λ (s : Sitting g.row.T.Denot). Sits g.T.NonBlocking.incoming g.T.NonBlocking.outgoing start origin s now)
+    (sym c.stop.ensures)
+    (put_none g.T.NonBlocking.incoming g.T.NonBlocking.outgoing start before now origin _ _ c.args.cred c.args.request
+    text c.args.size there refl c.args.progress c.in-Over.outcome c.args.tools.now.given c.in-Over.is begun
+    c.requires.answer c.in-Err.why put refl refl)
 
-pub returns-in_default : goal.returns-in_default
-returns-in_default g c = record {
-  keeps = λ start before now origin text asked begun.
-      let there = subst (λ (s : Sitting g.row.T.Denot). HasAsked g.T.NonBlocking.incoming g.T.NonBlocking.outgoing start
-      origin s c.args.cred c.args.request text c.args.size before) (sym c.self.view_is) asked in
-      let put = subst₂ (λ (r : Result ⊤ End) (l : List ℕ). Puts r c.args.request.version c.in-Over.outcome l
-      c.self.inside.conversation c.put.new.self) c.in_default.is c.tell.ensures.given c.put.ensures in
-      put_reply g.T.NonBlocking.incoming g.T.NonBlocking.outgoing start before now origin _ _ c.args.cred c.args.request
-      text c.args.size there refl c.args.progress c.in-Over.outcome c.args.tools.now.given c.in-Over.is begun
-      c.requires.answer put (sym (drop-drop c.args.size c.self.inside.start c.self.inside.input.items)) refl refl;
-}
+pub returns-in_default-clause-keeps : goal.returns-in_default-clause-keeps
+returns-in_default-clause-keeps g c = λ start before now origin text asked begun.
+    let there = subst (λ (s : Sitting g.row.T.Denot). HasAsked g.T.NonBlocking.incoming g.T.NonBlocking.outgoing start
+    origin s c.args.cred c.args.request text c.args.size before) (sym c.self.view_is) asked in
+    let put = subst₂ (λ (r : Result ⊤ End) (l : List ℕ). Puts r c.args.request.version c.in-Over.outcome l
+    c.self.inside.conversation c.put.new.self) c.in_default.is
+    (given_still c.args.tools.now c.tell.new.self c.tell.ensures.0) c.put.ensures in
+    put_reply g.T.NonBlocking.incoming g.T.NonBlocking.outgoing start before now origin _ _ c.args.cred c.args.request
+    text c.args.size there refl c.args.progress c.in-Over.outcome c.args.tools.now.given c.in-Over.is begun
+    c.requires.answer put (sym (drop-drop c.args.size c.self.inside.start c.self.inside.input.items)) refl refl
 
-pub returns-in-Waits : goal.returns-in-Waits
-returns-in-Waits g c = record {
-  keeps = λ start before now origin text asked begun.
-      let there = subst (λ (s : Sitting g.row.T.Denot). HasAsked g.T.NonBlocking.incoming g.T.NonBlocking.outgoing start
-      origin s c.args.cred c.args.request text c.args.size before) (sym c.self-in-Waits.view_is) asked in
-      parks g.T.NonBlocking.incoming g.T.NonBlocking.outgoing start before now origin _ _ c.args.cred c.args.request
-      text c.args.size there refl c.args.progress c.in-Waits.waiting c.args.tools.now.given c.in-Waits.is begun refl
-      refl
-      refl refl;
-}
+pub returns-in-Waits-clause-keeps : goal.returns-in-Waits-clause-keeps
+returns-in-Waits-clause-keeps g c = λ start before now origin text asked begun.
+    let there = subst (λ (s : Sitting g.row.T.Denot). HasAsked g.T.NonBlocking.incoming g.T.NonBlocking.outgoing start
+    origin s c.args.cred c.args.request text c.args.size before) (sym c.self-in-Waits.view_is) asked in
+    parks g.T.NonBlocking.incoming g.T.NonBlocking.outgoing start before now origin _ _ c.args.cred c.args.request
+    text c.args.size there refl c.args.progress c.in-Waits.waiting c.args.tools.now.given c.in-Waits.is begun refl
+    refl
+    refl refl

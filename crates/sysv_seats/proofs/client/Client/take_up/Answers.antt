@@ -28,6 +28,7 @@ returns-in-Ok-Hello-clause-keeps g c = λ start origin sits.
       input = l;
       parked = c.self.inside.parked;
       stopped = c.self.inside.stopped;
+      broken = c.self.inside.is_broken;
     } in s) c.greet.new.self)
     (sym (drop-drop c.read_next-size.result.0 c.self.inside.start c.self.inside.input.items))
     c.greet.ensures.greets in
