@@ -10,7 +10,6 @@ use sysv_workers::Source;
 /// connections, one for each worker, need no telling: at first all workers wait for one. For each
 /// later connection one worker is told, just before the connection is returned, so that the worker
 /// does not wait for it.
-#[derive(Drop)]
 pub(crate) struct Dealing<'s, 'c, S> {
     source: &'s mut S,
     common: &'c Common,
@@ -24,7 +23,10 @@ pub(crate) struct Dealing<'s, 'c, S> {
 
 impl<'s, 'c, S> Dealing<'s, 'c, S> {
     /// Creates a source that has returned no connection. `told` has a 1 for each worker.
-    pub(crate) fn new(source: &'s mut S, common: &'c Common, told: Vec<u64>) -> Dealing<'s, 'c, S> {
+    pub(crate) fn new(source: &'s mut S, common: &'c Common, told: Vec<u64>) -> Dealing<'s, 'c, S>
+        ensures source { result.source.now ≡ source.old }
+        ensures same_reference { result.source.ghost_name ≡ source.entry.ghost_name }
+    {
         Dealing {
             source,
             common,
@@ -32,6 +34,21 @@ impl<'s, 'c, S> Dealing<'s, 'c, S> {
             told,
             next: 0,
         }
+    }
+
+    /// Ends the dealing, and returns the other source.
+    pub(crate) fn into_source(self) -> &'s mut S
+        ensures source { result.now ≡ self.entry.source.now }
+        ensures same_reference { result.ghost_name ≡ self.entry.source.ghost_name }
+    {
+        let Dealing {
+            source,
+            common: _,
+            dealt: _,
+            told: _,
+            next: _,
+        } = self;
+        source
     }
 
     /// Tells the worker with the fewest clients to take one more connection.
@@ -79,7 +96,8 @@ impl<'s, 'c, S> Dealing<'s, 'c, S> {
 }
 
 impl<T, S: Source<T>> Source<T> for Dealing<'_, '_, S> {
-    ghost gives = { λ old connection new. S.gives old.source.now connection new.source.now };
+    ghost gives = { λ old connection new. S.gives old.source.now connection new.source.now
+        × (new.source.ghost_name ≡ old.source.ghost_name) };
 
     fn next(&mut self) -> Option<T> {
         let Some(connection) = self.source.next() else {
