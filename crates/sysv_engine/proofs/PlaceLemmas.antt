@@ -2,42 +2,38 @@
 -- closed.
 use Rattle.std.proofs.Common.{◌≡◌, ◌∙◌, ℕ, ◌+◌, List, [], ◌∷◌, ◌++◌, Option, Some, None, ap, refl, sym, subst}
 use Rattle.std.specs.List.{FoldsTo}
-use Rattle.std.specs.Io.KnownBytes.{Consumes}
 use Rattle.sysv_session.specs.declared.served.Served.{Served}
 use Rattle.sysv_service.specs.Ran.{Pass}
+use Rattle.sysv_seats.specs.Sits.{IsBehind, IsOver, Sits, Sitting}
 use Rattle.sysv_seats.specs.Untold.{Closing}
 use Rattle.sysv_engine.specs.declared.sums.Sums.{Sums}
 use Rattle.sysv_engine.specs.Added.{added, capped, one_session}
 use Rattle.sysv_engine.specs.Handled.{Handles, one_refused}
-use Rattle.sysv_engine.specs.Places.{Handled, IsPlace, Standing, View, with_one, with_pass}
+use Rattle.sysv_engine.specs.Places.{Handled, IsPlace, KeepsPlace, Seated, Standing, Stands, TakesIn, View}
+use Rattle.sysv_engine.specs.Places.{taken_by, view_of, with_one, with_pass}
 use Rattle.sysv_engine.specs.Talks.{TalksAs, tally_of}
-use Rattle.sysv_seats.specs.Sits.{IsBehind}
 use Rattle.sysv_engine.proofs.Shifts.{folds_last}
 
-nothing_ahead : (bytes : Option (List ℕ)) → Consumes bytes bytes []
-nothing_ahead None = tt
-nothing_ahead (Some bytes) = refl
-
 module _ {T B C : Type 0} (incoming outgoing : T → Option (List ℕ)) (closes : Closing B)
-    (Sits : Pass → T → C → Pass → Type 0) where
-  abbrev pub Stands : Standing (View B) T → View B → Option C → Type 0
-  Stands = IsPlace incoming outgoing closes Sits
+    (At : Pass → T → C → Pass → Type 0) where
+  abbrev Is : Standing (View B) T → View B → Option C → Type 0
+  Is = IsPlace incoming outgoing closes At
 
   -- A client on this connection was put into a vacant place.
-  pub adopts : (place : Standing (View B) T) (view : View B) (connection : T) (client : C) →
-      Stands place view None → Sits view.pass connection client view.pass →
-      Stands (with_one connection place) view (Some client)
+  adopts : (place : Standing (View B) T) (view : View B) (connection : T) (client : C) →
+      Is place view None → At view.pass connection client view.pass →
+      Is (with_one connection place) view (Some client)
   adopts place view connection client stands sits = (place.had, connection, view.pass, refl, stands, sits)
 
   -- The client had an event.
-  pub goes_on : (place : Standing (View B) T) (view : View B) (old new : C) (after : Pass) →
-      ((start : Pass) (connection : T) → Sits start connection old view.pass → Sits start connection new after) →
-      Stands place view (Some old) → Stands place (with_pass after view) (Some new)
+  goes_on : (place : Standing (View B) T) (view : View B) (old new : C) (after : Pass) →
+      ((start : Pass) (connection : T) → At start connection old view.pass → At start connection new after) →
+      Is place view (Some old) → Is place (with_pass after view) (Some new)
   goes_on place view old new after keeps stands =
       (stands.0, stands.1, stands.2, stands.3, stands.4, keeps stands.2 stands.1 stands.5)
 
   -- One session was over, on this connection.
-  pub record Closed (start : Pass) (connection : T) (told : Option Served) (after : Pass) (book book' : B) :
+  record Closed (start : Pass) (connection : T) (told : Option Served) (after : Pass) (book book' : B) :
       Type 0 where
     pub rest : Option (List ℕ)
     pub kept : Option (List ℕ)
@@ -70,13 +66,13 @@ module _ {T B C : Type 0} (incoming outgoing : T → Option (List ℕ)) (closes 
   }
 
   -- The client was closed, and its session was added to the sums.
-  pub ends : (place : Standing (View B) T) (view : View B) (client : C) (told : Option Served) (sums' : Sums)
+  ends : (place : Standing (View B) T) (view : View B) (client : C) (told : Option Served) (sums' : Sums)
       (refused' : ℕ) (book' : B) →
-      ((start : Pass) (connection : T) → Sits start connection client view.pass →
+      ((start : Pass) (connection : T) → At start connection client view.pass →
       Closed start connection told view.pass view.book book') →
       sums' ≡ added view.sums (one_session (tally_of told)) → refused' ≡ capped (view.refused + one_refused told) →
-      Stands place view (Some client) →
-      Stands place (record { pass = view.pass; sums = sums'; refused = refused'; book = book' }) None
+      Is place view (Some client) →
+      Is place (record { pass = view.pass; sums = sums'; refused = refused'; book = book' }) None
   ends place view client told sums' refused' book' closed adds counts stands =
       let start = stands.2 in
       let connection = stands.1 in
@@ -87,23 +83,48 @@ module _ {T B C : Type 0} (incoming outgoing : T → Option (List ℕ)) (closes 
       (folds_last (Handled incoming outgoing closes) place.start stands.0 (with_pass start view) connection new
       stands.4 one)
 
-  -- Memory for the client of a connection was refused in a vacant place, and the connection was
-  -- closed.
-  pub refuses : (place : Standing (View B) T) (view : View B) (connection : T) (sums' : Sums) (refused' : ℕ)
-      (book' : B) → closes view.book (incoming connection) (outgoing connection) book' →
-      sums' ≡ added view.sums (one_session (tally_of None)) → refused' ≡ capped (view.refused + one_refused None) →
-      Stands place view None →
-      Stands (with_one connection place)
-      (record { pass = view.pass; sums = sums'; refused = refused'; book = book' }) None
-  refuses place view connection sums' refused' book' closed adds counts stands =
-      let new : View B = record { pass = view.pass; sums = sums'; refused = refused'; book = book' } in
-      let one = handled connection view.pass view.sums view.refused view.book None view.pass sums' refused' book'
-      (record {
-        rest = incoming connection;
-        kept = incoming connection;
-        more = outgoing connection;
-        talks = (refl, refl, refl);
-        behind = ([], nothing_ahead (incoming connection));
-        closed = closed;
-      }) adds counts in
-      folds_last (Handled incoming outgoing closes) place.start place.had view connection new stands one
+module _ {T B : Type 0} (incoming outgoing : T → Option (List ℕ)) (closes : Closing B) where
+  -- The place that is the same as this one keeps what this one keeps.
+  pub keeps_from : (seen old new : Seated B T) → seen ≡ old → KeepsPlace incoming outgoing closes seen new →
+      KeepsPlace incoming outgoing closes old new
+  keeps_from seen old new is keeps = λ gates standing stands.
+      keeps gates standing (subst (λ p. Stands incoming outgoing closes gates standing p) (sym is) stands)
+
+  -- A place without a client was given to the client of a connection.
+  pub takes : (old vacant new : Seated B T) (connection : T) (client : Sitting T) →
+      KeepsPlace incoming outgoing closes old vacant → vacant.client ≡ None → new ≡ taken_by client vacant →
+      ((pass : Pass) → Sits incoming outgoing pass connection client pass) →
+      TakesIn incoming outgoing closes connection old new
+  takes old vacant new connection client keeps none is sits = λ gates standing stands.
+      let stood = keeps gates standing stands in
+      subst (λ p. Stands incoming outgoing closes gates (with_one connection standing) p) (sym is)
+      (stood.0, adopts incoming outgoing closes (Sits incoming outgoing) standing (view_of vacant) connection client
+      (subst (λ c. IsPlace incoming outgoing closes (Sits incoming outgoing) standing (view_of vacant) c) none stood.1)
+      (sits vacant.pass))
+
+  -- The client was closed, and its session was counted.
+  pub closed_at : (old new : Seated B T) (client : Sitting T) (served : Served) (book' : B) →
+      old.client ≡ Some client →
+      (new.gates ≡ old.gates) × (new.pass ≡ old.pass) × (new.book ≡ book') × (new.client ≡ None) →
+      new.sums ≡ added old.sums (one_session served.tally) →
+      new.refused ≡ capped (old.refused + one_refused (Some served)) →
+      ((start now : Pass) (origin : T) → Sits incoming outgoing start origin client now →
+      IsOver incoming outgoing closes start origin served now old.book book') →
+      KeepsPlace incoming outgoing closes old new
+  closed_at old new client served book' held same sums refused over = λ gates standing stands.
+      let Is = IsPlace incoming outgoing closes (Sits incoming outgoing) standing in
+      let stood : Is (view_of old) (Some client) = subst (λ c. Is (view_of old) c) held stands.1 in
+      let none : Is (record { pass = old.pass; sums = new.sums; refused = new.refused; book = book' }) None =
+      ends incoming outgoing closes (Sits incoming outgoing) standing (view_of old) client (Some served) new.sums
+      new.refused book'
+      (λ start origin sits. let done = over start old.pass origin sits in record {
+        rest = done.rest;
+        kept = done.kept;
+        more = done.more;
+        talks = done.serves;
+        behind = done.behind;
+        closed = done.closed;
+      })
+      sums refused stood in
+      let view : record { pass = old.pass; sums = new.sums; refused = new.refused; book = book' } ≡ view_of new = cc in
+      (same.0 ∙ stands.0, subst (λ c. Is (view_of new) c) (sym same.3) (subst (λ v. Is v None) view none))

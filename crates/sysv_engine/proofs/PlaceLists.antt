@@ -1,11 +1,13 @@
 -- What the places of a worker have had, after one of them changed.
-use Rattle.std.proofs.Common.{◌≡◌, ◌∙◌, ℕ, List, [], ◌∷◌, ◌++◌, ◌<◌, slice_set, slice_index_or, length, suc, zero, subst, sym, refl, ap, arith}
+use Rattle.std.proofs.Common.{◌≡◌, ◌∙◌, ℕ, List, [], ◌∷◌, ◌++◌, ◌<◌, slice_set, slice_index_or, length, suc, zero, Option, subst, sym, refl, ap, arith}
 use Rattle.sysv_bank.specs.Banks.{Each2}
-use Rattle.sysv_engine.specs.Places.{Adopts, Serves, Standing, with_one}
+use Rattle.sysv_seats.specs.Untold.{Closing}
+use Rattle.sysv_engine.specs.Places.{Adopts, AdoptsOne, KeepsAll, KeepsPlace, Seated, Standing, Stands, TakesIn}
+use Rattle.sysv_engine.specs.Places.{with_one}
 
 module _ {A B : Type 0} (R : A → B → Type 0) where
   -- One of them changed, and keeps what it was.
-  pub kept_at : (ls : List A) (ps : List B) (i : ℕ) (p q : B) → p ≡ slice_index_or ps i p →
+  kept_at : (ls : List A) (ps : List B) (i : ℕ) (p q : B) → p ≡ slice_index_or ps i p →
       ((a : A) → R a p → R a q) → Each2 R ls ps → Each2 R ls (slice_set ps i q)
   kept_at [] [] i p q is keeps each = tt
   kept_at [] (x ∷ ps) i p q is keeps each = absurd each
@@ -15,7 +17,7 @@ module _ {A B : Type 0} (R : A → B → Type 0) where
 
 module _ {V T P : Type 0} (R : Standing V T → P → Type 0) (connection : T) where
   -- One of them adopted the connection.
-  pub adopted_at : (ls : List (Standing V T)) (ps : List P) (i : ℕ) (p q : P) → p ≡ slice_index_or ps i p →
+  adopted_at : (ls : List (Standing V T)) (ps : List P) (i : ℕ) (p q : P) → p ≡ slice_index_or ps i p →
       i < length ps → ((s : Standing V T) → R s p → R (with_one connection s) q) → Each2 R ls ps →
       (now : List (Standing V T)) × Adopts ls connection now × Each2 R now (slice_set ps i q)
   adopted_at [] [] i p q is low takes each = absurd (omega arith)
@@ -39,3 +41,21 @@ module _ {V T P : Type 0} (R : Standing V T → P → Type 0) (connection : T) w
         },
         (each.0, rest.2),
       )
+
+module _ {T B : Type 0} (incoming outgoing : T → Option (List ℕ)) (closes : Closing B) where
+  -- One of the places changed, and keeps what it was.
+  pub keeps_at : (places : List (Seated B T)) (i : ℕ) (old new : Seated B T) → old ≡ slice_index_or places i old →
+      KeepsPlace incoming outgoing closes old new →
+      KeepsAll incoming outgoing closes places (slice_set places i new)
+  keeps_at places i old new is keeps = λ gates standings each.
+      kept_at (Stands incoming outgoing closes gates) standings places i old new is (λ s stands. keeps gates s stands)
+      each
+
+  -- One of the places adopted the connection, and then keeps what it was.
+  pub adopts_at : (connection : T) (places : List (Seated B T)) (i : ℕ) (old taken new : Seated B T) →
+      i < length places → old ≡ slice_index_or places i old →
+      TakesIn incoming outgoing closes connection old taken → KeepsPlace incoming outgoing closes taken new →
+      AdoptsOne incoming outgoing closes connection places (slice_set places i new)
+  adopts_at connection places i old taken new low is takes keeps = λ gates standings each.
+      adopted_at (Stands incoming outgoing closes gates) connection standings places i old new is low
+      (λ s stands. keeps gates (with_one connection s) (takes gates s stands)) each

@@ -9,6 +9,7 @@ use Rattle.sysv_seats.specs.Sits.{Sits, Sitting}
 use Rattle.sysv_seats.specs.Untold.{Closing}
 use Rattle.sysv_engine.specs.declared.sums.Sums.{Sums}
 use Rattle.sysv_engine.specs.Handled.{Handles}
+use Rattle.sysv_engine.specs.Serving.{IsNew}
 
 -- A place as the server began with it, and the connections that were adopted in it since then, in
 -- order.

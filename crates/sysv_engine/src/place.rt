@@ -1,6 +1,7 @@
 //! The places of a server: each serves one client after another.
 ghost use Rattle.std.specs.Prelude.{◌≡◌, ◌+◌, None, Some};
 ghost use Rattle.sysv_service.specs.Seats.{AreOf};
+ghost use Rattle.sysv_seats.specs.Sits.{Keeps};
 ghost use Rattle.sysv_engine.specs.Added.{added, capped, nothing, one_session};
 ghost use Rattle.sysv_engine.specs.Handled.{one_refused};
 ghost use Rattle.sysv_engine.specs.Places.{KeepsPlace, TakesIn, taken_by};
@@ -30,7 +31,7 @@ pub(crate) struct Place<'a, R: Wait, T: NonBlocking> {
     book: T::Book,
     times: Times,
     /// Whether the place is in the line of those that have more to do.
-    pub(crate) in_turns: bool,
+    in_turns: bool,
     /// Whether the watch reports when the connection may take bytes.
     awaits_room: bool,
 }
@@ -83,9 +84,9 @@ impl<'a, R: Wait, T: NonBlocking> Place<'a, R, T> {
     /// refused, and its book.
     pub(crate) fn into_parts(self) -> (Pass, Sums, u64, T::Book)
         requires { self.client ≡ None }
-        ensures parts { (result.0 ≡ self.pass) × (result.1 ≡ self.sums) × (result.2 ≡ self.refused)
-            × (result.3 ≡ self.book) }
-        ensures fits { AreOf self.gates result.0.seats }
+        ensures parts { (result.0 ≡ self.entry.pass) × (result.1 ≡ self.entry.sums)
+            × (result.2 ≡ self.entry.refused) × (result.3 ≡ self.entry.book) }
+        ensures fits { AreOf self.entry.gates result.0.seats }
     {
         let Place {
             kernel,
@@ -163,17 +164,8 @@ impl<'a, R: Wait, T: NonBlocking> Place<'a, R, T> {
     pub(crate) fn note(&mut self, ready: &Ready)
         ensures keeps { KeepsPlace T.incoming T.outgoing T.closes self.old self.new }
     {
-        let Some(client) = &mut self.client else {
-            return;
-        };
-        if ready.readable || ready.left {
-            client.note_readable();
-        }
-        if ready.left {
-            client.leave();
-        }
-        if ready.writable {
-            client.drain();
+        if let Some(client) = &mut self.client {
+            learn(client, ready);
         }
     }
 
@@ -209,10 +201,11 @@ impl<'a, R: Wait, T: NonBlocking> Place<'a, R, T> {
     pub(crate) fn cut(&mut self)
         ensures keeps { KeepsPlace T.incoming T.outgoing T.closes self.old self.new }
     {
-        if let Some(client) = &mut self.client {
-            client.drain();
-            client.cut();
-        }
+        let Some(client) = &mut self.client else {
+            return;
+        };
+        client.drain();
+        client.cut();
     }
 
     /// Returns what the parked call waits for, if there is one.
@@ -235,12 +228,20 @@ impl<'a, R: Wait, T: NonBlocking> Place<'a, R, T> {
         }
     }
 
-    /// Returns whether the client has more to do.
-    pub(crate) fn has_more(&self) -> bool {
+    /// Returns whether the client has more to do, but the place is not in the line of those that
+    /// have.
+    pub(crate) fn wants_turn(&self) -> bool {
         match &self.client {
-            Some(client) => client.has_more(),
+            Some(client) => client.has_more() && !self.in_turns,
             None => false,
         }
+    }
+
+    /// Takes note of whether the place is in the line of those that have more to do.
+    pub(crate) fn set_in_turns(&mut self, in_turns: bool)
+        ensures { self.new ≡ self.old }
+    {
+        self.in_turns = in_turns;
     }
 
     /// Has the watch report when the connection may take bytes, if and only if some wait for it.
@@ -267,6 +268,21 @@ impl<'a, R: Wait, T: NonBlocking> Place<'a, R, T> {
     /// Returns when the client's time is over.
     pub(crate) fn due(&self) -> Option<Moment> {
         self.times.due()
+    }
+}
+
+/// Has a client learn what a watch reports of its connection.
+fn learn<T: NonBlocking>(client: &mut Client<T>, ready: &Ready)
+    ensures { Keeps T.incoming T.outgoing client.old client.new }
+{
+    if ready.readable || ready.left {
+        client.note_readable();
+    }
+    if ready.left {
+        client.leave();
+    }
+    if ready.writable {
+        client.drain();
     }
 }
 

@@ -57,10 +57,7 @@ impl<'a, R: Wait, T: NonBlocking, W: Drop> Kit<'a, R, T, W> {
         ensures { IfSome result (λ kit. (kit.places.items ≡ [])
             × (vec_capacity kit.places ≡ count)) }
     {
-        let mut free = Vec::with_capacity(alloc, count).ok()?;
-        for place in 0..count {
-            free.push_reserved(count - 1 - place);
-        }
+        let free = (0..count).rev().collect(alloc).ok()?;
         let ready = Vec::with_capacity(alloc, MOST_READY).ok()?;
         let lines = Lines::open(alloc, count)?;
         let turns = VecDeque::with_capacity(alloc, count).ok()?;
@@ -107,7 +104,7 @@ impl<'a, R: Wait, T: NonBlocking, W: Watch<T>> Worker<'a, R, T, W> {
     ) -> Worker<'a, R, T, W>
         requires none { kit.places.items ≡ [] }
         requires some { vec_capacity kit.places ≤ vec_len from.old }
-        ensures count { vec_len result.places ≡ vec_capacity kit.places }
+        ensures count { vec_len result.places ≡ vec_capacity kit.entry.places }
         ensures places { from.old.items ≡ from.new.items ++ reverse result.places.items }
         ensures room { vec_capacity from.new ≡ vec_capacity from.old }
     {
@@ -141,7 +138,7 @@ impl<'a, R: Wait, T: NonBlocking, W: Watch<T>> Worker<'a, R, T, W> {
     pub(crate) fn into_places(self) -> Vec<Place<'a, R, T>>
     where
         W: Drop,
-        ensures { result ≡ self.places }
+        ensures { result ≡ self.entry.places }
     {
         let Worker {
             number: _,
@@ -166,7 +163,7 @@ impl<'a, R: Wait, T: NonBlocking, W: Watch<T>> Worker<'a, R, T, W> {
 
     /// Gives a vacant place to the client of a connection, and has its connection watched. Returns
     /// the place. If no place is vacant, the client of the first place is closed.
-    #[tactic(auto, using(crate::proofs::PlaceLists::adopted_at))]
+    #[tactic(auto, using(crate::proofs::PlaceLists::adopts_at))]
     pub(crate) fn adopt(&mut self, alloc: Global, connection: T) -> usize
         requires { 1 ≤ vec_len self.old.places }
         ensures { AdoptsOne T.incoming T.outgoing T.closes connection self.old.places.items
@@ -209,7 +206,7 @@ impl<'a, R: Wait, T: NonBlocking, W: Watch<T>> Worker<'a, R, T, W> {
     }
 
     /// Has the client learn what the watch reports of it.
-    #[tactic(auto, using(crate::proofs::PlaceLists::kept_at))]
+    #[tactic(auto, using(crate::proofs::PlaceLists::keeps_at))]
     pub(crate) fn note(&mut self, ready: &Ready)
         ensures { KeepsAll T.incoming T.outgoing T.closes self.old.places.items
             self.new.places.items }
@@ -220,7 +217,7 @@ impl<'a, R: Wait, T: NonBlocking, W: Watch<T>> Worker<'a, R, T, W> {
     }
 
     /// Has the client take up and answer a share of what has arrived.
-    #[tactic(auto, using(crate::proofs::PlaceLists::kept_at))]
+    #[tactic(auto, using(crate::proofs::PlaceLists::keeps_at))]
     pub(crate) fn take_turn(&mut self, place: usize)
         ensures { KeepsAll T.incoming T.outgoing T.closes self.old.places.items
             self.new.places.items }
@@ -231,7 +228,7 @@ impl<'a, R: Wait, T: NonBlocking, W: Watch<T>> Worker<'a, R, T, W> {
     }
 
     /// Continues the client's parked call, if it may go on.
-    #[tactic(auto, using(crate::proofs::PlaceLists::kept_at))]
+    #[tactic(auto, using(crate::proofs::PlaceLists::keeps_at))]
     pub(crate) fn go_on(&mut self, place: usize)
         ensures { KeepsAll T.incoming T.outgoing T.closes self.old.places.items
             self.new.places.items }
@@ -242,7 +239,7 @@ impl<'a, R: Wait, T: NonBlocking, W: Watch<T>> Worker<'a, R, T, W> {
     }
 
     /// Gives the client's connection as many bytes of the replies as it takes now.
-    #[tactic(auto, using(crate::proofs::PlaceLists::kept_at))]
+    #[tactic(auto, using(crate::proofs::PlaceLists::keeps_at))]
     pub(crate) fn drain(&mut self, place: usize)
         ensures { KeepsAll T.incoming T.outgoing T.closes self.old.places.items
             self.new.places.items }
@@ -253,7 +250,7 @@ impl<'a, R: Wait, T: NonBlocking, W: Watch<T>> Worker<'a, R, T, W> {
     }
 
     /// Ends the client because of a limit.
-    #[tactic(auto, using(crate::proofs::PlaceLists::kept_at))]
+    #[tactic(auto, using(crate::proofs::PlaceLists::keeps_at))]
     pub(crate) fn cut(&mut self, place: usize)
         ensures { KeepsAll T.incoming T.outgoing T.closes self.old.places.items
             self.new.places.items }
@@ -264,7 +261,7 @@ impl<'a, R: Wait, T: NonBlocking, W: Watch<T>> Worker<'a, R, T, W> {
     }
 
     /// Closes the client, and returns what its session did.
-    #[tactic(auto, using(crate::proofs::PlaceLists::kept_at))]
+    #[tactic(auto, using(crate::proofs::PlaceLists::keeps_at))]
     pub(crate) fn close(&mut self, place: usize) -> Option<Served>
         ensures { KeepsAll T.incoming T.outgoing T.closes self.old.places.items
             self.new.places.items }
@@ -277,7 +274,7 @@ impl<'a, R: Wait, T: NonBlocking, W: Watch<T>> Worker<'a, R, T, W> {
 
     /// Has the watch report when the client's connection may take bytes, if some wait for it, and
     /// puts the place into the line of those that have more to do, if the client has.
-    #[tactic(auto, using(crate::proofs::PlaceLists::kept_at))]
+    #[tactic(auto, using(crate::proofs::PlaceLists::keeps_at))]
     pub(crate) fn await_more(&mut self, place: usize)
         ensures { KeepsAll T.incoming T.outgoing T.closes self.old.places.items
             self.new.places.items }
@@ -286,26 +283,26 @@ impl<'a, R: Wait, T: NonBlocking, W: Watch<T>> Worker<'a, R, T, W> {
             return;
         };
         there.await_room(&mut self.watch, place);
-        if there.has_more() && !there.in_turns {
-            there.in_turns = self.turns.push_back(place).is_ok();
+        if there.wants_turn() {
+            there.set_in_turns(self.turns.push_back(place).is_ok());
         }
     }
 
     /// Takes the first place out of the line of those that have more to do.
-    #[tactic(auto, using(crate::proofs::PlaceLists::kept_at))]
+    #[tactic(auto, using(crate::proofs::PlaceLists::keeps_at))]
     pub(crate) fn next_turn(&mut self) -> Option<usize>
         ensures { KeepsAll T.incoming T.outgoing T.closes self.old.places.items
             self.new.places.items }
     {
         let place = self.turns.pop_front()?;
         if let Some(there) = self.places.get_mut(place) {
-            there.in_turns = false;
+            there.set_in_turns(false);
         }
         Some(place)
     }
 
     /// Sets when the client's time is over.
-    #[tactic(auto, using(crate::proofs::PlaceLists::kept_at))]
+    #[tactic(auto, using(crate::proofs::PlaceLists::keeps_at))]
     pub(crate) fn set_time(&mut self, place: usize, patience: Patience)
         ensures { KeepsAll T.incoming T.outgoing T.closes self.old.places.items
             self.new.places.items }
@@ -328,7 +325,7 @@ fn fill<P>(places: &mut Vec<P>, from: &mut Vec<P>)
     ensures items { from.old.items ≡ from.new.items ++ reverse places.new.items }
     ensures room { vec_capacity from.new ≡ vec_capacity from.old }
 {
-    while places.len() < places.capacity() {
+    for _ in 0..places.capacity() {
         let Some(place) = from.pop() else {
             unreachable!()
         };
