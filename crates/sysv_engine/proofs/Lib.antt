@@ -10,5 +10,6 @@ pub mod PlacesRun
 pub mod PlaceLemmas
 pub mod PlaceLists
 pub mod Kept
+pub mod SharedOut
 pub mod Reversed
 pub mod Staffed

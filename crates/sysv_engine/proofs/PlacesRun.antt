@@ -192,6 +192,28 @@ module _ {W P V T : Type 0} (places : W → List P) (view : P → V) (Stands : S
             ∙ (sym (append-nil p.items) ∙ ap (λ l. p.items ++ items_of l) (sym none)))));
       }
 
+  all_unmap : (parts : List (Part W T)) → All IsFresh (map (λ (p : Part W T). p.before) parts) →
+      All (λ (p : Part W T). IsFresh p.before) parts
+  all_unmap [] all = λ k d low. absurd (omega arith)
+  all_unmap (p ∷ parts) all =
+      All-cons (λ (p : Part W T). IsFresh p.before) p parts
+      (All-head IsFresh p.before (map (λ (p : Part W T). p.before) parts) all)
+      (all_unmap parts (All-tail IsFresh p.before (map (λ (p : Part W T). p.before) parts) all))
+
+  -- A run keeps the number of places.
+  pub as_many : (ws ws' : List W) (parts : List (Part W T)) → Leads Runs ws parts ws' → All IsFresh ws →
+      length (flat_map places ws') ≡ length (flat_map places ws)
+  as_many ws ws' parts leads fresh =
+      let all = placed parts leads.ran (all_unmap parts (subst (All IsFresh) (sym leads.began) fresh)) in
+      let first : before_in parts ≡ flat_map places ws =
+      sym (flat_of_map (λ (p : Part W T). p.before) places parts) ∙ ap (λ l. flat_map places l) leads.began in
+      let last : after_in parts ≡ flat_map places ws' =
+      sym (flat_of_map (λ (p : Part W T). p.after) places parts) ∙ ap (λ l. flat_map places l) leads.left in
+      ap length (sym last)
+      ∙ (sym (each2_length Stands all.now (after_in parts) all.stands)
+      ∙ (sym (length-map all.now (λ (s : Standing V T). s.start))
+      ∙ (ap length all.starts ∙ (length-map (before_in parts) view ∙ ap length first))))
+
   -- ---- once all places are vacant
 
   module _ (RunsView : V → T → V → Type 0) where
@@ -239,14 +261,6 @@ module _ {W P V T : Type 0} (places : W → List P) (view : P → V) (Stands : S
 
     abbrev pub all_places : List W → List P
     all_places ws = flat_map places ws
-
-    all_unmap : (parts : List (Part W T)) → All IsFresh (map (λ (p : Part W T). p.before) parts) →
-        All (λ (p : Part W T). IsFresh p.before) parts
-    all_unmap [] all = λ k d low. absurd (omega arith)
-    all_unmap (p ∷ parts) all =
-        All-cons (λ (p : Part W T). IsFresh p.before) p parts
-        (All-head IsFresh p.before (map (λ (p : Part W T). p.before) parts) all)
-        (all_unmap parts (All-tail IsFresh p.before (map (λ (p : Part W T). p.before) parts) all))
 
     -- What the places of workers with these parts have had, once they are vacant.
     pub record Vacant (before after : List V) (parts : List (Part W T)) : Type 0 where

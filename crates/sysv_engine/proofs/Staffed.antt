@@ -2,12 +2,13 @@
 use Rattle.std.proofs.Common.{◌≡◌, ◌∙◌, ℕ, ◌≤◌, List, [], ◌∷◌, ◌++◌, map, reverse, length, Option, Some, None, ap, refl}
 use Rattle.std.proofs.Common.{sym, subst, arith, inl, inr}
 use Rattle.std.specs.List.{All, FoldsTo, flat_map, sum_by}
-use Rattle.std.proofs.lemmas.List.{reverse-append, reverse-reverse}
+use Rattle.std.proofs.lemmas.List.{length-reverse, reverse-append, reverse-reverse}
 use Rattle.std.proofs.lemmas.List.Elements.{All-head, All-tail, All-cons}
 use Rattle.sysv_bank.specs.Banks.{Each2}
 use Rattle.sysv_service.specs.Seats.{Gates}
 use Rattle.sysv_service.specs.Ran.{Pass}
 use Rattle.sysv_thread_laws.specs.Hiring.{Gives, TakesIn}
+use Rattle.sysv_workers.specs.Parts.{Leads, Part}
 use Rattle.sysv_workers.specs.Running.{GivesBack, LeavesSource, RunsAll}
 use Rattle.sysv_workers.specs.declared.refusals.WorkersFault.{WorkersFault}
 use Rattle.sysv_workers.specs.declared.refusals.WorkersFault.TheVariants.{BadCount, NoMemory, Thread, Worn, Missed}
@@ -167,6 +168,38 @@ module _ {T B : Type 0} (incoming outgoing : T → Option (List ℕ)) (closes : 
     abbrev pub Runs : W → T → W → Type 0
     Runs = run.Runs places view_of St
 
+    -- ---- the number of places
+
+    module _ {S : Type 0} (gives : S → Option T → S → Type 0) (source source' : S) (ws ws' : List W)
+        (opened : List (Seated B T)) (all_opened : All (IsOpened gates) opened) (shared : all_of ws ≡ reverse opened)
+        (some : All (λ w. 1 ≤ length (places w)) ws) where
+      shared_fresh : All (run.IsFresh places view_of St) ws
+      shared_fresh = fresh ws
+          (subst (All (IsOpened gates)) (sym shared) (all_reverse (IsOpened gates) opened all_opened)) some
+
+      shared_count : length (all_of ws) ≡ length opened
+      shared_count = ap length shared ∙ length-reverse opened
+
+      led_as_many : (parts : List (Part W T)) → Leads Runs ws parts ws' → length (all_of ws') ≡ length opened
+      led_as_many parts leads = run.as_many places view_of St ws ws' parts leads shared_fresh ∙ shared_count
+
+      same_as_many : ws' ≡ ws → length (all_of ws') ≡ length opened
+      same_as_many is = ap (λ l. length (all_of l)) is ∙ shared_count
+
+      -- A run keeps the number of places.
+      pub ran_as_many : RunsAll Runs gives ws source ws' source' → length (all_of ws') ≡ length opened
+      ran_as_many ran = led_as_many ran.parts ran.leads
+
+      -- So does a refused run.
+      pub back_as_many : (why : WorkersFault) → GivesBack Runs ws why ws' → length (all_of ws') ≡ length opened
+      back_as_many BadCount back = same_as_many back
+      back_as_many NoMemory back = same_as_many back
+      back_as_many Thread back = same_as_many back
+      back_as_many Worn back = led_as_many back.0 back.1
+      back_as_many Missed back = led_as_many back.0 back.1
+
+    -- ---- what the server did
+
     module _ {S : Type 0} (gives : S → Option T → S → Type 0) (source source' : S) (ws ws' : List W)
         (opened ps : List (Seated B T)) (all_opened : All (IsOpened gates) opened)
         (shared : all_of ws ≡ reverse opened) (some : All (λ w. 1 ≤ length (places w)) ws)
@@ -240,31 +273,47 @@ module _ {T B : Type 0} (incoming outgoing : T → Option (List ℕ)) (closes : 
 
 -- ---- a source behind another
 
--- The items of a source that returns what another one returns.
-module _ {D S T : Type 0} (of : D → S) (gives : S → Option T → S → Type 0) where
+-- The items of a source that holds another one and returns what that one returns. It keeps its hold.
+module _ {D S T : Type 0} (of : D → S) (name : D → ℕ) (gives : S → Option T → S → Type 0) where
   abbrev pub Behind : D → Option T → D → Type 0
-  Behind old item new = gives (of old) item (of new)
+  Behind old item new = gives (of old) item (of new) × (name new ≡ name old)
 
   folds_behind : (items : List T) (old new : D) → FoldsTo (λ s x s'. Behind s (Some x) s') old items new →
       FoldsTo (λ s x s'. gives s (Some x) s') (of old) items (of new)
   folds_behind [] old new is = ap of is
-  folds_behind (x ∷ items) old new all = (of all.0, all.1, folds_behind items all.0 new all.2)
+  folds_behind (x ∷ items) old new all = (of all.0, all.1.0, folds_behind items all.0 new all.2)
+
+  folds_name : (items : List T) (old new : D) → FoldsTo (λ s x s'. Behind s (Some x) s') old items new →
+      name new ≡ name old
+  folds_name [] old new is = ap name (sym is)
+  folds_name (x ∷ items) old new all = folds_name items all.0 new all.2 ∙ all.1.1
 
   all_behind : (items : List T) (old new : D) → GivesAll Behind old items new → GivesAll gives (of old) items (of new)
   all_behind items old new all = record {
     last = of all.last;
     gave = folds_behind items old all.last all.gave;
-    ended = all.ended;
+    ended = all.ended.0;
   }
+
+  all_name : (items : List T) (old new : D) → GivesAll Behind old items new → name new ≡ name old
+  all_name items old new all = all.ended.1 ∙ folds_name items old all.last all.gave
 
   returned_behind : (items : List T) (old new : D) → Returned Behind old items new →
       Returned gives (of old) items (of new)
   returned_behind items old new (inl some) = inl (folds_behind items old new some)
   returned_behind items old new (inr all) = inr (all_behind items old new all)
 
+  returned_name : (items : List T) (old new : D) → Returned Behind old items new → name new ≡ name old
+  returned_name items old new (inl some) = folds_name items old new some
+  returned_name items old new (inr all) = all_name items old new all
+
   gave_behind : (items : List T) (old new : D) → Gave Behind old items new → Gave gives (of old) items (of new)
   gave_behind items old new (inl all) = inl (all_behind items old new all)
   gave_behind items old new (inr none) = inr (none.0, ap of none.1)
+
+  gave_name : (items : List T) (old new : D) → Gave Behind old items new → name new ≡ name old
+  gave_name items old new (inl all) = all_name items old new all
+  gave_name items old new (inr none) = ap name none.1
 
   -- What a refused run left of it.
   pub leaves_behind : (why : WorkersFault) (old new : D) → LeavesSource Behind old why new →
@@ -275,15 +324,26 @@ module _ {D S T : Type 0} (of : D → S) (gives : S → Option T → S → Type 
   leaves_behind Worn old new leaves = (leaves.0, returned_behind leaves.0 old new leaves.1)
   leaves_behind Missed old new leaves = (leaves.0, gave_behind leaves.0 old new leaves.1)
 
-  -- A run over all its items.
-  pub runs_behind : {W : Type 0} (runs : W → T → W → Type 0) (ws ws' : List W) (old new : D) →
-      RunsAll runs Behind ws old ws' new → RunsAll runs gives ws (of old) ws' (of new)
-  runs_behind runs ws ws' old new ran = record {
-    parts = ran.parts;
-    given = ran.given;
-    leads = ran.leads;
-    gave = all_behind ran.given old new ran.gave;
-    dealt = ran.dealt;
-    ordered = ran.ordered;
-    alone = ran.alone;
-  }
+  pub leaves_name : (why : WorkersFault) (old new : D) → LeavesSource Behind old why new → name new ≡ name old
+  leaves_name BadCount old new leaves = ap name leaves
+  leaves_name NoMemory old new leaves = ap name leaves
+  leaves_name Thread old new leaves = ap name leaves
+  leaves_name Worn old new leaves = returned_name leaves.0 old new leaves.1
+  leaves_name Missed old new leaves = gave_name leaves.0 old new leaves.1
+
+  module _ {W : Type 0} (runs : W → T → W → Type 0) (ws ws' : List W) (old new : D)
+      (ran : RunsAll runs Behind ws old ws' new) where
+    -- A run over all its items.
+    pub runs_behind : RunsAll runs gives ws (of old) ws' (of new)
+    runs_behind = record {
+      parts = ran.parts;
+      given = ran.given;
+      leads = ran.leads;
+      gave = all_behind ran.given old new ran.gave;
+      dealt = ran.dealt;
+      ordered = ran.ordered;
+      alone = ran.alone;
+    }
+
+    pub runs_name : name new ≡ name old
+    runs_name = all_name ran.given old new ran.gave

@@ -1,7 +1,7 @@
 //! A server over any connections that never wait.
-ghost use Rattle.std.specs.Prelude.{◌≡◌, ◌≢◌, ◌≤◌, IfOk, IfErr, vec_len};
+ghost use Rattle.std.specs.Prelude.{◌≡◌, ◌≢◌, ◌≤◌, IfOk, IfErr, IfSome, vec_len};
 ghost use Rattle.sysv_model.specs.declared.limits.TheConstants.{MIN_BLOCKS, MAX_BLOCKS};
-ghost use Rattle.sysv_workers.specs.declared.workers.TheConstants.{MAX_CROWD, MAX_WORKERS};
+ghost use Rattle.sysv_workers.specs.declared.workers.TheConstants.{MAX_WORKERS};
 ghost use Rattle.sysv_service.specs.Seats.{AreOf};
 ghost use Rattle.sysv_engine.specs.Added.{IsBalanced};
 ghost use Rattle.sysv_engine.specs.Headline.{ServesConnections};
@@ -17,27 +17,32 @@ use crate::staff::{discard, gather, kits, staff};
 use crate::sums::Sums;
 use crate::terms::{Ended, Patience};
 use crate::watch::{Rounds, Watch};
-use crate::worker::{Kit, Worker};
 use std::alloc::Global;
 use std::sync::Wait;
 use std::thread::Threads;
 use sysv_seats::NonBlocking;
 use sysv_service::{Pass, Service};
-use sysv_workers::{Source, WorkersFault, WorkersRefused, run_crowd};
+use sysv_workers::{Source, WorkersFault, WorkersRefused, run_workers};
 
 /// Serves the connections of a source on a new service, each as one session, and removes the queues
 /// that are left.
 ///
-/// There is a place for each book, which serves one connection after another and closes each into
-/// its book. `workers` workers share the places evenly. `blocks` is the number of blocks in the
-/// pool. The server ends when the source has ended and the sessions of its connections are over.
-/// Every timestamp of its queues is 0.
+/// There is a place for each book, which serves one connection after another, in the order in which
+/// the source returned them, and closes each into its book. So a place that is alone serves all of
+/// them in that order. `workers` worker threads share the places evenly. `blocks` is the number of
+/// blocks in the pool. The server ends when the source has ended and the sessions of its connections
+/// are over. Every timestamp of its queues is 0. A session whose memory is refused is counted.
 ///
 /// # Errors
 ///
-/// The errors are those of `serve_on`. After `NoMemory` and `Thread` no connection was requested
-/// from the source, and the books are unchanged. After `Worn` and `Missed` the books have the
-/// connections that were closed. The queues that are left are removed after a fault too.
+/// - `NoMemory` if memory for the service or the workers is refused, or a descriptor.
+/// - `Thread` if a thread cannot be started.
+/// - `Worn` if 2^62 connections have gone to the workers.
+/// - `Missed` if the number of sessions that were begun differs from the number of connections.
+///
+/// After `NoMemory` and `Thread` no connection was requested from the source, and the books are
+/// unchanged. After `Worn` and `Missed` the books have the connections that were closed. The queues
+/// that are left are removed after a fault too.
 ///
 /// # Conditions
 ///
@@ -66,16 +71,22 @@ where
     let Some(common) = Common::open(alloc, count, places, Patience::UNBOUNDED, 0) else {
         return Err(ServeFault::NoMemory);
     };
-    let Ok(mut watches) = Vec::with_capacity(alloc, count) else {
+    let Some(watches) = watches(alloc, count, places) else {
         return Err(ServeFault::NoMemory);
     };
-    for _ in 0..count {
-        let Some(watch) = Rounds::open(alloc, places) else {
-            return Err(ServeFault::NoMemory);
-        };
-        watches.push_reserved(watch);
-    }
     serve_all(rt, alloc, source, books, blocks, watches, &common)
+}
+
+/// Creates this number of watches, each of at most `places` places. Returns `None` if memory is
+/// refused.
+fn watches(alloc: Global, count: usize, places: usize) -> Option<Vec<Rounds>>
+    ensures { IfSome result (λ watches. vec_len watches ≡ count) }
+{
+    let mut watches = Vec::with_capacity(alloc, count).ok()?;
+    for _ in 0..count {
+        watches.push_reserved(Rounds::open(alloc, places)?);
+    }
+    Some(watches)
 }
 
 /// Serves the connections of a source like `serve_connections`, with a worker for each watch.
@@ -97,7 +108,7 @@ where
     T::Book: Send,
     requires blocks { (MIN_BLOCKS ≤ blocks) × (blocks ≤ MAX_BLOCKS) }
     requires workers { (1 ≤ vec_len watches) × (vec_len watches ≤ vec_len books.old)
-        × (vec_len watches ≤ MAX_CROWD) }
+        × (vec_len watches ≤ MAX_WORKERS) }
     ensures ok { IfOk result (λ ended. ServesConnections T.incoming T.outgoing T.closes S.gives
         blocks source.old books.old.items ended source.new books.new.items) }
     ensures balance { IfOk result (λ ended. IsBalanced ended.sums) }
@@ -145,7 +156,7 @@ where
     T::Book: Send,
     requires pass { AreOf service.now pass.old.seats }
     requires count { (1 ≤ vec_len watches) × (vec_len watches ≤ vec_len books.old)
-        × (vec_len watches ≤ MAX_CROWD) }
+        × (vec_len watches ≤ MAX_WORKERS) }
     ensures pass { AreOf service.now pass.new.seats }
     ensures ok { IfOk result (λ told. WorkedFrom T.incoming T.outgoing T.closes S.gives service.now
         pass.old source.old books.old.items told.0 told.1 pass.new source.new books.new.items) }
@@ -178,7 +189,9 @@ where
         common,
     };
     let mut dealing = Dealing::new(source, common, shares);
-    match run_crowd(rt, alloc, workers, &mut dealing, &job) {
+    let outcome = run_workers(rt, alloc, workers, &mut dealing, &job);
+    given_back(dealing.into_source());
+    match outcome {
         Ok(workers) => {
             gather(workers, &mut places);
             Ok(dismiss(service, pass, places, books))
@@ -191,6 +204,11 @@ where
         }
     }
 }
+
+/// Uses the reference once more. This use ties it to the parameter that lent it.
+fn given_back<S>(source: &mut S)
+    ensures { source.new ≡ source.old }
+{}
 
 /// Returns the server's fault for a refusal of the workers.
 fn fault(why: WorkersFault) -> ServeFault

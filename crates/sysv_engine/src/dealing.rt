@@ -37,7 +37,6 @@ pub(crate) fn shares(alloc: Global, workers: usize, places: usize) -> Option<Vec
 /// connections, one for each worker, need no telling: at first all workers wait for one. For each
 /// later connection the worker with the most vacant places is told, just before the connection is
 /// returned, so that the worker does not wait for it.
-#[derive(Drop)]
 pub(crate) struct Dealing<'s, 'c, S> {
     source: &'s mut S,
     common: &'c Common,
@@ -55,7 +54,10 @@ impl<'s, 'c, S> Dealing<'s, 'c, S> {
         source: &'s mut S,
         common: &'c Common,
         shares: Vec<Share>,
-    ) -> Dealing<'s, 'c, S> {
+    ) -> Dealing<'s, 'c, S>
+        ensures source { result.source.now ≡ source.old }
+        ensures same_reference { result.source.ghost_name ≡ source.entry.ghost_name }
+    {
         Dealing {
             source,
             common,
@@ -63,6 +65,21 @@ impl<'s, 'c, S> Dealing<'s, 'c, S> {
             shares,
             next: 0,
         }
+    }
+
+    /// Ends the dealing, and returns the other source.
+    pub(crate) fn into_source(self) -> &'s mut S
+        ensures source { result.now ≡ self.entry.source.now }
+        ensures same_reference { result.ghost_name ≡ self.entry.source.ghost_name }
+    {
+        let Dealing {
+            source,
+            common: _,
+            dealt: _,
+            shares: _,
+            next: _,
+        } = self;
+        source
     }
 
     /// Tells the worker with the most vacant places to take one more connection.
@@ -112,7 +129,8 @@ impl<'s, 'c, S> Dealing<'s, 'c, S> {
 }
 
 impl<T, S: Source<T>> Source<T> for Dealing<'_, '_, S> {
-    ghost gives = { λ old connection new. S.gives old.source.now connection new.source.now };
+    ghost gives = { λ old connection new. S.gives old.source.now connection new.source.now
+        × (new.source.ghost_name ≡ old.source.ghost_name) };
 
     fn next(&mut self) -> Option<T> {
         let Some(connection) = self.source.next() else {

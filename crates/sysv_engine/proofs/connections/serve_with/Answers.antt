@@ -1,61 +1,198 @@
--- The workers run, their sums are added, and their books are put back.
-use mir.Syntax.{named as lifetime}
-use denote.Param.Send.{arg_send, param_send, param_sync}
-use Rattle.std.proofs.Common.{◌∙◌, ℕ, ◌<◌, ◌++◌, map, reverse, length, ap}
-use Rattle.sysv_service.specs.Ran.{Pass}
-use Rattle.sysv_engine.specs.declared.session.Worker.{Worker}
-use Rattle.sysv_engine.specs.declared.sums.Sums.{Sums}
-use Rattle.sysv_engine.proofs.Crossing.{sessions_sync, worker_send}
-use Rattle.sysv_engine.proofs.Shifts.{all_left, all_shifted}
-use Rattle.sysv_engine.proofs.connections.serve_with.Lts as lts
+-- The workers run, their places are taken back, and so are the passes and the books of these.
+use Rattle.std.proofs.Common.{◌≡◌, ◌∙◌, ℕ, ◌≤◌, ◌<◌, List, [], ◌++◌, map, reverse, length, ap, arith, inl, inr, refl}
+use Rattle.std.proofs.Common.{subst, sym}
+use Rattle.std.specs.List.{All, flat_map}
+use Rattle.sysv_engine.specs.declared.dealing.Dealing.{Dealing}
+use Rattle.sysv_engine.specs.declared.worker.Worker.{Worker}
+use Rattle.sysv_engine.specs.Places.{IsOpened, Seated}
+use Rattle.sysv_engine.specs.Serving.{HiredFrom, LeavesConnections, WorkedFrom}
+use Rattle.sysv_engine.proofs.SharedOut.{all_counted, some_each}
+use Rattle.sysv_engine.proofs.Staffed.{Behind, Runs, all_left, all_worked, back_as_many, gates_again, leaves_behind}
+use Rattle.sysv_engine.proofs.Staffed.{leaves_name, ran_as_many, runs_behind, runs_name, staffed}
+use Rattle.sysv_engine.proofs.Reversed.{all_reverse}
 use Rattle.sysv_engine.proofs.connections.serve_with.Goals as goal
 
-pub run_crowd-requires-send-W : goal.run_crowd-requires-send-W
-run_crowd-requires-send-W g c κs within =
-    search (worker_send, param_send, arg_send, c.type_bounds.sync-R, c.type_bounds) depth 10
+pub run_workers-outcome-requires-after_bounds : goal.run_workers-outcome-requires-after_bounds
+run_workers-outcome-requires-after_bounds g c κs within =
+    let W : Type 0 = Worker g.row.R.Denot g.row.T.Denot g.row.W.Denot g.row.T-Book.Denot in
+    let t = g.T.NonBlocking in
+    let own = c.args.service.now in
+    let workers = c.staff.new.workers.items in
+    staffed t.incoming t.outgoing t.closes own (λ (w : W). w.places.items) workers
+    (subst (All (IsOpened own)) (sym c.staff.ensures.all)
+    (all_reverse (IsOpened own) c.hire.new.places.items c.hire.ensures.places))
+    (some_each (λ (w : W). w.places) workers c.staff.ensures.each)
 
-pub run_crowd-requires-sync-J : goal.run_crowd-requires-sync-J
-run_crowd-requires-sync-J g c κs within =
-    let t = sessions_sync (record { mir = lifetime 8; lft = κs.1.1.1.1.1.1.1.1.0 })
-    (record { mir = lifetime 9; lft = κs.1.1.1.1.1.1.1.1.1.0 }) _ c.type_bounds.sync-R in
-    param_sync 3 (lts.arg-3-3 g.row.T g.row.S g.row.R g.row.T-Input g.row.T-Output g.row.T-Book g.T.laws g.S.laws
-    g.R.laws g.T.Input.laws g.T.Output.laws g.T.Book.laws g.T.Connection-dict g.T.Input.Read-dict
-    g.T.Output.Write-dict g.S.Source-dict g.R.Threads-dict g.R.Wait-dict g.T.Destruct-dict g.T.Input.Destruct-dict
-    g.T.Output.Destruct-dict κs) (record { shared = t.shared })
+-- ---- the number of places
 
-pub returns-in-Ok-run_crowd-clause-ok : goal.returns-in-Ok-run_crowd-clause-ok
-returns-in-Ok-run_crowd-clause-ok g c =
-    let W : Type 0 = Worker g.row.R.Denot g.row.T-Book.Denot in
-    let t = g.T.Connection in
-    let pass : W → Pass = λ w. w.kernel.pass in
-    let sums : W → Sums = λ w. w.sums in
-    let refused : W → ℕ = λ w. w.refused in
-    let book : W → g.row.T-Book.Denot = λ w. w.book in
-    all_shifted t.incoming t.outgoing t.closes pass sums refused book g.S.Source.gives c.args.service.now
-    c.hire.new.workers.items c.in-Ok-run_crowd.workers.items c.args.source.now c.run_crowd.new.source
-    c.args.books.now.items c.dismiss.new.books.items c.dismiss.result.0 c.dismiss.result.1 c.args.pass.now
-    c.hire.new.pass c.dismiss.new.pass c.in-Ok-run_crowd.ensures.ok
-    (λ (k : ℕ) (d : W) (low : k < length c.hire.new.workers.items). (c.hire.ensures.workers k d low).1)
+pub gather-requires-clause-room : goal.gather-requires-clause-room
+gather-requires-clause-room g c =
+    let W : Type 0 = Worker g.row.R.Denot g.row.T.Denot g.row.W.Denot g.row.T-Book.Denot in
+    let D : Type 0 = Dealing g.row.S.Denot in
+    let t = g.T.NonBlocking in
+    let many = ran_as_many t.incoming t.outgoing t.closes c.args.service.now (λ (w : W). w.places.items)
+    (Behind (λ (d : D). d.source.now) (λ (d : D). d.source.ghost_name) g.S.Source.gives) c.new-dealing.result
+    c.run_workers-outcome.new.source c.staff.new.workers.items c.in-Ok-outcome.workers.items c.hire.new.places.items
+    c.hire.ensures.places c.staff.ensures.all
+    (some_each (λ (w : W). w.places) c.staff.new.workers.items c.staff.ensures.each) c.in-Ok-outcome.ensures.ok in
+    let count = all_counted (λ (w : W). w.places) c.in-Ok-outcome.workers.items in
+    let hired = c.hire.ensures.count in
+    let ok = c.hire.new.places.ok in
+    let room = c.hire.ensures.room in
+    let kept = c.staff.ensures.taken.1 in
+    let most = c.in-Ok-with_capacity-2.ensures.capacity in
+    omega arith
+
+pub dismiss-requires-clause-places : goal.dismiss-requires-clause-places
+dismiss-requires-clause-places g c =
+    let W : Type 0 = Worker g.row.R.Denot g.row.T.Denot g.row.W.Denot g.row.T-Book.Denot in
+    let t = g.T.NonBlocking in
+    gates_again t.incoming t.outgoing t.closes c.args.service.now (λ (w : W). w.places.items)
+    c.in-Ok-outcome.workers.items c.gather.new.places.items c.in-Ok-outcome.ensures.fits c.gather.ensures.keeps
+
+pub dismiss-requires-clause-room : goal.dismiss-requires-clause-room
+dismiss-requires-clause-room g c =
+    let W : Type 0 = Worker g.row.R.Denot g.row.T.Denot g.row.W.Denot g.row.T-Book.Denot in
+    let D : Type 0 = Dealing g.row.S.Denot in
+    let t = g.T.NonBlocking in
+    let many = ran_as_many t.incoming t.outgoing t.closes c.args.service.now (λ (w : W). w.places.items)
+    (Behind (λ (d : D). d.source.now) (λ (d : D). d.source.ghost_name) g.S.Source.gives) c.new-dealing.result
+    c.run_workers-outcome.new.source c.staff.new.workers.items c.in-Ok-outcome.workers.items c.hire.new.places.items
+    c.hire.ensures.places c.staff.ensures.all
+    (some_each (λ (w : W). w.places) c.staff.new.workers.items c.staff.ensures.each) c.in-Ok-outcome.ensures.ok in
+    let count = all_counted (λ (w : W). w.places) c.in-Ok-outcome.workers.items in
+    let taken = c.gather.ensures.count in
+    let hired = c.hire.ensures.count in
+    let ok = c.hire.new.places.ok in
+    let none = ap length c.hire.ensures.taken.0 in
+    let books = c.hire.new.books.ok in
+    let kept = c.hire.ensures.taken.1 in
+    let small = c.args.books.now.small in
+    omega arith
+
+pub gather-requires-in-Err-clause-room : goal.gather-requires-in-Err-clause-room
+gather-requires-in-Err-clause-room g c =
+    let W : Type 0 = Worker g.row.R.Denot g.row.T.Denot g.row.W.Denot g.row.T-Book.Denot in
+    let D : Type 0 = Dealing g.row.S.Denot in
+    let t = g.T.NonBlocking in
+    let many = back_as_many t.incoming t.outgoing t.closes c.args.service.now (λ (w : W). w.places.items)
+    (Behind (λ (d : D). d.source.now) (λ (d : D). d.source.ghost_name) g.S.Source.gives) c.new-dealing.result
+    c.run_workers-outcome.new.source c.staff.new.workers.items c.in-Err.refused.states.items c.hire.new.places.items
+    c.hire.ensures.places c.staff.ensures.all
+    (some_each (λ (w : W). w.places) c.staff.new.workers.items c.staff.ensures.each) c.in-Err.refused.why
+    c.in-Err.ensures.err.0 in
+    let count = all_counted (λ (w : W). w.places) c.in-Err.refused.states.items in
+    let hired = c.hire.ensures.count in
+    let ok = c.hire.new.places.ok in
+    let room = c.hire.ensures.room in
+    let kept = c.staff.ensures.taken.1 in
+    let most = c.in-Ok-with_capacity-2.ensures.capacity in
+    omega arith
+
+pub dismiss-requires-in-Err-clause-places : goal.dismiss-requires-in-Err-clause-places
+dismiss-requires-in-Err-clause-places g c =
+    let W : Type 0 = Worker g.row.R.Denot g.row.T.Denot g.row.W.Denot g.row.T-Book.Denot in
+    let t = g.T.NonBlocking in
+    gates_again t.incoming t.outgoing t.closes c.args.service.now (λ (w : W). w.places.items)
+    c.in-Err.refused.states.items c.gather-in-Err.new.places.items c.in-Err.ensures.err.1
+    c.gather-in-Err.ensures.keeps
+
+pub dismiss-requires-in-Err-clause-room : goal.dismiss-requires-in-Err-clause-room
+dismiss-requires-in-Err-clause-room g c =
+    let W : Type 0 = Worker g.row.R.Denot g.row.T.Denot g.row.W.Denot g.row.T-Book.Denot in
+    let D : Type 0 = Dealing g.row.S.Denot in
+    let t = g.T.NonBlocking in
+    let many = back_as_many t.incoming t.outgoing t.closes c.args.service.now (λ (w : W). w.places.items)
+    (Behind (λ (d : D). d.source.now) (λ (d : D). d.source.ghost_name) g.S.Source.gives) c.new-dealing.result
+    c.run_workers-outcome.new.source c.staff.new.workers.items c.in-Err.refused.states.items c.hire.new.places.items
+    c.hire.ensures.places c.staff.ensures.all
+    (some_each (λ (w : W). w.places) c.staff.new.workers.items c.staff.ensures.each) c.in-Err.refused.why
+    c.in-Err.ensures.err.0 in
+    let count = all_counted (λ (w : W). w.places) c.in-Err.refused.states.items in
+    let taken = c.gather-in-Err.ensures.count in
+    let hired = c.hire.ensures.count in
+    let ok = c.hire.new.places.ok in
+    let none = ap length c.hire.ensures.taken.0 in
+    let books = c.hire.new.books.ok in
+    let kept = c.hire.ensures.taken.1 in
+    let small = c.args.books.now.small in
+    omega arith
+
+-- ---- what was served
+
+pub returns-in-Ok-outcome-clause-ok : goal.returns-in-Ok-outcome-clause-ok
+returns-in-Ok-outcome-clause-ok g c =
+    let W : Type 0 = Worker g.row.R.Denot g.row.T.Denot g.row.W.Denot g.row.T-Book.Denot in
+    let S : Type 0 = Seated g.row.T-Book.Denot g.row.T.Denot in
+    let D : Type 0 = Dealing g.row.S.Denot in
+    let t = g.T.NonBlocking in
+    let own = c.args.service.now in
+    let places : W → List S = λ w. w.places.items in
+    let book : S → g.row.T-Book.Denot = λ p. p.book in
+    let of : D → g.row.S.Denot = λ d. d.source.now in
+    let name : D → ℕ = λ d. d.source.ghost_name in
+    let old : D = c.new-dealing.result in
+    let new : D = c.run_workers-outcome.new.source in
+    let workers = c.staff.new.workers.items in
+    let workers' = c.in-Ok-outcome.workers.items in
+    let runs = Runs t.incoming t.outgoing t.closes own places in
+    let ran = runs_behind of name g.S.Source.gives runs workers workers' old new c.in-Ok-outcome.ensures.ok in
+    let same = runs_name of name g.S.Source.gives runs workers workers' old new c.in-Ok-outcome.ensures.ok in
+    let worked = all_worked t.incoming t.outgoing t.closes own places g.S.Source.gives (of old) (of new) workers
+    workers' c.hire.new.places.items c.gather.new.places.items c.hire.ensures.places c.staff.ensures.all
+    (some_each (λ (w : W). w.places) workers c.staff.ensures.each) c.gather.ensures.keeps c.gather.ensures.vacant
+    c.args.books.now.items c.dismiss.new.books.items c.args.pass.now c.hire.new.pass c.dismiss.new.pass
     c.hire.ensures.books
-    (c.dismiss.ensures.books
-    ∙ ap (λ l. l ++ reverse (map book c.in-Ok-run_crowd.workers.items)) c.hire.ensures.taken.0)
-    c.dismiss.ensures.sums c.dismiss.ensures.refused c.hire.ensures.gives c.dismiss.ensures.takes
+    (c.dismiss.ensures.books ∙ ap (λ l. l ++ reverse (map book c.gather.new.places.items)) c.hire.ensures.taken.0)
+    c.hire.ensures.gives c.dismiss.ensures.takes c.dismiss.result.0 c.dismiss.result.1 c.dismiss.ensures.sums
+    c.dismiss.ensures.refused ran in
+    let name_is = c.into_source.ensures.same_reference ∙ (same ∙ c.new-dealing.ensures.same_reference) in
+    let back = c.given_back.ensures ∙ c.into_source.ensures.source in
+    subst (λ s. WorkedFrom t.incoming t.outgoing t.closes g.S.Source.gives own c.args.pass.now c.args.source.now
+    c.args.books.now.items c.dismiss.result.0 c.dismiss.result.1 c.dismiss.new.pass s c.dismiss.new.books.items)
+    (grind arith)
+    (subst (λ s. WorkedFrom t.incoming t.outgoing t.closes g.S.Source.gives own c.args.pass.now s
+    c.args.books.now.items c.dismiss.result.0 c.dismiss.result.1 c.dismiss.new.pass (of new) c.dismiss.new.books.items)
+    c.new-dealing.ensures.source worked)
+
+pub fault-requires : goal.fault-requires
+fault-requires g c bad =
+    let count = c.staff.ensures.count in
+    let kits = c.in-Some.ensures.count in
+    let few = c.requires.count in
+    elim (c.in-Err.ensures.bad_count.0 bad) [ inl low ↦ absurd (omega arith) | inr high ↦ absurd (omega arith) ]
 
 pub returns-in-Err-clause-err : goal.returns-in-Err-clause-err
 returns-in-Err-clause-err g c =
-    let W : Type 0 = Worker g.row.R.Denot g.row.T-Book.Denot in
-    let t = g.T.Connection in
-    let pass : W → Pass = λ w. w.kernel.pass in
-    let sums : W → Sums = λ w. w.sums in
-    let refused : W → ℕ = λ w. w.refused in
-    let book : W → g.row.T-Book.Denot = λ w. w.book in
-    all_left t.incoming t.outgoing t.closes pass sums refused book g.S.Source.gives c.args.service.now
-    c.hire.new.workers.items c.in-Err.refused.states.items c.args.source.now c.run_crowd.new.source
-    c.args.books.now.items c.dismiss-in-Err.new.books.items c.args.pass.now c.hire.new.pass
-    c.dismiss-in-Err.new.pass
-    (λ (k : ℕ) (d : W) (low : k < length c.hire.new.workers.items). (c.hire.ensures.workers k d low).1)
-    c.hire.ensures.books
+    let W : Type 0 = Worker g.row.R.Denot g.row.T.Denot g.row.W.Denot g.row.T-Book.Denot in
+    let S : Type 0 = Seated g.row.T-Book.Denot g.row.T.Denot in
+    let D : Type 0 = Dealing g.row.S.Denot in
+    let t = g.T.NonBlocking in
+    let own = c.args.service.now in
+    let places : W → List S = λ w. w.places.items in
+    let book : S → g.row.T-Book.Denot = λ p. p.book in
+    let of : D → g.row.S.Denot = λ d. d.source.now in
+    let name : D → ℕ = λ d. d.source.ghost_name in
+    let old : D = c.new-dealing.result in
+    let new : D = c.run_workers-outcome.new.source in
+    let workers = c.staff.new.workers.items in
+    let why = c.in-Err.refused.why in
+    let leaves = leaves_behind of name g.S.Source.gives why old new c.in-Err.ensures.asked in
+    let same = leaves_name of name g.S.Source.gives why old new c.in-Err.ensures.asked in
+    let left = all_left t.incoming t.outgoing t.closes own places g.S.Source.gives (of old) (of new) workers
+    c.in-Err.refused.states.items c.hire.new.places.items c.gather-in-Err.new.places.items c.hire.ensures.places
+    c.staff.ensures.all (some_each (λ (w : W). w.places) workers c.staff.ensures.each) c.gather-in-Err.ensures.keeps
+    c.gather-in-Err.ensures.vacant c.args.books.now.items c.dismiss-in-Err.new.books.items c.args.pass.now
+    c.hire.new.pass c.dismiss-in-Err.new.pass c.hire.ensures.books
     (c.dismiss-in-Err.ensures.books
-    ∙ ap (λ l. l ++ reverse (map book c.in-Err.refused.states.items)) c.hire.ensures.taken.0)
-    c.hire.ensures.gives c.dismiss-in-Err.ensures.takes c.in-Err.refused.why c.fault.result c.fault.ensures
-    c.in-Err.ensures.asked c.in-Err.ensures.err.0
+    ∙ ap (λ l. l ++ reverse (map book c.gather-in-Err.new.places.items)) c.hire.ensures.taken.0)
+    c.hire.ensures.gives c.dismiss-in-Err.ensures.takes why c.fault.result c.fault.ensures leaves
+    c.in-Err.ensures.err.0 in
+    let name_is = c.into_source.ensures.same_reference ∙ (same ∙ c.new-dealing.ensures.same_reference) in
+    let back = c.given_back.ensures ∙ c.into_source.ensures.source in
+    subst (λ s. LeavesConnections t.incoming t.outgoing t.closes g.S.Source.gives
+    (HiredFrom own c.args.pass.now c.dismiss-in-Err.new.pass) c.args.source.now c.args.books.now.items c.fault.result s
+    c.dismiss-in-Err.new.books.items) (grind arith)
+    (subst (λ s. LeavesConnections t.incoming t.outgoing t.closes g.S.Source.gives
+    (HiredFrom own c.args.pass.now c.dismiss-in-Err.new.pass) s c.args.books.now.items c.fault.result (of new)
+    c.dismiss-in-Err.new.books.items) c.new-dealing.ensures.source left)
