@@ -59,12 +59,12 @@ impl<'a, R: Wait, T: NonBlocking, W: Drop> Kit<'a, R, T, W> {
         ensures { IfSome result (λ kit. (kit.places.items ≡ [])
             × (vec_capacity kit.places ≡ count)) }
     {
-        let free = (0..count).rev().collect(alloc).ok()?;
+        let free = all_places(alloc, count)?;
         let ready = Vec::with_capacity(alloc, MOST_READY).ok()?;
         let lines = Lines::open(alloc, count)?;
         let turns = VecDeque::with_capacity(alloc, count).ok()?;
         let tools = Tools::open(alloc).ok()?;
-        let places = Vec::with_capacity(alloc, count).ok()?;
+        let places = room_for(alloc, count)?;
         Some(Kit {
             places,
             free,
@@ -289,15 +289,34 @@ impl<'a, R: Wait, T: NonBlocking, W: Watch<T>> Worker<'a, R, T, W> {
 
     /// Has the watch report when the client's connection may take bytes, if some wait for it, and
     /// puts the place into the line of those that have more to do, if the client has.
-    #[tactic(auto, using(crate::proofs::PlaceLists::keeps_at))]
     pub(crate) fn await_more(&mut self, place: usize)
+        ensures { KeepsAll T.incoming T.outgoing T.closes self.old.places.items
+            self.new.places.items }
+    {
+        self.await_room(place);
+        self.await_turn(place);
+    }
+
+    /// Has the watch report when the client's connection may take bytes, if some wait for it.
+    #[tactic(auto, using(crate::proofs::PlaceLists::keeps_at))]
+    fn await_room(&mut self, place: usize)
+        ensures { KeepsAll T.incoming T.outgoing T.closes self.old.places.items
+            self.new.places.items }
+    {
+        if let Some(there) = self.places.get_mut(place) {
+            there.await_room(&mut self.watch, place);
+        }
+    }
+
+    /// Puts the place into the line of those that have more to do, if the client has.
+    #[tactic(auto, using(crate::proofs::PlaceLists::keeps_at))]
+    fn await_turn(&mut self, place: usize)
         ensures { KeepsAll T.incoming T.outgoing T.closes self.old.places.items
             self.new.places.items }
     {
         let Some(there) = self.places.get_mut(place) else {
             return;
         };
-        there.await_room(&mut self.watch, place);
         if there.wants_turn() {
             there.set_in_turns(self.turns.push_back(place).is_ok());
         }
@@ -330,6 +349,18 @@ impl<'a, R: Wait, T: NonBlocking, W: Watch<T>> Worker<'a, R, T, W> {
             self.check = sooner(self.check, due);
         }
     }
+}
+
+/// Returns the numbers of this many places, the first one last. Returns `None` if memory is refused.
+fn all_places(alloc: Global, count: usize) -> Option<Vec<usize>> {
+    (0..count).rev().collect(alloc).ok()
+}
+
+/// Returns an empty vector with room for this many values. Returns `None` if memory is refused.
+fn room_for<P>(alloc: Global, count: usize) -> Option<Vec<P>>
+    ensures { IfSome result (λ v. (v.items ≡ []) × (vec_capacity v ≡ count)) }
+{
+    Vec::with_capacity(alloc, count).ok()
 }
 
 /// Fills `places` with the last places of `from`, the last one first.
