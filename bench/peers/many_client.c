@@ -446,8 +446,10 @@ static void greet(int clients)
     greet_all(links, clients);
     int64_t time = now() - start;
     settle();
-    printf("%.0f %ld %ld %ld %ld\n", clients * 1e9 / (double)time, memory, resident(), open,
-        descriptors());
+    long filled = resident(), opened = descriptors();
+    if (memory < 0 || filled < 0 || opened < open + clients)
+        fail("the server has fewer descriptors than clients");
+    printf("%.0f %ld %ld %ld %ld\n", clients * 1e9 / (double)time, memory, filled, open, opened);
 }
 
 static void wait_for_messages(int clients, int rest, int messages)
