@@ -4,21 +4,24 @@
 # The options of a server with which sysvmsg-serve can be called too.
 _sysvmsg_server="--mode --replace --blocks --workers --at-once --sessions --idle --stall --drain"
 
+_sysvmsg_commands="serve snd rcv ipcs ipcrm ipcmk script"
+
 # Prints the options of a command, or the commands if the word is not a command.
 _sysvmsg_words() {
     local credentials="--me --uid --gid --pid"
     case $1 in
     script) echo "--help --version" ;;
     serve) echo "$_sysvmsg_server --until-eof --help --version" ;;
-    ipcs) echo "-i --json $credentials --help --version" ;;
-    ipcmk) echo "--mode --qbytes $credentials --help --version" ;;
-    ipcrm) echo "-q -Q --all $credentials --help --version" ;;
+    ipcs) echo "-i --json --wait $credentials --help --version" ;;
+    ipcmk) echo "--mode --qbytes --wait $credentials --help --version" ;;
+    ipcrm) echo "-q -Q --all --wait $credentials --help --version" ;;
     snd) echo "--stdin --lines --type --nowait --wait $credentials --help --version" ;;
     rcv)
         echo "--type --upto --except --size --nowait --noerror --wait --count --follow --show-type --raw --create --mode"
         echo "$credentials --help --version"
         ;;
-    *) echo "serve snd rcv ipcs ipcrm ipcmk script --help --version" ;;
+    help) echo "$_sysvmsg_commands" ;;
+    *) echo "$_sysvmsg_commands help --help --version" ;;
     esac
 }
 
@@ -36,7 +39,7 @@ _sysvmsg() {
     COMPREPLY=()
     # After -- a word is never an option.
     [ -z "$(_sysvmsg_dashes)" ] || return 0
-    if [ -z "$command" ] || [[ $word == -* ]]; then
+    if [ -z "$command" ] || [ "$command $COMP_CWORD" = "help 2" ] || [[ $word == -* ]]; then
         mapfile -t COMPREPLY < <(compgen -W "$(_sysvmsg_words "$command")" -- "$word")
     fi
 }

@@ -34,6 +34,9 @@ complete $bare -a ipcs -d 'Print a table of the queues'
 complete $bare -a ipcrm -d 'Remove a queue, or all'
 complete $bare -a ipcmk -d 'Make a queue and print its identifier'
 complete $bare -a script -d 'Run the script on standard input'
+complete $bare -a help -d 'Print the help of a command'
+complete -c sysvmsg -n '__sysvmsg_is help' -f
+complete -c sysvmsg -n '__sysvmsg_is help; and __sysvmsg_has_words 2' -a 'serve snd rcv ipcs ipcrm ipcmk script'
 
 set -l clients -c sysvmsg -n '__sysvmsg_is snd rcv ipcs ipcrm ipcmk'
 complete $clients -l me -d 'By default your own IDs'
@@ -83,13 +86,16 @@ complete $rcv -l noerror -d 'Cut a longer body'
 
 complete -c sysvmsg -n '__sysvmsg_is ipcs' -s i -x -d 'Show all attributes of one queue'
 complete -c sysvmsg -n '__sysvmsg_is ipcs' -l json -d 'Print a JSON object per queue'
+complete -c sysvmsg -n '__sysvmsg_is ipcs' -l wait -x -d 'Wait for each reply at most this time'
 
 complete -c sysvmsg -n '__sysvmsg_is ipcrm' -s q -x -d 'The identifier of the queue'
 complete -c sysvmsg -n '__sysvmsg_is ipcrm' -s Q -x -d 'The key of the queue'
 complete -c sysvmsg -n '__sysvmsg_is ipcrm' -l all -d 'Remove each queue that the caller may remove'
+complete -c sysvmsg -n '__sysvmsg_is ipcrm' -l wait -x -d 'Wait for each reply at most this time'
 
 complete -c sysvmsg -n '__sysvmsg_is ipcmk' -l mode -x -d 'The mode of the queue'
 complete -c sysvmsg -n '__sysvmsg_is ipcmk' -l qbytes -x -d 'The maximum number of queued bytes'
+complete -c sysvmsg -n '__sysvmsg_is ipcmk' -l wait -x -d 'Wait for each reply at most this time'
 
 # The second word of sysvmsg-run is a program, and those after it are the program's own.
 complete -c sysvmsg-run -e

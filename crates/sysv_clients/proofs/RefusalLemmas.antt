@@ -55,7 +55,8 @@ refuses sending error left mid rest taken more fed unsent window fewer so_far so
     let first = first_of so_far.texts window.waiting so_far.waits (omega (arith, some)) in
     let one = call_of ask first.text (content.Refused error) [] in
     let reply : Consumes mid rest (reply_spelling (reply_to ask (content.Refused error)) []) =
-    subst (λ (a : Ask). Consumes mid rest (reply_spelling (reply_to a (content.Refused error)) [])) so_far.ask replied in
+    subst (λ (a : Ask). Consumes mid rest (reply_spelling (reply_to a (content.Refused error)) [])) so_far.ask
+    replied in
     let long : window.waiting ≡ suc (length first.others) =
     so_far.waits ∙ ap (λ (l : List (List ℕ)). length l) first.split in
     record {

@@ -349,7 +349,8 @@ all_answered sending opened [] each = tt
 all_answered sending opened (one ∷ others) each =
     ((each.0.0, inl each.0.1), all_answered sending opened others each.1)
 
-pub all_done : (sending : Sending) (opened sends : List Call) → Each (IsSent sending opened) sends → Each IsCallDone sends
+pub all_done : (sending : Sending) (opened sends : List Call) → Each (IsSent sending opened) sends →
+    Each IsCallDone sends
 all_done sending opened [] each = tt
 all_done sending opened (one ∷ others) each = (each.0.1, all_done sending opened others each.1)
 
@@ -648,5 +649,7 @@ has_space waiting sending none = space sending.nowait
 -- Memory is refused, and nothing was read.
 pub refused_ahead : (sending : Sending) (left taken fed : Option (List ℕ)) →
     SendsAhead sending (Err (Fault NoMemory)) left left taken taken fed fed
-refused_ahead sending left taken fed =
-    ([], not_ahead sending (Err (Fault NoMemory)) [] left left taken taken fed fed refl (refused sending left taken fed))
+refused_ahead sending left taken fed = (
+  [],
+  not_ahead sending (Err (Fault NoMemory)) [] left left taken taken fed fed refl (refused sending left taken fed),
+)

@@ -118,16 +118,19 @@ impl Sending {
 /// its LF; the last line may lack one.
 ///
 /// The client writes a hello, the request that finds the queue, and a send for each line, all of
-/// version 2. Each request is flushed before its reply is read. A line is sent as soon as it was
-/// read, before the next one is.
+/// version 2. It sends lines that one read of the input returned in a window: at most 64 sends are
+/// written and have no reply, or one with `nowait`. It reads all replies before it reads the input
+/// again, so a line is sent as soon as it was read. Requests are flushed before a reply is read.
 ///
 /// # Errors
 ///
-/// The lines before were sent, and nothing else was.
+/// The lines before were sent, and after all errors but `Cut` nothing else was.
 ///
-/// - `Fault`: a request that the server refuses, that cannot be written or that has no reply ends
-///   the session. Or memory was refused; it is allocated first, so nothing was written to the server
-///   or read.
+/// - `Fault`: the hello or the request that finds the queue is refused, cannot be written or has no
+///   reply. Or memory was refused; it is allocated first, so nothing was written to the server or
+///   read.
+/// - `Cut`: a send is refused, cannot be written or has no reply. It states how many later lines
+///   were sent, and of how many lines that is unknown.
 /// - `Long`: the next line has more than 8,192 bytes.
 /// - `Many`: 2^64 - 1 lines were sent. Whether there are more is not looked at.
 /// - `Input`: a read of the input failed.

@@ -1,5 +1,5 @@
 -- A buffer in front of a stream, and how a client's outcome becomes that of the program.
-use Rattle.std.proofs.Common.{◌≡◌, ◌∙◌, ℕ, List, [], ◌++◌, Option, None, Some, ap, refl, subst, append-nil}
+use Rattle.std.proofs.Common.{◌≡◌, ◌∙◌, ℕ, List, [], Option, None, Some, ap, refl, subst, append-nil}
 use Rattle.std.proofs.Common.{◌<◌, ◌≤◌, ℤ, pos, inl, inr, length, sym}
 use Rattle.std.specs.Borrow.{Bor}
 use Rattle.std.proofs.Common.{◌==◌, if◌then◌else◌}

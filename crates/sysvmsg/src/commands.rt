@@ -10,7 +10,7 @@ const SESSION: &str = "\
 Errors of commands are printed on standard output, as `sysvmsg: ENOMSG`; those
 of an `rcv` with --count, --follow, --raw or --show-type on standard error.
 Exit status: 0 if all is done, 1 after an error, 2 if the command line is not
-understood.
+understood, 3 if the time of --wait is over.
 
 Example:
   $ sysvmsg serve ./q &
@@ -88,6 +88,12 @@ const ME: Argument = (
     "me",
     Form::Flag,
     "By default your own IDs; also by SYSVMSG_ME=1",
+);
+
+const WAIT: Argument = (
+    "wait",
+    Form::Value("SECS"),
+    "Waits at most that long for each reply",
 );
 
 const KEY: Argument = ("key", Form::Word("KEY"), KEY_HELP);
@@ -325,6 +331,7 @@ Example:
             "Shows all attributes of one queue",
         ),
         ("json", Form::Flag, "Prints a JSON object per queue"),
+        WAIT,
         ME,
         USER,
         GROUP,
@@ -356,6 +363,7 @@ Example:
             Form::Flag,
             "Removes each queue that the caller may remove",
         ),
+        WAIT,
         ME,
         USER,
         GROUP,
@@ -392,6 +400,7 @@ Example:
             Form::Value("N"),
             "The maximum number of queued bytes [default: 16384]",
         ),
+        WAIT,
         ME,
         USER,
         GROUP,
@@ -421,8 +430,7 @@ pub(crate) fn command<'a>(alloc: Global) -> Result<Command<'a>, AllocError> {
         .after_help(SESSION)
         .version(VERSION)
         .propagate_version(true)
-        .subcommand_required(true)
-        .disable_help_subcommand(true);
+        .subcommand_required(true);
     for known in COMMANDS {
         line = line.subcommand(command_of(alloc, known)?)?;
     }

@@ -9,17 +9,20 @@ ghost use Rattle.sysvmsg.specs.Ends.{Succeeds, SucceedsIf, SucceedsOnlyIf};
 
 use crate::asked::How;
 use crate::input::{Unread, read_body};
-use crate::leaver::Leaver;
+use crate::leaver::{Leaver, bound};
 use crate::place::{Leave, Place};
 use crate::plain::complain;
 use crate::several::{Way, receive_at, remove_at, send_at, way_of};
-use crate::{FAULT, say};
+use crate::{FAULT, TIMED_OUT, say};
 use std::alloc::Global;
 use std::io;
 use std::io::{BufReader, BufWriter, Eprint, Read, Write};
 use std::process::ExitCode;
 use sysv_clients::{ClientFault, Command, Task, run_client};
 use sysv_model::{BODY_ROOM, Errno};
+
+/// The status of a client whose call was left.
+const LATE: i32 = 3;
 
 /// More bytes than a client shows of one message.
 const PAGE_ROOM: usize = 8_300;
@@ -47,7 +50,7 @@ pub(crate) fn run_as<I: Read, P: Place, S: Write>(
     match way_of(command.cred, &command.task, how) {
         Way::Stream(receiving) => receive_at(rt, place, path, &receiving, how.wait, screen),
         Way::Lines(sending) => send_at(rt, input, place, path, &sending, how.wait),
-        Way::Clear => remove_at(rt, place, path, command.cred),
+        Way::Clear => remove_at(rt, place, path, command.cred, how.wait),
         Way::Once => run_one(rt, input, place, path, command, how, screen),
     }
 }
@@ -139,9 +142,9 @@ fn with_body<'a>(command: &Command<'_>, body: &'a [u8]) -> Command<'a>
     }
 }
 
-/// Connects to the server at `path` and runs a command there, which waits no longer than this number
-/// of seconds, if there is one. If no connection can be made, the reason is reported on standard
-/// error.
+/// Connects to the server at `path` and runs a command there. Each reply is waited for no longer than
+/// this number of seconds, if there is one. If no connection can be made, the reason is reported on
+/// standard error.
 ///
 /// # Conditions
 ///
@@ -158,18 +161,30 @@ fn run_at<P: Place, S: Write>(
     ensures { SucceedsOnlyIf (HasRun command.now (pos 0) (P.incoming place) (P.outgoing place)
         (S.contents screen.old) (S.contents screen.new)) result }
 {
-    match (place.connect(), wait) {
-        (Ok((reader, writer)), Some(seconds)) => {
+    let (reader, writer) = match place.connect() {
+        Ok(ends) => ends,
+        Err(why) => return no_server(rt, path, &why),
+    };
+    match wait {
+        Some(seconds) if can_wait(&command.task) => {
             run_within(rt.alloc(), reader, writer, command, seconds, screen)
         }
-        (Ok((reader, writer)), None) => run_over(rt.alloc(), reader, writer, command, screen),
-        (Err(why), _) => no_server(rt, path, &why),
+        _ => {
+            bound(&reader, wait);
+            run_over(rt.alloc(), reader, writer, command, screen)
+        }
     }
 }
 
-/// Runs a command over a connection like `run_over`, but leaves a call that has no reply after this
-/// number of seconds. If the server then ends the session without a reply, the call had no effect:
-/// the line of ENOMSG or, for a `snd`, of EAGAIN is shown.
+/// Returns whether a task has a call that waits: for a message, or for room.
+fn can_wait(task: &Task<'_>) -> bool {
+    matches!(task, Task::Send { .. } | Task::Receive(_))
+}
+
+/// Runs a `snd` or a `rcv` over a connection like `run_over`, but leaves a call that has no reply
+/// after this number of seconds. If the server then ends the session without a reply, the call had
+/// no effect: the line of ENOMSG or, for a `snd`, of EAGAIN is shown, and the status is that of a
+/// time-out.
 ///
 /// # Conditions
 ///
@@ -191,8 +206,21 @@ fn run_within<R: Leave + Drop, W: Write + Drop, S: Write>(
         return no_memory(screen);
     };
     let status = run_through(alloc, &mut leaver, writer, command, &mut page);
-    let text = text_within(command, status, page.as_slice(), leaver.has_left());
-    show(screen, text, status)
+    let has_left = leaver.has_left();
+    let text = text_within(command, status, page.as_slice(), has_left);
+    show(screen, text, status_within(status, has_left))
+}
+
+/// Returns the status of a command that ended with this status: that of a time-out if it had an
+/// error and the call was left.
+fn status_within(status: i32, has_left: bool) -> i32
+    ensures { result ≡ pos 0 → status ≡ pos 0 }
+{
+    if status != 0 && has_left {
+        LATE
+    } else {
+        status
+    }
 }
 
 /// Returns what is shown of a command that ended with this status: the page, or the line of an error
@@ -275,7 +303,19 @@ fn ended(status: i32) -> ExitCode
 {
     match status {
         0 => ExitCode::SUCCESS,
+        LATE => ExitCode::from(TIMED_OUT),
         _ => ExitCode::from(FAULT),
+    }
+}
+
+/// Returns the status of a fault, or that of a time-out if a call was left.
+pub(crate) fn failed(is_late: bool) -> ExitCode
+    ensures { Succeeds result → ⊥ }
+{
+    if is_late {
+        ExitCode::from(TIMED_OUT)
+    } else {
+        ExitCode::from(FAULT)
     }
 }
 

@@ -11,7 +11,7 @@ const TO_END: u64 = 60;
 
 /// The reader of a connection. A read that waits too long leaves the call that waits: it shuts down
 /// the writing half of the connection, and then reads what the server still sends. If the server has
-/// sent nothing at all, no call was made, and the read does not wait for an end of the session.
+/// sent nothing at all, no call was made, and the read fails at once: there is no reply.
 #[derive(Drop)]
 pub(crate) struct Leaver<R> {
     reader: R,
@@ -29,9 +29,7 @@ impl<R: Leave> Leaver<R> {
     pub(crate) fn new(reader: R, seconds: Option<u32>) -> Leaver<R>
         ensures { result.reader ≡ reader }
     {
-        if let Some(seconds) = seconds {
-            reader.limit(limit(seconds));
-        }
+        bound(&reader, seconds);
         Leaver {
             reader,
             is_served: false,
@@ -49,14 +47,23 @@ impl<R: Leave> Leaver<R> {
     /// session then ended without a reply, or a reply came after all and a later request could not
     /// be written.
     pub(crate) fn is_over<W: Write>(&self, writer: &Outgoing<W>) -> bool {
-        self.has_left || (self.is_leaving && writer.has_failed)
+        self.has_left || (self.is_leaving && self.is_served && writer.has_failed)
     }
 }
 
-/// Returns the time of this number of seconds, or a short one for 0.
+/// Lets each read of a connection wait at most this number of seconds, or without end if there is
+/// none.
+pub(crate) fn bound<R: Leave>(reader: &R, seconds: Option<u32>) {
+    if let Some(seconds) = seconds {
+        reader.limit(limit(seconds));
+    }
+}
+
+/// Returns the time of this number of seconds, or a tenth of a second for 0: a server may need some
+/// time for each reply.
 fn limit(seconds: u32) -> Duration {
     match seconds {
-        0 => Duration::from_millis(1),
+        0 => Duration::from_millis(100),
         _ => Duration::from_secs(u64::from(seconds)),
     }
 }
@@ -76,7 +83,6 @@ impl<R: Leave> Read for Leaver<R> {
         self.reader.limit(Duration::from_secs(TO_END));
         self.reader.leave();
         if !self.is_served {
-            self.has_left = true;
             return Err(why);
         }
         let outcome = self.reader.read(buf);

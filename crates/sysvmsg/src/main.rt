@@ -37,6 +37,9 @@ const FAULT: u8 = 1;
 /// The exit status if the command line is not valid.
 const NOT_UNDERSTOOD: u8 = 2;
 
+/// The exit status if a call was left because the time of `--wait` was over.
+const TIMED_OUT: u8 = 3;
+
 /// The descriptor of the last of the three standard streams.
 const STANDARD_ERROR: RawFd = 2;
 

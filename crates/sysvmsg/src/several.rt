@@ -10,8 +10,8 @@ ghost use Rattle.sysvmsg.specs.Several.{is_of_stream, receiving_of, way_by};
 
 use crate::FAULT;
 use crate::asked::How;
-use crate::connection::no_server;
-use crate::leaver::{Leaver, Outgoing};
+use crate::connection::{failed, no_server};
+use crate::leaver::{Leaver, Outgoing, bound};
 use crate::place::{Leave, Place};
 use crate::plain::{complain, report};
 use std::alloc::Global;
@@ -37,6 +37,31 @@ pub(crate) enum Way {
     Clear,
     /// By a client that runs this one command.
     Once,
+}
+
+/// The error of a client, and whether it left a call because the time was over.
+#[derive(Drop)]
+struct Failure<E> {
+    error: E,
+    is_late: bool,
+}
+
+impl<E> Failure<E> {
+    /// Returns the error of a client that left no call.
+    fn of(error: E) -> Failure<E> {
+        Failure {
+            error,
+            is_late: false,
+        }
+    }
+
+    /// Returns the error of a client that left a call.
+    fn late(error: E) -> Failure<E> {
+        Failure {
+            error,
+            is_late: true,
+        }
+    }
 }
 
 /// Returns how a task with these options is done.
@@ -127,9 +152,9 @@ fn receive_on<R: Leave + Drop, W: Write + Drop, S: Write>(
 {
     match receive_over(rt.alloc(), reader, writer, receiving, wait, screen) {
         Ok(()) => ExitCode::SUCCESS,
-        Err(stop) => {
-            report(rt, stop.line());
-            ExitCode::from(FAULT)
+        Err(failure) => {
+            report(rt, failure.error.line());
+            failed(failure.is_late)
         }
     }
 }
@@ -143,7 +168,7 @@ fn receive_over<R: Leave + Drop, W: Write + Drop, S: Write>(
     receiving: &Receiving,
     wait: Option<u32>,
     screen: &mut S,
-) -> Result<(), Stop>
+) -> Result<(), Failure<Stop>>
     ensures { (ended : Result ⊤ AStop) × HasReceived receiving.now ended
         (R.remaining reader) (W.contents writer) (S.contents screen.old) (S.contents screen.new)
         × (is_ok result ≡ is_ok ended) }
@@ -151,9 +176,10 @@ fn receive_over<R: Leave + Drop, W: Write + Drop, S: Write>(
     let (mut leaver, mut outgoing) = (Leaver::new(reader, wait), Outgoing::new(writer));
     match receive_through(alloc, &mut leaver, &mut outgoing, receiving, screen) {
         Err(Stop::Fault(ClientFault::NoReply)) if leaver.is_over(&outgoing) => {
-            Err(Stop::Fault(ClientFault::Refused(Errno::ENOMSG)))
+            Err(Failure::late(Stop::Fault(ClientFault::Refused(Errno::ENOMSG))))
         }
-        outcome => outcome,
+        Err(stop) => Err(Failure::of(stop)),
+        Ok(()) => Ok(()),
     }
 }
 
@@ -209,17 +235,17 @@ fn send_on<I: Read, R: Leave + Drop, W: Write + Drop>(
         (R.remaining reader) (W.contents writer) (I.remaining input.old)
         × SucceedsIf (ended ≡ Ok tt) result }
 {
-    let unsent = match send_over(rt.alloc(), input, reader, writer, sending, wait) {
+    let failure = match send_over(rt.alloc(), input, reader, writer, sending, wait) {
         Ok(()) => return ExitCode::SUCCESS,
-        Err(unsent) => unsent,
+        Err(failure) => failure,
     };
-    match &unsent {
+    match &failure.error {
         Unsent::Input(why) => complain(rt, "standard input", why, ""),
         Unsent::Cut(cut) => explain(rt, cut),
         _ => {}
     }
-    let _ = print!(rt; "{}", unsent.line());
-    ExitCode::from(FAULT)
+    let _ = print!(rt; "{}", failure.error.line());
+    failed(failure.is_late)
 }
 
 /// Reports on standard error which lines were sent: the first that was refused and why, and how many
@@ -252,7 +278,7 @@ fn send_over<I: Read, R: Leave + Drop, W: Write + Drop>(
     writer: W,
     sending: &Sending,
     wait: Option<u32>,
-) -> Result<(), Unsent>
+) -> Result<(), Failure<Unsent>>
     ensures { (ended : Result ⊤ AnUnsent) × HasSent sending.now ended
         (R.remaining reader) (W.contents writer) (I.remaining input.old)
         × (is_ok result ≡ is_ok ended) }
@@ -260,17 +286,25 @@ fn send_over<I: Read, R: Leave + Drop, W: Write + Drop>(
     let (mut leaver, mut outgoing) = (Leaver::new(reader, wait), Outgoing::new(writer));
     match send_through(alloc, input, &mut leaver, &mut outgoing, sending) {
         Err(Unsent::Fault(ClientFault::NoReply)) if leaver.is_over(&outgoing) => {
-            Err(Unsent::Fault(ClientFault::Refused(Errno::EAGAIN)))
+            Err(Failure::late(Unsent::Fault(ClientFault::Refused(Errno::EAGAIN))))
         }
-        Err(Unsent::Cut(cut)) if cut.fault == ClientFault::NoReply && leaver.is_over(&outgoing) => {
-            Err(Unsent::Cut(Cut {
+        Err(Unsent::Cut(cut)) if is_late(&cut, &leaver, &outgoing) => {
+            Err(Failure::late(Unsent::Cut(Cut {
                 fault: ClientFault::Refused(Errno::EAGAIN),
                 unknown: 0,
                 ..cut
-            }))
+            })))
         }
-        outcome => outcome,
+        Err(unsent) => Err(Failure::of(unsent)),
+        Ok(()) => Ok(()),
     }
+}
+
+/// Returns whether sends were cut off because the time was over, so that no line from that one on
+/// was sent: its send was left, or is the only one without a reply and could not be written.
+fn is_late<R: Leave, W: Write>(cut: &Cut, leaver: &Leaver<R>, outgoing: &Outgoing<W>) -> bool {
+    cut.fault == ClientFault::NoReply
+        && (leaver.has_left() || (cut.unknown == 1 && leaver.is_over(outgoing)))
 }
 
 /// Sends lines through buffers, so that a request is one write.
@@ -293,34 +327,38 @@ fn send_through<I: Read, R: Read + Drop, W: Write + Drop>(
 }
 
 /// Connects to the server at `path` and removes all queues there that the caller may remove. Each
-/// other queue is named on standard error, and the status is that of a fault then.
+/// other queue is named on standard error, and the status is that of a fault then. Each reply is
+/// waited for no longer than this number of seconds, if there is one.
 pub(crate) fn remove_at<P: Place>(
     rt: &(impl Print + Eprint + AllocGlobal),
     place: P,
     path: &str,
     cred: Cred,
+    wait: Option<u32>,
 ) -> ExitCode
     ensures { SucceedsOnlyIf (HasCleared cred (Ok tt) (P.incoming place)
         (P.outgoing place) [] []) result }
 {
     match place.connect() {
-        Ok((reader, writer)) => remove_on(rt, reader, writer, cred),
+        Ok((reader, writer)) => remove_on(rt, reader, writer, cred, wait),
         Err(why) => no_server(rt, path, &why),
     }
 }
 
 /// Removes queues over a connection like `remove_at`.
-fn remove_on<R: Read + Drop, W: Write + Drop>(
+fn remove_on<R: Leave + Drop, W: Write + Drop>(
     rt: &(impl Print + Eprint + AllocGlobal),
     reader: R,
     writer: W,
     cred: Cred,
+    wait: Option<u32>,
 ) -> ExitCode
     ensures { (ended : Result ⊤ AFault) × (refusals : List ARefusal)
         × HasCleared cred ended (R.remaining reader) (W.contents writer) [] refusals
         × SucceedsIf ((ended ≡ Ok tt) × (refusals ≡ [])) result }
 {
     let mut refusals = Vec::new(rt.alloc());
+    bound(&reader, wait);
     let outcome = remove_through(rt.alloc(), reader, writer, cred, &mut refusals);
     for Refusal { id, error } in &refusals {
         let _ = eprintln!(rt; "sysvmsg: queue {id}: {error}");

@@ -1,7 +1,7 @@
 //! Lines that are sent as messages, and the removal of all queues.
 use super::*;
 use sysv_clients::{
-    ClientFault, Feed, Refusal, Sending, Unsent, remove_all, send_feed, send_lines,
+    ClientFault, Cut, Feed, Refusal, Sending, Unsent, remove_all, send_feed, send_lines,
 };
 use sysv_model::Errno;
 
@@ -130,6 +130,8 @@ fn nothing_is_sent_after_a_fault(rt: HostRuntime) {
     let table: [(&[u8], &str); 2] = [(UNSENT, "sysvmsg: EPERM\n"), (b"", "sysvmsg: no reply\n")];
     for (reply, line) in table {
         let mut input = joined(&rt, rt.alloc(), &[b"a\nb\nc\n"]);
+        // (each read returns one line)
+        input.piece = 2;
         let mut talk = Talk::new(&rt, rt.alloc(), &[WELCOME, GOT, SENT, reply]);
         let ended = send(&mut talk, rt.alloc(), &mut input);
         if ended == NO_MEMORY {
@@ -139,6 +141,51 @@ fn nothing_is_sent_after_a_fault(rt: HostRuntime) {
         let mut asked = joined(&rt, rt.alloc(), &[HELLO, MAKE]);
         put_send(&mut asked, b"a");
         put_send(&mut asked, b"b");
+        assert!(rt; talk.requests.text() == asked.text());
+    }
+}
+
+/// How a session ends whose second send is refused, and whose third one was done.
+const REFUSED: Cut = Cut {
+    before: 1,
+    fault: ClientFault::Refused(Errno::EPERM),
+    after: 1,
+    unknown: 0,
+};
+
+/// How a session ends whose second and third send have no reply.
+const LOST: Cut = Cut {
+    before: 1,
+    fault: ClientFault::NoReply,
+    after: 0,
+    unknown: 2,
+};
+
+#[test]
+fn lines_of_one_read_are_sent_before_a_fault(rt: HostRuntime) {
+    let table: [(&[u8], &[u8], Cut); 2] = [(UNSENT, SENT, REFUSED), (b"", b"", LOST)];
+    for (second, third, wanted) in table {
+        let mut input = joined(&rt, rt.alloc(), &[b"a\nb\nc\n"]);
+        let mut talk = Talk::new(&rt, rt.alloc(), &[WELCOME, GOT, SENT, second, third]);
+        let outcome = send_lines(
+            rt.alloc(),
+            &SENDING,
+            &mut input,
+            &mut talk.replies,
+            &mut talk.requests,
+        );
+        if line_of(&outcome) == NO_MEMORY {
+            return;
+        }
+        let cut = match outcome {
+            Err(Unsent::Cut(cut)) => Some(cut),
+            _ => None,
+        };
+        assert!(rt; cut == Some(wanted));
+        let mut asked = joined(&rt, rt.alloc(), &[HELLO, MAKE]);
+        for text in [b"a", b"b", b"c"] {
+            put_send(&mut asked, text);
+        }
         assert!(rt; talk.requests.text() == asked.text());
     }
 }

@@ -7,8 +7,10 @@ use Rattle.sysvmsg.proofs.connection.run_within.Goals as goal
 pub returns : goal.returns
 returns g c success =
     let done = c.show.ensures success in
+    let within = sym (to_z-of_z w32 c.status_within.result (record { sfits = c.status_within.type_inv })) ∙ done.0 in
+    let ended = c.status_within.ensures within in
     let zero = sym (to_z-of_z w32 c.run_through-status.result (record { sfits = c.run_through-status.type_inv }))
-    ∙ done.0 in
-    let text = c.text_within-text.ensures done.0 ∙ c.as_slice.ensures.value in
+    ∙ ended in
+    let text = c.text_within-text.ensures ended ∙ c.as_slice.ensures.value in
     shown_again c.args.command.now _ _ _ _ _ _ c.run_through-status.new.screen.items _
     (ap g.R.Read.remaining c.new-leaver.ensures) c.in-Ok.ensures.items text (c.run_through-status.ensures zero) done.1
