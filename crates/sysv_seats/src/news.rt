@@ -55,9 +55,9 @@ impl Told {
         }
     }
 
-    /// Returns what a call changes that is over. A send that is refused may have reserved blocks and
-    /// returned them. A queue that is set counts as a return of blocks, so that sends that wait for
-    /// blocks look at it again.
+    /// Returns what a call changes that is over. A refused send may have reserved blocks and
+    /// returned them. A set of a queue counts as a return of blocks, so that sends that wait for
+    /// blocks look at the queue again.
     pub(crate) fn by_end(request: &Request, outcome: &RequestOutcome) -> Told
         ensures { result ≡ told_by request.now.ask outcome.now }
     {
