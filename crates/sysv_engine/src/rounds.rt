@@ -14,9 +14,6 @@ use sysv_service::Service;
 use sysv_session::End;
 use sysv_workers::Job;
 
-/// Of this number of messages a worker offers all but one to its own clients first.
-const OWN_MESSAGES: usize = 8;
-
 /// The job that serves the clients of a worker.
 ///
 /// A run takes one more connection, and then serves the clients of the worker until the worker is
@@ -277,8 +274,8 @@ impl<'a, 'c, R: Wait> Serving<'a, 'c, R> {
         ensures { KeepsAll T.incoming T.outgoing T.closes worker.old.places.items
             worker.new.places.items }
     {
-        worker.written = worker.written.wrapping_add(1);
-        let first = self.first_for(&letter, worker.number, worker.written);
+        let turn = worker.next_first(&letter.news);
+        let first = self.first_for(&letter, worker.number, turn);
         if first == worker.number {
             self.heed(worker, letter);
         } else {
@@ -288,19 +285,13 @@ impl<'a, 'c, R: Wait> Serving<'a, 'c, R> {
 
     /// Returns the worker that looks first at the parked calls that the news of a letter may end.
     ///
-    /// The fastest way is the worker that wrote the letter. But with each letter about room, and with
-    /// every eighth about a message, it is another worker's turn: else the clients of one worker
-    /// might have all, and those of the others wait.
-    fn first_for(&self, letter: &Letter, writer: usize, written: usize) -> usize {
-        let turn = match letter.news {
-            News::Freed { .. } | News::Released => written,
-            News::Arrived { .. } if written % OWN_MESSAGES == 0 => written / OWN_MESSAGES,
-            News::Arrived { .. } | News::Changed { .. } => return writer,
-        };
-        next_of(
-            letter.rest,
-            turn.checked_rem(self.common.workers()).unwrap_or(0),
-        )
+    /// The fastest way is the worker that wrote the letter. But sometimes it is another worker's
+    /// turn: else the clients of one worker might have all, and those of the others wait.
+    fn first_for(&self, letter: &Letter, writer: usize, turn: Option<usize>) -> usize {
+        match turn.and_then(|turn| turn.checked_rem(self.common.workers())) {
+            Some(from) => next_of(letter.rest, from),
+            None => writer,
+        }
     }
 
     /// Keeps what calls have changed since the last time, if calls that wait for it are parked.

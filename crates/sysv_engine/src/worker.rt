@@ -11,8 +11,14 @@ use crate::watch::{Ready, Watch};
 use std::alloc::Global;
 use std::collections::VecDeque;
 use std::sync::Wait;
-use sysv_seats::{NonBlocking, Tools};
+use sysv_seats::{News, NonBlocking, Tools};
 use sysv_session::Served;
+
+/// Of this number of letters about room, one goes to another worker first.
+const SHARE_OF_ROOM: usize = 2;
+
+/// Of this number of letters about messages, one goes to another worker first.
+const SHARE_OF_MESSAGES: usize = 8;
 
 /// The number of places of which one wait reports news at most.
 const MOST_READY: usize = 256;
@@ -36,8 +42,9 @@ pub(crate) struct Worker<'a, R: Wait, T: NonBlocking, W> {
     pub(crate) answered: u64,
     /// When to look for clients whose time is over.
     pub(crate) check: Option<Moment>,
-    /// The number of letters that this worker has written, modulo 2^64.
-    pub(crate) written: usize,
+    /// The numbers of its letters about room and about messages, modulo 2^64.
+    rooms: usize,
+    messages: usize,
 }
 
 /// The tools of a worker, and room for its places.
@@ -133,7 +140,8 @@ impl<'a, R: Wait, T: NonBlocking, W: Watch<T>> Worker<'a, R, T, W> {
             tools,
             answered: 0,
             check: None,
-            written: 0,
+            rooms: 0,
+            messages: 0,
         }
     }
 
@@ -155,9 +163,28 @@ impl<'a, R: Wait, T: NonBlocking, W: Watch<T>> Worker<'a, R, T, W> {
             tools: _,
             answered: _,
             check: _,
-            written: _,
+            rooms: _,
+            messages: _,
         } = self;
         places
+    }
+
+    /// Counts a letter that this worker writes. Returns whose turn it is to look first, counted on
+    /// from turn to turn, or `None` for its own.
+    pub(crate) fn next_first(&mut self, news: &News) -> Option<usize>
+        ensures { self.new.places ≡ self.old.places }
+    {
+        match news {
+            News::Freed { .. } | News::Released => {
+                self.rooms = self.rooms.wrapping_add(1);
+                turn(self.rooms, SHARE_OF_ROOM)
+            }
+            News::Arrived { .. } => {
+                self.messages = self.messages.wrapping_add(1);
+                turn(self.messages, SHARE_OF_MESSAGES)
+            }
+            News::Changed { .. } => None,
+        }
     }
 
     /// Returns whether there are no clients.
@@ -376,6 +403,15 @@ fn fill<P>(places: &mut Vec<P>, from: &mut Vec<P>)
             unreachable!()
         };
         places.push_reserved(place);
+    }
+}
+
+/// Returns a number for each `share` of this count, and else `None`.
+fn turn(count: usize, share: usize) -> Option<usize> {
+    if count.checked_rem(share)? == 0 {
+        count.checked_div(share)
+    } else {
+        None
     }
 }
 

@@ -19,8 +19,8 @@ loop-at-preserved g c =
       vacant = λ k d low.
           below_more (λ j. (slice_index_or (slice_set items at new) j d).client ≡ None) at
           (λ j less.
-              ap (λ (p : S). p.client) (get_or-set_other items at j new d (λ same. omega arith))
-              ∙ c.loop-at.invariant.vacant j d less)
+          ap (λ (p : S). p.client) (get_or-set_other items at j new d (λ same. omega arith))
+          ∙ c.loop-at.invariant.vacant j d less)
           (ap (λ (p : S). p.client) (get_or-set_same items at new d (omega arith)) ∙ c.close.ensures.vacant) k low;
       count = c.loop-at.invariant.count;
     }
