@@ -1,6 +1,5 @@
--- What a place is after a connection was adopted in it, after an event, and after its client was
--- closed.
-use Rattle.std.proofs.Common.{◌≡◌, ◌∙◌, ℕ, ◌+◌, List, [], ◌∷◌, ◌++◌, Option, Some, None, ap, refl, sym, subst}
+-- What a place is after a connection was adopted in it, and after its client was closed.
+use Rattle.std.proofs.Common.{◌≡◌, ◌∙◌, ℕ, ◌+◌, List, Option, Some, None, refl, sym, subst}
 use Rattle.std.specs.List.{FoldsTo}
 use Rattle.sysv_session.specs.declared.served.Served.{Served}
 use Rattle.sysv_service.specs.Ran.{Pass}
@@ -24,13 +23,6 @@ module _ {T B C : Type 0} (incoming outgoing : T → Option (List ℕ)) (closes 
       Is place view None → At view.pass connection client view.pass →
       Is (with_one connection place) view (Some client)
   adopts place view connection client stands sits = (place.had, connection, view.pass, refl, stands, sits)
-
-  -- The client had an event.
-  goes_on : (place : Standing (View B) T) (view : View B) (old new : C) (after : Pass) →
-      ((start : Pass) (connection : T) → At start connection old view.pass → At start connection new after) →
-      Is place view (Some old) → Is place (with_pass after view) (Some new)
-  goes_on place view old new after keeps stands =
-      (stands.0, stands.1, stands.2, stands.3, stands.4, keeps stands.2 stands.1 stands.5)
 
   -- One session was over, on this connection.
   record Closed (start : Pass) (connection : T) (told : Option Served) (after : Pass) (book book' : B) :

@@ -184,23 +184,15 @@ impl Lines {
     /// Returns the first places of the lines in which a receive may name a message of this type at
     /// this slot.
     pub(crate) fn receivers(&self, slot: usize, mtype: i64) -> [Option<usize>; 4] {
-        let Some(
-            SlotLines {
-                any,
-                up_to,
-                except,
-                ..
-            },
-        ) = self.slots.get(slot)
-        else {
+        let Some(lines) = self.slots.get(slot) else {
             return [None; 4];
         };
         let exact = self.exact.get(hash(slot, mtype));
         [
             exact.and_then(|line| line.first),
-            any.first,
-            up_to.first,
-            except.first,
+            lines.any.first,
+            lines.up_to.first,
+            lines.except.first,
         ]
     }
 

@@ -1,5 +1,5 @@
 -- So far the last ones of `from` were moved, the last one first, and there are enough left.
-use Rattle.std.proofs.Common.{◌≡◌, ◌≤◌, ◌+◌, ◌++◌, reverse, vec_capacity, vec_len}
+use Rattle.std.proofs.Common.{◌≡◌, ◌+◌, ◌++◌, reverse, vec_capacity, vec_len}
 use Rattle.sysv_engine.proofs.worker.fill.Given as goal
 
 abbrev pub invariant-loop : goal.invariant-loop
