@@ -7,7 +7,7 @@ use Rattle.sysv_engine.specs.Places.{with_one}
 
 module _ {A B : Type 0} (R : A → B → Type 0) where
   -- One of them changed, and keeps what it was.
-  kept_at : (ls : List A) (ps : List B) (i : ℕ) (p q : B) → p ≡ slice_index_or ps i p →
+  pub kept_at : (ls : List A) (ps : List B) (i : ℕ) (p q : B) → p ≡ slice_index_or ps i p →
       ((a : A) → R a p → R a q) → Each2 R ls ps → Each2 R ls (slice_set ps i q)
   kept_at [] [] i p q is keeps each = tt
   kept_at [] (x ∷ ps) i p q is keeps each = absurd each

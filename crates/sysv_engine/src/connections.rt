@@ -84,7 +84,7 @@ fn watches(alloc: Global, count: usize, places: usize) -> Option<Vec<Rounds>>
 {
     let mut watches = Vec::with_capacity(alloc, count).ok()?;
     for _ in 0..count {
-        watches.push_reserved(Rounds::open(alloc, places)?);
+        watches.push(Rounds::open(alloc, places)?).ok()?;
     }
     Some(watches)
 }

@@ -141,7 +141,8 @@ pub fn watches(net: &impl Net, alloc: Global, common: &Common) -> Option<Vec<Pol
 {
     let mut watches = Vec::with_capacity(alloc, common.workers()).ok()?;
     for worker in 0..common.workers() {
-        watches.push_reserved(Polled::open(net, alloc, common.bell_of(worker))?);
+        let watch = Polled::open(net, alloc, common.bell_of(worker))?;
+        watches.push(watch).ok()?;
     }
     Some(watches)
 }

@@ -1,5 +1,5 @@
 -- The last place's pass is one of the service, its sums are added, and its book is put back.
-use Rattle.std.proofs.Common.{◌≡◌, ◌∙◌, ℕ, ◌+◌, ◌∷◌, [], ◌++◌, map, reverse, ap, arith, length, sym, subst, None}
+use Rattle.std.proofs.Common.{◌≡◌, ◌∙◌, ℕ, ◌+◌, ◌∷◌, [], ◌++◌, map, reverse, ap, arith, length, refl, sym, subst, None}
 use Rattle.std.proofs.lemmas.List.{map-append, reverse-append}
 use Rattle.std.proofs.lemmas.List.Sums.{sum_by_push}
 use Rattle.std.specs.List.{FoldsTo, sum_by}
@@ -81,3 +81,13 @@ returns-clause-refused g c =
     let empty = ap (sum_by missed) (emptied c.loop-place.places.items none) in
     all_counted c.loop-place.refused (sum_by missed c.loop-place.places.items)
     (sum_by missed c.args.places.items) c.loop-place.invariant.small empty c.loop-place.invariant.refused
+
+pub returns-clause-takes : goal.returns-clause-takes
+returns-clause-takes g c =
+    let of : Seated g.row.T-Book.Denot g.row.T.Denot → Pass = λ p. p.pass in
+    let len = c.in_default.ensures.cases.0 in
+    let ok = c.loop-place.places.ok in
+    let none : length c.loop-place.places.items ≡ 0 = omega arith in
+    c.loop-place.invariant.takes c.loop-place.pass
+    (subst (λ ps. FoldsTo TakesIn c.loop-place.pass (reverse (map of ps)) c.loop-place.pass)
+    (sym (emptied c.loop-place.places.items none)) refl)
