@@ -482,9 +482,11 @@ impl<'a, 'c, R: Wait> Serving<'a, 'c, R> {
                 return;
             };
             at = worker.lines.after(place);
-            let length = length_of(worker.lines.key(place));
+            let key = worker.lines.key(place);
+            let length = length_of(key);
             if length < *least {
-                if let Found::Nothing = self.wake(worker, place, 0) {
+                self.wake(worker, place, 0);
+                if worker.lines.key(place) == key {
                     *least = length;
                 }
             }
