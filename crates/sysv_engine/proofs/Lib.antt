@@ -13,3 +13,4 @@ pub mod Kept
 pub mod SharedOut
 pub mod Reversed
 pub mod Staffed
+pub mod Crossing

@@ -42,3 +42,15 @@ some_each places workers all k d low =
     let one = all k d low in
     let ok = (places w).ok in
     omega arith
+
+-- The places of one worker more were taken back, the last one first.
+pub taken_back : {W P : Type 0} (places : W → List P) (workers all : List W) (worker : W) (old new own whole : List P) →
+    all ≡ workers ++ worker ∷ [] → own ≡ places worker → new ≡ old ++ reverse own →
+    old ++ reverse (flat_map places all) ≡ whole → new ++ reverse (flat_map places workers) ≡ whole
+taken_back places workers all worker old new own whole is own_places moved before =
+    let flat = flat_map places workers in
+    let grown : flat ++ own ≡ flat_map places all = ap (λ l. flat ++ l) own_places
+    ∙ (flat_map_more places [] workers worker ∙ ap (flat_map places) (sym is)) in
+    ap (λ l. l ++ reverse flat) moved
+    ∙ (append_assoc old (reverse own) (reverse flat)
+    ∙ (ap (λ l. old ++ l) (sym (reverse-append flat own)) ∙ (ap (λ l. old ++ reverse l) grown ∙ before)))

@@ -1,5 +1,7 @@
 //! What the workers of a server share with one another and with the thread that accepts
 //! connections.
+ghost use Rattle.std.specs.Prelude.{◌≡◌, IfSome, vec_len};
+
 use crate::bell::Bell;
 use crate::moment::{Moment, NO_DESCRIPTOR, await_bell};
 use crate::terms::Patience;
@@ -91,7 +93,9 @@ impl Common {
         at_once: usize,
         patience: Patience,
         drain: u32,
-    ) -> Option<Common> {
+    ) -> Option<Common>
+        ensures { IfSome result (λ common. vec_len common.posts ≡ workers) }
+    {
         let turn = Bell::open()?;
         let posts = open_posts(alloc, workers)?;
         let words = open_words(alloc)?;
@@ -111,7 +115,9 @@ impl Common {
     }
 
     /// Returns the number of workers.
-    pub(crate) fn workers(&self) -> usize {
+    pub(crate) fn workers(&self) -> usize
+        ensures { result ≡ vec_len self.now.posts }
+    {
         self.posts.len()
     }
 
@@ -382,7 +388,9 @@ impl Post {
 }
 
 /// Opens the posts of this number of workers. Returns `None` if memory or a descriptor is refused.
-fn open_posts(alloc: Global, workers: usize) -> Option<Vec<Post>> {
+fn open_posts(alloc: Global, workers: usize) -> Option<Vec<Post>>
+    ensures { IfSome result (λ posts. vec_len posts ≡ workers) }
+{
     let mut posts = Vec::with_capacity(alloc, workers).ok()?;
     for _ in 0..workers {
         posts.push(Post::open(alloc)?).ok()?;

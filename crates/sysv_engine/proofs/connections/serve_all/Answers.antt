@@ -50,7 +50,7 @@ returns-in-Ok-outcome-clause-ok g c =
 
 pub returns-in-Err-clause-err : goal.returns-in-Err-clause-err
 returns-in-Err-clause-err g c =
-    let t = g.T.Connection in
+    let t = g.T.NonBlocking in
     let stop = c.stop-removed.ensures.stopped in
     let opened = c.in-Ok.ensures.open in
     let first = c.in-Ok.pass in

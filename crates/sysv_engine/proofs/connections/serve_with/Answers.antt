@@ -1,4 +1,6 @@
 -- The workers run, their places are taken back, and so are the passes and the books of these.
+use mir.Syntax.{named as lifetime}
+use denote.Param.Send.{arg_send, param_send, param_sync}
 use Rattle.std.proofs.Common.{◌≡◌, ◌∙◌, ℕ, ◌≤◌, ◌<◌, List, [], ◌++◌, map, reverse, length, ap, arith, inl, inr, refl}
 use Rattle.std.proofs.Common.{subst, sym}
 use Rattle.std.specs.List.{All, flat_map}
@@ -10,7 +12,22 @@ use Rattle.sysv_engine.proofs.SharedOut.{all_counted, some_each}
 use Rattle.sysv_engine.proofs.Staffed.{Behind, Runs, all_left, all_worked, back_as_many, gates_again, leaves_behind}
 use Rattle.sysv_engine.proofs.Staffed.{leaves_name, ran_as_many, runs_behind, runs_name, staffed}
 use Rattle.sysv_engine.proofs.Reversed.{all_reverse}
+use Rattle.sysv_engine.proofs.Crossing.{serving_sync, worker_send}
+use Rattle.sysv_engine.proofs.connections.serve_with.Lts as lts
+use Rattle.sysv_engine.proofs.connections.serve_with.Given.{Over}
 use Rattle.sysv_engine.proofs.connections.serve_with.Goals as goal
+
+pub run_workers-outcome-requires-send-W : goal.run_workers-outcome-requires-send-W
+run_workers-outcome-requires-send-W g c κs within =
+    search (worker_send, param_send, arg_send, c.type_bounds.sync-R, c.type_bounds) depth 10
+
+pub run_workers-outcome-requires-sync-J : goal.run_workers-outcome-requires-sync-J
+run_workers-outcome-requires-sync-J g c κs within =
+    let t = serving_sync (record { mir = lifetime 8; lft = κs.1.1.1.1.1.1.1.1.0 })
+    (record { mir = lifetime 11; lft = κs.1.1.1.1.1.1.1.1.1.1.1.0 }) _ c.type_bounds.sync-R in
+    param_sync 3 (lts.arg-13-3 g.row.T g.row.S g.row.W g.row.R g.row.T-Book g.T.laws g.S.laws g.W.laws g.R.laws
+    g.T.Book.laws g.T.NonBlocking g.T.NonBlocking-dict g.S.Source g.S.Source-dict g.W.Watch g.W.Watch-dict g.R.Threads
+    g.R.Threads-dict g.R.Wait g.R.Wait-dict g.T.Destruct-dict g.W.Destruct-dict κs) (record { shared = t.shared })
 
 pub run_workers-outcome-requires-after_bounds : goal.run_workers-outcome-requires-after_bounds
 run_workers-outcome-requires-after_bounds g c κs within =
@@ -40,7 +57,7 @@ gather-requires-clause-room g c =
     let ok = c.hire.new.places.ok in
     let room = c.hire.ensures.room in
     let kept = c.staff.ensures.taken.1 in
-    let most = c.in-Ok-with_capacity-2.ensures.capacity in
+    let most = c.in-Ok-with_capacity.ensures.capacity in
     omega arith
 
 pub dismiss-requires-clause-places : goal.dismiss-requires-clause-places
@@ -86,7 +103,7 @@ gather-requires-in-Err-clause-room g c =
     let ok = c.hire.new.places.ok in
     let room = c.hire.ensures.room in
     let kept = c.staff.ensures.taken.1 in
-    let most = c.in-Ok-with_capacity-2.ensures.capacity in
+    let most = c.in-Ok-with_capacity.ensures.capacity in
     omega arith
 
 pub dismiss-requires-in-Err-clause-places : goal.dismiss-requires-in-Err-clause-places
@@ -120,6 +137,22 @@ dismiss-requires-in-Err-clause-room g c =
 
 -- ---- what was served
 
+-- The source that the workers left is the one that is given back.
+source_is : (g : Over) (c : goal.After-dismiss g) → c.run_workers-outcome.new.source.source.now ≡ c.source-1.given.0
+source_is g c =
+    let W : Type 0 = Worker g.row.R.Denot g.row.T.Denot g.row.W.Denot g.row.T-Book.Denot in
+    let S : Type 0 = Seated g.row.T-Book.Denot g.row.T.Denot in
+    let D : Type 0 = Dealing g.row.S.Denot in
+    let t = g.T.NonBlocking in
+    let places : W → List S = λ w. w.places.items in
+    let same = runs_name (λ (d : D). d.source.now) (λ (d : D). d.source.ghost_name) g.S.Source.gives
+    (Runs t.incoming t.outgoing t.closes c.args.service.now places) c.staff.new.workers.items
+    c.in-Ok-outcome.workers.items c.new-dealing.result c.run_workers-outcome.new.source
+    c.in-Ok-outcome.ensures.ok in
+    let name_is = c.into_source.ensures.same_reference ∙ (same ∙ c.new-dealing.ensures.same_reference) in
+    let back = c.given_back.ensures ∙ c.into_source.ensures.source in
+    grind arith
+
 pub returns-in-Ok-outcome-clause-ok : goal.returns-in-Ok-outcome-clause-ok
 returns-in-Ok-outcome-clause-ok g c =
     let W : Type 0 = Worker g.row.R.Denot g.row.T.Denot g.row.W.Denot g.row.T-Book.Denot in
@@ -137,7 +170,6 @@ returns-in-Ok-outcome-clause-ok g c =
     let workers' = c.in-Ok-outcome.workers.items in
     let runs = Runs t.incoming t.outgoing t.closes own places in
     let ran = runs_behind of name g.S.Source.gives runs workers workers' old new c.in-Ok-outcome.ensures.ok in
-    let same = runs_name of name g.S.Source.gives runs workers workers' old new c.in-Ok-outcome.ensures.ok in
     let worked = all_worked t.incoming t.outgoing t.closes own places g.S.Source.gives (of old) (of new) workers
     workers' c.hire.new.places.items c.gather.new.places.items c.hire.ensures.places c.staff.ensures.all
     (some_each (λ (w : W). w.places) workers c.staff.ensures.each) c.gather.ensures.keeps c.gather.ensures.vacant
@@ -146,11 +178,9 @@ returns-in-Ok-outcome-clause-ok g c =
     (c.dismiss.ensures.books ∙ ap (λ l. l ++ reverse (map book c.gather.new.places.items)) c.hire.ensures.taken.0)
     c.hire.ensures.gives c.dismiss.ensures.takes c.dismiss.result.0 c.dismiss.result.1 c.dismiss.ensures.sums
     c.dismiss.ensures.refused ran in
-    let name_is = c.into_source.ensures.same_reference ∙ (same ∙ c.new-dealing.ensures.same_reference) in
-    let back = c.given_back.ensures ∙ c.into_source.ensures.source in
     subst (λ s. WorkedFrom t.incoming t.outgoing t.closes g.S.Source.gives own c.args.pass.now c.args.source.now
     c.args.books.now.items c.dismiss.result.0 c.dismiss.result.1 c.dismiss.new.pass s c.dismiss.new.books.items)
-    (grind arith)
+    (source_is g c)
     (subst (λ s. WorkedFrom t.incoming t.outgoing t.closes g.S.Source.gives own c.args.pass.now s
     c.args.books.now.items c.dismiss.result.0 c.dismiss.result.1 c.dismiss.new.pass (of new) c.dismiss.new.books.items)
     c.new-dealing.ensures.source worked)
@@ -158,7 +188,7 @@ returns-in-Ok-outcome-clause-ok g c =
 pub fault-requires : goal.fault-requires
 fault-requires g c bad =
     let count = c.staff.ensures.count in
-    let kits = c.in-Some.ensures.count in
+    let kits = c.in-Some-kits.ensures.count in
     let few = c.requires.count in
     elim (c.in-Err.ensures.bad_count.0 bad) [ inl low ↦ absurd (omega arith) | inr high ↦ absurd (omega arith) ]
 

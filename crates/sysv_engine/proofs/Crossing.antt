@@ -1,0 +1,221 @@
+-- Workers may move to other threads, and threads may share the job that they run.
+use denote.Hole.{as_row}
+use denote.RattleType.{RattleType}
+use denote.Ref.{NamedLft, ShrRef}
+use denote.Struct.Field.{row_field, shr_ref_field}
+use denote.Param.Send.{IsSend, IsSync, shr_send, shr_sync, view_send}
+use denote.Param.SendFields.{declared_send, declared_sync, as_row_send, as_row_sync}
+use Rattle.std.proofs.alloc.Global.TheSendSync as heaps
+use Rattle.std.proofs.option.Option.TheSendSync as options
+use Rattle.sysv_model.specs.contracts.body.Body as body
+use Rattle.sysv_session.specs.contracts.conversation.Conversation as conversation
+use Rattle.sysv_session.specs.contracts.conversation.Conversation.TheInside as conversation_inside
+use Rattle.sysv_session.specs.contracts.outbox.Mark as mark
+use Rattle.sysv_session.specs.contracts.outbox.Outbox as outbox
+use Rattle.sysv_session.specs.contracts.outbox.Outbox.TheInside as outbox_inside
+use Rattle.sysv_session.specs.contracts.served.End as end
+use Rattle.sysv_service.proofs.Crossing.{crossing, pass_send, service_sync}
+use Rattle.sysv_service.specs.contracts.caller.Stays as stays
+use Rattle.sysv_service.specs.contracts.caller.StaysCaller.TheImpl as caller
+use Rattle.sysv_service.specs.contracts.service.Service as service
+use Rattle.sysv_service.specs.declared.caller.Caller.{Ghosts as CallerGhosts}
+use Rattle.sysv_steps.specs.declared.clock.Clock.{Ghosts as ClockGhosts}
+use Rattle.sysv_seats.specs.contracts.client.Client as client
+use Rattle.sysv_seats.specs.contracts.client.Client.TheInside as client_inside
+use Rattle.sysv_seats.specs.contracts.kernel.ServiceKernel as kernel
+use Rattle.sysv_seats.specs.contracts.tools.Tools as tools
+use Rattle.sysv_seats.specs.contracts.zero.Zero as zero
+use Rattle.sysv_seats.specs.contracts.zero.ZeroClock.TheImpl as clock
+use Rattle.sysv_seats.specs.declared.non_blocking.NonBlocking.{Ghosts}
+use Rattle.sysv_seats.proofs.parked.Parked.TheSendSync.{the_send as parked_send}
+use Rattle.sysv_session.proofs.session.Session.TheSendSync.{the_send as session_send}
+use Rattle.sysv_seats.proofs.zero.Zero.TheSendSync.{the_sync as zero_sync}
+use Rattle.sysv_service.proofs.caller.Stays.TheSendSync.{the_send as stays_send}
+use Rattle.sysv_engine.specs.contracts.common.Common as common
+use Rattle.sysv_engine.specs.contracts.common.Letter as letter
+use Rattle.sysv_engine.specs.contracts.lines.Key as key
+use Rattle.sysv_engine.specs.contracts.lines.Line as line
+use Rattle.sysv_engine.specs.contracts.lines.Lines as lines
+use Rattle.sysv_engine.specs.contracts.lines.Link as link
+use Rattle.sysv_engine.specs.contracts.lines.SlotLines as slot_lines
+use Rattle.sysv_engine.specs.contracts.moment.Moment as moment
+use Rattle.sysv_engine.specs.contracts.place.Place as place
+use Rattle.sysv_engine.specs.contracts.place.Place.TheInside as place_inside
+use Rattle.sysv_engine.specs.contracts.rounds.Serving as serving
+use Rattle.sysv_engine.specs.contracts.times.Times as times
+use Rattle.sysv_engine.specs.contracts.watch.Ready as ready
+use Rattle.sysv_engine.specs.contracts.worker.Worker as worker
+use Rattle.sysv_engine.proofs.common.Common.TheSendSync as commons
+use Rattle.sysv_engine.proofs.sums.Sums.TheSendSync as sums
+
+kernel_send : (l : NamedLft) (R : RattleType) → IsSync R →
+    IsSend (kernel.the_row l zero.the_row R stays.the_row clock.ghosts caller.ghosts)
+kernel_send l R sr =
+    let served : IsSend (as_row (shr_ref_field l service.the_row tt)) =
+    search (crossing, service_sync, shr_send) depth 20 in
+    declared_send (kernel.the_type l zero.the_row R stays.the_row clock.ghosts caller.ghosts) (
+      as_row_send (row_field (ShrRef l.mir l.lft R)) (shr_send l.mir l.lft R sr),
+      (
+        served,
+        (
+          as_row_send (row_field (ShrRef l.mir l.lft zero.the_row)) (shr_send l.mir l.lft zero.the_row zero_sync),
+          (pass_send, (stays_send, tt)),
+        ),
+      ),
+    )
+
+body_send : IsSend body.the_row
+body_send = search crossing depth 30
+
+tools_send : IsSend tools.the_row
+tools_send = search (crossing, body_send) depth 40
+
+mark_send : IsSend mark.the_row
+mark_send = search crossing depth 40
+
+outbox_send : IsSend outbox.the_row
+outbox_send = view_send outbox_inside.the_row _ _ _ _ (declared_send outbox_inside.the_type (
+  search crossing depth 30,
+  (search crossing depth 10, (search (crossing, mark_send) depth 30, tt)),
+))
+
+conversation_send : IsSend conversation.the_row
+conversation_send = view_send conversation_inside.the_row _ _ _ _
+    (declared_send conversation_inside.the_type (session_send, (outbox_send, tt)))
+
+end_send : IsSend end.the_row
+end_send = search crossing depth 40
+
+client_send : (T B : RattleType) (ghosts : Ghosts T.Denot B.Denot) → IsSend T → IsSend (client.the_row T B ghosts)
+client_send T B ghosts t = view_send (client_inside.the_row T B ghosts) _ _ _ _
+    (declared_send (client_inside.the_type T B ghosts) (
+      as_row_send (row_field T) t,
+      (
+        conversation_send,
+        (
+          search crossing depth 30,
+          (
+            search crossing depth 10,
+            (
+              options.the_send _ parked_send,
+              (
+                options.the_send _ end_send,
+                (
+                  search crossing depth 10,
+                  (
+                    search crossing depth 10,
+                    (
+                      search crossing depth 10,
+                      (search crossing depth 10, (search crossing depth 10, (search crossing depth 10, tt))),
+                    ),
+                  ),
+                ),
+              ),
+            ),
+          ),
+        ),
+      ),
+    ))
+
+times_send : IsSend times.the_row
+times_send = search crossing depth 40
+
+place_send : (l : NamedLft) (R T B : RattleType) (ghosts : Ghosts T.Denot B.Denot) → IsSync R → IsSend T → IsSend B →
+    IsSend (place.the_row l R T B ghosts)
+place_send l R T B ghosts r t b = view_send (place_inside.the_row l R T B ghosts) _ _ _ _
+    (declared_send (place_inside.the_type l R T B ghosts) (
+      kernel_send l R r,
+      (
+        options.the_send _ (client_send T B ghosts t),
+        (
+          sums.the_send,
+          (
+            search crossing depth 10,
+            (
+              as_row_send (row_field B) b,
+              (times_send, (search crossing depth 10, (search crossing depth 10, tt))),
+            ),
+          ),
+        ),
+      ),
+    ))
+
+line_send : IsSend line.the_row
+line_send = search crossing depth 30
+
+slot_lines_send : IsSend slot_lines.the_row
+slot_lines_send = search (crossing, line_send) depth 30
+
+key_send : IsSend key.the_row
+key_send = search crossing depth 40
+
+link_send : IsSend link.the_row
+link_send = search (crossing, key_send) depth 40
+
+lines_send : IsSend lines.the_row
+lines_send = declared_send lines.the_type (
+  search (crossing, slot_lines_send) depth 30,
+  (
+    search (crossing, line_send) depth 30,
+    (line_send, (search (crossing, link_send) depth 30, (search crossing depth 30, tt))),
+  ),
+)
+
+ready_send : IsSend ready.the_row
+ready_send = search crossing depth 30
+
+letter_send : IsSend letter.the_row
+letter_send = search crossing depth 60
+
+moment_send : IsSend moment.the_row
+moment_send = search crossing depth 30
+
+pub worker_send : (l : NamedLft) (R T W B : RattleType) (ghosts : Ghosts T.Denot B.Denot) → IsSync R → IsSend T →
+    IsSend W → IsSend B → IsSend (worker.the_row l R T W B ghosts)
+worker_send l R T W B ghosts r t w b =
+    let placed = place_send l R T B ghosts r t b in
+    declared_send (worker.the_type l R T W B ghosts) (
+      search crossing depth 10,
+      (
+        search (crossing, placed) depth 30,
+        (
+          search crossing depth 30,
+          (
+            as_row_send (row_field W) w,
+            (
+              search (crossing, ready_send) depth 30,
+              (
+                lines_send,
+                (
+                  search crossing depth 30,
+                  (
+                    search (crossing, letter_send) depth 30,
+                    (
+                      tools_send,
+                      (
+                        search crossing depth 10,
+                        (
+                          options.the_send _ moment_send,
+                          (search crossing depth 10, (search crossing depth 10, tt)),
+                        ),
+                      ),
+                    ),
+                  ),
+                ),
+              ),
+            ),
+          ),
+        ),
+      ),
+    )
+
+pub serving_sync : (l m : NamedLft) (R : RattleType) → IsSync R → IsSync (serving.the_row l m R)
+serving_sync l m R y =
+    let served : IsSync (as_row (shr_ref_field l service.the_row tt)) =
+    search (crossing, service_sync, shr_sync) depth 20 in
+    let shared : IsSync (as_row (shr_ref_field m common.the_row tt)) =
+    search (crossing, commons.the_sync, shr_sync) depth 20 in
+    declared_sync (serving.the_type l m R) (
+      as_row_sync (row_field (ShrRef l.mir l.lft R)) (shr_sync l.mir l.lft R y),
+      (search (crossing, heaps.the_sync) depth 10, (served, (shared, tt))),
+    )
