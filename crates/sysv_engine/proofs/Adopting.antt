@@ -1,5 +1,5 @@
 -- What the places of a worker have had, from what each of its runs adopted.
-use Rattle.std.proofs.Common.{◌≡◌, ◌∙◌, ℕ, List, [], ◌∷◌, ◌++◌, ◌⊎◌, map, length, ap, refl, sym, subst, inl, inr}
+use Rattle.std.proofs.Common.{◌≡◌, ◌∙◌, List, [], ◌∷◌, ◌++◌, ap, refl, sym, subst, inl, inr}
 use Rattle.std.proofs.Common.{append_assoc, arith}
 use Rattle.std.specs.List.{FoldsTo, flat_map}
 use Rattle.std.specs.List.Sorted.{IsPermutation}
@@ -9,7 +9,7 @@ use Rattle.std.proofs.lemmas.List.Sorted.{IsPermutation-append_comm, IsPermutati
 use Rattle.std.proofs.lemmas.List.Sorted.{IsPermutation-append_right, IsPermutation-refl, IsPermutation-trans}
 use Rattle.sysv_bank.specs.Banks.{Each2}
 use Rattle.sysv_workers.specs.Parts.{IsSubsequenceOf}
-use Rattle.sysv_engine.specs.Places.{Adopts, Serves, Standing, with_one}
+use Rattle.sysv_engine.specs.Places.{Adopts, Standing, with_one}
 
 moved : {T : Type 0} (a h b : List T) (c : T) → IsPermutation (a ++ ((h ++ c ∷ []) ++ b)) ((a ++ (h ++ b)) ++ c ∷ [])
 moved a h b c =

@@ -18,8 +18,6 @@ use Rattle.sysv_service.proofs.Crossing.{crossing, pass_send, service_sync}
 use Rattle.sysv_service.specs.contracts.caller.Stays as stays
 use Rattle.sysv_service.specs.contracts.caller.StaysCaller.TheImpl as caller
 use Rattle.sysv_service.specs.contracts.service.Service as service
-use Rattle.sysv_service.specs.declared.caller.Caller.{Ghosts as CallerGhosts}
-use Rattle.sysv_steps.specs.declared.clock.Clock.{Ghosts as ClockGhosts}
 use Rattle.sysv_seats.specs.contracts.client.Client as client
 use Rattle.sysv_seats.specs.contracts.client.Client.TheInside as client_inside
 use Rattle.sysv_seats.specs.contracts.kernel.ServiceKernel as kernel

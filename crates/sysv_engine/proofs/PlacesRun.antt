@@ -1,6 +1,6 @@
 -- A run of workers that have several places each is a run over all their places.
-use Rattle.std.proofs.Common.{◌≡◌, ◌∙◌, ℕ, ◌≤◌, ◌+◌, List, [], ◌∷◌, ◌++◌, ◌⊎◌, Option, map, length, ap, refl, sym, subst}
-use Rattle.std.proofs.Common.{append_assoc, arith, inl, inr, length-append, suc}
+use Rattle.std.proofs.Common.{◌≡◌, ◌∙◌, ℕ, ◌≤◌, ◌+◌, List, [], ◌∷◌, ◌++◌, Option, map, length, ap, refl, sym, subst}
+use Rattle.std.proofs.Common.{arith, inl, inr, length-append, suc}
 use Rattle.std.specs.List.{All, FoldsTo, flat_map}
 use Rattle.std.specs.List.Sorted.{IsPermutation}
 use Rattle.std.proofs.lemmas.Grind.{flat_map-append}
@@ -12,7 +12,7 @@ use Rattle.sysv_workers.specs.Parts.{AreInOrder, IsSubsequenceOf, Leads, Part}
 use Rattle.sysv_workers.specs.Running.{GivesBack, RunsAll}
 use Rattle.sysv_workers.specs.declared.refusals.WorkersFault.{WorkersFault}
 use Rattle.sysv_workers.specs.declared.refusals.WorkersFault.TheVariants.{BadCount, NoMemory, Thread, Worn, Missed}
-use Rattle.sysv_engine.specs.Places.{Adopts, Serves, Standing}
+use Rattle.sysv_engine.specs.Places.{Serves, Standing}
 use Rattle.sysv_engine.proofs.Adopting.{AllAdopt, HasMore, all_had, alone, each_once, in_order}
 
 sub_trans : {T : Type 0} (xs ys zs : List T) → IsSubsequenceOf xs ys → IsSubsequenceOf ys zs → IsSubsequenceOf xs zs

@@ -1,12 +1,12 @@
 -- A run of workers, with the workers in the other order.
-use Rattle.std.proofs.Common.{◌≡◌, ◌∙◌, ℕ, List, [], ◌∷◌, ◌++◌, Option, map, reverse, length, ap, refl, sym, subst, arith}
+use Rattle.std.proofs.Common.{◌≡◌, ◌∙◌, List, [], ◌∷◌, ◌++◌, Option, map, reverse, length, ap, refl, sym, subst, arith}
 use Rattle.std.specs.List.{All, FoldsTo, flat_map}
 use Rattle.std.specs.List.Sorted.{IsPermutation}
 use Rattle.std.proofs.lemmas.Grind.{flat_map-append}
 use Rattle.std.proofs.lemmas.List.{append-nil, length-map, length-reverse, map-append, reverse-append}
 use Rattle.std.proofs.lemmas.List.Elements.{All-head, All-tail, All-cons}
 use Rattle.std.proofs.lemmas.List.Sorted.{IsPermutation-append_comm, IsPermutation-append_left, IsPermutation-refl, IsPermutation-trans}
-use Rattle.sysv_workers.specs.Parts.{AreInOrder, IsSubsequenceOf, Leads, Part}
+use Rattle.sysv_workers.specs.Parts.{IsSubsequenceOf, Leads, Part}
 use Rattle.sysv_workers.specs.Running.{GivesBack, RunsAll}
 use Rattle.sysv_workers.specs.declared.refusals.WorkersFault.{WorkersFault}
 use Rattle.sysv_workers.specs.declared.refusals.WorkersFault.TheVariants.{BadCount, NoMemory, Thread, Worn, Missed}

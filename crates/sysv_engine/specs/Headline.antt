@@ -11,7 +11,7 @@
 -- connection in memory tells them all, and a socket tells none, since no contract speaks of what the
 -- system does with them. What is kept of a connection when it is closed is in the book of the place
 -- that served it.
-use Rattle.std.specs.Prelude.{◌≡◌, ◌≤◌, ℕ, List, Option, length}
+use Rattle.std.specs.Prelude.{◌≡◌, ℕ, List, Option, length}
 use Rattle.std.specs.List.Sorted.{IsPermutation}
 use Rattle.sysv_service.specs.Opened.{AreOpen}
 use Rattle.sysv_service.specs.Seats.{Gates}

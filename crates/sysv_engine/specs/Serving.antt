@@ -1,7 +1,7 @@
 -- How a server serves a source of connections, and what a fault leaves (this project's profile). Its
 -- places share one service, each place has a pass of its own, and there is one session for each
 -- connection.
-use Rattle.std.specs.Prelude.{◌≡◌, ℕ, List, [], Option, Some, Result, length}
+use Rattle.std.specs.Prelude.{◌≡◌, ℕ, List, [], Option, Result, length}
 use Rattle.std.specs.List.Sorted.{IsPermutation}
 use Rattle.sysv_service.specs.Opened.{AreOpen}
 use Rattle.sysv_service.specs.Seats.{Gates, AreOf}

@@ -1,9 +1,9 @@
 -- The workers run, their places are taken back, and so are the passes and the books of these.
 use mir.Syntax.{named as lifetime}
 use denote.Param.Send.{arg_send, param_send, param_sync}
-use Rattle.std.proofs.Common.{◌≡◌, ◌∙◌, ℕ, ◌≤◌, ◌<◌, List, [], ◌++◌, map, reverse, length, ap, arith, inl, inr, refl}
+use Rattle.std.proofs.Common.{◌≡◌, ◌∙◌, ℕ, List, ◌++◌, map, reverse, length, ap, arith, inl, inr}
 use Rattle.std.proofs.Common.{subst, sym}
-use Rattle.std.specs.List.{All, flat_map}
+use Rattle.std.specs.List.{All}
 use Rattle.sysv_engine.specs.declared.dealing.Dealing.{Dealing}
 use Rattle.sysv_engine.specs.declared.worker.Worker.{Worker}
 use Rattle.sysv_engine.specs.Places.{IsOpened, Seated}

@@ -1,5 +1,5 @@
 -- One more place is vacant, and keeps what it was.
-use Rattle.std.proofs.Common.{◌≡◌, ◌∙◌, ℕ, ◌<◌, None, ap, arith, below_more, slice_index_or, slice_set}
+use Rattle.std.proofs.Common.{◌≡◌, ◌∙◌, None, ap, arith, below_more, slice_index_or, slice_set}
 use Rattle.std.proofs.lemmas.List.{get_or-set_other, get_or-set_same}
 use Rattle.sysv_engine.specs.Places.{Seated, Stands}
 use Rattle.sysv_engine.proofs.PlaceLists.{kept_at}

@@ -1,4 +1,4 @@
-use Rattle.std.proofs.Common.{◌≡◌, ◌≤◌, ◌<◌, ℕ, vec_len, None, slice_index_or}
+use Rattle.std.proofs.Common.{◌≡◌, ◌<◌, ℕ, vec_len, None, slice_index_or}
 use Rattle.sysv_engine.specs.Places.{KeepsAll}
 use Rattle.sysv_engine.proofs.crew.vacate.Given as goal
 

@@ -1,5 +1,5 @@
 -- The places of one worker more were taken back.
-use Rattle.std.proofs.Common.{◌≡◌, ◌∙◌, ◌≤◌, ◌+◌, ℕ, List, ap, arith, length, length-append, reverse, vec_len}
+use Rattle.std.proofs.Common.{◌∙◌, List, ap, arith, length, length-append, reverse, vec_len}
 use Rattle.std.proofs.lemmas.List.{length-reverse}
 use Rattle.std.proofs.lemmas.List.Sums.{sum_by_push}
 use Rattle.std.specs.List.{sum_by}
