@@ -50,7 +50,8 @@ module _ {V T : Type 0} where
       let now = ap all_had adopts.now ∙ had_in adopts.before (with_one c p) adopts.after in
       let one = moved (all_had adopts.before) p.had (all_had adopts.after) c in
       subst (λ l. IsPermutation (all_had new) (l ++ c ∷ [])) (sym was)
-      (subst (λ l. IsPermutation l ((all_had adopts.before ++ (p.had ++ all_had adopts.after)) ++ c ∷ [])) (sym now) one)
+      (subst (λ l. IsPermutation l ((all_had adopts.before ++ (p.had ++ all_had adopts.after)) ++ c ∷ [])) (sym now)
+      one)
 
   pub each_once : (old : List (Standing V T)) (connections : List T) (new : List (Standing V T)) →
       AllAdopt old connections new → IsPermutation (all_had new) (all_had old ++ connections)

@@ -92,7 +92,8 @@ module _ {T B : Type 0} (incoming outgoing : T → Option (List ℕ)) (closes : 
       subst (λ p. Stands incoming outgoing closes gates (with_one connection standing) p) (sym is) (
         stood.0,
         adopts incoming outgoing closes (Sits incoming outgoing) standing (view_of vacant) connection client
-            (subst (λ c. IsPlace incoming outgoing closes (Sits incoming outgoing) standing (view_of vacant) c) none stood.1)
+            (subst (λ c. IsPlace incoming outgoing closes (Sits incoming outgoing) standing (view_of vacant) c) none
+            stood.1)
             (sits vacant.pass),
       )
 

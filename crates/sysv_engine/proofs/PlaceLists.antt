@@ -1,5 +1,6 @@
 -- What the places of a worker have had, after one of them changed.
-use Rattle.std.proofs.Common.{◌≡◌, ℕ, List, [], ◌∷◌, ◌<◌, slice_set, slice_index_or, length, suc, zero, Option, subst, sym, refl, ap, arith}
+use Rattle.std.proofs.Common.{◌≡◌, ℕ, List, [], ◌∷◌, ◌<◌, slice_set, slice_index_or, length, suc, zero, Option, subst}
+use Rattle.std.proofs.Common.{sym, refl, ap, arith}
 use Rattle.sysv_bank.specs.Banks.{Each2}
 use Rattle.sysv_seats.specs.Untold.{Closing}
 use Rattle.sysv_engine.specs.Places.{Adopts, AdoptsOne, KeepsAll, KeepsPlace, Seated, Standing, Stands, TakesIn}

@@ -341,7 +341,8 @@ module _ {W P V T : Type 0} (places : W → List P) (view : P → V) (Stands : S
     same_again : (ws ws' : List W) (ps : List P) → ws' ≡ ws → All IsFresh ws → Vacates (all_places ws') ps →
         map view ps ≡ map view (all_places ws)
     same_again ws ws' ps is fresh vacated =
-        unmoved (all_places ws) ps (subst (λ l. Vacates (all_places l) ps) is vacated (begun (all_places ws)) (each_begun ws fresh))
+        unmoved (all_places ws) ps
+        (subst (λ l. Vacates (all_places l) ps) is vacated (begun (all_places ws)) (each_begun ws fresh))
 
     led_on : (ws ws' : List W) (ps : List P) → All IsFresh ws → Vacates (all_places ws') ps →
         (parts : List (Part W T)) × Leads Runs ws parts ws' →

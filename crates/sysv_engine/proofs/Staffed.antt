@@ -75,7 +75,9 @@ module _ {T B : Type 0} (incoming outgoing : T → Option (List ℕ)) (closes : 
   opened_stands : (p : Seated B T) → IsOpened gates p → St (record { start = view_of p; had = [] }) p
   opened_stands p is = (
     is.0,
-    subst (λ c. IsPlace incoming outgoing closes (Sits incoming outgoing) (record { start = view_of p; had = [] }) (view_of p) c) (sym is.2)
+    subst (λ c.
+        IsPlace incoming outgoing closes (Sits incoming outgoing) (record { start = view_of p; had = [] }) (view_of p)
+        c) (sym is.2)
         refl,
   )
 

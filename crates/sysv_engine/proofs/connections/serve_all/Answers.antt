@@ -43,7 +43,8 @@ returns-in-Ok-outcome-clause-ok g c =
       crewed = worked.crewed;
       sums = worked.adds;
       refused = worked.counts;
-      lived = lived laws.run laws.whole laws.none_held laws.empty c.args.blocks c.in-Ok.service c.stop-removed.result stopped
+      lived = lived laws.run laws.whole laws.none_held laws.empty c.args.blocks c.in-Ok.service c.stop-removed.result
+          stopped
           c.close-closed.result c.close-closed.ensures opened.0 c.stop-removed.ensures.pass shifts hires;
       closed = refl;
     }
@@ -67,7 +68,8 @@ returns-in-Err-clause-err g c =
     fault_says t.incoming t.outgoing t.closes g.S.Source.gives c.args.source.now c.serve_with-outcome.new.source
     c.args.books.now.items c.serve_with-outcome.new.books.items
     (HiredFrom c.in-Ok.service first c.serve_with-outcome.new.pass) (HasLived c.args.blocks)
-    (have_lived laws.run laws.whole laws.none_held laws.empty c.args.blocks c.in-Ok.service c.stop-removed.result stopped
+    (have_lived laws.run laws.whole laws.none_held laws.empty c.args.blocks c.in-Ok.service c.stop-removed.result
+    stopped
     c.close-closed.result c.close-closed.ensures opened.0 c.stop-removed.ensures.pass first opened.1)
     c.in-Err.why c.in-Err.ensures.err
 

@@ -25,7 +25,8 @@ loop-book-preserved g c =
     Gives c.loop-book.pass p c.split_pass.new.pass) (sym pass) (ok.1, c.in-Ok.ensures.held, ok.2) in
     let more = folds_last Gives c.args.pass.now (map of c.loop-book.places.items) c.loop-book.pass (of c.new.result)
     c.split_pass.new.pass c.loop-book.invariant.gives theirs in
-    let passes = ap (map of) c.push_reserved.ensures.items ∙ map-append of c.loop-book.places.items (c.new.result ∷ []) in
+    let passes =
+    ap (map of) c.push_reserved.ensures.items ∙ map-append of c.loop-book.places.items (c.new.result ∷ []) in
     let books = ap (λ l. reverse (map book l)) c.push_reserved.ensures.items
     ∙ (ap reverse (map-append book c.loop-book.places.items (c.new.result ∷ []))
     ∙ reverse_last (map book c.loop-book.places.items) (book c.new.result)) in

@@ -1,5 +1,6 @@
 -- One worker more has the last places, as many as its kit has room for.
-use Rattle.std.proofs.Common.{◌≡◌, ◌∙◌, ◌≤◌, List, [], ◌++◌, reverse, ap, arith, refl, subst, sym, vec_capacity, vec_len}
+use Rattle.std.proofs.Common.{◌≡◌, ◌∙◌, ◌≤◌, List, [], ◌++◌, reverse, ap, arith, refl, subst, sym, vec_capacity}
+use Rattle.std.proofs.Common.{vec_len}
 use Rattle.std.proofs.lemmas.List.Elements.{All-push}
 use Rattle.std.proofs.lemmas.List.Sums.{sum_by_push}
 use Rattle.std.specs.List.{All, flat_map, sum_by}

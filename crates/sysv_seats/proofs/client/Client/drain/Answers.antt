@@ -13,7 +13,8 @@ returns-in-Took-clause-keeps g c = keeps_from g.T.NonBlocking.incoming g.T.NonBl
     c.unsent.ensures c.sent.ensures c.drain.ensures.unread c.in-Took.ensures.bytes)
 
 pub returns-in-NothingNow-clause-keeps : goal.returns-in-NothingNow-clause-keeps
-returns-in-NothingNow-clause-keeps g c = keeps_from g.T.NonBlocking.incoming g.T.NonBlocking.outgoing _ _ _ c.self.view_is
+returns-in-NothingNow-clause-keeps g c =
+    keeps_from g.T.NonBlocking.incoming g.T.NonBlocking.outgoing _ _ _ c.self.view_is
     (turned g.T.NonBlocking.incoming g.T.NonBlocking.outgoing _ c.drain.new.self c.drain.ensures.unread
     c.in-NothingNow.ensures.bytes)
 
