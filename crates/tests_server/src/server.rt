@@ -21,7 +21,7 @@ use sysv_server::{
 use sysv_service::Closed;
 
 /// What is left of a service of 128 blocks when it is closed: no message, all blocks, no held gate.
-pub(crate) const EMPTY: Closed = Closed {
+const EMPTY: Closed = Closed {
     waiting: 0,
     free: 128,
     held: 0,

@@ -1,7 +1,7 @@
 //! Servers over connections in memory, whose sessions and replies were worked out by hand.
 ghost use Rattle.std.specs.Prelude.{◌≡◌, ◌≤◌, vec_len};
 
-use crate::server::{CREATE, EMPTY, FOUND, HELLO, KNOWN, RECEIVE, RECEIVED, SEND, SENT, sums};
+use crate::frames::{CREATE, EMPTY, FOUND, HELLO, KNOWN, RECEIVE, RECEIVED, SEND, SENT, sums};
 use std::alloc::Global;
 use std::process::Abort;
 use std::sync::Wait;
