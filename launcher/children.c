@@ -37,7 +37,7 @@ static void ignore_ends(void)
         signal(ends[i], SIG_IGN);
 }
 
-/* The server needs a descriptor for each session. */
+/* The soft limit decides how many clients the server serves at once. */
 static void raise_descriptor_limit(void)
 {
     struct rlimit limit;

@@ -417,7 +417,7 @@ static void leave(struct connection *connection, const struct call *call)
 static bool is_early(ssize_t got) { return got < 0 && (errno == EAGAIN || errno == EINTR); }
 
 /* Waits for the beginning of a reply as its call may wait. Returns what recv returns, or 0 if a
- * call whose wait has ended gets no worker of the server. */
+ * call whose wait has ended was not served yet. */
 static ssize_t await_reply(
     struct connection *connection, bool is_hello, struct iovec pieces[2], struct call *call)
 {

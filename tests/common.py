@@ -4,6 +4,7 @@ there is none. A script that is given --help prints its own documentation."""
 import ctypes
 import os
 import re
+import resource
 import signal
 import socket
 import subprocess
@@ -19,6 +20,7 @@ import sysvmsg
 from sysvmsg import CREAT, EXCEPT, EXCL, GET, HELLO, NOERROR, NOWAIT, RCV, RM, ROW, SET, SND, STAT, Request, frame
 
 SLOTS = 256
+MOST_AT_ONCE = 16384
 LIBC = ctypes.CDLL(None)
 PR_SET_PDEATHSIG = 1
 
@@ -64,6 +66,21 @@ def finished(process, seconds=60):
     except subprocess.TimeoutExpired:
         process.kill()
         return process.communicate()[0].decode(), "none after %d seconds" % seconds
+
+
+def places(workers=4, descriptors=None):
+    """For how many clients at once a server has descriptors, of which five are its own, and two are for each worker. The limit
+    of open files is that of this process if none is given."""
+    if descriptors is None:
+        descriptors = resource.getrlimit(resource.RLIMIT_NOFILE)[0]
+    if descriptors == resource.RLIM_INFINITY:
+        return MOST_AT_ONCE
+    return min(max(descriptors - 5 - 2 * workers, 1), MOST_AT_ONCE)
+
+
+def serving(path, count):
+    """The first line of a server at a path that serves so many sessions at once."""
+    return "sysvmsg: serving %s, up to %d session%s at once\n" % (path, count, "s" * (count != 1))
 
 
 def hello(uid, gid, pid, version=2):

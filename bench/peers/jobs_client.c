@@ -1,7 +1,7 @@
 /* N senders and N receivers on one queue of a server, each a process with a connection of its own to a Unix socket.
  *   jobs_client WAY PATH PAIRS MILLISECONDS PID
  * WAY is sysvmsg (a send; a receive that waits), redis (LPUSH; BRPOP) or beanstalkd (put; reserve and delete). PAIRS is
- * N, 1 to 127. PID is the process of the server. Its queue must be new or empty.
+ * N, 1 to 1000. PID is the process of the server. Its queue must be new or empty.
  *
  * The receivers wait before the first send. The senders send messages of 64 bytes for the given time, each as soon as
  * it has the reply to its last message. Then one message per receiver, behind all others, ends the receivers. It prints
@@ -26,7 +26,7 @@
 #include <unistd.h>
 
 #define BODY 64
-#define MOST 127
+#define MOST 1000
 #define GRACE 15
 #define STOP UINT32_MAX
 #define BROKEN (UINT32_MAX - 1)
@@ -311,7 +311,7 @@ static void reap(int count) {
 static int64_t run(const struct way *way, const char *path, int pairs, int64_t milliseconds, clockid_t server) {
     struct peer peer = {0};
     struct job stop = {.sender = STOP};
-    struct timespec before, after, pause = {.tv_nsec = 50000000};
+    struct timespec before, after, pause = {.tv_nsec = 50000000 + pairs * 500000L};
     int ready[2], go[2];
     char byte;
     fill(&stop);

@@ -565,7 +565,7 @@ class Connection:
             while not hello.done:
                 # (no call was made yet, so nothing can be lost)
                 if not session._step(deadline):
-                    raise TimedOut("no worker of the server was free in time")
+                    raise TimedOut("the server did not serve this client in time")
             self.slots = hello.result()
             if self.version != 1 and self.slots is None:
                 raise ProtocolError("the reply to the hello has no number of slots")
@@ -664,7 +664,7 @@ def connect(path: str, *, uid: Optional[int] = None, gid: Optional[int] = None, 
     """Connects to the server at a path, as this process's effective user and group or as the given ones. The server
     does not check them.
 
-    With `wait`, it raises `TimedOut` if no worker of the server is free within that many seconds. It raises
+    With `wait`, it raises `TimedOut` if the server does not serve this client within that many seconds. It raises
     FileNotFoundError or ConnectionRefusedError if there is no server, and PermissionError if the socket's mode forbids
     it.
     """

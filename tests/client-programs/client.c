@@ -311,8 +311,8 @@ static void try_cancel(void)
     sysvmsg_close(server);
 }
 
-/* The only worker of the server is taken. */
-static void try_no_worker(void)
+/* The only place of the server is taken. */
+static void try_no_place(void)
 {
     struct sysvmsg *server = open_server();
     CHECK(!sysvmsg_open(path, 300) && errno == ETIMEDOUT);
@@ -347,7 +347,7 @@ int main(int count, char **words)
         void (*part)(void);
     } parts[] = {{"limits", try_limits}, {"races", try_races}, {"threads", try_threads},
         {"fork", try_fork}, {"signal", try_signal}, {"cancel", try_cancel},
-        {"no-worker", try_no_worker}, {"no-server", try_no_server}, {"many", try_many}};
+        {"no-place", try_no_place}, {"no-server", try_no_server}, {"many", try_many}};
     if (count < 3)
         return 2;
     path = words[2];

@@ -120,9 +120,9 @@ static void forks(void)
     expect(count_descriptors(is_socket) == 1, "the parent has not one connection");
 }
 
-/* The server's only worker serves the child until its end, and then the parent. The pipe orders
+/* The child has the server's only place until its end, and then the parent. The pipe orders
  * them: its second byte is there once the child is about to end. */
-static void waits_for_worker(void)
+static void waits_for_place(void)
 {
     int pipe_ends[2];
     char bytes[2];
@@ -153,7 +153,7 @@ static void *pairs(void *type)
     return NULL;
 }
 
-/* More threads at once than the server has workers would wait for one another's ends. */
+/* More threads at once than the server has places would wait for one another's ends. */
 static void threads(void)
 {
     pthread_t all[THREADS];
@@ -175,7 +175,7 @@ static void *one_pair(void *type)
                : type;
 }
 
-/* Far more threads than workers, one after the other: each closes its connection at its end. */
+/* Far more threads than places, one after the other: each closes its connection at its end. */
 static void short_threads(void)
 {
     pthread_t thread;
@@ -201,7 +201,7 @@ static void *call_and_pause(void *unused)
     return unused;
 }
 
-/* A child of fork has no copy of other threads' connections: what would hold the server's worker
+/* A child of fork has no copy of other threads' connections: what would hold the server's place
  * for as long as the child lives. */
 static void fork_beside_threads(void)
 {
@@ -632,9 +632,9 @@ static void signals_end_one_thread(void)
     expect(count_descriptors(is_socket) == 1, "connections are left");
 }
 
-/* A wait for the server's only worker is ended by a signal too, but not that of a call that the
+/* A wait for the server's only place is ended by a signal too, but not that of a call that the
  * kernel doesn't let wait. */
-static void signals_end_wait_for_worker(void)
+static void signals_end_wait_for_place(void)
 {
     int pipe_ends[2], id = new_queue();
     char byte;
@@ -642,7 +642,7 @@ static void signals_end_wait_for_worker(void)
     pid_t child = fork();
     if (child == 0) {
         expect(write(pipe_ends[1], "1", 1) == 1, "write");
-        msgget(id, 0); /* takes the worker once the parent has closed its connection */
+        msgget(id, 0); /* takes the place once the parent has closed its connection */
         usleep(2000000);
         _exit(0);
     }
@@ -995,7 +995,7 @@ static const struct {
     {"only-handlers-end-waits", only_handlers_end_waits},
     {"never-waits", never_waits},
     {"signal-ends-one-thread", signals_end_one_thread},
-    {"signal-ends-wait-for-worker", signals_end_wait_for_worker},
+    {"signal-ends-wait-for-place", signals_end_wait_for_place},
     {"descriptors", descriptors},
     {"few-descriptors", few_descriptors},
     {"user", changes_user},
@@ -1005,7 +1005,7 @@ static const struct {
     {"idle", idle},
     {"no-server", no_server},
     {"unread-error", unread_error},
-    {"wait-for-worker", waits_for_worker},
+    {"wait-for-place", waits_for_place},
 };
 
 static const struct {

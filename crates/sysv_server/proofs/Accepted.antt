@@ -9,22 +9,22 @@ use Rattle.std.proofs.lemmas.List.Sums.{sum_by-cons}
 use Rattle.sysv_session.specs.declared.served.Served.{Served}
 use Rattle.sysv_workers.specs.Sources.{GivesAll}
 use Rattle.sysv_server.specs.declared.accepting.Accepting.{Accepting}
-use Rattle.sysv_server.specs.declared.fault.ServeFault.{ServeFault}
+use Rattle.sysv_engine.specs.declared.fault.ServeFault.{ServeFault}
 use Rattle.sysv_server.specs.declared.host.Reason.{Reason}
 use Rattle.sysv_server.specs.declared.host.Reason.TheVariants.{Full, InputOver, NoSocket, Accept}
-use Rattle.sysv_server.specs.declared.sums.Sums.{Sums}
-use Rattle.sysv_server.specs.declared.terms.Ended.{Ended}
+use Rattle.sysv_engine.specs.declared.sums.Sums.{Sums}
+use Rattle.sysv_engine.specs.declared.terms.Ended.{Ended}
 use Rattle.sysv_server.specs.Accepts.{Accepts, HasEnded, is_closed, is_unopened}
-use Rattle.sysv_server.specs.Added.{capped, one_session}
-use Rattle.sysv_server.specs.declared.socket.Nothing.{Nothing}
-use Rattle.sysv_server.specs.declared.socket.Socket.{Socket}
-use Rattle.sysv_server.specs.Handled.{told_in}
-use Rattle.sysv_server.specs.Headline.{ServesConnections}
-use Rattle.sysv_server.specs.declared.fault.ServeFault.TheVariants as faults
-use Rattle.sysv_server.specs.Serving.{EndsOn, FailsOn, HasLived, HasReason, LeavesConnections, ServesOn}
-use Rattle.sysv_server.specs.Talks.{tally_of}
+use Rattle.sysv_engine.specs.Added.{capped, one_session}
+use Rattle.sysv_seats.specs.declared.socket_stream.SocketStream.{SocketStream}
+use Rattle.sysv_engine.specs.Handled.{told_in}
+use Rattle.sysv_engine.specs.Headline.{ServesConnections}
+use Rattle.sysv_engine.specs.declared.fault.ServeFault.TheVariants as faults
+use Rattle.sysv_engine.specs.Serving.{HasLived, LeavesConnections}
+use Rattle.sysv_server.specs.Serving.{EndsOn, FailsOn, HasReason, ServesOn}
+use Rattle.sysv_engine.specs.Talks.{tally_of}
 use Rattle.sysv_seats.specs.Untold.{leaves_nothing, untold}
-use Rattle.sysv_server.proofs.SessionsPerConnection.{as_books, one_each}
+use Rattle.sysv_engine.proofs.SessionsPerConnection.{as_books, one_each}
 
 room : (m a a' n : ℕ) → m ≤ 2 ^ 64 - 1 → a < m → a' ≡ min (a + 1) (2 ^ 64 - 1) → (a' ≤ m → a' + n ≤ m) → a + (n + 1) ≤ m
 room m a a' n small low is rest = omega arith
@@ -45,14 +45,14 @@ all_counted (t ∷ told) =
 -- ---- the connections of a listener
 
 module _ {I H : Type 0} where
-  abbrev pub Gives : Accepting I H → Option Socket → Accepting I H → Type 0
+  abbrev pub Gives : Accepting I H → Option SocketStream → Accepting I H → Type 0
   Gives = Accepts
 
   -- the connections that were given one after the other
-  abbrev Given : List Socket → Accepting I H → Accepting I H → Type 0
+  abbrev Given : List SocketStream → Accepting I H → Accepting I H → Type 0
   Given items s s' = FoldsTo (λ s x s'. Gives s (Some x) s') s items s'
 
-  within : (items : List Socket) (s s' : Accepting I H) → Given items s s' → s.most ≢ 0 → s.most ≤ 2 ^ 64 - 1 →
+  within : (items : List SocketStream) (s s' : Accepting I H) → Given items s s' → s.most ≢ 0 → s.most ≤ 2 ^ 64 - 1 →
       s.accepted ≤ s.most → s.accepted + length items ≤ s.most
   within [] s s' h some small low = omega arith
   within (x ∷ items) s s' h some small low =
@@ -63,14 +63,14 @@ module _ {I H : Type 0} where
       let all = room s.most s.accepted h.0.accepted (length items) small (step.1 some) step.2 rest in
       omega arith
 
-  pub bounded : (items : List Socket) (s s' : Accepting I H) → GivesAll Gives s items s' → s.accepted ≡ 0 →
+  pub bounded : (items : List SocketStream) (s s' : Accepting I H) → GivesAll Gives s items s' → s.accepted ≡ 0 →
       s.most ≤ 2 ^ 64 - 1 → s.most ≢ 0 → length items ≤ s.most
   bounded items s s' gave none small some =
       let all = within items s gave.last gave.gave some small (omega arith) in
       omega arith
 
   -- while connections are given, not more are counted than were given
-  stays : (items : List Socket) (s s' : Accepting I H) → Given items s s'
+  stays : (items : List SocketStream) (s s' : Accepting I H) → Given items s s'
       → (s'.most ≡ s.most) × (s'.accepted ≤ s.accepted + length items) × (is_some s'.input ≡ is_some s.input)
   stays [] s s' h = rw h (refl, omega arith, refl)
   stays (x ∷ items) s s' h =
@@ -81,23 +81,23 @@ module _ {I H : Type 0} where
       (rest.0 ∙ step.0, omega arith, rest.2 ∙ step.5)
 
   -- while connections are given, the listener stays open
-  stays_open : (items : List Socket) (s s' : Accepting I H) → Given items s s' → is_closed s.listening ≡ false →
+  stays_open : (items : List SocketStream) (s s' : Accepting I H) → Given items s s' → is_closed s.listening ≡ false →
       is_closed s'.listening ≡ false
   stays_open [] s s' h unclosed = rw (← h) unclosed
   stays_open (x ∷ items) s s' h unclosed = stays_open items h.0 s' h.2 h.1.3
 
   -- once a connection was given, the listener has been opened
-  is_opened : (x : Socket) (items : List Socket) (s s' : Accepting I H) → Given (x ∷ items) s s' →
+  is_opened : (x : SocketStream) (items : List SocketStream) (s s' : Accepting I H) → Given (x ∷ items) s s' →
       is_unopened s'.listening ≡ false
   is_opened x [] s s' h = rw (← h.2) h.1.4
   is_opened x (y ∷ items) s s' h = is_opened y items h.0 s' h.2
 
-  none_given : (items : List Socket) (s s' : Accepting I H) → Given items s s' → is_unopened s'.listening ≡ true →
+  none_given : (items : List SocketStream) (s s' : Accepting I H) → Given items s s' → is_unopened s'.listening ≡ true →
       length items ≡ 0
   none_given [] s s' h unopened = refl
   none_given (x ∷ items) s s' h unopened = absurd (true≢false (sym unopened ∙ is_opened x items s s' h))
 
-  has_reason : (m sessions : ℕ) (s last s' : Accepting I H) (items : List Socket) (input : Bool)
+  has_reason : (m sessions : ℕ) (s last s' : Accepting I H) (items : List SocketStream) (input : Bool)
       (reason : Option Reason)
       → s.accepted ≡ 0 → s.most ≡ m → m ≤ 2 ^ 64 - 1 → is_some s.input ≡ input → Given items s last
       → GivesAll Gives s items s' → sessions ≡ capped (length items) → IsSomeAnd reason (HasEnded last)
@@ -120,10 +120,10 @@ module _ {I H : Type 0} where
       count ∙ (ap capped no_item ∙ below 0 (omega arith))
   has_reason m sessions s last s' items input (Some (Accept why)) none same small of_input gave all count failed = tt
 
-  abbrev pub Serves : ℕ → Accepting I H → List Nothing → Ended → Accepting I H → List Nothing → Type 0
+  abbrev pub Serves : ℕ → Accepting I H → List ⊤ → Ended → Accepting I H → List ⊤ → Type 0
   Serves = ServesConnections untold untold leaves_nothing Gives
 
-  pub serves_on : (blocks workers m : ℕ) (s s' : Accepting I H) (books books' : List Nothing) (ended : Ended)
+  pub serves_on : (blocks workers m : ℕ) (s s' : Accepting I H) (books books' : List ⊤) (ended : Ended)
       → s.accepted ≡ 0 → s.most ≡ m → m ≤ 2 ^ 64 - 1 → length books ≡ workers → Serves blocks s books ended s' books'
       → ServesOn blocks workers m ended.sums
   serves_on blocks workers m s s' books books' ended none same small counted served = record {
@@ -135,7 +135,6 @@ module _ {I H : Type 0} where
           ∙ counted;
       passes = served.crewed.passes;
       sums = served.sums;
-      lost = served.lost;
     };
     bounded = λ some.
         let fits : s.most ≤ 2 ^ 64 - 1 = omega arith in
@@ -153,7 +152,7 @@ module _ {I H : Type 0} where
     lived = served.lived;
   }
 
-  pub ends_on : (blocks workers m : ℕ) (s s' : Accepting I H) (books books' : List Nothing)
+  pub ends_on : (blocks workers m : ℕ) (s s' : Accepting I H) (books books' : List ⊤)
       (result : Result Ended ServeFault) → s.accepted ≡ 0 → s.most ≡ m → m ≤ 2 ^ 64 - 1 → length books ≡ workers
       → IfOk result (λ ended. Serves blocks s books ended s' books')
       → IfOk result (λ ended. EndsOn blocks workers m ended)
@@ -167,7 +166,7 @@ module _ {I H : Type 0} where
   ends_on blocks workers m s s' books books' (Err why) none same small counted all = tt
 
   -- the reason why no more connections were accepted tells how many sessions there were
-  pub ends_for : (blocks m : ℕ) (s s' : Accepting I H) (books books' : List Nothing)
+  pub ends_for : (blocks m : ℕ) (s s' : Accepting I H) (books books' : List ⊤)
       (result : Result Ended ServeFault) (input : Bool) (reason : Option Reason)
       → s.accepted ≡ 0 → s.most ≡ m → m ≤ 2 ^ 64 - 1 → is_closed s.listening ≡ false
       → is_some s.input ≡ input → s'.reason ≡ reason
@@ -191,7 +190,7 @@ module _ {I H : Type 0} where
   ends_for blocks m s s' books books' (Err why) input reason none same small unclosed of_input of_reason all = tt
 
   -- what a fault leaves of the service on a listener
-  pub fails_on : (blocks workers : ℕ) (s s' : Accepting I H) (books books' : List Nothing) (why : ServeFault)
+  pub fails_on : (blocks workers : ℕ) (s s' : Accepting I H) (books books' : List ⊤) (why : ServeFault)
       → length books ≡ workers
       → LeavesConnections untold untold leaves_nothing Gives (HasLived blocks) s books why s' books'
       → FailsOn blocks workers why
@@ -203,7 +202,7 @@ module _ {I H : Type 0} where
   fails_on blocks workers s s' books books' faults.Missed counted left =
       record { before = books; after = books'; count = counted; left = left.2 }
 
-  pub all_fail_on : (blocks workers : ℕ) (s s' : Accepting I H) (books books' : List Nothing)
+  pub all_fail_on : (blocks workers : ℕ) (s s' : Accepting I H) (books books' : List ⊤)
       (result : Result Ended ServeFault) → length books ≡ workers
       → IfErr result (λ why. LeavesConnections untold untold leaves_nothing Gives (HasLived blocks) s books why s'
       books')

@@ -1,11 +1,1 @@
-pub mod SessionMakesCalls
-pub mod SessionsPerConnection
 pub mod Accepted
-pub mod SumsOfSessions
-pub mod Crossing
-pub mod OneSession
-pub mod LifeIsOneRun
-pub mod GatesHaveLived
-pub mod FaultLeaves
-pub mod LostByFailedWrites
-pub mod Shifts

@@ -6,7 +6,7 @@ use Rattle.sysv_server.specs.declared.accepting.Listening.{Listening}
 use Rattle.sysv_server.specs.declared.accepting.Listening.TheVariants.{Closed, Unopened}
 use Rattle.sysv_server.specs.declared.host.Reason.{Reason}
 use Rattle.sysv_server.specs.declared.host.Reason.TheVariants.{Full, InputOver, NoSocket, Accept}
-use Rattle.sysv_server.specs.Added.{capped}
+use Rattle.sysv_engine.specs.Added.{capped}
 
 -- The listener is closed.
 abbrev pub is_closed : Listening → Bool

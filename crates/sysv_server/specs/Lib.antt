@@ -1,10 +1,3 @@
 -- The definitions of the server.
-pub mod Made
-pub mod Added
-pub mod Talks
-pub mod Handled
-pub mod Desks
 pub mod Accepts
-pub mod OneRun
 pub mod Serving
-pub mod Headline

@@ -1,155 +1,73 @@
--- How a server serves a listener, what its workers do, and what a fault leaves (this project's
--- profile). Its workers share one service, each worker has a pass of its own, and there is one
--- session for each connection.
+-- How a server serves a listener, and what a fault leaves (this project's profile). It has a number
+-- of places, all at one service. Each place has a pass of its own and serves one client after another,
+-- and there is one session for each connection.
 use Rattle.std.specs.Prelude.{◌≡◌, ◌≢◌, ◌≤◌, ⊤, ℕ, Bool, true, List, [], Option, Some, None, Result, length}
-use Rattle.std.specs.List.{AllByRecursion}
 use Rattle.std.specs.List.Sorted.{IsPermutation}
 use Rattle.sysv_bank.specs.Banks.{Each2}
 use Rattle.sysv_service.specs.Opened.{AreOpen}
-use Rattle.sysv_service.specs.Seats.{Gates, AreOf}
+use Rattle.sysv_service.specs.Seats.{Gates}
 use Rattle.sysv_model.specs.declared.errno.Errno.{Errno}
-use Rattle.sysv_thread_laws.specs.Hiring.{Hires}
-use Rattle.sysv_service.specs.Ran.{Pass}
-use Rattle.sysv_workers.specs.declared.refusals.WorkersFault.{WorkersFault}
-use Rattle.sysv_workers.specs.declared.refusals.WorkersFault.TheVariants as workers
-use Rattle.sysv_workers.specs.Sources.{GivesAll, Gave, Returned}
-use Rattle.sysv_server.specs.declared.fault.ServeFault.{ServeFault}
-use Rattle.sysv_server.specs.declared.fault.ServeFault.TheVariants.{NoMemory, Thread, Worn, Missed}
-use Rattle.sysv_server.specs.declared.socket.Socket.{Socket}
+use Rattle.sysv_seats.specs.declared.socket_stream.SocketStream.{SocketStream}
+use Rattle.sysv_seats.specs.Untold.{untold, leaves_nothing}
+use Rattle.sysv_engine.specs.declared.fault.ServeFault.{ServeFault}
+use Rattle.sysv_engine.specs.declared.fault.ServeFault.TheVariants.{NoMemory, Thread, Worn, Missed}
+use Rattle.sysv_engine.specs.declared.sums.Sums.{Sums}
+use Rattle.sysv_engine.specs.declared.terms.Ended.{Ended}
+use Rattle.sysv_engine.specs.Desks.{Desk, Sat, AreServedInOrder, all_connections}
+use Rattle.sysv_engine.specs.Handled.{Shift, refused_of, told_in}
+use Rattle.sysv_engine.specs.OneRun.{Lived}
+use Rattle.sysv_engine.specs.Serving.{HasLived, LeavesBooks, Worked}
 use Rattle.sysv_server.specs.declared.host.Reason.{Reason}
 use Rattle.sysv_server.specs.declared.host.Reason.TheVariants.{Full, InputOver, NoSocket, Accept}
-use Rattle.sysv_server.specs.declared.socket.Nothing.{Nothing}
-use Rattle.sysv_server.specs.declared.sums.Sums.{Sums}
-use Rattle.sysv_server.specs.declared.terms.Ended.{Ended}
-use Rattle.sysv_server.specs.Added.{nothing}
-use Rattle.sysv_server.specs.Desks.{Desk, Crewed, Sat, AreServedInOrder, all_connections}
-use Rattle.sysv_server.specs.Handled.{Shift, failed_of, first_passes, last_passes, sums_of, refused_of, told_in}
-use Rattle.sysv_server.specs.OneRun.{Lived}
-use Rattle.sysv_seats.specs.Untold.{Closing, untold, leaves_nothing}
 
--- A pass of these gates that holds no chain, with the sums of no sessions.
-abbrev pub IsNew : Gates → Pass → Sums → ℕ → Type 0
-IsNew gates pass sums refused = AreOf gates pass.seats × (pass.held ≡ 0) × (sums ≡ nothing) × (refused ≡ 0)
-
--- This number of workers worked these shifts at the gates. Each began with a pass of the gates that
--- holds no chain, and these are the sums of all their sessions. A message was lost only in a session
--- that ended because its writer failed, and at most one in each of them.
-pub record Worked (gates : Gates) (count : ℕ) (shifts : List Shift) (all : Sums) : Type 0 where
-  pub workers : length shifts ≡ count
-  pub passes : AllByRecursion (λ (shift : Shift). AreOf gates shift.before.seats × (shift.before.held ≡ 0)) shifts
-  pub sums : all ≡ sums_of (told_in shifts)
-  pub lost : all.lost ≤ failed_of (told_in shifts)
-
--- The workers of these shifts had passes that were split off from the pass `old` of these gates, and
--- the passes that they left were joined back into it.
-abbrev pub HiredFrom : Gates → Pass → Pass → Gates → List Shift → Type 0
-HiredFrom own old new gates shifts = (gates ≡ own) × Hires old (first_passes shifts) (last_passes shifts) new
-
--- These gates were opened for a service with this number of blocks, these shifts were worked at them,
--- and then they were stopped and closed. A fault does not return what the stop and the close told.
-pub record HasLived (blocks : ℕ) (gates : Gates) (shifts : List Shift) : Type 0 where
-  pub opened : AreOpen 0 blocks 0 gates
-  pub removed : Result ℕ Errno
-  pub lived : Lived blocks gates shifts removed
-
-module _ {T B : Type 0} (incoming outgoing : T → Option (List ℕ)) (closes : Closing B) where
-  -- Sessions on connections led from the books `books` to the others. Each worker had one session on
-  -- each of its connections, in order. `Ran` is so of the gates and of the shifts.
-  pub record LeavesBooks (Ran : Gates → List Shift → Type 0) (books books' : List B) : Type 0 where
-    pub gates : Gates
-    pub desks : List (Desk T B)
-    pub shifts : List Shift
-    pub crewed : Crewed incoming outgoing closes gates books desks shifts books'
-    pub ran : Ran gates shifts
-
-  -- The same, and there was no session.
-  pub record LeavesUnused (Ran : Gates → List Shift → Type 0) (books books' : List B) : Type 0 where
-    pub left : LeavesBooks Ran books books'
-    pub none : told_in left.shifts ≡ []
-
-module _ {S T B : Type 0} (incoming outgoing : T → Option (List ℕ)) (closes : Closing B)
-    (gives : S → Option T → S → Type 0) where
-  -- The workers served the connections that the source returned. They began with passes that were
-  -- split off from the pass `old`, and the passes that they left were joined back into it.
-  pub record WorkedFrom (gates : Gates) (old : Pass) (source : S) (books : List B) (sums : Sums) (refused : ℕ)
-      (new : Pass) (source' : S) (books' : List B) : Type 0 where
-    pub given : List T
-    pub gave : GivesAll gives source given source'
-    pub desks : List (Desk T B)
-    pub dealt : IsPermutation (all_connections desks) given
-    pub ordered : AreServedInOrder given desks
-    pub alone : length books ≡ 1 → all_connections desks ≡ given
-    pub shifts : List Shift
-    pub crewed : Crewed incoming outgoing closes gates books desks shifts books'
-    pub adds : sums ≡ sums_of (told_in shifts)
-    pub counts : refused ≡ refused_of (told_in shifts)
-    pub hires : Hires old (first_passes shifts) (last_passes shifts) new
-
-  -- What a server leaves that ended by this fault, if `Ran` is so of its gates and its shifts.
-  --
-  -- After `NoMemory` the source of connections and the books are unchanged; nothing more is stated,
-  -- since memory may be refused before the gates are opened. After `Thread` they are unchanged too,
-  -- and there was no session. After `Worn` the source has returned some connections, and may have
-  -- reported its end. After `Missed` it is at its end or was not read. After both, sessions led to
-  -- the books. It is not stated that their connections are those of the source, since a refused run
-  -- of workers does not tell which of the items that were put into its buffer the workers took.
-  abbrev pub LeavesConnections : (Gates → List Shift → Type 0) → S → List B → ServeFault → S → List B → Type 0
-  LeavesConnections Ran source books NoMemory source' books' = (source' ≡ source) × (books' ≡ books)
-  LeavesConnections Ran source books Thread source' books' =
-      (source' ≡ source) × (books' ≡ books) × LeavesUnused incoming outgoing closes Ran books books'
-  LeavesConnections Ran source books Worn source' books' =
-      (given : List T) × Returned gives source given source' × LeavesBooks incoming outgoing closes Ran books books'
-  LeavesConnections Ran source books Missed source' books' =
-      (given : List T) × Gave gives source given source' × LeavesBooks incoming outgoing closes Ran books books'
-
--- The worker of this desk had one session on each of its sockets. A socket tells no bytes, and a
--- closed one leaves nothing.
-abbrev pub SatOnSockets : Desk Socket Nothing → Shift → Type 0
+-- The place of this desk had one session on each of its sockets. A socket tells no bytes, and a closed
+-- one leaves nothing.
+abbrev pub SatOnSockets : Desk SocketStream ⊤ → Shift → Type 0
 SatOnSockets = Sat untold untold leaves_nothing
 
--- A server on a listener. It ran no more sessions than the maximum, if the maximum is not 0. Each
--- session was on a connection of its own. Each worker had its connections in the order in which they
--- were accepted, and a worker that was alone had all of them, in that order.
-pub record ServesOn (blocks workers most : ℕ) (sums : Sums) : Type 0 where
+-- A server on a listener, with this number of places. It ran no more sessions than the maximum, if the
+-- maximum is not 0. Each session was on a connection of its own. Each place had its connections in the
+-- order in which they were accepted, and a place that was alone had all of them, in that order.
+pub record ServesOn (blocks places most : ℕ) (sums : Sums) : Type 0 where
   pub gates : Gates
   pub opened : AreOpen 0 blocks 0 gates
   pub shifts : List Shift
-  pub worked : Worked gates workers shifts sums
+  pub worked : Worked gates places shifts sums
   pub bounded : most ≢ 0 → length (told_in shifts) ≤ most
-  pub accepted : List Socket
-  pub desks : List (Desk Socket Nothing)
+  pub accepted : List SocketStream
+  pub desks : List (Desk SocketStream ⊤)
   pub dealt : IsPermutation (all_connections desks) accepted
   pub ordered : AreServedInOrder accepted desks
-  pub alone : workers ≡ 1 → all_connections desks ≡ accepted
+  pub alone : places ≡ 1 → all_connections desks ≡ accepted
   pub sat : Each2 SatOnSockets desks shifts
   pub removed : Result ℕ Errno
   pub lived : Lived blocks gates shifts removed
 
 -- A server served the connections of a listener, and then removed the queues that were left. It
 -- returns what its stop and its close told.
-pub record EndsOn (blocks workers most : ℕ) (ended : Ended) : Type 0 where
-  pub served : ServesOn blocks workers most ended.sums
+pub record EndsOn (blocks places most : ℕ) (ended : Ended) : Type 0 where
+  pub served : ServesOn blocks places most ended.sums
   pub refused : ended.refused ≡ refused_of (told_in served.shifts)
   pub removed : ended.removed ≡ served.removed
   pub closed : ended.closed ≡ served.lived.closed
 
--- A server on a listener with this number of workers. Each worker had one session on each of its
--- sockets, in order. `Ran` is so of the gates and of the shifts.
-pub record LeavesSockets (workers : ℕ) (Ran : Gates → List Shift → Type 0) : Type 0 where
-  pub before : List Nothing
-  pub after : List Nothing
-  pub count : length before ≡ workers
-  pub left : LeavesBooks {T = Socket} untold untold leaves_nothing Ran before after
+-- A server on a listener with this number of places. Each place had one session on each of its sockets,
+-- in order. `Ran` is so of the gates and of the shifts.
+pub record LeavesSockets (places : ℕ) (Ran : Gates → List Shift → Type 0) : Type 0 where
+  pub before : List ⊤
+  pub after : List ⊤
+  pub count : length before ≡ places
+  pub left : LeavesBooks {T = SocketStream} untold untold leaves_nothing Ran before after
 
--- A server on a listener ended by this fault, with this number of blocks and of workers. After
+-- A server on a listener ended by this fault, with this number of blocks and of places. After
 -- `NoMemory` nothing is stated, since memory may be refused before the gates are opened. After
 -- `Thread` there was no session.
-abbrev pub FailsOn : (blocks workers : ℕ) → ServeFault → Type 0
-FailsOn blocks workers NoMemory = ⊤
-FailsOn blocks workers Thread =
-    (sockets : LeavesSockets workers (HasLived blocks)) × (told_in sockets.left.shifts ≡ [])
-FailsOn blocks workers Worn = LeavesSockets workers (HasLived blocks)
-FailsOn blocks workers Missed = LeavesSockets workers (HasLived blocks)
+abbrev pub FailsOn : (blocks places : ℕ) → ServeFault → Type 0
+FailsOn blocks places NoMemory = ⊤
+FailsOn blocks places Thread =
+    (sockets : LeavesSockets places (HasLived blocks)) × (told_in sockets.left.shifts ≡ [])
+FailsOn blocks places Worn = LeavesSockets places (HasLived blocks)
+FailsOn blocks places Missed = LeavesSockets places (HasLived blocks)
 
 -- A server that may have an input, that was to run this maximum number of sessions, 0 for no limit,
 -- and that ran this number of them, accepted no more connections for this reason.
@@ -159,11 +77,3 @@ HasReason has_input most sessions (Some Full) = (most ≢ 0) × (sessions ≡ mo
 HasReason has_input most sessions (Some InputOver) = has_input ≡ true
 HasReason has_input most sessions (Some (NoSocket why)) = sessions ≡ 0
 HasReason has_input most sessions (Some (Accept why)) = ⊤
-
--- The server's fault has the name of the workers' refusal. A bad count does not occur.
-abbrev pub FaultOf : WorkersFault → ServeFault → Type 0
-FaultOf workers.BadCount why = ⊥
-FaultOf workers.NoMemory why = why ≡ NoMemory
-FaultOf workers.Thread why = why ≡ Thread
-FaultOf workers.Worn why = why ≡ Worn
-FaultOf workers.Missed why = why ≡ Missed

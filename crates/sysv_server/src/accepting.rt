@@ -2,11 +2,8 @@
 ghost use Rattle.std.specs.Prelude.{◌≡◌, ◌≢◌, ◌<◌, ◌≤◌, ◌-◌, ◌^◌, ◌⊎◌, true, false, is_some, IfErr, IfNone, IfOk};
 ghost use Rattle.sysv_server.specs.Accepts.{is_closed, is_unopened, EndsInput, HasEnded};
 
-use crate::common::Common;
 use crate::host::{Host, Notice, Reason};
-use crate::line::Line;
-use crate::moment::{Moment, NO_DESCRIPTOR, asking, bell_timeout, pause, timeout};
-use crate::socket::Socket;
+use crate::polling::{FOREVER, NO_DESCRIPTOR, asking, pause};
 use libc::net::{POLLIN, poll};
 use libc::types::pollfd;
 use libc::{EAGAIN, ECONNABORTED, EMFILE, ENOMEM, EPERM};
@@ -14,6 +11,8 @@ use std::io;
 use std::io::{ErrorKind, Read};
 use std::os::fd::AsRawFd;
 use std::os::unix::net::{UnixListener, UnixStream};
+use sysv_engine::Common;
+use sysv_seats::SocketStream;
 use sysv_workers::Source;
 
 /// The maximum number of bytes of the input that are read at once and dropped.
@@ -111,7 +110,8 @@ pub(crate) struct Accepting<'a, I: Drop, H: Drop> {
     accepted: u64,
     /// Why the source has ended, if it has.
     reason: Option<Reason>,
-    line: Line,
+    /// Whether the host has learned that the memory of a session was refused.
+    told: bool,
     common: &'a Common,
     host: H,
 }
@@ -135,7 +135,7 @@ impl<'a, I: Read + AsRawFd + Drop, H: Host + Drop> Accepting<'a, I, H> {
             most,
             accepted: 0,
             reason: None,
-            line: Line::new(),
+            told: false,
             common,
             host,
         }
@@ -163,7 +163,7 @@ impl<'a, I: Read + AsRawFd + Drop, H: Host + Drop> Accepting<'a, I, H> {
     }
 
     /// Accepts the next connection. The error is why no more connections are to be accepted.
-    fn accept(&mut self) -> Result<Socket, Reason>
+    fn accept(&mut self) -> Result<SocketStream, Reason>
         requires { is_closed self.old.listening ≡ false }
         ensures same { (self.new.most ≡ self.old.most) × (self.new.accepted ≡ self.old.accepted) }
         ensures input { is_some self.new.input ≡ is_some self.old.input }
@@ -189,17 +189,20 @@ impl<'a, I: Read + AsRawFd + Drop, H: Host + Drop> Accepting<'a, I, H> {
             host: &self.host,
             accepted: self.accepted,
         };
-        let stream = door.accept_next(&mut self.line, &mut self.input, retries)?;
-        Ok(Socket::new(stream, self.common.limits()))
+        let stream = door.accept_next(&mut self.told, &mut self.input, retries)?;
+        match SocketStream::new(stream) {
+            Ok(socket) => Ok(socket),
+            Err(why) => Err(Reason::Accept(why)),
+        }
     }
 }
 
-impl<I: Read + AsRawFd + Drop, H: Host + Drop> Source<Socket> for Accepting<'_, I, H> {
+impl<I: Read + AsRawFd + Drop, H: Host + Drop> Source<SocketStream> for Accepting<'_, I, H> {
     ghost use Rattle.sysv_server.specs.Accepts.{Accepts};
 
     ghost gives = { Accepts };
 
-    fn next(&mut self) -> Option<Socket> {
+    fn next(&mut self) -> Option<SocketStream> {
         if self.listening.is_closed() {
             return None;
         }
@@ -244,7 +247,7 @@ impl<H: Host> Door<'_, '_, '_, H> {
     /// want of something is tried again; the host is told so, and when it succeeds.
     fn accept_next<I: Read + AsRawFd>(
         &self,
-        line: &mut Line,
+        told: &mut bool,
         input: &mut Option<I>,
         retries: bool,
     ) -> Result<UnixStream, Reason>
@@ -253,7 +256,7 @@ impl<H: Host> Door<'_, '_, '_, H> {
     {
         let mut held = false;
         for _ in 0..u64::MAX {
-            let arrived = self.wait(line, descriptor(input));
+            let arrived = self.wait(told, descriptor(input));
             if arrived.input && has_ended(input) {
                 return Err(Reason::InputOver);
             }
@@ -286,19 +289,21 @@ impl<H: Host> Door<'_, '_, '_, H> {
     }
 
     /// Waits until the input, whose descriptor is given, can be read, or until there is a connection
-    /// and one more may wait for a worker. It may return early.
-    fn wait(&self, line: &mut Line, input: i32) -> Arrived {
-        let left = line
-            .look(self.common, self.host, self.accepted)
-            .map(Moment::left);
+    /// and room for one more client. It may return early. Tells the host of the first session whose
+    /// memory was refused.
+    fn wait(&self, told: &mut bool, input: i32) -> Arrived {
+        if self.common.is_starved() && !*told {
+            self.host.note(Notice::NoMemory);
+            *told = true;
+        }
         if self.common.has_room(self.accepted) {
-            return self.arrived(input, self.listener.as_raw_fd(), timeout(left));
+            return self.arrived(input, self.listener.as_raw_fd(), FOREVER);
         }
         self.common.await_turn(true);
         let limit = if self.common.has_room(self.accepted) {
             0
         } else {
-            bell_timeout(self.common.bell(), left)
+            FOREVER
         };
         let arrived = self.arrived(input, NO_DESCRIPTOR, limit);
         self.common.await_turn(false);

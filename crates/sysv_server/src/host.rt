@@ -20,9 +20,6 @@ pub enum Notice {
     Held(io::Error),
     /// Connections are accepted again.
     Resumed,
-    /// A connection has waited a second for a worker: this number of sessions run, and this number
-    /// of connections wait. It is told at most once a minute.
-    Busy { sessions: u64, waiting: u64 },
     /// The memory of a session was refused. It is told of the first such session alone.
     NoMemory,
     /// The time for an orderly end is over, and the sessions that are left are cut off.

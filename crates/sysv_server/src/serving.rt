@@ -1,25 +1,26 @@
 //! The server.
-ghost use Rattle.std.specs.Prelude.{◌≡◌, ◌≤◌, IfErr, IfOk, IsNone, false, is_some};
+ghost use Rattle.std.specs.Prelude.{◌≡◌, ◌≤◌, IfErr, IfOk, IfSome, IsNone, false, is_some, vec_len};
 ghost use Rattle.sysv_model.specs.declared.limits.TheConstants.{MIN_BLOCKS, MAX_BLOCKS};
-ghost use Rattle.sysv_workers.specs.declared.workers.TheConstants.{MAX_CROWD, MAX_WORKERS};
+ghost use Rattle.sysv_workers.specs.declared.workers.TheConstants.{MAX_WORKERS};
 ghost use Rattle.sysv_server.specs.Accepts.{is_closed};
-ghost use Rattle.sysv_server.specs.Added.{IsBalanced};
+ghost use Rattle.sysv_engine.specs.Added.{IsBalanced};
 ghost use Rattle.sysv_server.specs.Serving.{EndsOn, FailsOn, HasReason, ServesOn};
+ghost use Rattle.sysv_server.specs.declared.serving.TheConstants.{MAX_CLIENTS};
 
 use crate::accepting::{Accepting, Listening};
-use crate::common::Common;
-use crate::connections::serve_all;
-use crate::fault::ServeFault;
 use crate::host::{Host, Quiet, Reason};
-use crate::socket::empty_books;
-use crate::sums::Sums;
-use crate::terms::{Ended, Patience, Terms};
+use crate::terms::Terms;
 use std::alloc::Global;
 use std::io::Read;
+use std::net::Net;
 use std::os::fd::AsRawFd;
 use std::os::unix::net::{UnixListener, UnixStream};
 use std::sync::Wait;
 use std::thread::Threads;
+use sysv_engine::{Common, Ended, Patience, ServeFault, Sums, serve_all, watches};
+
+/// The largest number of clients at once.
+pub const MAX_CLIENTS: u32 = 16_384;
 
 /// Serves the connections of `listener` on a new service, each as one session, and returns the sums
 /// of the sessions.
@@ -47,7 +48,7 @@ use std::thread::Threads;
 ///
 /// - `blocks` is 128 to 65,536.
 /// - `workers` is 1 to 16.
-pub fn serve_on<R: Threads + Wait + Sync>(
+pub fn serve_on<R: Threads + Wait + Net + Sync>(
     rt: &R,
     alloc: Global,
     listener: &UnixListener,
@@ -61,12 +62,17 @@ pub fn serve_on<R: Threads + Wait + Sync>(
     ensures balance { IfOk result IsBalanced }
     ensures err { IfErr result (FailsOn blocks workers) }
 {
+    let Some(common) = Common::open(alloc, workers as usize, workers as usize, Patience::UNBOUNDED, 0) else {
+        return Err(ServeFault::NoMemory);
+    };
     let Some(mut books) = empty_books(alloc, workers) else {
         return Err(ServeFault::NoMemory);
     };
-    let common = Common::new(workers, Patience::UNBOUNDED, 0);
+    let Some(watches) = watches(rt, alloc, &common) else {
+        return Err(ServeFault::NoMemory);
+    };
     let mut source = lent(listener, sessions, &common);
-    match serve_all(rt, alloc, &mut source, &mut books, blocks, &common) {
+    match serve_all(rt, alloc, &mut source, &mut books, blocks, watches, &common) {
         Ok(ended) => Ok(ended.sums),
         Err(why) => Err(why),
     }
@@ -102,8 +108,9 @@ fn lent<'a>(
 /// # Conditions
 ///
 /// - `terms.blocks` is 128 to 65,536.
-/// - `terms.at_once` is 1 to 256.
-pub fn serve_listener<I: Read + AsRawFd + Drop, H: Host + Drop, R: Threads + Wait + Sync>(
+/// - `terms.workers` is 1 to 16.
+/// - `terms.at_once` is 1 to 16,384.
+pub fn serve_listener<I: Read + AsRawFd + Drop, H: Host + Drop, R: Threads + Wait + Net + Sync>(
     rt: &R,
     alloc: Global,
     host: H,
@@ -112,7 +119,8 @@ pub fn serve_listener<I: Read + AsRawFd + Drop, H: Host + Drop, R: Threads + Wai
     reason: &mut Option<Reason>,
 ) -> Result<Ended, ServeFault>
     requires blocks { (MIN_BLOCKS ≤ terms.blocks) × (terms.blocks ≤ MAX_BLOCKS) }
-    requires at_once { (1 ≤ terms.at_once) × (terms.at_once ≤ MAX_CROWD) }
+    requires workers { (1 ≤ terms.workers) × (terms.workers ≤ MAX_WORKERS) }
+    requires at_once { (1 ≤ terms.at_once) × (terms.at_once ≤ MAX_CLIENTS) }
     ensures ok { IfOk result (λ ended. EndsOn terms.blocks terms.at_once terms.sessions ended) }
     ensures exact { IfOk result (λ ended.
         HasReason (is_some input) terms.sessions ended.sums.sessions reason.new) }
@@ -121,21 +129,32 @@ pub fn serve_listener<I: Read + AsRawFd + Drop, H: Host + Drop, R: Threads + Wai
 {
     let Terms {
         blocks,
+        workers,
         at_once,
         sessions,
         patience,
         drain,
     } = terms;
     *reason = None;
-    let common = Common::new(at_once, patience, drain);
-    if !common.can_cut() {
+    let workers = workers.min(at_once);
+    let Some(common) = Common::open(alloc, workers as usize, at_once as usize, patience, drain) else {
         return Err(ServeFault::NoMemory);
-    }
+    };
     let Some(mut books) = empty_books(alloc, at_once) else {
         return Err(ServeFault::NoMemory);
     };
+    let Some(watches) = watches(rt, alloc, &common) else {
+        return Err(ServeFault::NoMemory);
+    };
     let mut source = Accepting::new(Listening::Unopened, input, sessions, &common, host);
-    let outcome = serve_all(rt, alloc, &mut source, &mut books, blocks, &common);
+    let outcome = serve_all(rt, alloc, &mut source, &mut books, blocks, watches, &common);
     *reason = source.into_reason();
     outcome
+}
+
+/// Returns this number of books, in which nothing is kept. Returns `None` if memory is refused.
+fn empty_books(alloc: Global, count: u32) -> Option<Vec<()>>
+    ensures { IfSome result (λ books. vec_len books ≡ count) }
+{
+    vec![in alloc; (); count as usize].ok()
 }

@@ -1,15 +1,15 @@
-//! The terms and the result of a server.
+//! The terms of a server.
 
-use crate::sums::Sums;
-use sysv_model::Errno;
-use sysv_service::Closed;
+use sysv_engine::Patience;
 
 /// The terms of a server.
 #[derive(Clone, Copy, PartialEq, Eq, Debug)]
 pub struct Terms {
     /// The number of blocks in the pool, 128 to 65,536.
     pub blocks: u32,
-    /// The maximum number of sessions that run at once, each in a thread of its own: 1 to 256.
+    /// The number of threads that serve clients, 1 to 16.
+    pub workers: u32,
+    /// The maximum number of clients at once, 1 to 16,384.
     pub at_once: u32,
     /// The number of connections to accept, 0 for no limit.
     pub sessions: u64,
@@ -18,35 +18,4 @@ pub struct Terms {
     /// The number of seconds that an orderly end may take before the sessions that are left are cut
     /// off, 0 for no limit.
     pub drain: u32,
-}
-
-/// The number of seconds that a client may take before its session ends, 0 for no limit.
-#[derive(Clone, Copy, PartialEq, Eq, Debug)]
-pub struct Patience {
-    /// The limit until a request begins, or the hello.
-    pub idle: u32,
-    /// The limit from the first byte of a request to its last, and from the first byte of a reply
-    /// until the client has room for its last.
-    pub stall: u32,
-}
-
-impl Patience {
-    /// No limits.
-    pub const UNBOUNDED: Patience = Patience { idle: 0, stall: 0 };
-}
-
-/// How a server ended.
-#[derive(Clone, Copy, PartialEq, Eq, Debug)]
-pub struct Ended {
-    /// The sums of its sessions.
-    pub sums: Sums,
-    /// The number of its sessions whose memory was refused, at most 2^64 - 1.
-    pub refused: u64,
-    /// The number of queues that were left at the end and were removed, or `EOVERFLOW` if the gate
-    /// of a slot was found worn out.
-    pub removed: Result<u32, Errno>,
-    /// What was left of its service when it was closed, after these queues were removed. No gate is
-    /// held. The pool has all its blocks and no message is queued, if fewer than 2^62 turns were
-    /// made at each object.
-    pub closed: Closed,
 }

@@ -3,6 +3,7 @@ use Rattle.std.specs.Prelude.{ℕ, ◌≤◌, ⊤}
 use Rattle.sysvmsg.specs.declared.asked.Asked.{Asked}
 use Rattle.sysvmsg.specs.declared.asked.Asked.TheVariants.{Script, Serve, Client}
 use Rattle.sysvmsg.specs.declared.asked.Serving.{Serving}
+use Rattle.sysv_server.specs.declared.serving.TheConstants.{MAX_CLIENTS}
 use Rattle.sysv_server.specs.declared.terms.Terms.{Terms}
 use Rattle.sysv_clients.specs.Run.{HasShortText}
 use Rattle.sysv_model.specs.declared.limits.TheConstants.{MIN_BLOCKS, MAX_BLOCKS}
@@ -15,14 +16,14 @@ AreBlocks n = (MIN_BLOCKS ≤ n) × (n ≤ MAX_BLOCKS)
 abbrev pub AreWorkers : ℕ → Type 0
 AreWorkers n = (1 ≤ n) × (n ≤ 16)
 
--- A server may run this number of sessions at once.
+-- A server may have this number of sessions at once.
 abbrev pub AreAtOnce : ℕ → Type 0
-AreAtOnce n = (1 ≤ n) × (n ≤ 256)
+AreAtOnce n = (1 ≤ n) × (n ≤ MAX_CLIENTS)
 
--- The terms have a number of blocks that a pool may have, and a number of sessions that a server
--- may run at once.
+-- The terms have a number of blocks that a pool may have, and numbers of workers and of sessions at
+-- once that a server may have.
 abbrev pub AreTerms : Terms → Type 0
-AreTerms terms = AreBlocks terms.blocks × AreAtOnce terms.at_once
+AreTerms terms = AreBlocks terms.blocks × AreWorkers terms.workers × AreAtOnce terms.at_once
 
 -- The terms of the server are within the limits.
 abbrev pub HasLimits : Serving → Type 0

@@ -1,5 +1,5 @@
 -- How the program ends: its exit status, and how a server ends (this project's programs).
-use Rattle.std.specs.Prelude.{◌≡◌, ◌↔◌, ⊤, ℕ, Bool, List, [], ◌∷◌, ◌++◌, codes, Option, None, Some}
+use Rattle.std.specs.Prelude.{◌≡◌, ◌≤◌, ◌↔◌, ⊤, ℕ, Bool, List, [], ◌∷◌, ◌++◌, codes, Option, None, Some}
 use Rattle.std.specs.Fmt.{decimal}
 use Rattle.std.specs.Io.KnownBytes.{Appends}
 use Rattle.std.specs.Process.{exit_status}
@@ -42,11 +42,17 @@ IsMeantToEnd None = ⊤
 abbrev pub HasServed : Sums → Option Reason → (shown after : Option (List ℕ)) → Type 0
 HasServed sums reason shown after = IsMeantToEnd reason × Appends shown after (sums_line sums)
 
+-- A server on these terms ended so. It had at most as many places as the terms have sessions at once:
+-- fewer if there are too few descriptors.
+abbrev pub EndsWithin : Terms → Ended → Type 0
+EndsWithin terms ended =
+    (at_once : ℕ) × (at_once ≤ terms.at_once) × EndsOn terms.blocks at_once terms.sessions ended
+
 -- A server that may have an input served on these terms until the input was over or the maximum
 -- number of sessions was reached, and the sums of its sessions were printed.
 pub record HasServedAll (has_input : Bool) (terms : Terms) (shown after : Option (List ℕ)) : Type 0 where
   pub ended : Ended
   pub reason : Option Reason
-  pub ends : EndsOn terms.blocks terms.at_once terms.sessions ended
+  pub ends : EndsWithin terms ended
   pub meant : HasReason has_input terms.sessions ended.sums.sessions reason
   pub served : HasServed ended.sums reason shown after

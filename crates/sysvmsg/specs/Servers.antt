@@ -5,7 +5,8 @@ use Rattle.sysv_server.specs.declared.terms.Terms.{Terms}
 use Rattle.sysv_words.specs.Words.{IsNat32, IsNat64}
 use Rattle.sysvmsg.specs.declared.asked.Serving.{Serving}
 use Rattle.sysvmsg.specs.declared.asked.SocketFile.{SocketFile}
-use Rattle.sysvmsg.specs.declared.asked.TheConstants.{MAX_AT_ONCE, MAX_PATH, MAX_PATH_WITH_MODE}
+use Rattle.sysvmsg.specs.declared.asked.TheConstants.{WORKERS, MAX_PATH, MAX_PATH_WITH_MODE}
+use Rattle.sysv_server.specs.declared.serving.TheConstants.{MAX_CLIENTS}
 use Rattle.sysvmsg.specs.Asked.{AreAtOnce, AreBlocks, AreWorkers}
 use Rattle.sysvmsg.specs.Words.{HasFlag, HasOr, IsMode, word_of}
 
@@ -13,28 +14,29 @@ use Rattle.sysvmsg.specs.Words.{HasFlag, HasOr, IsMode, word_of}
 abbrev pub AsksForBlocks : List Row → ℕ → Type 0
 AsksForBlocks words blocks = HasOr IsNat32 1024 (word_of words (codes "blocks")) blocks × AreBlocks blocks
 
--- The word after `--workers` is this number of workers, or there is no such word and the number is as
--- large as it may be.
+-- The word after `--workers` is this number of workers, or there is no such word and there are four.
 abbrev pub CountsWorkers : Option (List ℕ) → ℕ → Type 0
 CountsWorkers (Some word) workers = IsNat32 word workers × AreWorkers workers
-CountsWorkers None workers = workers ≡ MAX_AT_ONCE
+CountsWorkers None workers = workers ≡ WORKERS
 
 -- A command with these words asks for this number of workers.
 abbrev pub AsksForWorkers : List Row → ℕ → Type 0
 AsksForWorkers words workers = CountsWorkers (word_of words (codes "workers")) workers
 
--- The word after `--at-once`, or else the number of workers, is this number of sessions at once.
-abbrev pub CountsAtOnce : Option (List ℕ) → List Row → ℕ → Type 0
-CountsAtOnce (Some word) words at_once = IsNat32 word at_once × AreAtOnce at_once
-CountsAtOnce None words at_once = AsksForWorkers words at_once
+-- The word after `--at-once` is this number of sessions at once, or there is no such word and the
+-- number is as large as it may be.
+abbrev pub CountsAtOnce : Option (List ℕ) → ℕ → Type 0
+CountsAtOnce (Some word) at_once = IsNat32 word at_once × AreAtOnce at_once
+CountsAtOnce None at_once = at_once ≡ MAX_CLIENTS
 
 -- A command with these words asks for this number of sessions at once.
 abbrev pub AsksForAtOnce : List Row → ℕ → Type 0
-AsksForAtOnce words at_once = CountsAtOnce (word_of words (codes "at-once")) words at_once
+AsksForAtOnce words at_once = CountsAtOnce (word_of words (codes "at-once")) at_once
 
 -- A `serve` with these words has these terms.
 pub record AsksForTerms (words : List Row) (terms : Terms) : Type 0 where
   pub blocks : AsksForBlocks words terms.blocks
+  pub workers : AsksForWorkers words terms.workers
   pub at_once : AsksForAtOnce words terms.at_once
   pub sessions : HasOr IsNat64 0 (word_of words (codes "sessions")) terms.sessions
   pub idle : HasOr IsNat32 0 (word_of words (codes "idle")) terms.patience.idle

@@ -2,7 +2,7 @@
 
 ghost use Rattle.std.specs.Prelude.{◌≡◌, IfOk, MatchOption, OnOk, codes, is_some, map, pos};
 ghost use Rattle.clap.specs.Words.{app_of, subcommand_rows_of};
-ghost use Rattle.sysvmsg.specs.Asked.{AreAtOnce, AreBlocks, AreTerms, HasLimits, IsWithinLimits};
+ghost use Rattle.sysvmsg.specs.Asked.{AreAtOnce, AreBlocks, AreTerms, AreWorkers, HasLimits, IsWithinLimits};
 ghost use Rattle.sysvmsg.specs.Requests.{AsksFor, ClientAsks, IsAskedBy, IsMeant};
 ghost use Rattle.sysvmsg.specs.Servers.{AsksForAtOnce, AsksForBlocks, AsksForFile, AsksForTerms, AsksForWorkers, AsksToServe, HasPath};
 ghost use Rattle.sysvmsg.specs.Tasks.{AsksToList, AsksToMake, AsksToReceive, AsksToRemove, AsksToSend, HasTask, HasHow, NamesTarget, Receives, StatesWho, is_json};
@@ -19,7 +19,7 @@ use std::alloc::{AllocError, Global};
 use std::convert::AsStr;
 use sysv_clients::{Format, Making, Receipt, Target, Task, id_of, key_of, type_of};
 use sysv_model::{BODY_ROOM, MAX_BLOCKS, MIN_BLOCKS};
-use sysv_server::{Patience, Terms};
+use sysv_server::{MAX_CLIENTS, Patience, Terms};
 use sysv_words::Reads;
 
 /// The request that a command line makes.
@@ -76,8 +76,8 @@ pub(crate) struct SocketFile<'a> {
 /// The maximum number of workers that `--workers` may ask for.
 const MAX_WORKERS: u32 = 16;
 
-/// The maximum number of sessions that a server runs at once, and the number without an option.
-const MAX_AT_ONCE: u32 = 256;
+/// The number of workers without an option.
+const WORKERS: u32 = 4;
 
 /// The maximum mode of a socket file.
 const MAX_MODE: u32 = 0o777;
@@ -106,9 +106,9 @@ const BAD_TYPE: Bad = "a type is 1 to 9223372036854775807";
 
 const BAD_BLOCKS: Bad = "the number of blocks is 128 to 65536";
 
-const BAD_WORKERS: Bad = "the number of workers is 1 to 16, and --at-once N is up to 256";
+const BAD_WORKERS: Bad = "the number of workers is 1 to 16";
 
-const BAD_AT_ONCE: Bad = "the number of sessions at once is 1 to 256";
+const BAD_AT_ONCE: Bad = "the number of sessions at once is 1 to 16384";
 
 const BAD_SECONDS: Bad = "the number of seconds is 0 to 4294967295";
 
@@ -279,6 +279,7 @@ fn terms_of(words: &ArgMatches<'_>) -> Result<Terms, Bad>
 {
     Ok(Terms {
         blocks: blocks_of(words)?,
+        workers: workers_of(words)?,
         at_once: at_once_of(words)?,
         sessions: sessions_of(words)?,
         patience: Patience {
@@ -289,17 +290,17 @@ fn terms_of(words: &ArgMatches<'_>) -> Result<Terms, Bad>
     })
 }
 
-/// Returns the number of sessions that run at once: the word after `--at-once`, or else the number
-/// of workers.
+/// Returns the maximum number of clients at once: the word after `--at-once`, or else the greatest
+/// number.
 fn at_once_of(words: &ArgMatches<'_>) -> Result<u32, Bad>
     ensures limits { IfOk result AreAtOnce }
     ensures meaning { IsRead result (AsksForAtOnce (words_in words.now)) }
 {
     let Some(word) = word_in(words, "at-once") else {
-        return workers_of(words);
+        return Ok(MAX_CLIENTS);
     };
     match u32::read(word.as_bytes()) {
-        Some(at_once) if (1..=MAX_AT_ONCE).contains(&at_once) => Ok(at_once),
+        Some(at_once) if (1..=MAX_CLIENTS).contains(&at_once) => Ok(at_once),
         _ => Err(BAD_AT_ONCE),
     }
 }
@@ -347,13 +348,13 @@ fn blocks_of(words: &ArgMatches<'_>) -> Result<u32, Bad>
     }
 }
 
-/// Returns the number of workers: the word after `--workers`, or else as many as a server can have.
+/// Returns the number of workers: the word after `--workers`, or else four.
 fn workers_of(words: &ArgMatches<'_>) -> Result<u32, Bad>
-    ensures limits { IfOk result AreAtOnce }
+    ensures limits { IfOk result AreWorkers }
     ensures meaning { IsRead result (AsksForWorkers (words_in words.now)) }
 {
     let Some(word) = word_in(words, "workers") else {
-        return Ok(MAX_AT_ONCE);
+        return Ok(WORKERS);
     };
     match u32::read(word.as_bytes()) {
         Some(workers) if (1..=MAX_WORKERS).contains(&workers) => Ok(workers),

@@ -14,7 +14,7 @@ understood, 3 if the time of --wait is over.
 
 Example:
   $ sysvmsg serve ./q &
-  sysvmsg: serving ./q, up to 256 sessions at once
+  sysvmsg: serving ./q, up to 1011 sessions at once
   $ sysvmsg snd ./q 7 hello --type 5
   $ sysvmsg ipcs ./q
   key             msqid      owner perms  bytes messages
@@ -107,11 +107,11 @@ const SERVE: Known = Known {
     name: "serve",
     about: "Serves message queues on a Unix socket",
     example: "\
-Up to 256 clients are served at once; more wait. A call that waits is one of them.
+As many clients are served at once as there are descriptors, up to 16384; more wait.
 
 Example:
   $ sysvmsg serve ./q --mode 660 &
-  sysvmsg: serving ./q, up to 256 sessions at once",
+  sysvmsg: serving ./q, up to 1011 sessions at once",
     arguments: &[
         (
             "path",
@@ -136,12 +136,12 @@ Example:
         (
             "workers",
             Form::Value("W"),
-            "The number of sessions at once, 1 to 16",
+            "The number of threads that serve the sessions, 1 to 16 [default: 4]",
         ),
         (
             "at-once",
             Form::Value("N"),
-            "The number of sessions at once, 1 to 256 [default: 256]",
+            "The maximum number of sessions at once, 1 to 16384 [default: as descriptors allow]",
         ),
         (
             "sessions",
@@ -169,10 +169,7 @@ Example:
             "Ends the sessions left this long after the last accept, 0 for never [default: 0]",
         ),
     ],
-    groups: &[Group {
-        of: &["workers", "at-once"],
-        required: false,
-    }],
+    groups: &[],
     usage: None,
 };
 

@@ -1,30 +1,33 @@
-//! The number of sessions for which a process has descriptors.
+//! The number of clients for which a process has descriptors.
 ghost use Rattle.std.specs.Prelude.{◌≤◌};
 
-use libc::close;
-use libc::net::{EFD_CLOEXEC, eventfd};
-use std::alloc::Global;
+use libc::types::rlimit;
+use libc::{RLIMIT_NOFILE, getrlimit};
 
-/// Returns how many of `wanted` descriptors the process can open now, each of which could be the
-/// connection of a session. It opens them and closes them again. Without memory for that, it is
-/// taken to have them all.
-pub(crate) fn room(alloc: Global, wanted: u32) -> u32
-    ensures { result ≤ wanted }
+/// The number of descriptors of a server beside those of its workers and its clients: the standard
+/// streams, the listener and a bell.
+const OWN: u64 = 5;
+
+/// The number of descriptors of a worker: its bell and its poll.
+const OF_WORKER: u64 = 2;
+
+/// Returns for how many clients a server with this number of workers has descriptors, at least 1
+/// and at most `most`. If the limit is not known, they suffice.
+pub(crate) fn room(workers: u32, most: u32) -> u32
+    requires { 1 ≤ most }
+    ensures { (1 ≤ result) × (result ≤ most) }
 {
-    let Ok(mut opened) = Vec::with_capacity(alloc, wanted as usize) else {
-        return wanted;
+    let mut limit = rlimit {
+        rlim_cur: 0,
+        rlim_max: 0,
     };
-    let mut count = 0;
-    while count < wanted {
-        let fd = eventfd(0, EFD_CLOEXEC);
-        if fd < 0 {
-            break;
-        }
-        let _ = opened.push(fd);
-        count += 1;
+    if getrlimit(RLIMIT_NOFILE, &mut limit) != 0 {
+        return most;
     }
-    for fd in opened {
-        close(fd);
+    let used = OWN + OF_WORKER * u64::from(workers);
+    let left = limit.rlim_cur.saturating_sub(used).max(1);
+    match u32::try_from(left) {
+        Ok(left) => left.min(most),
+        Err(_) => most,
     }
-    count
 }

@@ -1,9 +1,9 @@
 //! The server.
 ghost use Rattle.std.specs.Prelude.{IfOk};
 ghost use Rattle.std.specs.Io.KnownBytes.{Appends};
-ghost use Rattle.sysv_server.specs.Serving.{EndsOn, HasReason};
+ghost use Rattle.sysv_server.specs.Serving.{HasReason};
 ghost use Rattle.sysvmsg.specs.Asked.{HasLimits};
-ghost use Rattle.sysvmsg.specs.Ends.{HasServed, HasServedAll, SucceedsOnlyIf, sums_line};
+ghost use Rattle.sysvmsg.specs.Ends.{EndsWithin, HasServed, HasServedAll, SucceedsOnlyIf, sums_line};
 
 use crate::asked::Serving;
 use crate::plain::complain;
@@ -19,29 +19,36 @@ use std::process::ExitCode;
 use std::rt::Files;
 use std::sync::Wait;
 use std::thread::Threads;
-use sysv_server::{Ended, Host, Notice, Reason, ServeFault, Sums, Terms, serve_listener};
+use sysv_server::{
+    Ended, Host, MAX_CLIENTS, Notice, Reason, ServeFault, Sums, Terms, serve_listener,
+};
 
 /// The host of a server: it opens the socket, and reports on standard error.
 #[derive(Drop)]
 struct Reporter<'a, R> {
     rt: &'a R,
     serving: &'a Serving<'a>,
+    /// The maximum number of clients at once.
+    at_once: u32,
 }
 
 impl<R: Files + Net + Eprint + AllocGlobal + Clone + Drop> Host for Reporter<'_, R> {
     /// Opens the socket, and reports that the server listens, or why it does not. If there are
-    /// fewer descriptors than sessions at once, that is reported too.
+    /// fewer descriptors than the clients that were asked for, that is reported too.
     fn listen(&self) -> io::Result<UnixListener> {
-        let Reporter { rt, serving } = *self;
+        let Reporter {
+            rt,
+            serving,
+            at_once,
+        } = *self;
         let listener = listen_at(rt, &serving.file)?;
-        let at_once = serving.terms.at_once;
-        let room = room(rt.alloc(), at_once);
         let sessions = if at_once == 1 { "session" } else { "sessions" };
         let path = serving.file.path;
         let _ = eprintln!(*rt; "sysvmsg: serving {path}, up to {at_once} {sessions} at once");
-        if room < at_once {
+        let asked = serving.terms.at_once;
+        if at_once < asked && asked < MAX_CLIENTS {
             let _ = eprintln!(*rt;
-                "sysvmsg: descriptors for {room} sessions at once: raise the limit of open files"
+                "sysvmsg: descriptors for {at_once} {sessions} at once: raise the limit of open files"
             );
         }
         Ok(listener)
@@ -53,11 +60,6 @@ impl<R: Files + Net + Eprint + AllocGlobal + Clone + Drop> Host for Reporter<'_,
             Notice::Held(why) => complain(rt, "cannot accept, and tries again", &why, ""),
             Notice::Resumed => {
                 let _ = eprintln!(*rt; "sysvmsg: accepts again");
-            }
-            Notice::Busy { sessions, waiting } => {
-                let _ = eprintln!(*rt;
-                    "sysvmsg: no worker is free: sessions {sessions}, waiting {waiting}"
-                );
             }
             Notice::NoMemory => {
                 let _ = eprintln!(*rt; "sysvmsg: no memory for a session");
@@ -96,14 +98,19 @@ fn run_server<
     R: Files + Net + Threads + Wait + Sync + Eprint + AllocGlobal + Clone + Drop,
 >(rt: &R, input: I, serving: &Serving<'_>, reason: &mut Option<Reason>) -> Result<Ended, ServeFault>
     requires { HasLimits serving.now }
-    ensures ends { IfOk result (λ ended. EndsOn serving.now.terms.blocks serving.now.terms.at_once
-        serving.now.terms.sessions ended) }
+    ensures ends { IfOk result (EndsWithin serving.now.terms) }
     ensures meant { IfOk result (λ ended. HasReason serving.now.until_eof
         serving.now.terms.sessions ended.sums.sessions reason.new) }
 {
-    let host = Reporter { rt, serving };
+    let mut terms = serving.terms;
+    terms.at_once = room(terms.workers, terms.at_once);
+    let host = Reporter {
+        rt,
+        serving,
+        at_once: terms.at_once,
+    };
     let input = serving.until_eof.then_some(input);
-    serve_listener(rt, rt.alloc(), host, input, serving.terms, reason)
+    serve_listener(rt, rt.alloc(), host, input, terms, reason)
 }
 
 /// Prints how a server ended that accepted no more connections for this reason. If an accept
@@ -135,6 +142,7 @@ fn end<R: Print + Eprint + AllocGlobal, S: Write>(
 fn explain(rt: &impl Eprint, fault: ServeFault, terms: &Terms) {
     let Terms {
         blocks,
+        workers,
         at_once,
         ..
     } = *terms;
@@ -143,7 +151,7 @@ fn explain(rt: &impl Eprint, fault: ServeFault, terms: &Terms) {
             eprintln!(rt; "sysvmsg: no memory for {blocks} blocks and {at_once} sessions")
         }
         ServeFault::Thread => {
-            eprintln!(rt; "sysvmsg: cannot start {at_once} threads: the system refuses more")
+            eprintln!(rt; "sysvmsg: cannot start {workers} threads: the system refuses more")
         }
         ServeFault::Worn | ServeFault::Missed => eprintln!(rt; "sysvmsg: {fault}"),
     };

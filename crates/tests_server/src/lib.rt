@@ -5,8 +5,6 @@
 #[cfg(test)]
 mod commands;
 #[cfg(test)]
-mod memory;
-#[cfg(test)]
 mod parts;
 #[cfg(test)]
 mod server;

@@ -21,7 +21,7 @@ use sysv_server::{
 use sysv_service::Closed;
 
 /// What is left of a service of 128 blocks when it is closed: no message, all blocks, no held gate.
-pub(crate) const EMPTY: Closed = Closed {
+const EMPTY: Closed = Closed {
     waiting: 0,
     free: 128,
     held: 0,
@@ -344,8 +344,8 @@ fn ended<R: Threads + Wait + Net + Files + Abort + Clock + Sync>(
     terms: Terms,
     clients: Clients,
 ) -> ((Result<Ended, ServeFault>, bool), bool)
-    requires { (128 ≤ terms.blocks) × (terms.blocks ≤ 65536) × (1 ≤ terms.at_once)
-        × (terms.at_once ≤ 256) }
+    requires { (128 ≤ terms.blocks) × (terms.blocks ≤ 65536) × (1 ≤ terms.workers)
+        × (terms.workers ≤ 16) × (1 ≤ terms.at_once) × (terms.at_once ≤ 16384) }
 {
     let path = "server.socket";
     let _old = fs::remove_file(rt, path);
@@ -354,8 +354,8 @@ fn ended<R: Threads + Wait + Net + Files + Abort + Clock + Sync>(
     thread::join(
         rt,
         move || -> (Result<Ended, ServeFault>, bool)
-            requires { (128 ≤ terms.blocks) × (terms.blocks ≤ 65536) × (1 ≤ terms.at_once)
-                × (terms.at_once ≤ 256) }
+            requires { (128 ≤ terms.blocks) × (terms.blocks ≤ 65536) × (1 ≤ terms.workers)
+                × (terms.workers ≤ 16) × (1 ≤ terms.at_once) × (terms.at_once ≤ 16384) }
         {
             let mut reason = None;
             let end = serve_listener(rt, alloc, host, None::<UnixStream>, terms, &mut reason);
@@ -374,10 +374,11 @@ fn ends_as<R: Threads + Wait + Net + Files + Abort + Clock + Sync>(
     clients: Clients,
     end: Ended,
 )
-    requires { (1 ≤ at_once) × (at_once ≤ 256) }
+    requires { (1 ≤ at_once) × (at_once ≤ 16384) }
 {
     let terms = Terms {
         blocks: 128,
+        workers: 4,
         at_once,
         sessions: end.sums.sessions,
         patience: Patience {
@@ -467,6 +468,7 @@ fn no_queue_is_left(rt: HostRuntime) {
 fn a_server_without_a_listener_serves_nobody(rt: HostRuntime) {
     let terms = Terms {
         blocks: 128,
+        workers: 2,
         at_once: 2,
         sessions: 3,
         patience: Patience::UNBOUNDED,
