@@ -136,6 +136,7 @@ module _ {I H : Type 0} where
           ∙ counted;
       passes = served.crewed.passes;
       sums = served.sums;
+      lost = served.lost;
     };
     bounded = λ some.
         let fits : s.most ≤ 2 ^ 64 - 1 = omega arith in
