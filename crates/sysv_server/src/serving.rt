@@ -62,7 +62,13 @@ pub fn serve_on<R: Threads + Wait + Net + Sync>(
     ensures balance { IfOk result IsBalanced }
     ensures err { IfErr result (FailsOn blocks workers) }
 {
-    let Some(common) = Common::open(alloc, workers as usize, workers as usize, Patience::UNBOUNDED, 0) else {
+    let Some(common) = Common::open(
+        alloc,
+        workers as usize,
+        workers as usize,
+        Patience::UNBOUNDED,
+        0,
+    ) else {
         return Err(ServeFault::NoMemory);
     };
     let Some(mut books) = empty_books(alloc, workers) else {
@@ -137,7 +143,8 @@ pub fn serve_listener<I: Read + AsRawFd + Drop, H: Host + Drop, R: Threads + Wai
     } = terms;
     *reason = None;
     let workers = workers.min(at_once);
-    let Some(common) = Common::open(alloc, workers as usize, at_once as usize, patience, drain) else {
+    let Some(common) = Common::open(alloc, workers as usize, at_once as usize, patience, drain)
+    else {
         return Err(ServeFault::NoMemory);
     };
     let Some(mut books) = empty_books(alloc, at_once) else {
