@@ -147,7 +147,7 @@ fn commanding(rt: &impl Net, path: &str) -> bool {
         & talks(rt, path, &[HELLO, FIND], &[KNOWN, NOT_FOUND])
 }
 
-/// Requests the rows of the first 64 slots, of which only the first has a queue.
+/// Requests the rows of all slots, of which only the first has a queue.
 fn listing(rt: &impl Net, path: &str) -> bool {
     let Ok(mut stream) = UnixStream::connect(rt, path) else {
         return false;
