@@ -10,6 +10,8 @@ use crate::plain::complain;
 use crate::room::room;
 use crate::socket::listen_at;
 use crate::{FAULT, say};
+use libc::net::{POLLOUT, poll};
+use libc::types::pollfd;
 use std::io;
 use std::io::{Eprint, ErrorKind, Read, Write};
 use std::net::Net;
@@ -23,6 +25,9 @@ use sysv_server::{
     Ended, Host, MAX_CLIENTS, Notice, Reason, ServeFault, Sums, Terms, serve_listener,
 };
 
+/// The descriptor of standard error.
+const STANDARD_ERROR: i32 = 2;
+
 /// The host of a server: it opens the socket, and reports on standard error.
 #[derive(Drop)]
 struct Reporter<'a, R> {
@@ -32,29 +37,41 @@ struct Reporter<'a, R> {
     at_once: u32,
 }
 
-impl<R: Files + Net + Eprint + AllocGlobal + Clone + Drop> Host for Reporter<'_, R> {
-    /// Opens the socket, and reports that the server listens, or why it does not. If there are
-    /// fewer descriptors than the clients that were asked for, that is reported too.
-    fn listen(&self) -> io::Result<UnixListener> {
+impl<R: Eprint> Reporter<'_, R> {
+    /// Reports that the server listens. If there are fewer descriptors than the clients that were
+    /// asked for, that is reported too.
+    fn announce(&self) {
         let Reporter {
             rt,
             serving,
             at_once,
         } = *self;
-        let listener = listen_at(rt, &serving.file)?;
         let sessions = if at_once == 1 { "session" } else { "sessions" };
         let path = serving.file.path;
-        let _ = eprintln!(*rt; "sysvmsg: serving {path}, up to {at_once} {sessions} at once");
+        if takes_line() {
+            let _ = eprintln!(*rt; "sysvmsg: serving {path}, up to {at_once} {sessions} at once");
+        }
         let asked = serving.terms.at_once;
-        if at_once < asked && asked < MAX_CLIENTS {
+        if at_once < asked && asked < MAX_CLIENTS && takes_line() {
             let _ = eprintln!(*rt;
                 "sysvmsg: descriptors for {at_once} {sessions} at once: raise the limit of open files"
             );
         }
+    }
+}
+
+impl<R: Files + Net + Eprint + AllocGlobal + Clone + Drop> Host for Reporter<'_, R> {
+    /// Opens the socket, and reports that the server listens, or why it does not.
+    fn listen(&self) -> io::Result<UnixListener> {
+        let listener = listen_at(self.rt, &self.serving.file)?;
+        self.announce();
         Ok(listener)
     }
 
     fn note(&self, notice: Notice) {
+        if !takes_line() {
+            return;
+        }
         let rt = self.rt;
         match notice {
             Notice::Held(why) => complain(rt, "cannot accept, and tries again", &why, ""),
@@ -69,6 +86,17 @@ impl<R: Files + Net + Eprint + AllocGlobal + Clone + Drop> Host for Reporter<'_,
             }
         }
     }
+}
+
+/// Returns whether standard error takes a line without a wait, or fails. A server drops what it
+/// would report otherwise: it does not wait for whoever reads its standard error.
+fn takes_line() -> bool {
+    let mut asked = [pollfd {
+        fd: STANDARD_ERROR,
+        events: POLLOUT,
+        revents: 0,
+    }];
+    poll(&mut asked, 0) > 0
 }
 
 /// Serves at a path, reports on standard error that it listens, and prints the sums of the
@@ -130,7 +158,9 @@ fn end<R: Print + Eprint + AllocGlobal, S: Write>(
         }
         Some(Reason::NoSocket(_)) => say(rt, "cannot bind"),
         Some(Reason::Accept(why)) => {
-            complain(rt, "cannot accept", &why, "");
+            if takes_line() {
+                complain(rt, "cannot accept", &why, "");
+            }
             tell(screen, sums);
             ExitCode::from(FAULT)
         }

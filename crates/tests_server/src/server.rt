@@ -70,7 +70,7 @@ pub(crate) const SEND: &[u8] = &[
 pub(crate) const SENT: &[u8] = &[0x00, 0x00, 0x00, 0x03, 0x01, 0x02, 0x00];
 
 /// A receive of at most 100 bytes of any type from queue 0, which waits.
-pub(crate) const RECEIVE: &[u8] = &[
+const RECEIVE: &[u8] = &[
     0x00, 0x00, 0x00, 0x16, 0x01, 0x03, 0x00, 0x00, 0x00, 0x00, 0x00, 0x00, 0x00, 0x64, 0x00, 0x00,
     0x00, 0x00, 0x00, 0x00, 0x00, 0x00, 0x00, 0x00, 0x00, 0x00,
 ];
@@ -82,7 +82,7 @@ const RECEIVE_NOW: &[u8] = &[
 ];
 
 /// The reply to a receive: `abc`, of type 5.
-pub(crate) const RECEIVED: &[u8] = &[
+const RECEIVED: &[u8] = &[
     0x00, 0x00, 0x00, 0x0e, 0x01, 0x03, 0x00, 0x00, 0x00, 0x00, 0x00, 0x00, 0x00, 0x00, 0x05, 0x61,
     0x62, 0x63,
 ];
@@ -147,7 +147,7 @@ fn commanding(rt: &impl Net, path: &str) -> bool {
         & talks(rt, path, &[HELLO, FIND], &[KNOWN, NOT_FOUND])
 }
 
-/// Requests the rows of the first 64 slots, of which only the first has a queue.
+/// Requests the rows of all slots, of which only the first has a queue.
 fn listing(rt: &impl Net, path: &str) -> bool {
     let Ok(mut stream) = UnixStream::connect(rt, path) else {
         return false;
@@ -397,7 +397,7 @@ fn ends_as<R: Threads + Wait + Net + Files + Abort + Clock + Sync>(
 }
 
 /// Returns the sums of this number of sessions, with these numbers of messages written and lost.
-pub(crate) fn sums(sessions: u64, written: u64, lost: u64) -> Sums {
+fn sums(sessions: u64, written: u64, lost: u64) -> Sums {
     Sums {
         sessions,
         taken: written.saturating_add(lost),
