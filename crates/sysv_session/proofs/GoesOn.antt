@@ -1,10 +1,9 @@
 -- How a conversation goes on, from its start to its end.
 use Rattle.std.proofs.Common.{◌≡◌, ℕ, ◌+◌, ◌-◌, ◌^◌, ◌<◌, ◌≤◌, List, [], ◌∷◌, ◌++◌, length, take, Option, None}
-use Rattle.std.proofs.Common.{Some, Ok, Err, refl, sym, ap, ap₂, subst, subst₂, ◌∙◌, arith, inl, inr, append_assoc}
+use Rattle.std.proofs.Common.{Some, Ok, Err, refl, sym, ap, ap₂, subst, subst₂, ◌∙◌, arith, inl, inr}
 use Rattle.std.proofs.Common.{add-zero, append-nil, length-append}
 use Rattle.std.specs.Io.KnownBytes.{Appends, Consumes}
-use Rattle.std.proofs.KnownBytes.{Consumes-nil, Consumes-trans}
-use Rattle.std.specs.List.{AllByRecursion}
+use Rattle.std.proofs.KnownBytes.{Consumes-nil}
 use Rattle.sysv_model.specs.declared.cred.Cred.{Cred}
 use Rattle.sysv_queue.specs.Tally.{Tallied, taken_in}
 use Rattle.sysv_session.specs.declared.kernel.RequestOutcome.{RequestOutcome}
@@ -14,11 +13,11 @@ use Rattle.sysv_session.specs.declared.served.End.TheVariants.{Ended, NoMemory, 
 use Rattle.sysv_session.specs.declared.served.TheConstants.{SESSION_REQUESTS}
 use Rattle.sysv_session.specs.declared.session.Session.{Session}
 use Rattle.sysv_session.specs.declared.session.TakenUp.TheVariants.{Hello, Request as Asked}
-use Rattle.sysv_session.specs.Answers.{IsAskedIn, IsReplied, MayAnswer, messages_in}
-use Rattle.sysv_session.specs.Calls.{Call, IsCall, Leads, Meaning}
+use Rattle.sysv_session.specs.Answers.{IsReplied, MayAnswer, messages_in}
+use Rattle.sysv_session.specs.Calls.{Call, Meaning}
 use Rattle.sysv_session.specs.Conversation.{HasRoom, Puts, Talk, gathered, report, reported, sent_on, with_outcome}
 use Rattle.sysv_session.specs.Gathered.{Gathered, Gathers, all_bytes, marks_from, messages_among}
-use Rattle.sysv_session.specs.Input.{EndsBefore, asked_spelling, hello_of, hello_spelling}
+use Rattle.sysv_session.specs.Input.{EndsBefore, hello_spelling}
 use Rattle.sysv_session.specs.Outbox.{Mark, Unsent, with_frame}
 use Rattle.sysv_session.specs.Output.{AreReplied, hello_frame}
 use Rattle.sysv_session.specs.Stands.{Stands, StandsAsking, StandsGreeting, Stopped}
@@ -27,7 +26,7 @@ use Rattle.sysv_session.specs.TakenUp.{EndsHere, TakesRequest, TakesUp}
 use Rattle.sysv_session.specs.Together.{IsStoppedWithin, Replied, Reports, ServesTogether, StopsAfter}
 use Rattle.sysv_session.specs.UnderWay.{Fresh, Greeted, UnderWay, greeting, replies_to, reply_for, reply_to}
 use Rattle.sysv_session.proofs.GatheredLemmas.{gathers_message, gathers_none, gathers_on, gathers_reply}
-use Rattle.sysv_session.proofs.ListLemmas.{all_more, asked_more, few_messages, leads_more, length_more, messages_more}
+use Rattle.sysv_session.proofs.ListLemmas.{all_more, few_messages, messages_more}
 use Rattle.sysv_session.proofs.OutboxLemmas.{each_once}
 use Rattle.sysv_session.proofs.TogetherLemmas.{fault_within, replies_messages}
 use Rattle.sysv_session.proofs.UnderWayLemmas.{Called, call_replied, hello_replied, hello_taken, request_called}
@@ -35,7 +34,6 @@ use Rattle.sysv_session.proofs.UnderWayLemmas.{request_taken}
 use Rattle.sysv_wire.specs.declared.fault.Fault.TheVariants.{Read}
 use Rattle.sysv_wire.specs.declared.frame.Version.{Version}
 use Rattle.sysv_wire.specs.declared.request.Request.{Request}
-use Rattle.sysv_wire.specs.Requests.{FitsRequest, request_spelling}
 
 -- The same for an equal outbox and an equal tally.
 regathered : (start : Tallied) (replies : List Gathered) (taken : List ℕ) (box box' : Unsent) (tally tally' : Tallied)

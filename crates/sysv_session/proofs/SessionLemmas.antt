@@ -1,6 +1,8 @@
 -- A session that serves, from its start to its end.
-use Rattle.std.proofs.Common.{◌≡◌, ℕ, ◌-◌, ◌<◌, ◌≤◌, ◌^◌, List, [], ◌∷◌, ◌++◌, length, Option, None, Some, Result, Ok, Err}
-use Rattle.std.proofs.Common.{refl, sym, ap, subst, subst₂, ◌∙◌, ◌+◌, arith, inl, inr, add-zero, append-nil, length-append}
+use Rattle.std.proofs.Common.{◌≡◌, ℕ, ◌-◌, ◌<◌, ◌≤◌, ◌^◌, List, [], ◌∷◌, ◌++◌, length, Option, None, Some, Result, Ok}
+use Rattle.std.proofs.Common.{Err}
+use Rattle.std.proofs.Common.{refl, sym, ap, subst, subst₂, ◌∙◌, ◌+◌, arith, inl, inr, add-zero, append-nil}
+use Rattle.std.proofs.Common.{length-append}
 use Rattle.std.specs.Prelude.{⊤}
 use Rattle.std.specs.Io.KnownBytes.{Appends, Consumes}
 use Rattle.std.proofs.KnownBytes.{Appends-nil, Appends-trans}
@@ -28,7 +30,8 @@ use Rattle.sysv_session.specs.TakenUp.{EndsHere, TakesRequest, TakesUp}
 use Rattle.sysv_session.specs.Turn.{Answers, one_lost, one_written}
 use Rattle.sysv_session.specs.UnderWay.{Greeted, Greets, UnderWay, replies_to, reply_for}
 use Rattle.sysv_session.proofs.GatheredLemmas.{all_more as bytes_more, marks_more}
-use Rattle.sysv_session.proofs.ListLemmas.{all_but_last, all_more, few_messages, frames_more, left_frames, messages_more}
+use Rattle.sysv_session.proofs.ListLemmas.{all_but_last, all_more, few_messages, frames_more, left_frames}
+use Rattle.sysv_session.proofs.ListLemmas.{messages_more}
 use Rattle.sysv_session.proofs.TogetherLemmas.{marks_in, replies_bytes, replies_messages, reply_bytes}
 use Rattle.sysv_session.proofs.UnderWayLemmas.{Called, call_replied, hello_replied, hello_taken, request_called}
 use Rattle.sysv_session.proofs.UnderWayLemmas.{request_taken}

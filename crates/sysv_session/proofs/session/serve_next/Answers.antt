@@ -12,7 +12,8 @@ returns-in_err-version-clause-serves g c = λ start left taken serving.
 pub returns-in-Hello-clause-serves : goal.returns-in-Hello-clause-serves
 returns-in-Hello-clause-serves g c = λ start left taken serving.
     answers_hello g.K.Kernel.meaning c.args.slots start left taken c.args.session.now c.args.kernel.now _ _ _
-    c.take_up.new.text serving c.take_up.new.self c.answer.new.self _ c.answer.ensures.caller c.answer.ensures.count c.in-Hello.version
+    c.take_up.new.text serving c.take_up.new.self c.answer.new.self _ c.answer.ensures.caller c.answer.ensures.count
+    c.in-Hello.version
     (rw c.in-Hello.is at c.in_ok-version.ensures.takes) c.answer.result
     (rw (c.hello_reply.ensures.reply, c.clear.ensures) at c.answer.ensures.answers)
 

@@ -7,7 +7,8 @@ use Rattle.sysv_session.proofs.session.serve_watched.Goals as goal
 
 pub loop-why-init : goal.loop-why-init
 loop-why-init g c = record {
-  serving = begins g.K.Kernel.meaning c.slots-slots.result c.args.kernel.now _ _ c.open-session.result c.open-session.ensures.caller
+  serving = begins g.K.Kernel.meaning c.slots-slots.result c.args.kernel.now _ _ c.open-session.result
+      c.open-session.ensures.caller
       c.open-session.ensures.tally c.open-session.ensures.count;
   same_reader = refl;
   same_writer = refl;
