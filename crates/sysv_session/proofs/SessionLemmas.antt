@@ -23,7 +23,8 @@ use Rattle.sysv_session.specs.Calls.{Call, Meaning, messages_of}
 use Rattle.sysv_session.specs.Gathered.{Gathered, all_bytes, marks_at, marks_from, messages_among}
 use Rattle.sysv_session.specs.Input.{EndsAfter, EndsBefore, hello_spelling}
 use Rattle.sysv_session.specs.Outbox.{Mark}
-use Rattle.sysv_session.specs.Output.{Replies, Tallies, Writes, frames_of, hello_frame, hello_reply}
+use Rattle.sysv_session.specs.Output.{AreReplied, Replies, Tallies, Writes, answered, frames_of, hello_frame}
+use Rattle.sysv_session.specs.Output.{hello_reply}
 use Rattle.sysv_session.specs.Serving.{Serving, ServesOn}
 use Rattle.sysv_session.specs.Session.{IsBounded, ServesBy}
 use Rattle.sysv_session.specs.TakenUp.{EndsHere, TakesRequest, TakesUp}
@@ -142,46 +143,45 @@ module _ {K : Type 0} (Means : Meaning K) (slots : ℕ) (old : K) (left taken : 
   fresh_count session now unread replies (inl fresh) none = fresh.counts
   fresh_count session now unread replies (inr greeted) none = absurd (grind (arith, greeted.caller, none))
 
-  -- It ends where it stands, after its hello.
-  talks : (why : End) (session : Session) (now : K) (unread rest more : Option (List ℕ)) (replies : List Gathered)
-      (greeted : Greeted Means slots session old now left unread replies) → EndsAfter greeted.version why unread rest →
-      Replies why greeted.calls → Writes why (hello_frame greeted.version slots ∷ frames_of greeted.calls) taken more →
-      Tallies why greeted.calls session.tally → IsBounded why session.requests →
-      ServesBy Means slots why session.tally session.requests old now left rest taken more
-  talks why session now unread rest more replies greeted ends replied writes tallies bounded = inr (record {
-    version = greeted.version;
-    cred = greeted.cred;
-    known = greeted.known;
-    calls = greeted.calls;
-    are_calls = greeted.are_calls;
-    leads = greeted.leads;
-    unread = unread;
-    reads = greeted.reads;
-    ends = ends;
-    replies = replied;
-    writes = writes;
-    tallies = tallies;
-    counts = greeted.counts;
-    bounded = bounded;
-  })
-
   module _ (session : Session) (now : K) (unread rest more : Option (List ℕ)) (text : List ℕ)
       (serving : Serving Means slots session old now left unread taken more) where
+    -- It ends where it stands, after its hello, and all calls have their replies.
+    talks : (why : End) (greeted : Greeted Means slots session old now left unread serving.replies) →
+        EndsAfter greeted.version why unread rest → IsBounded why session.requests →
+        (AreReplied greeted.calls → Replies why greeted.calls) →
+        (Appends taken more (concat (hello_frame greeted.version slots ∷ frames_of greeted.calls)) →
+        Writes why (hello_frame greeted.version slots ∷ frames_of greeted.calls) taken more) →
+        answered why greeted.calls ≡ greeted.calls →
+        ServesBy Means slots why session.tally session.requests old now left rest taken more
+    talks why greeted ends bounded replies writes all =
+        let told = all_told greeted.version slots greeted.calls serving.replies session.tally greeted.gathered
+        serving.tally in
+        inr (record {
+          version = greeted.version;
+          cred = greeted.cred;
+          known = greeted.known;
+          calls = greeted.calls;
+          are_calls = greeted.are_calls;
+          leads = greeted.leads;
+          unread = unread;
+          reads = greeted.reads;
+          ends = ends;
+          replies = replies greeted.replied;
+          writes = writes (all_written greeted.version slots greeted.calls serving.replies taken more greeted.gathered
+              serving.writes);
+          tallies = (
+            ap taken_in told ∙ add-zero _,
+            ap (λ (t : Tallied). t.written) told ∙ ap messages_of (sym all),
+          );
+          counts = greeted.counts;
+          bounded = bounded;
+        })
+
     reads_stop_at : (why : End) (greeted : Greeted Means slots session old now left unread serving.replies) →
         session.requests < SESSION_REQUESTS → TakesRequest greeted.version (Err why) unread rest text →
         ServesBy Means slots why session.tally session.requests old now left rest taken more
-    reads_stop_at Ended greeted few takes =
-        let told = all_told greeted.version slots greeted.calls serving.replies session.tally greeted.gathered
-        serving.tally in
-        talks Ended session now unread rest more serving.replies greeted takes greeted.replied
-        (all_written greeted.version slots greeted.calls serving.replies taken more greeted.gathered serving.writes)
-        (ap taken_in told ∙ add-zero _, ap (λ (t : Tallied). t.written) told) few
-    reads_stop_at (Fault fault) greeted few takes =
-        let told = all_told greeted.version slots greeted.calls serving.replies session.tally greeted.gathered
-        serving.tally in
-        talks (Fault fault) session now unread rest more serving.replies greeted takes greeted.replied
-        (all_written greeted.version slots greeted.calls serving.replies taken more greeted.gathered serving.writes)
-        (ap taken_in told ∙ add-zero _, ap (λ (t : Tallied). t.written) told) few
+    reads_stop_at Ended greeted few takes = talks Ended greeted takes few (λ r. r) (λ w. w) refl
+    reads_stop_at (Fault fault) greeted few takes = talks (Fault fault) greeted takes few (λ r. r) (λ w. w) refl
     reads_stop_at NoMemory greeted few takes = absurd takes
     reads_stop_at NoHello greeted few takes = absurd takes
     reads_stop_at Write greeted few takes = absurd takes
@@ -192,14 +192,9 @@ module _ {K : Type 0} (Means : Meaning K) (slots : ℕ) (old : K) (left taken : 
         EndsHere (Some (greeted.version, greeted.cred)) session.requests why unread rest text →
         ServesBy Means slots why session.tally session.requests old now left rest taken more
     reads_stop why greeted (inl bound) =
-        let told = all_told greeted.version slots greeted.calls serving.replies session.tally greeted.gathered
-        serving.tally in
         let most : session.requests ≡ SESSION_REQUESTS = omega (arith, bound.0, greeted.bounded) in
         subst (λ (w : End). ServesBy Means slots w session.tally session.requests old now left rest taken more)
-        (sym bound.1)
-        (talks Bound session now unread rest more serving.replies greeted bound.2 greeted.replied
-        (all_written greeted.version slots greeted.calls serving.replies taken more greeted.gathered serving.writes)
-        (ap taken_in told ∙ add-zero _, ap (λ (t : Tallied). t.written) told) most)
+        (sym bound.1) (talks Bound greeted bound.2 most (λ r. r) (λ w. w) refl)
     reads_stop why greeted (inr read) = reads_stop_at why greeted read.0 read.1
 
     stops_at : (why : End) → UnderWay Means slots session old now left unread serving.replies →

@@ -1,5 +1,5 @@
 //! What a session reads and writes for one request.
-ghost use Rattle.std.specs.Prelude.{◌≡◌, ◌<◌, ◌≤◌, ◌-◌, ◌^◌, List, ℕ, [], false, is_err, length, OnOk, OnErr};
+ghost use Rattle.std.specs.Prelude.{◌≡◌, ◌<◌, ◌≤◌, ◌-◌, ◌^◌, false, is_err, length, OnOk, OnErr};
 ghost use Rattle.std.specs.Io.KnownBytes.{Appends};
 ghost use Rattle.sysv_model.specs.declared.limits.TheConstants.{MESSAGE_BYTES};
 ghost use Rattle.sysv_queue.specs.Tally.{taken_in};
