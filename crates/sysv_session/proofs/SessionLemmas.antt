@@ -1,4 +1,4 @@
--- A session that serves, from its start to its end.
+-- A session that hands over each reply before it takes up more, from its start to its end.
 use Rattle.std.proofs.Common.{◌≡◌, ℕ, ◌-◌, ◌<◌, ◌≤◌, ◌^◌, List, [], ◌∷◌, ◌++◌, length, Option, None, Some, Result, Ok}
 use Rattle.std.proofs.Common.{Err}
 use Rattle.std.proofs.Common.{refl, sym, ap, subst, subst₂, ◌∙◌, ◌+◌, arith, inl, inr, add-zero, append-nil}
@@ -25,7 +25,7 @@ use Rattle.sysv_session.specs.Input.{EndsAfter, EndsBefore, hello_spelling}
 use Rattle.sysv_session.specs.Outbox.{Mark}
 use Rattle.sysv_session.specs.Output.{AreReplied, Replies, Tallies, Writes, answered, frames_of, hello_frame}
 use Rattle.sysv_session.specs.Output.{hello_reply}
-use Rattle.sysv_session.specs.Serving.{Serving, ServesOn}
+use Rattle.sysv_session.specs.HandedOver.{HandedOver, Proceeds}
 use Rattle.sysv_session.specs.Session.{IsBounded, ServesBy}
 use Rattle.sysv_session.specs.TakenUp.{EndsHere, TakesRequest, TakesUp}
 use Rattle.sysv_session.specs.Turn.{Answers, one_lost, one_written}
@@ -94,9 +94,9 @@ left_more calls call before after left same told =
     )
 
 module _ {K : Type 0} (Means : Meaning K) (slots : ℕ) (old : K) (left taken : Option (List ℕ)) where
-  -- A new session serves.
+  -- A new session has nothing to hand over.
   pub begins : (session : Session) → session.caller ≡ None → session.tally ≡ record { written = 0; lost = 0 } →
-      session.requests ≡ 0 → Serving Means slots session old old left left taken taken
+      session.requests ≡ 0 → HandedOver Means slots session old old left left taken taken
   begins session caller tally counts = record {
     replies = [];
     under_way = inl (record { caller = caller; counts = counts; kernel = refl; reads = refl; gathered = refl });
@@ -120,12 +120,12 @@ module _ {K : Type 0} (Means : Meaning K) (slots : ℕ) (old : K) (left taken : 
 
   -- The tally has room for one more message.
   pub has_room : (session : Session) (now : K) (unread more : Option (List ℕ)) →
-      Serving Means slots session old now left unread taken more → taken_in session.tally < 2 ^ 64 - 1
-  has_room session now unread more serving =
+      HandedOver Means slots session old now left unread taken more → taken_in session.tally < 2 ^ 64 - 1
+  has_room session now unread more so_far =
       omega (
         arith,
-        ap taken_in serving.tally,
-        few_messages_of session now unread serving.replies serving.under_way,
+        ap taken_in so_far.tally,
+        few_messages_of session now unread so_far.replies so_far.under_way,
       )
 
   most_requests : (session : Session) (now : K) (unread : Option (List ℕ)) (replies : List Gathered) →
@@ -135,8 +135,8 @@ module _ {K : Type 0} (Means : Meaning K) (slots : ℕ) (old : K) (left taken : 
 
   -- It has had at most the maximum number of requests.
   pub few_requests : (session : Session) (now : K) (unread more : Option (List ℕ)) →
-      Serving Means slots session old now left unread taken more → session.requests ≤ SESSION_REQUESTS
-  few_requests session now unread more serving = most_requests session now unread serving.replies serving.under_way
+      HandedOver Means slots session old now left unread taken more → session.requests ≤ SESSION_REQUESTS
+  few_requests session now unread more so_far = most_requests session now unread so_far.replies so_far.under_way
 
   fresh_count : (session : Session) (now : K) (unread : Option (List ℕ)) (replies : List Gathered) →
       UnderWay Means slots session old now left unread replies → session.caller ≡ None → session.requests ≡ 0
@@ -144,9 +144,9 @@ module _ {K : Type 0} (Means : Meaning K) (slots : ℕ) (old : K) (left taken : 
   fresh_count session now unread replies (inr greeted) none = absurd (grind (arith, greeted.caller, none))
 
   module _ (session : Session) (now : K) (unread rest more : Option (List ℕ)) (text : List ℕ)
-      (serving : Serving Means slots session old now left unread taken more) where
+      (so_far : HandedOver Means slots session old now left unread taken more) where
     -- It ends where it stands, after its hello, and all calls have their replies.
-    talks : (why : End) (greeted : Greeted Means slots session old now left unread serving.replies) →
+    talks : (why : End) (greeted : Greeted Means slots session old now left unread so_far.replies) →
         EndsAfter greeted.version why unread rest → IsBounded why session.requests →
         (AreReplied greeted.calls → Replies why greeted.calls) →
         (Appends taken more (concat (hello_frame greeted.version slots ∷ frames_of greeted.calls)) →
@@ -154,8 +154,8 @@ module _ {K : Type 0} (Means : Meaning K) (slots : ℕ) (old : K) (left taken : 
         answered why greeted.calls ≡ greeted.calls →
         ServesBy Means slots why session.tally session.requests old now left rest taken more
     talks why greeted ends bounded replies writes all =
-        let told = all_told greeted.version slots greeted.calls serving.replies session.tally greeted.gathered
-        serving.tally in
+        let told = all_told greeted.version slots greeted.calls so_far.replies session.tally greeted.gathered
+        so_far.tally in
         inr (record {
           version = greeted.version;
           cred = greeted.cred;
@@ -167,8 +167,8 @@ module _ {K : Type 0} (Means : Meaning K) (slots : ℕ) (old : K) (left taken : 
           reads = greeted.reads;
           ends = ends;
           replies = replies greeted.replied;
-          writes = writes (all_written greeted.version slots greeted.calls serving.replies taken more greeted.gathered
-              serving.writes);
+          writes = writes (all_written greeted.version slots greeted.calls so_far.replies taken more greeted.gathered
+              so_far.writes);
           tallies = (
             ap taken_in told ∙ add-zero _,
             ap (λ (t : Tallied). t.written) told ∙ ap messages_of (sym all),
@@ -177,7 +177,7 @@ module _ {K : Type 0} (Means : Meaning K) (slots : ℕ) (old : K) (left taken : 
           bounded = bounded;
         })
 
-    reads_stop_at : (why : End) (greeted : Greeted Means slots session old now left unread serving.replies) →
+    reads_stop_at : (why : End) (greeted : Greeted Means slots session old now left unread so_far.replies) →
         session.requests < SESSION_REQUESTS → TakesRequest greeted.version (Err why) unread rest text →
         ServesBy Means slots why session.tally session.requests old now left rest taken more
     reads_stop_at Ended greeted few takes = talks Ended greeted takes few (λ r. r) (λ w. w) refl
@@ -188,7 +188,7 @@ module _ {K : Type 0} (Means : Meaning K) (slots : ℕ) (old : K) (left taken : 
     reads_stop_at Bound greeted few takes = absurd takes
     reads_stop_at Left greeted few takes = absurd takes
 
-    reads_stop : (why : End) (greeted : Greeted Means slots session old now left unread serving.replies) →
+    reads_stop : (why : End) (greeted : Greeted Means slots session old now left unread so_far.replies) →
         EndsHere (Some (greeted.version, greeted.cred)) session.requests why unread rest text →
         ServesBy Means slots why session.tally session.requests old now left rest taken more
     reads_stop why greeted (inl bound) =
@@ -197,7 +197,7 @@ module _ {K : Type 0} (Means : Meaning K) (slots : ℕ) (old : K) (left taken : 
         (sym bound.1) (talks Bound greeted bound.2 most (λ r. r) (λ w. w) refl)
     reads_stop why greeted (inr read) = reads_stop_at why greeted read.0 read.1
 
-    stops_at : (why : End) → UnderWay Means slots session old now left unread serving.replies →
+    stops_at : (why : End) → UnderWay Means slots session old now left unread so_far.replies →
         EndsHere session.caller session.requests why unread rest text →
         ServesBy Means slots why session.tally session.requests old now left rest taken more
     stops_at why (inl fresh) here =
@@ -206,8 +206,8 @@ module _ {K : Type 0} (Means : Meaning K) (slots : ℕ) (old : K) (left taken : 
         inl (record {
           kernel = fresh.kernel;
           ends = subst (λ (l : Option (List ℕ)). EndsBefore why l rest) fresh.reads ends.0;
-          writes = serving.quiet fresh.gathered;
-          tallies = serving.tally
+          writes = so_far.quiet fresh.gathered;
+          tallies = so_far.tally
               ∙ ap (λ (l : List Gathered). let t : Tallied = record { written = messages_among l; lost = 0 } in t)
               fresh.gathered;
           counts = fresh.counts;
@@ -218,55 +218,55 @@ module _ {K : Type 0} (Means : Meaning K) (slots : ℕ) (old : K) (left taken : 
 
     -- What it reads stops it.
     pub stops : (why : End) (session' : Session) → TakesUp session session' (Err why) unread rest text →
-        ServesOn Means slots (Err why) session.requests session' old now left rest taken more
+        Proceeds Means slots (Err why) session.requests session' old now left rest taken more
     stops why session' takes =
         subst (λ (s : Session). ServesBy Means slots why s.tally s.requests old now left rest taken more) (sym takes.0)
-        (stops_at why serving.under_way takes.1)
+        (stops_at why so_far.under_way takes.1)
 
     -- It answers what it took up.
     module _ (mid new : Session) (most : Option (List ℕ)) (caller : new.caller ≡ mid.caller)
         (count : new.requests ≡ mid.requests) where
       serves_on : (version : Version) (outcome : RequestOutcome) (given : List ℕ) (next : K) →
           mid.tally ≡ session.tally → mid.requests ≡ session.requests + 1 →
-          UnderWay Means slots new old next left rest (serving.replies ++ reply_for version outcome given ∷ []) →
+          UnderWay Means slots new old next left rest (so_far.replies ++ reply_for version outcome given ∷ []) →
           Answers (Ok tt) version outcome given more most mid.tally new.tally →
-          ServesOn Means slots (Ok tt) session.requests new old next left rest taken most
+          Proceeds Means slots (Ok tt) session.requests new old next left rest taken most
       serves_on version outcome given next kept one under_way answers = (
         count ∙ one,
         record {
-          replies = serving.replies ++ reply_for version outcome given ∷ [];
+          replies = so_far.replies ++ reply_for version outcome given ∷ [];
           under_way = under_way;
-          writes = writes_more serving.replies (reply_for version outcome given) _ taken more most
-              (reply_bytes version outcome given) serving.writes answers.1;
+          writes = writes_more so_far.replies (reply_for version outcome given) _ taken more most
+              (reply_bytes version outcome given) so_far.writes answers.1;
           quiet = λ none. absurd (omega (
             arith,
             ap (length {A = Gathered}) none,
-            length-append serving.replies (reply_for version outcome given ∷ []),
+            length-append so_far.replies (reply_for version outcome given ∷ []),
           ));
-          tally = answers.2 ∙ ap (one_written outcome) (kept ∙ serving.tally)
+          tally = answers.2 ∙ ap (one_written outcome) (kept ∙ so_far.tally)
               ∙ ap (λ (n : ℕ). let t : Tallied = record { written = n; lost = 0 } in t)
-              (sym (among_more serving.replies version outcome given));
+              (sym (among_more so_far.replies version outcome given));
         },
       )
 
       -- A hello.
       module _ (version : Version) (takes : TakesUp session mid (Ok (Hello version)) unread rest text) where
-        hello : Greets version mid old now left rest serving.replies
+        hello : Greets version mid old now left rest so_far.replies
         hello =
-            hello_taken Means slots version session mid old now left unread rest text serving.replies serving.under_way
+            hello_taken Means slots version session mid old now left unread rest text so_far.replies so_far.under_way
             takes
 
         pub answers_hello : (result : Result ⊤ End) →
             Answers result version (Reply (hello_reply version slots)) [] more most mid.tally new.tally →
-            ServesOn Means slots result session.requests new old now left rest taken most
+            Proceeds Means slots result session.requests new old now left rest taken most
         answers_hello (Ok done) answers =
             serves_on version (Reply (hello_reply version slots)) [] now (ap (λ (s : Session). s.tally) takes.3)
-            (omega (arith, hello.counts, fresh_count session now unread serving.replies serving.under_way takes.1))
-            (hello_replied Means slots version mid new old now left rest serving.replies hello caller count) answers
+            (omega (arith, hello.counts, fresh_count session now unread so_far.replies so_far.under_way takes.1))
+            (hello_replied Means slots version mid new old now left rest so_far.replies hello caller count) answers
         answers_hello (Err Write) answers =
-            let told : new.tally ≡ record { written = messages_among serving.replies; lost = 0 } =
+            let told : new.tally ≡ record { written = messages_among so_far.replies; lost = 0 } =
             answers.2 ∙ ap (one_lost (Reply (hello_reply version slots)))
-            (ap (λ (s : Session). s.tally) takes.3 ∙ serving.tally) in
+            (ap (λ (s : Session). s.tally) takes.3 ∙ so_far.tally) in
             inr (record {
               version = version;
               cred = hello.cred;
@@ -285,7 +285,7 @@ module _ {K : Type 0} (Means : Meaning K) (slots : ℕ) (old : K) (left taken : 
                 refl,
                 Appends-nil taken,
                 subst (λ (m : Option (List ℕ)). AppendsPrefix m most (hello_frame version slots))
-                    (serving.quiet hello.gathered) answers.1,
+                    (so_far.quiet hello.gathered) answers.1,
               );
               tallies = (
                 omega (arith, ap taken_in told, ap messages_among hello.gathered),
@@ -306,20 +306,20 @@ module _ {K : Type 0} (Means : Meaning K) (slots : ℕ) (old : K) (left taken : 
           (takes : TakesUp session mid (Ok (Asked cred call.request)) unread rest call.text)
           (means : Means now cred call.request call.text call.outcome call.given next)
           (may : MayAnswer call.request.version call.request.ask call.outcome call.given) where
-        called : Called Means slots call mid old next left rest serving.replies
+        called : Called Means slots call mid old next left rest so_far.replies
         called =
-            request_called Means slots cred call mid old now next left rest serving.replies
-            (request_taken Means slots cred call.request session mid old now left unread rest call.text serving.replies
-            serving.under_way takes) means may
+            request_called Means slots cred call mid old now next left rest so_far.replies
+            (request_taken Means slots cred call.request session mid old now left unread rest call.text so_far.replies
+            so_far.under_way takes) means may
 
         told : mid.tally ≡ record { written = messages_of called.done; lost = 0 }
         told =
             ap (λ (s : Session). s.tally) takes.4
-            ∙ all_told called.version slots called.done serving.replies session.tally called.gathered serving.tally
+            ∙ all_told called.version slots called.done so_far.replies session.tally called.gathered so_far.tally
 
         written : Appends taken more (concat (hello_frame called.version slots ∷ frames_of called.done))
         written =
-            all_written called.version slots called.done serving.replies taken more called.gathered serving.writes
+            all_written called.version slots called.done so_far.replies taken more called.gathered so_far.writes
 
         -- It ends with this call.
         talks_last : (why : End) → EndsAfter called.version why rest rest → Replies why (called.done ++ call ∷ []) →
@@ -345,11 +345,11 @@ module _ {K : Type 0} (Means : Meaning K) (slots : ℕ) (old : K) (left taken : 
 
         pub answers_call : (result : Result ⊤ End) →
             Answers result call.request.version call.outcome call.given more most mid.tally new.tally →
-            ServesOn Means slots result session.requests new old next left rest taken most
+            Proceeds Means slots result session.requests new old next left rest taken most
         answers_call (Ok done) answers =
             serves_on call.request.version call.outcome call.given next (ap (λ (s : Session). s.tally) takes.4)
             (ap (λ (s : Session). s.requests) takes.4)
-            (call_replied Means slots call mid new old next left rest serving.replies called answers.0 caller count)
+            (call_replied Means slots call mid new old next left rest so_far.replies called answers.0 caller count)
             answers
         answers_call (Err Write) answers =
             talks_last Write refl

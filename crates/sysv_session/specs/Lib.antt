@@ -13,6 +13,6 @@ pub mod Gathered
 pub mod TakenUp
 pub mod Conversation
 pub mod UnderWay
-pub mod Serving
+pub mod HandedOver
 pub mod Together
 pub mod Stands

@@ -7,7 +7,7 @@ ghost use Rattle.sysv_session.specs.Answers.{HasAnswer};
 ghost use Rattle.sysv_session.specs.Failing.{ends_by_read, ends_by_write, is_failed_read, is_failed_write};
 ghost use Rattle.sysv_session.specs.Session.{Serves};
 ghost use Rattle.sysv_session.specs.Course.{Course, Follows, Takes};
-ghost use Rattle.sysv_session.specs.Serving.{Serving, ServesOn};
+ghost use Rattle.sysv_session.specs.HandedOver.{HandedOver, Proceeds};
 ghost use Rattle.sysv_session.specs.TakenUp.{TakesUp};
 ghost use Rattle.sysv_session.specs.Turn.{Answers};
 
@@ -126,9 +126,9 @@ fn serve_next<R: Read, W: Write, K: Kernel>(
     requires room { taken_in session.old.tally < 2 ^ 64 - 1 }
     // Wherever the session began, it serves on or has served.
     ensures serves { (start : K) (left taken : Option (List ℕ)) →
-        Serving K.meaning slots session.old start kernel.old left
+        HandedOver K.meaning slots session.old start kernel.old left
         (R.remaining (stream_of reader.old)) taken (W.contents (stream_of writer.old)) →
-        ServesOn K.meaning slots result session.old.requests session.new start kernel.new left
+        Proceeds K.meaning slots result session.old.requests session.new start kernel.new left
         (R.remaining (stream_of reader.new)) taken (W.contents (stream_of writer.new)) }
     ensures memory { IfErr result (λ why. why ≢ End.NoMemory) }
     ensures reader { KeepsStream reader.old reader.new (ends_by_read result) }

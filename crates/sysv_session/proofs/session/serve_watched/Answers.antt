@@ -7,7 +7,7 @@ use Rattle.sysv_session.proofs.session.serve_watched.Goals as goal
 
 pub loop-why-init : goal.loop-why-init
 loop-why-init g c = record {
-  serving = begins g.K.Kernel.meaning c.slots-slots.result c.args.kernel.now _ _ c.open-session.result
+  so_far = begins g.K.Kernel.meaning c.slots-slots.result c.args.kernel.now _ _ c.open-session.result
       c.open-session.ensures.caller
       c.open-session.ensures.tally c.open-session.ensures.count;
   same_reader = refl;
@@ -19,14 +19,14 @@ loop-why-init g c = record {
 pub serve_next-requires : goal.serve_next-requires
 serve_next-requires g c = record {
   room = has_room g.K.Kernel.meaning c.slots-slots.result c.args.kernel.now _ _ c.loop-why.session c.loop-why.kernel
-      _ _ c.loop-why.invariant.serving;
+      _ _ c.loop-why.invariant.so_far;
 }
 
 pub loop-why-preserved : goal.loop-why-preserved
 loop-why-preserved g c =
-    let on = (rw c.in_default.is at c.serve_next.ensures.serves) c.args.kernel.now _ _ c.loop-why.invariant.serving in
+    let on = (rw c.in_default.is at c.serve_next.ensures.serves) c.args.kernel.now _ _ c.loop-why.invariant.so_far in
     record {
-      serving = on.1;
+      so_far = on.1;
       same_reader = c.serve_next.ensures.reader.same ∙ c.loop-why.invariant.same_reader;
       same_writer = c.serve_next.ensures.writer.same ∙ c.loop-why.invariant.same_writer;
       reader_failed = (rw c.in_default.is at c.serve_next.ensures.reader.failed)
@@ -37,7 +37,7 @@ loop-why-preserved g c =
 
 pub loop-why-smaller : goal.loop-why-smaller
 loop-why-smaller g c =
-    let on = (rw c.in_default.is at c.serve_next.ensures.serves) c.args.kernel.now _ _ c.loop-why.invariant.serving in
+    let on = (rw c.in_default.is at c.serve_next.ensures.serves) c.args.kernel.now _ _ c.loop-why.invariant.so_far in
     omega (
       arith,
       on.0,
@@ -51,4 +51,4 @@ returns-in-Err-clause-only g c = λ input course known takes.
     (follows c.one_answer_to_requests.ensures c.one_request.ensures g.K.Kernel.meaning c.slots-slots.result
     c.in-Err.why c.serve_next.new.session.tally c.serve_next.new.session.requests
     c.args.kernel.now c.serve_next.new.kernel input _ _ _ _ known
-    (c.in-Err.ensures.serves c.args.kernel.now _ _ c.loop-why.invariant.serving) course takes)
+    (c.in-Err.ensures.serves c.args.kernel.now _ _ c.loop-why.invariant.so_far) course takes)

@@ -12,7 +12,7 @@ use Rattle.sysv_session.specs.UnderWay.{UnderWay}
 module _ {K : Type 0} where
   -- The writer has taken all replies of the session whole, and nothing else. All messages in them
   -- count as written, and none is lost.
-  pub record Serving (Means : Meaning K) (slots : ℕ) (session : Session) (old now : K)
+  pub record HandedOver (Means : Meaning K) (slots : ℕ) (session : Session) (old now : K)
       (left unread taken more : Option (List ℕ)) : Type 0 where
     pub replies : List Gathered
     pub under_way : UnderWay Means slots session old now left unread replies
@@ -22,9 +22,9 @@ module _ {K : Type 0} where
 
   -- The session took up one request more and is still under way; or it is a whole session that ended
   -- for this reason.
-  abbrev pub ServesOn : Meaning K → ℕ → Result ⊤ End → (few : ℕ) → Session → (old now : K) →
+  abbrev pub Proceeds : Meaning K → ℕ → Result ⊤ End → (few : ℕ) → Session → (old now : K) →
       (left rest taken more : Option (List ℕ)) → Type 0
-  ServesOn Means slots (Ok done) few session old now left rest taken more =
-      (session.requests ≡ few + 1) × Serving Means slots session old now left rest taken more
-  ServesOn Means slots (Err why) few session old now left rest taken more =
+  Proceeds Means slots (Ok done) few session old now left rest taken more =
+      (session.requests ≡ few + 1) × HandedOver Means slots session old now left rest taken more
+  Proceeds Means slots (Err why) few session old now left rest taken more =
       ServesBy Means slots why session.tally session.requests old now left rest taken more
