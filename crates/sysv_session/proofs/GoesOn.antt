@@ -1,10 +1,9 @@
 -- How a conversation goes on, from its start to its end.
 use Rattle.std.proofs.Common.{◌≡◌, ℕ, ◌+◌, ◌-◌, ◌^◌, ◌<◌, ◌≤◌, List, [], ◌∷◌, ◌++◌, length, take, Option, None}
-use Rattle.std.proofs.Common.{Some, Ok, Err, refl, sym, ap, ap₂, subst, subst₂, ◌∙◌, arith, inl, inr, append_assoc}
+use Rattle.std.proofs.Common.{Some, Ok, Err, refl, sym, ap, ap₂, subst, subst₂, ◌∙◌, arith, inl, inr}
 use Rattle.std.proofs.Common.{add-zero, append-nil, length-append}
 use Rattle.std.specs.Io.KnownBytes.{Appends, Consumes}
-use Rattle.std.proofs.KnownBytes.{Consumes-nil, Consumes-trans}
-use Rattle.std.specs.List.{AllByRecursion}
+use Rattle.std.proofs.KnownBytes.{Consumes-nil}
 use Rattle.sysv_model.specs.declared.cred.Cred.{Cred}
 use Rattle.sysv_queue.specs.Tally.{Tallied, taken_in}
 use Rattle.sysv_session.specs.declared.kernel.RequestOutcome.{RequestOutcome}
@@ -14,11 +13,11 @@ use Rattle.sysv_session.specs.declared.served.End.TheVariants.{Ended, NoMemory, 
 use Rattle.sysv_session.specs.declared.served.TheConstants.{SESSION_REQUESTS}
 use Rattle.sysv_session.specs.declared.session.Session.{Session}
 use Rattle.sysv_session.specs.declared.session.TakenUp.TheVariants.{Hello, Request as Asked}
-use Rattle.sysv_session.specs.Answers.{IsAskedIn, IsReplied, MayAnswer, messages_in}
-use Rattle.sysv_session.specs.Calls.{Call, IsCall, Leads, Meaning}
+use Rattle.sysv_session.specs.Answers.{IsReplied, MayAnswer, messages_in}
+use Rattle.sysv_session.specs.Calls.{Call, Meaning}
 use Rattle.sysv_session.specs.Conversation.{HasRoom, Puts, Talk, gathered, report, reported, sent_on, with_outcome}
 use Rattle.sysv_session.specs.Gathered.{Gathered, Gathers, all_bytes, marks_from, messages_among}
-use Rattle.sysv_session.specs.Input.{EndsBefore, asked_spelling, hello_of, hello_spelling}
+use Rattle.sysv_session.specs.Input.{EndsBefore, hello_spelling}
 use Rattle.sysv_session.specs.Outbox.{Mark, Unsent, with_frame}
 use Rattle.sysv_session.specs.Output.{AreReplied, hello_frame}
 use Rattle.sysv_session.specs.Stands.{Stands, StandsAsking, StandsGreeting, Stopped}
@@ -27,13 +26,14 @@ use Rattle.sysv_session.specs.TakenUp.{EndsHere, TakesRequest, TakesUp}
 use Rattle.sysv_session.specs.Together.{IsStoppedWithin, Replied, Reports, ServesTogether, StopsAfter}
 use Rattle.sysv_session.specs.UnderWay.{Fresh, Greeted, UnderWay, greeting, replies_to, reply_for, reply_to}
 use Rattle.sysv_session.proofs.GatheredLemmas.{gathers_message, gathers_none, gathers_on, gathers_reply}
-use Rattle.sysv_session.proofs.ListLemmas.{all_more, asked_more, few_messages, leads_more, length_more, messages_more}
+use Rattle.sysv_session.proofs.ListLemmas.{all_more, few_messages, messages_more}
 use Rattle.sysv_session.proofs.OutboxLemmas.{each_once}
-use Rattle.sysv_session.proofs.TogetherLemmas.{fault_within, replies_messages, replies_more}
+use Rattle.sysv_session.proofs.TogetherLemmas.{fault_within, replies_messages}
+use Rattle.sysv_session.proofs.UnderWayLemmas.{Called, call_replied, hello_replied, hello_taken, request_called}
+use Rattle.sysv_session.proofs.UnderWayLemmas.{request_taken}
 use Rattle.sysv_wire.specs.declared.fault.Fault.TheVariants.{Read}
 use Rattle.sysv_wire.specs.declared.frame.Version.{Version}
 use Rattle.sysv_wire.specs.declared.request.Request.{Request}
-use Rattle.sysv_wire.specs.Requests.{FitsRequest, request_spelling}
 
 -- The same for an equal outbox and an equal tally.
 regathered : (start : Tallied) (replies : List Gathered) (taken : List ℕ) (box box' : Unsent) (tally tally' : Tallied)
@@ -119,34 +119,17 @@ module _ {K : Type 0} (Means : Meaning K) (slots : ℕ) where
   }
 
   -- A hello is taken up.
-  takes_hello_at : (version : Version) (talk talk' : Talk) (old now : K) (left unread rest : Option (List ℕ))
-      (taken text : List ℕ) (stands : Stands Means slots talk old now left unread taken) →
-      UnderWay Means slots talk.session old now left unread stands.replies →
-      TakesUp talk.session talk'.session (Ok (Hello version)) unread rest text → talk'.unsent ≡ talk.unsent →
-      StandsGreeting version talk' old now left rest taken
-  takes_hello_at version talk talk' old now left unread rest taken text stands (inl fresh) takes same = record {
-    replies = stands.replies;
-    greets = record {
-      cred = takes.0;
-      known = takes.2.0;
-      kernel = fresh.kernel;
-      reads = subst (λ (l : Option (List ℕ)). Consumes l rest (hello_spelling version takes.0)) fresh.reads takes.2.1;
-      caller = ap (λ (s : Session). s.caller) takes.3;
-      counts = ap (λ (s : Session). s.requests) takes.3;
-      gathered = fresh.gathered;
-    };
-    gathers = regathered (only_lost 0) stands.replies taken talk.unsent talk'.unsent talk.session.tally
-        talk'.session.tally same (ap (λ (s : Session). s.tally) takes.3) stands.gathers;
-  }
-  takes_hello_at version talk talk' old now left unread rest taken text stands (inr greeted) takes same =
-      absurd (grind (arith, greeted.caller, takes.1))
-
   pub takes_hello : (version : Version) (talk talk' : Talk) (old now : K) (left unread rest : Option (List ℕ))
       (taken text : List ℕ) → Stands Means slots talk old now left unread taken →
       TakesUp talk.session talk'.session (Ok (Hello version)) unread rest text → talk'.unsent ≡ talk.unsent →
       StandsGreeting version talk' old now left rest taken
-  takes_hello version talk talk' old now left unread rest taken text stands takes same =
-      takes_hello_at version talk talk' old now left unread rest taken text stands stands.under_way takes same
+  takes_hello version talk talk' old now left unread rest taken text stands takes same = record {
+    replies = stands.replies;
+    greets = hello_taken Means slots version talk.session talk'.session old now left unread rest text stands.replies
+        stands.under_way takes;
+    gathers = regathered (only_lost 0) stands.replies taken talk.unsent talk'.unsent talk.session.tally
+        talk'.session.tally same (ap (λ (s : Session). s.tally) takes.3) stands.gathers;
+  }
 
   -- The reply to the hello is gathered.
   pub greets : (version : Version) (talk talk' : Talk) (old now : K) (left unread : Option (List ℕ)) (taken : List ℕ)
@@ -154,24 +137,11 @@ module _ {K : Type 0} (Means : Meaning K) (slots : ℕ) where
       talk' ≡ gathered (with_frame (hello_frame version slots)) talk →
       Stands Means slots talk' old now left unread taken
   greets version talk talk' old now left unread taken stands is =
-      let hello = stands.greets in
       let replies = stands.replies ++ greeting version slots ∷ [] in
       record {
         replies = replies;
-        under_way = inr (record {
-          version = version;
-          cred = hello.cred;
-          known = hello.known;
-          calls = [];
-          are_calls = tt;
-          leads = hello.kernel;
-          reads = subst (Consumes left unread) (sym (append-nil (hello_spelling version hello.cred))) hello.reads;
-          replied = tt;
-          caller = ap (λ (t : Talk). t.session.caller) is ∙ hello.caller;
-          counts = omega (arith, ap (λ (t : Talk). t.session.requests) is, hello.counts);
-          bounded = omega (arith, ap (λ (t : Talk). t.session.requests) is, hello.counts);
-          gathered = ap (λ (l : List Gathered). l ++ greeting version slots ∷ []) hello.gathered;
-        });
+        under_way = hello_replied Means slots version talk.session talk'.session old now left unread stands.replies
+            stands.greets (ap (λ (t : Talk). t.session.caller) is) (ap (λ (t : Talk). t.session.requests) is);
         gathers = regathered (only_lost 0) replies taken _ talk'.unsent _ talk'.session.tally
             (ap (λ (t : Talk). t.unsent) is) (ap (λ (t : Talk). t.session.tally) is)
             (gathers_reply (only_lost 0) stands.replies taken talk.unsent talk.session.tally
@@ -205,48 +175,17 @@ module _ {K : Type 0} (Means : Meaning K) (slots : ℕ) where
       })
 
   -- A request is taken up.
-  takes_request_at : (cred : Cred) (request : Request) (talk talk' : Talk) (old now : K)
-      (left unread rest : Option (List ℕ)) (taken text : List ℕ)
-      (stands : Stands Means slots talk old now left unread taken) →
-      UnderWay Means slots talk.session old now left unread stands.replies →
-      TakesUp talk.session talk'.session (Ok (Asked cred request)) unread rest text → talk'.unsent ≡ talk.unsent →
-      StandsAsking Means slots cred request text talk' old now left rest taken
-  takes_request_at cred request talk talk' old now left unread rest taken text stands (inl fresh) takes same =
-      absurd (grind (arith, fresh.caller, takes.1))
-  takes_request_at cred request talk talk' old now left unread rest taken text stands (inr greeted) takes same =
-      let same_version : takes.0 ≡ greeted.version = grind (arith, greeted.caller, takes.1) in
-      let same_cred : greeted.cred ≡ cred = grind (arith, greeted.caller, takes.1) in
-      let count : talk'.session.requests ≡ talk.session.requests + 1 = ap (λ (s : Session). s.requests) takes.4 in
-      record {
-        replies = stands.replies;
-        asking = record {
-          version = greeted.version;
-          known = subst (λ (c : Cred). FitsRequest (hello_of greeted.version c) []) same_cred greeted.known;
-          calls = greeted.calls;
-          are_calls = greeted.are_calls;
-          leads = subst (λ (c : Cred). Leads Means c old greeted.calls now) same_cred greeted.leads;
-          behind = unread;
-          reads = subst (λ (c : Cred). Consumes left unread (hello_spelling greeted.version c
-              ++ asked_spelling greeted.calls)) same_cred greeted.reads;
-          asks = takes.3.0;
-          asked = subst (λ (v : Version). IsAskedIn v request text) same_version takes.3.1;
-          replied = greeted.replied;
-          caller = ap (λ (s : Session). s.caller) takes.4 ∙ greeted.caller
-              ∙ ap (λ (c : Cred). Some (greeted.version, c)) same_cred;
-          counts = omega (arith, count, greeted.counts);
-          bounded = omega (arith, count, takes.2);
-          gathered = greeted.gathered;
-        };
-        gathers = regathered (only_lost 0) stands.replies taken talk.unsent talk'.unsent talk.session.tally
-            talk'.session.tally same (ap (λ (s : Session). s.tally) takes.4) stands.gathers;
-      }
-
   pub takes_request : (cred : Cred) (request : Request) (talk talk' : Talk) (old now : K)
       (left unread rest : Option (List ℕ)) (taken text : List ℕ) → Stands Means slots talk old now left unread taken →
       TakesUp talk.session talk'.session (Ok (Asked cred request)) unread rest text → talk'.unsent ≡ talk.unsent →
       StandsAsking Means slots cred request text talk' old now left rest taken
-  takes_request cred request talk talk' old now left unread rest taken text stands takes same =
-      takes_request_at cred request talk talk' old now left unread rest taken text stands stands.under_way takes same
+  takes_request cred request talk talk' old now left unread rest taken text stands takes same = record {
+    replies = stands.replies;
+    asking = request_taken Means slots cred request talk.session talk'.session old now left unread rest text
+        stands.replies stands.under_way takes;
+    gathers = regathered (only_lost 0) stands.replies taken talk.unsent talk'.unsent talk.session.tally
+        talk'.session.tally same (ap (λ (s : Session). s.tally) takes.4) stands.gathers;
+  }
 
   -- One more call, whose outcome is there.
   module _ (cred : Cred) (request : Request) (text : List ℕ) (outcome : RequestOutcome) (given : List ℕ) (talk : Talk)
@@ -257,79 +196,39 @@ module _ {K : Type 0} (Means : Meaning K) (slots : ℕ) where
     abbrev call : Call
     call = record { request = request; text = text; outcome = outcome; given = given }
 
-    abbrev calls : List Call
-    calls = stands.asking.calls ++ call ∷ []
-
-    are_calls : AllByRecursion (IsCall stands.asking.version) calls
-    are_calls =
-        all_more (IsCall stands.asking.version) stands.asking.calls call stands.asking.are_calls
-        (stands.asking.asked, may)
-
-    leads : Leads Means cred old calls new
-    leads = leads_more Means cred stands.asking.calls call old now new stands.asking.leads means
-
-    reads : Consumes left unread (hello_spelling stands.asking.version cred ++ asked_spelling calls)
-    reads =
-        subst (Consumes left unread)
-        (append_assoc (hello_spelling stands.asking.version cred) (asked_spelling stands.asking.calls)
-        (request_spelling request text)
-        ∙ ap (λ (l : List ℕ). hello_spelling stands.asking.version cred ++ l)
-        (sym (asked_more stands.asking.calls call)))
-        (Consumes-trans left stands.asking.behind unread _ _ stands.asking.reads stands.asking.asks)
-
-    counts : talk.session.requests ≡ 1 + length calls
-    counts = omega (arith, stands.asking.counts, length_more stands.asking.calls call)
-
-    -- All calls were answered.
-    are_replied : IsReplied outcome → AreReplied calls
-    are_replied replied =
-        all_more (λ (c : Call). IsReplied c.outcome) stands.asking.calls call stands.asking.replied replied
+    called : Called Means slots call talk.session old new left unread stands.replies
+    called =
+        request_called Means slots cred call talk.session old now new left unread stands.replies stands.asking means may
 
     -- The reply is gathered.
     pub puts : (talk' : Talk) → Puts (Ok tt) request.version outcome given talk talk' →
         Stands Means slots talk' old new left unread taken
-    puts talk' put =
-        let version = stands.asking.version in
-        let count : talk'.session.requests ≡ talk.session.requests = ap (λ (t : Talk). t.session.requests) put.1 in
-        record {
-          replies = stands.replies ++ reply_to call ∷ [];
-          under_way = inr (record {
-            version = version;
-            cred = cred;
-            known = stands.asking.known;
-            calls = calls;
-            are_calls = are_calls;
-            leads = leads;
-            reads = reads;
-            replied = are_replied put.0;
-            caller = ap (λ (t : Talk). t.session.caller) put.1 ∙ stands.asking.caller;
-            counts = count ∙ counts;
-            bounded = omega (arith, count, stands.asking.bounded);
-            gathered = ap (λ (l : List Gathered). l ++ reply_to call ∷ []) stands.asking.gathered
-                ∙ sym (replies_more version slots stands.asking.calls call);
-          });
-          gathers = regathered (only_lost 0) (stands.replies ++ reply_to call ∷ []) taken _ talk'.unsent _
-              talk'.session.tally (ap (λ (t : Talk). t.unsent) put.1) (ap (λ (t : Talk). t.session.tally) put.1)
-              (gathers_outcome (only_lost 0) stands.replies taken talk.unsent talk.session.tally request.version
-              outcome given put.0 stands.gathers);
-        }
+    puts talk' put = record {
+      replies = stands.replies ++ reply_to call ∷ [];
+      under_way = call_replied Means slots call talk.session talk'.session old new left unread stands.replies called
+          put.0 (ap (λ (t : Talk). t.session.caller) put.1) (ap (λ (t : Talk). t.session.requests) put.1);
+      gathers = regathered (only_lost 0) (stands.replies ++ reply_to call ∷ []) taken _ talk'.unsent _
+          talk'.session.tally (ap (λ (t : Talk). t.unsent) put.1) (ap (λ (t : Talk). t.session.tally) put.1)
+          (gathers_outcome (only_lost 0) stands.replies taken talk.unsent talk.session.tally request.version
+          outcome given put.0 stands.gathers);
+    }
 
     -- It stops with this call, whose reply was not gathered.
-    stops_asking : (why : End) (talk' : Talk) (lost : ℕ) → StopsAfter stands.asking.version why unread unread →
+    stops_asking : (why : End) (talk' : Talk) (lost : ℕ) → StopsAfter called.version why unread unread →
         IsStoppedWithin why talk'.session.requests →
-        Replied why stands.asking.version slots calls stands.replies → talk'.unsent ≡ talk.unsent →
+        Replied why called.version slots (called.done ++ call ∷ []) stands.replies → talk'.unsent ≡ talk.unsent →
         talk'.session.requests ≡ talk.session.requests →
         talk'.session.tally ≡ record { written = talk.session.tally.written; lost = talk.session.tally.lost + lost } →
         messages_in outcome ≡ lost → Stopped Means slots why talk' old new left unread taken
     stops_asking why talk' lost ends within replied same count tally one = inr (record {
-      version = stands.asking.version;
-      cred = cred;
-      known = stands.asking.known;
-      calls = calls;
-      are_calls = are_calls;
-      leads = leads;
+      version = called.version;
+      cred = called.cred;
+      known = called.known;
+      calls = called.done ++ call ∷ [];
+      are_calls = called.are_calls;
+      leads = called.leads;
       unread = unread;
-      reads = reads;
+      reads = called.reads;
       ends = ends;
       within = within;
       replies = stands.replies;
@@ -343,13 +242,13 @@ module _ {K : Type 0} (Means : Meaning K) (slots : ℕ) where
       };
       all = omega (
         arith,
-        messages_more stands.asking.calls call,
+        messages_more called.done call,
         one,
-        ap messages_among stands.asking.gathered,
-        replies_messages stands.asking.version slots stands.asking.calls,
+        ap messages_among called.gathered,
+        replies_messages called.version slots called.done,
       );
-      counts = count ∙ counts;
-      bounded = omega (arith, count, stands.asking.bounded);
+      counts = count ∙ called.counts;
+      bounded = omega (arith, count, called.bounded);
     })
 
     -- Memory was refused for the reply, or the call was left.
@@ -357,12 +256,19 @@ module _ {K : Type 0} (Means : Meaning K) (slots : ℕ) where
         Stopped Means slots why talk' old new left unread taken
     put_ends NoMemory talk' put =
         stops_asking NoMemory talk' (messages_in outcome) refl tt
-        (inr (inr (stands.asking.calls, call, refl, are_replied put.0, stands.asking.gathered)))
+        (inr (inr (
+          called.done,
+          call,
+          refl,
+          all_more (λ (c : Call). IsReplied c.outcome) called.done call called.replied
+              put.0,
+          called.gathered,
+        )))
         (ap (λ (t : Talk). t.unsent) put.1) (ap (λ (t : Talk). t.session.requests) put.1)
         (ap (λ (t : Talk). t.session.tally) put.1) refl
     put_ends Left talk' put =
         stops_asking Left talk' 0 refl tt
-        (stands.asking.calls, call, refl, put.0, (stands.asking.replied, stands.asking.gathered))
+        (called.done, call, refl, put.0, (called.replied, called.gathered))
         (ap (λ (t : Talk). t.unsent) put.1) (ap (λ (t : Talk). t.session.requests) put.1)
         (ap (λ (t : Talk). t.session.tally) put.1
         ∙ ap (λ (n : ℕ). let t : Tallied = record { written = talk.session.tally.written; lost = n } in t)

@@ -1,11 +1,11 @@
 pub mod ListLemmas
-pub mod SessionLemmas
-pub mod Whole
 pub mod LaterLemmas
 pub mod Courses
 pub mod OutboxLemmas
 pub mod GatheredLemmas
 pub mod TogetherLemmas
+pub mod UnderWayLemmas
+pub mod SessionLemmas
 pub mod GoesOn
 pub mod Arrived
 pub mod LayoutLemmas

@@ -7,6 +7,8 @@ use Rattle.std.proofs.lemmas.List.Folds.{concat-append}
 use Rattle.std.proofs.lemmas.List.Sums.{sum_by_push, count_by-le-length}
 use Rattle.std.specs.List.{AllByRecursion, concat}
 use Rattle.sysv_model.specs.declared.cred.Cred.{Cred}
+use Rattle.sysv_session.specs.declared.kernel.RequestOutcome.{RequestOutcome}
+use Rattle.sysv_session.specs.declared.kernel.RequestOutcome.TheVariants.{Left}
 use Rattle.sysv_session.specs.Answers.{is_message, messages_in, outcome_spelling}
 use Rattle.sysv_session.specs.Calls.{Call, Leads, Meaning, messages_of}
 use Rattle.sysv_session.specs.Input.{asked_spelling}
@@ -40,6 +42,14 @@ frames_more calls call =
 
 pub concat_more : (frames : List (List ℕ)) (frame : List ℕ) → concat (frames ++ frame ∷ []) ≡ concat frames ++ frame
 concat_more frames frame = concat-append frames (frame ∷ []) ∙ ap (λ l. concat frames ++ l) (append-nil frame)
+
+-- A last call that was left has no bytes.
+pub left_frames : (calls : List Call) (call : Call) → call.outcome ≡ Left →
+    concat (frames_of (calls ++ call ∷ [])) ≡ concat (frames_of calls)
+left_frames calls call left =
+    ap concat (frames_more calls call) ∙ concat_more (frames_of calls) _
+    ∙ ap (λ (o : RequestOutcome). concat (frames_of calls) ++ outcome_spelling call.request.version o call.given) left
+    ∙ append-nil (concat (frames_of calls))
 
 pub messages_more : (calls : List Call) (call : Call) →
     messages_of (calls ++ call ∷ []) ≡ messages_of calls + messages_in call.outcome

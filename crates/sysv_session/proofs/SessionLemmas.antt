@@ -1,91 +1,77 @@
--- A session after its hello, before each request and at its end.
-use Rattle.std.proofs.Common.{◌≡◌, ℕ, ◌+◌, ◌<◌, List, [], ◌∷◌, ◌++◌, length, Option, Result, Ok, Err, refl, sym, ap}
-use Rattle.std.proofs.Common.{subst, subst₂, ◌∙◌, arith, add-zero, zero-add, append-nil}
+-- A session that hands over each reply before it takes up more, from its start to its end.
+use Rattle.std.proofs.Common.{◌≡◌, ℕ, ◌-◌, ◌<◌, ◌≤◌, ◌^◌, List, [], ◌∷◌, ◌++◌, length, Option, None, Some, Result, Ok}
+use Rattle.std.proofs.Common.{Err}
+use Rattle.std.proofs.Common.{refl, sym, ap, subst, subst₂, ◌∙◌, ◌+◌, arith, inl, inr, add-zero, append-nil}
+use Rattle.std.proofs.Common.{length-append}
 use Rattle.std.specs.Prelude.{⊤}
 use Rattle.std.specs.Io.KnownBytes.{Appends, Consumes}
-use Rattle.std.proofs.KnownBytes.{Appends-nil, Appends-trans, Consumes-nil, Consumes-trans}
-use Rattle.std.specs.List.{AllByRecursion, concat}
+use Rattle.std.proofs.KnownBytes.{Appends-nil, Appends-trans}
+use Rattle.std.specs.List.{concat}
 use Rattle.sysv_model.specs.declared.cred.Cred.{Cred}
+use Rattle.sysv_model.specs.Writing.{AppendsPrefix}
 use Rattle.sysv_queue.specs.Tally.{Tallied, taken_in}
 use Rattle.sysv_session.specs.declared.kernel.RequestOutcome.{RequestOutcome}
+use Rattle.sysv_session.specs.declared.kernel.RequestOutcome.TheVariants.{Reply}
 use Rattle.sysv_session.specs.declared.kernel.RequestOutcome.TheVariants as outcomes
 use Rattle.sysv_session.specs.declared.served.End.{End}
 use Rattle.sysv_session.specs.declared.served.End.TheVariants.{Ended, NoMemory, NoHello, Fault, Write, Bound, Left}
 use Rattle.sysv_session.specs.declared.served.TheConstants.{SESSION_REQUESTS}
-use Rattle.sysv_session.specs.Answers.{IsAskedIn, IsReplied, MayAnswer, messages_in, outcome_spelling}
-use Rattle.sysv_session.specs.Calls.{Call, IsCall, Leads, Meaning, messages_of}
-use Rattle.sysv_session.specs.Input.{asked_spelling}
-use Rattle.sysv_session.specs.Output.{AreReplied, Replies, Tallies, Writes, frames_of}
-use Rattle.sysv_session.specs.Parts.{Goes}
-use Rattle.sysv_session.specs.Session.{IsBounded}
-use Rattle.sysv_session.specs.Turn.{Answers, Rests, Takes, Turns, one_written, one_lost}
-use Rattle.sysv_session.proofs.ListLemmas.{all_more, leads_more, asked_more, frames_more, concat_more, messages_more}
-use Rattle.sysv_session.proofs.ListLemmas.{few_messages, length_more, all_but_last}
+use Rattle.sysv_session.specs.declared.session.Session.{Session}
+use Rattle.sysv_session.specs.declared.session.TakenUp.TheVariants.{Hello, Request as Asked}
+use Rattle.sysv_session.specs.Answers.{IsReplied, MayAnswer, messages_in}
+use Rattle.sysv_session.specs.Calls.{Call, Meaning, messages_of}
+use Rattle.sysv_session.specs.Gathered.{Gathered, all_bytes, marks_at, marks_from, messages_among}
+use Rattle.sysv_session.specs.Input.{EndsAfter, EndsBefore, hello_spelling}
+use Rattle.sysv_session.specs.Outbox.{Mark}
+use Rattle.sysv_session.specs.Output.{AreReplied, Replies, Tallies, Writes, answered, frames_of, hello_frame}
+use Rattle.sysv_session.specs.Output.{hello_reply}
+use Rattle.sysv_session.specs.HandedOver.{HandedOver, Proceeds}
+use Rattle.sysv_session.specs.Session.{IsBounded, ServesBy}
+use Rattle.sysv_session.specs.TakenUp.{EndsHere, TakesRequest, TakesUp}
+use Rattle.sysv_session.specs.Turn.{Answers, one_lost, one_written}
+use Rattle.sysv_session.specs.UnderWay.{Greeted, Greets, UnderWay, replies_to, reply_for}
+use Rattle.sysv_session.proofs.GatheredLemmas.{all_more as bytes_more, marks_more}
+use Rattle.sysv_session.proofs.ListLemmas.{all_but_last, all_more, few_messages, frames_more, left_frames}
+use Rattle.sysv_session.proofs.ListLemmas.{messages_more}
+use Rattle.sysv_session.proofs.TogetherLemmas.{marks_in, replies_bytes, replies_messages, reply_bytes}
+use Rattle.sysv_session.proofs.UnderWayLemmas.{Called, call_replied, hello_replied, hello_taken, request_called}
+use Rattle.sysv_session.proofs.UnderWayLemmas.{request_taken}
 use Rattle.sysv_wire.specs.declared.frame.Version.{Version}
-use Rattle.sysv_wire.specs.declared.request.Request.{Request}
-use Rattle.sysv_wire.specs.Requests.{request_spelling}
 
--- A request was taken up, and its outcome was written, the writing broke off, or the call was left.
-pub taken_turn : {K : Type 0} (Means : Meaning K) (version : Version) (cred : Cred) (result : Result ⊤ End)
-    (request : Request) (text : List ℕ) (outcome : RequestOutcome) (given : List ℕ) (old new : K)
-    (left rest taken more : Option (List ℕ)) (before after : Tallied) (few : ℕ)
-    → Consumes left rest (request_spelling request text) × IsAskedIn version request text
-    → Means old cred request text outcome given new → MayAnswer request.version request.ask outcome given
-    → Answers result request.version outcome given taken more before after
-    → Turns Means version cred result old new left rest taken more before after few (few + 1)
-taken_turn Means version cred (Ok done) request text outcome given old new left rest taken more before after few asked
-    means may answers = record {
-      call = record { request = request; text = text; outcome = outcome; given = given };
-      is_call = (asked.1, may);
-      means = means;
-      reads = asked.0;
-      answers = answers;
-      counts = refl;
-    }
-taken_turn Means version cred (Err Write) request text outcome given old new left rest taken more before after few asked
-    means may answers = record {
-      call = record { request = request; text = text; outcome = outcome; given = given };
-      is_call = (asked.1, may);
-      means = means;
-      reads = asked.0;
-      answers = answers;
-      counts = refl;
-    }
-taken_turn Means version cred (Err Left) request text outcome given old new left rest taken more before after few asked
-    means may answers = record {
-      call = record { request = request; text = text; outcome = outcome; given = given };
-      is_call = (asked.1, may);
-      means = means;
-      reads = asked.0;
-      answers = answers;
-      counts = refl;
-    }
-taken_turn Means version cred (Err Ended) request text outcome given old new left rest taken more before after few asked
-    means may answers = absurd answers
-taken_turn Means version cred (Err NoMemory) request text outcome given old new left rest taken more before after few
-    asked means may answers = absurd answers
-taken_turn Means version cred (Err NoHello) request text outcome given old new left rest taken more before after few
-    asked means may answers = absurd answers
-taken_turn Means version cred (Err (Fault fault)) request text outcome given old new left rest taken more before after
-    few asked means may answers = absurd answers
-taken_turn Means version cred (Err Bound) request text outcome given old new left rest taken more before after few asked
-    means may answers = absurd answers
+-- One more reply has its message, if there is one.
+among_more : (replies : List Gathered) (version : Version) (outcome : RequestOutcome) (given : List ℕ) →
+    messages_among (replies ++ reply_for version outcome given ∷ []) ≡ messages_among replies + messages_in outcome
+among_more replies version outcome given =
+    let reply = reply_for version outcome given in
+    let place = 0 + length (all_bytes (replies ++ reply ∷ [])) in
+    omega (
+      arith,
+      ap (length {A = Mark}) (marks_more 0 replies reply),
+      length-append (marks_from 0 replies) (marks_at place reply.message),
+      marks_in place version outcome given,
+    )
 
--- The same, for equal tallies and counts.
-pub retold : {K : Type 0} (Means : Meaning K) (version : Version) (cred : Cred) (result : Result ⊤ End) (old new : K)
-    (left rest taken more : Option (List ℕ)) (before mid after : Tallied) (few many next : ℕ) → mid ≡ before →
-    many ≡ next → Turns Means version cred result old new left rest taken more mid after few next →
-    Turns Means version cred result old new left rest taken more before after few many
-retold Means version cred result old new left rest taken more before mid after few many next same counts turn =
-    subst₂ (λ (t : Tallied) (n : ℕ). Turns Means version cred result old new left rest taken more t after few n) same
-    (sym counts) turn
+-- The writer takes one reply more.
+writes_more : (replies : List Gathered) (reply : Gathered) (frame : List ℕ) (taken more most : Option (List ℕ)) →
+    reply.frame ≡ frame → Appends taken more (all_bytes replies) → Appends more most frame →
+    Appends taken most (all_bytes (replies ++ reply ∷ []))
+writes_more replies reply frame taken more most same first second =
+    subst (Appends taken most) (ap (λ (l : List ℕ). all_bytes replies ++ l) (sym same) ∙ sym (bytes_more replies reply))
+    (Appends-trans taken more most (all_bytes replies) frame first second)
 
 -- All messages so far were written.
-all_told : (calls : List Call) (before after : Tallied) → after ≡ before
-    → before ≡ record { written = messages_of calls; lost = 0 }
-    → (taken_in after ≡ messages_of calls) × (after.written ≡ messages_of calls)
-all_told calls before after same told =
-    let e = same ∙ told in (ap taken_in e ∙ add-zero (messages_of calls), ap (λ (t : Tallied). t.written) e)
+all_told : (version : Version) (slots : ℕ) (calls : List Call) (replies : List Gathered) (tally : Tallied) →
+    replies ≡ replies_to version slots calls → tally ≡ record { written = messages_among replies; lost = 0 } →
+    tally ≡ record { written = messages_of calls; lost = 0 }
+all_told version slots calls replies tally are told =
+    told ∙ ap (λ (n : ℕ). let t : Tallied = record { written = n; lost = 0 } in t)
+    (ap messages_among are ∙ replies_messages version slots calls)
+
+all_written : (version : Version) (slots : ℕ) (calls : List Call) (replies : List Gathered)
+    (taken more : Option (List ℕ)) → replies ≡ replies_to version slots calls →
+    Appends taken more (all_bytes replies) → Appends taken more (concat (hello_frame version slots ∷ frames_of calls))
+all_written version slots calls replies taken more are writes =
+    subst (Appends taken more) (ap all_bytes are ∙ replies_bytes version slots calls) writes
 
 -- The last message is lost.
 lost_more : (calls : List Call) (call : Call) (before after : Tallied) → after ≡ one_lost call.outcome before
@@ -93,193 +79,297 @@ lost_more : (calls : List Call) (call : Call) (before after : Tallied) → after
     → Tallies Write (calls ++ call ∷ []) after
 lost_more calls call before after lost told =
     let e = lost ∙ ap (one_lost call.outcome) told in (
-      ap taken_in e ∙ ap (λ n. messages_of calls + n) (zero-add (messages_in call.outcome))
-          ∙ sym (messages_more calls call),
+      omega (arith, ap taken_in e, messages_more calls call),
       ap (λ (t : Tallied). t.written) e ∙ ap messages_of (sym (all_but_last calls call)),
     )
 
--- The last call is left: it has no bytes and no message.
-left_spelling : (frames : List (List ℕ)) (call : Call) → call.outcome ≡ outcomes.Left →
-    concat frames ++ outcome_spelling call.request.version call.outcome call.given ≡ concat frames
-left_spelling frames call left =
-    ap (λ (o : RequestOutcome). concat frames ++ outcome_spelling call.request.version o call.given) left
-    ∙ append-nil (concat frames)
-
+-- The last call is left, and has no message.
 left_more : (calls : List Call) (call : Call) (before after : Tallied) → call.outcome ≡ outcomes.Left
     → after ≡ before → before ≡ record { written = messages_of calls; lost = 0 }
     → Tallies Left (calls ++ call ∷ []) after
 left_more calls call before after left same told =
     let e = same ∙ told in (
-      ap taken_in e ∙ ap (λ (o : RequestOutcome). messages_of calls + messages_in o) (sym left)
-          ∙ sym (messages_more calls call),
+      omega (arith, ap taken_in e, messages_more calls call, ap messages_in left),
       ap (λ (t : Tallied). t.written) e ∙ ap messages_of (sym (all_but_last calls call)),
     )
 
-module _ {K : Type 0} where
-  -- Before a request: everything that was taken up was answered.
-  pub record Talking (Means : Meaning K) (version : Version) (cred : Cred) (old new : K)
-      (left behind taken more : Option (List ℕ)) (tally : Tallied) (many : ℕ) : Type 0 where
-    pub calls : List Call
-    pub are_calls : AllByRecursion (IsCall version) calls
-    pub leads : Leads Means cred old calls new
-    pub reads : Consumes left behind (asked_spelling calls)
-    pub replies : AreReplied calls
-    pub writes : Appends taken more (concat (frames_of calls))
-    pub tallies : tally ≡ record { written = messages_of calls; lost = 0 }
-    pub counts : many ≡ 1 + length calls
-
-  pub begins : (Means : Meaning K) (version : Version) (cred : Cred) (k : K) (left taken : Option (List ℕ))
-      (tally : Tallied) (many : ℕ) → tally ≡ record { written = 0; lost = 0 } → many ≡ 1 →
-      Talking Means version cred k k left left taken taken tally many
-  begins Means version cred k left taken tally many none one = record {
-    calls = [];
-    are_calls = tt;
-    leads = refl;
-    reads = Consumes-nil left;
-    replies = tt;
+module _ {K : Type 0} (Means : Meaning K) (slots : ℕ) (old : K) (left taken : Option (List ℕ)) where
+  -- A new session has nothing to hand over.
+  pub begins : (session : Session) → session.caller ≡ None → session.tally ≡ record { written = 0; lost = 0 } →
+      session.requests ≡ 0 → HandedOver Means slots session old old left left taken taken
+  begins session caller tally counts = record {
+    replies = [];
+    under_way = inl (record { caller = caller; counts = counts; kernel = refl; reads = refl; gathered = refl });
     writes = Appends-nil taken;
-    tallies = none;
-    counts = one;
+    quiet = λ none. refl;
+    tally = tally;
   }
 
-  -- One more request.
-  pub goes_on : (Means : Meaning K) (version : Version) (cred : Cred) (old mid new : K)
-      (left behind rest taken more most : Option (List ℕ)) (before after : Tallied) (few many : ℕ)
-      → Talking Means version cred old mid left behind taken more before few
-      → Takes Means version cred (Ok tt) mid new behind rest more most before after few many
-      → Talking Means version cred old new left rest taken most after many
-  goes_on Means version cred old mid new left behind rest taken more most before after few many so_far turn = record {
-    calls = so_far.calls ++ turn.call ∷ [];
-    are_calls = all_more (IsCall version) so_far.calls turn.call so_far.are_calls turn.is_call;
-    leads = leads_more Means cred so_far.calls turn.call old mid new so_far.leads turn.means;
-    reads = subst (Consumes left rest) (sym (asked_more so_far.calls turn.call))
-        (Consumes-trans left behind rest _ _ so_far.reads turn.reads);
-    replies = all_more (λ (c : Call). IsReplied c.outcome) so_far.calls turn.call so_far.replies turn.answers.0;
-    writes = subst (Appends taken most)
-        (sym (ap concat (frames_more so_far.calls turn.call)
-        ∙ concat_more (frames_of so_far.calls)
-        (outcome_spelling turn.call.request.version turn.call.outcome turn.call.given)))
-        (Appends-trans taken more most _ _ so_far.writes turn.answers.1);
-    tallies = turn.answers.2 ∙ ap (one_written turn.call.outcome) so_far.tallies
-        ∙ ap (λ n. let t : Tallied = record { written = n; lost = 0 } in t)
-        (sym (messages_more so_far.calls turn.call));
-    counts = omega (arith, turn.counts, so_far.counts, length_more so_far.calls turn.call);
-  }
+  few_messages_of : (session : Session) (now : K) (unread : Option (List ℕ)) (replies : List Gathered) →
+      UnderWay Means slots session old now left unread replies → messages_among replies < 2 ^ 32
+  few_messages_of session now unread replies (inl fresh) = omega (arith, ap messages_among fresh.gathered)
+  few_messages_of session now unread replies (inr greeted) =
+      omega (
+        arith,
+        ap messages_among greeted.gathered,
+        replies_messages greeted.version slots greeted.calls,
+        few_messages greeted.calls,
+        greeted.counts,
+        greeted.bounded,
+      )
 
-  -- The writer fails at a reply.
-  pub breaks_off : (Means : Meaning K) (version : Version) (cred : Cred) (old mid new : K)
-      (left behind rest taken more most : Option (List ℕ)) (before after : Tallied) (few many : ℕ)
-      → Talking Means version cred old mid left behind taken more before few
-      → Takes Means version cred (Err Write) mid new behind rest more most before after few many
-      → Goes Means version cred Write old new left rest taken most after many
-  breaks_off Means version cred old mid new left behind rest taken more most before after few many so_far turn =
-      record {
-        calls = so_far.calls ++ turn.call ∷ [];
-        are_calls = all_more (IsCall version) so_far.calls turn.call so_far.are_calls turn.is_call;
-        leads = leads_more Means cred so_far.calls turn.call old mid new so_far.leads turn.means;
-        unread = rest;
-        reads = subst (Consumes left rest) (sym (asked_more so_far.calls turn.call))
-            (Consumes-trans left behind rest _ _ so_far.reads turn.reads);
-        ends = refl;
-        replies = all_more (λ (c : Call). IsReplied c.outcome) so_far.calls turn.call so_far.replies turn.answers.0;
-        writes = (frames_of so_far.calls, _, more, frames_more so_far.calls turn.call, so_far.writes, turn.answers.1);
-        tallies = lost_more so_far.calls turn.call before after turn.answers.2 so_far.tallies;
-        counts = omega (arith, turn.counts, so_far.counts, length_more so_far.calls turn.call);
-        bounded = tt;
-      }
+  -- The tally has room for one more message.
+  pub has_room : (session : Session) (now : K) (unread more : Option (List ℕ)) →
+      HandedOver Means slots session old now left unread taken more → taken_in session.tally < 2 ^ 64 - 1
+  has_room session now unread more so_far =
+      omega (
+        arith,
+        ap taken_in so_far.tally,
+        few_messages_of session now unread so_far.replies so_far.under_way,
+      )
 
-  -- Nothing more is taken up.
-  pub stops : (Means : Meaning K) (version : Version) (cred : Cred) (why : End) (old mid new : K)
-      (left behind rest taken more most : Option (List ℕ)) (before after : Tallied) (few many : ℕ)
-      → (so_far : Talking Means version cred old mid left behind taken more before few)
-      → Rests version why mid new behind rest more most before after few many
-      → Replies why so_far.calls → Writes why (frames_of so_far.calls) taken most → Tallies why so_far.calls after
-      → IsBounded why many
-      → Goes Means version cred why old new left rest taken most after many
-  stops Means version cred why old mid new left behind rest taken more most before after few many so_far quiet replies
-      writes tallies bounded = record {
-        calls = so_far.calls;
-        are_calls = so_far.are_calls;
-        leads = subst (Leads Means cred old so_far.calls) (sym quiet.kernel) so_far.leads;
-        unread = behind;
-        reads = so_far.reads;
-        ends = quiet.ends;
-        replies = replies;
-        writes = writes;
-        tallies = tallies;
-        counts = quiet.counts ∙ so_far.counts;
-        bounded = bounded;
-      }
+  most_requests : (session : Session) (now : K) (unread : Option (List ℕ)) (replies : List Gathered) →
+      UnderWay Means slots session old now left unread replies → session.requests ≤ SESSION_REQUESTS
+  most_requests session now unread replies (inl fresh) = omega (arith, fresh.counts)
+  most_requests session now unread replies (inr greeted) = greeted.bounded
 
-  -- All that was written so far is still all that was written.
-  all_written : (Means : Meaning K) (version : Version) (cred : Cred) (old new : K)
-      (left behind taken more most : Option (List ℕ)) (tally : Tallied) (few : ℕ)
-      → (so_far : Talking Means version cred old new left behind taken more tally few) → most ≡ more
-      → Appends taken most (concat (frames_of so_far.calls))
-  all_written Means version cred old new left behind taken more most tally few so_far same =
-      subst (λ (m : Option (List ℕ)). Appends taken m (concat (frames_of so_far.calls))) (sym same) so_far.writes
+  -- It has had at most the maximum number of requests.
+  pub few_requests : (session : Session) (now : K) (unread more : Option (List ℕ)) →
+      HandedOver Means slots session old now left unread taken more → session.requests ≤ SESSION_REQUESTS
+  few_requests session now unread more so_far = most_requests session now unread so_far.replies so_far.under_way
 
-  -- The call is left.
-  pub is_left : (Means : Meaning K) (version : Version) (cred : Cred) (old mid new : K)
-      (left behind rest taken more most : Option (List ℕ)) (before after : Tallied) (few many : ℕ)
-      → Talking Means version cred old mid left behind taken more before few
-      → Takes Means version cred (Err Left) mid new behind rest more most before after few many
-      → Goes Means version cred Left old new left rest taken most after many
-  is_left Means version cred old mid new left behind rest taken more most before after few many so_far turn = record {
-    calls = so_far.calls ++ turn.call ∷ [];
-    are_calls = all_more (IsCall version) so_far.calls turn.call so_far.are_calls turn.is_call;
-    leads = leads_more Means cred so_far.calls turn.call old mid new so_far.leads turn.means;
-    unread = rest;
-    reads = subst (Consumes left rest) (sym (asked_more so_far.calls turn.call))
-        (Consumes-trans left behind rest _ _ so_far.reads turn.reads);
-    ends = refl;
-    replies = (so_far.calls, turn.call, refl, so_far.replies, turn.answers.0);
-    writes = subst (Appends taken most)
-        (sym (ap concat (frames_more so_far.calls turn.call)
-        ∙ concat_more (frames_of so_far.calls)
-        (outcome_spelling turn.call.request.version turn.call.outcome turn.call.given)
-        ∙ left_spelling (frames_of so_far.calls) turn.call turn.answers.0))
-        (all_written Means version cred old mid left behind taken more most before few so_far turn.answers.1);
-    tallies = left_more so_far.calls turn.call before after turn.answers.0 turn.answers.2 so_far.tallies;
-    counts = omega (arith, turn.counts, so_far.counts, length_more so_far.calls turn.call);
-    bounded = tt;
-  }
+  fresh_count : (session : Session) (now : K) (unread : Option (List ℕ)) (replies : List Gathered) →
+      UnderWay Means slots session old now left unread replies → session.caller ≡ None → session.requests ≡ 0
+  fresh_count session now unread replies (inl fresh) none = fresh.counts
+  fresh_count session now unread replies (inr greeted) none = absurd (grind (arith, greeted.caller, none))
 
-  -- The writer fails, the call is left, or nothing more is taken up.
-  pub ends_turn : (Means : Meaning K) (version : Version) (cred : Cred) (why : End) (old mid new : K)
-      (left behind rest taken more most : Option (List ℕ)) (before after : Tallied) (few many : ℕ)
-      → few < SESSION_REQUESTS → Talking Means version cred old mid left behind taken more before few
-      → Turns Means version cred (Err why) mid new behind rest more most before after few many
-      → Goes Means version cred why old new left rest taken most after many
-  ends_turn Means version cred Ended old mid new left behind rest taken more most before after few many within so_far
-      turn =
-      stops Means version cred Ended old mid new left behind rest taken more most before after few many so_far turn
-      so_far.replies (all_written Means version cred old mid left behind taken more most before few so_far turn.writes)
-      (all_told so_far.calls before after turn.tally so_far.tallies)
-      (subst (λ n. n < SESSION_REQUESTS) (sym turn.counts) within)
-  ends_turn Means version cred (Fault fault) old mid new left behind rest taken more most before after few many within
-      so_far turn =
-      stops Means version cred (Fault fault) old mid new left behind rest taken more most before after few many so_far
-      turn so_far.replies
-      (all_written Means version cred old mid left behind taken more most before few so_far turn.writes)
-      (all_told so_far.calls before after turn.tally so_far.tallies)
-      (subst (λ n. n < SESSION_REQUESTS) (sym turn.counts) within)
-  ends_turn Means version cred Write old mid new left behind rest taken more most before after few many within so_far
-      turn =
-      breaks_off Means version cred old mid new left behind rest taken more most before after few many so_far turn
-  ends_turn Means version cred Left old mid new left behind rest taken more most before after few many within so_far
-      turn = is_left Means version cred old mid new left behind rest taken more most before after few many so_far turn
-  ends_turn Means version cred NoMemory old mid new left behind rest taken more most before after few many within so_far
-      turn = absurd turn
-  ends_turn Means version cred NoHello old mid new left behind rest taken more most before after few many within so_far
-      turn = absurd turn
-  ends_turn Means version cred Bound old mid new left behind rest taken more most before after few many within so_far
-      turn = absurd turn
+  module _ (session : Session) (now : K) (unread rest more : Option (List ℕ)) (text : List ℕ)
+      (so_far : HandedOver Means slots session old now left unread taken more) where
+    -- It ends where it stands, after its hello, and all calls have their replies.
+    talks : (why : End) (greeted : Greeted Means slots session old now left unread so_far.replies) →
+        EndsAfter greeted.version why unread rest → IsBounded why session.requests →
+        (AreReplied greeted.calls → Replies why greeted.calls) →
+        (Appends taken more (concat (hello_frame greeted.version slots ∷ frames_of greeted.calls)) →
+        Writes why (hello_frame greeted.version slots ∷ frames_of greeted.calls) taken more) →
+        answered why greeted.calls ≡ greeted.calls →
+        ServesBy Means slots why session.tally session.requests old now left rest taken more
+    talks why greeted ends bounded replies writes all =
+        let told = all_told greeted.version slots greeted.calls so_far.replies session.tally greeted.gathered
+        so_far.tally in
+        inr (record {
+          version = greeted.version;
+          cred = greeted.cred;
+          known = greeted.known;
+          calls = greeted.calls;
+          are_calls = greeted.are_calls;
+          leads = greeted.leads;
+          unread = unread;
+          reads = greeted.reads;
+          ends = ends;
+          replies = replies greeted.replied;
+          writes = writes (all_written greeted.version slots greeted.calls so_far.replies taken more greeted.gathered
+              so_far.writes);
+          tallies = (
+            ap taken_in told ∙ add-zero _,
+            ap (λ (t : Tallied). t.written) told ∙ ap messages_of (sym all),
+          );
+          counts = greeted.counts;
+          bounded = bounded;
+        })
 
-  -- The number of messages taken is below the number of requests, so far below its maximum.
-  pub has_room : (Means : Meaning K) (version : Version) (cred : Cred) (old new : K)
-      (left behind taken more : Option (List ℕ)) (tally : Tallied) (many : ℕ)
-      → Talking Means version cred old new left behind taken more tally many → taken_in tally < many
-  has_room Means version cred old new left behind taken more tally many so_far =
-      let told = ap taken_in so_far.tallies in
-      omega (arith, told, few_messages so_far.calls, so_far.counts)
+    reads_stop_at : (why : End) (greeted : Greeted Means slots session old now left unread so_far.replies) →
+        session.requests < SESSION_REQUESTS → TakesRequest greeted.version (Err why) unread rest text →
+        ServesBy Means slots why session.tally session.requests old now left rest taken more
+    reads_stop_at Ended greeted few takes = talks Ended greeted takes few (λ r. r) (λ w. w) refl
+    reads_stop_at (Fault fault) greeted few takes = talks (Fault fault) greeted takes few (λ r. r) (λ w. w) refl
+    reads_stop_at NoMemory greeted few takes = absurd takes
+    reads_stop_at NoHello greeted few takes = absurd takes
+    reads_stop_at Write greeted few takes = absurd takes
+    reads_stop_at Bound greeted few takes = absurd takes
+    reads_stop_at Left greeted few takes = absurd takes
+
+    reads_stop : (why : End) (greeted : Greeted Means slots session old now left unread so_far.replies) →
+        EndsHere (Some (greeted.version, greeted.cred)) session.requests why unread rest text →
+        ServesBy Means slots why session.tally session.requests old now left rest taken more
+    reads_stop why greeted (inl bound) =
+        let most : session.requests ≡ SESSION_REQUESTS = omega (arith, bound.0, greeted.bounded) in
+        subst (λ (w : End). ServesBy Means slots w session.tally session.requests old now left rest taken more)
+        (sym bound.1) (talks Bound greeted bound.2 most (λ r. r) (λ w. w) refl)
+    reads_stop why greeted (inr read) = reads_stop_at why greeted read.0 read.1
+
+    stops_at : (why : End) → UnderWay Means slots session old now left unread so_far.replies →
+        EndsHere session.caller session.requests why unread rest text →
+        ServesBy Means slots why session.tally session.requests old now left rest taken more
+    stops_at why (inl fresh) here =
+        let ends = subst (λ (c : Option (Version × Cred)). EndsHere c session.requests why unread rest text)
+        fresh.caller here in
+        inl (record {
+          kernel = fresh.kernel;
+          ends = subst (λ (l : Option (List ℕ)). EndsBefore why l rest) fresh.reads ends.0;
+          writes = so_far.quiet fresh.gathered;
+          tallies = so_far.tally
+              ∙ ap (λ (l : List Gathered). let t : Tallied = record { written = messages_among l; lost = 0 } in t)
+              fresh.gathered;
+          counts = fresh.counts;
+        })
+    stops_at why (inr greeted) here =
+        reads_stop why greeted
+        (subst (λ (c : Option (Version × Cred)). EndsHere c session.requests why unread rest text) greeted.caller here)
+
+    -- What it reads stops it.
+    pub stops : (why : End) (session' : Session) → TakesUp session session' (Err why) unread rest text →
+        Proceeds Means slots (Err why) session.requests session' old now left rest taken more
+    stops why session' takes =
+        subst (λ (s : Session). ServesBy Means slots why s.tally s.requests old now left rest taken more) (sym takes.0)
+        (stops_at why so_far.under_way takes.1)
+
+    -- It answers what it took up.
+    module _ (mid new : Session) (most : Option (List ℕ)) (caller : new.caller ≡ mid.caller)
+        (count : new.requests ≡ mid.requests) where
+      serves_on : (version : Version) (outcome : RequestOutcome) (given : List ℕ) (next : K) →
+          mid.tally ≡ session.tally → mid.requests ≡ session.requests + 1 →
+          UnderWay Means slots new old next left rest (so_far.replies ++ reply_for version outcome given ∷ []) →
+          Answers (Ok tt) version outcome given more most mid.tally new.tally →
+          Proceeds Means slots (Ok tt) session.requests new old next left rest taken most
+      serves_on version outcome given next kept one under_way answers = (
+        count ∙ one,
+        record {
+          replies = so_far.replies ++ reply_for version outcome given ∷ [];
+          under_way = under_way;
+          writes = writes_more so_far.replies (reply_for version outcome given) _ taken more most
+              (reply_bytes version outcome given) so_far.writes answers.1;
+          quiet = λ none. absurd (omega (
+            arith,
+            ap (length {A = Gathered}) none,
+            length-append so_far.replies (reply_for version outcome given ∷ []),
+          ));
+          tally = answers.2 ∙ ap (one_written outcome) (kept ∙ so_far.tally)
+              ∙ ap (λ (n : ℕ). let t : Tallied = record { written = n; lost = 0 } in t)
+              (sym (among_more so_far.replies version outcome given));
+        },
+      )
+
+      -- A hello.
+      module _ (version : Version) (takes : TakesUp session mid (Ok (Hello version)) unread rest text) where
+        hello : Greets version mid old now left rest so_far.replies
+        hello =
+            hello_taken Means slots version session mid old now left unread rest text so_far.replies so_far.under_way
+            takes
+
+        pub answers_hello : (result : Result ⊤ End) →
+            Answers result version (Reply (hello_reply version slots)) [] more most mid.tally new.tally →
+            Proceeds Means slots result session.requests new old now left rest taken most
+        answers_hello (Ok done) answers =
+            serves_on version (Reply (hello_reply version slots)) [] now (ap (λ (s : Session). s.tally) takes.3)
+            (omega (arith, hello.counts, fresh_count session now unread so_far.replies so_far.under_way takes.1))
+            (hello_replied Means slots version mid new old now left rest so_far.replies hello caller count) answers
+        answers_hello (Err Write) answers =
+            let told : new.tally ≡ record { written = messages_among so_far.replies; lost = 0 } =
+            answers.2 ∙ ap (one_lost (Reply (hello_reply version slots)))
+            (ap (λ (s : Session). s.tally) takes.3 ∙ so_far.tally) in
+            inr (record {
+              version = version;
+              cred = hello.cred;
+              known = hello.known;
+              calls = [];
+              are_calls = tt;
+              leads = hello.kernel;
+              unread = rest;
+              reads = subst (Consumes left rest) (sym (append-nil (hello_spelling version hello.cred))) hello.reads;
+              ends = refl;
+              replies = tt;
+              writes = (
+                [],
+                hello_frame version slots,
+                taken,
+                refl,
+                Appends-nil taken,
+                subst (λ (m : Option (List ℕ)). AppendsPrefix m most (hello_frame version slots))
+                    (so_far.quiet hello.gathered) answers.1,
+              );
+              tallies = (
+                omega (arith, ap taken_in told, ap messages_among hello.gathered),
+                omega (arith, ap (λ (t : Tallied). t.written) told, ap messages_among hello.gathered),
+              );
+              counts = count ∙ hello.counts;
+              bounded = tt;
+            })
+        answers_hello (Err Left) answers = absurd (grind (arith, answers.0))
+        answers_hello (Err Ended) answers = absurd answers
+        answers_hello (Err NoMemory) answers = absurd answers
+        answers_hello (Err NoHello) answers = absurd answers
+        answers_hello (Err (Fault fault)) answers = absurd answers
+        answers_hello (Err Bound) answers = absurd answers
+
+      -- A request.
+      module _ (cred : Cred) (call : Call) (next : K)
+          (takes : TakesUp session mid (Ok (Asked cred call.request)) unread rest call.text)
+          (means : Means now cred call.request call.text call.outcome call.given next)
+          (may : MayAnswer call.request.version call.request.ask call.outcome call.given) where
+        called : Called Means slots call mid old next left rest so_far.replies
+        called =
+            request_called Means slots cred call mid old now next left rest so_far.replies
+            (request_taken Means slots cred call.request session mid old now left unread rest call.text so_far.replies
+            so_far.under_way takes) means may
+
+        told : mid.tally ≡ record { written = messages_of called.done; lost = 0 }
+        told =
+            ap (λ (s : Session). s.tally) takes.4
+            ∙ all_told called.version slots called.done so_far.replies session.tally called.gathered so_far.tally
+
+        written : Appends taken more (concat (hello_frame called.version slots ∷ frames_of called.done))
+        written =
+            all_written called.version slots called.done so_far.replies taken more called.gathered so_far.writes
+
+        -- It ends with this call.
+        talks_last : (why : End) → EndsAfter called.version why rest rest → Replies why (called.done ++ call ∷ []) →
+            Writes why (hello_frame called.version slots ∷ frames_of (called.done ++ call ∷ [])) taken most →
+            Tallies why (called.done ++ call ∷ []) new.tally → IsBounded why new.requests →
+            ServesBy Means slots why new.tally new.requests old next left rest taken most
+        talks_last why ends replied writes tallies bounded = inr (record {
+          version = called.version;
+          cred = called.cred;
+          known = called.known;
+          calls = called.done ++ call ∷ [];
+          are_calls = called.are_calls;
+          leads = called.leads;
+          unread = rest;
+          reads = called.reads;
+          ends = ends;
+          replies = replied;
+          writes = writes;
+          tallies = tallies;
+          counts = count ∙ called.counts;
+          bounded = bounded;
+        })
+
+        pub answers_call : (result : Result ⊤ End) →
+            Answers result call.request.version call.outcome call.given more most mid.tally new.tally →
+            Proceeds Means slots result session.requests new old next left rest taken most
+        answers_call (Ok done) answers =
+            serves_on call.request.version call.outcome call.given next (ap (λ (s : Session). s.tally) takes.4)
+            (ap (λ (s : Session). s.requests) takes.4)
+            (call_replied Means slots call mid new old next left rest so_far.replies called answers.0 caller count)
+            answers
+        answers_call (Err Write) answers =
+            talks_last Write refl
+            (all_more (λ (c : Call). IsReplied c.outcome) called.done call called.replied answers.0) (
+              hello_frame called.version slots ∷ frames_of called.done,
+              _,
+              more,
+              ap (λ (l : List (List ℕ)). hello_frame called.version slots ∷ l) (frames_more called.done call),
+              written,
+              answers.1,
+            )
+            (lost_more called.done call mid.tally new.tally answers.2 told) tt
+        answers_call (Err Left) answers =
+            talks_last Left refl (called.done, call, refl, called.replied, answers.0)
+            (subst₂ (Appends taken) (sym answers.1)
+            (ap (λ (l : List ℕ). hello_frame called.version slots ++ l) (sym (left_frames called.done call answers.0)))
+            written)
+            (left_more called.done call mid.tally new.tally answers.0 answers.2 told) tt
+        answers_call (Err Ended) answers = absurd answers
+        answers_call (Err NoMemory) answers = absurd answers
+        answers_call (Err NoHello) answers = absurd answers
+        answers_call (Err (Fault fault)) answers = absurd answers
+        answers_call (Err Bound) answers = absurd answers

@@ -23,7 +23,7 @@ use Rattle.sysv_session.specs.Session.{IsBounded, Talks}
 use Rattle.sysv_session.specs.Together.{AreTogether, FailsEarly, IsStoppedWithin, Replied, StopsAfter, TalksTogether}
 use Rattle.sysv_session.specs.UnderWay.{greeting, replies_to, reply_for, reply_to}
 use Rattle.sysv_session.proofs.GatheredLemmas.{all_more, breaks_off, breaks_off_far, marks_more, within-append}
-use Rattle.sysv_session.proofs.ListLemmas.{all_but_last, concat_more, frames_more}
+use Rattle.sysv_session.proofs.ListLemmas.{all_but_last, concat_more, frames_more, left_frames}
 use Rattle.sysv_wire.specs.declared.fault.Fault.{Fault as WireFault}
 use Rattle.sysv_wire.specs.declared.fault.Fault.TheVariants.{Truncated, TooLong, BadOp, BadField, Read}
 use Rattle.sysv_wire.specs.declared.frame.Version.{Version}
@@ -54,7 +54,7 @@ pub replies_more : (version : Version) (slots : ℕ) (calls : List Call) (call :
 replies_more version slots calls call =
     ap (λ (l : List Gathered). greeting version slots ∷ l) (map-append reply_to calls (call ∷ []))
 
-marks_in : (place : ℕ) (version : Version) (outcome : RequestOutcome) (given : List ℕ) →
+pub marks_in : (place : ℕ) (version : Version) (outcome : RequestOutcome) (given : List ℕ) →
     length (marks_at place (reply_for version outcome given).message) ≡ messages_in outcome
 marks_in place version (Reply reply) given = refl
 marks_in place version (Got delivery) given = refl
@@ -367,12 +367,8 @@ module _ {K : Type 0} where
       let done = talks.replies.0 in
       let last = talks.replies.1 in
       let is : talks.calls ≡ done ++ last ∷ [] = talks.replies.2 in
-      let none : outcome_spelling last.request.version last.outcome last.given ≡ [] =
-      ap (λ (o : RequestOutcome). outcome_spelling last.request.version o last.given) talks.replies.4 in
       let frames : concat (frames_of talks.calls) ≡ concat (frames_of done) =
-      ap (λ (l : List Call). concat (frames_of l)) is ∙ ap concat (frames_more done last)
-      ∙ concat_more (frames_of done) (outcome_spelling last.request.version last.outcome last.given)
-      ∙ ap (λ (l : List ℕ). concat (frames_of done) ++ l) none ∙ append-nil (concat (frames_of done)) in
+      ap (λ (l : List Call). concat (frames_of l)) is ∙ left_frames done last talks.replies.4 in
       whole Means slots Left tally requests old new left rest taken more talks done talks.ends tt
       (done, last, is, talks.replies.4, (talks.replies.3, refl))
       (subst (λ (l : List ℕ). Appends taken more (hello_frame version slots ++ l)) frames talks.writes)

@@ -5,7 +5,6 @@ pub mod Input
 pub mod Output
 pub mod Turn
 pub mod Session
-pub mod Parts
 pub mod Course
 pub mod Failing
 pub mod Outbox
@@ -14,5 +13,6 @@ pub mod Gathered
 pub mod TakenUp
 pub mod Conversation
 pub mod UnderWay
+pub mod HandedOver
 pub mod Together
 pub mod Stands

@@ -1,6 +1,6 @@
--- What a session under way has done so far, when its replies are gathered (this project's profile).
--- Either it has taken up nothing, or it has taken up its hello and then calls, each of which has its
--- reply, in order. A request for the kernel may have been taken up whose outcome is not there yet.
+-- What a session under way has done so far (this project's profile). Either it has taken up nothing, or
+-- it has taken up its hello and then calls, each of which has its reply, in order. A request for the
+-- kernel may have been taken up whose outcome is not there yet.
 use Rattle.std.specs.Prelude.{◌≡◌, ◌≤◌, ◌+◌, ◌⊎◌, ℕ, List, [], ◌∷◌, ◌++◌, Option, None, Some, length, map}
 use Rattle.std.specs.List.{AllByRecursion}
 use Rattle.std.specs.Io.KnownBytes.{Consumes}

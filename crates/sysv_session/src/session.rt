@@ -1,20 +1,19 @@
 //! A session, from its hello to its end.
-ghost use Rattle.std.specs.Prelude.{◌≡◌, ◌≢◌, ◌<◌, ◌≤◌, length, ◌+◌, ◌-◌, ◌^◌, List, ℕ, [], false, None, Some, IfOk, OnErr, OnOk};
+ghost use Rattle.std.specs.Prelude.{◌≡◌, ◌≢◌, ◌<◌, ◌≤◌, length, ◌-◌, ◌^◌, List, ℕ, Option, false, None, Some, IfErr};
 ghost use Rattle.sysv_model.specs.Watched.{stream_of, KeepsStream};
 ghost use Rattle.sysv_model.specs.declared.limits.TheConstants.{MESSAGE_BYTES};
 ghost use Rattle.sysv_queue.specs.Tally.{taken_in};
 ghost use Rattle.sysv_session.specs.Answers.{HasAnswer};
 ghost use Rattle.sysv_session.specs.Failing.{ends_by_read, ends_by_write, is_failed_read, is_failed_write};
-ghost use Rattle.sysv_session.specs.Session.{Serves, ServesBy};
+ghost use Rattle.sysv_session.specs.Session.{Serves};
 ghost use Rattle.sysv_session.specs.Course.{Course, Follows, Takes};
-ghost use Rattle.sysv_session.specs.Input.{Greets};
-ghost use Rattle.sysv_session.specs.Parts.{Goes, Opens};
-ghost use Rattle.sysv_session.specs.TakenUp.{TakesRequest, TakesUp};
-ghost use Rattle.sysv_session.specs.Turn.{Answers, Turns};
+ghost use Rattle.sysv_session.specs.HandedOver.{HandedOver, Proceeds};
+ghost use Rattle.sysv_session.specs.TakenUp.{TakesUp};
+ghost use Rattle.sysv_session.specs.Turn.{Answers};
 
 use crate::kernel::{Kernel, RequestOutcome};
 use crate::served::{End, SESSION_REQUESTS, Served};
-use crate::turn::{answer, hello_reply, read_asked, read_hello, send};
+use crate::turn::{deliver, hello_reply, read_asked, read_hello, send};
 use std::alloc::Global;
 use std::io::{Read, Write};
 use sysv_model::{Body, Cred, NoMemory, Watched};
@@ -108,8 +107,44 @@ pub fn serve_watched<R: Read, W: Write, K: Kernel>(
     one_answer_to_requests();
     let slots = kernel.slots();
     let mut session = Session::open();
-    let end = session.run(slots, texts, reader, writer, kernel);
-    session.end(end)
+    loop {
+        if let Err(why) = serve_next(&mut session, slots, texts, reader, writer, kernel) {
+            return session.end(why);
+        }
+    }
+}
+
+/// Takes up what the input holds next, and answers it.
+fn serve_next<R: Read, W: Write, K: Kernel>(
+    session: &mut Session,
+    slots: u32,
+    texts: &mut Texts,
+    reader: &mut Watched<'_, R>,
+    writer: &mut Watched<'_, W>,
+    kernel: &mut K,
+) -> Result<(), End>
+    requires room { taken_in session.old.tally < 2 ^ 64 - 1 }
+    // Wherever the session began, it serves on or has served.
+    ensures serves { (start : K) (left taken : Option (List ℕ)) →
+        HandedOver K.meaning slots session.old start kernel.old left
+        (R.remaining (stream_of reader.old)) taken (W.contents (stream_of writer.old)) →
+        Proceeds K.meaning slots result session.old.requests session.new start kernel.new left
+        (R.remaining (stream_of reader.new)) taken (W.contents (stream_of writer.new)) }
+    ensures memory { IfErr result (λ why. why ≢ End.NoMemory) }
+    ensures reader { KeepsStream reader.old reader.new (ends_by_read result) }
+    ensures writer { KeepsStream writer.old writer.new (ends_by_write result) }
+{
+    texts.given.clear();
+    match session.take_up(reader, &mut texts.asked)? {
+        TakenUp::Hello(version) => {
+            let outcome = RequestOutcome::Reply(hello_reply(version, slots));
+            session.answer(writer, version, outcome, &texts.given)
+        }
+        TakenUp::Request(cred, request) => {
+            let outcome = kernel.call(cred, &request, &texts.asked, &mut texts.given);
+            session.answer(writer, request.version, outcome, &texts.given)
+        }
+    }
 }
 
 /// The two bodies of a session: that of a request and that of its reply. Several sessions may use
@@ -180,13 +215,18 @@ impl Session {
         ensures write { ends_by_write result ≡ false }
     {
         let Some((version, cred)) = self.caller else {
-            let (version, _) = self.take_hello(reader, text)?;
+            let (version, cred) = read_hello(reader, text)?;
+            self.caller = Some((version, cred));
+            self.requests = 1;
             return Ok(TakenUp::Hello(version));
         };
         if self.requests >= SESSION_REQUESTS {
             return Err(End::Bound);
         }
-        let request = self.take_request(version, reader, text)?;
+        let Some(request) = read_asked(reader, version, text)? else {
+            return Err(End::Ended);
+        };
+        self.requests += 1;
         Ok(TakenUp::Request(cred, request))
     }
 
@@ -222,7 +262,16 @@ impl Session {
         ensures writer { KeepsStream writer.old writer.new (ends_by_write result) }
         ensures read { ends_by_read result ≡ false }
     {
-        answer(writer, version, outcome, given, &mut self.tally)
+        match outcome {
+            RequestOutcome::Reply(reply) => {
+                send(writer, &reply, given)?;
+                Ok(())
+            }
+            RequestOutcome::Got(delivery) => {
+                deliver(writer, version, delivery, given, &mut self.tally)
+            }
+            RequestOutcome::Left => Err(End::Left),
+        }
     }
 
     /// Ends the session for this reason, and returns what it did.
@@ -234,154 +283,6 @@ impl Session {
             tally: self.tally,
             requests: self.requests,
         }
-    }
-
-    /// Runs the session from its hello to its end.
-    fn run<R: Read, W: Write, K: Kernel>(
-        &mut self,
-        slots: u32,
-        texts: &mut Texts,
-        reader: &mut Watched<'_, R>,
-        writer: &mut Watched<'_, W>,
-        kernel: &mut K,
-    ) -> End
-        requires tally { self.old.tally ≡ record { written = 0; lost = 0 } }
-        requires count { self.old.requests ≡ 0 }
-        ensures serves { ServesBy K.meaning slots result self.new.tally self.new.requests kernel.old
-            kernel.new (R.remaining (stream_of reader.old)) (R.remaining (stream_of reader.new))
-            (W.contents (stream_of writer.old)) (W.contents (stream_of writer.new)) }
-        ensures memory { result ≢ End.NoMemory }
-        ensures reader { KeepsStream reader.old reader.new (is_failed_read result) }
-        ensures writer { KeepsStream writer.old writer.new (is_failed_write result) }
-    {
-        match self.greet(slots, texts, reader, writer) {
-            Ok((version, cred)) => {
-                self.serve_calls(version, cred, texts, reader, writer, kernel)
-            }
-            Err(end) => end,
-        }
-    }
-
-    /// Reads the hello and replies to it.
-    fn greet<R: Read, W: Write>(
-        &mut self,
-        slots: u32,
-        texts: &mut Texts,
-        reader: &mut Watched<'_, R>,
-        writer: &mut Watched<'_, W>,
-    ) -> Result<(Version, Cred), End>
-        requires { self.old.requests ≡ 0 }
-        ensures opens { Opens slots result (R.remaining (stream_of reader.old))
-            (R.remaining (stream_of reader.new)) (W.contents (stream_of writer.old))
-            (W.contents (stream_of writer.new)) self.new.requests }
-        ensures tally { self.new.tally ≡ self.old.tally }
-        ensures reader { KeepsStream reader.old reader.new (ends_by_read result) }
-        ensures writer { KeepsStream writer.old writer.new (ends_by_write result) }
-    {
-        let (version, cred) = self.take_hello(reader, &mut texts.asked)?;
-        texts.given.clear();
-        let reply = hello_reply(version, slots);
-        send(writer, &reply, &texts.given)?;
-        Ok((version, cred))
-    }
-
-    /// Answers requests up to the bound or until something ends the session.
-    fn serve_calls<R: Read, W: Write, K: Kernel>(
-        &mut self,
-        version: Version,
-        cred: Cred,
-        texts: &mut Texts,
-        reader: &mut Watched<'_, R>,
-        writer: &mut Watched<'_, W>,
-        kernel: &mut K,
-    ) -> End
-        requires tally { self.old.tally ≡ record { written = 0; lost = 0 } }
-        requires count { self.old.requests ≡ 1 }
-        ensures goes { Goes K.meaning version cred result kernel.old kernel.new
-            (R.remaining (stream_of reader.old)) (R.remaining (stream_of reader.new))
-            (W.contents (stream_of writer.old))
-            (W.contents (stream_of writer.new)) self.new.tally self.new.requests }
-        ensures reader { KeepsStream reader.old reader.new (is_failed_read result) }
-        ensures writer { KeepsStream writer.old writer.new (is_failed_write result) }
-    {
-        for _ in 1..SESSION_REQUESTS {
-            if let Err(end) = self.serve_next(version, cred, texts, reader, writer, kernel) {
-                return end;
-            }
-        }
-        End::Bound
-    }
-
-    /// Reads the next request, passes it to the kernel and writes its reply.
-    fn serve_next<R: Read, W: Write, K: Kernel>(
-        &mut self,
-        version: Version,
-        cred: Cred,
-        texts: &mut Texts,
-        reader: &mut Watched<'_, R>,
-        writer: &mut Watched<'_, W>,
-        kernel: &mut K,
-    ) -> Result<(), End>
-        requires room { taken_in self.old.tally < 2 ^ 64 - 1 }
-        requires count { self.old.requests < SESSION_REQUESTS }
-        ensures turns { Turns K.meaning version cred result kernel.old kernel.new
-            (R.remaining (stream_of reader.old)) (R.remaining (stream_of reader.new))
-            (W.contents (stream_of writer.old))
-            (W.contents (stream_of writer.new)) self.old.tally self.new.tally self.old.requests
-            self.new.requests }
-        ensures reader { KeepsStream reader.old reader.new (ends_by_read result) }
-        ensures writer { KeepsStream writer.old writer.new (ends_by_write result) }
-    {
-        let request = self.take_request(version, reader, &mut texts.asked)?;
-        texts.given.clear();
-        let outcome = kernel.call(cred, &request, &texts.asked, &mut texts.given);
-        self.answer(writer, request.version, outcome, &texts.given)
-    }
-
-    /// Reads the hello.
-    fn take_hello<R: Read>(
-        &mut self,
-        reader: &mut Watched<'_, R>,
-        text: &mut Body,
-    ) -> Result<(Version, Cred), End>
-        ensures greets { Greets result (R.remaining (stream_of reader.old))
-            (R.remaining (stream_of reader.new)) }
-        ensures ok { IfOk result (λ caller. self.new
-            ≡ record { caller = Some caller; tally = self.old.tally; requests = 1 }) }
-        ensures err { OnErr result (self.new ≡ self.old) }
-        ensures reader { KeepsStream reader.old reader.new (ends_by_read result) }
-        ensures write { ends_by_write result ≡ false }
-    {
-        let (version, cred) = read_hello(reader, text)?;
-        self.caller = Some((version, cred));
-        self.requests = 1;
-        Ok((version, cred))
-    }
-
-    /// Reads the next request of this version.
-    fn take_request<R: Read>(
-        &mut self,
-        version: Version,
-        reader: &mut Watched<'_, R>,
-        text: &mut Body,
-    ) -> Result<Request, End>
-        requires count { self.old.requests < SESSION_REQUESTS }
-        ensures takes { TakesRequest version result (R.remaining (stream_of reader.old))
-            (R.remaining (stream_of reader.new)) text.new }
-        ensures ok { OnOk result (self.new ≡ record {
-          caller = self.old.caller;
-          tally = self.old.tally;
-          requests = self.old.requests + 1;
-        }) }
-        ensures err { OnErr result (self.new ≡ self.old) }
-        ensures reader { KeepsStream reader.old reader.new (ends_by_read result) }
-        ensures write { ends_by_write result ≡ false }
-    {
-        let Some(request) = read_asked(reader, version, text)? else {
-            return Err(End::Ended);
-        };
-        self.requests += 1;
-        Ok(request)
     }
 }
 

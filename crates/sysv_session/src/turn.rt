@@ -1,9 +1,9 @@
 //! What a session reads and writes for one request.
-ghost use Rattle.std.specs.Prelude.{◌≡◌, ◌<◌, ◌≤◌, ◌-◌, ◌^◌, List, ℕ, [], false, is_err, length, OnOk, OnErr};
+ghost use Rattle.std.specs.Prelude.{◌≡◌, ◌<◌, ◌≤◌, ◌-◌, ◌^◌, false, is_err, length, OnOk, OnErr};
 ghost use Rattle.std.specs.Io.KnownBytes.{Appends};
 ghost use Rattle.sysv_model.specs.declared.limits.TheConstants.{MESSAGE_BYTES};
 ghost use Rattle.sysv_queue.specs.Tally.{taken_in};
-ghost use Rattle.sysv_session.specs.Answers.{HasAnswer, message_reply as the_reply};
+ghost use Rattle.sysv_session.specs.Answers.{message_reply as the_reply};
 ghost use Rattle.sysv_model.specs.Watched.{stream_of, KeepsStream};
 ghost use Rattle.sysv_session.specs.Failing.{ends_by_read, ends_by_write};
 ghost use Rattle.sysv_session.specs.Input.{Greets, ReadsAsked};
@@ -118,7 +118,7 @@ pub(crate) fn message_reply(version: Version, delivery: &Delivery) -> Reply
 
 /// Writes a message that the kernel returned, and spends its delivery: as written if the reply was
 /// written whole and flushed, otherwise as lost.
-fn deliver<W: Write>(
+pub(crate) fn deliver<W: Write>(
     writer: &mut Watched<'_, W>,
     version: Version,
     delivery: Delivery,
@@ -143,31 +143,5 @@ fn deliver<W: Write>(
             delivery.lost(tally);
             Err(End::Write)
         }
-    }
-}
-
-/// Writes the outcome of a request of this version. For a call that was left it writes nothing.
-pub(crate) fn answer<W: Write>(
-    writer: &mut Watched<'_, W>,
-    version: Version,
-    outcome: RequestOutcome,
-    given: &Body,
-    tally: &mut Tally,
-) -> Result<(), End>
-    requires reply { HasAnswer outcome }
-    requires text { length given.now ≤ MESSAGE_BYTES }
-    requires room { taken_in tally.old < 2 ^ 64 - 1 }
-    ensures answers { Answers result version outcome given.now (W.contents (stream_of writer.old))
-        (W.contents (stream_of writer.new)) tally.old tally.new }
-    ensures stream { KeepsStream writer.old writer.new (ends_by_write result) }
-    ensures read { ends_by_read result ≡ false }
-{
-    match outcome {
-        RequestOutcome::Reply(reply) => {
-            send(writer, &reply, given)?;
-            Ok(())
-        }
-        RequestOutcome::Got(delivery) => deliver(writer, version, delivery, given, tally),
-        RequestOutcome::Left => Err(End::Left),
     }
 }

@@ -5,7 +5,7 @@ use Rattle.sysv_queue.specs.Tally.{Tallied}
 use Rattle.sysv_session.specs.declared.kernel.RequestOutcome.TheVariants.{Reply}
 use Rattle.sysv_session.specs.Turn.{one_lost}
 use Rattle.sysv_wire.specs.declared.reply.Reply.{Reply as Answer}
-use Rattle.sysv_session.proofs.turn.answer.Goals as goal
+use Rattle.sysv_session.proofs.session.Session.answer.Goals as goal
 
 none_lost : (reply : Answer) (tally : Tallied) → tally ≡ one_lost (Reply reply) tally
 none_lost reply tally =
