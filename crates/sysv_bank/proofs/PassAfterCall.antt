@@ -1,6 +1,6 @@
 -- What the calls at a place leave of the numbers of a pass and of its own turns.
 use Rattle.std.proofs.Common.{◌≡◌, ℕ, ◌+◌, List, [], ◌∷◌, ◌++◌, length, ap, ◌∙◌, length-append}
-use Rattle.std.specs.Prelude.{Option, Some, None, Result, Ok, Err, IfOk, IfErr}
+use Rattle.std.specs.Prelude.{Result, Ok, Err, IfOk, IfErr}
 use Rattle.sysv_gate.specs.declared.view.View.{View}
 use Rattle.sysv_gate.specs.declared.view.Turn.{Turn}
 use Rattle.sysv_gate.specs.declared.count.Count.{Count}
@@ -11,7 +11,7 @@ use Rattle.sysv_gate.specs.declared.refusals.TryRefused.{TryRefused}
 use Rattle.sysv_gate.specs.declared.refusals.TryRefused.TheVariants.{Busy, Worn}
 use Rattle.sysv_gate.specs.declared.refusals.Worn.{Worn as WornCall}
 use Rattle.sysv_gate.specs.Steps.{Mine, turn_of}
-use Rattle.sysv_gate.specs.Turns.{HasWorn, HasRead, HasWaited, HasWaitedWithin}
+use Rattle.sysv_gate.specs.Turns.{HasWorn, HasRead, HasWaited}
 use Rattle.sysv_gate.specs.Doors.{HasCalled, HasTried}
 use Rattle.sysv_bank.specs.Resting.{IsNamedAs}
 
@@ -72,11 +72,6 @@ module _ {O C R : Type 0} (moves : O → C → R → O → Type 0) (counted : O 
       let one = stays_read m told.1 count told.0 told.3 in
       let two = stays_worn told.1 m' told.4 in
       record { names = (two.names.0 ∙ one.names.0, two.names.1 ∙ one.names.1); own = two.own ∙ one.own }
-
-  pub stays_within : (m m' : Mine O C R) (count : Count) (goal : ℕ) (a : Option Awaited) →
-      HasWaitedWithin counted o count goal m a m' → Stays m.0 m'.0
-  stays_within m m' count goal (Some a) told = stays_waited m m' count goal a told
-  stays_within m m' count goal None told = stays_read m m' count told.0 told.2
 
   -- The numbers stay, whatever the result of a call is.
   pub call_names : (m m' : Mine O C R) (call : C) (r : Result R (WornCall C)) →

@@ -3,7 +3,7 @@ ghost use Rattle.std.specs.Prelude.{◌≡◌, ◌<◌, length, IfOk, IfErr, OnO
 ghost use Rattle.sysv_gate.specs.History.{Moves};
 ghost use Rattle.sysv_gate.specs.Gates.{Answers, Learns, read_to, marked};
 ghost use Rattle.sysv_gate.specs.Refusals.{Refuses};
-ghost use Rattle.sysv_gate.specs.Waits.{Waited, WaitedWithin};
+ghost use Rattle.sysv_gate.specs.Waits.{Waited};
 ghost use Rattle.sysv_bank.specs.Banks.{gates_of, ChangesAt, AcceptsAt};
 ghost use Rattle.sysv_bank.specs.Passes.{GoesOn, AddsToOrder, KnowsItsReads};
 
@@ -97,18 +97,6 @@ impl<O: Object> Bank<O> {
         self.doors[place].wake(rt);
     }
 
-    /// Wakes the next thread that sleeps in `await_within` for the first count at `place`, like
-    /// `Gate::pass_on`.
-    ///
-    /// # Conditions
-    ///
-    /// - `place` is below the number of the bank's objects.
-    pub fn pass_on(&self, place: usize)
-        requires { place < length self.now }
-    {
-        self.doors[place].pass_on();
-    }
-
     /// Returns a count of the object at `place`, like `Gate::arrived` for the first count and
     /// `Gate::freed` for the second.
     ///
@@ -149,29 +137,5 @@ impl<O: Object> Bank<O> {
             (λ before after. Waited O.counted count goal before result after) }
     {
         self.doors[place].await_count(rt, &self.hall, &mut seat.token, count, goal)
-    }
-
-    /// Waits for a count at `place`, but sleeps only once, and for a quarter of a second at most,
-    /// like `Gate::arrived_within` for the first count and `Gate::freed_within` for the second.
-    ///
-    /// # Conditions
-    ///
-    /// - `seat` is a seat of this bank, and `place` is below the number of its objects.
-    pub fn await_within(
-        &self,
-        rt: &impl Wait,
-        place: usize,
-        seat: &mut BankSeat<O>,
-        count: Count,
-        goal: u64,
-    ) -> Option<Awaited>
-        requires seat { gates_of seat.old.seats ≡ self.now }
-        requires place { place < length self.now }
-        ensures gates { gates_of seat.new.seats ≡ self.now }
-        ensures longer { GoesOn seat.old seat.new }
-        ensures waited { ChangesAt place seat.old.seats seat.new.seats
-            (λ before after. WaitedWithin O.counted count goal before result after) }
-    {
-        self.doors[place].await_within(rt, &self.hall, &mut seat.token, count, goal)
     }
 }

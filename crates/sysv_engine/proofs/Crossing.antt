@@ -15,8 +15,6 @@ use Rattle.sysv_session.specs.contracts.outbox.Outbox as outbox
 use Rattle.sysv_session.specs.contracts.outbox.Outbox.TheInside as outbox_inside
 use Rattle.sysv_session.specs.contracts.served.End as end
 use Rattle.sysv_service.proofs.Crossing.{crossing, pass_send, service_sync}
-use Rattle.sysv_service.specs.contracts.caller.Stays as stays
-use Rattle.sysv_service.specs.contracts.caller.StaysCaller.TheImpl as caller
 use Rattle.sysv_service.specs.contracts.service.Service as service
 use Rattle.sysv_seats.specs.contracts.client.Client as client
 use Rattle.sysv_seats.specs.contracts.client.Client.TheInside as client_inside
@@ -28,7 +26,6 @@ use Rattle.sysv_seats.specs.declared.non_blocking.NonBlocking.{Ghosts}
 use Rattle.sysv_seats.proofs.parked.Parked.TheSendSync.{the_send as parked_send}
 use Rattle.sysv_session.proofs.session.Session.TheSendSync.{the_send as session_send}
 use Rattle.sysv_seats.proofs.zero.Zero.TheSendSync.{the_sync as zero_sync}
-use Rattle.sysv_service.proofs.caller.Stays.TheSendSync.{the_send as stays_send}
 use Rattle.sysv_engine.specs.contracts.common.Common as common
 use Rattle.sysv_engine.specs.contracts.common.Letter as letter
 use Rattle.sysv_engine.specs.contracts.lines.Key as key
@@ -46,18 +43,17 @@ use Rattle.sysv_engine.specs.contracts.worker.Worker as worker
 use Rattle.sysv_engine.proofs.common.Common.TheSendSync as commons
 use Rattle.sysv_engine.proofs.sums.Sums.TheSendSync as sums
 
-kernel_send : (l : NamedLft) (R : RattleType) → IsSync R →
-    IsSend (kernel.the_row l zero.the_row R stays.the_row clock.ghosts caller.ghosts)
+kernel_send : (l : NamedLft) (R : RattleType) → IsSync R → IsSend (kernel.the_row l zero.the_row R clock.ghosts)
 kernel_send l R sr =
     let served : IsSend (as_row (shr_ref_field l service.the_row tt)) =
     search (crossing, service_sync, shr_send) depth 20 in
-    declared_send (kernel.the_type l zero.the_row R stays.the_row clock.ghosts caller.ghosts) (
+    declared_send (kernel.the_type l zero.the_row R clock.ghosts) (
       as_row_send (row_field (ShrRef l.mir l.lft R)) (shr_send l.mir l.lft R sr),
       (
         served,
         (
           as_row_send (row_field (ShrRef l.mir l.lft zero.the_row)) (shr_send l.mir l.lft zero.the_row zero_sync),
-          (pass_send, (stays_send, tt)),
+          (pass_send, tt),
         ),
       ),
     )

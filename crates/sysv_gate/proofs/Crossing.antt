@@ -102,10 +102,7 @@ door_sync O C R g = view_sync (door_inside.the_row O C R g) _ _ _ _
                 as_row_sync turns.the_field turn_bells.the_field_sync,
                 (
                   as_row_sync bell.the_field bells.the_field_sync,
-                  (
-                    as_row_sync bell.the_field bells.the_field_sync,
-                    (as_row_sync bell.the_field bells.the_field_sync, tt),
-                  ),
+                  (as_row_sync bell.the_field bells.the_field_sync, tt),
                 ),
               ),
             ),

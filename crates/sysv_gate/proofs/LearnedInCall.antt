@@ -1,7 +1,7 @@
 -- What a seat learns from step to step of a call.
 use Rattle.std.proofs.Common.{◌≡◌, ◌≢◌, ℕ, ◌+◌, ◌<◌, ◌≤◌, ◌^◌, true, false, List, [], ◌∷◌, length, refl, sym, ap, ◌∙◌}
 use Rattle.std.proofs.Common.{subst, arith, Option, Some}
-use Rattle.std.specs.Prelude.{None, IfSome, IfNone, cond, nat_lt}
+use Rattle.std.specs.Prelude.{cond, nat_lt}
 use mathlib.Core.Option.{none}
 use Rattle.std.proofs.lemmas.Bool.Decides.{nat_tests}
 use Rattle.sysv_gate.specs.declared.view.View.{View}
@@ -22,7 +22,6 @@ use Rattle.sysv_gate.specs.Rule.{Spot, put}
 use Rattle.sysv_gate.specs.Steps.{Mine, weighed, looked, entered, turn_of, announced_by, read_to, ended, Looks, Reads}
 use Rattle.sysv_gate.specs.Steps.{HasTurn, after_turn}
 use Rattle.sysv_gate.specs.Turns.{Looked, TurnCame, SawMore, HasMade, rise, Applied, HasRead, ReadMore, HasWaited}
-use Rattle.sysv_gate.specs.Turns.{HasWaitedWithin, HasReadBelow}
 use Rattle.atomic_table.specs.Table.{step, rest}
 use Rattle.sysv_lists.proofs.Counting.{times-one}
 use Rattle.sysv_gate.proofs.MarksAndCounts.{low_mark}
@@ -254,15 +253,6 @@ module _ {O C R : Type 0} where
   waited_later counted o count goal m m' awaited.Worn m'' more waited =
       (waited.0, waited.1, waited.2, read_again counted o count m m' waited.0 waited.1 more waited.3, waited.4)
 
-  -- A bounded wait that returns, after the count was read before.
-  pub waited_within_later : (counted : O → ℕ × ℕ) (o : O) (count : Count) (goal : ℕ) (m m' : Mine O C R)
-      (a : Option Awaited) (m'' : Mine O C R) → ReadMore count m m' → HasWaitedWithin counted o count goal m' a m'' →
-      HasWaitedWithin counted o count goal m a m''
-  waited_within_later counted o count goal m m' (Some a) m'' more waited =
-      waited_later counted o count goal m m' a m'' more waited
-  waited_within_later counted o count goal m m' None m'' more waited =
-      (waited.0, waited.1, read_again counted o count m m' waited.0 m'' more waited.2)
-
   -- The count may have been read twice.
   pub more_again : (count : Count) (m m' m'' : Mine O C R) → ReadMore count m m' → ReadMore count m' m'' →
       ReadMore count m m''
@@ -277,10 +267,3 @@ module _ {O C R : Type 0} where
             ∙ (λ i. (record m.0 { read = put_twice count two.value one.value m.0.read i }, []));
         before = omega arith;
       }
-
-  -- What a look shows is the result of the wait.
-  pub if_within : (counted : O → ℕ × ℕ) (o : O) (count : Count) (goal : ℕ) (m : Mine O C R) (a : Option Awaited)
-      (m' : Mine O C R) → IfSome a (λ w. HasWaited counted o count goal m w m') →
-      IfNone a (HasReadBelow counted o count goal m m') → HasWaitedWithin counted o count goal m a m'
-  if_within counted o count goal m (Some a) m' over below = over
-  if_within counted o count goal m None m' over below = below

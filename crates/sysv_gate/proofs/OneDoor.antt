@@ -2,7 +2,7 @@
 use Rattle.std.proofs.Common.{◌≡◌, ℕ, zero, suc, ◌<◌, ◌≤◌, false, List, [], ◌∷◌, map, length, sym, ap, ◌∙◌, subst}
 use Rattle.std.proofs.Common.{arith}
 use Rattle.std.proofs.lemmas.List.{length-map}
-use Rattle.std.specs.Prelude.{Option, Some, Result, Ok, Err, IfOk, IfErr, OnOk}
+use Rattle.std.specs.Prelude.{Some, Result, Ok, Err, IfOk, IfErr, OnOk}
 use Rattle.std.specs.declared.snapshot.Snapshot.{Snapshot}
 use mathlib.Core.Option.{some, some-injective, some-ne-none}
 use lib.ListN.{get_elem?}
@@ -24,7 +24,7 @@ use Rattle.sysv_gate.specs.History.{IsAccepted, HasItsOwn}
 use Rattle.sysv_gate.specs.Gates as gate
 use Rattle.sysv_gate.specs.Gates.{Gateway, Holding, Answers, Learns, IsSplit, Joins, marked, split_off}
 use Rattle.sysv_gate.specs.Refusals.{Refuses}
-use Rattle.sysv_gate.specs.Waits.{Waited, WaitedWithin}
+use Rattle.sysv_gate.specs.Waits.{Waited}
 use Rattle.sysv_gate.specs.Closings.{Closes}
 use Rattle.sysv_gate.specs.Ending.{IsReadAt}
 use Rattle.sysv_gate.specs.Held.{held, holding, RestsAt, RestsThere, IsAtRest, IsTokenOf}
@@ -32,11 +32,11 @@ use Rattle.sysv_gate.specs.Opened.{gateway, IsOpen}
 use Rattle.sysv_gate.specs.Halls.{view_at, me_at, Passing, InOrder}
 use Rattle.sysv_gate.specs.Plays.{halved, both_views, both_of, Merges}
 use Rattle.sysv_gate.specs.Steps.{Mine, named, newcomer, parted}
-use Rattle.sysv_gate.specs.Turns.{HasWorn, HasRead, HasWaited, HasWaitedWithin}
+use Rattle.sysv_gate.specs.Turns.{HasWorn, HasRead, HasWaited}
 use Rattle.sysv_gate.specs.Doors.{Doorway, IsDoorOf, IsAt, IsSame, Idles, HasCalled, HasTried, KnowsAll, Idling}
 use Rattle.sysv_gate.specs.Doors.{IsNewcomer}
-use Rattle.sysv_gate.proofs.SeenAfterCall.{bare, answers, worn, refused, reads, waited, waited_within, call_rests}
-use Rattle.sysv_gate.proofs.SeenAfterCall.{try_rests, count_rests, await_rests, within_rests}
+use Rattle.sysv_gate.proofs.SeenAfterCall.{bare, answers, worn, refused, reads, waited, call_rests}
+use Rattle.sysv_gate.proofs.SeenAfterCall.{try_rests, count_rests, await_rests}
 use Rattle.sysv_gate.proofs.RestingViews.{none_own, parted_there, newcomer_view, newcomer_there, joined_one}
 use Rattle.sysv_gate.proofs.RestingViews.{joined_view, joined_told, joined_there}
 use Rattle.sysv_gate.proofs.PassSplitKeepsRule.{both_length, merged_length}
@@ -201,18 +201,6 @@ module _ {O C R : Type 0} (moves : O → C → R → O → Type 0) (g : GateInsi
               goal a told),
           subst (λ (k : Holding O C R). Waited counted count goal k a (held Now)) shown
               (waited moves counted Opening s.key.value.first s.token.table_id token.table_id here.0 Before After
-              rest.rests.0 count goal a told),
-        )
-
-    pub has_waited_within : (count : Count) (goal : ℕ) (a : Option Awaited) →
-        HasWaitedWithin counted g.door.opening count goal (me_at g.door.place s.token.me) a
-        (me_at g.door.place token.me) → IsAtRest moves Now × WaitedWithin counted count goal h a (held Now)
-    has_waited_within count goal a is =
-        let told = mine (λ o m m'. HasWaitedWithin counted o count goal m a m') is in (
-          rested (within_rests moves counted Opening s.key.value.first Before After rest.rests.0 token.table_id count
-              goal a told),
-          subst (λ (k : Holding O C R). WaitedWithin counted count goal k a (held Now)) shown
-              (waited_within moves counted Opening s.key.value.first s.token.table_id token.table_id here.0 Before After
               rest.rests.0 count goal a told),
         )
 

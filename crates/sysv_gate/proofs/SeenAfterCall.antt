@@ -1,6 +1,6 @@
 -- What the calls at a place do to what contracts see there.
 use Rattle.std.proofs.Common.{◌≡◌, ℕ, ◌≤◌, false, List, [], ◌∷◌, map, refl, sym, ap, ◌∙◌, subst}
-use Rattle.std.specs.Prelude.{Option, Some, None, Result, Ok, Err, IfOk, IfErr}
+use Rattle.std.specs.Prelude.{Result, Ok, Err, IfOk, IfErr}
 use Rattle.atomic_table.specs.Seated.{TableId}
 use Rattle.sysv_lists.specs.Numbers.{times}
 use Rattle.sysv_gate.specs.declared.view.View.{View}
@@ -19,8 +19,8 @@ use Rattle.sysv_gate.specs.Gates as gate
 use Rattle.sysv_gate.specs.Gates.{Holding, Answers, Learns, marked}
 use Rattle.sysv_gate.specs.Held.{holding, RestsAt}
 use Rattle.sysv_gate.specs.Refusals.{Refuses}
-use Rattle.sysv_gate.specs.Waits.{Waited, WaitedWithin}
-use Rattle.sysv_gate.specs.Turns.{HasWorn, HasRead, HasWaited, HasWaitedWithin}
+use Rattle.sysv_gate.specs.Waits.{Waited}
+use Rattle.sysv_gate.specs.Turns.{HasWorn, HasRead, HasWaited}
 use Rattle.sysv_gate.specs.Doors.{HasCalled, HasTried}
 
 module _ {O C R : Type 0} (moves : O → C → R → O → Type 0) (counted : O → ℕ × ℕ) (o : O) (first : ℕ)
@@ -151,12 +151,6 @@ module _ {O C R : Type 0} (moves : O → C → R → O → Type 0) (counted : O 
   rests_waited count goal awaited.Worn told = rests_worn moves counted o first table table' same told.1 m'
       (rests_read moves counted o first table table refl m told.1 rest count told.0 told.3) told.4
 
-  pub waited_within : (count : Count) (goal : ℕ) (a : Option Awaited) → HasWaitedWithin counted o count goal m a m' →
-      WaitedWithin counted count goal (holding table first o m.0) a (holding table' first o m'.0)
-  waited_within count goal (Some a) told = waited count goal a told
-  waited_within count goal None told =
-      let r = reads moves counted o first table table' same m m' rest count told.0 told.2 in (told.0, told.1, r.1, r.0)
-
 -- The pass holds no slot.
 pub bare : {O C R : Type 0} (place : ℕ) (m : Passing O C R) → (me_at place m).1 ≡ [] → m.1 ≡ []
 bare {O} {C} {R} place m is = none m.1 is
@@ -204,8 +198,3 @@ module _ {O C R : Type 0} (moves : O → C → R → O → Type 0) (counted : O 
     ap (λ (x : Mine O C R). x.1) told.4,
     rests_waited moves counted o first table table refl m m' rest count goal awaited.Worn told,
   )
-
-  pub within_rests : (table : TableId) (count : Count) (goal : ℕ) (a : Option Awaited) →
-      HasWaitedWithin counted o count goal m a m' → (m'.1 ≡ []) × RestsAt moves o first m'.0
-  within_rests table count goal (Some a) told = await_rests table count goal a told
-  within_rests table count goal None told = count_rests table count told.0 told.2

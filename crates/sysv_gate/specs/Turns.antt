@@ -1,5 +1,5 @@
 -- What the parts of a call require of a seat, and what they leave. This project's profile.
-use Rattle.std.specs.Prelude.{◌≡◌, ℕ, ◌+◌, ◌<◌, ◌≤◌, ◌^◌, cond, true, false, List, [], ◌∷◌, length, Option, Some, None}
+use Rattle.std.specs.Prelude.{◌≡◌, ℕ, ◌+◌, ◌<◌, ◌≤◌, ◌^◌, cond, true, false, List, [], ◌∷◌, length, Some}
 use Rattle.sysv_gate.specs.declared.view.View.{View}
 use Rattle.sysv_gate.specs.declared.view.Turn as view
 use Rattle.sysv_gate.specs.declared.turns.Entry.{Entry}
@@ -116,9 +116,3 @@ module _ {O C R : Type 0} where
   HasWaited counted opening count goal m (Reached n) m' = (goal ≤ n) × HasRead counted opening count m n m'
   HasWaited counted opening count goal m awaited.Worn m' =
       (n : ℕ) × (mid : Mine O C R) × (n < goal) × HasRead counted opening count m n mid × HasWorn mid m'
-
-  -- A wait that may return before it is over. If it does, the count that was read last is below the
-  -- goal.
-  abbrev pub HasWaitedWithin : (O → ℕ × ℕ) → O → Count → ℕ → Mine O C R → Option Awaited → Mine O C R → Type 0
-  HasWaitedWithin counted opening count goal m (Some a) m' = HasWaited counted opening count goal m a m'
-  HasWaitedWithin counted opening count goal m None m' = HasReadBelow counted opening count goal m m'

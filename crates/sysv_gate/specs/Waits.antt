@@ -1,5 +1,5 @@
 -- The result of a wait for a count. This project's profile.
-use Rattle.std.specs.Prelude.{◌≡◌, ℕ, ◌<◌, ◌≤◌, Option, Some, None}
+use Rattle.std.specs.Prelude.{◌≡◌, ℕ, ◌<◌, ◌≤◌}
 use Rattle.sysv_gate.specs.declared.count.Count.{Count}
 use Rattle.sysv_gate.specs.declared.awaited.Awaited.{Awaited}
 use Rattle.sysv_gate.specs.declared.awaited.Awaited.TheVariants.{Reached, Worn}
@@ -13,11 +13,3 @@ Waited counted count goal before (Reached n) after =
     (goal ≤ n) × Learns counted count before n × (after ≡ read_to count n before)
 Waited counted count goal before Worn after =
     (n : ℕ) × (n < goal) × Learns counted count before n × (after ≡ marked (read_to count n before))
-
--- The result of a bounded wait is that of an unbounded one, or `None`. If it is `None`, the count
--- that was read last is below the goal, and at least what the seat knew of it.
-abbrev pub WaitedWithin : {O C R : Type 0} → (O → ℕ × ℕ) → Count → ℕ → Holding O C R → Option Awaited → Holding O C R →
-    Type 0
-WaitedWithin counted count goal before (Some a) after = Waited counted count goal before a after
-WaitedWithin counted count goal before None after =
-    (n : ℕ) × (n < goal) × Learns counted count before n × (after ≡ read_to count n before)

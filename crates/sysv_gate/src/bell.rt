@@ -3,19 +3,6 @@ use std::array;
 use std::sync::Wait;
 use std::sync::atomic::AtomicU64;
 use std::sync::atomic::Ordering::SeqCst;
-use std::time::Duration;
-
-/// The longest time, in milliseconds, that a bounded sleep lasts.
-const LONGEST_NAP: u64 = 250;
-
-/// How long a thread sleeps if no other thread wakes it.
-#[derive(Clone, Copy)]
-pub(crate) enum Sleep {
-    /// Until the bell is rung.
-    UntilRung,
-    /// At most `LONGEST_NAP` milliseconds.
-    Bounded,
-}
 
 /// A bell that threads sleep on until it is rung. A thread that is about to sleep enters, looks
 /// once more for what it waits for, and only then sleeps. A thread that brings this about rings
@@ -52,15 +39,8 @@ impl Bell {
     }
 
     /// Sleeps if the bell was rung `rung` times and not since.
-    pub(crate) fn sleep(&self, rt: &impl Wait, rung: u64, sleep: Sleep) {
-        let expected = (rung & LOW_BITS) as u32;
-        match sleep {
-            Sleep::UntilRung => self.rung.park(rt, expected),
-            Sleep::Bounded => {
-                self.rung
-                    .park_timeout(rt, expected, Duration::from_millis(LONGEST_NAP));
-            }
-        }
+    pub(crate) fn sleep(&self, rt: &impl Wait, rung: u64) {
+        self.rung.park(rt, (rung & LOW_BITS) as u32);
     }
 
     /// Leaves again after an `enter`.
@@ -80,7 +60,7 @@ impl Bell {
     }
 
     /// Wakes one thread that sleeps. Threads that have entered and do not sleep yet look once more.
-    pub(crate) fn ring_for_one(&self) {
+    fn ring_for_one(&self) {
         if self.has_sleepers() {
             self.rung.fetch_add(1, SeqCst);
             self.rung.wake_one();
@@ -119,7 +99,7 @@ impl Entrance {
 
     /// Sleeps if the bell was rung `rung` times and not since.
     pub(crate) fn sleep(&self, rt: &impl Wait, rung: u64) {
-        self.bell.sleep(rt, rung, Sleep::UntilRung);
+        self.bell.sleep(rt, rung);
     }
 
     /// Leaves again after an `enter`. The thread looks afterwards, so the next ring wakes one again.

@@ -101,10 +101,4 @@ impl<O: Object> Door<O> {
         self.turns.ring_all();
         self.ring();
     }
-
-    /// Wakes the next thread that sleeps in a bounded wait for the first count, like
-    /// `Gate::pass_on`.
-    pub fn pass_on(&self) {
-        self.next_arrived.ring_for_one();
-    }
 }

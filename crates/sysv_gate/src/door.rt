@@ -32,11 +32,8 @@ pub struct Door<O: Object> {
     pub(crate) entrance: Entrance,
     /// The bells of the threads that wait for their turn with a ticket.
     pub(crate) turns: TurnBells,
-    /// The bell of the threads that wait for the first count without a time limit.
+    /// The bell of the threads that wait for the first count.
     pub(crate) arrived: Bell,
-    /// The bell of the threads whose waits for the first count are bounded. A rise wakes one of
-    /// them.
-    pub(crate) next_arrived: Bell,
     /// The bell of the threads that wait for the second count.
     pub(crate) freed: Bell,
 }
@@ -74,7 +71,6 @@ impl<O: Object> Door<O> {
             entrance: Entrance::new(),
             turns: TurnBells::new(),
             arrived: Bell::new(),
-            next_arrived: Bell::new(),
             freed: Bell::new(),
         }
     }

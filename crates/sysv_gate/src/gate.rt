@@ -171,13 +171,6 @@ impl<O: Object> Gate<O> {
         self.door.wake(rt);
     }
 
-    /// Wakes the next thread that sleeps in `arrived_within`, if there is one. A rise of the first
-    /// count wakes only one of these threads. A thread that was woken there and does not use what
-    /// arrived should call `pass_on`, or the others do not see the rise until their second is over.
-    pub fn pass_on(&self) {
-        self.door.pass_on();
-    }
-
     /// Returns a new seat, which may move to another thread. It has a number of its own, has seen
     /// what `seat` has seen, and has made none of the turns in that history. Afterwards neither of
     /// the two seats is alone.

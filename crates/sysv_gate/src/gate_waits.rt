@@ -1,7 +1,7 @@
 //! Reading the counts of a gate's object, and waiting for them.
 ghost use Rattle.std.specs.Prelude.{◌≡◌};
 ghost use Rattle.sysv_gate.specs.Gates.{read_to, Learns};
-ghost use Rattle.sysv_gate.specs.Waits.{Waited, WaitedWithin};
+ghost use Rattle.sysv_gate.specs.Waits.{Waited};
 ghost use Rattle.sysv_gate.specs.declared.count.Count.TheVariants.{Arrived, Freed};
 
 use crate::awaited::Awaited;
@@ -73,37 +73,6 @@ impl<O: Object> Gate<O> {
         self.await_count(rt, seat, Count::Freed, goal)
     }
 
-    /// Waits for the first count like `await_arrived`, but sleeps only once, and for a quarter of a
-    /// second at most. Returns `None` only if the count that was read last is below `goal`.
-    ///
-    /// A rise wakes only one of the threads that sleep in this wait. A thread that was woken here
-    /// and does not use what arrived should call `pass_on`.
-    ///
-    /// # Conditions
-    ///
-    /// - `seat` is a seat of this gate.
-    pub fn arrived_within(&self, rt: &impl Wait, seat: &mut Seat<O>, goal: u64) -> Option<Awaited>
-        requires { seat.old.gate ≡ self.now }
-        ensures gate { seat.new.gate ≡ self.now }
-        ensures waited { WaitedWithin O.counted Arrived goal seat.old result seat.new }
-    {
-        self.await_within(rt, seat, Count::Arrived, goal)
-    }
-
-    /// Waits for the second count, like `arrived_within` for the first count, but a rise wakes all
-    /// threads that sleep in this wait.
-    ///
-    /// # Conditions
-    ///
-    /// - `seat` is a seat of this gate.
-    pub fn freed_within(&self, rt: &impl Wait, seat: &mut Seat<O>, goal: u64) -> Option<Awaited>
-        requires { seat.old.gate ≡ self.now }
-        ensures gate { seat.new.gate ≡ self.now }
-        ensures waited { WaitedWithin O.counted Freed goal seat.old result seat.new }
-    {
-        self.await_within(rt, seat, Count::Freed, goal)
-    }
-
     /// Reads the count.
     fn count(&self, seat: &mut Seat<O>, count: Count) -> u64
         requires { seat.old.gate ≡ self.now }
@@ -122,22 +91,5 @@ impl<O: Object> Gate<O> {
     {
         self.door
             .await_count(rt, &self.hall, &mut seat.token, count, goal)
-    }
-
-    /// Waits until the count is at least the goal, but sleeps only once, and for a quarter of a
-    /// second at most.
-    fn await_within(
-        &self,
-        rt: &impl Wait,
-        seat: &mut Seat<O>,
-        count: Count,
-        goal: u64,
-    ) -> Option<Awaited>
-        requires { seat.old.gate ≡ self.now }
-        ensures gate { seat.new.gate ≡ self.now }
-        ensures waited { WaitedWithin O.counted count goal seat.old result seat.new }
-    {
-        self.door
-            .await_within(rt, &self.hall, &mut seat.token, count, goal)
     }
 }

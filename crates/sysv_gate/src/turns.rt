@@ -10,7 +10,6 @@ ghost use Rattle.sysv_gate.specs.Halls.{me_at, ReadsInOrder};
 ghost use Rattle.sysv_gate.specs.Doors.{IsDoorIn, IsPassAt, IsSame, EndsOrder};
 ghost use Rattle.sysv_lists.specs.Numbers.{times};
 
-use crate::bell::Sleep;
 use crate::count::Count;
 use crate::door::Door;
 use crate::hall::{Ending, Hall, HallToken, Spot};
@@ -181,7 +180,7 @@ impl<O: Object> Door<O> {
         let rung = bell.enter();
         let served = self.look(hall, token);
         if served != ticket {
-            bell.sleep(rt, rung, Sleep::UntilRung);
+            bell.sleep(rt, rung);
         }
         bell.leave();
         self.sleepers.fetch_sub(1, SeqCst);
@@ -256,8 +255,7 @@ impl<O: Object> Door<O> {
     }
 
     /// Wakes the thread with the next ticket or, if none sleeps with a ticket, one that sleeps
-    /// without. Wakes also the threads that wait for a count that rose: one of those whose waits for
-    /// the first count are bounded, and all others.
+    /// without. Wakes also all threads that wait for a count that rose.
     #[inline(never)]
     fn wake_sleepers(&self, ticket: u64, rose: Rose)
         requires { ticket < 2 ^ 62 }
@@ -267,7 +265,6 @@ impl<O: Object> Door<O> {
         }
         if rose.arrived {
             let _ = self.arrived.ring();
-            self.next_arrived.ring_for_one();
         }
         if rose.freed {
             let _ = self.freed.ring();
@@ -287,7 +284,6 @@ impl<O: Object> Door<O> {
     pub(crate) fn ring(&self) {
         self.entrance.ring();
         let _ = self.arrived.ring();
-        let _ = self.next_arrived.ring();
         let _ = self.freed.ring();
     }
 }

@@ -1,11 +1,11 @@
 //! Waiting for the counts of the object at a place.
 ghost use Rattle.std.specs.Prelude.{◌≡◌, IfSome, IfNone, IsTrue, true, false, []};
-ghost use Rattle.sysv_gate.specs.Turns.{Waits, HasWorn, HasRead, HasReadBelow, ReadMore, HasWaited, HasWaitedWithin};
+ghost use Rattle.sysv_gate.specs.Turns.{Waits, HasWorn, HasRead, HasReadBelow, ReadMore, HasWaited};
 ghost use Rattle.sysv_gate.specs.Halls.{me_at};
 ghost use Rattle.sysv_gate.specs.Doors.{IsDoorIn, IsPassAt, IsSame};
 
 use crate::awaited::Awaited;
-use crate::bell::{Bell, Sleep};
+use crate::bell::Bell;
 use crate::count::Count;
 use crate::door::Door;
 use crate::hall::{Hall, HallToken};
@@ -82,12 +82,11 @@ impl<O: Object> Door<O> {
         None
     }
 
-    /// Returns the bell of this kind of sleep for this count.
-    fn bell(&self, count: Count, sleep: Sleep) -> &Bell {
-        match (count, sleep) {
-            (Count::Arrived, Sleep::UntilRung) => &self.arrived,
-            (Count::Arrived, Sleep::Bounded) => &self.next_arrived,
-            (Count::Freed, _) => &self.freed,
+    /// Returns the bell of the threads that wait for this count.
+    fn bell(&self, count: Count) -> &Bell {
+        match count {
+            Count::Arrived => &self.arrived,
+            Count::Freed => &self.freed,
         }
     }
 
@@ -99,7 +98,6 @@ impl<O: Object> Door<O> {
         token: &mut HallToken<O>,
         count: Count,
         goal: u64,
-        sleep: Sleep,
     ) -> Option<Awaited>
         requires door { IsDoorIn hall.now.shared self.now }
         requires at { IsPassAt hall.now.shared self.now token.old }
@@ -111,12 +109,12 @@ impl<O: Object> Door<O> {
             (ReadMore count (me_at self.now.place token.old.me)
             (me_at self.now.place token.new.me)) }
     {
-        let bell = self.bell(count, sleep);
+        let bell = self.bell(count);
         self.sleepers.fetch_add(1, SeqCst);
         let rung = bell.enter();
         let found = self.judge(hall, token, count, goal);
         if found.is_none() {
-            bell.sleep(rt, rung, sleep);
+            bell.sleep(rt, rung);
         }
         bell.leave();
         self.sleepers.fetch_sub(1, SeqCst);
@@ -148,41 +146,10 @@ impl<O: Object> Door<O> {
             if value >= goal {
                 return Awaited::Reached(value);
             }
-            if let Some(awaited) = self.doze(rt, hall, token, count, goal, Sleep::UntilRung) {
+            if let Some(awaited) = self.doze(rt, hall, token, count, goal) {
                 return awaited;
             }
         }
         unreachable!()
-    }
-
-    /// Waits until the count is at least `goal`, but sleeps only once, and for a quarter of a second
-    /// at most. Returns `None` only if the count that was read last is below `goal`.
-    ///
-    /// # Conditions
-    ///
-    /// - The door belongs to the table, and so does the pass, which is at rest at the place.
-    pub fn await_within(
-        &self,
-        rt: &impl Wait,
-        hall: &Hall<O>,
-        token: &mut HallToken<O>,
-        count: Count,
-        goal: u64,
-    ) -> Option<Awaited>
-        requires door { IsDoorIn hall.now.shared self.now }
-        requires at { IsPassAt hall.now.shared self.now token.old }
-        requires idle { Waits [] (me_at self.now.place token.old.me) }
-        ensures same { IsSame self.now.place token.old token.new }
-        ensures waited { HasWaitedWithin O.counted self.now.opening count goal
-            (me_at self.now.place token.old.me) result (me_at self.now.place token.new.me) }
-    {
-        let value = self.count_to(hall, token, count, goal);
-        if value >= goal {
-            return Some(Awaited::Reached(value));
-        }
-        match self.doze(rt, hall, token, count, goal, Sleep::Bounded) {
-            Some(awaited) => Some(awaited),
-            None => self.judge(hall, token, count, goal),
-        }
     }
 }

@@ -7,39 +7,33 @@ use Rattle.sysv_session.specs.Session.{Serves}
 use Rattle.sysv_service.specs.Ran.{Pass}
 use Rattle.sysv_seats.specs.Asked.{asks_with}
 
-module _ {K S C L : Type 0} (service : K → S) (clock : K → C) (pass : K → Pass) (caller : K → L) (may : C → ℕ → Type 0)
-    (may_leave : L → Type 0) where
-  -- The service, the clock and the caller are unchanged, and the pass changes as the calls of the
-  -- service mean.
+module _ {K S C : Type 0} (service : K → S) (clock : K → C) (pass : K → Pass) (may : C → ℕ → Type 0)
+    (may_leave : Type 0) where
+  -- The service and the clock are unchanged, and the pass changes as the calls of the service mean.
   abbrev pub ByPass : Meaning K
-  ByPass old cred request text outcome given new =
-      ((service new ≡ service old) × (clock new ≡ clock old) × (caller new ≡ caller old))
-      × asks_with (may (clock old)) (may_leave (caller old)) (pass old) cred request text outcome given (pass new)
+  ByPass old cred request text outcome given new = ((service new ≡ service old) × (clock new ≡ clock old))
+      × asks_with (may (clock old)) may_leave (pass old) cred request text outcome given (pass new)
 
   leads : (cred : Cred) (old : K) (calls : List Call) (new : K) → Leads ByPass cred old calls new →
-      (service new ≡ service old) × (clock new ≡ clock old) × (caller new ≡ caller old)
-      × Leads (asks_with (may (clock old)) (may_leave (caller old))) cred (pass old) calls (pass new)
-  leads cred old [] new h = (ap service h, ap clock h, ap caller h, ap pass h)
+      (service new ≡ service old) × (clock new ≡ clock old)
+      × Leads (asks_with (may (clock old)) may_leave) cred (pass old) calls (pass new)
+  leads cred old [] new h = (ap service h, ap clock h, ap pass h)
   leads cred old (call ∷ calls) new h =
       let rest = leads cred h.0 calls new h.2 in
       let same = h.1.0 in
-      let at_clock : Leads (asks_with (may (clock old)) (may_leave (caller h.0))) cred (pass h.0) calls (pass new) =
-      subst (λ c. Leads (asks_with (may c) (may_leave (caller h.0))) cred (pass h.0) calls (pass new)) same.1 rest.3 in
-      let onward : Leads (asks_with (may (clock old)) (may_leave (caller old))) cred (pass h.0) calls (pass new) =
-      subst (λ k. Leads (asks_with (may (clock old)) (may_leave k)) cred (pass h.0) calls (pass new)) same.2 at_clock in
-      (rest.0 ∙ same.0, rest.1 ∙ same.1, rest.2 ∙ same.2, (pass h.0, h.1.1, onward))
+      let onward : Leads (asks_with (may (clock old)) may_leave) cred (pass h.0) calls (pass new) =
+      subst (λ c. Leads (asks_with (may c) may_leave) cred (pass h.0) calls (pass new)) same.1 rest.2 in
+      (rest.0 ∙ same.0, rest.1 ∙ same.1, (pass h.0, h.1.1, onward))
 
   pub serves : (slots : ℕ) (served : Served) (old new : K) (left rest taken more : Option (List ℕ)) →
       Serves ByPass slots served old new left rest taken more →
-      (service new ≡ service old) × (clock new ≡ clock old) × (caller new ≡ caller old)
-      × Serves (asks_with (may (clock old)) (may_leave (caller old))) slots served (pass old) (pass new) left rest taken
-      more
+      (service new ≡ service old) × (clock new ≡ clock old)
+      × Serves (asks_with (may (clock old)) may_leave) slots served (pass old) (pass new) left rest taken more
   serves slots served old new left rest taken more h =
       elim h [
         | inl stays ↦ (
           ap service stays.kernel,
           ap clock stays.kernel,
-          ap caller stays.kernel,
           inl (record {
             kernel = ap pass stays.kernel;
             ends = stays.ends;
@@ -52,14 +46,13 @@ module _ {K S C L : Type 0} (service : K → S) (clock : K → C) (pass : K → 
             let led = leads talks.cred old talks.calls new talks.leads in (
               led.0,
               led.1,
-              led.2,
               inr (record {
                 version = talks.version;
                 cred = talks.cred;
                 known = talks.known;
                 calls = talks.calls;
                 are_calls = talks.are_calls;
-                leads = led.3;
+                leads = led.2;
                 unread = talks.unread;
                 reads = talks.reads;
                 ends = talks.ends;

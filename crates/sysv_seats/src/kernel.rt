@@ -14,27 +14,27 @@ use std::io::{Read, Write};
 use std::sync::Wait;
 use sysv_keys::SLOTS;
 use sysv_model::{Body, Cred, Flags, Row, SetTo, Stat, Watched};
-use sysv_service::{Caller, Clock, Pass, Service, Stays};
+use sysv_service::{Clock, Pass, Service};
 use sysv_session::{End, Kernel, RequestOutcome, Served, Texts, serve, serve_watched};
 use sysv_wire::{Ask, MAX_MODE, Op, Reply, ReplyContent, Request, Version};
 
 /// The kernel of one session over a service. Each request, except one for a row, is one call of the
 /// service.
 ///
-/// It has a pass of its own, a clock for the times of its calls, the handle to wait, and a caller
-/// that is checked while a call waits: if the caller has left, the call is left. A kernel can be
-/// neither dropped nor copied; end it with `into_pass`.
-pub struct ServiceKernel<'a, C: Clock, R: Wait, K: Caller + Copy = Stays> {
+/// It has a pass of its own, a clock for the times of its calls, and the handle to wait. A kernel can
+/// be neither dropped nor copied; end it with `into_pass`.
+pub struct ServiceKernel<'a, C: Clock, R: Wait> {
     pub(crate) rt: &'a R,
     pub(crate) service: &'a Service,
     pub(crate) clock: &'a C,
     pub(crate) pass: Pass,
-    caller: K,
     ghost fits: { AreOf service.now pass.seats },
 }
 
-impl<'a, C: Clock, R: Wait> ServiceKernel<'a, C, R, Stays> {
-    /// Creates a kernel that calls `service` with `pass`, for a caller that stays.
+impl<'a, C: Clock, R: Wait> ServiceKernel<'a, C, R> {
+    ghost use Rattle.sysv_seats.specs.KernelHandles.{KeepsHandles};
+
+    /// Creates a kernel that calls `service` with `pass`.
     ///
     /// # Conditions
     ///
@@ -45,51 +45,12 @@ impl<'a, C: Clock, R: Wait> ServiceKernel<'a, C, R, Stays> {
         ensures clock { result.clock.now ≡ clock.now }
         ensures pass { result.pass ≡ pass }
     {
-        ServiceKernel::for_caller(rt, service, clock, pass, Stays)
-    }
-}
-
-impl<'a, C: Clock, R: Wait, K: Caller + Copy> ServiceKernel<'a, C, R, K> {
-    ghost use Rattle.sysv_seats.specs.KernelHandles.{KeepsHandles};
-
-    /// Creates a kernel that calls `service` with `pass`, for a caller that may leave.
-    ///
-    /// A call that the caller leaves while it waits takes no message and sends none. It has no
-    /// reply, and the session ends.
-    ///
-    /// # Conditions
-    ///
-    /// - `pass` is a pass of `service`.
-    pub fn for_caller(
-        rt: &'a R,
-        service: &'a Service,
-        clock: &'a C,
-        pass: Pass,
-        caller: K,
-    ) -> ServiceKernel<'a, C, R, K>
-        requires { AreOf service.now pass.seats }
-        ensures service { result.service.now ≡ service.now }
-        ensures clock { result.clock.now ≡ clock.now }
-        ensures pass { result.pass ≡ pass }
-        ensures caller { result.caller ≡ caller }
-    {
         ServiceKernel {
             rt,
             service,
             clock,
             pass,
-            caller,
         }
-    }
-
-    /// Sets the caller of later calls.
-    pub fn set_caller(&mut self, caller: K)
-        ensures service { self.new.service ≡ self.old.service }
-        ensures clock { self.new.clock ≡ self.old.clock }
-        ensures pass { self.new.pass ≡ self.old.pass }
-        ensures caller { self.new.caller ≡ caller }
-    {
-        self.caller = caller;
     }
 
     /// Runs one session with this kernel, like `sysv_session::serve`.
@@ -101,9 +62,8 @@ impl<'a, C: Clock, R: Wait, K: Caller + Copy> ServiceKernel<'a, C, R, K> {
         reader: &mut I,
         writer: &mut O,
     ) -> Served
-        ensures serves { ServesPass (C.may self.old.clock.now)
-            (K.may_leave self.old.caller) result self.old.pass self.new.pass
-            (I.remaining reader.old) (I.remaining reader.new)
+        ensures serves { ServesPass (C.may self.old.clock.now) ⊥ result self.old.pass
+            self.new.pass (I.remaining reader.old) (I.remaining reader.new)
             (O.contents writer.old) (O.contents writer.new) }
         // The session ends as its input determines, unless it is cut short.
         ensures only { (input : List ℕ) (course : Course) → I.remaining reader.old ≡ Some input →
@@ -126,9 +86,8 @@ impl<'a, C: Clock, R: Wait, K: Caller + Copy> ServiceKernel<'a, C, R, K> {
         reader: &mut Watched<'_, I>,
         writer: &mut Watched<'_, O>,
     ) -> Served
-        ensures serves { ServesPass (C.may self.old.clock.now)
-            (K.may_leave self.old.caller) result self.old.pass self.new.pass
-            (I.remaining (stream_of reader.old)) (I.remaining (stream_of reader.new))
+        ensures serves { ServesPass (C.may self.old.clock.now) ⊥ result self.old.pass
+            self.new.pass (I.remaining (stream_of reader.old)) (I.remaining (stream_of reader.new))
             (O.contents (stream_of writer.old)) (O.contents (stream_of writer.new)) }
         // The session ends as its input determines, unless it is cut short.
         ensures only { (input : List ℕ) (course : Course) →
@@ -152,7 +111,6 @@ impl<'a, C: Clock, R: Wait, K: Caller + Copy> ServiceKernel<'a, C, R, K> {
             rt: _,
             service: _,
             clock: _,
-            caller: _,
             pass,
         } = self;
         pass
@@ -174,8 +132,7 @@ impl<'a, C: Clock, R: Wait, K: Caller + Copy> ServiceKernel<'a, C, R, K> {
         }
     }
 
-    /// Makes a `msgsnd` of the body, and returns the reply with its result, or `Left` if the caller
-    /// left it.
+    /// Makes a `msgsnd` of the body, and returns the reply with its result.
     fn send(
         &mut self,
         version: Version,
@@ -185,27 +142,22 @@ impl<'a, C: Clock, R: Wait, K: Caller + Copy> ServiceKernel<'a, C, R, K> {
         flags: Flags,
         text: &Body,
     ) -> RequestOutcome
-        ensures sends { Sends (C.may self.old.clock.now)
-            (K.may_leave self.old.caller) version cred id mtype flags text.now self.old.pass result
-            self.new.pass }
+        ensures sends { Sends (C.may self.old.clock.now) ⊥ version cred id mtype flags text.now
+            self.old.pass result self.new.pass }
         ensures answer { MayAnswer version (Ask.Snd id mtype flags) result [] }
         ensures handles { KeepsHandles self.old self.new }
     {
-        let (pass, caller) = (&mut self.pass, &self.caller);
-        let told = self.service.msgsnd_for(
-            self.rt, pass, self.clock, caller, cred, id, mtype, text, flags,
-        );
-        let Some(told) = told else {
-            return RequestOutcome::Left;
-        };
+        let pass = &mut self.pass;
+        let told = self
+            .service
+            .msgsnd(self.rt, pass, self.clock, cred, id, mtype, text, flags);
         match told {
             Ok(()) => reply(version, Op::Snd, ReplyContent::Snd),
             Err(why) => reply(version, Op::Snd, ReplyContent::Refused(why)),
         }
     }
 
-    /// Makes a `msgrcv` into `given`, and returns its message or the reply with its error, or
-    /// `Left` if the caller left it.
+    /// Makes a `msgrcv` into `given`, and returns its message or the reply with its error.
     fn receive(
         &mut self,
         version: Version,
@@ -216,19 +168,15 @@ impl<'a, C: Clock, R: Wait, K: Caller + Copy> ServiceKernel<'a, C, R, K> {
         flags: Flags,
         given: &mut Body,
     ) -> RequestOutcome
-        ensures receives { Receives (C.may self.old.clock.now)
-            (K.may_leave self.old.caller) version cred id size mtype flags self.old.pass result
-            given.new self.new.pass }
+        ensures receives { Receives (C.may self.old.clock.now) ⊥ version cred id size mtype flags
+            self.old.pass result given.new self.new.pass }
         ensures answer { MayAnswer version (Ask.Rcv id size mtype flags) result given.new }
         ensures handles { KeepsHandles self.old self.new }
     {
-        let (pass, caller) = (&mut self.pass, &self.caller);
-        let told = self.service.msgrcv_for(
-            self.rt, pass, self.clock, caller, cred, id, given, size, mtype, flags,
+        let pass = &mut self.pass;
+        let told = self.service.msgrcv(
+            self.rt, pass, self.clock, cred, id, given, size, mtype, flags,
         );
-        let Some(told) = told else {
-            return RequestOutcome::Left;
-        };
         match told {
             Ok(delivery) => RequestOutcome::Got(delivery),
             Err(why) => reply(version, Op::Rcv, ReplyContent::Refused(why)),
@@ -292,14 +240,14 @@ impl<'a, C: Clock, R: Wait, K: Caller + Copy> ServiceKernel<'a, C, R, K> {
     }
 }
 
-impl<C: Clock, R: Wait, K: Caller + Copy> Kernel for ServiceKernel<'_, C, R, K> {
+impl<C: Clock, R: Wait> Kernel for ServiceKernel<'_, C, R> {
     ghost use Rattle.sysv_keys.specs.declared.identifier.TheConstants.{SLOTS};
     ghost use Rattle.sysv_seats.specs.Asked.{Asks};
     ghost use Rattle.sysv_seats.specs.KernelHandles.{KeepsHandles};
 
     ghost meaning = { λ old cred request text outcome given new. KeepsHandles old new
-        × Asks (C.may old.clock.now) (K.may_leave old.caller) request.version cred request.ask text
-        old.pass outcome given new.pass };
+        × Asks (C.may old.clock.now) ⊥ request.version cred request.ask text old.pass outcome given
+        new.pass };
 
     ghost slots = { λ _. SLOTS };
 

@@ -11,19 +11,18 @@ use crate::waiting::Waiting;
 use std::sync::Wait;
 use sysv_model::{Body, Cred, Errno, Flags};
 use sysv_queue::Delivery;
-use sysv_service::{Caller, Clock, Progress, ReceiveWait, SendWait};
+use sysv_service::{Clock, Progress, ReceiveWait, SendWait};
 use sysv_session::{Kernel, RequestOutcome};
 use sysv_wire::{Ask, Op, ReplyContent, Request, Version};
 
-impl<'a, C: Clock, R: Wait, K: Caller + Copy> ServiceKernel<'a, C, R, K> {
+impl<'a, C: Clock, R: Wait> ServiceKernel<'a, C, R> {
     ghost use Rattle.sysv_seats.specs.KernelHandles.{KeepsHandles};
 
     /// Begins a request. A send and a receive make their steps until they wait or are over, and
     /// never sleep until a count changes. Any other request is carried out as by `call`.
     ///
     /// `cred`, `text` and `given` are those of `call`. If the request waits, `given` is empty, and
-    /// `go_on` continues it with the same `request` and `text`. To give it up, drop the wait. The
-    /// kernel's caller is not asked whether it has left.
+    /// `go_on` continues it with the same `request` and `text`. To give it up, drop the wait.
     ///
     /// # Conditions
     ///

@@ -1,6 +1,6 @@
 -- What a read of a count, or a wait for it, at a place of the bank shows of the object that has the
 -- count.
-use Rattle.std.proofs.Common.{◌≡◌, ℕ, ◌+◌, ◌<◌, ◌≤◌, List, Option, Some, None, ap, subst}
+use Rattle.std.proofs.Common.{◌≡◌, ℕ, ◌+◌, ◌<◌, ◌≤◌, List, ap, subst}
 use mathlib.Core.Option.{some}
 use lib.ListN.{get_elem?}
 use Rattle.sysv_model.specs.Members.{SeesMore}
@@ -15,7 +15,7 @@ use Rattle.sysv_gate.specs.declared.awaited.Awaited.{Awaited}
 use Rattle.sysv_gate.specs.declared.awaited.Awaited.TheVariants.{Reached, Worn}
 use Rattle.sysv_gate.specs.History.{Moves}
 use Rattle.sysv_gate.specs.Gates.{Holding, Learns, read_to, marked}
-use Rattle.sysv_gate.specs.Waits.{Waited, WaitedWithin}
+use Rattle.sysv_gate.specs.Waits.{Waited}
 use Rattle.sysv_bank.specs.Banks.{gates_of, ChangesAt, EachKnowsItsOwn}
 use Rattle.sysv_service.specs.declared.kinds.Gated.{Gated}
 use Rattle.sysv_objects.specs.declared.object.ObjectCall.{ObjectCall}
@@ -38,7 +38,7 @@ use Rattle.sysv_service.specs.ObjectKinds.{Kind, seat_as}
 use Rattle.sysv_service.specs.declared.shared_count.SharedCount.{SharedCount}
 use Rattle.sysv_service.specs.declared.shared_count.SharedCount.TheVariants as shared
 use Rattle.sysv_service.specs.SharedCounts.{count_of, place_with, count_there}
-use Rattle.sysv_service.specs.Reading.{Finds, FindsAndGivesUp, Reads, Awaits, AwaitsWithin}
+use Rattle.sysv_service.specs.Reading.{Finds, FindsAndGivesUp, Reads, Awaits}
 use Rattle.sysv_service.specs.Order.{GatedPass}
 use Rattle.sysv_service.specs.Banked.{AreByKind, seats_seen}
 use Rattle.sysv_service.proofs.GateOfKind.{learns_as}
@@ -87,16 +87,6 @@ module _ {O' C' R' : Type 0} (kind : Kind Gated ObjectCall ObjectReply O' C' R')
         (record { was = c.was; is = c.is; at = c.at; others = c.others; change = (c.change.2, c.change.3) }),
   )
 
-  came_back : (count : Count) (goal : ℕ) →
-      ChangesAt place before after (λ b a. WaitedWithin gated_counts count goal b None a) →
-      (n : ℕ) × (n < goal) × T (Finds counted' count n)
-  came_back count goal c = (
-    c.change.0,
-    c.change.1,
-    finds count c.change.0
-        (record { was = c.was; is = c.is; at = c.at; others = c.others; change = (c.change.3, c.change.2) }),
-  )
-
 -- ---- at each object
 
 module _ (before after : GatedPass) (kinds : AreByKind (gates_of before.seats))
@@ -141,20 +131,6 @@ module _ (before after : GatedPass) (kinds : AreByKind (gates_of before.seats))
     awaits_freed goal Worn c = gave_up as_slot IsSlot slot_counts (slot + 2) before.seats after.seats SlotChanges
         slot_seen slot_learn Freed goal c
 
-    arrived_within : (goal : ℕ) (awaited : Option Awaited) →
-        ChangesAt (slot + 2) before.seats after.seats (λ b a. WaitedWithin gated_counts Arrived goal b awaited a) →
-        AwaitsWithin (ArrivedOf slot) goal (seats_seen before) awaited (seats_seen after)
-    arrived_within goal (Some a) c = awaits_arrived goal a c
-    arrived_within goal None c = came_back as_slot IsSlot slot_counts (slot + 2) before.seats after.seats SlotChanges
-        slot_seen slot_learn Arrived goal c
-
-    freed_within : (goal : ℕ) (awaited : Option Awaited) →
-        ChangesAt (slot + 2) before.seats after.seats (λ b a. WaitedWithin gated_counts Freed goal b awaited a) →
-        AwaitsWithin (FreedOf slot) goal (seats_seen before) awaited (seats_seen after)
-    freed_within goal (Some a) c = awaits_freed goal a c
-    freed_within goal None c = came_back as_slot IsSlot slot_counts (slot + 2) before.seats after.seats SlotChanges
-        slot_seen slot_learn Freed goal c
-
   abbrev RegistryChanges : (Holding Registry RegistryCall RegistryReply → Holding Registry RegistryCall RegistryReply →
       Type 0) → Type 0
   RegistryChanges how = how (seats_seen before).registry (seats_seen after).registry
@@ -185,13 +161,6 @@ module _ (before after : GatedPass) (kinds : AreByKind (gates_of before.seats))
   awaits_settled goal Worn c = gave_up as_registry IsRegistry registry_counts 0 before.seats after.seats RegistryChanges
       registry_seen registry_learn Arrived goal c
 
-  settled_within : (goal : ℕ) (awaited : Option Awaited) →
-      ChangesAt 0 before.seats after.seats (λ b a. WaitedWithin gated_counts Arrived goal b awaited a) →
-      AwaitsWithin Settled goal (seats_seen before) awaited (seats_seen after)
-  settled_within goal (Some a) c = awaits_settled goal a c
-  settled_within goal None c = came_back as_registry IsRegistry registry_counts 0 before.seats after.seats
-      RegistryChanges registry_seen registry_learn Arrived goal c
-
   abbrev PoolChanges : (Holding State PoolCall PoolReply → Holding State PoolCall PoolReply → Type 0) → Type 0
   PoolChanges how =
       how (seats_seen before).pool (seats_seen after).pool × ((seats_seen after).slots ≡ (seats_seen before).slots)
@@ -221,20 +190,13 @@ module _ (before after : GatedPass) (kinds : AreByKind (gates_of before.seats))
   awaits_released goal Worn c =
       gave_up as_pool IsPool pool_counts 1 before.seats after.seats PoolChanges pool_seen pool_learn Arrived goal c
 
-  released_within : (goal : ℕ) (awaited : Option Awaited) →
-      ChangesAt 1 before.seats after.seats (λ b a. WaitedWithin gated_counts Arrived goal b awaited a) →
-      AwaitsWithin Released goal (seats_seen before) awaited (seats_seen after)
-  released_within goal (Some a) c = awaits_released goal a c
-  released_within goal None c =
-      came_back as_pool IsPool pool_counts 1 before.seats after.seats PoolChanges pool_seen pool_learn Arrived goal c
-
   -- ---- at the object that has the count
 
   abbrev ReadThere : Count → ℕ → Mark → Mark → Type 0
   ReadThere there n b a = (a ≡ read_to there n b) × Learns gated_counts there b n
 
-  abbrev WaitedThere : Count → ℕ → Option Awaited → Mark → Mark → Type 0
-  WaitedThere there goal awaited b a = WaitedWithin gated_counts there goal b awaited a
+  abbrev WaitedThere : Count → ℕ → Awaited → Mark → Mark → Type 0
+  WaitedThere there goal awaited b a = Waited gated_counts there goal b awaited a
 
   found : (count : SharedCount) (n : ℕ)
       → ChangesAt (place_with count) before.seats after.seats (ReadThere (count_there count) n)
@@ -252,13 +214,13 @@ module _ (before after : GatedPass) (kinds : AreByKind (gates_of before.seats))
       finds as_slot IsSlot slot_counts (slot + 2) before.seats after.seats (SlotChanges slot) (slot_seen slot)
       (slot_learn slot) Freed n c
 
-  ended : (count : SharedCount) (goal : ℕ) (awaited : Option Awaited)
+  ended : (count : SharedCount) (goal : ℕ) (awaited : Awaited)
       → ChangesAt (place_with count) before.seats after.seats (WaitedThere (count_there count) goal awaited)
-      → AwaitsWithin (count_of count) goal (seats_seen before) awaited (seats_seen after)
-  ended shared.Settled goal awaited c = settled_within goal awaited c
-  ended shared.Released goal awaited c = released_within goal awaited c
-  ended (shared.Arrived id) goal awaited c = arrived_within (slot_of_id id) goal awaited c
-  ended (shared.Freed id) goal awaited c = freed_within (slot_of_id id) goal awaited c
+      → Awaits (count_of count) goal (seats_seen before) awaited (seats_seen after)
+  ended shared.Settled goal awaited c = awaits_settled goal awaited c
+  ended shared.Released goal awaited c = awaits_released goal awaited c
+  ended (shared.Arrived id) goal awaited c = awaits_arrived (slot_of_id id) goal awaited c
+  ended (shared.Freed id) goal awaited c = awaits_freed (slot_of_id id) goal awaited c
 
   module _ (count : SharedCount) (place : ℕ) (there : Count) (at : place ≡ place_with count)
       (which : there ≡ count_there count) where
@@ -268,10 +230,10 @@ module _ (before after : GatedPass) (kinds : AreByKind (gates_of before.seats))
         let one = subst (λ k. ChangesAt place before.seats after.seats (ReadThere k n)) which c in
         found count n (subst (λ p. ChangesAt p before.seats after.seats (ReadThere (count_there count) n)) at one)
 
-    pub awaits_within : (goal : ℕ) (awaited : Option Awaited) →
+    pub awaits : (goal : ℕ) (awaited : Awaited) →
         ChangesAt place before.seats after.seats (WaitedThere there goal awaited) →
-        AwaitsWithin (count_of count) goal (seats_seen before) awaited (seats_seen after)
-    awaits_within goal awaited c =
+        Awaits (count_of count) goal (seats_seen before) awaited (seats_seen after)
+    awaits goal awaited c =
         let one = subst (λ k. ChangesAt place before.seats after.seats (WaitedThere k goal awaited)) which c in
         ended count goal awaited
         (subst (λ p. ChangesAt p before.seats after.seats (WaitedThere (count_there count) goal awaited)) at one)

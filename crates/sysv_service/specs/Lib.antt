@@ -26,7 +26,6 @@ pub mod Sharing
 pub mod Ordered
 pub mod Ran
 pub mod Waited
-pub mod Left
 pub mod Told
 pub mod Stopped
 pub mod Closing

@@ -1,6 +1,6 @@
 -- What a seat learns from a read of a count, or from a wait for it, after Reed and Kanodia's read
 -- and await of an eventcount. This project's profile.
-use Rattle.std.specs.Prelude.{◌≡◌, ℕ, ◌<◌, ◌≤◌, Option, Some, None}
+use Rattle.std.specs.Prelude.{◌≡◌, ℕ, ◌<◌, ◌≤◌}
 use Rattle.sysv_model.specs.Members.{SeesMore}
 use Rattle.sysv_steps.specs.Resume.{Count, ArrivedOf, FreedOf, Settled, Released}
 use Rattle.sysv_gate.specs.Gates.{Holding, marked, read_to, Learns}
@@ -60,9 +60,3 @@ GivesUp Released value before after =
 abbrev pub Awaits : Count → ℕ → Seats → Awaited → Seats → Type 0
 Awaits count goal before (Reached value) after = (goal ≤ value) × Reads count value before after
 Awaits count goal before Worn after = (value : ℕ) × (value < goal) × GivesUp count value before after
-
--- A bounded wait ends in the same way, or returns `None`: then the value that was read last is
--- below the goal.
-abbrev pub AwaitsWithin : Count → ℕ → Seats → Option Awaited → Seats → Type 0
-AwaitsWithin count goal before (Some a) after = Awaits count goal before a after
-AwaitsWithin count goal before None after = (value : ℕ) × (value < goal) × Reads count value before after

@@ -12,7 +12,6 @@
 //! ```
 #![tactic(auto)]
 
-mod caller;
 mod closing;
 mod control;
 mod counts;
@@ -40,7 +39,6 @@ mod sharing;
 mod stopping;
 mod waiting;
 
-pub use caller::{Caller, Stays};
 pub use closing::Closed;
 pub use gates::Gates;
 pub use laws::{

@@ -1,7 +1,6 @@
 //! `msgrcv`.
 
-ghost use Rattle.std.specs.Prelude.{◌≡◌, ◌≤◌, ℕ, List, [], length, IfOk, IfNone, IfSome};
-ghost use Rattle.sysv_model.specs.declared.limits.TheConstants.{MESSAGE_BYTES as most_bytes};
+ghost use Rattle.std.specs.Prelude.{◌≡◌, IfOk};
 ghost use Rattle.sysv_steps.specs.Call.{Msgrcv};
 ghost use Rattle.sysv_steps.specs.Begin.{begin as begins};
 ghost use Rattle.sysv_steps.specs.State.{Goes, Over, Ending as Ends};
@@ -10,13 +9,11 @@ ghost use Rattle.sysv_service.specs.Seats.{AreOf};
 ghost use Rattle.sysv_service.specs.Ran.{Comes};
 ghost use Rattle.sysv_steps.specs.Kinds.{Receives, IsSized};
 ghost use Rattle.sysv_service.specs.Told.{TellsGot};
-ghost use Rattle.sysv_service.specs.Left.{IsLeft};
 ghost use Rattle.sysv_service.specs.Delivered.{HasGiven, StepsGiving};
 
 use crate::AtGates;
-use crate::caller::{Caller, Stays};
 use crate::pass::Pass;
-use crate::progress::Progress;
+use crate::progress::{Progress, ReceiveWait};
 use crate::service::Service;
 use std::sync::Wait as MayWait;
 use sysv_model::{Body, Cred, Errno, Flags};
@@ -72,75 +69,20 @@ impl Service {
             HasGiven (C.may clock.now) (begins cred (Msgrcv id size mtype flags) 0) pass.old told
             pass.new) }
     {
-        match self.msgrcv_for(rt, pass, clock, &Stays, cred, id, out, size, mtype, flags) {
-            Some(told) => told,
-            None => unreachable!(),
-        }
-    }
-
-    /// Like `msgrcv`, but for a caller that may leave. Returns `None` if the caller left while the
-    /// call waited: no message is taken then, and `out` is empty.
-    ///
-    /// The call checks whether the caller has left after each sleep of at most a quarter of a second
-    /// that does not end the wait, and at the end of the wait, before its next turn.
-    ///
-    /// # Errors
-    ///
-    /// As for `msgrcv`.
-    ///
-    /// # Conditions
-    ///
-    /// - `pass` is a pass of this service.
-    #[allow(clippy::too_many_arguments)]
-    pub fn msgrcv_for<C: Clock, K: Caller>(
-        &self,
-        rt: &impl MayWait,
-        pass: &mut Pass,
-        clock: &C,
-        caller: &K,
-        cred: Cred,
-        id: i32,
-        out: &mut Body,
-        size: u32,
-        mtype: i64,
-        flags: Flags,
-    ) -> Option<Result<Delivery, Errno>>
-        requires { AreOf self.now pass.old.seats }
-        ensures pass { AreOf self.now pass.new.seats }
-        ensures ran { IfSome result (λ told. (ending : Ends)
-            × Comes (C.may clock.now) (begins cred (Msgrcv id size mtype flags) 0) pass.old
-            (Over ending) pass.new
-            × TellsGot ending told out.new) }
-        // The message that the call returns is the one that it took.
-        ensures given { IfSome result (λ told. IfOk told (λ given.
-            HasGiven (C.may clock.now) (begins cred (Msgrcv id size mtype flags) 0) pass.old given
-            pass.new)) }
-        ensures left { IfNone result (IsLeft (K.may_leave caller.now) (C.may clock.now)
-            (begins cred (Msgrcv id size mtype flags) 0) pass.old pass.new) }
-        ensures empty { IfNone result (out.new ≡ []) }
-    {
         let mut state = Receiving::begin(cred, id, size, mtype, flags);
         for _ in rt.forever() {
             state = match self.receive_on(rt, pass, clock, out, state) {
                 Progress::Waits(wait) => {
-                    let (above, receive) = (wait.above, wait.receive);
-                    match self.wait_for(rt, pass, caller, Wait::Arrived { above, receive }) {
-                        Some(next) => next,
-                        None => {
-                            self.gates.pass_arrived_on(id);
-                            return None;
-                        }
-                    }
+                    let ReceiveWait { above, receive } = wait;
+                    self.wait_out(rt, pass, Wait::Arrived { above, receive })
                 }
-                Progress::Over(told) => return Some(told),
+                Progress::Over(told) => return told,
             };
         }
         unreachable!()
     }
 
-    /// Makes one step of a receive that writes to `out`. An arrival wakes one of the receives that
-    /// wait, so a receive that has waited and takes nothing wakes the next one. A receive that has
-    /// not waited was not woken, and need not wake another.
+    /// Makes one step of a receive that writes to `out`.
     #[inline(always)]
     pub(crate) fn receive_step<C: Clock>(
         &self,
@@ -159,18 +101,8 @@ impl Service {
         ensures steps { StepsGiving (C.may clock.now) phase out.old pass.old result out.new
             pass.new }
     {
-        let woken = match &phase {
-            Phase::Take(receive) if receive.live_seen => Some(receive.id),
-            _other => None,
-        };
         let gates = AtGates::of(rt, &self.gates);
-        let state = receive_step(&gates, &mut pass.seats, &mut pass.held, clock, out, phase);
-        match (woken, &state) {
-            (None, _) => {}
-            (Some(_), State::Goes(_giveback)) => {}
-            (Some(id), _) => self.gates.pass_arrived_on(id),
-        }
-        state
+        receive_step(&gates, &mut pass.seats, &mut pass.held, clock, out, phase)
     }
 }
 

@@ -1,6 +1,6 @@
 //! Running a call: steps and waits, until it is over.
 
-ghost use Rattle.std.specs.Prelude.{◌≡◌, ℕ, List, [], IfNone, IfSome};
+ghost use Rattle.std.specs.Prelude.{◌≡◌, ℕ, List, []};
 ghost use Rattle.sysv_model.specs.declared.errno.Errno.{Errno as Why};
 ghost use Rattle.sysv_steps.specs.State.{State as StateSeen, Wait as WaitSeen, Goes, Waits, Over, Refused};
 ghost use Rattle.sysv_steps.specs.Resume.{resume};
@@ -8,10 +8,8 @@ ghost use Rattle.sysv_steps.specs.Seen.{phase_of, state_of, ending_of};
 ghost use Rattle.sysv_steps.specs.Stepping.{no_moment};
 ghost use Rattle.sysv_service.specs.Seats.{AreOf};
 ghost use Rattle.sysv_service.specs.Ran.{StepsOn, Comes};
-ghost use Rattle.sysv_service.specs.Left.{IsLeft};
 ghost use Rattle.sysv_service.specs.UnderWay.{stopped_at};
 
-use crate::caller::{Caller, Stays};
 use crate::pass::Pass;
 use crate::progress::Progress;
 use crate::service::Service;
@@ -62,10 +60,14 @@ impl Service {
         ensures ran { Comes (S.may stepper.now) (state_of begun (S.text stepper.now)) pass.old
             (Over (ending_of result (S.text stepper.now))) pass.new }
     {
-        match self.run_for(rt, pass, stepper, &Stays, begun) {
-            Some(ending) => ending,
-            None => unreachable!(),
+        let mut state = begun;
+        for _ in rt.forever() {
+            state = match self.run_on(rt, pass, stepper, state) {
+                Progress::Waits(wait) => self.wait_out(rt, pass, wait),
+                Progress::Over(ending) => return ending,
+            };
         }
+        unreachable!()
     }
 
     /// Makes the steps of a call that has begun until it waits or is over.
@@ -89,37 +91,6 @@ impl Service {
                 State::Goes(phase) => stepper.step(rt, self, pass, phase),
                 State::Waits(wait) => return Progress::Waits(wait),
                 State::Over(ending) => return Progress::Over(ending),
-            };
-        }
-        unreachable!()
-    }
-
-    /// Like `run`, but for a caller that may leave. Returns `None` if the caller left while the call
-    /// waited.
-    pub(crate) fn run_for<S: Stepper, K: Caller>(
-        &self,
-        rt: &impl MayWait,
-        pass: &mut Pass,
-        stepper: &S,
-        caller: &K,
-        begun: State,
-    ) -> Option<Ending>
-        requires pass { AreOf self.now pass.old.seats }
-        requires kind { S.kind (state_of begun (S.text stepper.now)) }
-        ensures pass { AreOf self.now pass.new.seats }
-        ensures kind { IfSome result (λ ending.
-            S.kind (Over (ending_of ending (S.text stepper.now)))) }
-        ensures ran { IfSome result (λ ending.
-            Comes (S.may stepper.now) (state_of begun (S.text stepper.now)) pass.old
-            (Over (ending_of ending (S.text stepper.now))) pass.new) }
-        ensures left { IfNone result (IsLeft (K.may_leave caller.now) (S.may stepper.now)
-            (state_of begun (S.text stepper.now)) pass.old pass.new) }
-    {
-        let mut state = begun;
-        for _ in rt.forever() {
-            state = match self.run_on(rt, pass, stepper, state) {
-                Progress::Waits(wait) => self.wait_for(rt, pass, caller, wait)?,
-                Progress::Over(ending) => return Some(ending),
             };
         }
         unreachable!()

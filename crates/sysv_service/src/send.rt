@@ -1,6 +1,6 @@
 //! `msgsnd`.
 
-ghost use Rattle.std.specs.Prelude.{◌≡◌, ℕ, IfNone, IfSome};
+ghost use Rattle.std.specs.Prelude.{◌≡◌, ℕ};
 ghost use Rattle.sysv_steps.specs.Call.{Msgsnd};
 ghost use Rattle.sysv_steps.specs.Begin.{begin as begins};
 ghost use Rattle.sysv_steps.specs.State.{Over, Ending as Ends};
@@ -8,11 +8,9 @@ ghost use Rattle.sysv_steps.specs.Resume.{Released};
 ghost use Rattle.sysv_service.specs.Seats.{AreOf};
 ghost use Rattle.sysv_service.specs.Reading.{Reads};
 ghost use Rattle.sysv_service.specs.Ran.{Pass as Seen, Comes};
-ghost use Rattle.sysv_service.specs.Left.{IsLeft};
 ghost use Rattle.sysv_steps.specs.Kinds.{Sends};
 ghost use Rattle.sysv_service.specs.Told.{TellsZero};
 
-use crate::caller::{Caller, Stays};
 use crate::pass::Pass;
 use crate::running::Stepper;
 use crate::service::Service;
@@ -62,56 +60,10 @@ impl Service {
             (begins cred (Msgsnd id mtype flags text.now) released) mid (Over ending) pass.new
             × TellsZero ending result }
     {
-        match self.msgsnd_for(rt, pass, clock, &Stays, cred, id, mtype, text, flags) {
-            Some(told) => told,
-            None => unreachable!(),
-        }
-    }
-
-    /// Like `msgsnd`, but for a caller that may leave. Returns `None` if the caller left while the
-    /// call waited: nothing is sent then.
-    ///
-    /// The call checks whether the caller has left after each sleep of at most a quarter of a second
-    /// that does not end the wait, and at the end of the wait, before its next turn.
-    ///
-    /// # Errors
-    ///
-    /// As for `msgsnd`.
-    ///
-    /// # Conditions
-    ///
-    /// - `pass` is a pass of this service.
-    #[allow(clippy::too_many_arguments)]
-    pub fn msgsnd_for<C: Clock, K: Caller>(
-        &self,
-        rt: &impl MayWait,
-        pass: &mut Pass,
-        clock: &C,
-        caller: &K,
-        cred: Cred,
-        id: i32,
-        mtype: i64,
-        text: &Body,
-        flags: Flags,
-    ) -> Option<Result<(), Errno>>
-        requires { AreOf self.now pass.old.seats }
-        ensures pass { AreOf self.now pass.new.seats }
-        // The call starts with a read of the released count.
-        ensures ran { IfSome result (λ told. (released : ℕ) × (mid : Seen)
-            × Reads Released released pass.old.seats mid.seats × (mid.held ≡ pass.old.held)
-            × (ending : Ends)
-            × Comes (C.may clock.now) (begins cred (Msgsnd id mtype flags text.now) released) mid
-            (Over ending) pass.new
-            × TellsZero ending told) }
-        ensures left { IfNone result ((released : ℕ) × (mid : Seen)
-            × Reads Released released pass.old.seats mid.seats × (mid.held ≡ pass.old.held)
-            × IsLeft (K.may_leave caller.now) (C.may clock.now)
-            (begins cred (Msgsnd id mtype flags text.now) released) mid pass.new) }
-    {
         let released = self.gates.count(&mut pass.seats, SharedCount::Released);
         let begun = Sending::begin(cred, id, mtype, flags, text.len(), released);
         let stepper = SendStepper { clock, text };
-        Some(zero_of(self.run_for(rt, pass, &stepper, caller, begun)?))
+        zero_of(self.run(rt, pass, &stepper, begun))
     }
 }
 

@@ -46,9 +46,4 @@ impl SharedCount {
             SharedCount::Freed { .. } => Count::Freed,
         }
     }
-
-    /// Returns whether each thread whose wait for the count ends wakes the next one.
-    pub(crate) fn is_passed_on(self) -> bool {
-        matches!(self, SharedCount::Settled | SharedCount::Released)
-    }
 }

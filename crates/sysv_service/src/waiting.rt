@@ -1,18 +1,16 @@
 //! Waits.
 
-ghost use Rattle.std.specs.Prelude.{◌≡◌, ◌+◌, ℕ, List, [], IfNone, IfSome};
+ghost use Rattle.std.specs.Prelude.{◌≡◌, ◌+◌, ◌^◌, ◌≤◌, ℕ, List, []};
 ghost use Rattle.sysv_steps.specs.Resume.{awaited, goal_of};
 ghost use Rattle.sysv_steps.specs.Seen.{wait_of, state_of, ending_of};
 ghost use Rattle.sysv_service.specs.Seats.{AreOf};
-ghost use Rattle.sysv_service.specs.Reading.{AwaitsWithin};
 ghost use Rattle.sysv_service.specs.SharedCounts.{count_of};
-ghost use Rattle.sysv_steps.specs.State.{Over, Waits};
+ghost use Rattle.sysv_steps.specs.State.{Over};
 ghost use Rattle.sysv_steps.specs.Kinds.{EndsInZero};
 ghost use Rattle.sysv_service.specs.Told.{TellsZero};
-ghost use Rattle.sysv_service.specs.Waited.{EndsWait, IsUnmet, goal_seen};
+ghost use Rattle.sysv_service.specs.Waited.{EndsWait};
 
 use crate::SharedCount;
-use crate::caller::Caller;
 use crate::pass::Pass;
 use crate::service::Service;
 use std::mem;
@@ -41,58 +39,24 @@ impl Pass {
 }
 
 impl Service {
-    /// Waits for a quarter of a second at most. Returns the state of the call afterwards: it goes
-    /// on, still waits, or is over because a gate is worn out. Returns `None` if the caller has
-    /// left, which is checked at the end of the wait.
-    pub(crate) fn wait_for<K: Caller>(
-        &self,
-        rt: &impl MayWait,
-        pass: &mut Pass,
-        caller: &K,
-        wait: Wait,
-    ) -> Option<State>
+    /// Waits until the count of `wait` is above the value in `wait`. Returns the state of the call
+    /// afterwards: it goes on, or is over because a gate is worn out. It still waits only if no
+    /// count can be above that value.
+    pub(crate) fn wait_out(&self, rt: &impl MayWait, pass: &mut Pass, wait: Wait) -> State
         requires { AreOf self.now pass.old.seats }
         ensures pass { AreOf self.now pass.new.seats }
-        ensures ended { IfSome result (λ state. (text : List ℕ) →
-            EndsWait (wait_of wait text) pass.old (state_of state text) pass.new) }
-        ensures unmet { IfSome result (λ state. state ≡ State.Waits wait → (text : List ℕ) →
-            IsUnmet (wait_of wait text) pass.old pass.new) }
-        ensures left { IfNone result (K.may_leave caller.now) }
-        ensures still { IfNone result ((text : List ℕ) →
-            EndsWait (wait_of wait text) pass.old (Waits (wait_of wait text)) pass.new) }
+        ensures ended { (text : List ℕ) →
+            EndsWait (wait_of wait text) pass.old (state_of result text) pass.new }
+        ensures ends { result ≡ State.Waits wait → (text : List ℕ) →
+            2 ^ 64 ≤ goal_of (wait_of wait text) }
     {
-        match self.await_within(rt, pass, &wait) {
-            Some(Awaited::Reached(value)) => {
-                if caller.has_left() {
-                    return None;
-                }
-                if wait.is_over(value) {
-                    return Some(State::Goes(wait.resume(value)));
-                }
-                Some(State::Waits(wait))
-            }
-            Some(Awaited::Worn) => Some(overflow()),
-            None => {
-                if caller.has_left() {
-                    return None;
-                }
-                Some(State::Waits(wait))
-            }
+        let (count, above) = awaited_by(&wait);
+        let goal = above.saturating_add(1);
+        match self.gates.await_count(rt, &mut pass.seats, count, goal) {
+            Awaited::Reached(value) if wait.is_over(value) => State::Goes(wait.resume(value)),
+            Awaited::Reached(_below) => State::Waits(wait),
+            Awaited::Worn => overflow(),
         }
-    }
-
-    /// Waits, for a quarter of a second at most, until the count of `wait` is above the value in
-    /// `wait`.
-    fn await_within(&self, rt: &impl MayWait, pass: &mut Pass, wait: &Wait) -> Option<Awaited>
-        requires { AreOf self.now pass.old.seats }
-        ensures pass { AreOf self.now pass.new.seats }
-        ensures held { pass.new.held ≡ pass.old.held }
-        ensures waited { (text : List ℕ) → AwaitsWithin (awaited (wait_of wait.now text))
-            (goal_seen (goal_of (wait_of wait.now text))) pass.old.seats result pass.new.seats }
-    {
-        let (count, above) = awaited_by(wait);
-        self.gates
-            .await_within(rt, &mut pass.seats, count, above.saturating_add(1))
     }
 }
 

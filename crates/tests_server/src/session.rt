@@ -5,7 +5,6 @@ mod conversation;
 mod failing;
 mod gathered;
 mod growths;
-mod leaving;
 mod pieces;
 mod served;
 mod serving;

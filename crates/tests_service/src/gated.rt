@@ -166,49 +166,53 @@ fn a_key_is_made_settled_and_forgotten(rt: HostRuntime) {
     let made = begin(&rt, &gates, &mut seats, 7, creating());
     assert_is(&rt, made, Ok(Begun::Made { id: 1 }));
     assert_is(&rt, settle(&rt, &gates, &mut seats, 1), Ok(true));
-    let settled = gates.await_within(&rt, &mut seats, SharedCount::Settled, 1);
-    assert_is(&rt, settled, Some(Awaited::Reached(1)));
+    let settled = gates.await_count(&rt, &mut seats, SharedCount::Settled, 1);
+    assert_is(&rt, settled, Awaited::Reached(1));
     let found = begin(&rt, &gates, &mut seats, 7, creating());
     assert_is(&rt, found, Ok(Begun::Found { id: 1, settled: 1 }));
     assert_is(&rt, forget(&rt, &gates, &mut seats, 1), Ok(true));
     assert_is(&rt, forget(&rt, &gates, &mut seats, 1), Ok(false));
-    let settled = gates.await_within(&rt, &mut seats, SharedCount::Settled, 2);
-    assert_is(&rt, settled, Some(Awaited::Reached(2)));
+    let settled = gates.await_count(&rt, &mut seats, SharedCount::Settled, 2);
+    assert_is(&rt, settled, Awaited::Reached(2));
     assert_is(&rt, ended(&rt, gates.close(seats)), (0, 6, 0));
 }
 
-// A bounded wait returns a count that is reached, and gives up on one that is not.
+// A wait returns a count that is reached.
 #[test]
-fn bounded_waits_come_back(rt: HostRuntime) {
+fn waits_end_at_their_goals(rt: HostRuntime) {
     let (gates, mut seats) = gates_at(&rt, rt.alloc(), 0);
     let made = begin(&rt, &gates, &mut seats, 7, creating());
     assert_is(&rt, made, Ok(Begun::Made { id: 0 }));
-    let settled = gates.await_within(&rt, &mut seats, SharedCount::Settled, 1);
-    assert_is(&rt, settled, None);
+    assert_is(&rt, gates.count(&mut seats, SharedCount::Settled), 0);
     assert_is(&rt, settle(&rt, &gates, &mut seats, 0), Ok(true));
-    let settled = gates.await_within(&rt, &mut seats, SharedCount::Settled, 1);
-    assert_is(&rt, settled, Some(Awaited::Reached(1)));
+    let settled = gates.await_count(&rt, &mut seats, SharedCount::Settled, 1);
+    assert_is(&rt, settled, Awaited::Reached(1));
     let made = install(&rt, &gates, &mut seats, 1, 7, USER, 0o600, 50);
     assert_is(&rt, made, Ok(true));
-    let arrived = gates.await_within(&rt, &mut seats, SharedCount::Arrived { id: 1 }, 1);
-    assert_is(&rt, arrived, None);
+    assert_is(
+        &rt,
+        gates.count(&mut seats, SharedCount::Arrived { id: 1 }),
+        0,
+    );
     let letter = letter_of(&rt, rt.alloc(), &gates, &mut seats, b"hello");
     assert_is(&rt, placed(&rt, &gates, &mut seats, letter), 0);
-    let arrived = gates.await_within(&rt, &mut seats, SharedCount::Arrived { id: 1 }, 1);
-    assert_is(&rt, arrived, Some(Awaited::Reached(1)));
-    let freed = gates.await_within(&rt, &mut seats, SharedCount::Freed { id: 1 }, 1);
-    assert_is(&rt, freed, None);
-    let released = gates.await_within(&rt, &mut seats, SharedCount::Released, 1);
-    assert_is(&rt, released, None);
+    let arrived = gates.await_count(&rt, &mut seats, SharedCount::Arrived { id: 1 }, 1);
+    assert_is(&rt, arrived, Awaited::Reached(1));
+    assert_is(
+        &rt,
+        gates.count(&mut seats, SharedCount::Freed { id: 1 }),
+        0,
+    );
+    assert_is(&rt, gates.count(&mut seats, SharedCount::Released), 0);
     match remove(&rt, &gates, &mut seats, 1, USER) {
         Ok(Ok(discarded)) => give_back(&rt, &gates, &mut seats, discarded.into_chain()),
         Ok(Err(_)) => panic!(rt; "no removal"),
         Err(_) => panic!(rt; "worn"),
     }
-    let freed = gates.await_within(&rt, &mut seats, SharedCount::Freed { id: 1 }, 1);
-    assert_is(&rt, freed, Some(Awaited::Reached(1)));
-    let released = gates.await_within(&rt, &mut seats, SharedCount::Released, 1);
-    assert_is(&rt, released, Some(Awaited::Reached(1)));
+    let freed = gates.await_count(&rt, &mut seats, SharedCount::Freed { id: 1 }, 1);
+    assert_is(&rt, freed, Awaited::Reached(1));
+    let released = gates.await_count(&rt, &mut seats, SharedCount::Released, 1);
+    assert_is(&rt, released, Awaited::Reached(1));
     assert_is(&rt, ended(&rt, gates.close(seats)), (3, 2, 2));
 }
 
@@ -224,8 +228,8 @@ fn a_message_goes_through_its_slot(rt: HostRuntime) {
         Ok(Look::Fits),
     );
     assert_is(&rt, placed(&rt, &gates, &mut seats, letter), 0);
-    let arrived = gates.await_within(&rt, &mut seats, SharedCount::Arrived { id: 1 }, 1);
-    assert_is(&rt, arrived, Some(Awaited::Reached(1)));
+    let arrived = gates.await_count(&rt, &mut seats, SharedCount::Arrived { id: 1 }, 1);
+    assert_is(&rt, arrived, Awaited::Reached(1));
     let mut out = empty_body(&rt, rt.alloc());
     match take(
         &rt,
@@ -249,11 +253,11 @@ fn a_message_goes_through_its_slot(rt: HostRuntime) {
         Err(_) => panic!(rt; "worn"),
     }
     assert!(rt; out.block(0) == b"hello".as_slice());
-    let freed = gates.await_within(&rt, &mut seats, SharedCount::Freed { id: 1 }, 1);
-    assert_is(&rt, freed, Some(Awaited::Reached(1)));
+    let freed = gates.await_count(&rt, &mut seats, SharedCount::Freed { id: 1 }, 1);
+    assert_is(&rt, freed, Awaited::Reached(1));
     assert_is(&rt, gates.count(&mut seats, SharedCount::Released), 1);
-    let released = gates.await_within(&rt, &mut seats, SharedCount::Released, 1);
-    assert_is(&rt, released, Some(Awaited::Reached(1)));
+    let released = gates.await_count(&rt, &mut seats, SharedCount::Released, 1);
+    assert_is(&rt, released, Awaited::Reached(1));
     assert_is(&rt, ended(&rt, gates.close(seats)), (4, 0, 2));
 }
 
@@ -376,10 +380,10 @@ fn worn_gates_of_slots_serve_nothing(rt: HostRuntime) {
         Err(chain) => assert_is(&rt, chain.end(), 0),
         Ok(_) => panic!(rt; "a turn"),
     }
-    let arrived = gates.await_within(&rt, &mut seats, SharedCount::Arrived { id: 1 }, 1);
-    assert_is(&rt, arrived, Some(Awaited::Worn));
-    let freed = gates.await_within(&rt, &mut seats, SharedCount::Freed { id: 1 }, 1);
-    assert_is(&rt, freed, Some(Awaited::Worn));
+    let arrived = gates.await_count(&rt, &mut seats, SharedCount::Arrived { id: 1 }, 1);
+    assert_is(&rt, arrived, Awaited::Worn);
+    let freed = gates.await_count(&rt, &mut seats, SharedCount::Freed { id: 1 }, 1);
+    assert_is(&rt, freed, Awaited::Worn);
     assert_is(&rt, ended(&rt, gates.close(seats)), (0, 0, 0));
 }
 
@@ -390,8 +394,8 @@ fn worn_gates_of_registry_and_pool_serve_nothing(rt: HostRuntime) {
     assert_is(&rt, made, Err(Worn));
     assert_is(&rt, settle(&rt, &gates, &mut seats, 0), Err(Worn));
     assert_is(&rt, forget(&rt, &gates, &mut seats, 0), Err(Worn));
-    let settled = gates.await_within(&rt, &mut seats, SharedCount::Settled, 1);
-    assert_is(&rt, settled, Some(Awaited::Worn));
+    let settled = gates.await_count(&rt, &mut seats, SharedCount::Settled, 1);
+    assert_is(&rt, settled, Awaited::Worn);
     match reserve(&rt, &gates, &mut seats, 65) {
         Err(Worn) => {}
         Ok(_) => panic!(rt; "a turn"),
@@ -401,8 +405,8 @@ fn worn_gates_of_registry_and_pool_serve_nothing(rt: HostRuntime) {
         Ok(_) => panic!(rt; "a turn"),
     }
     assert_is(&rt, gates.count(&mut seats, SharedCount::Released), 0);
-    let released = gates.await_within(&rt, &mut seats, SharedCount::Released, 1);
-    assert_is(&rt, released, Some(Awaited::Worn));
+    let released = gates.await_count(&rt, &mut seats, SharedCount::Released, 1);
+    assert_is(&rt, released, Awaited::Worn);
     assert_is(&rt, ended(&rt, gates.close(seats)), (0, 0, 0));
 }
 

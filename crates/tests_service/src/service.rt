@@ -5,7 +5,6 @@ mod board;
 mod crew;
 mod crowd;
 mod example;
-mod left;
 mod one_pass;
 mod part;
 mod pieces;

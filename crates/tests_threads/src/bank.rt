@@ -72,36 +72,6 @@ fn each_place_has_its_own_turns(rt: HostRuntime) -> Result<(), Fail> {
     Ok(())
 }
 
-// A bounded wait at a place returns a count that is reached there, and gives up on one that is not.
-#[test]
-fn a_bounded_wait_at_a_place_comes_back(rt: HostRuntime) -> Result<(), Fail> {
-    let (bank, mut seat) = opened(rt.alloc(), 0).ok_or("no memory")?;
-    assert!(rt; matches!(&bank.call(&rt, 1, &mut seat, 5), Ok(20)));
-    assert!(rt; matches!(&bank.call(&rt, 2, &mut seat, 4), Ok(30)));
-    assert_is(
-        &rt,
-        bank.await_within(&rt, 1, &mut seat, Count::Arrived, 1),
-        Some(Awaited::Reached(1)),
-    );
-    assert_is(
-        &rt,
-        bank.await_within(&rt, 2, &mut seat, Count::Arrived, 1),
-        None,
-    );
-    assert_is(
-        &rt,
-        bank.await_within(&rt, 2, &mut seat, Count::Freed, 1),
-        Some(Awaited::Reached(1)),
-    );
-    assert_is(
-        &rt,
-        bank.await_within(&rt, 1, &mut seat, Count::Freed, 1),
-        None,
-    );
-    assert_is(&rt, turns_of(bank.close(seat)), 2);
-    Ok(())
-}
-
 #[test]
 fn seats_are_split_and_joined_together(rt: HostRuntime) -> Result<(), Fail> {
     let (bank, mut seat) = opened(rt.alloc(), 0).ok_or("no memory")?;

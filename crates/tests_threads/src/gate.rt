@@ -3,7 +3,7 @@ ghost use Rattle.std.specs.Prelude.{◌≡◌, ℕ, ◌+◌, ◌%◌, ◌^◌, �
 
 mod threads;
 
-use crate::parts::{LIMIT, assert_is, millis};
+use crate::parts::{LIMIT, assert_is};
 use crate::sum::Sum;
 use std::test::Fail;
 use sysv_gate::{Awaited, Gate, Object, OpenRefused, Seat, TryRefused};
@@ -230,47 +230,6 @@ fn a_wait_at_a_worn_gate_ends(rt: HostRuntime) -> Result<(), Fail> {
         Awaited::Reached(0),
     );
     assert_is(&rt, gate.await_freed(&rt, &mut seat, 1), Awaited::Worn);
-    assert_is(
-        &rt,
-        gate.arrived_within(&rt, &mut seat, 2),
-        Some(Awaited::Worn),
-    );
     assert_is(&rt, gate.close(seat).turns, 1);
-    Ok(())
-}
-
-// A bounded wait returns a count that is reached, and gives up on one that is not.
-#[test]
-fn a_bounded_wait_comes_back(rt: HostRuntime) -> Result<(), Fail> {
-    let (gate, mut seat) = opened(&rt, 0).ok_or("no memory")?;
-    assert!(rt; matches!(&gate.call(&rt, &mut seat, 5), Ok(0)));
-    assert_is(
-        &rt,
-        gate.arrived_within(&rt, &mut seat, 1),
-        Some(Awaited::Reached(1)),
-    );
-    assert_is(&rt, gate.arrived_within(&rt, &mut seat, 2), None);
-    assert_is(
-        &rt,
-        gate.freed_within(&rt, &mut seat, 0),
-        Some(Awaited::Reached(0)),
-    );
-    assert_is(&rt, gate.freed_within(&rt, &mut seat, 1), None);
-    assert_is(&rt, gate.close(seat).turns, 1);
-    Ok(())
-}
-
-// Each of the two waits lasts a quarter of a second at most. A busy machine may be late.
-#[test]
-fn a_bounded_wait_lasts_a_quarter_of_a_second_at_most(rt: HostRuntime) -> Result<(), Fail> {
-    let (gate, mut seat) = opened(&rt, 0).ok_or("no memory")?;
-    let begun = millis(&rt);
-    assert_is(&rt, gate.arrived_within(&rt, &mut seat, 1), None);
-    assert_is(&rt, gate.freed_within(&rt, &mut seat, 1), None);
-    let ended = millis(&rt);
-    assert_is(&rt, gate.close(seat).turns, 0);
-    assert!(rt;
-        matches!((begun, ended), (Some(begun), Some(ended)) if ended.saturating_sub(begun) < 1_900)
-    );
     Ok(())
 }

@@ -23,10 +23,6 @@ fn gate(rt: HostRuntime) {
     assert_is(&rt, arrived, Awaited::Reached(2));
     let freed = gate.await_freed(&rt, &mut other, 1);
     assert_is(&rt, freed, Awaited::Reached(1));
-    let arrived = gate.arrived_within(&rt, &mut seat, 2);
-    assert_is(&rt, arrived, Some(Awaited::Reached(2)));
-    let freed = gate.freed_within(&rt, &mut other, 1);
-    assert_is(&rt, freed, Some(Awaited::Reached(1)));
     gate.join(&mut seat, other);
     let closing = gate.close(seat);
     let sum = closing.object.map(|sum| sum.sum);

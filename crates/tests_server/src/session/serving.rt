@@ -8,7 +8,7 @@ use std::alloc::Global;
 use std::process::Abort;
 use std::sync::Wait;
 use sysv_seats::ServiceKernel;
-use sysv_service::{Caller, Pass, Service};
+use sysv_service::{Pass, Service};
 use sysv_session::{End, Served};
 use tests_kit::worked::{ANSWERS, SESSION};
 use tests_kit::{Page, Pieces};
@@ -22,12 +22,12 @@ pub(super) fn ended(rt: &impl Abort, service: Service, pass: Pass, waiting: u64)
 }
 
 /// Serves one session. Tolerates one refusal of memory, after which nothing was read or written.
-pub(super) fn talked<R: Abort + Wait, K: Caller + Copy>(
+fn talked<R: Abort + Wait>(
     rt: &R,
     alloc: Global,
     reader: &mut Pieces<'_>,
     page: &mut Page,
-    kernel: &mut ServiceKernel<'_, Still, R, K>,
+    kernel: &mut ServiceKernel<'_, Still, R>,
 ) -> Served
     ensures { kernel.new.service ≡ kernel.old.service }
 {

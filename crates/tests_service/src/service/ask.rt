@@ -2,7 +2,6 @@
 ghost use Rattle.sysv_service.specs.Seats.{AreOf};
 
 use super::board::Moment;
-use super::left::Leaves;
 use crate::parts::{body_of, empty_body};
 use std::alloc::Global;
 use std::process::Abort;
@@ -23,8 +22,6 @@ pub(super) enum Ask {
     Receive(i32),
     /// Receives a message of type 2.
     ReceiveSecond(i32),
-    /// Receives with a caller that leaves while the call waits.
-    ReceiveLeft(i32),
     /// Sets these attributes, as this user.
     Set(i32, Cred, SetTo),
     Remove(i32),
@@ -41,11 +38,8 @@ pub(super) fn waiting() -> Flags {
 }
 
 /// The result of a call: an identifier, the length of the body that was received, a time, the
-/// number of queues that were removed, or 0. It is `LEFT` if the call was left.
+/// number of queues that were removed, or 0.
 pub(super) type Told = Result<i64, Errno>;
-
-/// The result of a call that was left.
-pub(super) const LEFT: Told = Ok(-1);
 
 /// Makes the call.
 pub(super) fn make<R: Abort + Wait>(
@@ -71,7 +65,6 @@ pub(super) fn make<R: Abort + Wait>(
         }
         Ask::Receive(id) => receive(rt, alloc, service, pass, clock, id, 0),
         Ask::ReceiveSecond(id) => receive(rt, alloc, service, pass, clock, id, 2),
-        Ask::ReceiveLeft(id) => receive_left(rt, alloc, service, pass, clock, id),
         Ask::Set(id, cred, to) => {
             service.msgctl_set(rt, pass, &clock, cred, id, to)?;
             Ok(0)
@@ -126,35 +119,5 @@ fn receive<R: Abort + Wait>(
     let size = 8192;
     let given = service.msgrcv(rt, pass, &clock, USER, id, &mut out, size, mtype, waiting())?;
     given.written(&mut Tally::open());
-    Ok(out.len() as i64)
-}
-
-fn receive_left<R: Abort + Wait>(
-    rt: &R,
-    alloc: Global,
-    service: &Service,
-    pass: &mut Pass,
-    clock: Moment,
-    id: i32,
-) -> Told
-    requires { AreOf service.now pass.old.seats }
-    ensures { AreOf service.now pass.new.seats }
-{
-    let mut out = empty_body(rt, alloc);
-    let gone = Leaves::after(0);
-    let told = service.msgrcv_for(
-        rt,
-        pass,
-        &clock,
-        &gone,
-        USER,
-        id,
-        &mut out,
-        8192,
-        0,
-        waiting(),
-    );
-    let Some(told) = told else { return LEFT };
-    told?.written(&mut Tally::open());
     Ok(out.len() as i64)
 }

@@ -9,7 +9,7 @@ use std::alloc::Global;
 use std::process::Abort;
 use std::sync::Wait;
 use std::thread;
-use std::time::{Clock, Duration, Instant};
+use std::time::{Clock, Duration};
 use sysv_service::{Pass, Service};
 
 /// What one thread does with its pass.
@@ -60,8 +60,6 @@ pub(super) struct Turn<'a> {
     pub(super) told: Option<Told>,
     /// The number of reports when the call ended.
     pub(super) said: u64,
-    /// When the answer came.
-    pub(super) at: Option<Instant>,
 }
 
 impl<'a> Turn<'a> {
@@ -77,7 +75,6 @@ impl<'a> Turn<'a> {
             ends: false,
             told: None,
             said: 0,
-            at: None,
         }
     }
 
@@ -101,7 +98,6 @@ impl<'a> Turn<'a> {
         }
         self.told = Some(make(rt, alloc, service, pass, self.clock, self.ask));
         self.said = self.board.said();
-        self.at = Instant::now(rt).ok();
         if self.ends {
             self.board.say();
         }
@@ -119,12 +115,4 @@ pub(super) fn told_of(rt: &impl Abort, parts: &[Part], place: usize) -> (Told, u
         panic!(rt; "no call at {place}")
     };
     (turn.told.expect(rt, "an answer"), turn.said)
-}
-
-/// When the call of this part was answered.
-pub(super) fn answered_at(rt: &impl Abort, parts: &[Part], place: usize) -> Instant {
-    let Some(Part::Asks(turn)) = parts.get(place) else {
-        panic!(rt; "no call at {place}")
-    };
-    turn.at.expect(rt, "the time of an answer")
 }

@@ -137,6 +137,25 @@ fn a_receive_that_need_not_wait_is_over_at_once(rt: HostRuntime) {
     assert_is(&rt, service.close(pass), closed(0, 128));
 }
 
+// A receive is left by dropping its wait. It has taken nothing, and the next receive gets the
+// message.
+#[test]
+fn a_receive_that_is_dropped_takes_nothing(rt: HostRuntime) {
+    let alloc = rt.alloc();
+    let (service, mut pass) = one_queue(&rt, alloc);
+    let mut out = body_of(&rt, alloc, b"what was there before");
+    let begun = begin_receive(&rt, &service, &mut pass, &mut out, waiting());
+    let _dropped = receive_wait(&rt, begun);
+    match service.msgctl_stat(&rt, &mut pass, USER, 0) {
+        Ok(stat) => assert_is(&rt, (stat.qnum, stat.lrpid, stat.rtime), (0, 0, 0)),
+        Err(why) => panic!(rt; "no attributes: {why}"),
+    }
+    send(&rt, alloc, &service, &mut pass, 5, b"ping");
+    let begun = begin_receive(&rt, &service, &mut pass, &mut out, waiting());
+    assert_is(&rt, received(&rt, begun), Ok((5, 4)));
+    assert_is(&rt, service.close(pass), closed(0, 128));
+}
+
 /// Returns the wait of a send.
 fn send_wait(rt: &impl Abort, progress: Progress<SendWait, Result<(), Errno>>) -> SendWait {
     match progress {
@@ -177,18 +196,42 @@ fn take(rt: &(impl Abort + Wait), alloc: Global, service: &Service, pass: &mut P
     }
 }
 
-#[test]
-fn a_send_goes_on_after_a_receive_of_another_pass(rt: HostRuntime) {
-    let alloc = rt.alloc();
-    let (service, mut pass) = one_queue(&rt, alloc);
+/// Opens a service of 128 blocks with queue 0, which has room for four bytes.
+fn small_queue(rt: &(impl Abort + Wait), alloc: Global) -> (Service, Pass)
+    ensures { AreOf result.0 result.1.seats }
+{
+    let (service, mut pass) = one_queue(rt, alloc);
     let to = SetTo {
         uid: 1000,
         gid: 1000,
         mode: 0o600,
         qbytes: 4,
     };
-    let set = service.msgctl_set(&rt, &mut pass, &CLOCK, USER, 0, to);
-    assert_is(&rt, set, Ok(()));
+    let set = service.msgctl_set(rt, &mut pass, &CLOCK, USER, 0, to);
+    assert_is(rt, set, Ok(()));
+    (service, pass)
+}
+
+// A send is left by dropping its wait, and then sends nothing.
+#[test]
+fn a_send_that_is_dropped_sends_nothing(rt: HostRuntime) {
+    let alloc = rt.alloc();
+    let (service, mut pass) = small_queue(&rt, alloc);
+    send(&rt, alloc, &service, &mut pass, 5, b"ping");
+    let text = body_of(&rt, alloc, b"pong");
+    let begun = service.msgsnd_begin(&rt, &mut pass, &CLOCK, USER, 0, 5, &text, waiting());
+    let _dropped = send_wait(&rt, begun);
+    take(&rt, alloc, &service, &mut pass, 0);
+    let mut out = body_of(&rt, alloc, b"");
+    let begun = begin_receive(&rt, &service, &mut pass, &mut out, Flags::IPC_NOWAIT);
+    assert_is(&rt, received(&rt, begun), Err(Errno::ENOMSG));
+    assert_is(&rt, service.close(pass), closed(0, 128));
+}
+
+#[test]
+fn a_send_goes_on_after_a_receive_of_another_pass(rt: HostRuntime) {
+    let alloc = rt.alloc();
+    let (service, mut pass) = small_queue(&rt, alloc);
     let mut other = service.split_pass(alloc, &mut pass).expect(&rt, "a split");
     let text = body_of(&rt, alloc, b"ping");
     assert!(rt; text.len() <= MESSAGE_BYTES);
@@ -202,6 +245,22 @@ fn a_send_goes_on_after_a_receive_of_another_pass(rt: HostRuntime) {
     let over = service.msgsnd_go_on(&rt, &mut pass, &CLOCK, &text, again);
     assert_sent(&rt, over);
     service.join_pass(&mut pass, other);
+    assert_is(&rt, service.close(pass), closed(1, 128));
+}
+
+// A send that waits for blocks holds none.
+#[test]
+fn a_send_that_waits_for_blocks_is_dropped(rt: HostRuntime) {
+    let alloc = rt.alloc();
+    let (service, mut pass) = one_queue(&rt, alloc);
+    let second = service.msgget(&rt, &mut pass, &CLOCK, USER, 8, creating());
+    assert_is(&rt, second, Ok(1));
+    let all = body_of(&rt, alloc, &[b'x'; 8192]);
+    let sent = service.msgsnd(&rt, &mut pass, &CLOCK, USER, 1, 5, &all, waiting());
+    assert_is(&rt, sent, Ok(()));
+    let text = body_of(&rt, alloc, b"ping");
+    let begun = service.msgsnd_begin(&rt, &mut pass, &CLOCK, USER, 0, 5, &text, waiting());
+    let _dropped = send_wait(&rt, begun);
     assert_is(&rt, service.close(pass), closed(1, 128));
 }
 

@@ -1,9 +1,9 @@
 //! Waits of every kind end when what they wait for happens.
 
-use super::ask::{Ask, LEFT, Told};
+use super::ask::{Ask, Told};
 use super::board::{Board, Moment};
 use super::crew::run;
-use super::part::{Part, Turn, add, answered_at, told_of};
+use super::part::{Part, Turn, add, told_of};
 use crate::parts::closed;
 use std::alloc::Global;
 use std::process::Abort;
@@ -15,10 +15,6 @@ use tests_kit::{ROOT, USER};
 
 /// How often a wait is tried if the other call may be first.
 const TRIES: u32 = 50;
-
-/// How often a wake is tried. A busy machine may be late, and a lost wake costs up to a quarter of a
-/// second each time.
-const WAKES: u32 = 8;
 
 /// The number of gets that wait for one key.
 const GETS: usize = 4;
@@ -128,25 +124,42 @@ fn a_receive_waits_for_a_message(rt: HostRuntime) {
     check_each(&rt, rt.alloc(), before, waits, ends);
 }
 
-// The send wakes the receive, which then takes nothing: the message is still queued at the end. If
-// the send was made before the first look, the receive took the message, and the test tries again.
+// The message is for the receive that began to wait last. The other one is woken too, and waits until
+// the queue is removed. A receive that is not woken would sleep for ever.
 #[test]
-fn a_woken_receive_is_left(rt: HostRuntime) {
-    let case = Case {
-        before: [Ask::Get(1), Ask::Get(2), Ask::Get(3)],
-        waits: Ask::ReceiveLeft(0),
-        ends: Ask::Send(0, 5),
-        told: LEFT,
+fn an_arrival_wakes_every_receive_that_waits(rt: HostRuntime) {
+    let alloc = rt.alloc();
+    let board = Board::new();
+    let in_vain = Turn::at_once(&board, Ask::ReceiveSecond(0));
+    let receives = Turn {
+        runs: false,
+        after: 1,
+        begins: true,
+        ends: true,
+        ..Turn::at_once(&board, Ask::Receive(0))
     };
-    for _ in 0..TRIES {
-        let (told, _said, ending) = waited(&rt, rt.alloc(), &case);
-        assert_eq!(rt; ending, Ok(0));
-        if told != Ok(5) {
-            assert_eq!(rt; told, LEFT);
-            return;
-        }
+    let sends = Turn {
+        runs: false,
+        after: 2,
+        begins: true,
+        ..Turn::at_once(&board, Ask::Send(0, 5))
+    };
+    let removes = Turn {
+        runs: false,
+        after: 4,
+        ..Turn::at_once(&board, Ask::Remove(0))
+    };
+    let mut parts = Vec::new(alloc);
+    for turn in [in_vain, receives, sends, removes] {
+        add(&rt, &mut parts, Part::Asks(turn));
     }
-    panic!(rt; "the send came first each time")
+    let left = run(&rt, alloc, 128, &[Ask::Get(1)], parts);
+    assert_eq!(rt; left.closed, closed(0, 128));
+    let in_vain = told_of(&rt, &left.parts, 0).0;
+    assert!(rt; matches!(in_vain, Err(Errno::EIDRM | Errno::EINVAL)));
+    assert_eq!(rt; told_of(&rt, &left.parts, 1).0, Ok(5));
+    assert_eq!(rt; told_of(&rt, &left.parts, 2).0, Ok(0));
+    assert_eq!(rt; told_of(&rt, &left.parts, 3).0, Ok(0));
 }
 
 #[test]
@@ -195,9 +208,10 @@ fn a_get_waits_for_a_key_that_is_made(rt: HostRuntime) {
     assert_eq!(rt; told_of(&rt, &left.parts, 2).0, Ok(1));
 }
 
-/// How many milliseconds after the first get, which makes the queue, the last of the others is answered, which wait until it
-/// is settled.
-fn settled<R: Threads + Abort + Wait + Clock + Sync>(rt: &R, alloc: Global) -> u128 {
+// A get that the settle does not wake would sleep for ever.
+#[test]
+fn one_settle_wakes_all_gets_that_wait(rt: HostRuntime) {
+    let alloc = rt.alloc();
     let board = Board::new();
     let goal = GETS as u64 + 2;
     let makes = Turn {
@@ -212,8 +226,8 @@ fn settled<R: Threads + Abort + Wait + Clock + Sync>(rt: &R, alloc: Global) -> u
         ..Turn::at_once(&board, Ask::Get(8))
     };
     let mut parts = Vec::new(alloc);
-    add(rt, &mut parts, Part::Asks(makes));
-    add(rt, &mut parts, Part::Asks(releases));
+    add(&rt, &mut parts, Part::Asks(makes));
+    add(&rt, &mut parts, Part::Asks(releases));
     for _ in 0..GETS {
         let waits = Turn {
             runs: false,
@@ -221,32 +235,13 @@ fn settled<R: Threads + Abort + Wait + Clock + Sync>(rt: &R, alloc: Global) -> u
             begins: true,
             ..Turn::at_once(&board, Ask::Get(7))
         };
-        add(rt, &mut parts, Part::Asks(waits));
+        add(&rt, &mut parts, Part::Asks(waits));
     }
-    let left = run(rt, alloc, 128, &[], parts);
+    let left = run(&rt, alloc, 128, &[], parts);
     assert_eq!(rt; left.closed, closed(0, 128));
-    let made = answered_at(rt, &left.parts, 0);
-    let mut longest = 0;
     for place in 0..GETS {
-        let place = place + 2;
-        assert_eq!(rt; told_of(rt, &left.parts, place), (Ok(0), goal));
-        let late = answered_at(rt, &left.parts, place).saturating_duration_since(made);
-        if late.as_millis() > longest {
-            longest = late.as_millis();
-        }
+        assert_eq!(rt; told_of(&rt, &left.parts, place + 2), (Ok(0), goal));
     }
-    longest
-}
-
-// The settle wakes one get, which wakes the next: none looks again only after its sleep.
-#[test]
-fn one_settle_wakes_all_gets_that_wait(rt: HostRuntime) {
-    for _ in 0..WAKES {
-        if settled(&rt, rt.alloc()) < 100 {
-            return;
-        }
-    }
-    panic!(rt; "a get is late each time")
 }
 
 /// The time of a call that waited, as the queue shows it. Two things were said when the wait could end, and one when the call

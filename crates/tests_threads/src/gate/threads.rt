@@ -7,7 +7,6 @@ mod passed_over;
 use super::opened;
 use crate::parts::{LIMIT, millis};
 use crate::sum::Sum;
-use std::alloc::Global;
 use std::sync::Wait;
 use std::test::Fail;
 use std::thread::{Threads, for_each_mut, join};
@@ -24,19 +23,12 @@ const ROUNDS: u64 = 500;
 /// How often a watcher looks, every 10 milliseconds, before it takes a standstill for a lost wake.
 const PATIENCE: u64 = 300;
 
-/// The maximum number of bounded waits in a row.
-const NAPS: u64 = 100;
-
 /// A test by time has this many trials. One that shows what is wanted is enough, because a thread of
 /// a busy machine may be late.
 const TRIALS: u64 = 8;
 
-/// A thread that is woken returns within this number of milliseconds. A thread that is not woken
-/// sleeps longer.
-const PROMPT: u64 = 100;
-
-/// The thread that wakes others does so after this number of milliseconds, or after twice as many:
-/// when they sleep, and long before their bounded waits are over.
+/// The thread that wakes others does so after this number of milliseconds, or after twice as many,
+/// when they sleep.
 const LATE: u64 = 50;
 
 /// The task of a thread.
@@ -57,22 +49,12 @@ enum Role {
     WaitsForFreed(u64),
     /// Draws the last ticket and adds this number, once others sleep.
     WearsOut(u8),
-    /// Waits for the first count by bounded waits.
-    NapsForArrived,
-    /// Waits for the second count by bounded waits.
-    NapsForFreed,
     /// Raises both counts, after other threads sleep.
     RaisesBoth,
     /// Waits for the first count, and notes the time at which it returns.
     NotesTime,
     /// Raises the first count by a try, once others sleep. Later it notes the time, and wakes all.
     TriesAndWakes,
-    /// Waits for the first count by one bounded wait, and notes the time at which it returns.
-    Naps,
-    /// Does as `Naps`, and then passes on.
-    NapsAndPassesOn,
-    /// Notes the time and raises the first count, once others sleep.
-    RaisesArrived,
 }
 
 /// A thread, and the last number that it was told.
@@ -109,14 +91,9 @@ impl<'b> Member<'b> {
             Role::WaitsInVain => wait_in_vain(rt, self.gate, &mut self.seat),
             Role::WaitsForFreed(goal) => wait_for_freed(rt, self.gate, &mut self.seat, goal),
             Role::WearsOut(call) => wear_out(rt, self.gate, &mut self.seat, call),
-            Role::NapsForArrived => nap_for_arrived(rt, self.gate, &mut self.seat),
-            Role::NapsForFreed => nap_for_freed(rt, self.gate, &mut self.seat),
             Role::RaisesBoth => raise_both(rt, self.gate, &mut self.seat),
             Role::NotesTime => note_time(rt, self.gate, &mut self.seat),
             Role::TriesAndWakes => try_and_wake(rt, self.gate, &mut self.seat),
-            Role::Naps => nap(rt, self.gate, &mut self.seat),
-            Role::NapsAndPassesOn => nap_and_pass_on(rt, self.gate, &mut self.seat),
-            Role::RaisesArrived => raise_arrived(rt, self.gate, &mut self.seat),
         };
     }
 }
@@ -392,32 +369,6 @@ fn a_sleeper_for_freed_is_told_that_the_gate_is_worn(rt: HostRuntime) -> Result<
     Ok(())
 }
 
-/// Returns the first count, if it was raised.
-fn nap_for_arrived(rt: &impl Wait, gate: &Gate<Sum>, seat: &mut Seat<Sum>) -> Option<u64>
-    requires { seat.old.gate ≡ gate.now }
-    ensures { seat.new.gate ≡ gate.now }
-{
-    for _ in 0..NAPS {
-        if let Some(Awaited::Reached(count)) = gate.arrived_within(rt, seat, 1) {
-            return Some(count);
-        }
-    }
-    None
-}
-
-/// Returns the second count, if it was raised.
-fn nap_for_freed(rt: &impl Wait, gate: &Gate<Sum>, seat: &mut Seat<Sum>) -> Option<u64>
-    requires { seat.old.gate ≡ gate.now }
-    ensures { seat.new.gate ≡ gate.now }
-{
-    for _ in 0..NAPS {
-        if let Some(Awaited::Reached(count)) = gate.freed_within(rt, seat, 1) {
-            return Some(count);
-        }
-    }
-    None
-}
-
 /// Returns the sum before its second turn.
 fn raise_both<R: Wait + Clock>(rt: &R, gate: &Gate<Sum>, seat: &mut Seat<Sum>) -> Option<u64>
     requires { seat.old.gate ≡ gate.now }
@@ -428,22 +379,7 @@ fn raise_both<R: Wait + Clock>(rt: &R, gate: &Gate<Sum>, seat: &mut Seat<Sum>) -
     gate.call(rt, seat, 2).ok()
 }
 
-#[test]
-fn bounded_waits_see_what_comes_while_they_sleep(rt: HostRuntime) -> Result<(), Fail> {
-    let (gate, mut seat) = opened(&rt, 0).ok_or("no memory")?;
-    let roles = [
-        Role::NapsForArrived,
-        Role::NapsForFreed,
-        Role::RaisesBoth,
-        Role::Idle,
-    ];
-    let told = told_to_four(&rt, &gate, &mut seat, roles);
-    assert_eq!(rt; told, [Some(1), Some(1), Some(1), None]);
-    assert_eq!(rt; gate.close(seat).turns, 2);
-    Ok(())
-}
-
-// One rise ends every wait for the second count.
+// One rise ends every wait for the second count. A thread that is not woken would sleep for ever.
 #[test]
 fn a_rise_wakes_all_who_wait_for_freed(rt: HostRuntime) -> Result<(), Fail> {
     let (gate, mut seat) = opened(&rt, 0).ok_or("no memory")?;
@@ -504,116 +440,21 @@ fn a_try_wakes_nobody_and_a_wake_wakes_all(rt: HostRuntime) -> Result<(), Fail> 
     Ok(())
 }
 
-/// The time at which the wait saw the rise, or none if the rise came before the wait.
-fn nap<R: Wait + Clock>(rt: &R, gate: &Gate<Sum>, seat: &mut Seat<Sum>) -> Option<u64>
-    requires { seat.old.gate ≡ gate.now }
-    ensures { seat.new.gate ≡ gate.now }
-{
-    if gate.arrived(seat) > 0 {
-        return None;
-    }
-    match gate.arrived_within(rt, seat, 1) {
-        Some(Awaited::Reached(_)) => millis(rt),
-        _ => None,
-    }
-}
-
-/// The time at which the wait saw the rise, or none if the rise came before the wait.
-fn nap_and_pass_on<R: Wait + Clock>(rt: &R, gate: &Gate<Sum>, seat: &mut Seat<Sum>) -> Option<u64>
-    requires { seat.old.gate ≡ gate.now }
-    ensures { seat.new.gate ≡ gate.now }
-{
-    let seen = nap(rt, gate, seat);
-    gate.pass_on();
-    seen
-}
-
-/// The time before its turn.
-fn raise_arrived<R: Wait + Clock>(rt: &R, gate: &Gate<Sum>, seat: &mut Seat<Sum>) -> Option<u64>
-    requires { seat.old.gate ≡ gate.now }
-    ensures { seat.new.gate ≡ gate.now }
-{
-    thread::sleep(rt, Duration::from_millis(LATE));
-    let before = millis(rt);
-    gate.call(rt, seat, 1).ok()?;
-    before
-}
-
-/// Whether each of two waits was over promptly after what the waker does, or none if one came too
-/// late.
-fn prompt<R: Threads + Wait + Clock + Sync>(
-    rt: &R,
-    gate: &Gate<Sum>,
-    seat: &mut Seat<Sum>,
-    role: Role,
-    waker: Role,
-) -> Option<(bool, bool)>
-    requires { seat.old.gate ≡ gate.now }
-    ensures { seat.new.gate ≡ gate.now }
-{
-    let [one, two, woken, _] = told_to_four(rt, gate, seat, [role, role, waker, Role::Idle]);
-    let late = woken?.saturating_add(PROMPT);
-    Some((one? < late, two? < late))
-}
-
-/// Whether a trial had one of these results.
-fn tried<R: Threads + Wait + Clock + Sync>(
-    rt: &R,
-    alloc: Global,
-    role: Role,
-    waker: Role,
-    wanted: [(bool, bool); 2],
-) -> Option<bool> {
-    for _ in 0..TRIALS {
-        let (gate, mut seat) = Gate::open(alloc, Sum::new(0)).ok()?;
-        let found = prompt(rt, &gate, &mut seat, role, waker);
-        gate.close(seat);
-        if found.is_some_and(|found| wanted.contains(&found)) {
-            return Some(true);
-        }
-    }
-    Some(false)
-}
-
+// One rise ends every wait for the first count. A thread that is not woken would sleep for ever.
 #[test]
-fn a_thread_that_passes_on_wakes_the_next(rt: HostRuntime) {
-    let waker = Role::RaisesArrived;
-    let both = tried(
-        &rt,
-        rt.alloc(),
-        Role::NapsAndPassesOn,
-        waker,
-        [(true, true); 2],
-    );
-    assert_eq!(rt; both, Some(true));
-}
-
-#[test]
-fn a_rise_wakes_one_bounded_wait(rt: HostRuntime) {
-    let waker = Role::RaisesArrived;
-    let one = tried(
-        &rt,
-        rt.alloc(),
-        Role::Naps,
-        waker,
-        [(true, false), (false, true)],
-    );
-    assert_eq!(rt; one, Some(true));
-}
-
-// These waits have no bound: a thread that is not woken would sleep for ever.
-#[test]
-fn a_rise_wakes_all_who_wait_for_arrived(rt: HostRuntime) {
-    let waker = Role::RaisesArrived;
-    let both = tried(&rt, rt.alloc(), Role::NotesTime, waker, [(true, true); 2]);
-    assert_eq!(rt; both, Some(true));
-}
-
-#[test]
-fn a_wake_ends_bounded_waits(rt: HostRuntime) {
-    let waker = Role::TriesAndWakes;
-    let both = tried(&rt, rt.alloc(), Role::Naps, waker, [(true, true); 2]);
-    assert_eq!(rt; both, Some(true));
+fn a_rise_wakes_all_who_wait_for_arrived(rt: HostRuntime) -> Result<(), Fail> {
+    let (gate, mut seat) = opened(&rt, 0).ok_or("no memory")?;
+    let roles = [
+        Role::NotesTime,
+        Role::NotesTime,
+        Role::RaisesBoth,
+        Role::NotesTime,
+    ];
+    let [one, two, raised, three] = told_to_four(&rt, &gate, &mut seat, roles);
+    assert!(rt; one.is_some() && two.is_some() && three.is_some());
+    assert_eq!(rt; raised, Some(1));
+    assert_eq!(rt; gate.close(seat).turns, 2);
+    Ok(())
 }
 
 /// Makes a slow turn by a try, and then wakes all.

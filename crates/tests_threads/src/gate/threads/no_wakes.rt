@@ -18,7 +18,7 @@ fn counts(rt: HostRuntime) -> Result<(), Fail> {
     let (gate, mut seat) = opened(&rt, 0).ok_or("no memory")?;
     let roles = [
         Role::NotesTime,
-        Role::Naps,
+        Role::NotesTime,
         Role::WaitsForFreed(1),
         Role::RaisesBoth,
     ];

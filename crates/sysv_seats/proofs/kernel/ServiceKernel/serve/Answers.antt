@@ -8,18 +8,16 @@ use Rattle.sysv_seats.proofs.kernel.ServiceKernel.serve.Goals as goal
 pub returns : goal.returns
 returns g c =
     let done =
-    serves (λ (k : ServiceKernel g.row.C.Denot g.row.R.Denot g.row.K.Denot g.C.Clock g.K.Caller). k.service)
-    (λ (k : ServiceKernel g.row.C.Denot g.row.R.Denot g.row.K.Denot g.C.Clock g.K.Caller). k.clock)
-    (λ (k : ServiceKernel g.row.C.Denot g.row.R.Denot g.row.K.Denot g.C.Clock g.K.Caller). k.pass)
-    (λ (k : ServiceKernel g.row.C.Denot g.row.R.Denot g.row.K.Denot g.C.Clock g.K.Caller). k.caller)
+    serves (λ (k : ServiceKernel g.row.C.Denot g.row.R.Denot g.C.Clock). k.service)
+    (λ (k : ServiceKernel g.row.C.Denot g.row.R.Denot g.C.Clock). k.clock)
+    (λ (k : ServiceKernel g.row.C.Denot g.row.R.Denot g.C.Clock). k.pass)
     (λ (clock : Bor g.row.C.Denot). g.C.Clock.may clock.now)
-    g.K.Caller.may_leave
-    SLOTS c.serve.result c.args.self.now c.serve.new.kernel (g.I.Read.remaining c.args.reader.now)
+    ⊥ SLOTS c.serve.result c.args.self.now c.serve.new.kernel (g.I.Read.remaining c.args.reader.now)
     (g.I.Read.remaining c.serve.new.reader)
     (g.O.Write.contents c.args.writer.now) (g.O.Write.contents c.serve.new.writer) c.serve.ensures.serves in
     record {
-      serves = done.3;
+      serves = done.2;
       only = c.serve.ensures.only;
       memory = c.serve.ensures.memory;
-      handles = (done.0, done.1, done.2);
+      handles = (done.0, done.1);
     }

@@ -9,22 +9,20 @@ use Rattle.sysv_seats.proofs.kernel.ServiceKernel.serve_watched.Goals as goal
 pub returns : goal.returns
 returns g c =
     let done =
-    serves (λ (k : ServiceKernel g.row.C.Denot g.row.R.Denot g.row.K.Denot g.C.Clock g.K.Caller). k.service)
-    (λ (k : ServiceKernel g.row.C.Denot g.row.R.Denot g.row.K.Denot g.C.Clock g.K.Caller). k.clock)
-    (λ (k : ServiceKernel g.row.C.Denot g.row.R.Denot g.row.K.Denot g.C.Clock g.K.Caller). k.pass)
-    (λ (k : ServiceKernel g.row.C.Denot g.row.R.Denot g.row.K.Denot g.C.Clock g.K.Caller). k.caller)
+    serves (λ (k : ServiceKernel g.row.C.Denot g.row.R.Denot g.C.Clock). k.service)
+    (λ (k : ServiceKernel g.row.C.Denot g.row.R.Denot g.C.Clock). k.clock)
+    (λ (k : ServiceKernel g.row.C.Denot g.row.R.Denot g.C.Clock). k.pass)
     (λ (clock : Bor g.row.C.Denot). g.C.Clock.may clock.now)
-    g.K.Caller.may_leave
-    SLOTS c.serve_watched.result c.args.self.now c.serve_watched.new.kernel
+    ⊥ SLOTS c.serve_watched.result c.args.self.now c.serve_watched.new.kernel
     (g.I.Read.remaining (stream_of c.args.reader.now))
     (g.I.Read.remaining (stream_of c.serve_watched.new.reader))
     (g.O.Write.contents (stream_of c.args.writer.now)) (g.O.Write.contents (stream_of c.serve_watched.new.writer))
     c.serve_watched.ensures.serves in
     record {
-      serves = done.3;
+      serves = done.2;
       only = c.serve_watched.ensures.only;
       memory = c.serve_watched.ensures.memory;
       reader = c.serve_watched.ensures.reader;
       writer = c.serve_watched.ensures.writer;
-      handles = (done.0, done.1, done.2);
+      handles = (done.0, done.1);
     }

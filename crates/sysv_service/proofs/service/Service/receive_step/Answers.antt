@@ -9,6 +9,6 @@ returns-clause-steps g c =
     subst
     (λ (b : Pass).
     StepsGiving MakesTurnAt FindsWorn (g.C.Clock.may c.args.clock.now) c.args.phase c.args.out.now b.seats b.held
-    c.receive_step-state.result c.receive_step-state.new.out c.receive_step-state.new.at
-    c.receive_step-state.new.kept.blocks)
-    c.pass.view_is c.receive_step-state.ensures.steps
+    c.receive_step.result c.receive_step.new.out c.receive_step.new.at
+    c.receive_step.new.kept.blocks)
+    c.pass.view_is c.receive_step.ensures.steps

@@ -5,7 +5,7 @@ use Rattle.sysv_service.specs.Seats.{AreOf}
 use Rattle.sysv_service.specs.Ran.{Comes}
 use Rattle.sysv_steps.specs.Kinds.{Receives}
 use Rattle.sysv_steps.specs.Giving.{GivesNothing}
-use Rattle.sysv_service.proofs.service.Service.msgrcv_for.Given as goal
+use Rattle.sysv_service.proofs.service.Service.msgrcv.Given as goal
 
 -- The state of the call so far.
 abbrev pub invariant-loop : goal.invariant-loop

@@ -9,7 +9,7 @@ use Rattle.sysv_service.specs.Pieces.{comes_on, if_given}
 use Rattle.sysv_service.proofs.ProceedsByStep.{first_at, comes_wait}
 use Rattle.sysv_service.proofs.KindStays.{begin_gives_nothing, wait_gives_nothing, ends_wait, wait_receives}
 use Rattle.sysv_service.proofs.KindStays.{begin_receives}
-use Rattle.sysv_service.proofs.service.Service.msgrcv_for.Goals as goal
+use Rattle.sysv_service.proofs.service.Service.msgrcv.Goals as goal
 
 pub loop-init : goal.loop-init
 loop-init g c =
@@ -36,40 +36,15 @@ loop-preserved g c =
     ReceivesOn may (state_of c.loop.state c.loop.out) c.loop.pass p c.receive_on.new.out c.receive_on.new.pass)
     c.in-Waits.is c.receive_on.ensures.ran in
     let there = comes_on may _ _ _ _ (Waits wait) c.receive_on.new.pass c.loop.invariant.comes on.0 in
-    let ended = c.in-Some-wait_for.ensures.ended c.receive_on.new.out in
+    let ended = c.wait_out.ensures.ended c.receive_on.new.out in
     record {
-      pass = c.wait_for.ensures.pass;
-      receives = ends_wait Receives wait c.receive_on.new.pass _ c.wait_for.new.pass
+      pass = c.wait_out.ensures.pass;
+      receives = ends_wait Receives wait c.receive_on.new.pass _ c.wait_out.new.pass
           (λ value. wait_receives wait value tt) tt (λ why. tt) ended;
-      nothing = wait_gives_nothing wait c.receive_on.new.pass _ c.wait_for.new.pass ended;
-      comes = comes_wait may _ _ wait c.receive_on.new.pass _ c.wait_for.new.pass there ended;
+      nothing = wait_gives_nothing wait c.receive_on.new.pass _ c.wait_out.new.pass ended;
+      comes = comes_wait may _ _ wait c.receive_on.new.pass _ c.wait_out.new.pass there ended;
       goes_on = search rules;
     }
-
-pub returns-in-None-wait_for-clause-left : goal.returns-in-None-wait_for-clause-left
-returns-in-None-wait_for-clause-left g c =
-    let may = g.C.Clock.may c.args.clock.now in
-    let wait = receive_wait c.in-Waits.wait in
-    let on =
-    subst (λ p.
-    ReceivesOn may (state_of c.loop.state c.loop.out) c.loop.pass p c.receive_on.new.out c.receive_on.new.pass)
-    c.in-Waits.is c.receive_on.ensures.ran in
-    let there = comes_on may _ _ _ _ (Waits wait) c.receive_on.new.pass c.loop.invariant.comes on.0 in
-    let still = c.in-None-wait_for.ensures.still c.receive_on.new.out in
-    let stayed = comes_wait may _ _ wait c.receive_on.new.pass _ c.wait_for.new.pass there still in
-    let id = c.ranges.id in
-    let mtype = c.ranges.mtype in
-    let comes = simp to_z-of_z at stayed in
-    (c.in-None-wait_for.ensures.left, wait, comes)
-
-pub returns-in-None-wait_for-clause-empty : goal.returns-in-None-wait_for-clause-empty
-returns-in-None-wait_for-clause-empty g c =
-    let may = g.C.Clock.may c.args.clock.now in
-    let on =
-    subst (λ p.
-    ReceivesOn may (state_of c.loop.state c.loop.out) c.loop.pass p c.receive_on.new.out c.receive_on.new.pass)
-    c.in-Waits.is c.receive_on.ensures.ran in
-    on.1
 
 pub returns-in-Over-clause-ran : goal.returns-in-Over-clause-ran
 returns-in-Over-clause-ran g c =

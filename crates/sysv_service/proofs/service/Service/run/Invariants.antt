@@ -1,7 +1,7 @@
 use Rattle.sysv_steps.specs.Seen.{state_of}
 use Rattle.sysv_service.specs.Seats.{AreOf}
 use Rattle.sysv_service.specs.Ran.{Comes}
-use Rattle.sysv_service.proofs.service.Service.run_for.Given as goal
+use Rattle.sysv_service.proofs.service.Service.run.Given as goal
 
 -- The state of the call so far.
 abbrev pub invariant-loop : goal.invariant-loop
