@@ -9,7 +9,7 @@ use Rattle.sysv_workers.specs.Doing.{Did}
 use Rattle.sysv_workers.specs.declared.feed.Feed.{Feed}
 use Rattle.sysv_workers.specs.declared.worker.Done.{Done}
 use Rattle.sysv_workers.specs.declared.worker.Working.{Working}
-use Rattle.sysv_workers.specs.declared.workers.TheConstants.{MAX_CROWD}
+use Rattle.sysv_workers.specs.declared.workers.TheConstants.{MAX_WORKERS}
 
 -- What a thread works on: its state, its job and its buffer.
 pub record Assigned (W J : Type 0) : Type 0 where
@@ -30,10 +30,10 @@ module _ {W T J : Type 0} where
 
 -- Threads can be started on these states: the seat is one of the buffer, with which nothing was
 -- taken, and the list of threads has room for as many as there are states, of which there are 1 to
--- 256.
+-- 16.
 abbrev pub CanStart : {W T : Type 0} → (W → Type 0) → Buffered → Holding (Feed T) → List W → (count room : ℕ) → Type 0
 CanStart fits buffer seat states count room =
-    (seat.buffer ≡ buffer) × (seat.takes ≡ []) × All fits states × (1 ≤ count) × (count ≤ MAX_CROWD) × (count ≤ room)
+    (seat.buffer ≡ buffer) × (seat.takes ≡ []) × All fits states × (1 ≤ count) × (count ≤ MAX_WORKERS) × (count ≤ room)
 
 -- A worker that began with this state leaves what it did.
 abbrev pub HasDone : {W T : Type 0} → (W → T → W → Type 0) → (W → Type 0) → Buffered → W → Done W T → Type 0

@@ -9,7 +9,7 @@ ghost use Rattle.sysv_workers.specs.Doing.{Did, Gathered};
 ghost use Rattle.sysv_workers.specs.Feeding.{IsMarked};
 ghost use Rattle.sysv_workers.specs.declared.feed.Feed.{Feed};
 ghost use Rattle.sysv_workers.specs.Parts.{Part};
-ghost use Rattle.sysv_workers.specs.declared.workers.TheConstants.{MAX_CROWD};
+ghost use Rattle.sysv_workers.specs.declared.workers.TheConstants.{MAX_WORKERS};
 
 use crate::feed::{Feed, put_marks};
 use crate::job::Job;
@@ -65,7 +65,7 @@ pub(crate) fn start<
 ) -> Result<Handle<W, T, J>, Done<W, T>>
     requires buffer { seat.old.buffer ≡ buffer.now }
     requires fits { J.fits job.now state }
-    requires few { started < MAX_CROWD }
+    requires few { started < MAX_WORKERS }
     ensures buffer { seat.new.buffer ≡ buffer.now }
     ensures takes { seat.new.takes ≡ seat.old.takes }
     ensures ok { IfOk result (λ h. (h.promise.state.value ≡ state) × (h.promise.job.value ≡ job.now)
@@ -119,7 +119,7 @@ pub(crate) fn start_all<
     requires buffer { seat.old.buffer ≡ buffer.now }
     requires fits { All (J.fits job.now) states.old.items }
     requires none { handles.old.items ≡ [] }
-    requires room { (length states.old.items ≤ MAX_CROWD)
+    requires room { (length states.old.items ≤ MAX_WORKERS)
         × (length states.old.items ≤ vec_capacity handles.old) }
     ensures buffer { seat.new.buffer ≡ buffer.now }
     ensures takes { seat.new.takes ≡ seat.old.takes }

@@ -15,4 +15,4 @@ pub use job::Job;
 pub use laws::numerals_of_workers;
 pub use refusals::{WorkersFault, WorkersRefused};
 pub use source::Source;
-pub use workers::{MAX_CROWD, MAX_WORKERS, run_crowd, run_workers};
+pub use workers::{MAX_WORKERS, run_workers};

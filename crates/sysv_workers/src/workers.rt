@@ -6,7 +6,7 @@ ghost use Rattle.std.specs.Thread.{IsSync};
 ghost use Rattle.sysv_workers.specs.Crews.{AreOn, CanStart, HasDone};
 ghost use Rattle.sysv_workers.specs.Causes.{Told, HasCause, FailsBy};
 ghost use Rattle.sysv_workers.specs.Running.{RunsAll, GivesBack, GivesUp, LeavesSource, Ends, Fails};
-ghost use Rattle.sysv_workers.specs.declared.workers.TheConstants.{MAX_WORKERS, MAX_CROWD};
+ghost use Rattle.sysv_workers.specs.declared.workers.TheConstants.{MAX_WORKERS};
 
 use crate::crew::{Handle, Tally, collect, join_all, start_all};
 use crate::feed::{Feed, put_all, put_marks};
@@ -23,9 +23,6 @@ use sysv_buffer::{ManyBuffer, Seat};
 
 /// The largest number of workers of `run_workers`. The smallest is one.
 pub const MAX_WORKERS: usize = 16;
-
-/// The largest number of workers of `run_crowd`. The smallest is one.
-pub const MAX_CROWD: usize = 256;
 
 /// Runs the job over all items of the source, in one thread per state. Returns the states that the
 /// runs leave, in their order.
@@ -76,66 +73,8 @@ where
         × All (J.fits job.now) e.states.items) }
     ensures asked { IfErr result (λ e. LeavesSource S.gives source.old e.why source.new) }
 {
-    run_at_most(MAX_WORKERS, rt, alloc, states, source, job)
-}
-
-/// Like `run_workers`, but with 1 to 256 states.
-///
-/// # Errors
-///
-/// As for `run_workers`, but `BadCount` if and only if there are not 1 to 256 states.
-///
-/// # Conditions
-///
-/// - Each state is one that the job works with (`fits`).
-pub fn run_crowd<W: Send, T: Drop + Send, S: Source<T>, J: Job<W, T> + Sync, R>(
-    rt: &R,
-    alloc: Global,
-    states: Vec<W>,
-    source: &mut S,
-    job: &J,
-) -> Result<Vec<W>, WorkersRefused<W>>
-where
-    R: Threads + Wait + Sync,
-    requires { All (J.fits job.now) states.items }
-    ensures count { OnOk result ((1 ≤ vec_len states) × (vec_len states ≤ MAX_CROWD)) }
-    ensures bad_count { IfErr result (λ e. (e.why ≡ WorkersFault.BadCount)
-        ↔ ((vec_len states < 1) ⊎ (MAX_CROWD < vec_len states))) }
-    ensures ok { IfOk result (λ after.
-        RunsAll (J.runs job.now) S.gives states.items source.old after.items source.new) }
-    ensures fits { IfOk result (λ after. All (J.fits job.now) after.items) }
-    ensures err { IfErr result (λ e. GivesBack (J.runs job.now) states.items e.why e.states.items
-        × All (J.fits job.now) e.states.items) }
-    ensures asked { IfErr result (λ e. LeavesSource S.gives source.old e.why source.new) }
-{
-    run_at_most(MAX_CROWD, rt, alloc, states, source, job)
-}
-
-/// Like `run_workers`, but with at most `most` states.
-fn run_at_most<W: Send, T: Drop + Send, S: Source<T>, J: Job<W, T> + Sync, R>(
-    most: usize,
-    rt: &R,
-    alloc: Global,
-    states: Vec<W>,
-    source: &mut S,
-    job: &J,
-) -> Result<Vec<W>, WorkersRefused<W>>
-where
-    R: Threads + Wait + Sync,
-    requires fits { All (J.fits job.now) states.items }
-    requires most { most ≤ MAX_CROWD }
-    ensures count { OnOk result ((1 ≤ vec_len states) × (vec_len states ≤ most)) }
-    ensures bad_count { IfErr result (λ e. (e.why ≡ WorkersFault.BadCount)
-        ↔ ((vec_len states < 1) ⊎ (most < vec_len states))) }
-    ensures ok { IfOk result (λ after.
-        RunsAll (J.runs job.now) S.gives states.items source.old after.items source.new) }
-    ensures fits { IfOk result (λ after. All (J.fits job.now) after.items) }
-    ensures err { IfErr result (λ e. GivesBack (J.runs job.now) states.items e.why e.states.items
-        × All (J.fits job.now) e.states.items) }
-    ensures asked { IfErr result (λ e. LeavesSource S.gives source.old e.why source.new) }
-{
     let count = states.len();
-    if count < 1 || count > most {
+    if count < 1 || count > MAX_WORKERS {
         let why = WorkersFault::BadCount;
         return Err(WorkersRefused { why, states });
     }
@@ -165,7 +104,7 @@ where
     requires cells { buffer.now.room ≡ vec_len states }
     requires fits { All (J.fits job.now) states.items }
     requires handles { handles.items ≡ [] }
-    requires room { (1 ≤ vec_len states) × (vec_len states ≤ MAX_CROWD)
+    requires room { (1 ≤ vec_len states) × (vec_len states ≤ MAX_WORKERS)
         × (vec_len states ≤ vec_capacity handles) }
     ensures ok { IfOk result (λ v.
         Ends (J.runs job.now) (J.fits job.now) S.gives states.items source.old v.items source.new) }
@@ -236,7 +175,7 @@ fn run_in<
     requires seat { (seat.old.buffer ≡ buffer.now) × (seat.old.takes ≡ []) }
     requires fits { All (J.fits job.now) states.items }
     requires handles { handles.items ≡ [] }
-    requires room { (1 ≤ vec_len states) × (vec_len states ≤ MAX_CROWD)
+    requires room { (1 ≤ vec_len states) × (vec_len states ≤ MAX_WORKERS)
         × (vec_len states ≤ vec_capacity handles) }
     ensures ok { IfOk result (λ v.
         Ends (J.runs job.now) (J.fits job.now) S.gives states.items source.old v.items source.new) }

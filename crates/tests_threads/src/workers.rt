@@ -6,7 +6,7 @@ use std::alloc::Global;
 use std::process::Abort;
 use std::sync::Wait;
 use std::thread::Threads;
-use sysv_workers::{Job, Source, WorkersFault, WorkersRefused, run_crowd, run_workers};
+use sysv_workers::{Job, Source, WorkersFault, WorkersRefused, run_workers};
 
 mod growths;
 mod marks;
@@ -61,11 +61,11 @@ impl Ticket {
 }
 
 /// The number of tickets that there is space for.
-const TICKETS: usize = 257;
+const TICKETS: usize = 17;
 
 /// Returns this number of tickets, numbered from 0 on. Tolerates one refusal of memory.
 fn tickets(rt: &impl Abort, alloc: Global, count: usize) -> Vec<Ticket>
-    requires { count ≤ 257 }
+    requires { count ≤ 17 }
 {
     let mut tickets = room(rt, alloc);
     for number in 0..count {
@@ -78,7 +78,7 @@ fn tickets(rt: &impl Abort, alloc: Global, count: usize) -> Vec<Ticket>
 }
 
 fn room(rt: &impl Abort, alloc: Global) -> Vec<Ticket>
-    ensures { (vec_len result ≡ 0) × (257 ≤ vec_capacity result) }
+    ensures { (vec_len result ≡ 0) × (17 ≤ vec_capacity result) }
 {
     match Vec::with_capacity(alloc, TICKETS) {
         Ok(tickets) => tickets,
@@ -103,25 +103,6 @@ fn items_of(rt: &impl Abort, tickets: Vec<Ticket>, count: u64) -> u64 {
     all
 }
 
-/// Runs `run_crowd` or `run_workers`.
-fn run<W: Send, J: Job<W, u64> + Sync, R: Threads + Wait + Sync>(
-    rt: &R,
-    alloc: Global,
-    is_crowd: bool,
-    states: Vec<W>,
-    source: &mut Numbers,
-    job: &J,
-) -> Result<Vec<W>, WorkersRefused<W>>
-    requires { All (J.fits job.now) states.items }
-    ensures { IfErr result (λ e. All (J.fits job.now) e.states.items) }
-{
-    if is_crowd {
-        run_crowd(rt, alloc, states, source, job)
-    } else {
-        run_workers(rt, alloc, states, source, job)
-    }
-}
-
 /// Runs the states, and returns them. If memory or a thread is refused, asserts that the states are
 /// handed back and that the source was not called, and tries again.
 fn ran<W: Send, J: Job<W, u64> + Sync, R: Threads + Wait + Abort + Sync>(
@@ -133,21 +114,7 @@ fn ran<W: Send, J: Job<W, u64> + Sync, R: Threads + Wait + Abort + Sync>(
 ) -> Vec<W>
     requires { All (J.fits job.now) states.items }
 {
-    ran_by(rt, alloc, false, states, source, job)
-}
-
-/// Runs the states in the same way, by `run_crowd` or by `run_workers`.
-fn ran_by<W: Send, J: Job<W, u64> + Sync, R: Threads + Wait + Abort + Sync>(
-    rt: &R,
-    alloc: Global,
-    is_crowd: bool,
-    states: Vec<W>,
-    source: &mut Numbers,
-    job: &J,
-) -> Vec<W>
-    requires { All (J.fits job.now) states.items }
-{
-    let states = match run(rt, alloc, is_crowd, states, source, job) {
+    let states = match run_workers(rt, alloc, states, source, job) {
         Ok(states) => return states,
         Err(refused) => {
             let WorkersRefused { why, states } = refused;
@@ -159,7 +126,7 @@ fn ran_by<W: Send, J: Job<W, u64> + Sync, R: Threads + Wait + Abort + Sync>(
             states
         }
     };
-    match run(rt, alloc, is_crowd, states, source, job) {
+    match run_workers(rt, alloc, states, source, job) {
         Ok(states) => states,
         Err(refused) => panic!(rt; "a second try: {}", refused.why),
     }

@@ -18,17 +18,12 @@ impl Job<Ticket, u64> for Counting {
 }
 
 /// Asserts that this number of states is refused.
-fn are_refused<R: Threads + Wait + Abort + Sync>(
-    rt: &R,
-    alloc: Global,
-    is_crowd: bool,
-    count: usize,
-)
-    requires { count ≤ 257 }
+fn are_refused<R: Threads + Wait + Abort + Sync>(rt: &R, alloc: Global, count: usize)
+    requires { count ≤ 17 }
 {
     let mut source = Numbers::below(5);
     let states = tickets(rt, alloc, count);
-    match run(rt, alloc, is_crowd, states, &mut source, &Counting) {
+    match run_workers(rt, alloc, states, &mut source, &Counting) {
         Ok(_) => panic!(rt; "{count} states"),
         Err(refused) => {
             let WorkersRefused { why, states } = refused;
@@ -40,34 +35,25 @@ fn are_refused<R: Threads + Wait + Abort + Sync>(
 }
 
 /// Asserts that this number of states runs all items.
-fn are_run<R: Threads + Wait + Abort + Sync>(rt: &R, alloc: Global, is_crowd: bool, count: usize)
-    requires { count ≤ 257 }
+fn are_run<R: Threads + Wait + Abort + Sync>(rt: &R, alloc: Global, count: usize)
+    requires { count ≤ 17 }
 {
     let mut source = Numbers::below(400);
     let states = tickets(rt, alloc, count);
-    let left = ran_by(rt, alloc, is_crowd, states, &mut source, &Counting);
+    let left = ran(rt, alloc, states, &mut source, &Counting);
     assert_eq!(rt; items_of(rt, left, count as u64), 400);
 }
 
 #[test]
 fn a_number_of_states_out_of_range(rt: HostRuntime) {
-    are_refused(&rt, rt.alloc(), false, 0);
-    are_refused(&rt, rt.alloc(), false, 17);
-    are_refused(&rt, rt.alloc(), true, 0);
-    are_refused(&rt, rt.alloc(), true, 257);
+    are_refused(&rt, rt.alloc(), 0);
+    are_refused(&rt, rt.alloc(), 17);
 }
 
 #[test]
 fn one_state_and_sixteen(rt: HostRuntime) {
-    are_run(&rt, rt.alloc(), false, 1);
-    are_run(&rt, rt.alloc(), false, 16);
-}
-
-#[test]
-fn crowds_of_one_seventeen_and_256(rt: HostRuntime) {
-    are_run(&rt, rt.alloc(), true, 1);
-    are_run(&rt, rt.alloc(), true, 17);
-    are_run(&rt, rt.alloc(), true, 256);
+    are_run(&rt, rt.alloc(), 1);
+    are_run(&rt, rt.alloc(), 16);
 }
 
 #[test]
