@@ -33,8 +33,9 @@ struct Reporter<'a, R> {
 }
 
 impl<R: Files + Net + Eprint + AllocGlobal + Clone + Drop> Host for Reporter<'_, R> {
-    /// Opens the socket, and reports that the server listens, or why it does not. If there are
-    /// fewer descriptors than the clients that were asked for, that is reported too.
+    /// Opens the socket, and reports that the server listens, how many clients it serves at once
+    /// and how many blocks it has, or why it does not listen. If there are fewer descriptors than
+    /// the clients that were asked for, that is reported too.
     fn listen(&self) -> io::Result<UnixListener> {
         let Reporter {
             rt,
@@ -44,7 +45,10 @@ impl<R: Files + Net + Eprint + AllocGlobal + Clone + Drop> Host for Reporter<'_,
         let listener = listen_at(rt, &serving.file)?;
         let sessions = if at_once == 1 { "session" } else { "sessions" };
         let path = serving.file.path;
-        let _ = eprintln!(*rt; "sysvmsg: serving {path}, up to {at_once} {sessions} at once");
+        let blocks = serving.terms.blocks;
+        let _ = eprintln!(*rt;
+            "sysvmsg: serving {path}, up to {at_once} {sessions} at once, {blocks} blocks"
+        );
         let asked = serving.terms.at_once;
         if at_once < asked && asked < MAX_CLIENTS {
             let _ = eprintln!(*rt;
