@@ -78,9 +78,9 @@ def places(workers=4, descriptors=None):
     return min(max(descriptors - 5 - 2 * workers, 1), MOST_AT_ONCE)
 
 
-def serving(path, count):
-    """The first line of a server at a path that serves so many sessions at once."""
-    return "sysvmsg: serving %s, up to %d session%s at once\n" % (path, count, "s" * (count != 1))
+def serving(path, count, blocks=1024):
+    """The first line of a server at a path that serves so many sessions at once, with so many blocks."""
+    return "sysvmsg: serving %s, up to %d session%s at once, %d blocks\n" % (path, count, "s" * (count != 1), blocks)
 
 
 def hello(uid, gid, pid, version=2):

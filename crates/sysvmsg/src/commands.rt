@@ -14,7 +14,7 @@ understood, 3 if the time of --wait is over.
 
 Example:
   $ sysvmsg serve ./q &
-  sysvmsg: serving ./q, up to 1011 sessions at once
+  sysvmsg: serving ./q, up to 1011 sessions at once, 1024 blocks
   $ sysvmsg snd ./q 7 hello --type 5
   $ sysvmsg ipcs ./q
   key             msqid      owner perms  bytes messages
@@ -111,7 +111,7 @@ As many clients are served at once as there are descriptors, up to 16384; more w
 
 Example:
   $ sysvmsg serve ./q --mode 660 &
-  sysvmsg: serving ./q, up to 1011 sessions at once",
+  sysvmsg: serving ./q, up to 1011 sessions at once, 1024 blocks",
     arguments: &[
         (
             "path",

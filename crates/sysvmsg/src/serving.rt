@@ -38,8 +38,9 @@ struct Reporter<'a, R> {
 }
 
 impl<R: Eprint> Reporter<'_, R> {
-    /// Reports that the server listens. If there are fewer descriptors than the clients that were
-    /// asked for, that is reported too.
+    /// Reports that the server listens, how many clients it serves at once and how many blocks it
+    /// has. If there are fewer descriptors than the clients that were asked for, that is reported
+    /// too.
     fn announce(&self) {
         let Reporter {
             rt,
@@ -48,8 +49,11 @@ impl<R: Eprint> Reporter<'_, R> {
         } = *self;
         let sessions = if at_once == 1 { "session" } else { "sessions" };
         let path = serving.file.path;
+        let blocks = serving.terms.blocks;
         if takes_line() {
-            let _ = eprintln!(*rt; "sysvmsg: serving {path}, up to {at_once} {sessions} at once");
+            let _ = eprintln!(*rt;
+                "sysvmsg: serving {path}, up to {at_once} {sessions} at once, {blocks} blocks"
+            );
         }
         let asked = serving.terms.at_once;
         if at_once < asked && asked < MAX_CLIENTS && takes_line() {
