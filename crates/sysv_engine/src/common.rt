@@ -68,6 +68,10 @@ pub struct Common {
     drain: u32,
     /// Whether no more connections come.
     finished: AtomicBool,
+    /// The number of connections that were returned to the workers, and of those that they have
+    /// taken.
+    dealt: AtomicU64,
+    taken: AtomicU64,
     /// Whether all clients are to be closed.
     is_cut: AtomicBool,
     /// The number of sessions that are over.
@@ -106,6 +110,8 @@ impl Common {
             patience,
             drain,
             finished: AtomicBool::new(false),
+            dealt: AtomicU64::new(0),
+            taken: AtomicU64::new(0),
             is_cut: AtomicBool::new(false),
             over: AtomicU64::new(0),
             starved: AtomicBool::new(false),
@@ -243,15 +249,31 @@ impl Common {
         }
     }
 
+    /// Counts a connection that is returned to the workers.
+    pub(crate) fn deal(&self) {
+        self.dealt.fetch_add(1, Ordering::SeqCst);
+    }
+
+    /// Counts a connection that a worker has taken.
+    pub(crate) fn take(&self) {
+        self.taken.fetch_add(1, Ordering::SeqCst);
+        if self.finished.load(Ordering::SeqCst) {
+            self.ring_all();
+        }
+    }
+
     /// Tells all workers that no more connections come.
     pub fn finish(&self) {
         self.finished.store(true, Ordering::SeqCst);
         self.ring_all();
     }
 
-    /// Returns whether no more connections come.
+    /// Returns whether no more connections come, and the workers have taken all of them. Until
+    /// then, a worker that was not told to take one leaves it to the worker that was: that one
+    /// would find none, and end with its clients.
     pub(crate) fn is_finished(&self) -> bool {
         self.finished.load(Ordering::SeqCst)
+            && self.taken.load(Ordering::SeqCst) >= self.dealt.load(Ordering::SeqCst)
     }
 
     /// Returns whether all clients are to be closed.

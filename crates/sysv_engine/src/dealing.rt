@@ -142,6 +142,7 @@ impl<T, S: Source<T>> Source<T> for Dealing<'_, '_, S> {
         } else {
             self.tell();
         }
+        self.common.deal();
         Some(connection)
     }
 }

@@ -37,6 +37,7 @@ impl<'a, 'c, R: Wait, T: NonBlocking + Drop, W: Watch<T>> Job<Worker<'a, R, T, W
         job.service.now connection old.places.items new.places.items };
 
     fn run(&self, worker: &mut Worker<'a, R, T, W>, connection: T) {
+        self.common.take();
         self.make_room(worker);
         let place = worker.adopt(self.alloc, connection);
         self.turn(worker, place);
