@@ -36,5 +36,5 @@ returns-in-Over-Reset g c = record {
   keeps = filled_not g.T.NonBlocking.incoming g.T.NonBlocking.outgoing _ _ c.stop.new.self c.fill.new.self _
       c.self.view_is c.requires.free c.in-Over-Reset.ensures.bytes.0 c.fill.ensures.untold c.fill.ensures.written
       c.stop.ensures;
-  handles = (refl, refl, refl);
+  handles = (refl, refl);
 }
