@@ -3,6 +3,7 @@
  *   many_client wait WAY PATH PID CLIENTS REST MESSAGES
  *   many_client pipe WAY PATH PID DEPTH MILLISECONDS
  *   many_client trips WAY PATH PID CLIENTS MILLISECONDS
+ *   many_client beside WAY PATH PID CLIENTS MILLISECONDS
  * WAY is sysvmsg (a send; a receive that waits) or redis (LPUSH; BRPOP). PID is the process of the
  * server, which must be new. Messages have 64 bytes.
  *
@@ -25,6 +26,10 @@
  * own, receives a request and sends its answer, over and over. It prints the answers per second;
  * the 99th percentile of the time from a request to its answer, and the processor time of the
  * server per answer, in microseconds.
+ *
+ * beside: the clients, in a process of their own, each send themselves a message and receive it,
+ * over and over. One more client does the same. It prints the median, the 99th percentile and the
+ * 99.9th percentile of the time that this client needs for a send and its receive, in microseconds.
  *
  * It prints an error instead and ends with status 1 if a message was lost or is not the expected
  * one, if a request failed, or if the run takes 30 seconds longer than it should.
@@ -425,10 +430,10 @@ static int by_size(const void *left, const void *right)
     return (a > b) - (a < b);
 }
 
-/* The greatest of the least so many hundredths, in microseconds, of sorted times. */
-static double percentile(const int64_t *times, size_t count, size_t percent)
+/* The greatest of the least so many thousandths, in microseconds, of sorted times. */
+static double percentile(const int64_t *times, size_t count, size_t thousandths)
 {
-    return count == 0 ? 0 : (double)times[(count - 1) * percent / 100] / 1e3;
+    return count == 0 ? 0 : (double)times[(count - 1) * thousandths / 1000] / 1e3;
 }
 
 static double each(int64_t time, size_t count)
@@ -484,8 +489,8 @@ static void wait_for_messages(int clients, int rest, int messages)
     int64_t spent = nanoseconds(server) - before;
     size_t count = (size_t)messages;
     qsort(times, count, sizeof *times, by_size);
-    printf("%.0f %ld %.1f %.1f %.2f\n", (double)used / 1e3, woken, percentile(times, count, 50),
-        percentile(times, count, 99), each(spent, count));
+    printf("%.0f %ld %.1f %.1f %.2f\n", (double)used / 1e3, woken, percentile(times, count, 500),
+        percentile(times, count, 990), each(spent, count));
 }
 
 /* Requests have numbers from 0: each even one is a send, and the next one is its receive. */
@@ -517,8 +522,9 @@ static void pipeline(int depth, int milliseconds)
 }
 
 /* A client that takes requests and answers each with the same message. */
-static void answer_all(void)
+static void answer_all(int clients)
 {
+    (void)clients;
     struct link link = connected(REPLY);
     send_hello(&link);
     await_reply(&link);
@@ -530,23 +536,30 @@ static void answer_all(void)
     }
 }
 
-static void when_answerer_ended(int signal)
+static void when_child_ended(int signal)
 {
     (void)signal;
     _exit(1);
 }
 
-static pid_t start_answerer(void)
+/* Starts a process of its own for other clients, which does not end by itself. */
+static pid_t start_others(void (*run)(int clients), int clients)
 {
-    signal(SIGCHLD, when_answerer_ended);
+    signal(SIGCHLD, when_child_ended);
     pid_t child = fork();
     if (child < 0)
-        fail("the answering client cannot be started");
+        fail("the other clients cannot be started");
     if (child == 0) {
         prctl(PR_SET_PDEATHSIG, SIGKILL);
-        answer_all();
+        run(clients);
     }
     return child;
+}
+
+static void end_others(pid_t child)
+{
+    signal(SIGCHLD, SIG_IGN);
+    kill(child, SIGKILL);
 }
 
 /* A client that sends requests and waits for their answers. */
@@ -613,7 +626,7 @@ static void ask_all(int clients, int milliseconds)
     struct trips trips = {.most = (size_t)milliseconds * 1000 + (size_t)clients, .asking = clients};
     trips.times = new_array(trips.most, sizeof *trips.times);
     first_link();
-    pid_t answerer = start_answerer();
+    pid_t answerer = start_others(answer_all, clients);
     int watch = epoll_create1(0);
     struct asker *askers = new_askers(clients, watch);
     settle();
@@ -630,11 +643,80 @@ static void ask_all(int clients, int milliseconds)
             proceed(events[i].data.ptr, &trips);
     }
     int64_t spent = nanoseconds(server) - before;
-    signal(SIGCHLD, SIG_IGN);
-    kill(answerer, SIGKILL);
+    end_others(answerer);
     qsort(trips.times, trips.count, sizeof *trips.times, by_size);
     printf("%.0f %.1f %.2f\n", (double)trips.count * 1e9 / (double)(trips.last - trips.start),
-        percentile(trips.times, trips.count, 99), each(spent, trips.count));
+        percentile(trips.times, trips.count, 990), each(spent, trips.count));
+}
+
+/* A client that sends itself messages. */
+struct talker {
+    struct link link;
+    int place, is_sent;
+};
+
+/* Reads what has arrived for a client, and does what comes next. */
+static void talk_on(struct talker *talker)
+{
+    struct message message = message_of((uint32_t)talker->place, 0);
+    read_more(&talker->link);
+    const char *end = next_reply(&talker->link);
+    if (end == NULL)
+        return;
+    if (!talker->is_sent) {
+        talker->is_sent = 1;
+        send_take(&talker->link, talker->place);
+        return;
+    }
+    expect(end, &message);
+    talker->is_sent = 0;
+    send_message(&talker->link, talker->place, &message);
+}
+
+/* Clients that send themselves messages without end. */
+static void talk_all(int clients)
+{
+    struct epoll_event events[AT_ONCE];
+    struct talker *talkers = new_array((size_t)clients, sizeof *talkers);
+    int watch = epoll_create1(0);
+    for (int i = 0; i < clients; i++) {
+        struct epoll_event event = {.events = EPOLLIN, .data.ptr = talkers + i};
+        struct message message = message_of((uint32_t)i, 0);
+        greet_all(&talkers[i].link, 1);
+        talkers[i].place = i;
+        if (epoll_ctl(watch, EPOLL_CTL_ADD, talkers[i].link.fd, &event) != 0)
+            fail("a client cannot be watched");
+        send_message(&talkers[i].link, i, &message);
+    }
+    for (;;) {
+        int ready = epoll_wait(watch, events, AT_ONCE, -1);
+        if (ready < 0 && errno != EINTR)
+            fail("the clients cannot be watched");
+        for (int i = 0; i < ready; i++)
+            talk_on(events[i].data.ptr);
+    }
+}
+
+static void talk_beside(int clients, int milliseconds)
+{
+    size_t count = 0, most = (size_t)milliseconds * 1000;
+    int64_t *times = new_array(most, sizeof *times);
+    struct link link = first_link();
+    pid_t others = start_others(talk_all, clients);
+    pause_for(200);
+    int64_t end = now() + milliseconds * INT64_C(1000000), start;
+    while ((start = now()) < end && count < most) {
+        struct message message = message_of((uint32_t)clients, (uint32_t)count);
+        send_message(&link, clients, &message);
+        await_reply(&link);
+        send_take(&link, clients);
+        expect(await_reply(&link), &message);
+        times[count++] = now() - start;
+    }
+    end_others(others);
+    qsort(times, count, sizeof *times, by_size);
+    printf("%.1f %.1f %.1f\n", percentile(times, count, 500), percentile(times, count, 990),
+        percentile(times, count, 999));
 }
 
 static void when_too_long(int signal)
@@ -681,6 +763,8 @@ static int measure(int argc, char **argv)
         pipeline(depth, time);
     else if (strcmp(word, "trips") == 0 && argc == 7 && clients > 0 && time > 0)
         ask_all(clients, time);
+    else if (strcmp(word, "beside") == 0 && argc == 7 && clients > 0 && time > 0)
+        talk_beside(clients, time);
     else
         return 0;
     return 1;
@@ -702,6 +786,6 @@ int main(int argc, char **argv)
         if (measure(argc, argv))
             return 0;
     }
-    fputs("many_client greet|wait|pipe|trips sysvmsg|redis PATH PID NUMBER ..\n", stderr);
+    fputs("many_client greet|wait|pipe|trips|beside sysvmsg|redis PATH PID NUMBER ..\n", stderr);
     return 2;
 }
