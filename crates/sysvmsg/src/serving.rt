@@ -10,7 +10,6 @@ use crate::plain::complain;
 use crate::room::room;
 use crate::socket::listen_at;
 use crate::{FAULT, say};
-use std::io;
 use std::io::{Eprint, ErrorKind, Read, Write};
 use std::net::Net;
 use std::os::fd::AsRawFd;
@@ -19,6 +18,7 @@ use std::process::ExitCode;
 use std::rt::Files;
 use std::sync::Wait;
 use std::thread::Threads;
+use std::{fs, io};
 use sysv_server::{
     Ended, Host, MAX_CLIENTS, Notice, Reason, ServeFault, Sums, Terms, serve_listener,
 };
@@ -42,7 +42,13 @@ impl<R: Files + Net + Eprint + AllocGlobal + Clone + Drop> Host for Reporter<'_,
             serving,
             at_once,
         } = *self;
-        let listener = listen_at(rt, &serving.file)?;
+        let listener = match listen_at(rt, &serving.file) {
+            Ok(listener) => listener,
+            Err(why) => {
+                self.remove_stats();
+                return Err(why);
+            }
+        };
         let sessions = if at_once == 1 { "session" } else { "sessions" };
         let path = serving.file.path;
         let blocks = serving.terms.blocks;
@@ -58,6 +64,13 @@ impl<R: Files + Net + Eprint + AllocGlobal + Clone + Drop> Host for Reporter<'_,
         Ok(listener)
     }
 
+    fn listen_for_readers(&self) -> io::Result<Option<UnixListener>> {
+        match &self.serving.stats {
+            Some(file) => Ok(Some(listen_at(self.rt, file)?)),
+            None => Ok(None),
+        }
+    }
+
     fn note(&self, notice: Notice) {
         let rt = self.rt;
         match notice {
@@ -71,6 +84,16 @@ impl<R: Files + Net + Eprint + AllocGlobal + Clone + Drop> Host for Reporter<'_,
             Notice::Cut => {
                 let _ = eprintln!(*rt; "sysvmsg: the sessions that are left are cut off");
             }
+        }
+    }
+}
+
+impl<R: Files> Reporter<'_, R> {
+    /// Removes the socket on which the state would be shown, which was created before the other one
+    /// could not be.
+    fn remove_stats(&self) {
+        if let Some(file) = &self.serving.stats {
+            let _ = fs::remove_file(self.rt, file.path);
         }
     }
 }
@@ -107,7 +130,7 @@ fn run_server<
         serving.now.terms.sessions ended.sums.sessions reason.new) }
 {
     let mut terms = serving.terms;
-    terms.at_once = room(terms.workers, terms.at_once);
+    terms.at_once = room(terms.workers, serving.stats.is_some(), terms.at_once);
     let host = Reporter {
         rt,
         serving,
