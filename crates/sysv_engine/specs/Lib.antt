@@ -1,4 +1,5 @@
 -- The definitions of the server.
+pub mod Looking
 pub mod Made
 pub mod Added
 pub mod Talks

@@ -1,24 +1,14 @@
-//! Sources of connections that may look at the server.
-ghost use Rattle.std.specs.Prelude.{◌≡◌, Option};
+//! Sources of connections that may look at the queues of the server.
+ghost use Rattle.std.specs.Prelude.{◌≡◌};
 ghost use Rattle.sysv_service.specs.Seats.{AreOf};
 ghost use Rattle.sysv_thread_laws.specs.Hiring.{Gives};
+ghost use Rattle.sysv_engine.specs.Looking.{Looks};
 
 use std::alloc::Global;
 use std::sync::Wait;
 use sysv_model::Row;
 use sysv_service::{Pass, Service};
 use sysv_workers::Source;
-
-/// What shows the queues of a running server.
-pub trait Census {
-    /// What reading leaves of it.
-    ghost looks: { Self → Self → Type 0 };
-
-    /// Returns the row of the live queue in this slot, if there is one. It takes one turn at the
-    /// slot, and waits for nothing else.
-    fn row(&mut self, slot: u32) -> Option<Row>
-        ensures { looks self.old self.new };
-}
 
 /// A source of connections like `Source`, which may look at the queues of the server while it waits
 /// for a connection.
@@ -27,8 +17,9 @@ pub trait Arrivals<T> {
     ghost gives: { Self → Option T → Self → Type 0 };
 
     /// Returns the next connection, or `None` if there are no more.
-    fn next(&mut self, census: &mut impl Census) -> Option<T>
-        ensures { gives self.old result self.new };
+    fn next<R: Wait>(&mut self, rows: &mut Rows<'_, R>) -> Option<T>
+        ensures gives { gives self.old result self.new }
+        ensures looks { Looks rows.old rows.new };
 }
 
 /// A source that looks at nothing.
@@ -39,7 +30,10 @@ pub(crate) struct Unseeing<'s, S> {
 
 impl<'s, S> Unseeing<'s, S> {
     /// Creates a source that returns the connections of another one.
-    pub(crate) fn new(source: &'s mut S) -> Unseeing<'s, S> {
+    pub(crate) fn new(source: &'s mut S) -> Unseeing<'s, S>
+        ensures source { result.source.now ≡ source.old }
+        ensures same_reference { result.source.ghost_name ≡ source.entry.ghost_name }
+    {
         Unseeing { source }
     }
 }
@@ -48,13 +42,15 @@ impl<T, S: Source<T>> Arrivals<T> for Unseeing<'_, S> {
     ghost gives = { λ old connection new. S.gives old.source.now connection new.source.now
         × (new.source.ghost_name ≡ old.source.ghost_name) };
 
-    fn next(&mut self, _census: &mut impl Census) -> Option<T> {
+    fn next<R: Wait>(&mut self, _rows: &mut Rows<'_, R>) -> Option<T> {
         self.source.next()
     }
 }
 
-/// The rows of a service, read with a pass of its own.
-pub(crate) struct Rows<'p, R> {
+/// The rows of a running service, read with a pass of their own.
+///
+/// Such a value can be neither dropped nor copied; end it with `into_pass`.
+pub struct Rows<'p, R> {
     rt: &'p R,
     service: &'p Service,
     pass: Pass,
@@ -83,6 +79,17 @@ impl<'p, R: Wait> Rows<'p, R> {
             pass: own,
         }
     }
+
+    /// Returns the row of the live queue in this slot, if there is one. It takes one turn at the
+    /// slot, and waits for nothing else.
+    pub fn row(&mut self, slot: u32) -> Option<Row>
+        ensures { Looks self.old self.new }
+    {
+        match self.service.list_row(self.rt, &mut self.pass, slot) {
+            Ok(row) => row,
+            Err(_) => None,
+        }
+    }
 }
 
 impl<R> Rows<'_, R> {
@@ -97,18 +104,5 @@ impl<R> Rows<'_, R> {
             pass,
         } = self;
         pass
-    }
-}
-
-impl<R: Wait> Census for Rows<'_, R> {
-    ghost use Rattle.sysv_engine.specs.Looking.{Looks};
-
-    ghost looks = { Looks };
-
-    fn row(&mut self, slot: u32) -> Option<Row> {
-        match self.service.list_row(self.rt, &mut self.pass, slot) {
-            Ok(row) => row,
-            Err(_) => None,
-        }
     }
 }

@@ -1,5 +1,6 @@
 //! A source whose connections are dealt out to workers.
 ghost use Rattle.std.specs.Prelude.{◌≡◌};
+ghost use Rattle.sysv_engine.specs.Looking.{Looks};
 
 use crate::arrivals::{Arrivals, Rows};
 use crate::common::Common;
@@ -94,7 +95,8 @@ impl<'s, 'c, 'p, S, R> Dealing<'s, 'c, 'p, S, R> {
 
     /// Tells the worker with the most vacant places to take one more connection.
     fn tell(&mut self)
-        ensures { self.new.source ≡ self.old.source }
+        ensures source { self.new.source ≡ self.old.source }
+        ensures rows { self.new.rows ≡ self.old.rows }
     {
         let worker = self.emptiest();
         self.next = self.after(worker);
@@ -140,7 +142,7 @@ impl<'s, 'c, 'p, S, R> Dealing<'s, 'c, 'p, S, R> {
 
 impl<T, S: Arrivals<T>, R: Wait> Source<T> for Dealing<'_, '_, '_, S, R> {
     ghost gives = { λ old connection new. S.gives old.source.now connection new.source.now
-        × (new.source.ghost_name ≡ old.source.ghost_name) };
+        × (new.source.ghost_name ≡ old.source.ghost_name) × Looks old.rows new.rows };
 
     fn next(&mut self) -> Option<T> {
         let Some(connection) = self.source.next(&mut self.rows) else {

@@ -30,7 +30,7 @@ mod times;
 mod watch;
 mod worker;
 
-pub use arrivals::{Arrivals, Census};
+pub use arrivals::{Arrivals, Rows};
 pub use common::Common;
 pub use connections::{serve_all, serve_connections};
 pub use counts::{Counted, SlotCounts};

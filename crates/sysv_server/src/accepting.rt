@@ -14,7 +14,8 @@ use std::io;
 use std::io::{ErrorKind, Read};
 use std::os::fd::AsRawFd;
 use std::os::unix::net::{UnixListener, UnixStream};
-use sysv_engine::{Arrivals, Census, Common};
+use std::sync::Wait;
+use sysv_engine::{Arrivals, Common, Rows};
 use sysv_seats::SocketStream;
 
 /// The maximum number of bytes of the input that are read at once and dropped.
@@ -177,7 +178,7 @@ impl<'a, I: Read + AsRawFd + Drop, H: Host + Drop> Accepting<'a, I, H> {
     }
 
     /// Accepts the next connection. The error is why no more connections are to be accepted.
-    fn accept(&mut self, census: &mut impl Census) -> Result<SocketStream, Reason>
+    fn accept<R: Wait>(&mut self, rows: &mut Rows<'_, R>) -> Result<SocketStream, Reason>
         requires { is_closed self.old.listening ≡ false }
         ensures same { (self.new.most ≡ self.old.most) × (self.new.accepted ≡ self.old.accepted) }
         ensures input { is_some self.new.input ≡ is_some self.old.input }
@@ -206,7 +207,7 @@ impl<'a, I: Read + AsRawFd + Drop, H: Host + Drop> Accepting<'a, I, H> {
         let mut view = View {
             alloc: self.alloc,
             common: self.common,
-            census,
+            rows,
             blocks: self.blocks,
             accepted: self.accepted,
         };
@@ -224,11 +225,11 @@ impl<I: Read + AsRawFd + Drop, H: Host + Drop> Arrivals<SocketStream> for Accept
 
     ghost gives = { Accepts };
 
-    fn next(&mut self, census: &mut impl Census) -> Option<SocketStream> {
+    fn next<R: Wait>(&mut self, rows: &mut Rows<'_, R>) -> Option<SocketStream> {
         if self.listening.is_closed() {
             return None;
         }
-        match self.accept(census) {
+        match self.accept(rows) {
             Ok(socket) => {
                 self.accepted = self.accepted.saturating_add(1);
                 Some(socket)
@@ -270,12 +271,12 @@ struct Arrived {
 impl<H: Host> Door<'_, '_, '_, H> {
     /// Waits for a connection and accepts it. In the meantime it serves the desk. If the server `retries`, an accept that fails for
     /// want of something is tried again; the host is told so, and when it succeeds.
-    fn accept_next<I: Read + AsRawFd, C: Census>(
+    fn accept_next<I: Read + AsRawFd, R: Wait>(
         &self,
         told: &mut bool,
         input: &mut Option<I>,
         desk: &mut Desk,
-        view: &mut View<'_, C>,
+        view: &mut View<'_, '_, R>,
         retries: bool,
     ) -> Result<UnixStream, Reason>
         ensures input { is_some input.new ≡ is_some input.old }

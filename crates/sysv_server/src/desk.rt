@@ -6,7 +6,7 @@ use libc::net::{POLLIN, POLLOUT};
 use libc::types::pollfd;
 use std::os::fd::AsRawFd;
 use std::os::unix::net::UnixListener;
-use sysv_engine::Census;
+use std::sync::Wait;
 
 /// Where the state of a server is shown: a second socket, which the thread that accepts connections
 /// serves between two connections, one reader at a time. A reader that is slow or silent is given
@@ -50,7 +50,7 @@ impl Desk {
     }
 
     /// Serves the reader, if there is one, or lets in the next one if one has come.
-    pub(crate) fn go_on<C: Census>(&mut self, has_come: bool, view: &mut View<'_, C>) {
+    pub(crate) fn go_on<R: Wait>(&mut self, has_come: bool, view: &mut View<'_, '_, R>) {
         if self.visitor.is_none() && has_come {
             self.visitor = self.let_in();
         }

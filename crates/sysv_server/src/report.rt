@@ -2,7 +2,8 @@
 
 use itoa::{Buffer, Integer};
 use std::alloc::Global;
-use sysv_engine::{Census, Common, Counted, SlotCounts};
+use std::sync::Wait;
+use sysv_engine::{Common, Counted, Rows, SlotCounts};
 use sysv_keys::SLOTS;
 use sysv_model::Row;
 
@@ -168,16 +169,16 @@ pub(crate) struct State {
 impl State {
     /// Reads the state of a server with this number of blocks, which has accepted this number of
     /// clients. Returns `None` if memory is refused.
-    pub(crate) fn read(
+    pub(crate) fn read<R: Wait>(
         alloc: Global,
         common: &Common,
-        census: &mut impl Census,
+        rows: &mut Rows<'_, R>,
         blocks: u32,
         accepted: u64,
     ) -> Option<State> {
         let mut queues = Vec::new(alloc);
         for slot in 0..SLOTS {
-            if let Some(row) = census.row(slot as u32) {
+            if let Some(row) = rows.row(slot as u32) {
                 let counts = common.at_slot(slot);
                 queues.push(Queue { row, counts }).ok()?;
             }

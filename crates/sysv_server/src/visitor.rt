@@ -4,7 +4,8 @@ use crate::report::{Form, State};
 use std::alloc::Global;
 use std::os::fd::AsRawFd;
 use std::os::unix::net::UnixStream;
-use sysv_engine::{Census, Common, Moment};
+use std::sync::Wait;
+use sysv_engine::{Common, Moment, Rows};
 use sysv_seats::{Drained, Filled, NonBlocking, Over, SocketStream};
 
 /// The maximum number of bytes that are read of what a reader asks.
@@ -39,21 +40,21 @@ const PATHS: [(&[u8], Form); 3] = [
 
 /// A server that is looked at.
 #[derive(Drop)]
-pub(crate) struct View<'v, C> {
+pub(crate) struct View<'v, 'r, R> {
     pub(crate) alloc: Global,
     pub(crate) common: &'v Common,
-    pub(crate) census: &'v mut C,
+    pub(crate) rows: &'v mut Rows<'r, R>,
     /// The number of blocks in the pool.
     pub(crate) blocks: u32,
     /// The number of clients that were accepted.
     pub(crate) accepted: u64,
 }
 
-impl<C: Census> View<'_, C> {
+impl<R: Wait> View<'_, '_, R> {
     /// Returns the state of the server as text. Returns `None` if memory is refused.
     fn text(&mut self, form: Form) -> Option<Vec<u8>> {
         let alloc = self.alloc;
-        let state = State::read(alloc, self.common, self.census, self.blocks, self.accepted)?;
+        let state = State::read(alloc, self.common, self.rows, self.blocks, self.accepted)?;
         state.text(alloc, form)
     }
 }
@@ -113,7 +114,7 @@ impl Visitor {
 
     /// Reads what it asks, and writes the answer, as far as that can be done now. Returns whether
     /// it is still there.
-    pub(crate) fn go_on<C: Census>(&mut self, view: &mut View<'_, C>) -> bool {
+    pub(crate) fn go_on<R: Wait>(&mut self, view: &mut View<'_, '_, R>) -> bool {
         if self.answer.is_none() {
             self.read();
             if !self.has_asked() {
@@ -202,7 +203,7 @@ impl Visitor {
 
 impl Wanted {
     /// Returns the answer. Returns `None` if memory is refused.
-    fn answer<C: Census>(self, view: &mut View<'_, C>) -> Option<Vec<u8>> {
+    fn answer<R: Wait>(self, view: &mut View<'_, '_, R>) -> Option<Vec<u8>> {
         let text = match self.form {
             Some(form) => view.text(form)?,
             None => Vec::new(view.alloc),
