@@ -14,3 +14,4 @@ pub mod SharedOut
 pub mod Reversed
 pub mod Staffed
 pub mod Crossing
+pub mod Looking

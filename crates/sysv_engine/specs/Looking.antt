@@ -7,7 +7,6 @@ use Rattle.sysv_service.specs.Ran.{Pass}
 use Rattle.sysv_service.specs.Told.{TellsRow}
 use Rattle.sysv_thread_laws.specs.Hiring.{Gives, Hires, TakesIn}
 use Rattle.sysv_engine.specs.Handled.{Shift, first_passes, last_passes}
-use Rattle.sysv_engine.specs.declared.arrivals.Rows.{Rows}
 
 -- The pass read rows, and did nothing else.
 pub data Looked (old : Pass) : Pass → Type 0 where
@@ -16,10 +15,6 @@ pub data Looked (old : Pass) : Pass → Type 0 where
   -- It read one more row.
   reads : {mid : Pass} (slot : ℕ) (result : Result (Option Row) Errno) (new : Pass) → Looked old mid →
       TellsRow slot mid result new → Looked old new
-
--- What reads rows is at the same service, and its pass has read rows and done nothing else.
-abbrev pub Looks : {R : Type 0} → Rows R → Rows R → Type 0
-Looks old new = (new.service.now ≡ old.service.now) × Looked old.pass new.pass
 
 -- A pass was split off from `own`, read rows, and was joined into what was left of `own`.
 pub record LooksBetween (own home : Pass) : Type 0 where

@@ -229,17 +229,10 @@ impl Common {
         }
     }
 
-    /// Counts a message that moved, if the worker's news are of one, like `Counts::note`.
-    pub(crate) fn note(&self, worker: usize, moved: &mut Moved, news: News) {
+    /// Counts messages that moved by calls of the worker.
+    pub(crate) fn count(&self, worker: usize, moved: Moved) {
         if let Some(post) = self.posts.get(worker) {
-            post.counts.note(moved, news);
-        }
-    }
-
-    /// Adds messages that moved to what the worker has counted.
-    pub(crate) fn settle(&self, worker: usize, moved: &mut Moved) {
-        if let Some(post) = self.posts.get(worker) {
-            post.counts.settle(moved);
+            post.counts.count(moved);
         }
     }
 

@@ -7,13 +7,14 @@ ghost use Rattle.sysv_engine.specs.Added.{IsBalanced};
 ghost use Rattle.sysv_engine.specs.Headline.{ServesConnections};
 ghost use Rattle.sysv_engine.specs.Serving.{FaultOf, HasLived, HiredFrom, LeavesConnections, WorkedFrom};
 
-use crate::arrivals::{Arrivals, Rows, Unseeing};
+use crate::arrivals::{Arrivals, Unseeing};
 use crate::common::Common;
 use crate::crew::{dismiss, hire};
 use crate::dealing::{Dealing, shares};
 use crate::fault::ServeFault;
 use crate::laws::each_life_is_one_run;
 use crate::rounds::Serving;
+use crate::rows::Rows;
 use crate::staff::{discard, gather, kits, staff};
 use crate::sums::Sums;
 use crate::terms::{Ended, Patience};

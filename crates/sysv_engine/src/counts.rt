@@ -51,8 +51,8 @@ pub struct Counted {
     pub lost: u64,
 }
 
-/// Messages that moved at one slot, one after another.
-#[derive(Drop)]
+/// A number of messages that were placed, or taken, at one slot.
+#[derive(Clone, Copy)]
 pub(crate) struct Moved {
     word: usize,
     count: u64,
@@ -61,6 +61,23 @@ pub(crate) struct Moved {
 impl Moved {
     /// No messages.
     pub(crate) const NONE: Moved = Moved { word: 0, count: 0 };
+
+    /// Adds the message of these news, if they are of one. Returns the messages so far, and begins
+    /// anew, if it moved elsewhere.
+    pub(crate) fn add(&mut self, news: News) -> Moved {
+        let word = match news {
+            News::Arrived { slot, .. } => slot,
+            News::Freed { slot, .. } => room_word(slot),
+            News::Released | News::Changed { .. } => return Moved::NONE,
+        };
+        if word == self.word {
+            self.count = self.count.wrapping_add(1);
+            return Moved::NONE;
+        }
+        let before = *self;
+        *self = Moved { word, count: 1 };
+        before
+    }
 }
 
 impl Counts {
@@ -81,30 +98,14 @@ impl Counts {
         }
     }
 
-    /// Counts a message that moved, if the news are of one. Messages that move at one slot one
-    /// after another are counted together, at the next one that moves elsewhere or by `settle`.
-    pub(crate) fn note(&self, moved: &mut Moved, news: News) {
-        let word = match news {
-            News::Arrived { slot, .. } => slot,
-            News::Freed { slot, .. } => room_word(slot),
-            News::Released | News::Changed { .. } => return,
-        };
-        if word != moved.word {
-            self.settle(moved);
-            moved.word = word;
-        }
-        moved.count = moved.count.wrapping_add(1);
-    }
-
-    /// Adds the messages that moved.
-    pub(crate) fn settle(&self, moved: &mut Moved) {
+    /// Counts messages that moved.
+    pub(crate) fn count(&self, moved: Moved) {
         if moved.count == 0 {
             return;
         }
         if let Some(count) = self.moved.get(moved.word) {
             count.fetch_add(moved.count, Ordering::SeqCst);
         }
-        moved.count = 0;
     }
 
     /// Counts the messages of a session that is over.

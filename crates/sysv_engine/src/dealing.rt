@@ -1,9 +1,10 @@
 //! A source whose connections are dealt out to workers.
 ghost use Rattle.std.specs.Prelude.{◌≡◌};
-ghost use Rattle.sysv_engine.specs.Looking.{Looks};
+ghost use Rattle.sysv_engine.specs.Looks.{Looks};
 
-use crate::arrivals::{Arrivals, Rows};
+use crate::arrivals::Arrivals;
 use crate::common::Common;
+use crate::rows::Rows;
 use std::alloc::Global;
 use std::sync::Wait;
 use sysv_workers::Source;

@@ -329,10 +329,10 @@ impl<'a, 'c, R: Wait> Serving<'a, 'c, R> {
             let Some(news) = worker.tools.take_news() else {
                 break;
             };
-            self.common.note(worker.number, &mut moved, news);
+            self.common.count(worker.number, moved.add(news));
             self.keep(worker, news);
         }
-        self.common.settle(worker.number, &mut moved);
+        self.common.count(worker.number, moved);
     }
 
     /// Keeps what a call has changed, if calls that wait for it are parked.
