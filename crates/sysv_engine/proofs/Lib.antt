@@ -1,6 +1,7 @@
 pub mod SessionMakesCalls
 pub mod SessionsPerConnection
 pub mod SumsOfSessions
+mod LostAtAnEnd
 pub mod LifeIsOneRun
 pub mod GatesHaveLived
 pub mod FaultLeaves

@@ -22,10 +22,25 @@ is_starved Write = false
 is_starved Bound = false
 is_starved Left = false
 
+-- Replies may be lost at this end: the connection failed, or memory was refused.
+abbrev pub may_lose : End → Bool
+may_lose Ended = false
+may_lose NoMemory = true
+may_lose NoHello = false
+may_lose (Fault fault) = false
+may_lose Write = true
+may_lose Bound = false
+may_lose Left = false
+
 -- 1 for a session whose memory was refused, at its start or later, and 0 for any other.
 abbrev pub one_refused : Option Served → ℕ
 one_refused None = 1
 one_refused (Some served) = cond (is_starved served.«end») 1 0
+
+-- 1 for a session with an end at which replies may be lost, and 0 for any other.
+abbrev pub one_cut_off : Option Served → ℕ
+one_cut_off None = 0
+one_cut_off (Some served) = cond (may_lose served.«end») 1 0
 
 -- The sums of sessions with these reports.
 abbrev pub sums_of : List (Option Served) → Sums
@@ -34,6 +49,10 @@ sums_of told = all_added (map (λ t. one_session (tally_of t)) told)
 -- The number of sessions with these reports whose memory was refused.
 abbrev pub refused_of : List (Option Served) → ℕ
 refused_of told = capped (sum_by one_refused told)
+
+-- The number of sessions with these reports that had an end at which replies may be lost.
+abbrev pub cut_off_of : List (Option Served) → ℕ
+cut_off_of told = sum_by one_cut_off told
 
 module _ {T B : Type 0} (incoming outgoing : T → Option (List ℕ)) (closes : Closing B) where
   -- One session with this report was held on the connection, which was then closed.

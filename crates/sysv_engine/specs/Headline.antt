@@ -18,7 +18,7 @@ use Rattle.sysv_service.specs.Seats.{Gates}
 use Rattle.sysv_workers.specs.Sources.{GivesAll}
 use Rattle.sysv_engine.specs.declared.terms.Ended.{Ended}
 use Rattle.sysv_engine.specs.Desks.{Desk, Crewed, AreServedInOrder, all_connections}
-use Rattle.sysv_engine.specs.Handled.{Shift, sums_of, refused_of, told_in}
+use Rattle.sysv_engine.specs.Handled.{Shift, cut_off_of, sums_of, refused_of, told_in}
 use Rattle.sysv_engine.specs.OneRun.{Lived}
 use Rattle.sysv_seats.specs.Untold.{Closing}
 
@@ -47,6 +47,8 @@ pub record ServesConnections {S T B : Type 0} (incoming outgoing : T → Option 
   -- The sums are those of all sessions, and so is the number of sessions whose memory was refused.
   pub sums : ended.sums ≡ sums_of (told_in shifts)
   pub refused : ended.refused ≡ refused_of (told_in shifts)
+  -- No message was lost if no session ended because its connection failed or its memory was refused.
+  pub lost : cut_off_of (told_in shifts) ≡ 0 → ended.sums.lost ≡ 0
   -- The calls of these very sessions and the removals of the stop are one run, which obeys, and the
   -- gates were closed after it.
   pub lived : Lived blocks gates shifts ended.removed

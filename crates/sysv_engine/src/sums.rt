@@ -12,9 +12,9 @@ pub struct Sums {
     pub sessions: u64,
     /// The number of messages that the sessions' receives took: those written and those lost.
     pub taken: u64,
-    /// The number of messages whose reply was written whole and flushed.
+    /// The number of messages whose reply the connection took whole.
     pub written: u64,
-    /// The number of messages whose reply was not written whole and flushed.
+    /// The number of messages whose reply the connection did not take whole.
     pub lost: u64,
 }
 

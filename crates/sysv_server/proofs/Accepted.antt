@@ -6,6 +6,7 @@ use Rattle.std.proofs.Common.{None, refl, arith, sym, ap, subst, ◌∙◌}
 use Rattle.std.specs.Prelude.{Result, Ok, Err, IfErr, IfOk, IsSomeAnd, ◌^◌, ◌-◌, true, false, is_some, min}
 use Rattle.std.specs.List.{FoldsTo, sum_by}
 use Rattle.std.proofs.lemmas.List.Sums.{sum_by-cons}
+use Rattle.std.specs.Prelude.{⊤}
 use Rattle.sysv_session.specs.declared.served.Served.{Served}
 use Rattle.sysv_workers.specs.Sources.{GivesAll}
 use Rattle.sysv_server.specs.declared.accepting.Accepting.{Accepting}
@@ -131,10 +132,11 @@ module _ {I H : Type 0} where
     opened = served.opened;
     shifts = served.shifts;
     worked = record {
-      workers = as_books untold untold leaves_nothing served.gates books served.desks served.shifts books' served.crewed
+      places = as_books untold untold leaves_nothing served.gates books served.desks served.shifts books' served.crewed
           ∙ counted;
       passes = served.crewed.passes;
       sums = served.sums;
+      lost = served.lost;
     };
     bounded = λ some.
         let fits : s.most ≤ 2 ^ 64 - 1 = omega arith in

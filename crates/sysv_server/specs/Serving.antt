@@ -2,10 +2,11 @@
 -- of places, all at one service. Each place has a pass of its own and serves one client after another,
 -- and there is one session for each connection.
 use Rattle.std.specs.Prelude.{◌≡◌, ◌≢◌, ◌≤◌, ⊤, ℕ, Bool, true, List, [], Option, Some, None, Result, length}
+use Rattle.std.specs.List.{AllByRecursion}
 use Rattle.std.specs.List.Sorted.{IsPermutation}
 use Rattle.sysv_bank.specs.Banks.{Each2}
 use Rattle.sysv_service.specs.Opened.{AreOpen}
-use Rattle.sysv_service.specs.Seats.{Gates}
+use Rattle.sysv_service.specs.Seats.{AreOf, Gates}
 use Rattle.sysv_model.specs.declared.errno.Errno.{Errno}
 use Rattle.sysv_seats.specs.declared.socket_stream.SocketStream.{SocketStream}
 use Rattle.sysv_seats.specs.Untold.{untold, leaves_nothing}
@@ -14,11 +15,20 @@ use Rattle.sysv_engine.specs.declared.fault.ServeFault.TheVariants.{NoMemory, Th
 use Rattle.sysv_engine.specs.declared.sums.Sums.{Sums}
 use Rattle.sysv_engine.specs.declared.terms.Ended.{Ended}
 use Rattle.sysv_engine.specs.Desks.{Desk, Sat, AreServedInOrder, all_connections}
-use Rattle.sysv_engine.specs.Handled.{Shift, refused_of, told_in}
+use Rattle.sysv_engine.specs.Handled.{Shift, cut_off_of, refused_of, sums_of, told_in}
 use Rattle.sysv_engine.specs.OneRun.{Lived}
-use Rattle.sysv_engine.specs.Serving.{HasLived, LeavesBooks, Worked}
+use Rattle.sysv_engine.specs.Serving.{HasLived, LeavesBooks}
 use Rattle.sysv_server.specs.declared.host.Reason.{Reason}
 use Rattle.sysv_server.specs.declared.host.Reason.TheVariants.{Full, InputOver, NoSocket, Accept}
+
+-- This number of places had these shifts at the gates. Each began with a pass of the gates that holds
+-- no chain, and these are the sums of all their sessions. No message was lost if no session ended
+-- because its connection failed or its memory was refused.
+pub record Worked (gates : Gates) (count : ℕ) (shifts : List Shift) (all : Sums) : Type 0 where
+  pub places : length shifts ≡ count
+  pub passes : AllByRecursion (λ (shift : Shift). AreOf gates shift.before.seats × (shift.before.held ≡ 0)) shifts
+  pub sums : all ≡ sums_of (told_in shifts)
+  pub lost : cut_off_of (told_in shifts) ≡ 0 → all.lost ≡ 0
 
 -- The place of this desk had one session on each of its sockets. A socket tells no bytes, and a closed
 -- one leaves nothing.

@@ -5,10 +5,10 @@ use Rattle.std.specs.Io.KnownBytes.{Appends}
 use Rattle.std.specs.Process.{exit_status}
 use Rattle.std.specs.declared.process.ExitCode.{ExitCode}
 use Rattle.sysv_server.specs.Serving.{EndsOn, HasReason}
-use Rattle.sysv_server.specs.declared.terms.Ended.{Ended}
+use Rattle.sysv_engine.specs.declared.terms.Ended.{Ended}
 use Rattle.sysv_server.specs.declared.host.Reason.{Reason}
 use Rattle.sysv_server.specs.declared.host.Reason.TheVariants.{Full, InputOver, NoSocket, Accept}
-use Rattle.sysv_server.specs.declared.sums.Sums.{Sums}
+use Rattle.sysv_engine.specs.declared.sums.Sums.{Sums}
 use Rattle.sysv_server.specs.declared.terms.Terms.{Terms}
 
 -- The program succeeds.
@@ -46,7 +46,7 @@ HasServed sums reason shown after = IsMeantToEnd reason × Appends shown after (
 -- fewer if there are too few descriptors.
 abbrev pub EndsWithin : Terms → Ended → Type 0
 EndsWithin terms ended =
-    (at_once : ℕ) × (at_once ≤ terms.at_once) × EndsOn terms.blocks at_once terms.sessions ended
+    (places : ℕ) × (1 ≤ places) × (places ≤ terms.at_once) × EndsOn terms.blocks places terms.sessions ended
 
 -- A server that may have an input served on these terms until the input was over or the maximum
 -- number of sessions was reached, and the sums of its sessions were printed.

@@ -8,6 +8,7 @@ use Rattle.sysv_engine.specs.OneRun.{Stopped}
 use Rattle.sysv_engine.specs.Serving.{HasLived, HiredFrom}
 use Rattle.sysv_engine.proofs.FaultLeaves.{fault_says}
 use Rattle.sysv_engine.proofs.GatesHaveLived.{have_lived, lived}
+use Rattle.sysv_engine.proofs.LostAtAnEnd.{lost_at_an_end}
 use Rattle.sysv_engine.proofs.SumsOfSessions.{balanced}
 use Rattle.sysv_engine.proofs.connections.serve_all.Goals as goal
 
@@ -42,6 +43,7 @@ returns-in-Ok-outcome-clause-ok g c =
       crewed = worked.crewed;
       sums = worked.adds;
       refused = worked.counts;
+      lost = lost_at_an_end shifts c.in-Ok-outcome.sums worked.adds;
       lived = lived laws.run laws.whole laws.none_held laws.empty c.args.blocks c.in-Ok.service c.stop-removed.result
           stopped
           c.close-closed.result c.close-closed.ensures opened.0 c.stop-removed.ensures.pass shifts hires;

@@ -8,10 +8,10 @@ use Rattle.sysv_server.proofs.serving.serve_listener.Goals as goal
 
 pub returns-clause-ok : goal.returns-clause-ok
 returns-clause-ok g c =
-    let ok = c.in-Some.books.ok in
-    let many = c.in-Some.ensures in
-    let counted : length c.in-Some.books.items ≡ c.args.terms.at_once = omega arith in
-    ends_on _ _ _ c.new-source.result c.serve_all-outcome.new.source c.in-Some.books.items
+    let ok = c.in-Some-empty_books.books.ok in
+    let many = c.in-Some-empty_books.ensures in
+    let counted : length c.in-Some-empty_books.books.items ≡ c.args.terms.at_once = omega arith in
+    ends_on _ _ _ c.new-source.result c.serve_all-outcome.new.source c.in-Some-empty_books.books.items
     c.serve_all-outcome.new.books.items c.serve_all-outcome.result c.new-source.ensures.begun.1
     c.new-source.ensures.begun.0
     (let same = c.new-source.ensures.begun.0 in let fits = c.new-source.ensures.range in omega arith)
@@ -19,7 +19,7 @@ returns-clause-ok g c =
 
 pub returns-clause-exact : goal.returns-clause-exact
 returns-clause-exact g c =
-    ends_for _ _ c.new-source.result c.serve_all-outcome.new.source c.in-Some.books.items
+    ends_for _ _ c.new-source.result c.serve_all-outcome.new.source c.in-Some-empty_books.books.items
     c.serve_all-outcome.new.books.items
     c.serve_all-outcome.result _ _ c.new-source.ensures.begun.1 c.new-source.ensures.begun.0
     (let same = c.new-source.ensures.begun.0 in let fits = c.new-source.ensures.range in omega arith)
@@ -28,9 +28,9 @@ returns-clause-exact g c =
 
 pub returns-clause-err : goal.returns-clause-err
 returns-clause-err g c =
-    let ok = c.in-Some.books.ok in
-    let many = c.in-Some.ensures in
-    let counted : length c.in-Some.books.items ≡ c.args.terms.at_once = omega arith in
+    let ok = c.in-Some-empty_books.books.ok in
+    let many = c.in-Some-empty_books.ensures in
+    let counted : length c.in-Some-empty_books.books.items ≡ c.args.terms.at_once = omega arith in
     all_fail_on _ _ c.new-source.result c.serve_all-outcome.new.source
-    c.in-Some.books.items c.serve_all-outcome.new.books.items c.serve_all-outcome.result counted
+    c.in-Some-empty_books.books.items c.serve_all-outcome.new.books.items c.serve_all-outcome.result counted
     c.serve_all-outcome.ensures.err

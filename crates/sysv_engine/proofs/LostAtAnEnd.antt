@@ -1,0 +1,141 @@
+-- A session loses a message only if it ended because its connection failed or its memory was refused.
+use Rattle.std.proofs.Common.{◌≡◌, ◌∙◌, ℕ, ◌+◌, ◌≤◌, List, [], ◌∷◌, ◌++◌, map, length, cond, Option, Some, None, Bool}
+use Rattle.std.proofs.Common.{ap, refl, sym, subst, arith, inl, inr}
+use Rattle.std.specs.Prelude.{⊤, true, false}
+use Rattle.std.specs.List.{AllByRecursion, FoldsTo, sum_by}
+use Rattle.std.proofs.lemmas.List.Sums.{sum_by-cons}
+use Rattle.sysv_keys.specs.declared.identifier.TheConstants.{SLOTS}
+use Rattle.sysv_queue.specs.Tally.{Tallied}
+use Rattle.sysv_seats.specs.Asked.{asks_with}
+use Rattle.sysv_seats.specs.Sits.{zero_moment}
+use Rattle.sysv_session.specs.declared.kernel.RequestOutcome.TheVariants as outcomes
+use Rattle.sysv_session.specs.declared.served.End.{End}
+use Rattle.sysv_session.specs.declared.served.End.TheVariants.{Ended, NoMemory, NoHello, Fault, Write, Bound, Left}
+use Rattle.sysv_session.specs.declared.served.Served.{Served}
+use Rattle.sysv_session.specs.Answers.{messages_in}
+use Rattle.sysv_session.specs.Calls.{Call, Meaning, messages_of}
+use Rattle.sysv_session.specs.Gathered.{Gathered, all_bytes, messages_among, messages_within}
+use Rattle.sysv_session.specs.Together.{Replied, Reports, ServesTogether}
+use Rattle.sysv_session.specs.UnderWay.{replies_to}
+use Rattle.sysv_session.proofs.ListLemmas.{messages_more}
+use Rattle.sysv_session.proofs.TogetherLemmas.{all_within, replies_messages}
+use Rattle.sysv_service.specs.Ran.{Pass}
+use Rattle.sysv_wire.specs.declared.frame.Version.{Version}
+use Rattle.sysv_engine.specs.declared.sums.Sums.{Sums}
+use Rattle.sysv_engine.specs.Added.{capped, one_session}
+use Rattle.sysv_engine.specs.Handled.{Shift, cut_off_of, may_lose, one_cut_off, reports_of, sums_of, told_in}
+use Rattle.sysv_engine.specs.Talks.{Talk, Talks, TalksAs, tally_of}
+
+-- ---- one session
+
+none_lost : (w l m n : ℕ) → w + l ≡ m → w ≡ n → n ≡ m → l ≡ 0
+none_lost w l m n all some same = omega arith
+
+no_more : (n m : ℕ) → m ≡ 0 → n ≡ n + m
+no_more n m none = omega arith
+
+-- The messages of all replies were written, if all their bytes were sent.
+whole : (version : Version) (slots : ℕ) (calls : List Call) (replies : List Gathered) (sent : List ℕ) →
+    replies ≡ replies_to version slots calls → sent ≡ all_bytes replies →
+    messages_within (length sent) replies ≡ messages_of calls
+whole version slots calls replies sent are all =
+    let far : 0 + length (all_bytes replies) ≤ length sent = let size = ap length all in omega arith in
+    all_within (length sent) 0 replies far ∙ (ap messages_among are ∙ replies_messages version slots calls)
+
+all_replied : (why : End) → may_lose why ≡ false → (version : Version) (slots : ℕ) (calls : List Call)
+    (replies : List Gathered) (sent : List ℕ) → Replied why version slots calls replies → sent ≡ all_bytes replies →
+    messages_within (length sent) replies ≡ messages_of calls
+all_replied Ended safe version slots calls replies sent replied all =
+    whole version slots calls replies sent replied.1 all
+all_replied NoMemory safe version slots calls replies sent replied all = absurd (grind arith)
+all_replied NoHello safe version slots calls replies sent replied all =
+    whole version slots calls replies sent replied.1 all
+all_replied (Fault fault) safe version slots calls replies sent replied all =
+    whole version slots calls replies sent replied.1 all
+all_replied Write safe version slots calls replies sent replied all = absurd (grind arith)
+all_replied Bound safe version slots calls replies sent replied all =
+    whole version slots calls replies sent replied.1 all
+all_replied Left safe version slots calls replies sent replied all =
+    whole version slots replied.0 replies sent replied.4.1 all
+    ∙ (no_more (messages_of replied.0) (messages_in replied.1.outcome) (ap messages_in replied.3)
+    ∙ (sym (messages_more replied.0 replied.1) ∙ ap messages_of (sym replied.2)))
+
+reports_all : (why stopped : End) → may_lose why ≡ false → (version : Version) (slots : ℕ) (calls : List Call)
+    (replies : List Gathered) (sent : List ℕ) → Replied stopped version slots calls replies →
+    Reports why stopped sent (all_bytes replies) → messages_within (length sent) replies ≡ messages_of calls
+reports_all why stopped safe version slots calls replies sent replied (inl all) =
+    all_replied stopped (subst (λ (e : End). may_lose e ≡ false) all.0 safe) version slots calls replies sent replied
+    all.1
+reports_all why stopped safe version slots calls replies sent replied (inr failed) =
+    let lost : true ≡ false = subst (λ (e : End). may_lose e ≡ false) failed.0 safe in absurd (grind arith)
+
+serves_all : {K : Type 0} (Means : Meaning K) (slots : ℕ) (served : Served) (old new : K)
+    (left rest taken more : Option (List ℕ)) → ServesTogether Means slots served old new left rest taken more →
+    may_lose served.«end» ≡ false → served.tally.lost ≡ 0
+serves_all Means slots served old new left rest taken more (inl stays) safe =
+    ap (λ (t : Tallied). t.lost) stays.tallies
+serves_all Means slots served old new left rest taken more (inr talks) safe =
+    none_lost served.tally.written served.tally.lost _ _ talks.all talks.written
+    (reports_all served.«end» talks.stopped safe talks.version slots talks.calls talks.replies talks.sent talks.replied
+    talks.reports)
+
+-- ---- all sessions
+
+abbrev LosesNone : Option Served → Type 0
+LosesNone told = one_cut_off told ≡ 0 → (tally_of told).lost ≡ 0
+
+is_safe : (b : Bool) → ◌≡◌ {A = ℕ} (cond b 1 0) 0 → b ≡ false
+is_safe true one = absurd (omega arith)
+is_safe false one = refl
+
+talk_loses : (told : Option Served) (before after : Pass) (left rest taken more : Option (List ℕ)) →
+    TalksAs before told left rest taken more after → LosesNone told
+talk_loses None before after left rest taken more talks none = refl
+talk_loses (Some served) before after left rest taken more talks none =
+    serves_all (asks_with zero_moment ⊤) SLOTS served before after left rest taken more talks
+    (is_safe (may_lose served.«end») none)
+
+both : (xs ys : List (Option Served)) → AllByRecursion LosesNone xs → AllByRecursion LosesNone ys →
+    AllByRecursion LosesNone (xs ++ ys)
+both [] ys one two = two
+both (x ∷ xs) ys one two = (one.0, both xs ys one.1 two)
+
+shift_loses : (before : Pass) (talks : List Talk) (after : Pass) → FoldsTo Talks before talks after →
+    AllByRecursion LosesNone (reports_of talks)
+shift_loses before [] after folds = tt
+shift_loses before (talk ∷ talks) after folds = (
+  talk_loses talk.told before folds.0 talk.left talk.rest talk.taken talk.more folds.1,
+  shift_loses folds.0 talks after folds.2,
+)
+
+shifts_lose : (shifts : List Shift) → AllByRecursion LosesNone (told_in shifts)
+shifts_lose [] = tt
+shifts_lose (shift ∷ shifts) =
+    both (reports_of shift.talks) (told_in shifts)
+    (shift_loses shift.before shift.talks shift.after shift.worked) (shifts_lose shifts)
+
+first_none : (a b n : ℕ) → n ≡ a + b → n ≡ 0 → a ≡ 0
+first_none a b n is none = omega arith
+
+rest_none : (a b n : ℕ) → n ≡ a + b → n ≡ 0 → b ≡ 0
+rest_none a b n is none = omega arith
+
+both_none : (a b n : ℕ) → n ≡ a + b → a ≡ 0 → b ≡ 0 → n ≡ 0
+both_none a b n is one two = omega arith
+
+all_lose : (told : List (Option Served)) → AllByRecursion LosesNone told → cut_off_of told ≡ 0 →
+    sum_by (λ (s : Sums). s.lost) (map (λ t. one_session (tally_of t)) told) ≡ 0
+all_lose [] all none = refl
+all_lose (t ∷ told) all none =
+    let are = sum_by-cons one_cut_off t told in
+    both_none _ _ _
+    (sum_by-cons (λ (s : Sums). s.lost) (one_session (tally_of t)) (map (λ t. one_session (tally_of t)) told))
+    (all.0 (first_none _ _ _ are none)) (all_lose told all.1 (rest_none _ _ _ are none))
+
+capped_none : (lost all : ℕ) → lost ≡ capped all → all ≡ 0 → lost ≡ 0
+capped_none lost all is none = omega arith
+
+pub lost_at_an_end : (shifts : List Shift) (sums : Sums) → sums ≡ sums_of (told_in shifts) →
+    cut_off_of (told_in shifts) ≡ 0 → sums.lost ≡ 0
+lost_at_an_end shifts sums is none =
+    capped_none sums.lost _ (ap (λ (s : Sums). s.lost) is) (all_lose (told_in shifts) (shifts_lose shifts) none)
