@@ -259,7 +259,8 @@ module _ {T B : Type 0} (incoming outgoing : T → Option (List ℕ)) (closes : 
             (adds ∙ ap all_added (sym (map_both (λ (v : View B). v.sums) view_of ps)))
             (counts ∙ ap capped (sym (sum_by_map (λ (v : View B). v.refused) view_of ps)))
             (subst (λ l. FoldsTo Gives old l kept) (sym (map_both (λ (v : View B). v.pass) view_of opened)) given)
-            looks (subst (λ l. FoldsTo TakesIn back (reverse l) new) (sym (map_both (λ (v : View B). v.pass) view_of ps))
+            looks (subst (λ l. FoldsTo TakesIn back (reverse l) new)
+            (sym (map_both (λ (v : View B). v.pass) view_of ps))
             taken)
 
         pub all_left : (why : WorkersFault) (told : ServeFault) → FaultOf why told →
@@ -272,7 +273,8 @@ module _ {T B : Type 0} (incoming outgoing : T → Option (List ℕ)) (closes : 
             (first_books ∙ ap reverse (sym (map_both (λ (v : View B). v.book) view_of opened)))
             (last_books ∙ ap reverse (sym (map_both (λ (v : View B). v.book) view_of ps)))
             (subst (λ l. FoldsTo Gives old l kept) (sym (map_both (λ (v : View B). v.pass) view_of opened)) given)
-            looks (subst (λ l. FoldsTo TakesIn back (reverse l) new) (sym (map_both (λ (v : View B). v.pass) view_of ps))
+            looks (subst (λ l. FoldsTo TakesIn back (reverse l) new)
+            (sym (map_both (λ (v : View B). v.pass) view_of ps))
             taken) why told named leaves (places_back why back)
 
 -- ---- a source behind another

@@ -1,5 +1,6 @@
 //! A source of accepted connections.
 ghost use Rattle.std.specs.Prelude.{◌≡◌, ◌≢◌, ◌<◌, ◌≤◌, ◌-◌, ◌^◌, ◌⊎◌, true, false, is_some, IfErr, IfNone, IfOk};
+ghost use Rattle.sysv_engine.specs.Looks.{Looks};
 ghost use Rattle.sysv_server.specs.Accepts.{is_closed, is_unopened, EndsInput, HasEnded};
 
 use crate::desk::Desk;
@@ -187,6 +188,7 @@ impl<'a, I: Read + AsRawFd + Drop, H: Host + Drop> Accepting<'a, I, H> {
         ensures opened { IfOk result (λ _. (is_closed self.new.listening ≡ false)
             × (is_unopened self.new.listening ≡ false)) }
         ensures ended { IfErr result (λ why. HasEnded self.old why) }
+        ensures looks { Looks rows.old rows.new }
     {
         if self.most != 0 && self.accepted >= self.most {
             return Err(Reason::Full);
@@ -204,15 +206,14 @@ impl<'a, I: Read + AsRawFd + Drop, H: Host + Drop> Accepting<'a, I, H> {
             host: &self.host,
             accepted: self.accepted,
         };
-        let mut view = View {
+        let view = View {
             alloc: self.alloc,
             common: self.common,
-            rows,
             blocks: self.blocks,
             accepted: self.accepted,
         };
         let (told, input, desk) = (&mut self.told, &mut self.input, &mut self.desk);
-        let stream = door.accept_next(told, input, desk, &mut view, retries)?;
+        let stream = door.accept_next(told, input, desk, view, rows, retries)?;
         match SocketStream::new(stream) {
             Ok(socket) => Ok(socket),
             Err(why) => Err(Reason::Accept(why)),
@@ -276,16 +277,18 @@ impl<H: Host> Door<'_, '_, '_, H> {
         told: &mut bool,
         input: &mut Option<I>,
         desk: &mut Desk,
-        view: &mut View<'_, '_, R>,
+        view: View<'_>,
+        rows: &mut Rows<'_, R>,
         retries: bool,
     ) -> Result<UnixStream, Reason>
         ensures input { is_some input.new ≡ is_some input.old }
         ensures ended { IfErr result (EndsInput (is_some input.old)) }
+        ensures looks { Looks rows.old rows.new }
     {
         let mut held = false;
         for _ in 0..u64::MAX {
             let arrived = self.wait(told, descriptor(input), desk);
-            desk.go_on(arrived.reader, view);
+            desk.go_on(arrived.reader, view, rows);
             if arrived.input && has_ended(input) {
                 return Err(Reason::InputOver);
             }

@@ -1,4 +1,5 @@
 //! Where the state of a server is shown.
+ghost use Rattle.sysv_engine.specs.Looks.{Looks};
 
 use crate::polling::{FOREVER, NO_DESCRIPTOR, asking};
 use crate::visitor::{View, Visitor};
@@ -7,6 +8,7 @@ use libc::types::pollfd;
 use std::os::fd::AsRawFd;
 use std::os::unix::net::UnixListener;
 use std::sync::Wait;
+use sysv_engine::Rows;
 
 /// Where the state of a server is shown: a second socket, which the thread that accepts connections
 /// serves between two connections, one reader at a time. A reader that is slow or silent is given
@@ -50,12 +52,14 @@ impl Desk {
     }
 
     /// Serves the reader, if there is one, or lets in the next one if one has come.
-    pub(crate) fn go_on<R: Wait>(&mut self, has_come: bool, view: &mut View<'_, '_, R>) {
+    pub(crate) fn go_on<R: Wait>(&mut self, has_come: bool, view: View<'_>, rows: &mut Rows<'_, R>)
+        ensures { Looks rows.old rows.new }
+    {
         if self.visitor.is_none() && has_come {
             self.visitor = self.let_in();
         }
         let stays = match &mut self.visitor {
-            Some(visitor) => visitor.go_on(view),
+            Some(visitor) => visitor.go_on(view, rows),
             None => false,
         };
         if !stays {

@@ -1,4 +1,5 @@
 //! The state of a server as text.
+ghost use Rattle.sysv_engine.specs.Looks.{Looks};
 
 use itoa::{Buffer, Integer};
 use std::alloc::Global;
@@ -175,7 +176,9 @@ impl State {
         rows: &mut Rows<'_, R>,
         blocks: u32,
         accepted: u64,
-    ) -> Option<State> {
+    ) -> Option<State>
+        ensures { Looks rows.old rows.new }
+    {
         let mut queues = Vec::new(alloc);
         for slot in 0..SLOTS {
             if let Some(row) = rows.row(slot as u32) {

@@ -1,4 +1,5 @@
 //! A reader of the state of a server.
+ghost use Rattle.sysv_engine.specs.Looks.{Looks};
 
 use crate::report::{Form, State};
 use std::alloc::Global;
@@ -39,22 +40,28 @@ const PATHS: [(&[u8], Form); 3] = [
 ];
 
 /// A server that is looked at.
-#[derive(Drop)]
-pub(crate) struct View<'v, 'r, R> {
+#[derive(Clone, Copy)]
+pub(crate) struct View<'v> {
     pub(crate) alloc: Global,
     pub(crate) common: &'v Common,
-    pub(crate) rows: &'v mut Rows<'r, R>,
     /// The number of blocks in the pool.
     pub(crate) blocks: u32,
     /// The number of clients that were accepted.
     pub(crate) accepted: u64,
 }
 
-impl<R: Wait> View<'_, '_, R> {
+impl View<'_> {
     /// Returns the state of the server as text. Returns `None` if memory is refused.
-    fn text(&mut self, form: Form) -> Option<Vec<u8>> {
-        let alloc = self.alloc;
-        let state = State::read(alloc, self.common, self.rows, self.blocks, self.accepted)?;
+    fn text<R: Wait>(self, rows: &mut Rows<'_, R>, form: Form) -> Option<Vec<u8>>
+        ensures { Looks rows.old rows.new }
+    {
+        let View {
+            alloc,
+            common,
+            blocks,
+            accepted,
+        } = self;
+        let state = State::read(alloc, common, rows, blocks, accepted)?;
         state.text(alloc, form)
     }
 }
@@ -114,13 +121,15 @@ impl Visitor {
 
     /// Reads what it asks, and writes the answer, as far as that can be done now. Returns whether
     /// it is still there.
-    pub(crate) fn go_on<R: Wait>(&mut self, view: &mut View<'_, '_, R>) -> bool {
+    pub(crate) fn go_on<R: Wait>(&mut self, view: View<'_>, rows: &mut Rows<'_, R>) -> bool
+        ensures { Looks rows.old rows.new }
+    {
         if self.answer.is_none() {
             self.read();
             if !self.has_asked() {
                 return true;
             }
-            self.answer = self.wanted().answer(view);
+            self.answer = self.wanted().answer(view, rows);
             self.due = Moment::after_millis(TELL_MILLIS);
         }
         self.tell() && self.due.left() > 0
@@ -203,9 +212,11 @@ impl Visitor {
 
 impl Wanted {
     /// Returns the answer. Returns `None` if memory is refused.
-    fn answer<R: Wait>(self, view: &mut View<'_, '_, R>) -> Option<Vec<u8>> {
+    fn answer<R: Wait>(self, view: View<'_>, rows: &mut Rows<'_, R>) -> Option<Vec<u8>>
+        ensures { Looks rows.old rows.new }
+    {
         let text = match self.form {
-            Some(form) => view.text(form)?,
+            Some(form) => view.text(rows, form)?,
             None => Vec::new(view.alloc),
         };
         if !self.http {

@@ -27,7 +27,8 @@ run_workers-outcome-requires-sync-J g c κs within =
     let t = serving_sync (record { mir = lifetime 8; lft = κs.1.1.1.1.1.1.1.1.0 })
     (record { mir = lifetime 11; lft = κs.1.1.1.1.1.1.1.1.1.1.1.0 }) _ c.type_bounds.sync-R in
     param_sync 3 (lts.arg-13-3 g.row.T g.row.S g.row.W g.row.R g.row.T-Book g.T.laws g.S.laws g.W.laws g.R.laws
-    g.T.Book.laws g.T.NonBlocking g.T.NonBlocking-dict g.S.Arrivals g.S.Arrivals-dict g.W.Watch g.W.Watch-dict g.R.Threads
+    g.T.Book.laws g.T.NonBlocking g.T.NonBlocking-dict g.S.Arrivals g.S.Arrivals-dict g.W.Watch g.W.Watch-dict
+    g.R.Threads
     g.R.Threads-dict g.R.Wait g.R.Wait-dict g.T.Destruct-dict g.W.Destruct-dict κs) (record { shared = t.shared })
 
 pub run_workers-outcome-requires-after_bounds : goal.run_workers-outcome-requires-after_bounds
@@ -169,14 +170,16 @@ returns-in-Ok-outcome-clause-ok g c =
     let workers = c.staff.new.workers.items in
     let workers' = c.in-Ok-outcome.workers.items in
     let runs = Runs t.incoming t.outgoing t.closes own places in
-    let ran = runs_behind of Stays stays goes_on g.S.Arrivals.gives runs workers workers' old new c.in-Ok-outcome.ensures.ok in
+    let ran =
+    runs_behind of Stays stays goes_on g.S.Arrivals.gives runs workers workers' old new c.in-Ok-outcome.ensures.ok in
     let worked = all_worked t.incoming t.outgoing t.closes own places g.S.Arrivals.gives (of old) (of new) workers
     workers' c.hire.new.places.items c.gather.new.places.items c.hire.ensures.places c.staff.ensures.all
     (some_each (λ (w : W). w.places) workers c.staff.ensures.each) c.gather.ensures.keeps c.gather.ensures.vacant
     c.args.books.now.items c.dismiss.new.books.items c.args.pass.now c.hire.new.pass c.join_pass.new.pass
     c.dismiss.new.pass c.hire.ensures.books
     (c.dismiss.ensures.books ∙ ap (λ l. l ++ reverse (map book c.gather.new.places.items)) c.hire.ensures.taken.0)
-    c.hire.ensures.gives (looked g c) c.dismiss.ensures.takes c.dismiss.result.0 c.dismiss.result.1 c.dismiss.ensures.sums
+    c.hire.ensures.gives (looked g c) c.dismiss.ensures.takes c.dismiss.result.0 c.dismiss.result.1
+    c.dismiss.ensures.sums
     c.dismiss.ensures.refused ran in
     subst (λ s. WorkedFrom t.incoming t.outgoing t.closes g.S.Arrivals.gives own c.args.pass.now c.args.source.now
     c.args.books.now.items c.dismiss.result.0 c.dismiss.result.1 c.dismiss.new.pass s c.dismiss.new.books.items)
