@@ -62,21 +62,34 @@ impl Moved {
     /// No messages.
     pub(crate) const NONE: Moved = Moved { word: 0, count: 0 };
 
-    /// Adds the message of these news, if they are of one. Returns the messages so far, and begins
-    /// anew, if it moved elsewhere.
-    pub(crate) fn add(&mut self, news: News) -> Moved {
-        let word = match news {
-            News::Arrived { slot, .. } => slot,
-            News::Freed { slot, .. } => room_word(slot),
-            News::Released | News::Changed { .. } => return Moved::NONE,
+    /// Adds the message of these news, if they are of one. Returns whether it moved where the others
+    /// did; else it is not added.
+    #[inline(always)]
+    pub(crate) fn add(&mut self, news: News) -> bool {
+        let Some(word) = word_of(news) else {
+            return true;
         };
-        if word == self.word {
-            self.count = self.count.wrapping_add(1);
-            return Moved::NONE;
+        let is_there = word == self.word;
+        self.count = self.count.wrapping_add(u64::from(is_there));
+        is_there
+    }
+
+    /// Returns the message of these news alone, if they are of one.
+    pub(crate) fn first(news: News) -> Moved {
+        match word_of(news) {
+            Some(word) => Moved { word, count: 1 },
+            None => Moved::NONE,
         }
-        let before = *self;
-        *self = Moved { word, count: 1 };
-        before
+    }
+}
+
+/// Returns the number of what counts the message of these news, if they are of one.
+#[inline(always)]
+fn word_of(news: News) -> Option<usize> {
+    match news {
+        News::Arrived { slot, .. } => Some(slot),
+        News::Freed { slot, .. } => Some(room_word(slot)),
+        News::Released | News::Changed { .. } => None,
     }
 }
 

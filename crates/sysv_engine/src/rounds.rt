@@ -329,7 +329,10 @@ impl<'a, 'c, R: Wait> Serving<'a, 'c, R> {
             let Some(news) = worker.tools.take_news() else {
                 break;
             };
-            self.common.count(worker.number, moved.add(news));
+            if !moved.add(news) {
+                self.common.count(worker.number, moved);
+                moved = Moved::first(news);
+            }
             self.keep(worker, news);
         }
         self.common.count(worker.number, moved);
