@@ -6,7 +6,7 @@ mod growths;
 use crate::commands::five_sessions;
 use std::alloc::Global;
 use std::io::{ErrorKind, Read, Write};
-use std::net::Net;
+use std::net::{Net, SocketAddr, TcpListener, TcpStream};
 use std::os::unix::net::{UnixListener, UnixStream};
 use std::process::Abort;
 use std::rt::Files;
@@ -263,6 +263,31 @@ impl Clients {
     }
 }
 
+/// The handle of a server in a thread of its own. It may wait and start threads if `R` may. Its
+/// network opens nothing: a server accepts connections from a listener that is open.
+#[derive(Drop)]
+struct Apart<'a, R> {
+    rt: &'a R,
+}
+
+impl<R: Threads> Threads for Apart<'_, R> {}
+
+impl<R: Wait> Wait for Apart<'_, R> {}
+
+impl<R> Net for Apart<'_, R> {
+    type Stream = TcpStream;
+
+    type Listener = TcpListener;
+
+    fn bind(&self, _addr: SocketAddr) -> io::Result<TcpListener> {
+        Err(io::Error::from(ErrorKind::Unsupported))
+    }
+
+    fn connect(&self, _addr: SocketAddr) -> io::Result<TcpStream> {
+        Err(io::Error::from(ErrorKind::Unsupported))
+    }
+}
+
 /// Returns the result of a server with this number of workers and sessions, and whether its clients
 /// had the right replies.
 fn served<R: Threads + Wait + Net + Files + Abort + Clock + Sync>(
@@ -282,7 +307,8 @@ fn served<R: Threads + Wait + Net + Files + Abort + Clock + Sync>(
         move || -> Result<Sums, ServeFault>
             requires { (1 ≤ workers) × (workers ≤ 16) }
         {
-            let sums = serve_on(rt, alloc, &listener, 128, workers, sessions);
+            let apart = Apart { rt };
+            let sums = serve_on(&apart, alloc, &listener, 128, workers, sessions);
             drop(listener);
             sums
         },
@@ -358,7 +384,8 @@ fn ended<R: Threads + Wait + Net + Files + Abort + Clock + Sync>(
                 × (terms.workers ≤ 16) × (1 ≤ terms.at_once) × (terms.at_once ≤ 16384) }
         {
             let mut reason = None;
-            let end = serve_listener(rt, alloc, host, None::<UnixStream>, terms, &mut reason);
+            let apart = Apart { rt };
+            let end = serve_listener(&apart, alloc, host, None::<UnixStream>, terms, &mut reason);
             (end, matches!(reason, Some(Reason::Full)))
         },
         move || clients.run(rt, alloc, path),
