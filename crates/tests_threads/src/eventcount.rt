@@ -3,7 +3,7 @@ ghost use Rattle.std.specs.Prelude.{◌≡◌};
 
 mod threads;
 
-use crate::parts::LIMIT;
+use crate::parts::{LIMIT, assert_is};
 use std::test::Fail;
 use sysv_eventcount::{Awaited, Eventcount, OpenRefused, Seat, Sequencer, Worn};
 
@@ -147,6 +147,14 @@ fn the_newest_seat_splits_ten_times(rt: HostRuntime) -> Result<(), Fail> {
 fn a_worn_sequencer_draws_nothing(rt: HostRuntime) -> Result<(), Fail> {
     let (turns, mut seat) = Sequencer::open(rt.alloc(), LIMIT)?;
     assert_eq!(rt; turns.ticket(&mut seat), Err(Worn));
+    Ok(())
+}
+
+#[test]
+fn a_worn_eventcount_counts_nothing(rt: HostRuntime) -> Result<(), Fail> {
+    let (count, mut seat) = Eventcount::open(rt.alloc(), LIMIT)?;
+    assert_is(&rt, count.advance(&mut seat), Err(Worn));
+    assert_is(&rt, count.read(&mut seat), LIMIT);
     Ok(())
 }
 
