@@ -8,12 +8,13 @@ mod keeper;
 mod place;
 mod threads;
 
+use crate::gate::{came_back, worn_of};
 use crate::parts::{LIMIT, assert_is};
 use crate::sum::Sum;
 use std::alloc::Global;
 use std::test::Fail;
 use sysv_bank::{Bank, BankSeat};
-use sysv_gate::{Awaited, Closing, Count, OpenRefused, TryRefused};
+use sysv_gate::{Awaited, Closing, Count, OpenRefused};
 
 /// Opens a bank of three sums, of 10, 20 and 30.
 fn opened(alloc: Global, first: u64) -> Option<(Bank<Sum>, BankSeat<Sum>)>
@@ -33,9 +34,9 @@ fn turns_of(closings: Vec<Closing<Sum>, Global>) -> u64 {
 #[test]
 fn each_place_has_its_own_turns(rt: HostRuntime) -> Result<(), Fail> {
     let (bank, mut seat) = opened(rt.alloc(), 5).ok_or("no memory")?;
-    assert!(rt; matches!(&bank.call(&rt, 1, &mut seat, 5), Ok(20)));
-    assert!(rt; matches!(&bank.try_call(1, &mut seat, 4), Ok(25)));
-    assert!(rt; matches!(&bank.call(&rt, 2, &mut seat, 7), Ok(30)));
+    assert_is(&rt, bank.call(&rt, 1, &mut seat, 5).ok(), Some(20));
+    assert_is(&rt, bank.try_call(1, &mut seat, 4).ok(), Some(25));
+    assert_is(&rt, bank.call(&rt, 2, &mut seat, 7).ok(), Some(30));
     bank.wake(&rt, 1);
     assert_is(
         &rt,
@@ -76,9 +77,9 @@ fn each_place_has_its_own_turns(rt: HostRuntime) -> Result<(), Fail> {
 fn seats_are_split_and_joined_together(rt: HostRuntime) -> Result<(), Fail> {
     let (bank, mut seat) = opened(rt.alloc(), 0).ok_or("no memory")?;
     let mut other = bank.split(rt.alloc(), &mut seat).expect(&rt, "a split");
-    assert!(rt; matches!(&bank.call(&rt, 0, &mut other, 1), Ok(10)));
-    assert!(rt; matches!(&bank.call(&rt, 0, &mut seat, 2), Ok(11)));
-    assert!(rt; matches!(&bank.try_call(2, &mut other, 3), Ok(30)));
+    assert_is(&rt, bank.call(&rt, 0, &mut other, 1).ok(), Some(10));
+    assert_is(&rt, bank.call(&rt, 0, &mut seat, 2).ok(), Some(11));
+    assert_is(&rt, bank.try_call(2, &mut other, 3).ok(), Some(30));
     assert_is(&rt, bank.count(2, &mut seat, Count::Arrived), 1);
     bank.join(&mut seat, other);
     assert_is(&rt, turns_of(bank.close(seat)), 3);
@@ -88,16 +89,15 @@ fn seats_are_split_and_joined_together(rt: HostRuntime) -> Result<(), Fail> {
 #[test]
 fn a_worn_place_serves_nothing(rt: HostRuntime) -> Result<(), Fail> {
     let (bank, mut seat) = opened(rt.alloc(), LIMIT - 1).ok_or("no memory")?;
-    assert!(rt; matches!(&bank.call(&rt, 2, &mut seat, 5), Ok(30)));
-    assert!(rt; matches!(&bank.call(&rt, 2, &mut seat, 5), Err(worn) if worn.call == 5));
-    assert!(rt; matches!(&bank.try_call(2, &mut seat, 6), Err(TryRefused::Worn(6))));
-    assert!(rt;
-        matches!(
-            &bank.await_count(&rt, 2, &mut seat, Count::Freed, 1),
-            Awaited::Worn
-        )
+    assert_is(&rt, bank.call(&rt, 2, &mut seat, 5).ok(), Some(30));
+    assert_is(&rt, came_back(bank.call(&rt, 2, &mut seat, 5)), Some(5));
+    assert_is(&rt, worn_of(bank.try_call(2, &mut seat, 6)), Some(6));
+    assert_is(
+        &rt,
+        bank.await_count(&rt, 2, &mut seat, Count::Freed, 1),
+        Awaited::Worn,
     );
-    assert!(rt; matches!(&bank.try_call(1, &mut seat, 6), Ok(20)));
+    assert_is(&rt, bank.try_call(1, &mut seat, 6).ok(), Some(20));
     assert_is(&rt, turns_of(bank.close(seat)), 2);
     Ok(())
 }

@@ -7,12 +7,28 @@ mod threads;
 use crate::parts::{LIMIT, assert_is};
 use crate::sum::Sum;
 use std::test::Fail;
-use sysv_gate::{Awaited, Gate, Object, OpenRefused, Seat, TryRefused};
+use sysv_gate::{Awaited, Gate, Object, OpenRefused, Seat, TryRefused, Worn};
 
 fn opened(rt: &HostRuntime, first: u64) -> Option<(Gate<Sum>, Seat<Sum>)>
     ensures { IfSome result (λ o. o.1.gate ≡ o.0) }
 {
     Gate::starting_at(rt.alloc(), Sum::new(0), first).ok()
+}
+
+/// Returns the call that was handed back because the gate is worn out.
+pub(crate) fn came_back<R: Drop>(called: Result<R, Worn<u8>>) -> Option<u8> {
+    match called {
+        Ok(_) => None,
+        Err(worn) => Some(worn.call),
+    }
+}
+
+/// Returns the call of a try that was handed back because the gate is worn out.
+pub(crate) fn worn_of<R: Drop>(tried: Result<R, TryRefused<u8>>) -> Option<u8> {
+    match tried {
+        Err(TryRefused::Worn(call)) => Some(call),
+        _ => None,
+    }
 }
 
 #[test]
@@ -36,9 +52,9 @@ fn calls_are_served_in_turn(rt: HostRuntime) -> Result<(), Fail> {
 #[test]
 fn the_last_ticket_is_served(rt: HostRuntime) -> Result<(), Fail> {
     let (gate, mut seat) = opened(&rt, LIMIT - 1).ok_or("no memory")?;
-    assert!(rt; matches!(&gate.call(&rt, &mut seat, 9), Ok(0)));
-    assert!(rt; matches!(&gate.call(&rt, &mut seat, 8), Err(worn) if worn.call == 8));
-    assert!(rt; matches!(&gate.try_call(&mut seat, 4), Err(TryRefused::Worn(4))));
+    assert_is(&rt, gate.call(&rt, &mut seat, 9).ok(), Some(0));
+    assert_is(&rt, came_back(gate.call(&rt, &mut seat, 8)), Some(8));
+    assert_is(&rt, worn_of(gate.try_call(&mut seat, 4)), Some(4));
     let closing = gate.close(seat);
     assert_is(
         &rt,
@@ -51,8 +67,8 @@ fn the_last_ticket_is_served(rt: HostRuntime) -> Result<(), Fail> {
 #[test]
 fn a_worn_gate_serves_nothing(rt: HostRuntime) -> Result<(), Fail> {
     let (gate, mut seat) = opened(&rt, LIMIT).ok_or("no memory")?;
-    assert!(rt; matches!(&gate.call(&rt, &mut seat, 5), Err(worn) if worn.call == 5));
-    assert!(rt; matches!(&gate.try_call(&mut seat, 6), Err(TryRefused::Worn(6))));
+    assert_is(&rt, came_back(gate.call(&rt, &mut seat, 5)), Some(5));
+    assert_is(&rt, worn_of(gate.try_call(&mut seat, 6)), Some(6));
     let closing = gate.close(seat);
     assert_is(
         &rt,
@@ -158,14 +174,14 @@ fn number_in(drawer: Option<Drawer>) -> u32 {
 #[test]
 fn seats_come_and_go(rt: HostRuntime) -> Result<(), Fail> {
     let (gate, mut seat) = opened(&rt, 100).ok_or("no memory")?;
-    assert!(rt; matches!(&gate.try_call(&mut seat, 1), Ok(0)));
+    assert_is(&rt, gate.try_call(&mut seat, 1).ok(), Some(0));
     let mut other = gate.split(&mut seat);
-    assert!(rt; matches!(&gate.try_call(&mut other, 2), Ok(1)));
-    assert!(rt; matches!(&gate.call(&rt, &mut seat, 3), Ok(3)));
+    assert_is(&rt, gate.try_call(&mut other, 2).ok(), Some(1));
+    assert_is(&rt, gate.call(&rt, &mut seat, 3).ok(), Some(3));
     let third = gate.split(&mut other);
     gate.join(&mut seat, other);
     gate.join(&mut seat, third);
-    assert!(rt; matches!(&gate.try_call(&mut seat, 4), Ok(6)));
+    assert_is(&rt, gate.try_call(&mut seat, 4).ok(), Some(6));
     let closing = gate.close(seat);
     assert_is(
         &rt,
@@ -185,9 +201,9 @@ fn counts_are_announced(rt: HostRuntime) -> Result<(), Fail> {
         (0, 0),
     );
     let mut other = gate.split(&mut seat);
-    assert!(rt; matches!(&gate.call(&rt, &mut seat, 5), Ok(0)));
-    assert!(rt; matches!(&gate.call(&rt, &mut seat, 7), Ok(5)));
-    assert!(rt; matches!(&gate.call(&rt, &mut seat, 4), Ok(12)));
+    assert_is(&rt, gate.call(&rt, &mut seat, 5).ok(), Some(0));
+    assert_is(&rt, gate.call(&rt, &mut seat, 7).ok(), Some(5));
+    assert_is(&rt, gate.call(&rt, &mut seat, 4).ok(), Some(12));
     assert_is(
         &rt,
         (gate.arrived(&mut seat), gate.freed(&mut seat)),
@@ -203,7 +219,7 @@ fn counts_are_announced(rt: HostRuntime) -> Result<(), Fail> {
         (gate.arrived(&mut other), gate.freed(&mut other)),
         (2, 1),
     );
-    assert!(rt; matches!(&gate.try_call(&mut other, 2), Ok(16)));
+    assert_is(&rt, gate.try_call(&mut other, 2).ok(), Some(16));
     assert_is(
         &rt,
         gate.await_freed(&rt, &mut seat, 1),
@@ -218,7 +234,7 @@ fn counts_are_announced(rt: HostRuntime) -> Result<(), Fail> {
 #[test]
 fn a_wait_at_a_worn_gate_ends(rt: HostRuntime) -> Result<(), Fail> {
     let (gate, mut seat) = opened(&rt, LIMIT - 1).ok_or("no memory")?;
-    assert!(rt; matches!(&gate.call(&rt, &mut seat, 9), Ok(0)));
+    assert_is(&rt, gate.call(&rt, &mut seat, 9).ok(), Some(0));
     assert_is(
         &rt,
         gate.await_arrived(&rt, &mut seat, 1),

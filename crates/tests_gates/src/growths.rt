@@ -1,6 +1,7 @@
 //! Each call that allocates, with a growth of it refused: it then returns `NoMemory`, and its
 //! arguments are handed back unchanged.
 
+use crate::gate::came_back;
 use crate::parts::{LIMIT, assert_is};
 use crate::sum::Sum;
 use std::process::Abort;
@@ -18,7 +19,7 @@ fn gate_open(rt: HostRuntime) {
     let _marked = mark(rt.alloc());
     match Gate::open(rt.alloc(), Sum::new(7)) {
         Ok((gate, mut seat)) => {
-            assert!(rt; matches!(&gate.try_call(&mut seat, 1), Ok(7)));
+            assert_is(&rt, gate.try_call(&mut seat, 1).ok(), Some(7));
             assert_is(&rt, gate.close(seat).turns, 1);
         }
         Err(OpenRefused::NoMemory(back)) => assert_is_new(&rt, &back, 7),
@@ -31,8 +32,8 @@ fn gate_starting_at(rt: HostRuntime) {
     let _marked = mark(rt.alloc());
     match Gate::starting_at(rt.alloc(), Sum::new(7), LIMIT - 1) {
         Ok((gate, mut seat)) => {
-            assert!(rt; matches!(&gate.call(&rt, &mut seat, 1), Ok(7)));
-            assert!(rt; matches!(&gate.call(&rt, &mut seat, 2), Err(worn) if worn.call == 2));
+            assert_is(&rt, gate.call(&rt, &mut seat, 1).ok(), Some(7));
+            assert_is(&rt, came_back(gate.call(&rt, &mut seat, 2)), Some(2));
             assert_is(&rt, gate.close(seat).turns, 1);
         }
         Err(OpenRefused::NoMemory(back)) => assert_is_new(&rt, &back, 7),
@@ -49,7 +50,7 @@ fn bank_open(rt: HostRuntime) {
     let _marked = mark(rt.alloc());
     match Bank::open(rt.alloc(), objects, 0) {
         Ok((bank, mut seat)) => {
-            assert!(rt; matches!(&bank.try_call(1, &mut seat, 1), Ok(20)));
+            assert_is(&rt, bank.try_call(1, &mut seat, 1).ok(), Some(20));
             assert_is(&rt, bank.close(seat).len(), 2);
         }
         Err(OpenRefused::NoMemory(back)) => {
@@ -72,10 +73,10 @@ fn bank_split(rt: HostRuntime) {
     };
     let _marked = mark(rt.alloc());
     let mut other = bank.split(rt.alloc(), &mut seat).expect(&rt, "a split");
-    assert!(rt; matches!(&bank.try_call(1, &mut other, 5), Ok(20)));
+    assert_is(&rt, bank.try_call(1, &mut other, 5).ok(), Some(20));
     bank.join(&mut seat, other);
-    assert!(rt; matches!(&bank.try_call(1, &mut seat, 1), Ok(25)));
-    assert!(rt; matches!(&bank.try_call(0, &mut seat, 1), Ok(10)));
+    assert_is(&rt, bank.try_call(1, &mut seat, 1).ok(), Some(25));
+    assert_is(&rt, bank.try_call(0, &mut seat, 1).ok(), Some(10));
     let closings = bank.close(seat);
     let mut turns = closings.iter().map(|closing| closing.turns);
     let found = (turns.next(), turns.next(), turns.next());

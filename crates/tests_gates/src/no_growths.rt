@@ -12,11 +12,11 @@ fn gate(rt: HostRuntime) {
         return;
     };
     let _marked = mark(rt.alloc());
-    assert!(rt; matches!(&gate.call(&rt, &mut seat, 5), Ok(0)));
-    assert!(rt; matches!(&gate.try_call(&mut seat, 4), Ok(5)));
+    assert_is(&rt, gate.call(&rt, &mut seat, 5).ok(), Some(0));
+    assert_is(&rt, gate.try_call(&mut seat, 4).ok(), Some(5));
     gate.wake(&rt);
     let mut other = gate.split(&mut seat);
-    assert!(rt; matches!(&gate.call(&rt, &mut other, 3), Ok(9)));
+    assert_is(&rt, gate.call(&rt, &mut other, 3).ok(), Some(9));
     let counts = (gate.arrived(&mut seat), gate.freed(&mut seat));
     assert_is(&rt, counts, (2, 1));
     let arrived = gate.await_arrived(&rt, &mut seat, 2);

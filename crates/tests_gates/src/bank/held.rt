@@ -4,6 +4,7 @@ ghost use Rattle.sysv_bank.specs.Banks.{gates_of};
 
 use super::keeper::{Keeper, Watch};
 use super::place::Place;
+use crate::parts::assert_is;
 use std::alloc::Global;
 use std::sync::{Mutex, Wait};
 use std::test::Fail;
@@ -121,7 +122,7 @@ fn one_lock_round_everything(rt: HostRuntime) -> Result<(), Fail> {
     let (bank, mut seat, watch) = opened(alloc, begun, answered).ok_or("no memory")?;
     let well = hold_and_call(&rt, alloc, &bank, &mut seat, watch);
     let closings = bank.close(seat);
-    assert_eq!(rt; well, Some(true));
-    assert_eq!(rt; closings.len(), 2);
+    assert_is(&rt, well, Some(true));
+    assert_is(&rt, closings.len(), 2);
     Ok(())
 }

@@ -3,6 +3,7 @@ ghost use Rattle.std.specs.Prelude.{◌≡◌, length};
 ghost use Rattle.sysv_bank.specs.Banks.{gates_of};
 
 use super::opened;
+use crate::parts::assert_is;
 use crate::sum::Sum;
 use std::alloc::Global;
 use std::sync::Wait;
@@ -58,7 +59,7 @@ fn a_wake_ends_a_wait_at_its_place(rt: HostRuntime) -> Result<(), Fail> {
     let (bank, mut seat) = opened(rt.alloc(), 0).ok_or("no memory")?;
     let told = wait_and_wake(&rt, rt.alloc(), &bank, &mut seat);
     let closings = bank.close(seat);
-    assert_eq!(rt; told, Some((Awaited::Reached(1), Some(20))));
-    assert_eq!(rt; closings.len(), 3);
+    assert_is(&rt, told, Some((Awaited::Reached(1), Some(20))));
+    assert_is(&rt, closings.len(), 3);
     Ok(())
 }

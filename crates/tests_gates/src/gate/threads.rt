@@ -5,7 +5,7 @@ mod no_wakes;
 mod passed_over;
 
 use super::opened;
-use crate::parts::{LIMIT, millis};
+use crate::parts::{LIMIT, assert_is, millis};
 use crate::sum::Sum;
 use std::sync::Wait;
 use std::test::Fail;
@@ -146,7 +146,7 @@ fn four_threads_take_all_their_turns(rt: HostRuntime) -> Result<(), Fail> {
         told.iter()
             .all(|last| last.is_some_and(|last| last <= 23_997))
     );
-    assert_eq!(rt; (closing.turns, sum), (8_000, 24_000));
+    assert_is(&rt, (closing.turns, sum), (8_000, 24_000));
     Ok(())
 }
 
@@ -230,7 +230,7 @@ fn a_waiter_sleeps(rt: HostRuntime) -> Result<(), Fail> {
     let (held, used) = wait_out_a_turn(&rt, &gate, slow, waiting);
     let closing = gate.close(seat);
     assert!(rt; held && used.is_some_and(|used| used < Duration::from_millis(100)));
-    assert_eq!(rt; closing.turns, 2);
+    assert_is(&rt, closing.turns, 2);
     Ok(())
 }
 
@@ -302,8 +302,8 @@ fn no_wake_is_lost(rt: HostRuntime) -> Result<(), Fail> {
     let (gate, mut seat) = opened(&rt, 0).ok_or("no memory")?;
     let roles = [Role::Says, Role::Answers, Role::Watches, Role::Idle];
     let told = told_to_four(&rt, &gate, &mut seat, roles);
-    assert_eq!(rt; told, [Some(ROUNDS), Some(ROUNDS), None, None]);
-    assert_eq!(rt; gate.close(seat).turns, 2 * ROUNDS);
+    assert_is(&rt, told, [Some(ROUNDS), Some(ROUNDS), None, None]);
+    assert_is(&rt, gate.close(seat).turns, 2 * ROUNDS);
     Ok(())
 }
 
@@ -348,8 +348,8 @@ fn a_sleeper_is_told_that_the_gate_is_worn(rt: HostRuntime) -> Result<(), Fail> 
     let (gate, mut seat) = opened(&rt, LIMIT - 1).ok_or("no memory")?;
     let roles = [Role::WaitsInVain, Role::WearsOut(2), Role::Idle, Role::Idle];
     let told = told_to_four(&rt, &gate, &mut seat, roles);
-    assert_eq!(rt; told, [None, Some(0), None, None]);
-    assert_eq!(rt; gate.close(seat).turns, 1);
+    assert_is(&rt, told, [None, Some(0), None, None]);
+    assert_is(&rt, gate.close(seat).turns, 1);
     Ok(())
 }
 
@@ -364,8 +364,8 @@ fn a_sleeper_for_freed_is_told_that_the_gate_is_worn(rt: HostRuntime) -> Result<
         Role::Idle,
     ];
     let told = told_to_four(&rt, &gate, &mut seat, roles);
-    assert_eq!(rt; told, [None, None, Some(0), None]);
-    assert_eq!(rt; gate.close(seat).turns, 1);
+    assert_is(&rt, told, [None, None, Some(0), None]);
+    assert_is(&rt, gate.close(seat).turns, 1);
     Ok(())
 }
 
@@ -390,8 +390,8 @@ fn a_rise_wakes_all_who_wait_for_freed(rt: HostRuntime) -> Result<(), Fail> {
         Role::WaitsForFreed(1),
     ];
     let told = told_to_four(&rt, &gate, &mut seat, roles);
-    assert_eq!(rt; told, [Some(1); 4]);
-    assert_eq!(rt; gate.close(seat).turns, 2);
+    assert_is(&rt, told, [Some(1); 4]);
+    assert_is(&rt, gate.close(seat).turns, 2);
     Ok(())
 }
 
@@ -429,7 +429,7 @@ fn a_try_wakes_nobody_and_a_wake_wakes_all(rt: HostRuntime) -> Result<(), Fail> 
             Role::Idle,
         ];
         let [one, two, woken, _] = told_to_four(&rt, &gate, &mut seat, roles);
-        assert_eq!(rt; gate.close(seat).turns, 1);
+        assert_is(&rt, gate.close(seat).turns, 1);
         slept =
             matches!((one, two, woken), (Some(one), Some(two), Some(woken)) if one >= woken && two >= woken);
         if slept {
@@ -452,8 +452,8 @@ fn a_rise_wakes_all_who_wait_for_arrived(rt: HostRuntime) -> Result<(), Fail> {
     ];
     let [one, two, raised, three] = told_to_four(&rt, &gate, &mut seat, roles);
     assert!(rt; one.is_some() && two.is_some() && three.is_some());
-    assert_eq!(rt; raised, Some(1));
-    assert_eq!(rt; gate.close(seat).turns, 2);
+    assert_is(&rt, raised, Some(1));
+    assert_is(&rt, gate.close(seat).turns, 2);
     Ok(())
 }
 
@@ -502,6 +502,6 @@ fn a_wake_ends_the_wait_for_a_turn(rt: HostRuntime) -> Result<(), Fail> {
     let (tried, called) = wait_out_a_try(&rt, &gate, slow, waiting);
     let turns = gate.close(seat).turns;
     assert!(rt; called);
-    assert_eq!(rt; turns, if tried { 2 } else { 1 });
+    assert_is(&rt, turns, if tried { 2 } else { 1 });
     Ok(())
 }

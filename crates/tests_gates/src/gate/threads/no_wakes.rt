@@ -4,6 +4,7 @@ ghost use Rattle.std.specs.Prelude.{◌≡◌};
 
 use super::{Role, Slow, told_to_four, wait_out_a_turn};
 use crate::gate::opened;
+use crate::parts::assert_is;
 use std::sync::Wait;
 use std::test::Fail;
 use sysv_gate::{Gate, Seat};
@@ -26,9 +27,9 @@ fn counts(rt: HostRuntime) -> Result<(), Fail> {
     let _marked = mark(rt.alloc());
     let odd = gate.call(&rt, &mut seat, 1).ok();
     let even = gate.call(&rt, &mut seat, 2).ok();
-    assert_eq!(rt; (freed, raised), (Some(1), Some(1)));
-    assert_eq!(rt; (odd, even), (Some(3), Some(4)));
-    assert_eq!(rt; gate.close(seat).turns, 4);
+    assert_is(&rt, (freed, raised), (Some(1), Some(1)));
+    assert_is(&rt, (odd, even), (Some(3), Some(4)));
+    assert_is(&rt, gate.close(seat).turns, 4);
     Ok(())
 }
 
@@ -58,6 +59,6 @@ fn turns(rt: HostRuntime) -> Result<(), Fail> {
     let called = call_often(&rt, &gate, &mut seat);
     let closing = gate.close(seat);
     assert!(rt; held && used.is_some() && called);
-    assert_eq!(rt; closing.turns, 2 + CALLS);
+    assert_is(&rt, closing.turns, 2 + CALLS);
     Ok(())
 }

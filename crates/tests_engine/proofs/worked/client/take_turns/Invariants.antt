@@ -1,6 +1,6 @@
 use Rattle.std.proofs.Common.{◌≡◌}
 use Rattle.tests_engine.proofs.worked.client.take_turns.Given as goal
 
--- The kernel calls the same service.
-abbrev pub invariant-loop-turn : goal.invariant-loop-turn
-invariant-loop-turn g l = l.kernel.service ≡ g.kernel.service
+-- The kernel still calls the same service.
+abbrev pub invariant-loop : goal.invariant-loop
+invariant-loop g l = l.kernel.service ≡ l.fn.kernel.service
