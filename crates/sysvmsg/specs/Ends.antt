@@ -37,10 +37,12 @@ IsMeantToEnd (Some (NoSocket why)) = ⊥
 IsMeantToEnd (Some (Accept why)) = ⊥
 IsMeantToEnd None = ⊤
 
--- A server that accepted no more connections for this reason was to accept no more, and the line
--- with its sums was printed whole, and nothing else was.
-abbrev pub HasServed : Sums → Option Reason → (shown after : Option (List ℕ)) → Type 0
-HasServed sums reason shown after = IsMeantToEnd reason × Appends shown after (sums_line sums)
+-- A server that accepted no more connections for this reason was to accept no more, memory was
+-- refused for none of its sessions, and the line with its sums was printed whole, and nothing else
+-- was.
+abbrev pub HasServed : Ended → Option Reason → (shown after : Option (List ℕ)) → Type 0
+HasServed ended reason shown after =
+    IsMeantToEnd reason × (ended.refused ≡ 0) × Appends shown after (sums_line ended.sums)
 
 -- A server on these terms ended so. It had at most as many places as the terms have sessions at once:
 -- fewer if there are too few descriptors.
@@ -55,4 +57,4 @@ pub record HasServedAll (has_input : Bool) (terms : Terms) (shown after : Option
   pub reason : Option Reason
   pub ends : EndsWithin terms ended
   pub meant : HasReason has_input terms.sessions ended.sums.sessions reason
-  pub served : HasServed ended.sums reason shown after
+  pub served : HasServed ended reason shown after

@@ -116,7 +116,7 @@ pub(crate) fn serve_at<
 {
     let mut reason = None;
     match run_server(rt, input, serving, &mut reason) {
-        Ok(ended) => end(rt, &ended.sums, reason, screen),
+        Ok(ended) => end(rt, &ended, reason, screen),
         Err(fault) => {
             explain(rt, fault, &serving.terms);
             say(rt, "no memory")
@@ -146,16 +146,18 @@ fn run_server<
 }
 
 /// Prints how a server ended that accepted no more connections for this reason. If an accept
-/// failed, that is reported on standard error.
+/// failed, that is reported on standard error. The server fails also if memory was refused for a
+/// session.
 fn end<R: Print + Eprint + AllocGlobal, S: Write>(
     rt: &R,
-    sums: &Sums,
+    ended: &Ended,
     reason: Option<Reason>,
     screen: &mut S,
 ) -> ExitCode
-    ensures { SucceedsOnlyIf (HasServed sums.now reason (S.contents screen.old)
+    ensures { SucceedsOnlyIf (HasServed ended.now reason (S.contents screen.old)
         (S.contents screen.new)) result }
 {
+    let sums = &ended.sums;
     match reason {
         Some(Reason::NoSocket(why)) if why.kind() == ErrorKind::OutOfMemory => {
             say(rt, "no memory")
@@ -168,7 +170,14 @@ fn end<R: Print + Eprint + AllocGlobal, S: Write>(
             tell(screen, sums);
             ExitCode::from(FAULT)
         }
-        Some(Reason::Full | Reason::InputOver) | None => tell(screen, sums),
+        Some(Reason::Full | Reason::InputOver) | None => {
+            let told = tell(screen, sums);
+            if ended.refused == 0 {
+                told
+            } else {
+                ExitCode::from(FAULT)
+            }
+        }
     }
 }
 
