@@ -43,7 +43,7 @@ module _ {V T P : Type 0} (R : Standing V T → P → Type 0) (connection : T) w
         (each.0, rest.2),
       )
 
-module _ {T B : Type 0} (incoming outgoing : T → Option (List ℕ)) (closes : Closing B) where
+module _ {T B : Type 0} (incoming outgoing : T → Option (List ℕ)) (closes : Closing T B) where
   -- One of the places changed, and keeps what it was.
   pub keeps_at : (places : List (Seated B T)) (i : ℕ) (old new : Seated B T) → old ≡ slice_index_or places i old →
       KeepsPlace incoming outgoing closes old new →

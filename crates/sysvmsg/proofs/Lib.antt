@@ -2,4 +2,3 @@
 pub mod WordLemmas
 pub mod AskedLemmas
 pub mod EndLemmas
-pub mod ServerLemmas

@@ -7,7 +7,7 @@ ghost use Rattle.sysvmsg.specs.Ends.{EndsWithin, HasServed, HasServedAll, Succee
 
 use crate::asked::Serving;
 use crate::plain::complain;
-use crate::room::room;
+use crate::room::{open_files, room};
 use crate::socket::listen_at;
 use crate::{FAULT, say};
 use libc::net::{POLLOUT, poll};
@@ -115,7 +115,7 @@ pub(crate) fn serve_at<
         (S.contents screen.old) (S.contents screen.new)) result }
 {
     let mut reason = None;
-    match run_server(rt, input, serving, &mut reason) {
+    match run_server(rt, input, serving, open_files(), &mut reason) {
         Ok(ended) => end(rt, &ended, reason, screen),
         Err(fault) => {
             explain(rt, fault, &serving.terms);
@@ -124,18 +124,25 @@ pub(crate) fn serve_at<
     }
 }
 
-/// Runs a server. It ends after its input has ended only if the command line says so.
+/// Runs a server under this limit of open files. It ends after its input has ended only if the
+/// command line says so.
 fn run_server<
     I: Read + AsRawFd + Drop,
     R: Files + Net + Threads + Wait + Sync + Eprint + AllocGlobal + Clone + Drop,
->(rt: &R, input: I, serving: &Serving<'_>, reason: &mut Option<Reason>) -> Result<Ended, ServeFault>
+>(
+    rt: &R,
+    input: I,
+    serving: &Serving<'_>,
+    limit: Option<u64>,
+    reason: &mut Option<Reason>,
+) -> Result<Ended, ServeFault>
     requires { HasLimits serving.now }
-    ensures ends { IfOk result (EndsWithin serving.now.terms) }
+    ensures ends { IfOk result (EndsWithin limit serving.now.terms) }
     ensures meant { IfOk result (λ ended. HasReason serving.now.until_eof
         serving.now.terms.sessions ended.sums.sessions reason.new) }
 {
     let mut terms = serving.terms;
-    terms.at_once = room(terms.workers, terms.at_once);
+    terms.at_once = room(limit, terms.workers, terms.at_once);
     let host = Reporter {
         rt,
         serving,
