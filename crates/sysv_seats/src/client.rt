@@ -309,7 +309,7 @@ impl<T: NonBlocking> Client<T> {
         } = parked;
         let progress = kernel.go_on(&request, &tools.text, &mut tools.given, waiting);
         self.settle(cred, request, length, progress, tools);
-        self.has_input = true;
+        self.has_input = self.is_within_request();
     }
 
     /// Closes the client, and returns what its session did. Replies that the connection has not
@@ -468,6 +468,7 @@ impl<T: NonBlocking> Client<T> {
             }
             self.take_up(false, kernel, tools);
         }
+        self.has_input = self.is_within_request();
     }
 
     /// Takes up the request at the front of the input, and answers it unless it waits. `is_end` is
@@ -618,11 +619,13 @@ impl<T: NonBlocking> Client<T> {
     fn compact(&mut self)
         ensures { self.new ≡ self.old }
     {
-        if self.start == self.input.len() && self.input.capacity() > MOST_KEPT {
-            self.input.clear();
-            self.input.shrink_to_fit();
-        } else {
+        if self.start < self.input.len() {
             self.input.drain(..self.start);
+        } else {
+            self.input.clear();
+            if self.input.capacity() > MOST_KEPT {
+                self.input.shrink_to_fit();
+            }
         }
         self.start = 0;
     }
