@@ -174,7 +174,8 @@ welcome_text cred style (content.Rcv mtype) given fits = absurd (omega (arith, f
 welcome_text cred style (content.Stat stat) given fits = absurd (omega (arith, fits))
 welcome_text cred style content.Set given fits = refl
 welcome_text cred style content.Rm given fits = refl
-welcome_text cred style (content.Row row) given fits = absurd (omega (arith, fits.0))
+welcome_text cred style (content.Row None) given fits = refl
+welcome_text cred style (content.Row (Some row)) given fits = absurd (omega (arith, fits.0))
 
 -- The hello was done, and no row is requested yet.
 pub lists_from : (command : Command) (answer : ReplyContent) (given : List ℕ)

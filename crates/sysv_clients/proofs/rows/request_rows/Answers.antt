@@ -1,5 +1,6 @@
-use Rattle.std.proofs.Common.{arith, refl, ◌∙◌}
+use Rattle.std.proofs.Common.{ℕ, ap, arith, refl, true, ◌∙◌}
 use Rattle.std.proofs.lemmas.Result.{err_from_is_err_and}
+use Rattle.sysv_model.specs.Watched.{failures_after}
 use Rattle.sysv_clients.proofs.RowLemmas.{starts_writing, writes_more, wrote_all, wrote_part, wrote_whole}
 use Rattle.sysv_clients.proofs.SendLemmas.{keeps_appends}
 use Rattle.sysv_clients.proofs.rows.request_rows.Goals as goal
@@ -23,7 +24,8 @@ returns-in_err-put-clause-stream g c =
     rw p.1
     (record {
       same = c.in_err-put.ensures.stream.same ∙ c.loop-slot.invariant.stream.same;
-      failed = rw c.loop-slot.invariant.stream.failed c.in_err-put.ensures.stream.failed;
+      failed = c.in_err-put.ensures.stream.failed
+          ∙ ap (λ (n : ℕ). failures_after true n) c.loop-slot.invariant.stream.failed;
     })
 
 pub loop-slot-preserved : goal.loop-slot-preserved
