@@ -1,4 +1,5 @@
 pub mod TalkLemmas
+pub mod RowLemmas
 pub mod WordLemmas
 pub mod Courses
 pub mod CallLemmas

@@ -15,6 +15,11 @@ pub(crate) const MAX_ROWS: u32 = 32_768;
 /// The maximum number of requests of a command: those of `ipcs`, a hello and one for each row.
 pub(crate) const MAX_REQUESTS: u32 = 32_769;
 
+/// The maximum number of rows whose requests are on their way: written, and without a reply. These
+/// requests, or the replies to them, fit in the buffer of a socket, so neither side waits for the
+/// other to read.
+pub(crate) const ROW_WINDOW: u32 = 256;
+
 /// A client's task, with the credentials for it.
 #[derive(Clone, Copy, PartialEq, Eq, Debug)]
 pub struct Command<'a> {

@@ -12,6 +12,7 @@ mod laws;
 mod line;
 mod lines;
 mod page;
+mod rows;
 mod screen;
 mod sending;
 mod stream;

@@ -6,7 +6,7 @@ use Rattle.sysv_clients.specs.declared.style.Style.{Style}
 use Rattle.sysv_clients.specs.Style.{grows}
 use Rattle.sysv_clients.proofs.TalkLemmas.{begins, blamed, breaks_off, goes_on, has_room, no_line, short_head}
 use Rattle.sysv_clients.proofs.TalkLemmas.{stays_within}
-use Rattle.sysv_clients.proofs.client.Client.talk.Goals as goal
+use Rattle.sysv_clients.proofs.client.Client.call.Goals as goal
 
 pub loop-ask-init : goal.loop-ask-init
 loop-ask-init g c = record {

@@ -4,7 +4,7 @@ use Rattle.sysv_clients.specs.declared.command.TheConstants.{MAX_REQUESTS}
 use Rattle.sysv_clients.specs.Asks.{text_of}
 use Rattle.sysv_model.specs.Watched.{failures_of, stream_name, stream_of}
 use Rattle.sysv_clients.proofs.TalkLemmas.{Talking, page_most}
-use Rattle.sysv_clients.proofs.client.Client.talk.Given as goal
+use Rattle.sysv_clients.proofs.client.Client.call.Given as goal
 
 abbrev pub invariant-loop-ask : goal.invariant-loop-ask
 invariant-loop-ask g l = record {
