@@ -4,7 +4,7 @@ use Rattle.std.specs.List.{FoldsTo}
 use Rattle.sysv_session.specs.declared.served.Served.{Served}
 use Rattle.sysv_service.specs.Ran.{Pass}
 use Rattle.sysv_seats.specs.Breaking.{Breaks, MayEnd, MayTell}
-use Rattle.sysv_seats.specs.Sits.{IsBehind, IsOver, Sits, Sitting}
+use Rattle.sysv_seats.specs.Sits.{IsBehind, IsOver, KeepsWith, Sits, Sitting}
 use Rattle.sysv_seats.specs.Untold.{Closing}
 use Rattle.sysv_engine.specs.declared.sums.Sums.{Sums}
 use Rattle.sysv_engine.specs.Added.{added, capped, one_session}
@@ -84,6 +84,29 @@ module _ {T B : Type 0} (incoming outgoing : T → Option (List ℕ)) (closes : 
   keeps_from seen old new is keeps = λ gates standing stands.
       keeps gates standing (subst (λ p. Stands incoming outgoing closes gates standing p) (sym is) stands)
 
+  -- The client went on, and nothing else of the place changed but its pass.
+  pub goes_on : (old new : Seated B T) (client client' : Sitting T) → old.client ≡ Some client →
+      new.client ≡ Some client' →
+      (new.gates ≡ old.gates) × (new.sums ≡ old.sums) × (new.refused ≡ old.refused) × (new.book ≡ old.book) →
+      KeepsWith incoming outgoing client old.pass client' new.pass →
+      closes.breaks client'.connection ≡ closes.breaks client.connection →
+      KeepsPlace incoming outgoing closes old new
+  goes_on old new client client' held holds same keeps still = λ gates standing stands.
+      let Is = IsPlace incoming outgoing closes (SitsOn incoming outgoing closes) standing in
+      let stood : Is (view_of old) (Some client) = subst (λ c. Is (view_of old) c) held stands.1 in
+      let now : Is (record { pass = new.pass; sums = old.sums; refused = old.refused; book = old.book })
+      (Some client') = (
+        stood.0,
+        stood.1,
+        stood.2,
+        stood.3,
+        stood.4,
+        (keeps stood.2 stood.1 stood.5.0, still ∙ stood.5.1),
+      ) in
+      let view : record { pass = new.pass; sums = old.sums; refused = old.refused; book = old.book } ≡ view_of new =
+      cc in
+      (same.0 ∙ stands.0, subst (λ c. Is (view_of new) c) (sym holds) (subst (λ v. Is v (Some client')) view now))
+
   -- A place without a client was given to the client of a connection.
   pub takes : (old new : Seated B T) (connection : T) (client : Sitting T) → old.client ≡ None →
       new ≡ taken_by client old → client.connection ≡ connection →
@@ -111,7 +134,8 @@ module _ {T B : Type 0} (incoming outgoing : T → Option (List ℕ)) (closes : 
       let Is = IsPlace incoming outgoing closes (SitsOn incoming outgoing closes) standing in
       let stood : Is (view_of old) (Some client) = subst (λ c. Is (view_of old) c) held stands.1 in
       let none : Is (record { pass = old.pass; sums = new.sums; refused = new.refused; book = book' }) None =
-      ends incoming outgoing closes (SitsOn incoming outgoing closes) standing (view_of old) client (Some served) new.sums
+      ends incoming outgoing closes (SitsOn incoming outgoing closes) standing (view_of old) client (Some served)
+      new.sums
       new.refused book'
       (λ start origin sits. let done = over start old.pass origin sits.0 in record {
         rest = done.rest;

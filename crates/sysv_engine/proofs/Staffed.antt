@@ -18,7 +18,7 @@ use Rattle.sysv_engine.specs.declared.fault.ServeFault.{ServeFault}
 use Rattle.sysv_engine.specs.declared.sums.Sums.{Sums}
 use Rattle.sysv_engine.specs.Added.{all_added, capped}
 use Rattle.sysv_engine.specs.Places.{Handled, IsOpened, IsPlace, IsStaffed, KeepsAll, Seated, Standing, Stands, View}
-use Rattle.sysv_engine.specs.Places.{view_of}
+use Rattle.sysv_engine.specs.Places.{SitsOn, view_of}
 use Rattle.sysv_engine.specs.Serving.{FaultOf, HiredFrom, IsNew, LeavesConnections, WorkedFrom}
 use Rattle.sysv_engine.proofs.PlacesRun as run
 use Rattle.sysv_engine.proofs.Reversed.{all_reverse, back_reverse, map_reverse, runs_reverse}
@@ -75,7 +75,8 @@ module _ {T B : Type 0} (incoming outgoing : T → Option (List ℕ)) (closes : 
   opened_stands p is = (
     is.0,
     subst (λ c.
-        IsPlace incoming outgoing closes (SitsOn incoming outgoing closes) (record { start = view_of p; had = [] }) (view_of p)
+        IsPlace incoming outgoing closes (SitsOn incoming outgoing closes) (record { start = view_of p; had = [] })
+        (view_of p)
         c) (sym is.2)
         refl,
   )

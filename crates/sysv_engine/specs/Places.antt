@@ -1,7 +1,7 @@
 -- The places of a worker (this project's profile). A worker of a server has several places, each
 -- with a pass of its own. A place has one client after another.
 use Rattle.std.specs.Prelude.{◌≡◌, ℕ, List, [], ◌∷◌, ◌++◌, ◌<◌, ◌≤◌, length, Option, None, Some}
-use Rattle.std.specs.Prelude.{slice_index_or}
+use Rattle.std.specs.Prelude.{Bool, is_some, not, slice_index_or}
 use Rattle.std.specs.List.{FoldsTo}
 use Rattle.sysv_bank.specs.Banks.{Each2}
 use Rattle.sysv_service.specs.Ran.{Pass}
@@ -132,6 +132,10 @@ module _ {T B : Type 0} (incoming outgoing : T → Option (List ℕ)) (closes : 
   -- A worker adopted the connection and served its clients, which led to these places.
   abbrev pub AdoptsAt : Gates → T → (old new : List (Seated B T)) → Type 0
   AdoptsAt gates connection old new = Serves (Stands gates) old connection new
+
+-- The place has no client.
+abbrev pub is_vacant : {B T : Type 0} → Seated B T → Bool
+is_vacant place = not (is_some place.client)
 
 -- There is a place of this number, and it has no client.
 abbrev pub IsVacantAt : {B T : Type 0} → ℕ → List (Seated B T) → Type 0

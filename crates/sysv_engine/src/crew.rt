@@ -1,10 +1,10 @@
 //! The places of a server: a pass is split off for each, and joined back at the end.
-ghost use Rattle.std.specs.Prelude.{◌≡◌, ◌≤◌, ◌+◌, ◌++◌, map, reverse, vec_len, vec_capacity, [], None, true};
-ghost use Rattle.std.specs.List.{All, FoldsTo, sum_by};
+ghost use Rattle.std.specs.Prelude.{◌≡◌, ◌≤◌, ◌+◌, ◌++◌, map, reverse, vec_len, vec_capacity, [], None};
+ghost use Rattle.std.specs.List.{All, FoldsTo, list_all, sum_by};
 ghost use Rattle.sysv_service.specs.Seats.{AreOf};
 ghost use Rattle.sysv_thread_laws.specs.Hiring.{Gives, TakesIn};
 ghost use Rattle.sysv_engine.specs.Added.{all_added, capped};
-ghost use Rattle.sysv_engine.specs.Places.{IsOpened, KeepsAll};
+ghost use Rattle.sysv_engine.specs.Places.{IsOpened, KeepsAll, is_vacant};
 
 use crate::moment::pause;
 use crate::place::Place;
@@ -87,14 +87,9 @@ fn serve_all<R: Wait, T: NonBlocking>(places: &mut Vec<Place<'_, R, T>>, tools: 
 
 /// Returns whether there are no clients in the places.
 fn are_vacant<R: Wait, T: NonBlocking>(places: &[Place<'_, R, T>]) -> bool
-    ensures { result ≡ true → All (λ p. p.client ≡ None) places.now }
+    ensures { result ≡ list_all is_vacant places.now }
 {
-    for place in places {
-        if place.is_taken() {
-            return false;
-        }
-    }
-    true
+    places.iter().all(|place| !place.is_taken())
 }
 
 /// Joins the passes of all these places, which are vacant, into `pass`, and puts their books into

@@ -32,7 +32,8 @@ use Rattle.sysv_seats.specs.Breaking.{Breaks, HasCause, MayBreak, MayEnd}
 use Rattle.sysv_seats.specs.InPieces.{left}
 use Rattle.sysv_seats.specs.Sits.{Arrives, HasFrame, HasStopped, IsAt, IsBehind, IsCounted, IsFree, IsOver}
 use Rattle.sysv_seats.specs.Sits.{IsReady, MayClose, end_at_close, is_early}
-use Rattle.sysv_seats.specs.Sits.{Keeps, KeepsWith, Sits, Sitting, broken_off, broken_off_for, stopped_for, with_input, zero_moment}
+use Rattle.sysv_seats.specs.Sits.{Keeps, KeepsWith, Sits, Sitting, broken_off, broken_off_for, stopped_for, with_input}
+use Rattle.sysv_seats.specs.Sits.{zero_moment}
 use Rattle.sysv_seats.specs.declared.non_blocking.Drained.TheVariants.{Took}
 use Rattle.sysv_seats.specs.NonBlocking.{DrainAppends}
 use Rattle.sysv_seats.specs.Untold.{Closing}

@@ -186,7 +186,8 @@ row_has version (Err why) = tt
 
 -- A caller that does not leave is told how each call ended.
 asks_replied : (may : ℕ → Type 0) (version : Version) (cred : Cred) (ask : Ask) (text : List ℕ) (before : Pass)
-    (outcome : RequestOutcome) (given : List ℕ) (after : Pass) → Asks may ⊥ version cred ask text before outcome given after →
+    (outcome : RequestOutcome) (given : List ℕ) (after : Pass) →
+    Asks may ⊥ version cred ask text before outcome given after →
     HasReply outcome
 asks_replied may version cred (kind.Hello other) text before outcome given after asked = absurd asked
 asks_replied may version cred (kind.Get key flags) text before outcome given after asked =

@@ -1,5 +1,6 @@
 -- Streams in memory, and the steps that pace them (this project's profile).
-use Rattle.std.specs.Prelude.{◌≡◌, ◌-◌, ◌^◌, ◌==◌, ◌&&◌, ◌||◌, ◌++◌, ℕ, Bool, true, false, ⊤, not, List, [], ◌∷◌, length, min, take, drop}
+use Rattle.std.specs.Prelude.{◌≡◌, ◌-◌, ◌^◌, ◌==◌, ◌&&◌, ◌||◌, ◌++◌, ℕ, Bool, true, false, ⊤, not, List, [], ◌∷◌}
+use Rattle.std.specs.Prelude.{length, min, take, drop}
 use Rattle.std.specs.Prelude.{Option, None, Some, if◌then◌else◌}
 use Rattle.sysv_seats.specs.declared.memory_stream.Step.{Step}
 use Rattle.sysv_seats.specs.declared.memory_stream.Step.TheVariants as step

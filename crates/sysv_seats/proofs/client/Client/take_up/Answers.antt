@@ -50,7 +50,8 @@ returns-in-Ok-Request-clause-keeps g c = λ start origin sits.
 
 pub stop-requires : goal.stop-requires
 stop-requires g c =
-    taken_cause (g.T.NonBlocking.closes.breaks c.self.inside.connection) _ _ c.read_next-size.result.1 c.in-Err-2.why _ _ _ c.args.is_end c.in-Err-2.is
+    taken_cause (g.T.NonBlocking.closes.breaks c.self.inside.connection) _ _ c.read_next-size.result.1 c.in-Err-2.why _
+    _ _ c.args.is_end c.in-Err-2.is
     (subst (λ (e : End). is_early e c.args.is_end ≡ false)
     (one_end c.read_next-size.result.1 c.in-Err.why c.in-Err-2.why c.in-Err.is c.in-Err-2.is)
     (sym c.is_early.ensures ∙ c.if-is_early.false))
