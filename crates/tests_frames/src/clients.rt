@@ -460,7 +460,10 @@ fn the_writer_fails_between_rows(rt: HostRuntime) {
         talk.requests.good = room;
         assert_eq!(rt; talk.run(&rt, rt.alloc(), LIST), 1, "{room}");
         assert!(rt; talk.screen.text() == NO_REPLY, "{room}");
-        assert!(rt; Some(talk.requests.text()) == all.text().get(..room), "{room}");
+        assert!(rt;
+            Some(talk.requests.text()) == all.text().get(..room),
+            "{room}"
+        );
         assert_eq!(rt; talk.replies.read, WELCOME.len(), "{room}");
     }
 }

@@ -10,8 +10,7 @@ returns-then-slot-sent-clause-requests g c =
 pub returns-in_err-request_rows-clause-requests : goal.returns-in_err-request_rows-clause-requests
 returns-in_err-request_rows-clause-requests g c =
     let p = err_from_is_err_and c.from_residual.result c.from_residual.ensures.1 in
-    rw p.1
-    (
+    rw p.1 (
       omega (arith, c.if-slot-sent.false, c.requires.after),
       c.min-next.result,
       omega (arith, c.requires.within, c.min-next.ensures),

@@ -1,4 +1,4 @@
-use Rattle.std.proofs.Common.{◌≡◌, ◌<◌, ◌≤◌, ◌+◌, length, arith, refl, subst, true, ◌∙◌, pos, min, inl, ap}
+use Rattle.std.proofs.Common.{◌≡◌, ◌+◌, length, arith, refl, subst, true, ◌∙◌, pos, inl}
 use Rattle.std.proofs.lemmas.Result.{err_from_is_err_and}
 use Rattle.sysv_clients.specs.declared.style.Style.{Style}
 use Rattle.sysv_clients.specs.Style.{grows}
@@ -51,7 +51,8 @@ loop-slot-init g c =
 pub returns-in-Err-clause-talks : goal.returns-in-Err-clause-talks
 returns-in-Err-clause-talks g c =
     let r = c.in-Err.ensures.requests in
-    cannot_ask c.args.command.now _ _ _ _ _ c.loop-slot.self.page c.loop-slot.self.page c.loop-slot.self.text c.loop-slot.slot
+    cannot_ask c.args.command.now _ _ _ _ _ c.loop-slot.self.page c.loop-slot.self.page c.loop-slot.self.text
+    c.loop-slot.slot
     c.loop-slot.sent r.1 _ c.requires.list r.2 (omega (arith, r.3, c.min-rows.ensures)) r.4 r.0
     c.loop-slot.invariant.text c.loop-slot.invariant.listing r.5
 
