@@ -7,3 +7,4 @@ pub mod SendLemmas
 pub mod ClearLemmas
 mod RefusalLemmas
 mod LineLemmas
+mod ObjectLemmas

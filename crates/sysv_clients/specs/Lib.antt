@@ -5,6 +5,7 @@ pub mod Talk
 pub mod Faults
 pub mod Table
 pub mod Queue
+pub mod Object
 pub mod Page
 pub mod Run
 pub mod Words
