@@ -1,12 +1,30 @@
--- The string of a JSON object: how long it is, and one byte more of it.
-use Rattle.std.proofs.Common.{◌≡◌, ◌≤◌, ◌<◌, ◌+◌, ◌*◌, ◌∙◌, ℕ, List, [], ◌∷◌, ◌++◌, length, take, true, false, Bool, ap}
-use Rattle.std.proofs.Common.{sym}
-use Rattle.std.proofs.Common.{arith, length-append, if◌then◌else◌, ◌==◌, ◌||◌, ltb, codes, append-nil}
-use Rattle.std.specs.Prelude.{slice_index, flat_map}
-use Rattle.std.proofs.lemmas.List.Concat.{flat_map-append}
-use Rattle.std.proofs.lemmas.List.{take_more}
-use Rattle.sysv_clients.specs.Object.{json_byte, json_text}
+-- How long the string of a JSON object is, and what its member with the body is.
+use Rattle.std.proofs.Common.{◌≡◌, ◌≤◌, ◌*◌, ℕ, List, [], ◌∷◌, ◌++◌, length, true, false, Bool, refl}
+use Rattle.std.proofs.Common.{arith, length-append, if◌then◌else◌, ◌==◌, ◌||◌, ltb, codes}
+use Rattle.std.specs.Str.{IsUtf8, is_utf8}
+use Rattle.std.proofs.lemmas.Str.{IsUtf8-from_is_utf8, is_utf8-from_IsUtf8}
+use Rattle.base64.specs.Engines.{standard}
+use Rattle.base64.specs.GeneralPurpose.{encode_of}
+use Rattle.sysv_clients.specs.Object.{body_member, json_byte, json_text}
 use Rattle.sysv_clients.specs.Table.{hex_byte}
+
+-- The member of a body that is UTF-8.
+pub member_text : (body : List ℕ) → IsUtf8 body
+    → body_member body ≡ codes ",\"body\":\"" ++ (json_text body ++ codes "\"")
+unfolding body_member
+member_text body utf8 = rw (is_utf8-from_IsUtf8 body utf8) refl
+
+-- The member of any other body.
+pub member_bytes : (body : List ℕ) → ¬ IsUtf8 body
+    → body_member body ≡ codes ",\"base64\":\"" ++ (encode_of standard body ++ codes "\"")
+unfolding body_member
+member_bytes body other = elim (is_utf8 body) as (λ (b : Bool). is_utf8 body ≡ b
+    → (if b then codes ",\"body\":\"" ++ (json_text body ++ codes "\"")
+    else codes ",\"base64\":\"" ++ (encode_of standard body ++ codes "\""))
+    ≡ codes ",\"base64\":\"" ++ (encode_of standard body ++ codes "\"")) [
+  | true ↦ λ is. absurd (other (IsUtf8-from_is_utf8 body is))
+  | false ↦ λ is. refl
+] refl
 
 pub byte_most : (byte : ℕ) → length (json_byte byte) ≤ 6
 unfolding json_byte
@@ -22,11 +40,3 @@ pub text_most : (body : List ℕ) → length (json_text body) ≤ 6 * length bod
 text_most [] = omega arith
 text_most (byte ∷ rest) =
     omega (arith, length-append (json_byte byte) (json_text rest), byte_most byte, text_most rest)
-
--- One byte more.
-pub text_more : (body : List ℕ) (i : ℕ) → i < length body
-    → json_text (take i body) ++ json_byte (slice_index body i) ≡ json_text (take (i + 1) body)
-text_more body i within =
-    ap (λ (t : List ℕ). json_text (take i body) ++ t) (sym (append-nil (json_byte (slice_index body i))))
-    ∙ sym (flat_map-append json_byte (take i body) (slice_index body i ∷ []))
-    ∙ sym (ap json_text (take_more body i 0 within))
