@@ -14,7 +14,7 @@ use sysv_clients::{
 use sysv_model::{BODY_ROOM, Cred};
 
 /// The number of bytes that a tape has space for.
-const TAPE_ROOM: usize = 9000;
+const TAPE_ROOM: usize = 50_000;
 
 /// Bytes to read, or bytes that were written.
 #[derive(Drop)]
