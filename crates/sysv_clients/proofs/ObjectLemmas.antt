@@ -32,7 +32,8 @@ byte_most byte = elim (byte == 34 || byte == 92) as (λ (b : Bool).
     length (if b then 92 ∷ byte ∷ [] else if ltb byte 32 then codes "\\u00" ++ hex_byte byte else byte ∷ []) ≤ 6) [
       | true ↦ omega arith
       | false ↦ elim (ltb byte 32) as (λ (b : Bool).
-          length (if b then codes "\\u00" ++ hex_byte byte else byte ∷ []) ≤ 6) [ true ↦ omega arith | false ↦ omega arith ]
+          length (if b then codes "\\u00" ++ hex_byte byte else byte ∷ [])
+          ≤ 6) [ true ↦ omega arith | false ↦ omega arith ]
     ]
 
 -- Each byte takes at most six.
