@@ -1,5 +1,6 @@
 -- What the places of a worker have had, after one of them changed.
-use Rattle.std.proofs.Common.{◌≡◌, ℕ, List, [], ◌∷◌, ◌<◌, slice_set, slice_index_or, length, suc, zero, Option, subst}
+use Rattle.std.proofs.Common.{◌≡◌, ◌∙◌, ℕ, List, [], ◌∷◌, ◌<◌, slice_set, slice_index_or, length, suc, zero, Option}
+use Rattle.std.proofs.Common.{subst}
 use Rattle.std.proofs.Common.{sym, refl, ap, arith, None, Some, true, not}
 use Rattle.std.specs.Prelude.{is_some}
 use Rattle.std.specs.List.{All, list_all}
@@ -7,7 +8,7 @@ use Rattle.std.proofs.lemmas.List.Sums.{AllPass-from_list_all}
 use Rattle.sysv_bank.specs.Banks.{Each2}
 use Rattle.sysv_seats.specs.Untold.{Closing}
 use Rattle.sysv_engine.specs.Places.{Adopts, AdoptsOne, KeepsAll, KeepsPlace, Seated, Standing, Stands, TakesIn}
-use Rattle.sysv_engine.specs.Places.{is_vacant, with_one}
+use Rattle.sysv_engine.specs.Places.{IsVacantAt, is_vacant, with_one}
 
 module _ {A B : Type 0} (R : A → B → Type 0) where
   -- One of them changed, and keeps what it was.
@@ -46,9 +47,17 @@ module _ {V T P : Type 0} (R : Standing V T → P → Type 0) (connection : T) w
         (each.0, rest.2),
       )
 
-none_of : {A : Type 0} (held : Option A) → not (is_some held) ≡ true → held ≡ None
+pub none_of : {A : Type 0} (held : Option A) → not (is_some held) ≡ true → held ≡ None
 none_of None none = refl
 none_of (Some held) none = absurd (cc none)
+
+-- The place of this number, which has no client.
+pub vacant_there : {B T : Type 0} (places : List (Seated B T)) (at : ℕ) (there : Seated B T) → at < length places →
+    there ≡ slice_index_or places at there → there.client ≡ None → IsVacantAt at places
+vacant_there [] at there low is none = absurd (omega (arith, low))
+vacant_there (p ∷ places) zero there low is none = (low, λ other. ap (λ q. q.client) (sym is) ∙ none)
+vacant_there (p ∷ places) (suc at) there low is none =
+    (low, (vacant_there places at there (omega (arith, low)) is none).1)
 
 -- There is no client in any of the places.
 pub all_vacant : {B T : Type 0} (places : List (Seated B T)) → list_all is_vacant places ≡ true →

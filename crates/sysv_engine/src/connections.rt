@@ -20,7 +20,7 @@ use crate::watch::{Rounds, Watch};
 use std::alloc::Global;
 use std::sync::Wait;
 use std::thread::Threads;
-use sysv_seats::{NonBlocking, Tools};
+use sysv_seats::NonBlocking;
 use sysv_service::{Pass, Service};
 use sysv_workers::{Source, WorkersFault, WorkersRefused, run_workers};
 
@@ -168,9 +168,6 @@ where
     let Some(shares) = shares(alloc, count, books.len()) else {
         return Err(ServeFault::NoMemory);
     };
-    let Ok(mut tools) = Tools::open(alloc) else {
-        return Err(ServeFault::NoMemory);
-    };
     let Some(kits) = kits(alloc, watches, books.len()) else {
         return Err(ServeFault::NoMemory);
     };
@@ -196,12 +193,12 @@ where
     given_back(dealing.into_source());
     match outcome {
         Ok(workers) => {
-            gather(rt, workers, &mut places, &mut tools);
+            gather(rt, workers, &mut places);
             Ok(dismiss(service, pass, places, books))
         }
         Err(refused) => {
             let WorkersRefused { why, states } = refused;
-            gather(rt, states, &mut places, &mut tools);
+            gather(rt, states, &mut places);
             dismiss(service, pass, places, books);
             Err(fault(why))
         }

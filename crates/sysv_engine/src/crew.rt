@@ -45,11 +45,11 @@ pub(crate) fn hire<'a, R: Wait, T: NonBlocking>(
 }
 
 /// Serves the clients that are left in the places until each may be closed, and closes them. After a
-/// run of the workers there are none, unless the run was refused.
+/// run of the workers there are none, unless the run was refused. There are tools if there are places.
 pub(crate) fn vacate<R: Wait, T: NonBlocking>(
     rt: &R,
     places: &mut Vec<Place<'_, R, T>>,
-    tools: &mut Tools,
+    tools: &mut Option<Tools>,
 )
     ensures keeps { KeepsAll T.incoming T.outgoing T.closes places.old.items places.new.items }
     ensures vacant { All (λ p. p.client ≡ None) places.new.items }
@@ -76,10 +76,13 @@ fn close_all<R: Wait, T: NonBlocking>(places: &mut Vec<Place<'_, R, T>>)
 }
 
 /// Continues the parked call of each client, and takes up and answers what has arrived.
-fn serve_all<R: Wait, T: NonBlocking>(places: &mut Vec<Place<'_, R, T>>, tools: &mut Tools)
+fn serve_all<R: Wait, T: NonBlocking>(places: &mut Vec<Place<'_, R, T>>, tools: &mut Option<Tools>)
     ensures keeps { KeepsAll T.incoming T.outgoing T.closes places.old.items places.new.items }
     ensures count { vec_len places.new ≡ vec_len places.old }
 {
+    let Some(tools) = tools else {
+        return;
+    };
     for at in 0..places.len() {
         places[at].serve(tools);
     }

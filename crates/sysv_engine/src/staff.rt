@@ -9,7 +9,7 @@ use crate::watch::Watch;
 use crate::worker::{Kit, Worker};
 use std::alloc::Global;
 use std::sync::Wait;
-use sysv_seats::{NonBlocking, Tools};
+use sysv_seats::NonBlocking;
 
 /// Allocates a kit for each watch. The kits have room for `places` places together, each for at
 /// least one and all for about the same number. Returns `None` if memory is refused.
@@ -86,13 +86,12 @@ pub(crate) fn staff<'a, R: Wait, T: NonBlocking, W: Watch<T>>(
     kits.destroy_empty();
 }
 
-/// Takes the places of all workers, and closes the clients that are left in them, which are served
-/// until each may be closed.
+/// Takes the places of all workers, and closes the clients that are left in them. They are served
+/// until each may be closed, with the tools of a worker.
 pub(crate) fn gather<'a, R: Wait, T: NonBlocking, W: Watch<T> + Drop>(
     rt: &R,
     workers: Vec<Worker<'a, R, T, W>>,
     places: &mut Vec<Place<'a, R, T>>,
-    tools: &mut Tools,
 )
     requires none { places.old.items ≡ [] }
     requires room { sum_by (λ w. vec_len w.places) workers.items ≤ vec_capacity places.old }
@@ -102,11 +101,14 @@ pub(crate) fn gather<'a, R: Wait, T: NonBlocking, W: Watch<T> + Drop>(
     ensures count { vec_len places.new ≡ sum_by (λ w. vec_len w.places) workers.entry.items }
 {
     let mut workers = workers;
+    let mut tools = None;
     while let Some(worker) = workers.pop() {
-        give_back(worker.into_places(), places);
+        let (own, more) = worker.into_places();
+        give_back(own, places);
+        tools = Some(more);
     }
     workers.destroy_empty();
-    vacate(rt, places, tools);
+    vacate(rt, places, &mut tools);
 }
 
 /// Moves the places of a worker to the end of `places`, the last one first.

@@ -145,11 +145,11 @@ impl<'a, R: Wait, T: NonBlocking, W: Watch<T>> Worker<'a, R, T, W> {
         }
     }
 
-    /// Ends the worker, and returns its places.
-    pub(crate) fn into_places(self) -> Vec<Place<'a, R, T>>
+    /// Ends the worker, and returns its places and its tools.
+    pub(crate) fn into_places(self) -> (Vec<Place<'a, R, T>>, Tools)
     where
         W: Drop,
-        ensures { result ≡ self.entry.places }
+        ensures { result.0 ≡ self.entry.places }
     {
         let Worker {
             number: _,
@@ -160,13 +160,13 @@ impl<'a, R: Wait, T: NonBlocking, W: Watch<T>> Worker<'a, R, T, W> {
             lines: _,
             turns: _,
             letters: _,
-            tools: _,
+            tools,
             answered: _,
             check: _,
             rooms: _,
             messages: _,
         } = self;
-        places
+        (places, tools)
     }
 
     /// Counts a letter that this worker writes. Returns whose turn it is to look first, counted on

@@ -15,8 +15,8 @@ loop-worker-preserved g c =
     let places : W → List S = λ w. w.places.items in
     let was = c.loop-worker.invariant in
     let is = c.in-Some.ensures.items in
-    let own = c.into_places.result.items in
-    let taken = ap (λ v. v.items) c.into_places.ensures in
+    let own = c.into_places-own.result.0.items in
+    let taken = ap (λ v. v.items) c.into_places-own.ensures in
     let sums = ap (sum_by (λ (w : W). vec_len w.places)) is
     ∙ sum_by_push (λ (w : W). vec_len w.places) c.pop.new.self.items c.in-Some.worker in
     record {
@@ -24,9 +24,9 @@ loop-worker-preserved g c =
           c.loop-worker.places.items c.give_back.new.places.items own _ is taken c.give_back.ensures.all was.all;
       count = let before = was.count in
           let more = ap length c.give_back.ensures.all ∙ length-append c.loop-worker.places.items (reverse own) in
-          let same = length-reverse own in let mine = ap vec_len c.into_places.ensures in
+          let same = length-reverse own in let mine = ap vec_len c.into_places-own.ensures in
           let old = c.loop-worker.places.ok in let new = c.give_back.new.places.ok in
-          let given = c.into_places.result.ok in
+          let given = c.into_places-own.result.0.ok in
           omega arith;
       room = let same = c.give_back.ensures.room in let before = was.room in omega arith;
     }
