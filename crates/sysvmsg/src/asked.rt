@@ -634,9 +634,12 @@ fn parts(seconds: &[u8], places: &[u8]) -> Option<u64>
     ensures { MatchOption result ((time : ℕ) → ¬ ArePartsOf seconds.now places.now time)
         (ArePartsOf seconds.now places.now) }
 {
-    match (unsigned(seconds), thousandths(places)) {
-        (Some(seconds), Some(thousandths)) => Some(u64::from(seconds) * 1000 + thousandths),
-        _ => None,
+    let Some(seconds) = unsigned(seconds) else {
+        return None;
+    };
+    match thousandths(places) {
+        Some(thousandths) => Some(u64::from(seconds) * 1000 + thousandths),
+        None => None,
     }
 }
 
