@@ -415,7 +415,14 @@ fn a_client_that_stays(rt: HostRuntime) {
     let loose = loose(&rt, alloc, WAITING, &[]);
     assert!(rt; loose.may_be_cut() && loose.may_close());
     assert_closed(&rt, alloc, stays, End::Left, (3, 0, 0), GREETED);
-    assert_closed(&rt, alloc, loose, End::Fault(sysv_wire::Fault::Read), (0, 0, 0), &[]);
+    assert_closed(
+        &rt,
+        alloc,
+        loose,
+        End::Fault(sysv_wire::Fault::Read),
+        (0, 0, 0),
+        &[],
+    );
     let pass = kernel.into_pass();
     ended(&rt, service, pass, 0);
 }
