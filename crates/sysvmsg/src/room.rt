@@ -8,12 +8,15 @@ use libc::{RLIMIT_NOFILE, getrlimit};
 /// streams, the listener and a bell.
 const OWN: u64 = 5;
 
+/// The number of descriptors of a server that shows its state, for that: a listener and a reader.
+const OF_STATS: u64 = 2;
+
 /// The number of descriptors of a worker: its bell and its poll.
 const OF_WORKER: u64 = 2;
 
 /// Returns for how many clients a server with this number of workers has descriptors, at least 1
-/// and at most `most`. If the limit is not known, they suffice.
-pub(crate) fn room(workers: u32, most: u32) -> u32
+/// and at most `most`. `has_stats` is whether it shows its state. If the limit is not known, they suffice.
+pub(crate) fn room(workers: u32, has_stats: bool, most: u32) -> u32
     requires { 1 ≤ most }
     ensures { (1 ≤ result) × (result ≤ most) }
 {
@@ -24,7 +27,8 @@ pub(crate) fn room(workers: u32, most: u32) -> u32
     if getrlimit(RLIMIT_NOFILE, &mut limit) != 0 {
         return most;
     }
-    let used = OWN + OF_WORKER * u64::from(workers);
+    let stats = if has_stats { OF_STATS } else { 0 };
+    let used = OWN + stats + OF_WORKER * u64::from(workers);
     let left = limit.rlim_cur.saturating_sub(used).max(1);
     match u32::try_from(left) {
         Ok(left) => left.min(most),

@@ -1,0 +1,32 @@
+-- What reads rows goes on from where it was.
+use Rattle.std.proofs.Common.{◌≡◌, ◌∙◌, refl}
+use Rattle.sysv_service.specs.Ran.{Pass}
+use Rattle.sysv_engine.specs.declared.rows.Rows.{Rows}
+use Rattle.sysv_engine.specs.declared.dealing.Dealing.{Dealing}
+use Rattle.sysv_engine.specs.Looking as looking
+use Rattle.sysv_engine.specs.Looking.{Looked}
+use Rattle.sysv_engine.specs.Looks.{Looks}
+
+looked_on : (a b c : Pass) → Looked a b → Looked b c → Looked a c
+looked_on a b c one looking.begins = one
+looked_on a b c one (looking.reads slot result new two told) =
+    looking.reads slot result new (looked_on a b _ one two) told
+
+-- It has read none.
+pub looks_stay : {R : Type 0} (rows : Rows R) → Looks rows rows
+looks_stay rows = (refl, looking.begins)
+
+-- It has read some, and then more.
+pub looks_on : {R : Type 0} (a b c : Rows R) → Looks a b → Looks b c → Looks a c
+looks_on a b c one two = (two.0 ∙ one.0, looked_on a.pass b.pass c.pass one.1 two.1)
+
+module _ {S R : Type 0} where
+  -- A dealing keeps its source, and what reads rows goes on.
+  abbrev pub Stays : Dealing S R → Dealing S R → Type 0
+  Stays old new = (new.source.ghost_name ≡ old.source.ghost_name) × Looks old.rows new.rows
+
+  pub stays : (d : Dealing S R) → Stays d d
+  stays d = (refl, looks_stay d.rows)
+
+  pub goes_on : (a b c : Dealing S R) → Stays a b → Stays b c → Stays a c
+  goes_on a b c one two = (two.0 ∙ one.0, looks_on a.rows b.rows c.rows one.1 two.1)
