@@ -16,3 +16,4 @@ pub mod Reversed
 pub mod Staffed
 pub mod Crossing
 pub mod Looking
+mod Unseen

@@ -1,10 +1,11 @@
 -- What reads rows goes on from where it was.
-use Rattle.std.proofs.Common.{◌≡◌, ◌∙◌, refl}
+use Rattle.std.proofs.Common.{◌≡◌, ◌∙◌, refl, subst}
 use Rattle.sysv_service.specs.Ran.{Pass}
+use Rattle.sysv_thread_laws.specs.Hiring.{Gives, TakesIn}
 use Rattle.sysv_engine.specs.declared.rows.Rows.{Rows}
 use Rattle.sysv_engine.specs.declared.dealing.Dealing.{Dealing}
 use Rattle.sysv_engine.specs.Looking as looking
-use Rattle.sysv_engine.specs.Looking.{Looked}
+use Rattle.sysv_engine.specs.Looking.{Looked, LooksBetween}
 use Rattle.sysv_engine.specs.Looks.{Looks}
 
 looked_on : (a b c : Pass) → Looked a b → Looked b c → Looked a c
@@ -19,6 +20,18 @@ looks_stay rows = (refl, looking.begins)
 -- It has read some, and then more.
 pub looks_on : {R : Type 0} (a b c : Rows R) → Looks a b → Looks b c → Looks a c
 looks_on a b c one two = (two.0 ∙ one.0, looked_on a.pass b.pass c.pass one.1 two.1)
+
+-- Its pass was split off before it, and is joined back after it.
+pub looks_between : {R : Type 0} (own kept home back : Pass) (first last : Rows R) → Gives own first.pass kept →
+    Looks first last → back ≡ last.pass → TakesIn kept back home → LooksBetween own home
+looks_between own kept home back first last gives looks same takes = record {
+  before = first.pass;
+  after = last.pass;
+  kept = kept;
+  gives = gives;
+  looked = looks.1;
+  takes = subst (λ (p : Pass). TakesIn kept p home) same takes;
+}
 
 module _ {S R : Type 0} where
   -- A dealing keeps its source, and what reads rows goes on.

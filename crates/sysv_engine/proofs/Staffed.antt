@@ -1,6 +1,7 @@
 -- What a server did whose workers shared out its places, from what their run led to.
 use Rattle.std.proofs.Common.{◌≡◌, ◌∙◌, ℕ, ◌≤◌, List, [], ◌∷◌, ◌++◌, map, reverse, length, Option, Some, None, ap, refl}
 use Rattle.std.proofs.Common.{sym, subst, arith, inl, inr}
+use Rattle.std.specs.Prelude.{Result, Ok, Err, IfOk, IfErr}
 use Rattle.std.specs.List.{All, FoldsTo, flat_map, sum_by}
 use Rattle.std.proofs.lemmas.List.{length-reverse, reverse-append, reverse-reverse}
 use Rattle.std.proofs.lemmas.List.Elements.{All-head, All-tail, All-cons}
@@ -296,30 +297,30 @@ module _ {D S T : Type 0} (of : D → S) (Keeps : D → D → Type 0) (stays : (
   folds_kept [] old new is = subst (Keeps old) is (stays old)
   folds_kept (x ∷ items) old new all = on old all.0 new all.1.1 (folds_kept items all.0 new all.2)
 
-  all_behind : (items : List T) (old new : D) → GivesAll Behind old items new → GivesAll gives (of old) items (of new)
+  pub all_behind : (items : List T) (old new : D) → GivesAll Behind old items new → GivesAll gives (of old) items (of new)
   all_behind items old new all = record {
     last = of all.last;
     gave = folds_behind items old all.last all.gave;
     ended = all.ended.0;
   }
 
-  all_kept : (items : List T) (old new : D) → GivesAll Behind old items new → Keeps old new
+  pub all_kept : (items : List T) (old new : D) → GivesAll Behind old items new → Keeps old new
   all_kept items old new all = on old all.last new (folds_kept items old all.last all.gave) all.ended.1
 
-  returned_behind : (items : List T) (old new : D) → Returned Behind old items new →
+  pub returned_behind : (items : List T) (old new : D) → Returned Behind old items new →
       Returned gives (of old) items (of new)
   returned_behind items old new (inl some) = inl (folds_behind items old new some)
   returned_behind items old new (inr all) = inr (all_behind items old new all)
 
-  returned_kept : (items : List T) (old new : D) → Returned Behind old items new → Keeps old new
+  pub returned_kept : (items : List T) (old new : D) → Returned Behind old items new → Keeps old new
   returned_kept items old new (inl some) = folds_kept items old new some
   returned_kept items old new (inr all) = all_kept items old new all
 
-  gave_behind : (items : List T) (old new : D) → Gave Behind old items new → Gave gives (of old) items (of new)
+  pub gave_behind : (items : List T) (old new : D) → Gave Behind old items new → Gave gives (of old) items (of new)
   gave_behind items old new (inl all) = inl (all_behind items old new all)
   gave_behind items old new (inr none) = inr (none.0, ap of none.1)
 
-  gave_kept : (items : List T) (old new : D) → Gave Behind old items new → Keeps old new
+  pub gave_kept : (items : List T) (old new : D) → Gave Behind old items new → Keeps old new
   gave_kept items old new (inl all) = all_kept items old new all
   gave_kept items old new (inr none) = subst (Keeps old) (sym none.1) (stays old)
 
@@ -355,3 +356,11 @@ module _ {D S T : Type 0} (of : D → S) (Keeps : D → D → Type 0) (stays : (
 
     pub runs_kept : Keeps old new
     runs_kept = all_kept ran.given old new ran.gave
+
+  -- What a run kept of it, however it ended.
+  module _ {W A E : Type 0} (runs : W → T → W → Type 0) (ws : List W) (old new : D) (items : A → List W)
+      (why : E → WorkersFault) where
+    pub ended_kept : (result : Result A E) → IfOk result (λ a. RunsAll runs Behind ws old (items a) new) →
+        IfErr result (λ e. LeavesSource Behind old (why e) new) → Keeps old new
+    ended_kept (Ok a) ran left = runs_kept runs ws (items a) old new ran
+    ended_kept (Err e) ran left = leaves_kept (why e) old new left

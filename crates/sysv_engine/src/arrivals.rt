@@ -19,7 +19,6 @@ pub trait Arrivals<T> {
 }
 
 /// A source that looks at nothing.
-#[derive(Drop)]
 pub(crate) struct Unseeing<'s, S> {
     source: &'s mut S,
 }
@@ -32,12 +31,22 @@ impl<'s, S> Unseeing<'s, S> {
     {
         Unseeing { source }
     }
+
+    /// Returns the other source.
+    pub(crate) fn into_source(self) -> &'s mut S
+        ensures source { result.now ≡ self.entry.source.now }
+        ensures same_reference { result.ghost_name ≡ self.entry.source.ghost_name }
+    {
+        let Unseeing { source } = self;
+        source
+    }
 }
 
 impl<T, S: Source<T>> Arrivals<T> for Unseeing<'_, S> {
     ghost gives = { λ old connection new. S.gives old.source.now connection new.source.now
         × (new.source.ghost_name ≡ old.source.ghost_name) };
 
+    #[tactic(auto, using(crate::proofs::Looking::looks_stay))]
     fn next<R: Wait>(&mut self, _rows: &mut Rows<'_, R>) -> Option<T> {
         self.source.next()
     }

@@ -76,8 +76,10 @@ where
     let Some(watches) = watches(alloc, count, places) else {
         return Err(ServeFault::NoMemory);
     };
-    let mut source = Unseeing::new(source);
-    serve_all(rt, alloc, &mut source, books, blocks, watches, &common)
+    let mut unseeing = Unseeing::new(source);
+    let outcome = serve_all(rt, alloc, &mut unseeing, books, blocks, watches, &common);
+    given_back(unseeing.into_source());
+    outcome
 }
 
 /// Creates this number of watches, each of at most `places` places. Returns `None` if memory is

@@ -7,8 +7,8 @@ use sysv_keys::SLOTS;
 use sysv_queue::Tally;
 use sysv_seats::News;
 
-/// What a worker counts for those who look at the server. The worker alone writes the numbers, at
-/// most once per event each.
+/// What a worker counts for those who look at the server. The worker alone writes the numbers, each
+/// at most once per event unless messages move at several slots.
 #[derive(Drop)]
 pub(crate) struct Counts {
     /// The number of parked calls under each word.
@@ -51,45 +51,53 @@ pub struct Counted {
     pub lost: u64,
 }
 
-/// A number of messages that were placed, or taken, at one slot.
+/// Messages that moved at one slot.
 #[derive(Clone, Copy)]
 pub(crate) struct Moved {
-    word: usize,
-    count: u64,
+    slot: usize,
+    /// The number of messages that were placed on a queue.
+    arrived: u64,
+    /// The number of messages that receives took.
+    freed: u64,
 }
 
 impl Moved {
     /// No messages.
-    pub(crate) const NONE: Moved = Moved { word: 0, count: 0 };
+    pub(crate) const NONE: Moved = Moved {
+        slot: 0,
+        arrived: 0,
+        freed: 0,
+    };
 
     /// Adds the message of these news, if they are of one. Returns whether it moved where the others
     /// did; else it is not added.
     #[inline(always)]
     pub(crate) fn add(&mut self, news: News) -> bool {
-        let Some(word) = word_of(news) else {
-            return true;
-        };
-        let is_there = word == self.word;
-        self.count = self.count.wrapping_add(u64::from(is_there));
-        is_there
+        match news {
+            News::Arrived { slot, .. } if slot == self.slot => {
+                self.arrived = self.arrived.wrapping_add(1);
+                true
+            }
+            News::Freed { slot, .. } if slot == self.slot => {
+                self.freed = self.freed.wrapping_add(1);
+                true
+            }
+            News::Arrived { .. } | News::Freed { .. } => false,
+            News::Released | News::Changed { .. } => true,
+        }
     }
 
     /// Returns the message of these news alone, if they are of one.
     pub(crate) fn first(news: News) -> Moved {
-        match word_of(news) {
-            Some(word) => Moved { word, count: 1 },
-            None => Moved::NONE,
-        }
-    }
-}
-
-/// Returns the number of what counts the message of these news, if they are of one.
-#[inline(always)]
-fn word_of(news: News) -> Option<usize> {
-    match news {
-        News::Arrived { slot, .. } => Some(slot),
-        News::Freed { slot, .. } => Some(room_word(slot)),
-        News::Released | News::Changed { .. } => None,
+        let mut moved = match news {
+            News::Arrived { slot, .. } | News::Freed { slot, .. } => Moved {
+                slot,
+                ..Moved::NONE
+            },
+            News::Released | News::Changed { .. } => Moved::NONE,
+        };
+        moved.add(news);
+        moved
     }
 }
 
@@ -113,12 +121,8 @@ impl Counts {
 
     /// Counts messages that moved.
     pub(crate) fn count(&self, moved: Moved) {
-        if moved.count == 0 {
-            return;
-        }
-        if let Some(count) = self.moved.get(moved.word) {
-            count.fetch_add(moved.count, Ordering::SeqCst);
-        }
+        add(&self.moved, moved.slot, moved.arrived);
+        add(&self.moved, room_word(moved.slot), moved.freed);
     }
 
     /// Counts the messages of a session that is over.
@@ -169,6 +173,16 @@ pub(crate) fn zeros(alloc: Global, count: usize) -> Option<Vec<AtomicU64>> {
         counts.push(AtomicU64::new(0)).ok()?;
     }
     Some(counts)
+}
+
+/// Adds to a count, if there is one of this number.
+fn add(counts: &[AtomicU64], at: usize, more: u64) {
+    if more == 0 {
+        return;
+    }
+    if let Some(count) = counts.get(at) {
+        count.fetch_add(more, Ordering::SeqCst);
+    }
 }
 
 /// Returns a count, or 0 if there is none of this number.

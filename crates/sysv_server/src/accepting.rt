@@ -179,6 +179,7 @@ impl<'a, I: Read + AsRawFd + Drop, H: Host + Drop> Accepting<'a, I, H> {
     }
 
     /// Accepts the next connection. The error is why no more connections are to be accepted.
+    #[tactic(auto, using(sysv_engine::proofs::Looking::looks_stay))]
     fn accept<R: Wait>(&mut self, rows: &mut Rows<'_, R>) -> Result<SocketStream, Reason>
         requires { is_closed self.old.listening ≡ false }
         ensures same { (self.new.most ≡ self.old.most) × (self.new.accepted ≡ self.old.accepted) }
@@ -227,6 +228,7 @@ impl<I: Read + AsRawFd + Drop, H: Host + Drop> Arrivals<SocketStream> for Accept
 
     ghost gives = { Accepts };
 
+    #[tactic(auto, using(sysv_engine::proofs::Looking::looks_stay))]
     fn next<R: Wait>(&mut self, rows: &mut Rows<'_, R>) -> Option<SocketStream> {
         if self.listening.is_closed() {
             return None;
@@ -274,6 +276,7 @@ impl<H: Host> Door<'_, '_, '_, H> {
     /// Waits for a connection and accepts it. Until it comes, serves the desk. If the server
     /// `retries`, an accept that fails for want of something is tried again; the host is told so,
     /// and when it succeeds.
+    #[tactic(auto, using(sysv_engine::proofs::Looking::looks_stay, sysv_engine::proofs::Looking::looks_on))]
     fn accept_next<I: Read + AsRawFd, R: Wait>(
         &self,
         told: &mut bool,

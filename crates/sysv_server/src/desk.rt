@@ -52,6 +52,7 @@ impl Desk {
     }
 
     /// Serves the reader, if there is one, or lets in the next one if one has come.
+    #[tactic(auto, using(sysv_engine::proofs::Looking::looks_stay))]
     pub(crate) fn go_on<R: Wait>(&mut self, has_come: bool, view: View<'_>, rows: &mut Rows<'_, R>)
         ensures { Looks rows.old rows.new }
     {

@@ -186,6 +186,7 @@ pub(crate) struct State {
 
 impl State {
     /// Reads the state of a server. Returns `None` if memory is refused.
+    #[tactic(auto, using(sysv_engine::proofs::Looking::looks_stay, sysv_engine::proofs::Looking::looks_on))]
     pub(crate) fn read<R: Wait>(
         alloc: Global,
         common: &Common,

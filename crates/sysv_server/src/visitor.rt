@@ -130,6 +130,7 @@ impl Visitor {
 
     /// Reads what it asks, and writes the answer, as far as that can be done now. Returns whether
     /// it is still there.
+    #[tactic(auto, using(sysv_engine::proofs::Looking::looks_stay))]
     pub(crate) fn go_on<R: Wait>(&mut self, view: View<'_>, rows: &mut Rows<'_, R>) -> bool
         ensures { Looks rows.old rows.new }
     {
@@ -221,6 +222,7 @@ impl Visitor {
 
 impl Wanted {
     /// Returns the answer. Returns `None` if memory is refused.
+    #[tactic(auto, using(sysv_engine::proofs::Looking::looks_stay))]
     fn answer<R: Wait>(self, view: View<'_>, rows: &mut Rows<'_, R>) -> Option<Vec<u8>>
         ensures { Looks rows.old rows.new }
     {
