@@ -4,11 +4,12 @@ ghost use Rattle.sysv_engine.specs.Looks.{Looks};
 use crate::polling::has_come;
 use crate::report::{Form, Server, State};
 use std::alloc::Global;
+use std::io;
+use std::io::{ErrorKind, Read, Write};
 use std::os::fd::AsRawFd;
 use std::os::unix::net::UnixStream;
 use std::sync::Wait;
 use sysv_engine::{Common, Moment, Rows};
-use sysv_seats::{Drained, Filled, NonBlocking, Over, SocketStream};
 
 /// The maximum number of bytes that are read of what a reader asks.
 const MOST_ASKED: usize = 4_096;
@@ -78,7 +79,7 @@ impl View<'_> {
 /// A reader of the state of a server. It is asked for nothing that it does not have at once.
 #[derive(Drop)]
 pub(crate) struct Visitor {
-    stream: SocketStream,
+    stream: UnixStream,
     /// What was read, in the first `had` bytes.
     asked: [u8; MOST_ASKED],
     had: usize,
@@ -102,8 +103,9 @@ struct Wanted {
 impl Visitor {
     /// Creates the reader on this connection. Returns `None` if it cannot be made non-blocking.
     pub(crate) fn new(stream: UnixStream) -> Option<Visitor> {
+        stream.set_nonblocking(true).ok()?;
         Some(Visitor {
-            stream: SocketStream::new(stream).ok()?,
+            stream,
             asked: [0; MOST_ASKED],
             had: 0,
             is_over: false,
@@ -147,22 +149,20 @@ impl Visitor {
 
     /// Reads what can be read now.
     fn read(&mut self) {
-        if let Filled::Bytes(count) = self.fill() {
-            if self.had == 0 {
-                self.due = Moment::after_millis(ASK_MILLIS);
-            }
-            self.had = self.had.saturating_add(count).min(MOST_ASKED);
-        }
-    }
-
-    /// Reads once.
-    fn fill(&mut self) -> Filled {
-        let filled = match self.asked.get_mut(self.had..) {
-            Some(rest) => self.stream.fill(rest),
-            None => Filled::NothingNow,
+        let Some(rest) = self.asked.get_mut(self.had..) else {
+            return;
         };
-        self.is_over = matches!(filled, Filled::Over(Over::End | Over::Reset | Over::Failed));
-        filled
+        let mut stream: &UnixStream = &self.stream;
+        match stream.read(rest) {
+            Ok(count) if count > 0 => {
+                if self.had == 0 {
+                    self.due = Moment::after_millis(ASK_MILLIS);
+                }
+                self.had = self.had.saturating_add(count).min(MOST_ASKED);
+            }
+            Err(why) if is_passing(&why) => {}
+            _ => self.is_over = true,
+        }
     }
 
     /// Returns what it has asked so far.
@@ -205,15 +205,16 @@ impl Visitor {
         let Some(answer) = &self.answer else {
             return false;
         };
+        let mut stream: &UnixStream = &self.stream;
         for _ in 0..u64::MAX {
             let rest = answer.get(self.told..).unwrap_or(&[]);
             if rest.is_empty() {
                 return false;
             }
-            match self.stream.drain(rest) {
-                Drained::Took(count) => self.told = self.told.saturating_add(count),
-                Drained::NothingNow => return true,
-                Drained::Failed => return false,
+            match stream.write(rest) {
+                Ok(count) if count > 0 => self.told = self.told.saturating_add(count),
+                Err(why) if is_passing(&why) => return true,
+                _ => return false,
             }
         }
         false
@@ -261,6 +262,11 @@ impl Wanted {
             Some(Form::Metrics) | None => "text/plain; version=0.0.4; charset=utf-8",
         }
     }
+}
+
+/// Returns whether a read or a write may succeed later.
+fn is_passing(why: &io::Error) -> bool {
+    matches!(why.kind(), ErrorKind::WouldBlock | ErrorKind::Interrupted)
 }
 
 /// Returns whether there is a blank line.

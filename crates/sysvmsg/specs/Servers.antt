@@ -1,5 +1,5 @@
 -- What a `serve` asks for (this project's programs): its socket file and its terms.
-use Rattle.std.specs.Prelude.{◌≡◌, ◌≢◌, ◌≤◌, ⊤, ⊥, ℕ, List, codes, length, Option, Some, None}
+use Rattle.std.specs.Prelude.{◌≡◌, ◌≢◌, ◌≤◌, ⊤, ℕ, List, codes, length, Option, Some, None}
 use Rattle.clap.specs.Words.{Row}
 use Rattle.sysv_server.specs.declared.terms.Terms.{Terms}
 use Rattle.sysv_words.specs.Words.{IsNat32, IsNat64}
@@ -66,17 +66,12 @@ pub record AsksForFile (words : List Row) (file : SocketFile) : Type 0 where
   pub path : HasPath words file.path.now
   pub file : AsksForFileAt words file.path.now file
 
--- A `serve` with this word after `--stats` shows its state at this path.
-abbrev pub IsStatsPath : Option (List ℕ) → List ℕ → Type 0
-IsStatsPath (Some word) path = (path ≡ word) × (1 ≤ length path) × (length path ≤ MAX_PATH)
-IsStatsPath None path = ⊥
-
 -- A `serve` with these words at the path `own` shows its state at this socket file, which is another
 -- one, or shows it nowhere.
 abbrev pub MayAskForStats : List Row → List ℕ → Option SocketFile → Type 0
 MayAskForStats words own (Some file) =
-    IsStatsPath (word_of words (codes "stats")) file.path.now × (file.path.now ≢ own)
-    × AsksForFileAt words file.path.now file
+    (word_of words (codes "stats") ≡ Some file.path.now) × (1 ≤ length file.path.now)
+    × (length file.path.now ≤ MAX_PATH) × (file.path.now ≢ own) × AsksForFileAt words file.path.now file
 MayAskForStats words own None = word_of words (codes "stats") ≡ None
 
 -- A `stats` with these words shows this.
