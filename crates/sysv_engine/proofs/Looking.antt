@@ -1,5 +1,9 @@
 -- What reads rows goes on from where it was.
-use Rattle.std.proofs.Common.{◌≡◌, ◌∙◌, refl, subst}
+use Rattle.std.proofs.Common.{◌≡◌, ◌∙◌, ℕ, Option, refl, subst}
+use Rattle.std.specs.Prelude.{Result}
+use Rattle.sysv_model.specs.declared.attributes.Row.{Row}
+use Rattle.sysv_model.specs.declared.errno.Errno.{Errno}
+use Rattle.sysv_service.specs.Told.{TellsRow}
 use Rattle.sysv_service.specs.Ran.{Pass}
 use Rattle.sysv_thread_laws.specs.Hiring.{Gives, TakesIn}
 use Rattle.sysv_engine.specs.declared.rows.Rows.{Rows}
@@ -12,6 +16,11 @@ looked_on : (a b c : Pass) → Looked a b → Looked b c → Looked a c
 looked_on a b c one looking.begins = one
 looked_on a b c one (looking.reads slot result new two told) =
     looking.reads slot result new (looked_on a b _ one two) told
+
+-- It has read one.
+pub looked_once : (slot : ℕ) (result : Result (Option Row) Errno) (old new : Pass) → TellsRow slot old result new →
+    Looked old new
+looked_once slot result old new told = looking.reads slot result new looking.begins told
 
 -- It has read none.
 pub looks_stay : {R : Type 0} (rows : Rows R) → Looks rows rows

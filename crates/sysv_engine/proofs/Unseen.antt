@@ -42,16 +42,16 @@ module _ {T B : Type 0} (incoming outgoing : T → Option (List ℕ)) (closes : 
       left : (why : ServeFault) → LeavesConnections incoming outgoing closes Behind Ran old books why new books' →
           LeavesConnections incoming outgoing closes gives Ran (of old) books why (of new) books'
       left NoMemory s = (ap of s.0, s.1)
-      left Thread s = (ap of s.0, s.1)
-      left Worn s = (s.0, staffed.returned_behind of Keeps stays on gives s.0 old new s.1.0, s.1.1)
-      left Missed s = (s.0, staffed.gave_behind of Keeps stays on gives s.0 old new s.1.0, s.1.1)
+      left Thread s = (ap of s.0, s.1, s.2)
+      left Worn s = (s.0, staffed.returned_behind of Keeps stays on gives s.0 old new s.1, s.2)
+      left Missed s = (s.0, staffed.gave_behind of Keeps stays on gives s.0 old new s.1, s.2)
 
       left_kept : (why : ServeFault) → LeavesConnections incoming outgoing closes Behind Ran old books why new books' →
           Keeps old new
       left_kept NoMemory s = subst (Keeps old) (sym s.0) (stays old)
       left_kept Thread s = subst (Keeps old) (sym s.0) (stays old)
-      left_kept Worn s = staffed.returned_kept of Keeps stays on gives s.0 old new s.1.0
-      left_kept Missed s = staffed.gave_kept of Keeps stays on gives s.0 old new s.1.0
+      left_kept Worn s = staffed.returned_kept of Keeps stays on gives s.0 old new s.1
+      left_kept Missed s = staffed.gave_kept of Keeps stays on gives s.0 old new s.1
 
       abbrev Serves : (D → Option T → D → Type 0) → Result Ended ServeFault → Type 0
       Serves Gives result =

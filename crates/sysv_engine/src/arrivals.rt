@@ -1,5 +1,5 @@
 //! Sources of connections that may look at the queues of the server.
-ghost use Rattle.std.specs.Prelude.{◌≡◌};
+ghost use Rattle.std.specs.Prelude.{◌≡◌, Option};
 ghost use Rattle.sysv_engine.specs.Looks.{Looks};
 
 use crate::rows::Rows;

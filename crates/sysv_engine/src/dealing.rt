@@ -64,7 +64,7 @@ impl<'s, 'c, 'p, S, R> Dealing<'s, 'c, 'p, S, R> {
         shares: Vec<Share>,
     ) -> Dealing<'s, 'c, 'p, S, R>
         ensures source { result.source.now ≡ source.old }
-        ensures rows { result.rows ≡ rows }
+        ensures rows { result.rows ≡ rows.entry }
         ensures same_reference { result.source.ghost_name ≡ source.entry.ghost_name }
     {
         Dealing {

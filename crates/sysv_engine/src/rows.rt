@@ -44,6 +44,7 @@ impl<'p, R: Wait> Rows<'p, R> {
 
     /// Returns the row of the live queue in this slot, if there is one. It takes one turn at the
     /// slot, and waits for nothing else.
+    #[tactic(auto, using(crate::proofs::Looking::looked_once))]
     pub fn row(&mut self, slot: u32) -> Option<Row>
         ensures service { self.new.service.now ≡ self.old.service.now }
         ensures looked { Looked self.old.pass self.new.pass }

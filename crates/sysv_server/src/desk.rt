@@ -59,11 +59,10 @@ impl Desk {
         if self.visitor.is_none() && has_come {
             self.visitor = self.let_in();
         }
-        let stays = match &mut self.visitor {
-            Some(visitor) => visitor.go_on(view, rows),
-            None => false,
+        let Some(visitor) = &mut self.visitor else {
+            return;
         };
-        if !stays {
+        if !visitor.go_on(view, rows) {
             self.visitor = None;
         }
     }

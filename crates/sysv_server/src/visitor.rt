@@ -132,19 +132,30 @@ impl Visitor {
 
     /// Reads what it asks, and writes the answer, as far as that can be done now. Returns whether
     /// it is still there.
-    #[tactic(auto, using(sysv_engine::proofs::Looking::looks_stay))]
     pub(crate) fn go_on<R: Wait>(&mut self, view: View<'_>, rows: &mut Rows<'_, R>) -> bool
         ensures { Looks rows.old rows.new }
     {
-        if self.answer.is_none() {
-            self.read();
-            if !self.has_asked() {
-                return true;
-            }
-            self.answer = self.wanted().answer(view, rows);
-            self.due = Moment::after_millis(TELL_MILLIS);
+        if !self.take_up(view, rows) {
+            return true;
         }
         self.tell() && self.due.left() > 0
+    }
+
+    /// Reads what it asks, and prepares the answer once it has asked. Returns whether it has.
+    #[tactic(auto, using(sysv_engine::proofs::Looking::looks_stay))]
+    fn take_up<R: Wait>(&mut self, view: View<'_>, rows: &mut Rows<'_, R>) -> bool
+        ensures { Looks rows.old rows.new }
+    {
+        if self.answer.is_some() {
+            return true;
+        }
+        self.read();
+        if !self.has_asked() {
+            return false;
+        }
+        self.answer = self.wanted().answer(view, rows);
+        self.due = Moment::after_millis(TELL_MILLIS);
+        true
     }
 
     /// Reads what can be read now.
@@ -223,14 +234,10 @@ impl Visitor {
 
 impl Wanted {
     /// Returns the answer. Returns `None` if memory is refused.
-    #[tactic(auto, using(sysv_engine::proofs::Looking::looks_stay))]
     fn answer<R: Wait>(self, view: View<'_>, rows: &mut Rows<'_, R>) -> Option<Vec<u8>>
         ensures { Looks rows.old rows.new }
     {
-        let text = match self.form {
-            Some(form) => view.text(rows, form)?,
-            None => Vec::new(view.alloc),
-        };
+        let text = self.text(view, rows)?;
         if !self.http {
             return Some(text);
         }
@@ -245,6 +252,17 @@ impl Wanted {
         answer.extend_from_slice(head.as_bytes()).ok()?;
         answer.extend_from_slice(&text).ok()?;
         Some(answer)
+    }
+
+    /// Returns the answer without a header. Returns `None` if memory is refused.
+    #[tactic(auto, using(sysv_engine::proofs::Looking::looks_stay))]
+    fn text<R: Wait>(self, view: View<'_>, rows: &mut Rows<'_, R>) -> Option<Vec<u8>>
+        ensures { Looks rows.old rows.new }
+    {
+        match self.form {
+            Some(form) => view.text(rows, form),
+            None => Some(Vec::new(view.alloc)),
+        }
     }
 
     /// Returns the status of an answer with a header.

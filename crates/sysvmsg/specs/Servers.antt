@@ -66,13 +66,14 @@ pub record AsksForFile (words : List Row) (file : SocketFile) : Type 0 where
   pub path : HasPath words file.path.now
   pub file : AsksForFileAt words file.path.now file
 
--- A `serve` with these words at the path `own` shows its state at this socket file, which is another
--- one, or shows it nowhere.
-abbrev pub MayAskForStats : List Row → List ℕ → Option SocketFile → Type 0
-MayAskForStats words own (Some file) =
+-- A `serve` with these words shows its state at this socket file, which is not at its own path, or
+-- shows it nowhere.
+abbrev pub MayAskForStats : List Row → Option SocketFile → Type 0
+MayAskForStats words (Some file) =
     (word_of words (codes "stats") ≡ Some file.path.now) × (1 ≤ length file.path.now)
-    × (length file.path.now ≤ MAX_PATH) × (file.path.now ≢ own) × AsksForFileAt words file.path.now file
-MayAskForStats words own None = word_of words (codes "stats") ≡ None
+    × (length file.path.now ≤ MAX_PATH) × (word_of words (codes "path") ≢ Some file.path.now)
+    × AsksForFileAt words file.path.now file
+MayAskForStats words None = word_of words (codes "stats") ≡ None
 
 -- A `stats` with these words shows this.
 pub record AsksToLook (words : List Row) (looking : Looking) : Type 0 where
@@ -83,6 +84,6 @@ pub record AsksToLook (words : List Row) (looking : Looking) : Type 0 where
 -- A `serve` with these words is this one.
 pub record AsksToServe (words : List Row) (serving : Serving) : Type 0 where
   pub file : AsksForFile words serving.file
-  pub stats : MayAskForStats words serving.file.path.now serving.stats
+  pub stats : MayAskForStats words serving.stats
   pub terms : AsksForTerms words serving.terms
   pub until_eof : HasFlag words (codes "until-eof") serving.until_eof

@@ -1,6 +1,6 @@
 //! The request that a command line makes.
 
-ghost use Rattle.std.specs.Prelude.{◌≡◌, IfOk, MatchOption, OnOk, codes, is_some, map, pos};
+ghost use Rattle.std.specs.Prelude.{◌≡◌, IfOk, MatchOption, OnOk, Some, codes, is_some, map, pos};
 ghost use Rattle.clap.specs.Words.{app_of, subcommand_rows_of};
 ghost use Rattle.sysvmsg.specs.Asked.{AreAtOnce, AreBlocks, AreTerms, AreWorkers, HasLimits, IsWithinLimits};
 ghost use Rattle.sysvmsg.specs.Requests.{AsksFor, ClientAsks, IsAskedBy, IsMeant};
@@ -296,7 +296,8 @@ fn file_of<'a>(words: &ArgMatches<'a>) -> Result<SocketFile<'a>, Bad>
 /// Returns the file of the socket on which the state of a server at the path `own` is shown, if the
 /// command has one.
 fn stats_of<'a>(words: &ArgMatches<'a>, own: &str) -> Result<Option<SocketFile<'a>>, Bad>
-    ensures { IsRead result (MayAskForStats (words_in words.now) own.now) }
+    requires { word_of (words_in words.now) (codes "path") ≡ Some own.now }
+    ensures { IsRead result (MayAskForStats (words_in words.now)) }
 {
     match word_in(words, "stats") {
         Some(path) if path.is_empty() || path.len() > MAX_PATH => Err(BAD_PATH),

@@ -137,6 +137,22 @@ dismiss-requires-in-Err-clause-room g c =
     let small = c.args.books.now.small in
     omega arith
 
+-- ---- what read the rows
+
+-- What read the rows is where it was, and has read rows.
+looks : (g : Over) (c : goal.After-into_pass g) → Looks c.open-rows.result c.run_workers-outcome.new.source.rows
+looks g c =
+    let W : Type 0 = Worker g.row.R.Denot g.row.T.Denot g.row.W.Denot g.row.T-Book.Denot in
+    let S : Type 0 = Seated g.row.T-Book.Denot g.row.T.Denot in
+    let D : Type 0 = Dealing g.row.S.Denot g.row.R.Denot in
+    let t = g.T.NonBlocking in
+    let places : W → List S = λ w. w.places.items in
+    let kept = ended_kept (λ (d : D). d.source.now) Stays stays goes_on g.S.Arrivals.gives
+    (Runs t.incoming t.outgoing t.closes c.args.service.now places) c.staff.new.workers.items c.new-dealing.result
+    c.run_workers-outcome.new.source (λ ws. ws.items) (λ e. e.why) c.run_workers-outcome.result
+    c.run_workers-outcome.ensures.ok c.run_workers-outcome.ensures.asked in
+    subst (λ (r : Rows g.row.R.Denot). Looks r c.run_workers-outcome.new.source.rows) c.new-dealing.ensures.rows kept.1
+
 -- ---- what was served
 
 -- The source that the workers left is the one that is given back.
