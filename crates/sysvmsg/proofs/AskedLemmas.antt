@@ -41,7 +41,8 @@ as_command name words found (Ok asked) is not_script not_serve not_stats h =
 as_command name words found (Err bad) is not_script not_serve not_stats none =
     λ asked h.
     none asked
-    (to_client name words not_script not_serve not_stats asked (subst (λ (o : Option (List ℕ × List Row)). AsksFor o asked) is h))
+    (to_client name words not_script not_serve not_stats asked
+    (subst (λ (o : Option (List ℕ × List Row)). AsksFor o asked) is h))
 
 -- What a command line with these words asks for, the words mean.
 pub is_meant : {E : Type 0} (r : Result Asked E) (line : App) (words : List (List ℕ)) →
