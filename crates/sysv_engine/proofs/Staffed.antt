@@ -267,7 +267,7 @@ module _ {T B : Type 0} (incoming outgoing : T → Option (List ℕ)) (closes : 
         pub all_left : (why : WorkersFault) (told : ServeFault) → FaultOf why told →
             LeavesSource gives source why source' → GivesBack Runs ws why ws' →
             LeavesConnections incoming outgoing closes gives (HiredFrom gates old new) source books told source' books'
-        all_left why told named leaves back =
+        all_left why told named leaves gave_back =
             shifts.all_left incoming outgoing closes (λ (v : View B). v.pass) (λ (v : View B). v.sums)
             (λ (v : View B). v.refused) (λ (v : View B). v.book) gives gates (map view_of opened) (map view_of ps)
             source source' books books' old kept back new (new_views opened all_opened)
@@ -276,7 +276,7 @@ module _ {T B : Type 0} (incoming outgoing : T → Option (List ℕ)) (closes : 
             (subst (λ l. FoldsTo Gives old l kept) (sym (map_both (λ (v : View B). v.pass) view_of opened)) given)
             looks (subst (λ l. FoldsTo TakesIn back (reverse l) new)
             (sym (map_both (λ (v : View B). v.pass) view_of ps))
-            taken) why told named leaves (places_back why back)
+            taken) why told named leaves (places_back why gave_back)
 
 -- ---- a source behind another
 
@@ -297,7 +297,8 @@ module _ {D S T : Type 0} (of : D → S) (Keeps : D → D → Type 0) (stays : (
   folds_kept [] old new is = subst (Keeps old) is (stays old)
   folds_kept (x ∷ items) old new all = on old all.0 new all.1.1 (folds_kept items all.0 new all.2)
 
-  pub all_behind : (items : List T) (old new : D) → GivesAll Behind old items new → GivesAll gives (of old) items (of new)
+  pub all_behind : (items : List T) (old new : D) → GivesAll Behind old items new →
+      GivesAll gives (of old) items (of new)
   all_behind items old new all = record {
     last = of all.last;
     gave = folds_behind items old all.last all.gave;
@@ -358,9 +359,8 @@ module _ {D S T : Type 0} (of : D → S) (Keeps : D → D → Type 0) (stays : (
     runs_kept = all_kept ran.given old new ran.gave
 
   -- What a run kept of it, however it ended.
-  module _ {W A E : Type 0} (runs : W → T → W → Type 0) (ws : List W) (old new : D) (items : A → List W)
-      (why : E → WorkersFault) where
-    pub ended_kept : (result : Result A E) → IfOk result (λ a. RunsAll runs Behind ws old (items a) new) →
-        IfErr result (λ e. LeavesSource Behind old (why e) new) → Keeps old new
-    ended_kept (Ok a) ran left = runs_kept runs ws (items a) old new ran
-    ended_kept (Err e) ran left = leaves_kept (why e) old new left
+  pub ended_kept : {W A E : Type 0} (runs : W → T → W → Type 0) (ws : List W) (old new : D) (result : Result A E)
+      (items : A → List W) (why : E → WorkersFault) → IfOk result (λ a. RunsAll runs Behind ws old (items a) new) →
+      IfErr result (λ e. LeavesSource Behind old (why e) new) → Keeps old new
+  ended_kept runs ws old new (Ok a) items why ran left = runs_kept runs ws (items a) old new ran
+  ended_kept runs ws old new (Err e) items why ran left = leaves_kept (why e) old new left

@@ -143,7 +143,7 @@ impl<'s, 'c, 'p, S, R> Dealing<'s, 'c, 'p, S, R> {
 
 impl<T, S: Arrivals<T>, R: Wait> Source<T> for Dealing<'_, '_, '_, S, R> {
     ghost gives = { λ old connection new. S.gives old.source.now connection new.source.now
-        × (new.source.ghost_name ≡ old.source.ghost_name) × Looks old.rows new.rows };
+        × ((new.source.ghost_name ≡ old.source.ghost_name) × Looks old.rows new.rows) };
 
     fn next(&mut self) -> Option<T> {
         let Some(connection) = self.source.next(&mut self.rows) else {

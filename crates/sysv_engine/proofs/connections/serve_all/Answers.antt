@@ -66,7 +66,7 @@ returns-in-Err-clause-err g c =
       tells = stop.3;
     } in
     let laws = c.each_life_is_one_run.ensures in
-    fault_says t.incoming t.outgoing t.closes g.S.Source.gives c.args.source.now c.serve_with-outcome.new.source
+    fault_says t.incoming t.outgoing t.closes g.S.Arrivals.gives c.args.source.now c.serve_with-outcome.new.source
     c.args.books.now.items c.serve_with-outcome.new.books.items
     (HiredFrom c.in-Ok.service first c.serve_with-outcome.new.pass) (HasLived c.args.blocks)
     (have_lived laws.run laws.whole laws.none_held laws.empty c.args.blocks c.in-Ok.service c.stop-removed.result

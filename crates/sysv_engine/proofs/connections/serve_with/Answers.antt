@@ -7,11 +7,17 @@ use Rattle.std.specs.List.{All}
 use Rattle.sysv_engine.specs.declared.dealing.Dealing.{Dealing}
 use Rattle.sysv_engine.specs.declared.worker.Worker.{Worker}
 use Rattle.sysv_engine.specs.Places.{IsOpened, Seated}
-use Rattle.sysv_engine.proofs.Looking.{Stays, goes_on, stays}
+use Rattle.sysv_engine.specs.declared.rows.Rows.{Rows}
+use Rattle.sysv_engine.specs.Looking.{LooksBetween}
+use Rattle.sysv_engine.specs.Looks.{Looks}
+use Rattle.sysv_service.specs.Ran.{Pass}
+use Rattle.sysv_service.specs.Seats.{AreOf}
+use Rattle.sysv_thread_laws.specs.Hiring.{Gives, TakesIn}
+use Rattle.sysv_engine.proofs.Looking.{Stays, goes_on, looks_between, stays}
 use Rattle.sysv_engine.specs.Serving.{HiredFrom, LeavesConnections, WorkedFrom}
 use Rattle.sysv_engine.proofs.SharedOut.{all_counted, some_each}
 use Rattle.sysv_engine.proofs.Staffed.{Behind, Runs, all_left, all_worked, back_as_many, gates_again, leaves_behind}
-use Rattle.sysv_engine.proofs.Staffed.{leaves_kept, ran_as_many, runs_behind, runs_kept, staffed}
+use Rattle.sysv_engine.proofs.Staffed.{ended_kept, leaves_kept, ran_as_many, runs_behind, runs_kept, staffed}
 use Rattle.sysv_engine.proofs.Reversed.{all_reverse}
 use Rattle.sysv_engine.proofs.Crossing.{serving_sync, worker_send}
 use Rattle.sysv_engine.proofs.connections.serve_with.Lts as lts
@@ -26,7 +32,7 @@ pub run_workers-outcome-requires-sync-J : goal.run_workers-outcome-requires-sync
 run_workers-outcome-requires-sync-J g c κs within =
     let t = serving_sync (record { mir = lifetime 8; lft = κs.1.1.1.1.1.1.1.1.0 })
     (record { mir = lifetime 11; lft = κs.1.1.1.1.1.1.1.1.1.1.1.0 }) _ c.type_bounds.sync-R in
-    param_sync 3 (lts.arg-13-3 g.row.T g.row.S g.row.W g.row.R g.row.T-Book g.T.laws g.S.laws g.W.laws g.R.laws
+    param_sync 3 (lts.arg-14-3 g.row.T g.row.S g.row.W g.row.R g.row.T-Book g.T.laws g.S.laws g.W.laws g.R.laws
     g.T.Book.laws g.T.NonBlocking g.T.NonBlocking-dict g.S.Arrivals g.S.Arrivals-dict g.W.Watch g.W.Watch-dict
     g.R.Threads
     g.R.Threads-dict g.R.Wait g.R.Wait-dict g.T.Destruct-dict g.W.Destruct-dict κs) (record { shared = t.shared })
@@ -139,9 +145,8 @@ dismiss-requires-in-Err-clause-room g c =
 
 -- ---- what read the rows
 
--- What read the rows is where it was, and has read rows.
-looks : (g : Over) (c : goal.After-into_pass g) → Looks c.open-rows.result c.run_workers-outcome.new.source.rows
-looks g c =
+pub join_pass-requires-clause-other : goal.join_pass-requires-clause-other
+join_pass-requires-clause-other g c =
     let W : Type 0 = Worker g.row.R.Denot g.row.T.Denot g.row.W.Denot g.row.T-Book.Denot in
     let S : Type 0 = Seated g.row.T-Book.Denot g.row.T.Denot in
     let D : Type 0 = Dealing g.row.S.Denot g.row.R.Denot in
@@ -149,9 +154,20 @@ looks g c =
     let places : W → List S = λ w. w.places.items in
     let kept = ended_kept (λ (d : D). d.source.now) Stays stays goes_on g.S.Arrivals.gives
     (Runs t.incoming t.outgoing t.closes c.args.service.now places) c.staff.new.workers.items c.new-dealing.result
-    c.run_workers-outcome.new.source (λ ws. ws.items) (λ e. e.why) c.run_workers-outcome.result
+    c.run_workers-outcome.new.source c.run_workers-outcome.result (λ ws. ws.items) (λ e. e.why)
     c.run_workers-outcome.ensures.ok c.run_workers-outcome.ensures.asked in
-    subst (λ (r : Rows g.row.R.Denot). Looks r c.run_workers-outcome.new.source.rows) c.new-dealing.ensures.rows kept.1
+    let at = ap (λ (r : Rows g.row.R.Denot). r.service.now) c.into_parts.ensures.rows
+    ∙ (kept.1.0 ∙ (ap (λ (r : Rows g.row.R.Denot). r.service.now) c.new-dealing.ensures.rows
+    ∙ c.open-rows.ensures.service)) in
+    subst (λ s. AreOf s c.into_pass.result.seats) at c.into_pass.ensures.fits
+
+-- What read the rows did so between the hiring of the places and their leave.
+between : {R : Type 0} (own kept home back : Pass) (first second third fourth : Rows R) → Gives own first.pass kept →
+    second ≡ first → Looks second third → fourth ≡ third → back ≡ fourth.pass → TakesIn kept back home →
+    LooksBetween own home
+between own kept home back first second third fourth gives begins looked ends left takes =
+    looks_between own kept home back first fourth gives
+    (subst (λ (r : Rows _). Looks first r) (sym ends) (subst (λ (r : Rows _). Looks r third) begins looked)) left takes
 
 -- ---- what was served
 
@@ -188,13 +204,18 @@ returns-in-Ok-outcome-clause-ok g c =
     let runs = Runs t.incoming t.outgoing t.closes own places in
     let ran =
     runs_behind of Stays stays goes_on g.S.Arrivals.gives runs workers workers' old new c.in-Ok-outcome.ensures.ok in
+    let kept =
+    runs_kept of Stays stays goes_on g.S.Arrivals.gives runs workers workers' old new c.in-Ok-outcome.ensures.ok in
+    let looks = between c.hire.new.pass c.open-rows.new.pass c.join_pass.new.pass c.into_pass.result c.open-rows.result
+    old.rows new.rows c.into_parts.result.1 c.open-rows.ensures.gives c.new-dealing.ensures.rows kept.1
+    c.into_parts.ensures.rows c.into_pass.ensures.pass (c.join_pass.ensures.joined, c.join_pass.ensures.held) in
     let worked = all_worked t.incoming t.outgoing t.closes own places g.S.Arrivals.gives (of old) (of new) workers
     workers' c.hire.new.places.items c.gather.new.places.items c.hire.ensures.places c.staff.ensures.all
     (some_each (λ (w : W). w.places) workers c.staff.ensures.each) c.gather.ensures.keeps c.gather.ensures.vacant
     c.args.books.now.items c.dismiss.new.books.items c.args.pass.now c.hire.new.pass c.join_pass.new.pass
     c.dismiss.new.pass c.hire.ensures.books
     (c.dismiss.ensures.books ∙ ap (λ l. l ++ reverse (map book c.gather.new.places.items)) c.hire.ensures.taken.0)
-    c.hire.ensures.gives (looked g c) c.dismiss.ensures.takes c.dismiss.result.0 c.dismiss.result.1
+    c.hire.ensures.gives looks c.dismiss.ensures.takes c.dismiss.result.0 c.dismiss.result.1
     c.dismiss.ensures.sums
     c.dismiss.ensures.refused ran in
     subst (λ s. WorkedFrom t.incoming t.outgoing t.closes g.S.Arrivals.gives own c.args.pass.now c.args.source.now
@@ -227,6 +248,9 @@ returns-in-Err-clause-err g c =
     let why = c.in-Err.refused.why in
     let leaves = leaves_behind of Stays stays goes_on g.S.Arrivals.gives why old new c.in-Err.ensures.asked in
     let same = leaves_kept of Stays stays goes_on g.S.Arrivals.gives why old new c.in-Err.ensures.asked in
+    let looks = between c.hire.new.pass c.open-rows.new.pass c.join_pass.new.pass c.into_pass.result c.open-rows.result
+    old.rows new.rows c.into_parts.result.1 c.open-rows.ensures.gives c.new-dealing.ensures.rows same.1
+    c.into_parts.ensures.rows c.into_pass.ensures.pass (c.join_pass.ensures.joined, c.join_pass.ensures.held) in
     let left = all_left t.incoming t.outgoing t.closes own places g.S.Arrivals.gives (of old) (of new) workers
     c.in-Err.refused.states.items c.hire.new.places.items c.gather-in-Err.new.places.items c.hire.ensures.places
     c.staff.ensures.all (some_each (λ (w : W). w.places) workers c.staff.ensures.each) c.gather-in-Err.ensures.keeps
@@ -234,7 +258,7 @@ returns-in-Err-clause-err g c =
     c.hire.new.pass c.join_pass.new.pass c.dismiss-in-Err.new.pass c.hire.ensures.books
     (c.dismiss-in-Err.ensures.books
     ∙ ap (λ l. l ++ reverse (map book c.gather-in-Err.new.places.items)) c.hire.ensures.taken.0)
-    c.hire.ensures.gives (looked-in-Err g c) c.dismiss-in-Err.ensures.takes why c.fault.result c.fault.ensures leaves
+    c.hire.ensures.gives looks c.dismiss-in-Err.ensures.takes why c.fault.result c.fault.ensures leaves
     c.in-Err.ensures.err.0 in
     let name_is = c.into_parts.ensures.same_reference ∙ (same.0 ∙ c.new-dealing.ensures.same_reference) in
     let back = c.given_back.ensures ∙ c.into_parts.ensures.source in
