@@ -24,8 +24,8 @@ returns-clause-ok g c =
     (HasLived c.args.blocks) result c.serve_all-outcome.ensures.ok c.serve_all-outcome.ensures.err in
     let name_is = c.into_source.ensures.same_reference ∙ (same ∙ c.new-unseeing.ensures.same_reference) in
     let back = c.given_back.ensures ∙ c.into_source.ensures.source in
-    let done = serves t.incoming t.outgoing t.closes of Keeps stays on g.S.Source.gives c.args.blocks old new books books'
-    (HasLived c.args.blocks) result c.serve_all-outcome.ensures.ok in
+    let done = serves t.incoming t.outgoing t.closes of Keeps stays on g.S.Source.gives c.args.blocks old new books
+    books' (HasLived c.args.blocks) result c.serve_all-outcome.ensures.ok in
     subst (λ s. IfOk result (λ ended. ServesConnections t.incoming t.outgoing t.closes g.S.Source.gives c.args.blocks
     c.args.source.now books ended s books')) (grind arith)
     (subst (λ s. IfOk result (λ ended. ServesConnections t.incoming t.outgoing t.closes g.S.Source.gives c.args.blocks s
@@ -48,8 +48,8 @@ returns-clause-err g c =
     (HasLived c.args.blocks) result c.serve_all-outcome.ensures.ok c.serve_all-outcome.ensures.err in
     let name_is = c.into_source.ensures.same_reference ∙ (same ∙ c.new-unseeing.ensures.same_reference) in
     let back = c.given_back.ensures ∙ c.into_source.ensures.source in
-    let done = leaves t.incoming t.outgoing t.closes of Keeps stays on g.S.Source.gives c.args.blocks old new books books'
-    (HasLived c.args.blocks) result c.serve_all-outcome.ensures.err in
+    let done = leaves t.incoming t.outgoing t.closes of Keeps stays on g.S.Source.gives c.args.blocks old new books
+    books' (HasLived c.args.blocks) result c.serve_all-outcome.ensures.err in
     subst (λ s. IfErr result (λ why. LeavesConnections t.incoming t.outgoing t.closes g.S.Source.gives
     (HasLived c.args.blocks) c.args.source.now books why s books')) (grind arith)
     (subst (λ s. IfErr result (λ why. LeavesConnections t.incoming t.outgoing t.closes g.S.Source.gives

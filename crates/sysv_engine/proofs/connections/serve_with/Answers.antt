@@ -31,11 +31,11 @@ run_workers-outcome-requires-send-W g c κs within =
 pub run_workers-outcome-requires-sync-J : goal.run_workers-outcome-requires-sync-J
 run_workers-outcome-requires-sync-J g c κs within =
     let t = serving_sync (record { mir = lifetime 8; lft = κs.1.1.1.1.1.1.1.1.0 })
-    (record { mir = lifetime 11; lft = κs.1.1.1.1.1.1.1.1.1.1.1.0 }) _ c.type_bounds.sync-R in
+    (record { mir = lifetime 12; lft = κs.1.1.1.1.1.1.1.1.1.1.1.1.0 }) _ c.type_bounds.sync-R in
     param_sync 3 (lts.arg-14-3 g.row.T g.row.S g.row.W g.row.R g.row.T-Book g.T.laws g.S.laws g.W.laws g.R.laws
     g.T.Book.laws g.T.NonBlocking g.T.NonBlocking-dict g.S.Arrivals g.S.Arrivals-dict g.W.Watch g.W.Watch-dict
-    g.R.Threads
-    g.R.Threads-dict g.R.Wait g.R.Wait-dict g.T.Destruct-dict g.W.Destruct-dict κs) (record { shared = t.shared })
+    g.R.Threads g.R.Threads-dict g.R.Wait g.R.Wait-dict g.T.Destruct-dict g.W.Destruct-dict κs)
+    (record { shared = t.shared })
 
 pub run_workers-outcome-requires-after_bounds : goal.run_workers-outcome-requires-after_bounds
 run_workers-outcome-requires-after_bounds g c κs within =
@@ -156,7 +156,7 @@ join_pass-requires-clause-other g c =
     (Runs t.incoming t.outgoing t.closes c.args.service.now places) c.staff.new.workers.items c.new-dealing.result
     c.run_workers-outcome.new.source c.run_workers-outcome.result (λ ws. ws.items) (λ e. e.why)
     c.run_workers-outcome.ensures.ok c.run_workers-outcome.ensures.asked in
-    let at = ap (λ (r : Rows g.row.R.Denot). r.service.now) c.into_parts.ensures.rows
+    let at = ap (λ (r : Rows g.row.R.Denot). r.service.now) c.into_parts-source.ensures.rows
     ∙ (kept.1.0 ∙ (ap (λ (r : Rows g.row.R.Denot). r.service.now) c.new-dealing.ensures.rows
     ∙ c.open-rows.ensures.service)) in
     subst (λ s. AreOf s c.into_pass.result.seats) at c.into_pass.ensures.fits
@@ -183,8 +183,8 @@ source_is g c =
     (Runs t.incoming t.outgoing t.closes c.args.service.now places) c.staff.new.workers.items
     c.in-Ok-outcome.workers.items c.new-dealing.result c.run_workers-outcome.new.source
     c.in-Ok-outcome.ensures.ok in
-    let name_is = c.into_parts.ensures.same_reference ∙ (same.0 ∙ c.new-dealing.ensures.same_reference) in
-    let back = c.given_back.ensures ∙ c.into_parts.ensures.source in
+    let name_is = c.into_parts-source.ensures.same_reference ∙ (same.0 ∙ c.new-dealing.ensures.same_reference) in
+    let back = c.given_back.ensures ∙ c.into_parts-source.ensures.source in
     grind arith
 
 pub returns-in-Ok-outcome-clause-ok : goal.returns-in-Ok-outcome-clause-ok
@@ -207,8 +207,8 @@ returns-in-Ok-outcome-clause-ok g c =
     let kept =
     runs_kept of Stays stays goes_on g.S.Arrivals.gives runs workers workers' old new c.in-Ok-outcome.ensures.ok in
     let looks = between c.hire.new.pass c.open-rows.new.pass c.join_pass.new.pass c.into_pass.result c.open-rows.result
-    old.rows new.rows c.into_parts.result.1 c.open-rows.ensures.gives c.new-dealing.ensures.rows kept.1
-    c.into_parts.ensures.rows c.into_pass.ensures.pass (c.join_pass.ensures.joined, c.join_pass.ensures.held) in
+    old.rows new.rows c.into_parts-source.result.1 c.open-rows.ensures.gives c.new-dealing.ensures.rows kept.1
+    c.into_parts-source.ensures.rows c.into_pass.ensures.pass (c.join_pass.ensures.joined, c.join_pass.ensures.held) in
     let worked = all_worked t.incoming t.outgoing t.closes own places g.S.Arrivals.gives (of old) (of new) workers
     workers' c.hire.new.places.items c.gather.new.places.items c.hire.ensures.places c.staff.ensures.all
     (some_each (λ (w : W). w.places) workers c.staff.ensures.each) c.gather.ensures.keeps c.gather.ensures.vacant
@@ -249,8 +249,8 @@ returns-in-Err-clause-err g c =
     let leaves = leaves_behind of Stays stays goes_on g.S.Arrivals.gives why old new c.in-Err.ensures.asked in
     let same = leaves_kept of Stays stays goes_on g.S.Arrivals.gives why old new c.in-Err.ensures.asked in
     let looks = between c.hire.new.pass c.open-rows.new.pass c.join_pass.new.pass c.into_pass.result c.open-rows.result
-    old.rows new.rows c.into_parts.result.1 c.open-rows.ensures.gives c.new-dealing.ensures.rows same.1
-    c.into_parts.ensures.rows c.into_pass.ensures.pass (c.join_pass.ensures.joined, c.join_pass.ensures.held) in
+    old.rows new.rows c.into_parts-source.result.1 c.open-rows.ensures.gives c.new-dealing.ensures.rows same.1
+    c.into_parts-source.ensures.rows c.into_pass.ensures.pass (c.join_pass.ensures.joined, c.join_pass.ensures.held) in
     let left = all_left t.incoming t.outgoing t.closes own places g.S.Arrivals.gives (of old) (of new) workers
     c.in-Err.refused.states.items c.hire.new.places.items c.gather-in-Err.new.places.items c.hire.ensures.places
     c.staff.ensures.all (some_each (λ (w : W). w.places) workers c.staff.ensures.each) c.gather-in-Err.ensures.keeps
@@ -260,8 +260,8 @@ returns-in-Err-clause-err g c =
     ∙ ap (λ l. l ++ reverse (map book c.gather-in-Err.new.places.items)) c.hire.ensures.taken.0)
     c.hire.ensures.gives looks c.dismiss-in-Err.ensures.takes why c.fault.result c.fault.ensures leaves
     c.in-Err.ensures.err.0 in
-    let name_is = c.into_parts.ensures.same_reference ∙ (same.0 ∙ c.new-dealing.ensures.same_reference) in
-    let back = c.given_back.ensures ∙ c.into_parts.ensures.source in
+    let name_is = c.into_parts-source.ensures.same_reference ∙ (same.0 ∙ c.new-dealing.ensures.same_reference) in
+    let back = c.given_back.ensures ∙ c.into_parts-source.ensures.source in
     subst (λ s. LeavesConnections t.incoming t.outgoing t.closes g.S.Arrivals.gives
     (HiredFrom own c.args.pass.now c.dismiss-in-Err.new.pass) c.args.source.now c.args.books.now.items c.fault.result s
     c.dismiss-in-Err.new.books.items) (grind arith)
