@@ -333,14 +333,14 @@ ends_as_made one command made all more (Ok done) ended behind rest left taken wr
     inl (all_asked command made all more ended done behind rest ends.0 parts follows on)
 ends_as_made one command made all more (Err (fault.Refused error)) ended behind rest left taken written ends parts
     follows same on =
-    inl (refused one command made all more ended ends.0 error behind rest ends.1
-    (refusal_heard ends.0 error behind left ends.2.1) parts follows same on)
+    inl (refused one command made all more ended ends.0 error behind rest ends.2.0
+    (refusal_heard ends.0 error behind left ends.4.1) parts follows same on)
 ends_as_made one command made all more (Err fault.NoReply) ended behind rest left taken written
-    (ask, next, inl unwritten) parts follows same on = inr (inl refl)
-ends_as_made one command made all more (Err fault.NoReply) ended behind rest left taken written (ask, next, inr heard)
-    parts follows same on =
-    unheard one command made all more ended ask behind rest next (heard_none ask behind left heard.1) parts follows same
-    on
+    (ask, ahead, next, few, inl unwritten) parts follows same on = inr (inl refl)
+ends_as_made one command made all more (Err fault.NoReply) ended behind rest left taken written
+    (ask, ahead, next, few, inr heard) parts follows same on =
+    unheard one command made all more ended ask behind rest next.0 (heard_none ask behind left heard.1) parts follows
+    same on
 ends_as_made one command made all more (Err fault.NoMemory) ended behind rest left taken written ends parts follows same
     on = inr (inr refl)
 

@@ -1,4 +1,5 @@
 pub mod TalkLemmas
+pub mod RowLemmas
 pub mod WordLemmas
 pub mod Courses
 pub mod CallLemmas
@@ -7,3 +8,4 @@ pub mod SendLemmas
 pub mod ClearLemmas
 mod RefusalLemmas
 mod LineLemmas
+mod ObjectLemmas

@@ -1,6 +1,6 @@
 -- A talk in progress, and how it ends.
 use Rattle.std.proofs.Common.{◌≡◌, ℕ, ℤ, pos, ◌+◌, ◌*◌, List, [], ◌∷◌, ◌++◌, length, Option, None, Some, Ok, Err, cond}
-use Rattle.std.proofs.Common.{ltb, refl, sym, ap, subst, ◌∙◌, ◌⊎◌, inl, inr, ◌≤◌, true, arith, append_assoc}
+use Rattle.std.proofs.Common.{ltb, refl, sym, ap, subst, ◌∙◌, ◌⊎◌, inl, inr, ◌<◌, ◌≤◌, true, arith, append_assoc}
 use Rattle.std.proofs.Common.{append-nil, length-append}
 use Rattle.std.proofs.lemmas.Bool.Decides.{nat_tests}
 use Rattle.std.proofs.lemmas.List.Concat.{flat_map-append}
@@ -22,8 +22,8 @@ use Rattle.sysv_clients.specs.Style.{grows, style_of}
 use Rattle.sysv_clients.specs.Run.{Runs, Shows, TalksThrough}
 use Rattle.sysv_clients.specs.Table.{table_head}
 use Rattle.sysv_clients.specs.Talk.{EndsTalk, Exchange, Exchanges, Follows, IsDone, Talked, answered_spelling}
-use Rattle.sysv_clients.specs.Talk.{ask_spelling, asked_spelling, found_in, id_after, next_ask, reply_to}
-use Rattle.sysv_clients.specs.Talk.{slots_after, slots_in}
+use Rattle.sysv_clients.specs.Talk.{AreNext, StandAt, ask_spelling, asked_spelling, asks_spelling, found_in, id_after}
+use Rattle.sysv_clients.specs.Talk.{next_ask, on_way_most, reply_to, slots_after, slots_in}
 use Rattle.sysv_wire.specs.declared.frame.Version.TheVariants.{Two}
 use Rattle.sysv_wire.specs.declared.reply.ReplyContent.{ReplyContent}
 use Rattle.sysv_wire.specs.declared.reply.ReplyContent.TheVariants as content
@@ -36,7 +36,7 @@ use Rattle.sysv_wire.specs.Requests.{op_of, request_spelling}
 -- The maximum number of bytes that are collected of this number of exchanges. A message is in the
 -- third exchange at the earliest.
 abbrev pub page_most : ℕ → ℕ
-page_most place = 55 + 256 * place + cond (ltb 2 place) 8214 0
+page_most place = 55 + 256 * place + cond (ltb 2 place) 49200 0
 
 -- This number of exchanges was made, and this page was collected of them.
 pub record Talking (command : Command) (left rest taken more : Option (List ℕ)) (page : List ℕ) (place slots : ℕ)
@@ -170,25 +170,73 @@ finishes command left rest taken more page place slots id done so_far asked = (
   so_far.collects,
 )
 
+-- The requests at this place are what the command requests next.
+pub are_next : (command : Command) (left rest taken more : Option (List ℕ)) (page : List ℕ) (place slots : ℕ) (id : ℤ)
+    (asks : List Ask)
+    → (so_far : Talking command left rest taken more page place slots id)
+    → StandAt (asks_of command slots id) place asks → AreNext command so_far.exchanges asks
+are_next command left rest taken more page place slots id asks so_far stand =
+    subst (λ (n : ℕ). StandAt (asks_of command (slots_in so_far.exchanges) (found_in so_far.exchanges)) n asks)
+    so_far.counts
+    (subst (λ (s : ℕ). StandAt (asks_of command s (found_in so_far.exchanges)) place asks) so_far.tells
+    (subst (λ (i : ℤ). StandAt (asks_of command slots i) place asks) so_far.finds stand))
+
+-- Any command may have one request on its way.
+pub one_on_way : (task : Task) → 1 ≤ on_way_most task
+one_on_way (Table format) = omega arith
+one_on_way (Show id) = omega arith
+one_on_way (Remove target) = omega arith
+one_on_way (Make making) = omega arith
+one_on_way (Send key text mtype nowait) = omega arith
+one_on_way (Receive receipt) = omega arith
+
 -- A fault in what was read or written last.
-ends_by : (command : Command) (exchanges : List Exchange) (why : ClientFault) (ask : Ask) (text given : List ℕ)
-    (left rest taken more : Option (List ℕ))
-    → next_ask command exchanges ≡ Some ask → text ≡ text_of command.task
-    → Exchanges (request_spelling (request_of ask) text) ask (Err why) left rest taken more given
+ends_by : (command : Command) (exchanges : List Exchange) (why : ClientFault) (ask : Ask) (ahead : List Ask)
+    (text given : List ℕ) (left rest taken more : Option (List ℕ))
+    → AreNext command exchanges (ask ∷ ahead) → length (ask ∷ ahead) ≤ on_way_most command.task
+    → text ≡ text_of command.task
+    → Exchanges (asks_spelling (ask ∷ ahead) text) ask (Err why) left rest taken more given
     → EndsTalk command exchanges (Err why) left rest taken more
-ends_by command exchanges (Refused error) ask text given left rest taken more next sent exchange = (
+ends_by command exchanges (Refused error) ask ahead text given left rest taken more next few sent exchange = (
   ask,
+  ahead,
   next,
+  few,
   subst (λ (l : List ℕ).
-      Exchanges (request_spelling (request_of ask) l) ask (Err (Refused error)) left rest taken more []) sent exchange,
+      Exchanges (asks_spelling (ask ∷ ahead) l) ask (Err (Refused error)) left rest taken more []) sent exchange,
 )
-ends_by command exchanges NoReply ask text given left rest taken more next sent exchange = (
+ends_by command exchanges NoReply ask ahead text given left rest taken more next few sent exchange = (
   ask,
+  ahead,
   next,
-  subst (λ (l : List ℕ). Exchanges (request_spelling (request_of ask) l) ask (Err NoReply) left rest taken more []) sent
+  few,
+  subst (λ (l : List ℕ). Exchanges (asks_spelling (ask ∷ ahead) l) ask (Err NoReply) left rest taken more []) sent
       exchange,
 )
-ends_by command exchanges NoMemory ask text given left rest taken more next sent exchange = absurd exchange
+ends_by command exchanges NoMemory ask ahead text given left rest taken more next few sent exchange = absurd exchange
+
+-- The next request ends the talk, and these requests after it were written with it.
+pub breaks_ahead : (command : Command) (why : ClientFault) (ask : Ask) (ahead : List Ask) (given : List ℕ)
+    (left mid rest taken more most : Option (List ℕ)) (page last text : List ℕ) (place slots : ℕ) (id : ℤ)
+    → Talking command left mid taken more page place slots id
+    → StandAt (asks_of command slots id) place (ask ∷ ahead) → length (ask ∷ ahead) ≤ on_way_most command.task
+    → text ≡ text_of command.task
+    → Exchanges (asks_spelling (ask ∷ ahead) text) ask (Err why) mid rest more most given
+    → TalksThrough command (Err why) last left rest taken most
+breaks_ahead command why ask ahead given left mid rest taken more most page last text place slots id so_far stand few
+    sent exchange = (
+      so_far.exchanges,
+      record {
+        talked = so_far.talked;
+        unread = mid;
+        written = more;
+        reads = so_far.reads;
+        writes = so_far.writes;
+        ends = ends_by command so_far.exchanges why ask ahead text given mid rest more most
+            (are_next command left mid taken more page place slots id (ask ∷ ahead) so_far stand) few sent exchange;
+      },
+      tt,
+    )
 
 pub breaks_off : (command : Command) (why : ClientFault) (ask : Ask) (given : List ℕ)
     (left mid rest taken more most : Option (List ℕ)) (page last text : List ℕ) (place slots : ℕ) (id : ℤ)
@@ -197,16 +245,39 @@ pub breaks_off : (command : Command) (why : ClientFault) (ask : Ask) (given : Li
     → Exchanges (request_spelling (request_of ask) text) ask (Err why) mid rest more most given
     → TalksThrough command (Err why) last left rest taken most
 breaks_off command why ask given left mid rest taken more most page last text place slots id so_far asked sent
-    exchange = (
-      so_far.exchanges,
+    exchange =
+    breaks_ahead command why ask [] given left mid rest taken more most page last text place slots id so_far
+    (sym asked, tt) (one_on_way command.task) sent
+    (subst (λ (frame : List ℕ). Exchanges frame ask (Err why) mid rest more most given)
+    (sym (append-nil (request_spelling (request_of ask) text))) exchange)
+
+-- Memory for the line of a row is refused, and these requests after it were written with it.
+pub no_line_ahead : (command : Command) (ask : Ask) (answer : ReplyContent) (given : List ℕ) (ahead : List Ask)
+    (left mid rest taken more most all : Option (List ℕ)) (page last text : List ℕ) (place slots : ℕ) (id : ℤ)
+    → Talking command left mid taken more page place slots id → Some ask ≡ slice_get (asks_of command slots id) place
+    → text ≡ text_of command.task
+    → Exchanges (request_spelling (request_of ask) text) ask (Ok answer) mid rest more most given
+    → grows (style_of command.task) answer ≡ true
+    → StandAt (asks_of command (slots_after slots answer) (id_after id answer)) (place + 1) ahead
+    → length ahead < on_way_most command.task → Appends most all (asks_spelling ahead (text_of command.task))
+    → TalksThrough command (Err NoMemory) last left rest taken all
+unfolding goes_on
+no_line_ahead command ask answer given ahead left mid rest taken more most all page last text place slots id so_far
+    asked sent exchange row stand few wrote =
+    let one : Exchange = record { ask = ask; answer = answer; given = given } in
+    let before = so_far.exchanges in
+    let after = goes_on command ask answer given left mid rest taken more most page text place slots id so_far asked
+    sent exchange in
+    let next = are_next command left rest taken most _ (place + 1) (slots_after slots answer) (id_after id answer) ahead
+    after stand in (
+      before ++ one ∷ [],
       record {
-        talked = so_far.talked;
-        unread = mid;
-        written = more;
-        reads = so_far.reads;
-        writes = so_far.writes;
-        ends = ends_by command so_far.exchanges why ask text given mid rest more most
-            (is_next command left mid taken more page place slots id (Some ask) so_far asked) sent exchange;
+        talked = after.talked;
+        unread = rest;
+        written = most;
+        reads = after.reads;
+        writes = after.writes;
+        ends = (refl, inr ((before, one, refl, row), ahead, next, few, wrote));
       },
       tt,
     )
@@ -221,24 +292,8 @@ pub no_line : (command : Command) (ask : Ask) (answer : ReplyContent) (given : L
     → TalksThrough command (Err NoMemory) last left rest taken most
 no_line command ask answer given left mid rest taken more most page last text place slots id so_far asked sent exchange
     row =
-    let one : Exchange = record { ask = ask; answer = answer; given = given } in
-    let before = so_far.exchanges in
-    let frame : Appends more most (ask_spelling command ask) =
-    subst (λ (l : List ℕ). Appends more most (request_spelling (request_of ask) l)) sent exchange.0 in (
-      before ++ one ∷ [],
-      record {
-        talked = follows_more command [] before one so_far.talked
-            (is_next command left mid taken more page place slots id (Some ask) so_far asked) exchange.1.1;
-        unread = rest;
-        written = most;
-        reads = subst (Consumes left rest) (sym (answered_more before one))
-            (Consumes-trans left mid rest _ _ so_far.reads exchange.1.0);
-        writes = subst (Appends taken most) (sym (asked_more command before one))
-            (Appends-trans taken more most _ _ so_far.writes frame);
-        ends = (inr (before, one, refl, row), refl, refl);
-      },
-      tt,
-    )
+    no_line_ahead command ask answer given [] left mid rest taken more most most page last text place slots id so_far
+    asked sent exchange row tt (one_on_way command.task) (Appends-nil most)
 
 -- Memory is refused, and no request was made.
 pub refused : (command : Command) (status : ℤ) (left taken shown after : Option (List ℕ))
@@ -253,7 +308,7 @@ refused command status left taken shown after shows = record {
     written = taken;
     reads = Consumes-nil left;
     writes = Appends-nil taken;
-    ends = (inl refl, refl, refl);
+    ends = (refl, inl (refl, refl));
   };
   shows = shows;
 }
@@ -273,7 +328,7 @@ answers_receive (asks.Row slot) mtype fits = absurd (omega (arith, fits))
 -- The maximum number of bytes that a result adds, by the number of exchanges before it.
 most_at : (place : ℕ) (ask : Ask) (answer : ReplyContent) → IsAnswer Two (op_number (op_of ask)) answer
     → (is_receive ask ≡ true → place ≡ 2)
-    → (answer_most answer ≤ 256) ⊎ ((answer_most answer ≡ 8214) × (place ≡ 2))
+    → (answer_most answer ≤ 256) ⊎ ((answer_most answer ≡ 49200) × (place ≡ 2))
 most_at place ask (content.Rcv mtype) fits third = inr (refl, third (answers_receive ask mtype fits))
 most_at place ask (content.Row row) fits third = inl (omega arith)
 most_at place ask (content.Refused error) fits third = inl (omega arith)
@@ -305,7 +360,7 @@ third_one place ask content.Rm fits third gives = absurd cc
 -- There is space for a message.
 pub has_room : (place : ℕ) (ask : Ask) (answer : ReplyContent) (given : List ℕ) (held : ℕ) → IsDone ask answer given
     → (is_receive ask ≡ true → place ≡ 2) → held ≤ page_most place → gives_text answer ≡ true
-    → held + 8192 + 22 ≤ 8781
+    → held + 6 * 8192 + 48 ≤ 49767
 has_room place ask answer given held done third room gives =
     let at : held ≤ page_most 2 =
     subst (λ (n : ℕ). held ≤ page_most n) (third_one place ask answer done.fits.0 third gives) room in

@@ -2,9 +2,11 @@
 pub mod Asks
 pub mod Style
 pub mod Talk
+pub mod Rows
 pub mod Faults
 pub mod Table
 pub mod Queue
+pub mod Object
 pub mod Page
 pub mod Run
 pub mod Words

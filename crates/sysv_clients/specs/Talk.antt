@@ -1,9 +1,13 @@
 -- A client's talk with a server (this project's programs): the client writes a request and reads
--- the reply, and its next request depends on the replies before.
-use Rattle.std.specs.Prelude.{◌≡◌, ◌≢◌, ◌⊎◌, ⊤, ℕ, ℤ, pos, List, [], ◌∷◌, ◌++◌, length, true, Option, None}
-use Rattle.std.specs.Prelude.{Some, Result, Ok, Err, flat_map, fold, slice_get}
+-- the reply, and its next request depends on the replies before. An ipcs requests several rows at
+-- once, and then reads the replies.
+use Rattle.std.specs.Prelude.{◌≡◌, ◌≢◌, ◌⊎◌, ◌+◌, ◌<◌, ◌≤◌, ⊤, ℕ, ℤ, pos, List, [], ◌∷◌, ◌++◌, length, true, Option}
+use Rattle.std.specs.Prelude.{None, Some, Result, Ok, Err, flat_map, fold, slice_get}
 use Rattle.std.specs.Io.KnownBytes.{Appends, Consumes, IsAtEnd}
 use Rattle.sysv_clients.specs.declared.command.Command.{Command}
+use Rattle.sysv_clients.specs.declared.command.Task.{Task}
+use Rattle.sysv_clients.specs.declared.command.Task.TheVariants.{List as Table, Show, Remove, Make, Send, Receive}
+use Rattle.sysv_clients.specs.declared.command.TheConstants.{ROW_WINDOW}
 use Rattle.sysv_clients.specs.declared.fault.ClientFault.{ClientFault}
 use Rattle.sysv_clients.specs.declared.fault.ClientFault.TheVariants as fault
 use Rattle.sysv_clients.specs.Asks.{asks_of, request_of, text_of}
@@ -89,6 +93,29 @@ found_in exchanges = fold (λ found exchange. id_after found exchange.answer) (p
 abbrev pub next_ask : Command → List Exchange → Option Ask
 next_ask command exchanges = slice_get (asks_of command (slots_in exchanges) (found_in exchanges)) (length exchanges)
 
+-- These are the items of a list from this place on, in order, and possibly not all of them.
+abbrev pub StandAt : List Ask → ℕ → List Ask → Type 0
+StandAt all place [] = ⊤
+StandAt all place (ask ∷ more) = (slice_get all place ≡ Some ask) × StandAt all (place + 1) more
+
+-- These are the requests that the command makes next, in order, and possibly not all of them.
+abbrev pub AreNext : Command → List Exchange → List Ask → Type 0
+AreNext command exchanges asks =
+    StandAt (asks_of command (slots_in exchanges) (found_in exchanges)) (length exchanges) asks
+
+-- The maximum number of requests that are on their way: written, and without a reply.
+abbrev pub on_way_most : Task → ℕ
+on_way_most (Table format) = ROW_WINDOW
+on_way_most (Show id) = 1
+on_way_most (Remove target) = 1
+on_way_most (Make making) = 1
+on_way_most (Send key text mtype nowait) = 1
+on_way_most (Receive receipt) = 1
+
+-- The frames of requests with this body, in order.
+abbrev pub asks_spelling : List Ask → List ℕ → List ℕ
+asks_spelling asks text = flat_map (λ ask. request_spelling (request_of ask) text) asks
+
 -- After some exchanges, these follow: each request is what the command requests next, and was done.
 abbrev pub Follows : Command → List Exchange → List Exchange → Type 0
 Follows command before [] = ⊤
@@ -137,16 +164,23 @@ Exchanges frame ask (Err fault.NoReply) left rest taken more given =
     IsUnwritten frame left rest taken more ⊎ (Appends taken more frame × Hears ask (Err fault.NoReply) left rest given)
 Exchanges frame ask (Err fault.NoMemory) left rest taken more given = ⊥
 
--- The next request ends the talk with a fault.
+-- The next request ends the talk with a fault. It was written with some of the requests after it.
 abbrev pub BreaksOff : Command → List Exchange → ClientFault → (left rest taken more : Option (List ℕ)) → Type 0
 BreaksOff command exchanges why left rest taken more =
-    (ask : Ask) × (next_ask command exchanges ≡ Some ask)
-    × Exchanges (ask_spelling command ask) ask (Err why) left rest taken more []
+    (ask : Ask) × (ahead : List Ask) × AreNext command exchanges (ask ∷ ahead)
+    × (length (ask ∷ ahead) ≤ on_way_most command.task)
+    × Exchanges (asks_spelling (ask ∷ ahead) (text_of command.task)) ask (Err why) left rest taken more []
 
 -- What is shown of the last reply takes memory as it comes.
 abbrev pub EndsWithGrowth : Command → List Exchange → Type 0
 EndsWithGrowth command exchanges = (before : List Exchange) × (last : Exchange) × (exchanges ≡ before ++ last ∷ [])
     × (grows (style_of command.task) last.answer ≡ true)
+
+-- Memory for what is shown of the last reply was refused. Some of the requests after it were written.
+abbrev pub LacksLine : Command → List Exchange → (taken more : Option (List ℕ)) → Type 0
+LacksLine command exchanges taken more =
+    EndsWithGrowth command exchanges × (ahead : List Ask) × AreNext command exchanges ahead
+    × (length ahead < on_way_most command.task) × Appends taken more (asks_spelling ahead (text_of command.task))
 
 -- How a talk ends after these exchanges: all requests were made, or the next request ends it, or
 -- memory was refused, either before the first request or for what is shown of the last reply.
@@ -158,10 +192,11 @@ EndsTalk command exchanges (Err (fault.Refused error)) left rest taken more =
 EndsTalk command exchanges (Err fault.NoReply) left rest taken more =
     BreaksOff command exchanges fault.NoReply left rest taken more
 EndsTalk command exchanges (Err fault.NoMemory) left rest taken more =
-    ((exchanges ≡ []) ⊎ EndsWithGrowth command exchanges) × (rest ≡ left) × (more ≡ taken)
+    (rest ≡ left) × (((exchanges ≡ []) × (more ≡ taken)) ⊎ LacksLine command exchanges taken more)
 
 -- A talk that ended this way. What was read is the replies to its requests, and then what ended it.
--- What was written is those requests, each whole except perhaps the last.
+-- What was written is those requests, and then the ones without a reply, or a prefix of them if the
+-- writer failed.
 pub record Talks (command : Command) (exchanges : List Exchange) (ended : Result ⊤ ClientFault)
     (left rest taken more : Option (List ℕ)) : Type 0 where
   pub talked : Talked command exchanges

@@ -6,19 +6,21 @@ ghost use Rattle.sysv_clients.specs.Course.{Makes, ShowsCourse};
 ghost use Rattle.sysv_clients.specs.Faults.{fault_line};
 ghost use Rattle.sysv_clients.specs.Page.{task_head};
 ghost use Rattle.sysv_clients.specs.Run.{HasShortText, Runs, Shows, TalksThrough};
-ghost use Rattle.sysv_clients.specs.Talk.{Exchange, id_after, slots_after};
+ghost use Rattle.sysv_clients.specs.Talk.{Exchange, id_after, on_way_most, slots_after};
+ghost use Rattle.sysv_clients.specs.declared.command.TheConstants.{ROW_WINDOW};
 ghost use Rattle.sysv_model.specs.Watched.{failures_of, stream_name, stream_of};
 
-use crate::command::{Command, Format, Task};
-use crate::exchange::exchange;
+use crate::command::{Command, Format, MAX_ROWS, Task};
+use crate::exchange::{exchange, hear};
 use crate::fault::ClientFault;
 use crate::page::Page;
+use crate::rows::request_ahead;
 use crate::screen::show;
 use crate::style::Style;
 use std::alloc::Global;
 use std::io::{Read, Write};
 use sysv_model::{Body, NoMemory, Watched};
-use sysv_wire::{ReplyContent, one_answer_to_replies, one_reply};
+use sysv_wire::{Ask, ReplyContent, WriteFault, one_answer_to_replies, one_reply};
 
 /// Runs a command against a server, and shows the result on `screen`. Returns the exit status: 0 if
 /// everything was done and shown, otherwise 1.
@@ -27,7 +29,8 @@ use sysv_wire::{ReplyContent, one_answer_to_replies, one_reply};
 /// flushed before its reply is read. The first request that the server refuses, that cannot be
 /// written or that has no reply ends the talk. A reply of another operation or of another version
 /// counts as no reply. Earlier requests stay done. An `ipcs` requests a row for each slot that the
-/// reply to the hello states, but at most `MAX_ROWS` rows.
+/// reply to the hello states, but at most `MAX_ROWS` rows. It writes the requests for the next 256
+/// rows, flushes them together, and reads the replies before it writes more.
 ///
 /// Then the screen is written and flushed: the table of an `ipcs`, the body and an LF of a `rcv`,
 /// and nothing for the other commands. After a fault only the line of the fault is written. If the
@@ -202,6 +205,30 @@ impl Client {
             (failures_of reader.new) (failures_of writer.old) (failures_of writer.new)
             (R.remaining (stream_of reader.old)) (R.remaining (stream_of reader.new)) }
     {
+        match command.task {
+            Task::List(_) => self.list(command, reader, writer),
+            _ => self.call(command, reader, writer),
+        }
+    }
+
+    /// Makes all requests of the command one by one, and collects what is to be shown.
+    fn call<R: Read, W: Write>(
+        &mut self,
+        command: &Command<'_>,
+        reader: &mut Watched<'_, R>,
+        writer: &mut Watched<'_, W>,
+    ) -> Result<(), ClientFault>
+        requires text { self.old.text ≡ text_of command.now.task }
+        requires page { self.old.page ≡ task_head command.now.task }
+        ensures talks { TalksThrough command.now result self.new.page
+            (R.remaining (stream_of reader.old)) (R.remaining (stream_of reader.new))
+            (W.contents (stream_of writer.old)) (W.contents (stream_of writer.new)) }
+        ensures same_reader { stream_name reader.new ≡ stream_name reader.old }
+        ensures same_writer { stream_name writer.new ≡ stream_name writer.old }
+        ensures failed { Blames command.now result (failures_of reader.old)
+            (failures_of reader.new) (failures_of writer.old) (failures_of writer.new)
+            (R.remaining (stream_of reader.old)) (R.remaining (stream_of reader.new)) }
+    {
         let style = Style::of(&command.task);
         let mut place = 0;
         let mut slots = 0;
@@ -212,6 +239,43 @@ impl Client {
             slots = told_slots(slots, &answer);
             id = found(id, &answer);
             place += 1;
+        }
+        Ok(())
+    }
+
+    /// Makes all requests of an `ipcs`, those for rows in a window, and collects what is to be
+    /// shown.
+    fn list<R: Read, W: Write>(
+        &mut self,
+        command: &Command<'_>,
+        reader: &mut Watched<'_, R>,
+        writer: &mut Watched<'_, W>,
+    ) -> Result<(), ClientFault>
+        requires list { on_way_most command.now.task ≡ ROW_WINDOW }
+        requires text { self.old.text ≡ text_of command.now.task }
+        requires page { self.old.page ≡ task_head command.now.task }
+        ensures talks { TalksThrough command.now result self.new.page
+            (R.remaining (stream_of reader.old)) (R.remaining (stream_of reader.new))
+            (W.contents (stream_of writer.old)) (W.contents (stream_of writer.new)) }
+        ensures same_reader { stream_name reader.new ≡ stream_name reader.old }
+        ensures same_writer { stream_name writer.new ≡ stream_name writer.old }
+        ensures failed { Blames command.now result (failures_of reader.old)
+            (failures_of reader.new) (failures_of writer.old) (failures_of writer.new)
+            (R.remaining (stream_of reader.old)) (R.remaining (stream_of reader.new)) }
+    {
+        let style = Style::of(&command.task);
+        let hello = Ask::Hello(command.cred);
+        let welcome = exchange(reader, writer, hello, &self.text, &mut self.given)?;
+        let slots = told_slots(0, &welcome);
+        let rows = slots.min(MAX_ROWS);
+        let mut sent = 0;
+        for slot in 0..rows {
+            sent = match request_ahead(writer, &self.text, slot, sent, rows) {
+                Ok(sent) => sent,
+                Err(WriteFault) => return Err(ClientFault::NoReply),
+            };
+            let answer = hear(reader, Ask::Row { slot }, &mut self.given)?;
+            self.page.tell(&style, &answer, &mut self.given)?;
         }
         Ok(())
     }

@@ -15,6 +15,11 @@ pub(crate) const MAX_ROWS: u32 = 32_768;
 /// The maximum number of requests of a command: those of `ipcs`, a hello and one for each row.
 pub(crate) const MAX_REQUESTS: u32 = 32_769;
 
+/// The maximum number of rows whose requests are on their way: written, and without a reply. These
+/// requests, or the replies to them, fit in the buffer of a socket, so neither side waits for the
+/// other to read.
+pub(crate) const ROW_WINDOW: u32 = 256;
+
 /// A client's task, with the credentials for it.
 #[derive(Clone, Copy, PartialEq, Eq, Debug)]
 pub struct Command<'a> {
@@ -90,10 +95,24 @@ pub struct Receipt {
     pub nowait: bool,
     /// Whether to shorten a longer body instead of failing.
     pub noerror: bool,
-    /// Whether to show the message's type and a tab before its body.
+    /// Whether to show the message's type and a tab before its body. A JSON object has the type
+    /// anyway.
     pub show_type: bool,
-    /// Whether to show no LF after the body.
-    pub raw: bool,
+    /// The form in which to show the message.
+    pub form: Form,
+}
+
+/// The form in which a `rcv` shows a message.
+#[derive(Clone, Copy, PartialEq, Eq, Debug)]
+pub enum Form {
+    /// The body and an LF.
+    Line,
+    /// The body alone.
+    Raw,
+    /// The body and a zero byte.
+    Zero,
+    /// A JSON object per line and message.
+    Object,
 }
 
 /// The queue that an `ipcrm` removes.

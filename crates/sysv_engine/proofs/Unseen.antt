@@ -11,7 +11,7 @@ use Rattle.sysv_engine.specs.Headline.{ServesConnections}
 use Rattle.sysv_engine.specs.Serving.{LeavesConnections}
 use Rattle.sysv_engine.proofs.Staffed as staffed
 
-module _ {T B : Type 0} (incoming outgoing : T → Option (List ℕ)) (closes : Closing B) {D S : Type 0} (of : D → S)
+module _ {T B : Type 0} (incoming outgoing : T → Option (List ℕ)) (closes : Closing T B) {D S : Type 0} (of : D → S)
     (Keeps : D → D → Type 0) (stays : (d : D) → Keeps d d) (on : (a b c : D) → Keeps a b → Keeps b c → Keeps a c)
     (gives : S → Option T → S → Type 0) where
   abbrev Behind : D → Option T → D → Type 0

@@ -8,6 +8,7 @@ pub mod Stats
 pub mod Tasks
 pub mod Servers
 pub mod Requests
+pub mod Room
 pub mod Ends
 pub mod Scripts
 pub mod Clients

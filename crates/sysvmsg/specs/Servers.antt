@@ -9,7 +9,7 @@ use Rattle.sysvmsg.specs.declared.asked.SocketFile.{SocketFile}
 use Rattle.sysvmsg.specs.declared.asked.TheConstants.{WORKERS, MAX_PATH, MAX_PATH_WITH_MODE}
 use Rattle.sysv_server.specs.declared.serving.TheConstants.{MAX_CLIENTS}
 use Rattle.sysvmsg.specs.Asked.{AreAtOnce, AreBlocks, AreWorkers}
-use Rattle.sysvmsg.specs.Words.{HasFlag, HasMaybe, HasOr, IsMode, word_of}
+use Rattle.sysvmsg.specs.Words.{HasFlag, HasMaybe, HasOr, IsMode, IsTime, word_of}
 
 -- A command with these words asks for this number of blocks.
 abbrev pub AsksForBlocks : List Row → ℕ → Type 0
@@ -79,7 +79,7 @@ MayAskForStats words None = word_of words (codes "stats") ≡ None
 pub record AsksToLook (words : List Row) (looking : Looking) : Type 0 where
   pub path : HasPath words looking.path.now
   pub json : HasFlag words (codes "json") looking.json
-  pub wait : HasMaybe IsNat32 (word_of words (codes "wait")) looking.wait
+  pub wait : HasMaybe IsTime (word_of words (codes "wait")) looking.wait
 
 -- A `serve` with these words is this one.
 pub record AsksToServe (words : List Row) (serving : Serving) : Type 0 where

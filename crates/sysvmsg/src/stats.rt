@@ -5,10 +5,10 @@ ghost use Rattle.sysvmsg.specs.Ends.{SucceedsOnlyIf};
 ghost use Rattle.sysvmsg.specs.Stats.{HasLooked, asked_with};
 
 use crate::asked::Looking;
-use crate::connection::no_server;
 use crate::input::{Unread, read_some};
 use crate::leaver::bound;
 use crate::place::Place;
+use crate::plain::complain;
 use crate::{FAULT, say};
 use std::alloc::Global;
 use std::io::{Eprint, Read, Write};
@@ -30,7 +30,10 @@ pub(crate) fn look_at<P: Place, S: Write>(
 {
     let (mut reader, mut writer) = match place.connect() {
         Ok(ends) => ends,
-        Err(why) => return no_server(rt, looking.path, &why),
+        Err(why) => {
+            complain(rt, looking.path, &why, "");
+            return say(rt, "no server");
+        }
     };
     bound(&reader, looking.wait);
     if writer.write_all(question(looking.json)).is_err() || writer.flush().is_err() {

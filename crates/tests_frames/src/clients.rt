@@ -8,11 +8,13 @@ use std::alloc::Global;
 use std::io;
 use std::io::{ErrorKind, Read, Write};
 use std::process::Abort;
-use sysv_clients::{Command, Format, Receipt, Target, Task, id_of, key_of, run_client, type_of};
+use sysv_clients::{
+    Command, Form, Format, Receipt, Target, Task, id_of, key_of, run_client, type_of,
+};
 use sysv_model::{BODY_ROOM, Cred};
 
 /// The number of bytes that a tape has space for.
-const TAPE_ROOM: usize = 9000;
+const TAPE_ROOM: usize = 50_000;
 
 /// Bytes to read, or bytes that were written.
 #[derive(Drop)]
@@ -205,7 +207,7 @@ const ANY: Receipt = Receipt {
     nowait: false,
     noerror: false,
     show_type: false,
-    raw: false,
+    form: Form::Line,
 };
 
 /// The task to list the queues as a table.
@@ -372,7 +374,7 @@ fn queues_are_listed(rt: HostRuntime) {
         wanted.put(&[slot]);
     }
     assert!(rt; talk.requests.text() == wanted.text());
-    assert_is(&rt, talk.requests.flushed, 65);
+    assert_is(&rt, talk.requests.flushed, 2);
     assert!(rt; talk.screen.text() == joined(&rt, rt.alloc(), &[HEAD, LINE, WIDE_LINE]).text());
 }
 
@@ -387,6 +389,16 @@ fn no_queue_is_listed(rt: HostRuntime) {
     talk.screen.piece = 1;
     assert_is(&rt, talk.run(&rt, rt.alloc(), LIST), 0);
     assert!(rt; talk.screen.text() == HEAD);
+}
+
+/// Returns a tape with a hello and the requests for the rows of this number of slots.
+fn requested_rows(rt: &impl Abort, alloc: Global, slots: u16) -> Tape {
+    let mut tape = joined(rt, alloc, &[HELLO]);
+    for slot in 0..slots {
+        tape.put(b"\0\0\0\x06\x02\x07\0\0");
+        tape.put(&slot.to_be_bytes());
+    }
+    tape
 }
 
 #[test]
@@ -416,7 +428,56 @@ fn a_server_says_that_it_has_the_most_slots(rt: HostRuntime) {
     let mut talk = Talk::new(&rt, rt.alloc(), &[welcome, ROW, VACANT]);
     assert_is(&rt, talk.run(&rt, rt.alloc(), LIST), 1);
     assert!(rt; talk.screen.text() == NO_REPLY);
-    assert_is(&rt, talk.requests.flushed, 4);
+    assert_is(&rt, talk.requests.flushed, 2);
+    let rows = requested_rows(&rt, rt.alloc(), 256);
+    assert!(rt; talk.requests.text() == rows.text());
+}
+
+#[test]
+fn rows_are_requested_in_a_window(rt: HostRuntime) {
+    let table: [(&[u8], u16, usize); 4] = [
+        (b"\0\0\0\x07\x02\0\0\0\0\0\xff", 255, 2),
+        (b"\0\0\0\x07\x02\0\0\0\0\x01\0", 256, 2),
+        (b"\0\0\0\x07\x02\0\0\0\0\x01\x01", 257, 3),
+        (b"\0\0\0\x07\x02\0\0\0\0\x02\x58", 600, 4),
+    ];
+    for (welcome, slots, flushes) in table {
+        let mut talk = Talk::new(&rt, rt.alloc(), &[welcome]);
+        for _ in 0..slots {
+            talk.replies.put(VACANT);
+        }
+        assert_is(&rt, talk.run(&rt, rt.alloc(), LIST), 0);
+        let wanted = requested_rows(&rt, rt.alloc(), slots);
+        assert!(rt; talk.requests.text() == wanted.text(), "{slots}");
+        assert!(rt; talk.screen.text() == HEAD, "{slots}");
+        assert_eq!(rt; talk.requests.flushed, flushes, "{slots}");
+    }
+}
+
+#[test]
+fn the_writer_fails_between_rows(rt: HostRuntime) {
+    let all = requested_rows(&rt, rt.alloc(), 64);
+    for room in 18..all.len() {
+        let mut talk = Talk::new(&rt, rt.alloc(), &[WELCOME, ROW, VACANT]);
+        talk.requests.good = room;
+        assert_eq!(rt; talk.run(&rt, rt.alloc(), LIST), 1, "{room}");
+        assert!(rt; talk.screen.text() == NO_REPLY, "{room}");
+        assert!(rt;
+            Some(talk.requests.text()) == all.text().get(..room),
+            "{room}"
+        );
+        assert_eq!(rt; talk.replies.read, WELCOME.len(), "{room}");
+    }
+}
+
+#[test]
+fn a_row_is_refused_with_others_on_their_way(rt: HostRuntime) {
+    let refusal = b"\0\0\0\x03\x02\x07\x0d";
+    let mut talk = Talk::new(&rt, rt.alloc(), &[WELCOME, ROW, refusal, VACANT]);
+    assert_is(&rt, talk.run(&rt, rt.alloc(), LIST), 1);
+    assert!(rt; talk.screen.text() == b"sysvmsg: EACCES\n".as_slice());
+    let all = requested_rows(&rt, rt.alloc(), 64);
+    assert!(rt; talk.requests.text() == all.text());
 }
 
 #[test]
