@@ -21,6 +21,8 @@ pub(crate) struct Leaver<R> {
     is_leaving: bool,
     /// Whether the session ended after that.
     has_left: bool,
+    /// Whether the session ended after that, perhaps after further replies.
+    has_ended: bool,
 }
 
 impl<R: Leave> Leaver<R> {
@@ -35,12 +37,19 @@ impl<R: Leave> Leaver<R> {
             is_served: false,
             is_leaving: false,
             has_left: false,
+            has_ended: false,
         }
     }
 
     /// Returns whether the call was left and the session then ended without a reply.
     pub(crate) fn has_left(&self) -> bool {
         self.has_left
+    }
+
+    /// Returns whether the call was left, and the session then ended, perhaps after further replies.
+    /// No call without a reply had an effect then.
+    pub(crate) fn has_ended(&self) -> bool {
+        self.has_ended
     }
 
     /// Returns whether the time was over and the last call had no effect: it was left and the
@@ -76,6 +85,7 @@ impl<R: Leave> Read for Leaver<R> {
             Err(why) if why.kind() == ErrorKind::WouldBlock && !self.is_leaving => why,
             outcome => {
                 self.is_served |= outcome.is_ok();
+                self.has_ended |= self.is_leaving && matches!(outcome, Ok(0));
                 return outcome;
             }
         };
@@ -87,6 +97,7 @@ impl<R: Leave> Read for Leaver<R> {
         }
         let outcome = self.reader.read(buf);
         self.has_left = matches!(outcome, Ok(0));
+        self.has_ended = self.has_left;
         outcome
     }
 }
