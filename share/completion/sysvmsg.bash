@@ -8,7 +8,7 @@ _sysvmsg_commands="serve snd rcv ipcs ipcrm ipcmk script"
 
 # Prints the options of a command, or the commands if the word is not a command.
 _sysvmsg_words() {
-    local credentials="--me --uid --gid --pid"
+    local credentials="--stderr --me --uid --gid --pid"
     case $1 in
     script) echo "--help --version" ;;
     serve) echo "$_sysvmsg_server --until-eof --help --version" ;;
@@ -18,7 +18,7 @@ _sysvmsg_words() {
     snd) echo "--stdin --lines --type --nowait --wait $credentials --help --version" ;;
     rcv)
         echo "--type --upto --except --size --nowait --noerror --wait --count --ahead --follow --show-type --raw --create --mode"
-        echo "$credentials --help --version"
+        echo "--zero --json $credentials --help --version"
         ;;
     help) echo "$_sysvmsg_commands" ;;
     *) echo "$_sysvmsg_commands help --help --version" ;;

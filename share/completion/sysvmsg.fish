@@ -39,6 +39,7 @@ complete -c sysvmsg -n '__sysvmsg_is help' -f
 complete -c sysvmsg -n '__sysvmsg_is help; and __sysvmsg_has_words 2' -a 'serve snd rcv ipcs ipcrm ipcmk script'
 
 set -l clients -c sysvmsg -n '__sysvmsg_is snd rcv ipcs ipcrm ipcmk'
+complete $clients -l stderr -d 'Print errors on standard error'
 complete $clients -l me -d 'By default your own IDs'
 complete $clients -l uid -x -d "The caller's user ID"
 complete $clients -l gid -x -d "The caller's group ID"
@@ -78,6 +79,8 @@ complete $rcv -l ahead -x -d 'Request up to this number of messages before they 
 complete $rcv -l follow -d 'Receive messages until it is ended'
 complete $rcv -l show-type -d 'Print the type before the body'
 complete $rcv -l raw -d 'Print no newline after the body'
+complete $rcv -s 0 -l zero -d 'End the body with a zero byte'
+complete $rcv -l json -d 'Print a JSON object with the type and the body'
 complete $rcv -l create -d 'Create the queue if there is none'
 complete $rcv -l mode -x -d 'The mode of a queue that is created'
 complete $rcv -l size -x -d 'The largest body to accept'

@@ -8,3 +8,4 @@ pub mod SendLemmas
 pub mod ClearLemmas
 mod RefusalLemmas
 mod LineLemmas
+mod ObjectLemmas

@@ -36,7 +36,7 @@ use Rattle.sysv_wire.specs.Requests.{op_of, request_spelling}
 -- The maximum number of bytes that are collected of this number of exchanges. A message is in the
 -- third exchange at the earliest.
 abbrev pub page_most : ℕ → ℕ
-page_most place = 55 + 256 * place + cond (ltb 2 place) 8214 0
+page_most place = 55 + 256 * place + cond (ltb 2 place) 49200 0
 
 -- This number of exchanges was made, and this page was collected of them.
 pub record Talking (command : Command) (left rest taken more : Option (List ℕ)) (page : List ℕ) (place slots : ℕ)
@@ -328,7 +328,7 @@ answers_receive (asks.Row slot) mtype fits = absurd (omega (arith, fits))
 -- The maximum number of bytes that a result adds, by the number of exchanges before it.
 most_at : (place : ℕ) (ask : Ask) (answer : ReplyContent) → IsAnswer Two (op_number (op_of ask)) answer
     → (is_receive ask ≡ true → place ≡ 2)
-    → (answer_most answer ≤ 256) ⊎ ((answer_most answer ≡ 8214) × (place ≡ 2))
+    → (answer_most answer ≤ 256) ⊎ ((answer_most answer ≡ 49200) × (place ≡ 2))
 most_at place ask (content.Rcv mtype) fits third = inr (refl, third (answers_receive ask mtype fits))
 most_at place ask (content.Row row) fits third = inl (omega arith)
 most_at place ask (content.Refused error) fits third = inl (omega arith)
@@ -360,7 +360,7 @@ third_one place ask content.Rm fits third gives = absurd cc
 -- There is space for a message.
 pub has_room : (place : ℕ) (ask : Ask) (answer : ReplyContent) (given : List ℕ) (held : ℕ) → IsDone ask answer given
     → (is_receive ask ≡ true → place ≡ 2) → held ≤ page_most place → gives_text answer ≡ true
-    → held + 8192 + 22 ≤ 8781
+    → held + 6 * 8192 + 48 ≤ 49767
 has_room place ask answer given held done third room gives =
     let at : held ≤ page_most 2 =
     subst (λ (n : ℕ). held ≤ page_most n) (third_one place ask answer done.fits.0 third gives) room in

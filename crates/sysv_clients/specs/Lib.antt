@@ -6,6 +6,7 @@ pub mod Rows
 pub mod Faults
 pub mod Table
 pub mod Queue
+pub mod Object
 pub mod Page
 pub mod Run
 pub mod Words

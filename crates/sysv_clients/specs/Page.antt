@@ -1,12 +1,15 @@
 -- What a client shows (this project's programs): the table of `ipcs` or its JSON objects, the
 -- attributes of a queue, an identifier, or the message of `rcv`.
-use Rattle.std.specs.Prelude.{ℕ, ℤ, List, [], ◌∷◌, ◌++◌, None, Some, flat_map, if◌then◌else◌, take}
+use Rattle.std.specs.Prelude.{ℕ, ℤ, Bool, List, [], ◌∷◌, ◌++◌, None, Some, flat_map, if◌then◌else◌, take}
 use Rattle.std.specs.Fmt.{signed_decimal}
+use Rattle.sysv_clients.specs.declared.command.Form.{Form}
+use Rattle.sysv_clients.specs.declared.command.Form.TheVariants.{Line, Raw, Zero, Object}
 use Rattle.sysv_clients.specs.declared.command.Format.TheVariants.{Table as AsTable, Json}
 use Rattle.sysv_clients.specs.declared.command.Task.{Task}
 use Rattle.sysv_clients.specs.declared.command.Task.TheVariants.{List as Table, Show, Remove, Make, Send, Receive}
 use Rattle.sysv_clients.specs.declared.line.TheConstants.{MAX_LINE}
 use Rattle.sysv_clients.specs.declared.style.Style.{Style}
+use Rattle.sysv_clients.specs.Object.{object_line}
 use Rattle.sysv_clients.specs.Queue.{id_line, json_line, stat_lines}
 use Rattle.sysv_clients.specs.Style.{style_of}
 use Rattle.sysv_clients.specs.Table.{row_line, table_head}
@@ -24,12 +27,20 @@ row_text style row = if style.json then json_line row else row_line row
 abbrev pub type_text : ℤ → List ℕ
 type_text mtype = signed_decimal mtype ++ 9 ∷ []
 
--- A message: its type and a tab if they are wanted, no more bytes of its body than the size that was
--- requested, and an LF unless the message is to be raw.
+-- A body with what comes before and after it: its type and a tab if they are wanted, and this end.
+abbrev pub body_text : Bool → ℤ → (body end : List ℕ) → List ℕ
+body_text shows mtype body end = (if shows then type_text mtype else []) ++ (body ++ end)
+
+-- A body in a form: with an LF, without one, with a zero byte, or as a JSON object.
+abbrev pub text_in : Form → Bool → ℤ → List ℕ → List ℕ
+text_in Line shows mtype body = body_text shows mtype body (10 ∷ [])
+text_in Raw shows mtype body = body_text shows mtype body []
+text_in Zero shows mtype body = body_text shows mtype body (0 ∷ [])
+text_in Object shows mtype body = object_line mtype body
+
+-- A message: no more bytes of its body than the size that was requested, in the form that was.
 abbrev pub message_text : Style → ℤ → List ℕ → List ℕ
-message_text style mtype given =
-    (if style.shows_type then type_text mtype else [])
-    ++ (take style.size given ++ (if style.raw then [] else 10 ∷ []))
+message_text style mtype given = text_in style.form style.shows_type mtype (take style.size given)
 
 -- What a result adds to what is shown: the lines of a queue, or a message.
 abbrev pub answer_text : Style → ReplyContent → List ℕ → List ℕ
@@ -65,7 +76,7 @@ page_text task exchanges = task_head task ++ answers_text (style_of task) exchan
 
 -- The maximum number of bytes that a result adds.
 abbrev pub answer_most : ReplyContent → ℕ
-answer_most (Rcv mtype) = 8214
+answer_most (Rcv mtype) = 49200
 answer_most (Row row) = MAX_LINE
 answer_most (Refused error) = MAX_LINE
 answer_most Hello = MAX_LINE

@@ -1,5 +1,6 @@
 -- How a command shows the results of its requests (this project's programs).
 use Rattle.std.specs.Prelude.{Bool, true, false, None, Some}
+use Rattle.sysv_clients.specs.declared.command.Form.TheVariants.{Line}
 use Rattle.sysv_clients.specs.declared.command.Format.TheVariants.{Table as AsTable, Json}
 use Rattle.sysv_clients.specs.declared.command.Receipt.{Receipt}
 use Rattle.sysv_clients.specs.declared.command.Task.{Task}
@@ -10,7 +11,7 @@ use Rattle.sysv_wire.specs.declared.reply.ReplyContent.TheVariants as content
 
 -- The style of the table.
 abbrev pub plain : Style
-plain = record { json = false; shows_id = false; shows_type = false; raw = false; size = 0 }
+plain = record { json = false; shows_id = false; shows_type = false; form = Line; size = 0 }
 
 -- The style of a rcv.
 abbrev pub style_of_receipt : Receipt → Style
@@ -18,17 +19,17 @@ style_of_receipt receipt = record {
   json = false;
   shows_id = false;
   shows_type = receipt.show_type;
-  raw = receipt.raw;
+  form = receipt.form;
   size = receipt.size;
 }
 
 -- The style of a task: ipcs may show JSON, ipcmk shows an identifier.
 abbrev pub style_of : Task → Style
 style_of (Table AsTable) = plain
-style_of (Table Json) = record { json = true; shows_id = false; shows_type = false; raw = false; size = 0 }
+style_of (Table Json) = record { json = true; shows_id = false; shows_type = false; form = Line; size = 0 }
 style_of (Show id) = plain
 style_of (Remove target) = plain
-style_of (Make making) = record { json = false; shows_id = true; shows_type = false; raw = false; size = 0 }
+style_of (Make making) = record { json = false; shows_id = true; shows_type = false; form = Line; size = 0 }
 style_of (Send key text mtype nowait) = plain
 style_of (Receive receipt) = style_of_receipt receipt
 

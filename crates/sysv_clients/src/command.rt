@@ -95,10 +95,24 @@ pub struct Receipt {
     pub nowait: bool,
     /// Whether to shorten a longer body instead of failing.
     pub noerror: bool,
-    /// Whether to show the message's type and a tab before its body.
+    /// Whether to show the message's type and a tab before its body. A JSON object has the type
+    /// anyway.
     pub show_type: bool,
-    /// Whether to show no LF after the body.
-    pub raw: bool,
+    /// The form in which to show the message.
+    pub form: Form,
+}
+
+/// The form in which a `rcv` shows a message.
+#[derive(Clone, Copy, PartialEq, Eq, Debug)]
+pub enum Form {
+    /// The body and an LF.
+    Line,
+    /// The body alone.
+    Raw,
+    /// The body and a zero byte.
+    Zero,
+    /// A JSON object per line and message.
+    Object,
 }
 
 /// The queue that an `ipcrm` removes.

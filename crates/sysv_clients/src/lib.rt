@@ -11,6 +11,7 @@ mod feed;
 mod laws;
 mod line;
 mod lines;
+mod object;
 mod page;
 mod rows;
 mod screen;
@@ -21,7 +22,7 @@ mod words;
 
 pub use clearing::{Refusal, remove_all};
 pub use client::{run_client, run_client_watched};
-pub use command::{Command, Format, Making, Receipt, Target, Task};
+pub use command::{Command, Form, Format, Making, Receipt, Target, Task};
 pub use fault::ClientFault;
 pub use feed::Feed;
 pub use laws::numerals_of_commands;

@@ -283,7 +283,7 @@ fn octal_digits(mode: u16) -> [u8; 3]
 }
 
 /// Returns the hexadecimal digit of a number below 16.
-fn hex_digit(number: u8) -> u8
+pub(crate) fn hex_digit(number: u8) -> u8
     requires { number < 16 }
     ensures { result ≡ glyph number }
 {

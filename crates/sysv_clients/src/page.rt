@@ -1,13 +1,14 @@
 //! What a client collects to show. Space for a message is reserved from the start; rows allocate
 //! more as they arrive.
-ghost use Rattle.std.specs.Prelude.{◌≡◌, ◌+◌, ◌≤◌, [], ◌∷◌, ◌++◌, ℕ, length, take, true, IfOk, OnOk, OnErr};
-ghost use Rattle.sysv_clients.specs.Page.{answer_most, answer_text, message_text, row_text, type_text};
+ghost use Rattle.std.specs.Prelude.{◌≡◌, ◌+◌, ◌*◌, ◌≤◌, [], ◌∷◌, ◌++◌, ℕ, length, take, true, IfOk, OnOk, OnErr};
+ghost use Rattle.sysv_clients.specs.Page.{answer_most, answer_text, body_text, message_text, row_text, type_text};
 ghost use Rattle.sysv_clients.specs.Queue.{id_line, stat_lines};
 ghost use Rattle.sysv_clients.specs.Style.{grows};
 ghost use Rattle.sysv_clients.specs.Table.{table_head};
 ghost use Rattle.sysv_model.specs.declared.limits.TheConstants.{MESSAGE_BYTES};
 ghost use Rattle.sysv_wire.specs.Replies.{gives_text};
 
+use crate::command::Form;
 use crate::line::{Line, MAX_LINE};
 use crate::style::Style;
 use itoa::Buffer;
@@ -16,9 +17,9 @@ use std::marker::Model;
 use sysv_model::{BLOCK_BYTES, Body, NoMemory, Row, Stat};
 use sysv_wire::ReplyContent;
 
-/// The number of bytes that a page has space for from the start: a message of the maximum size with
-/// its type, its tab and its LF, and 567 bytes before it.
-pub(crate) const PAGE_ROOM: usize = 8_781;
+/// The number of bytes that a page has space for from the start: a message of the maximum size as a
+/// JSON object, in which each byte of its body may take six, and 567 bytes before it.
+pub(crate) const PAGE_ROOM: usize = 49_767;
 
 /// What a client collects to show.
 #[derive(Drop)]
@@ -56,7 +57,7 @@ impl Page {
     }
 
     /// Appends bytes that fit in the space reserved from the start.
-    fn put(&mut self, piece: &[u8])
+    pub(crate) fn put(&mut self, piece: &[u8])
         requires { length self.old + length piece.now ≤ PAGE_ROOM }
         ensures after { self.new ≡ self.old ++ piece.now }
         ensures len { length self.new ≡ length self.old + length piece.now }
@@ -105,7 +106,7 @@ impl Page {
     ) -> Result<(), NoMemory>
         requires text { length given.old ≤ MESSAGE_BYTES }
         requires room { gives_text answer.now ≡ true →
-            length self.old + MESSAGE_BYTES + 22 ≤ PAGE_ROOM }
+            length self.old + 6 * MESSAGE_BYTES + 48 ≤ PAGE_ROOM }
         ensures after { OnOk result (self.new
             ≡ self.old ++ answer_text style.now answer.now given.old) }
         ensures len { OnOk result (length self.new ≤ length self.old + answer_most answer.now) }
@@ -160,20 +161,48 @@ impl Page {
 
 impl Page {
     /// Appends a message, and shortens `text` to the bytes of it that are shown.
-    #[tactic(auto, using(std::proofs::Common::append_assoc))]
     pub(crate) fn message(&mut self, style: &Style, mtype: i64, text: &mut Body)
-        requires { length self.old + length text.old + 22 ≤ PAGE_ROOM }
+        requires most { length text.old ≤ MESSAGE_BYTES }
+        requires room { length self.old + 6 * length text.old + 48 ≤ PAGE_ROOM }
         ensures after { self.new ≡ self.old ++ message_text style.now mtype text.old }
-        ensures len { length self.new ≤ length self.old + length text.old + 22 }
+        ensures len { length self.new ≤ length self.old + 6 * length text.old + 48 }
     {
         text.truncate(style.size as usize);
-        if style.shows_type {
+        match style.form {
+            Form::Line => self.plain(style.shows_type, mtype, text, b"\n"),
+            Form::Raw => self.plain(style.shows_type, mtype, text, b""),
+            Form::Zero => self.plain(style.shows_type, mtype, text, b"\0"),
+            Form::Object => self.message_object(mtype, text),
+        }
+    }
+
+    /// Appends a body and this end, and the type and a tab before them if they are wanted.
+    #[tactic(auto, using(std::proofs::Common::append_assoc))]
+    fn plain(&mut self, shows_type: bool, mtype: i64, text: &Body, end: &[u8])
+        requires { length self.old + length text.now + length end.now + 21 ≤ PAGE_ROOM }
+        ensures after { self.new ≡ self.old ++ body_text shows_type mtype text.now end.now }
+        ensures len { length self.new
+            ≤ length self.old + length text.now + length end.now + 21 }
+    {
+        if shows_type {
             self.mtype(mtype);
         }
         self.body(text);
-        if !style.raw {
-            self.put(b"\n");
-        }
+        self.put(end);
+    }
+
+    /// Copies a body to the start of `whole`. The page is the same afterwards.
+    pub(crate) fn copy(&mut self, text: &Body, whole: &mut [u8])
+        requires room { length self.old + length text.now ≤ PAGE_ROOM }
+        requires fits { length text.now ≤ length whole.old }
+        ensures same { self.new ≡ self.old }
+        ensures copied { take (length text.now) whole.new ≡ text.now }
+        ensures len { length whole.new ≡ length whole.old }
+    {
+        let start = self.bytes.len();
+        self.body(text);
+        whole[..text.len()].copy_from_slice(&self.bytes[start..]);
+        self.bytes.truncate(start);
     }
 
     /// Appends a message's type and a tab.

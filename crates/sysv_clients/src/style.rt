@@ -2,7 +2,7 @@
 ghost use Rattle.std.specs.Prelude.{◌≡◌};
 ghost use Rattle.sysv_clients.specs.Style.{style_of, style_of_receipt};
 
-use crate::command::{Format, Receipt, Task};
+use crate::command::{Form, Format, Receipt, Task};
 
 /// How a command shows the results of its requests.
 #[derive(Clone, Copy)]
@@ -13,8 +13,8 @@ pub(crate) struct Style {
     pub(crate) shows_id: bool,
     /// Whether a message's type and a tab are shown before its body.
     pub(crate) shows_type: bool,
-    /// Whether no LF is shown after a message's body.
-    pub(crate) raw: bool,
+    /// The form in which a message is shown.
+    pub(crate) form: Form,
     /// The maximum number of bytes of a message's body that are shown.
     pub(crate) size: u32,
 }
@@ -24,7 +24,7 @@ const PLAIN: Style = Style {
     json: false,
     shows_id: false,
     shows_type: false,
-    raw: false,
+    form: Form::Line,
     size: 0,
 };
 
@@ -53,7 +53,7 @@ impl Style {
     {
         Style {
             shows_type: receipt.show_type,
-            raw: receipt.raw,
+            form: receipt.form,
             size: receipt.size,
             ..PLAIN
         }

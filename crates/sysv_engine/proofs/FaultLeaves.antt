@@ -12,7 +12,7 @@ use Rattle.sysv_engine.specs.Handled.{Shift}
 use Rattle.sysv_engine.specs.Serving.{FaultOf, LeavesBooks, LeavesConnections, LeavesUnused}
 use Rattle.sysv_seats.specs.Untold.{Closing}
 
-module _ {T B : Type 0} (incoming outgoing : T → Option (List ℕ)) (closes : Closing B) {S : Type 0}
+module _ {T B : Type 0} (incoming outgoing : T → Option (List ℕ)) (closes : Closing T B) {S : Type 0}
     (gives : S → Option T → S → Type 0) (source source' : S) (books books' : List B) where
   module _ (Ran : Gates → List Shift → Type 0) {W : Type 0} (runs : W → T → W → Type 0) (states after : List W)
       (same : after ≡ states → books' ≡ books)

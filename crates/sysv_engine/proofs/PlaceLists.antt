@@ -1,10 +1,13 @@
 -- What the places of a worker have had, after one of them changed.
 use Rattle.std.proofs.Common.{◌≡◌, ℕ, List, [], ◌∷◌, ◌<◌, slice_set, slice_index_or, length, suc, zero, Option, subst}
-use Rattle.std.proofs.Common.{sym, refl, ap, arith}
+use Rattle.std.proofs.Common.{sym, refl, ap, arith, None, Some, true, not}
+use Rattle.std.specs.Prelude.{is_some}
+use Rattle.std.specs.List.{All, list_all}
+use Rattle.std.proofs.lemmas.List.Sums.{AllPass-from_list_all}
 use Rattle.sysv_bank.specs.Banks.{Each2}
 use Rattle.sysv_seats.specs.Untold.{Closing}
 use Rattle.sysv_engine.specs.Places.{Adopts, AdoptsOne, KeepsAll, KeepsPlace, Seated, Standing, Stands, TakesIn}
-use Rattle.sysv_engine.specs.Places.{with_one}
+use Rattle.sysv_engine.specs.Places.{is_vacant, with_one}
 
 module _ {A B : Type 0} (R : A → B → Type 0) where
   -- One of them changed, and keeps what it was.
@@ -43,7 +46,17 @@ module _ {V T P : Type 0} (R : Standing V T → P → Type 0) (connection : T) w
         (each.0, rest.2),
       )
 
-module _ {T B : Type 0} (incoming outgoing : T → Option (List ℕ)) (closes : Closing B) where
+none_of : {A : Type 0} (held : Option A) → not (is_some held) ≡ true → held ≡ None
+none_of None none = refl
+none_of (Some held) none = absurd (cc none)
+
+-- There is no client in any of the places.
+pub all_vacant : {B T : Type 0} (places : List (Seated B T)) → list_all is_vacant places ≡ true →
+    All (λ (p : Seated B T). p.client ≡ None) places
+all_vacant {B} {T} places none = λ k d low.
+    none_of (slice_index_or places k d).client (AllPass-from_list_all is_vacant places none k d low)
+
+module _ {T B : Type 0} (incoming outgoing : T → Option (List ℕ)) (closes : Closing T B) where
   -- One of the places changed, and keeps what it was.
   pub keeps_at : (places : List (Seated B T)) (i : ℕ) (old new : Seated B T) → old ≡ slice_index_or places i old →
       KeepsPlace incoming outgoing closes old new →

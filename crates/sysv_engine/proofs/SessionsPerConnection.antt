@@ -20,7 +20,7 @@ each2_length P (x ∷ xs) (y ∷ ys) each = ap suc (each2_length P xs ys each.1)
 both_lengths : (a b c d m n : ℕ) → a ≡ b → c ≡ d → m ≡ a + c → n ≡ b + d → m ≡ n
 both_lengths a b c d m n p q r s = omega arith
 
-module _ {T B : Type 0} (incoming outgoing : T → Option (List ℕ)) (closes : Closing B) where
+module _ {T B : Type 0} (incoming outgoing : T → Option (List ℕ)) (closes : Closing T B) where
   pub sat_each : (desks : List (Desk T B)) (shifts : List Shift) → Each2 (Sat incoming outgoing closes) desks shifts →
       length (told_in shifts) ≡ length (all_connections desks)
   sat_each [] [] sat = refl

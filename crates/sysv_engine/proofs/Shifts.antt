@@ -69,7 +69,7 @@ unpopped books book rest = append_assoc books (book ∷ []) rest
 pub reverse_last : {X : Type 0} (xs : List X) (x : X) → reverse (xs ++ x ∷ []) ≡ x ∷ reverse xs
 reverse_last xs x = reverse-append xs (x ∷ [])
 
-module _ {W T B : Type 0} (incoming outgoing : T → Option (List ℕ)) (closes : Closing B) (pass : W → Pass)
+module _ {W T B : Type 0} (incoming outgoing : T → Option (List ℕ)) (closes : Closing T B) (pass : W → Pass)
     (sums : W → Sums) (refused : W → ℕ) (book : W → B) where
   abbrev pub Runs : W → T → W → Type 0
   Runs old item new = Handles incoming outgoing closes item (pass old) (sums old) (refused old) (book old) (pass new)
@@ -79,7 +79,7 @@ module _ {W T B : Type 0} (incoming outgoing : T → Option (List ℕ)) (closes 
   record Tells (xs : List (Option Served)) (w w' : W) (items : List T) : Type 0 where
     talks : List Talk
     folds : FoldsTo Talks (pass w) talks (pass w')
-    on : Each2 (IsOn incoming outgoing) items talks
+    on : Each2 (IsOn incoming outgoing closes) items talks
     closed : FoldsTo (Closes closes) (book w) talks (book w')
     adds : sums w' ≡ sums_of (xs ++ reports_of talks)
     counts : refused w' ≡ refused_of (xs ++ reports_of talks)

@@ -13,13 +13,12 @@ use Rattle.sysv_workers.specs.Running.{GivesBack, LeavesSource, RunsAll}
 use Rattle.sysv_workers.specs.declared.refusals.WorkersFault.{WorkersFault}
 use Rattle.sysv_workers.specs.declared.refusals.WorkersFault.TheVariants.{BadCount, NoMemory, Thread, Worn, Missed}
 use Rattle.sysv_workers.specs.Sources.{Gave, GivesAll, Returned}
-use Rattle.sysv_seats.specs.Sits.{Sits}
 use Rattle.sysv_seats.specs.Untold.{Closing}
 use Rattle.sysv_engine.specs.declared.fault.ServeFault.{ServeFault}
 use Rattle.sysv_engine.specs.declared.sums.Sums.{Sums}
 use Rattle.sysv_engine.specs.Added.{all_added, capped}
 use Rattle.sysv_engine.specs.Places.{Handled, IsOpened, IsPlace, IsStaffed, KeepsAll, Seated, Standing, Stands, View}
-use Rattle.sysv_engine.specs.Places.{view_of}
+use Rattle.sysv_engine.specs.Places.{SitsOn, view_of}
 use Rattle.sysv_engine.specs.Serving.{FaultOf, HiredFrom, IsNew, LeavesConnections, WorkedFrom}
 use Rattle.sysv_engine.proofs.PlacesRun as run
 use Rattle.sysv_engine.proofs.Reversed.{all_reverse, back_reverse, map_reverse, runs_reverse}
@@ -60,7 +59,7 @@ module _ {X : Type 0} (P : X → Type 0) where
   later_all [] ys all = all
   later_all (x ∷ xs) ys all = later_all xs ys (All-tail P x (xs ++ ys) all)
 
-module _ {T B : Type 0} (incoming outgoing : T → Option (List ℕ)) (closes : Closing B) (gates : Gates) where
+module _ {T B : Type 0} (incoming outgoing : T → Option (List ℕ)) (closes : Closing T B) (gates : Gates) where
   abbrev St : Standing (View B) T → Seated B T → Type 0
   St = Stands incoming outgoing closes gates
 
@@ -76,7 +75,8 @@ module _ {T B : Type 0} (incoming outgoing : T → Option (List ℕ)) (closes : 
   opened_stands p is = (
     is.0,
     subst (λ c.
-        IsPlace incoming outgoing closes (Sits incoming outgoing) (record { start = view_of p; had = [] }) (view_of p)
+        IsPlace incoming outgoing closes (SitsOn incoming outgoing closes) (record { start = view_of p; had = [] })
+        (view_of p)
         c) (sym is.2)
         refl,
   )
@@ -99,7 +99,7 @@ module _ {T B : Type 0} (incoming outgoing : T → Option (List ℕ)) (closes : 
   vacant_over [] (p ∷ ps) each all = absurd each
   vacant_over (s ∷ ss) [] each all = absurd each
   vacant_over (s ∷ ss) (p ∷ ps) each all = (
-    subst (λ c. IsPlace incoming outgoing closes (Sits incoming outgoing) s (view_of p) c)
+    subst (λ c. IsPlace incoming outgoing closes (SitsOn incoming outgoing closes) s (view_of p) c)
         (All-head (λ (p : Seated B T). p.client ≡ None) p ps all) each.0.1,
     vacant_over ss ps each.1 (All-tail (λ (p : Seated B T). p.client ≡ None) p ps all),
   )

@@ -31,12 +31,12 @@ module _ {T B : Type 0} where
   abbrev pub last_books : List (Desk T B) → List B
   last_books desks = reverse (map (λ (desk : Desk T B). desk.last) desks)
 
-module _ {T B : Type 0} (incoming outgoing : T → Option (List ℕ)) (closes : Closing B) where
+module _ {T B : Type 0} (incoming outgoing : T → Option (List ℕ)) (closes : Closing T B) where
   -- The place of this desk worked this shift: it had one session on each of its connections, in
   -- order, and closed each connection with what its session left.
   abbrev pub Sat : Desk T B → Shift → Type 0
   Sat desk shift =
-      Each2 (IsOn incoming outgoing) desk.connections shift.talks
+      Each2 (IsOn incoming outgoing closes) desk.connections shift.talks
       × FoldsTo (Closes closes) desk.first shift.talks desk.last
 
   -- The places of these desks worked these shifts at the gates. There was one place for each book.

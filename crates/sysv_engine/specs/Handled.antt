@@ -54,14 +54,14 @@ refused_of told = capped (sum_by one_refused told)
 abbrev pub cut_off_of : List (Option Served) → ℕ
 cut_off_of told = sum_by one_cut_off told
 
-module _ {T B : Type 0} (incoming outgoing : T → Option (List ℕ)) (closes : Closing B) where
+module _ {T B : Type 0} (incoming outgoing : T → Option (List ℕ)) (closes : Closing T B) where
   -- One session with this report was held on the connection, which was then closed.
   pub record Holds (connection : T) (before : Pass) (book : B) (told : Option Served) (after : Pass)
       (book' : B) : Type 0 where
     pub talk : Talk
     pub reports : talk.told ≡ told
     pub talks : Talks before talk after
-    pub on : IsOn incoming outgoing connection talk
+    pub on : IsOn incoming outgoing closes connection talk
     pub closed : Closes closes book talk book'
 
   -- One more session was held, on this connection, and it was added to the sums.

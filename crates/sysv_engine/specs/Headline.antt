@@ -22,7 +22,7 @@ use Rattle.sysv_engine.specs.Handled.{Shift, cut_off_of, sums_of, refused_of, to
 use Rattle.sysv_engine.specs.OneRun.{Lived}
 use Rattle.sysv_seats.specs.Untold.{Closing}
 
-pub record ServesConnections {S T B : Type 0} (incoming outgoing : T → Option (List ℕ)) (closes : Closing B)
+pub record ServesConnections {S T B : Type 0} (incoming outgoing : T → Option (List ℕ)) (closes : Closing T B)
     (gives : S → Option T → S → Type 0) (blocks : ℕ) (source : S) (books : List B) (ended : Ended) (source' : S)
     (books' : List B) : Type 0 where
   -- The source returned these connections, one after the other, and then reported its end.
@@ -39,9 +39,10 @@ pub record ServesConnections {S T B : Type 0} (incoming outgoing : T → Option 
   pub gates : Gates
   pub opened : AreOpen 0 blocks 0 gates
   -- Each place had one session on each of its connections, in order: the session began with what the
-  -- connection had to be read and with what was written to it. The connection was closed with what it
-  -- had taken of the replies then, and with what the session left to be read, except for what was
-  -- read ahead.
+  -- connection had to be read and with what was written to it. It ended with `Fault(Read)`, `Write` or
+  -- `Left` only if that may break off reading from the connection or writing to it. The connection was
+  -- closed with what it had taken of the replies then, and with what the session left to be read, except
+  -- for what was read ahead.
   pub shifts : List Shift
   pub crewed : Crewed incoming outgoing closes gates books desks shifts books'
   -- The sums are those of all sessions, and so is the number of sessions whose memory was refused.

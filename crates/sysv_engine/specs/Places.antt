@@ -1,6 +1,7 @@
 -- The places of a worker (this project's profile). A worker of a server has several places, each
 -- with a pass of its own. A place has one client after another.
-use Rattle.std.specs.Prelude.{◌≡◌, ℕ, List, [], ◌∷◌, ◌++◌, ◌≤◌, length, Option, None, Some}
+use Rattle.std.specs.Prelude.{◌≡◌, ℕ, List, [], ◌∷◌, ◌++◌, ◌<◌, ◌≤◌, length, Option, None, Some}
+use Rattle.std.specs.Prelude.{Bool, is_some, not, slice_index_or}
 use Rattle.std.specs.List.{FoldsTo}
 use Rattle.sysv_bank.specs.Banks.{Each2}
 use Rattle.sysv_service.specs.Ran.{Pass}
@@ -51,7 +52,7 @@ pub record View (B : Type 0) : Type 0 where
 abbrev pub with_pass : {B : Type 0} → Pass → View B → View B
 with_pass pass view = record { pass = pass; sums = view.sums; refused = view.refused; book = view.book }
 
-module _ {T B : Type 0} (incoming outgoing : T → Option (List ℕ)) (closes : Closing B) where
+module _ {T B : Type 0} (incoming outgoing : T → Option (List ℕ)) (closes : Closing T B) where
   -- The place had one more session, on this connection.
   abbrev pub Handled : View B → T → View B → Type 0
   Handled old connection new = Handles incoming outgoing closes connection old.pass old.sums old.refused old.book
@@ -91,11 +92,17 @@ taken_by client place = record {
   client = Some client;
 }
 
-module _ {T B : Type 0} (incoming outgoing : T → Option (List ℕ)) (closes : Closing B) where
+module _ {T B : Type 0} (incoming outgoing : T → Option (List ℕ)) (closes : Closing T B) where
+  -- The client's session began with the pass `start`, on the connection `origin`. What may break it
+  -- off is what it was then.
+  abbrev pub SitsOn : Pass → T → Sitting T → Pass → Type 0
+  SitsOn start origin client now =
+      Sits incoming outgoing start origin client now × (closes.breaks client.connection ≡ closes.breaks origin)
+
   -- The place is one of a service with these gates, and is what it has to be after what it has had.
   abbrev pub Stands : Gates → Standing (View B) T → Seated B T → Type 0
   Stands gates standing place = (place.gates ≡ gates)
-      × IsPlace incoming outgoing closes (Sits incoming outgoing) standing (view_of place) place.client
+      × IsPlace incoming outgoing closes SitsOn standing (view_of place) place.client
 
   -- Whatever the place has had, it has had the same now.
   abbrev pub KeepsPlace : (old new : Seated B T) → Type 0
@@ -125,6 +132,15 @@ module _ {T B : Type 0} (incoming outgoing : T → Option (List ℕ)) (closes : 
   -- A worker adopted the connection and served its clients, which led to these places.
   abbrev pub AdoptsAt : Gates → T → (old new : List (Seated B T)) → Type 0
   AdoptsAt gates connection old new = Serves (Stands gates) old connection new
+
+-- The place has no client.
+abbrev pub is_vacant : {B T : Type 0} → Seated B T → Bool
+is_vacant place = not (is_some place.client)
+
+-- There is a place of this number, and it has no client.
+abbrev pub IsVacantAt : {B T : Type 0} → ℕ → List (Seated B T) → Type 0
+IsVacantAt {B} {T} at places =
+    (at < length places) × ((other : Seated B T) → (slice_index_or places at other).client ≡ None)
 
 -- The place is one of a service with these gates, and no client has had it yet.
 abbrev pub IsOpened : {B T : Type 0} → Gates → Seated B T → Type 0

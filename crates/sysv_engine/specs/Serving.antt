@@ -36,7 +36,7 @@ pub record HasLived (blocks : ℕ) (gates : Gates) (shifts : List Shift) : Type 
   pub removed : Result ℕ Errno
   pub lived : Lived blocks gates shifts removed
 
-module _ {T B : Type 0} (incoming outgoing : T → Option (List ℕ)) (closes : Closing B) where
+module _ {T B : Type 0} (incoming outgoing : T → Option (List ℕ)) (closes : Closing T B) where
   -- Sessions on connections led from the books `books` to the others. Each place had one session on
   -- each of its connections, in order. `Ran` is so of the gates and of the shifts.
   pub record LeavesBooks (Ran : Gates → List Shift → Type 0) (books books' : List B) : Type 0 where
@@ -51,7 +51,7 @@ module _ {T B : Type 0} (incoming outgoing : T → Option (List ℕ)) (closes : 
     pub left : LeavesBooks Ran books books'
     pub none : told_in left.shifts ≡ []
 
-module _ {S T B : Type 0} (incoming outgoing : T → Option (List ℕ)) (closes : Closing B)
+module _ {S T B : Type 0} (incoming outgoing : T → Option (List ℕ)) (closes : Closing T B)
     (gives : S → Option T → S → Type 0) where
   -- The places served the connections that the source returned. They began with passes that were
   -- split off from the pass `old`, and the passes that they left were joined back into it.

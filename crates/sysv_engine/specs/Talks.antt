@@ -4,6 +4,7 @@ use Rattle.sysv_queue.specs.Tally.{Tallied}
 use Rattle.sysv_session.specs.declared.served.Served.{Served}
 use Rattle.sysv_service.specs.Ran.{Pass}
 use Rattle.sysv_seats.specs.Asked.{ServesPassTogether}
+use Rattle.sysv_seats.specs.Breaking.{MayTell}
 use Rattle.sysv_seats.specs.Sits.{IsBehind, zero_moment}
 use Rattle.sysv_seats.specs.Untold.{Closing}
 use Rattle.sysv_engine.specs.Made.{Trail, ServesTrail}
@@ -48,11 +49,15 @@ TalksIn before talk after = TalksAsIn before talk.told talk.left talk.rest talk.
 
 -- ---- the connection
 
--- The session was one over this very connection: it began with the bytes that the connection had.
-abbrev pub IsOn : {T : Type 0} → (incoming outgoing : T → Option (List ℕ)) → T → Talk → Type 0
-IsOn incoming outgoing connection talk = (talk.left ≡ incoming connection) × (talk.taken ≡ outgoing connection)
+-- The session was one over this very connection: it began with the bytes that the connection had, and
+-- ended for a reason that there is. So it did not end with `Fault(Read)` unless reading from the
+-- connection may break off, nor with `Write` or `Left` unless writing to it may.
+abbrev pub IsOn : {T B : Type 0} → (incoming outgoing : T → Option (List ℕ)) → Closing T B → T → Talk → Type 0
+IsOn incoming outgoing closes connection talk = (talk.left ≡ incoming connection)
+    × (talk.taken ≡ outgoing connection) × MayTell (closes.breaks connection) talk.told
 
 -- The connection of the session was closed with what the session had written, and with the bytes
 -- that the session left, except those that were read ahead.
-abbrev pub Closes : {B : Type 0} → Closing B → B → Talk → B → Type 0
-Closes closes book talk book' = (kept : Option (List ℕ)) × IsBehind talk.rest kept × closes book kept talk.more book'
+abbrev pub Closes : {T B : Type 0} → Closing T B → B → Talk → B → Type 0
+Closes closes book talk book' =
+    (kept : Option (List ℕ)) × IsBehind talk.rest kept × closes.leaves book kept talk.more book'

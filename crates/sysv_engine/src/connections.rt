@@ -20,7 +20,7 @@ use crate::watch::{Rounds, Watch};
 use std::alloc::Global;
 use std::sync::Wait;
 use std::thread::Threads;
-use sysv_seats::NonBlocking;
+use sysv_seats::{NonBlocking, Tools};
 use sysv_service::{Pass, Service};
 use sysv_workers::{Source, WorkersFault, WorkersRefused, run_workers};
 
@@ -168,6 +168,9 @@ where
     let Some(shares) = shares(alloc, count, books.len()) else {
         return Err(ServeFault::NoMemory);
     };
+    let Ok(mut tools) = Tools::open(alloc) else {
+        return Err(ServeFault::NoMemory);
+    };
     let Some(kits) = kits(alloc, watches, books.len()) else {
         return Err(ServeFault::NoMemory);
     };
@@ -193,12 +196,12 @@ where
     given_back(dealing.into_source());
     match outcome {
         Ok(workers) => {
-            gather(workers, &mut places);
+            gather(rt, workers, &mut places, &mut tools);
             Ok(dismiss(service, pass, places, books))
         }
         Err(refused) => {
             let WorkersRefused { why, states } = refused;
-            gather(states, &mut places);
+            gather(rt, states, &mut places, &mut tools);
             dismiss(service, pass, places, books);
             Err(fault(why))
         }

@@ -1,16 +1,18 @@
 //! The places of a server: a pass is split off for each, and joined back at the end.
 ghost use Rattle.std.specs.Prelude.{◌≡◌, ◌≤◌, ◌+◌, ◌++◌, map, reverse, vec_len, vec_capacity, [], None};
-ghost use Rattle.std.specs.List.{All, FoldsTo, sum_by};
+ghost use Rattle.std.specs.List.{All, FoldsTo, list_all, sum_by};
 ghost use Rattle.sysv_service.specs.Seats.{AreOf};
 ghost use Rattle.sysv_thread_laws.specs.Hiring.{Gives, TakesIn};
 ghost use Rattle.sysv_engine.specs.Added.{all_added, capped};
-ghost use Rattle.sysv_engine.specs.Places.{IsOpened, KeepsAll};
+ghost use Rattle.sysv_engine.specs.Places.{IsOpened, KeepsAll, is_vacant};
 
+use crate::moment::pause;
 use crate::place::Place;
 use crate::sums::Sums;
+use crate::watch::ROUND_MILLIS;
 use std::alloc::Global;
 use std::sync::Wait;
-use sysv_seats::NonBlocking;
+use sysv_seats::{NonBlocking, Tools};
 use sysv_service::{Pass, Service};
 
 /// Adds a place for each book, from the last to the first, each with a pass that is split off from
@@ -42,15 +44,52 @@ pub(crate) fn hire<'a, R: Wait, T: NonBlocking>(
     }
 }
 
-/// Closes the clients that are left in the places.
-pub(crate) fn vacate<R: Wait, T: NonBlocking>(places: &mut Vec<Place<'_, R, T>>)
+/// Serves the clients that are left in the places until each may be closed, and closes them. After a
+/// run of the workers there are none, unless the run was refused.
+pub(crate) fn vacate<R: Wait, T: NonBlocking>(
+    rt: &R,
+    places: &mut Vec<Place<'_, R, T>>,
+    tools: &mut Tools,
+)
     ensures keeps { KeepsAll T.incoming T.outgoing T.closes places.old.items places.new.items }
     ensures vacant { All (λ p. p.client ≡ None) places.new.items }
+    ensures count { vec_len places.new ≡ vec_len places.old }
+{
+    for _ in rt.forever() {
+        close_all(places);
+        if are_vacant(places) {
+            return;
+        }
+        serve_all(places, tools);
+        pause(ROUND_MILLIS);
+    }
+}
+
+/// Closes each client that may be closed.
+fn close_all<R: Wait, T: NonBlocking>(places: &mut Vec<Place<'_, R, T>>)
+    ensures keeps { KeepsAll T.incoming T.outgoing T.closes places.old.items places.new.items }
     ensures count { vec_len places.new ≡ vec_len places.old }
 {
     for at in 0..places.len() {
         places[at].close();
     }
+}
+
+/// Continues the parked call of each client, and takes up and answers what has arrived.
+fn serve_all<R: Wait, T: NonBlocking>(places: &mut Vec<Place<'_, R, T>>, tools: &mut Tools)
+    ensures keeps { KeepsAll T.incoming T.outgoing T.closes places.old.items places.new.items }
+    ensures count { vec_len places.new ≡ vec_len places.old }
+{
+    for at in 0..places.len() {
+        places[at].serve(tools);
+    }
+}
+
+/// Returns whether there are no clients in the places.
+fn are_vacant<R: Wait, T: NonBlocking>(places: &[Place<'_, R, T>]) -> bool
+    ensures { result ≡ list_all is_vacant places.now }
+{
+    places.iter().all(|place| !place.is_taken())
 }
 
 /// Joins the passes of all these places, which are vacant, into `pass`, and puts their books into

@@ -1,7 +1,7 @@
 //! The places of a server: each serves one client after another.
-ghost use Rattle.std.specs.Prelude.{◌≡◌, ◌+◌, None, Some};
+ghost use Rattle.std.specs.Prelude.{◌≡◌, ◌+◌, None, Some, IfSome, is_some, true};
 ghost use Rattle.sysv_service.specs.Seats.{AreOf};
-ghost use Rattle.sysv_seats.specs.Sits.{Keeps};
+ghost use Rattle.sysv_seats.specs.Sits.{Keeps, MayClose};
 ghost use Rattle.sysv_engine.specs.Added.{added, capped, nothing, one_session};
 ghost use Rattle.sysv_engine.specs.Handled.{one_refused};
 ghost use Rattle.sysv_engine.specs.Places.{KeepsPlace, TakesIn, taken_by};
@@ -104,11 +104,11 @@ impl<'a, R: Wait, T: NonBlocking> Place<'a, R, T> {
         }
     }
 
-    /// Gives the place to the client of a connection. If there is a client already, it is closed.
+    /// Gives a vacant place to the client of a connection.
     pub(crate) fn adopt(&mut self, alloc: Global, connection: T)
+        requires { self.old.client ≡ None }
         ensures { TakesIn T.incoming T.outgoing T.closes connection self.old self.new }
     {
-        self.close();
         self.times = Times::new();
         self.awaits_room = false;
         self.seat(Client::open(alloc, connection));
@@ -125,15 +125,36 @@ impl<'a, R: Wait, T: NonBlocking> Place<'a, R, T> {
         }
     }
 
-    /// Closes the client, if there is one, and returns what its session did.
+    /// Closes the client, if there is one that may be closed, and returns what its session did.
     pub(crate) fn close(&mut self) -> Option<Served>
         ensures keeps { KeepsPlace T.incoming T.outgoing T.closes self.old self.new }
-        ensures vacant { self.new.client ≡ None }
     {
+        if !self.may_close() {
+            return None;
+        }
         let client = self.client.take()?;
         let served = client.close(&mut self.book);
         self.count(&served);
         Some(served)
+    }
+
+    /// Returns whether there is a client that may be closed.
+    fn may_close(&self) -> bool
+        ensures { result ≡ true → IfSome self.now.client
+            (λ client. MayClose (T.closes.breaks client.connection) client) }
+    {
+        match &self.client {
+            Some(client) => client.may_close(),
+            None => false,
+        }
+    }
+
+    /// Continues the parked call, and takes up and answers a share of what has arrived.
+    pub(crate) fn serve(&mut self, tools: &mut Tools)
+        ensures keeps { KeepsPlace T.incoming T.outgoing T.closes self.old self.new }
+    {
+        self.go_on(tools);
+        self.take_turn(tools);
     }
 
     /// Counts a session that is over.
@@ -148,7 +169,8 @@ impl<'a, R: Wait, T: NonBlocking> Place<'a, R, T> {
         self.refused = self.refused.saturating_add(refusals(served));
     }
 
-    /// Has the client's connection watched. If that is refused, the client ends.
+    /// Has the client's connection watched. If that is refused, the client ends, if it may be cut
+    /// off.
     pub(crate) fn begin<W: Watch<T>>(&mut self, watch: &mut W, place: usize)
         ensures keeps { KeepsPlace T.incoming T.outgoing T.closes self.old self.new }
     {
@@ -229,7 +251,9 @@ impl<'a, R: Wait, T: NonBlocking> Place<'a, R, T> {
     }
 
     /// Returns whether there is a client.
-    pub(crate) fn is_taken(&self) -> bool {
+    pub(crate) fn is_taken(&self) -> bool
+        ensures { result ≡ is_some self.now.client }
+    {
         self.client.is_some()
     }
 
@@ -286,7 +310,9 @@ impl<'a, R: Wait, T: NonBlocking> Place<'a, R, T> {
 
 /// Has a client learn what a watch reports of its connection.
 fn learn<T: NonBlocking>(client: &mut Client<T>, ready: &Ready)
-    ensures { Keeps T.incoming T.outgoing client.old client.new }
+    ensures keeps { Keeps T.incoming T.outgoing client.old client.new }
+    ensures breaks { T.closes.breaks client.new.connection
+        ≡ T.closes.breaks client.old.connection }
 {
     if ready.readable || ready.left {
         client.note_readable();

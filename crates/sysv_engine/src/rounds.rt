@@ -1,5 +1,5 @@
 //! The event loop of a worker.
-ghost use Rattle.sysv_engine.specs.Places.{KeepsAll};
+ghost use Rattle.sysv_engine.specs.Places.{IsVacantAt, KeepsAll};
 
 use crate::common::{BLOCKS_WORD, Common, Letter, bit, room_word};
 use crate::lines::Key;
@@ -38,25 +38,27 @@ impl<'a, 'c, R: Wait, T: NonBlocking + Drop, W: Watch<T>> Job<Worker<'a, R, T, W
 
     fn run(&self, worker: &mut Worker<'a, R, T, W>, connection: T) {
         self.common.take();
-        self.make_room(worker);
-        let place = worker.adopt(self.alloc, connection);
+        let place = self.make_room(worker);
+        worker.adopt(place, self.alloc, connection);
         self.turn(worker, place);
         self.serve(worker);
     }
 }
 
 impl<'a, 'c, R: Wait> Serving<'a, 'c, R> {
-    /// Serves the clients until a place is vacant.
-    fn make_room<T: NonBlocking, W: Watch<T>>(&self, worker: &mut Worker<'_, R, T, W>)
-        ensures { KeepsAll T.incoming T.outgoing T.closes worker.old.places.items
+    /// Serves the clients until a place is vacant, and returns it.
+    fn make_room<T: NonBlocking, W: Watch<T>>(&self, worker: &mut Worker<'_, R, T, W>) -> usize
+        ensures keeps { KeepsAll T.incoming T.outgoing T.closes worker.old.places.items
             worker.new.places.items }
+        ensures vacant { IsVacantAt result worker.new.places.items }
     {
         for _ in self.rt.forever() {
-            if !worker.free.is_empty() {
-                return;
+            if let Some(place) = worker.vacant() {
+                return place;
             }
             self.round(worker);
         }
+        unreachable!()
     }
 
     /// Serves the clients until the worker is to return.

@@ -9,7 +9,7 @@ use crate::watch::Watch;
 use crate::worker::{Kit, Worker};
 use std::alloc::Global;
 use std::sync::Wait;
-use sysv_seats::NonBlocking;
+use sysv_seats::{NonBlocking, Tools};
 
 /// Allocates a kit for each watch. The kits have room for `places` places together, each for at
 /// least one and all for about the same number. Returns `None` if memory is refused.
@@ -86,10 +86,13 @@ pub(crate) fn staff<'a, R: Wait, T: NonBlocking, W: Watch<T>>(
     kits.destroy_empty();
 }
 
-/// Takes the places of all workers, and closes the clients that are left in them.
+/// Takes the places of all workers, and closes the clients that are left in them, which are served
+/// until each may be closed.
 pub(crate) fn gather<'a, R: Wait, T: NonBlocking, W: Watch<T> + Drop>(
+    rt: &R,
     workers: Vec<Worker<'a, R, T, W>>,
     places: &mut Vec<Place<'a, R, T>>,
+    tools: &mut Tools,
 )
     requires none { places.old.items ≡ [] }
     requires room { sum_by (λ w. vec_len w.places) workers.items ≤ vec_capacity places.old }
@@ -103,7 +106,7 @@ pub(crate) fn gather<'a, R: Wait, T: NonBlocking, W: Watch<T> + Drop>(
         give_back(worker.into_places(), places);
     }
     workers.destroy_empty();
-    vacate(places);
+    vacate(rt, places, tools);
 }
 
 /// Moves the places of a worker to the end of `places`, the last one first.

@@ -18,7 +18,7 @@ const BELL: usize = usize::MAX;
 const MOST_EVENTS: usize = 256;
 
 /// The time between two rounds over connections that report nothing, in milliseconds.
-const ROUND_MILLIS: i32 = 1;
+pub(crate) const ROUND_MILLIS: i32 = 1;
 
 /// News of a place.
 #[derive(Clone, Copy)]

@@ -1,6 +1,6 @@
 //! The workers of a server: their places, and what happens at each.
 ghost use Rattle.std.specs.Prelude.{◌≡◌, ◌≤◌, ◌++◌, reverse, vec_len, vec_capacity, [], IfSome};
-ghost use Rattle.sysv_engine.specs.Places.{AdoptsOne, KeepsAll};
+ghost use Rattle.sysv_engine.specs.Places.{AdoptsOne, IsVacantAt, KeepsAll};
 
 use crate::common::Letter;
 use crate::lines::{Key, Lines};
@@ -192,22 +192,28 @@ impl<'a, R: Wait, T: NonBlocking, W: Watch<T>> Worker<'a, R, T, W> {
         self.free.len() == self.places.len()
     }
 
-    /// Gives a vacant place to the client of a connection, and has its connection watched. Returns
-    /// the place. If no place is vacant, the client of the first place is closed.
+    /// Takes a place out of the list of those without a client, if there is one in it.
+    pub(crate) fn vacant(&mut self) -> Option<usize>
+        ensures same { self.new.places ≡ self.old.places }
+        ensures vacant { IfSome result (λ place. IsVacantAt place self.old.places.items) }
+    {
+        let place = self.free.pop()?;
+        match self.places.get(place) {
+            Some(there) if !there.is_taken() => Some(place),
+            _ => None,
+        }
+    }
+
+    /// Gives a vacant place to the client of a connection, and has its connection watched.
     #[tactic(auto, using(crate::proofs::PlaceLists::adopts_at))]
-    pub(crate) fn adopt(&mut self, alloc: Global, connection: T) -> usize
-        requires { 1 ≤ vec_len self.old.places }
+    pub(crate) fn adopt(&mut self, place: usize, alloc: Global, connection: T)
+        requires { IsVacantAt place self.old.places.items }
         ensures { AdoptsOne T.incoming T.outgoing T.closes connection self.old.places.items
             self.new.places.items }
     {
-        let place = match self.free.pop() {
-            Some(place) if place < self.places.len() => place,
-            _ => 0,
-        };
         let there = &mut self.places[place];
         there.adopt(alloc, connection);
         there.begin(&mut self.watch, place);
-        place
     }
 
     /// Returns whether the place has a client.

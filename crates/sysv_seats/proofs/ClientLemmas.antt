@@ -1,28 +1,39 @@
 -- What the events of a client keep: how far its session is.
 use Rattle.std.proofs.Common.{◌≡◌, ◌≢◌, ◌≤◌, ◌<◌, ℕ, List, [], ◌∷◌, ◌++◌}
-use Rattle.std.proofs.Common.{length, take, Option}
+use Rattle.std.proofs.Common.{length, take, Bool, Option, Result, Err}
 use Rattle.std.proofs.Common.{None, Some, refl, sym, ap, subst, subst₂, ◌∙◌, arith, inl, inr, append_assoc}
-use Rattle.std.specs.Prelude.{◌==◌, ⊤, true, false, not, is_some, unwrap_or}
+use Rattle.std.specs.Prelude.{◌==◌, ◌||◌, ◌&&◌, ⊤, IfSome, true, false, not, is_some, unwrap_or}
 use Rattle.std.specs.Io.KnownBytes.{Appends, Consumes, Keeps as KeepsBytes, prepend_known}
+use Rattle.std.proofs.lemmas.Bool.{ne_eqb}
 use Rattle.std.proofs.KnownBytes.{Appends-kept, Appends-nil, Appends-trans, Keeps-refl, prepend_known-nil}
 use Rattle.sysv_keys.specs.declared.identifier.TheConstants.{SLOTS}
+use Rattle.sysv_model.specs.declared.cred.Cred.{Cred}
 use Rattle.sysv_session.specs.declared.served.End.{End}
-use Rattle.sysv_session.specs.declared.served.End.TheVariants.{NoMemory, Fault, Write, Left}
+use Rattle.sysv_session.specs.declared.served.End.TheVariants.{Ended, NoMemory, NoHello, Fault, Write, Bound, Left}
 use Rattle.sysv_session.specs.declared.served.Served.{Served}
-use Rattle.sysv_session.specs.Conversation.{HasRoom, Talk, report, sent_on}
+use Rattle.sysv_session.specs.declared.kernel.RequestOutcome.{RequestOutcome}
+use Rattle.sysv_session.specs.declared.kernel.RequestOutcome.TheVariants.{Left as WasLeft}
+use Rattle.sysv_session.specs.declared.session.Session.{Session}
+use Rattle.sysv_session.specs.declared.session.TakenUp.{TakenUp}
+use Rattle.sysv_session.specs.Answers.{IsReplied}
+use Rattle.sysv_session.specs.Conversation.{HasRoom, Puts, Talk, report, reported, sent_on}
 use Rattle.sysv_session.specs.Stands.{Stands, StandsAsking}
+use Rattle.sysv_session.specs.TakenUp.{EndsHere, TakesUp}
 use Rattle.sysv_session.proofs.GoesOn.{ends, leaves, opens, sends, sends_asking, sends_stopped}
 use Rattle.sysv_session.proofs.GoesOn.{stops_memory, stops_read}
 use Rattle.sysv_session.proofs.GoesOn.{stops_write}
 use Rattle.sysv_session.proofs.OutboxLemmas.{each_once}
 use Rattle.sysv_service.specs.Ran.{Pass}
-use Rattle.sysv_wire.specs.declared.fault.Fault.TheVariants.{Read}
+use Rattle.sysv_wire.specs.declared.fault.Fault.TheVariants.{Truncated, TooLong, BadOp, BadField, Read}
+use Rattle.sysv_wire.specs.declared.frame.Version.{Version}
 use Rattle.sysv_seats.specs.declared.parked.Parked.{Parked}
 use Rattle.sysv_seats.specs.Asked.{asks_with}
+use Rattle.sysv_seats.specs.Breaking.{Breaks, HasCause, MayBreak, MayEnd}
 use Rattle.sysv_seats.specs.InPieces.{left}
 use Rattle.sysv_seats.specs.Sits.{Arrives, HasFrame, HasStopped, IsAt, IsBehind, IsCounted, IsFree, IsOver}
-use Rattle.sysv_seats.specs.Sits.{IsReady}
-use Rattle.sysv_seats.specs.Sits.{Keeps, KeepsWith, Sits, Sitting, broken_off, stopped_for, with_input, zero_moment}
+use Rattle.sysv_seats.specs.Sits.{IsReady, MayClose, end_at_close, is_early}
+use Rattle.sysv_seats.specs.Sits.{Keeps, KeepsWith, Sits, Sitting, broken_off, broken_off_for, stopped_for, with_input}
+use Rattle.sysv_seats.specs.Sits.{zero_moment}
 use Rattle.sysv_seats.specs.declared.non_blocking.Drained.TheVariants.{Took}
 use Rattle.sysv_seats.specs.NonBlocking.{DrainAppends}
 use Rattle.sysv_seats.specs.Untold.{Closing}
@@ -34,9 +45,9 @@ pub has_room : (talk : Talk) (parked : Option Parked) → IsCounted talk parked 
 has_room talk parked counted = omega (arith, counted.0, counted.1)
 
 -- The count, out of what every client keeps.
-pub counted_of : (start size : ℕ) (input : List ℕ) (talk : Talk) (parked : Option Parked) →
-    (start ≤ size) × HasFrame input parked × IsCounted talk parked → IsCounted talk parked
-counted_of start size input talk parked (fits, frame, counted) = counted
+pub counted_of : {C : Type 0} (start size : ℕ) (input : List ℕ) (talk : Talk) (parked : Option Parked) →
+    (start ≤ size) × HasFrame input parked × IsCounted talk parked × C → IsCounted talk parked
+counted_of start size input talk parked (fits, frame, counted, cause) = counted
 
 -- A conversation that has taken up nothing.
 pub counted_none : (talk : Talk) → talk.session.tally ≡ record { written = 0; lost = 0 } →
@@ -63,11 +74,101 @@ counted_sent n talk parked counted =
 pub counted_left : (talk : Talk) (parked : Parked) → IsCounted talk (Some parked) → IsCounted talk None
 counted_left talk parked counted = (omega (arith, counted.0), counted.1, counted.2)
 
-pub kept_sent : (start size : ℕ) (input : List ℕ) (talk : Talk) (parked : Option Parked) (talk' : Talk) (n : ℕ) →
-    talk' ≡ sent_on n talk → (start ≤ size) × HasFrame input parked × IsCounted talk parked →
-    (start ≤ size) × HasFrame input parked × IsCounted talk' parked
-kept_sent start size input talk parked talk' n is (fits, frame, counted) =
-    (fits, frame, subst (λ (t : Talk). IsCounted t parked) (sym is) (counted_sent n talk parked counted))
+pub kept_sent : (start size : ℕ) (input : List ℕ) (talk : Talk) (parked : Option Parked) (talk' : Talk) (n : ℕ)
+    (breaks breaks' : Breaks) (stopped : Option End) (broken : Bool) → talk' ≡ sent_on n talk → breaks' ≡ breaks →
+    (start ≤ size) × HasFrame input parked × IsCounted talk parked × HasCause breaks stopped broken →
+    (start ≤ size) × HasFrame input parked × IsCounted talk' parked × HasCause breaks' stopped broken
+kept_sent start size input talk parked talk' n breaks breaks' stopped broken is same (fits, frame, counted, cause) = (
+  fits,
+  frame,
+  subst (λ (t : Talk). IsCounted t parked) (sym is) (counted_sent n talk parked counted),
+  subst (λ (b : Breaks). HasCause b stopped broken) (sym same) cause,
+)
+
+-- ---- why a session ends
+
+-- A call whose reply could not be gathered stops the client, and no call was left.
+pub put_cause : (breaks : Breaks) (version : Version) (outcome : RequestOutcome) (given : List ℕ) (old new : Talk)
+    (why : End) → IsReplied outcome → Puts (Err why) version outcome given old new → MayEnd breaks why
+put_cause breaks version outcome given old new NoMemory replied put = tt
+put_cause breaks version outcome given old new Left replied put =
+    absurd (let left : IsReplied WasLeft = subst IsReplied put.0 replied in left)
+put_cause breaks version outcome given old new Ended replied put = absurd put
+put_cause breaks version outcome given old new NoHello replied put = absurd put
+put_cause breaks version outcome given old new (Fault fault) replied put = absurd put
+put_cause breaks version outcome given old new Write replied put = absurd put
+put_cause breaks version outcome given old new Bound replied put = absurd put
+
+-- What is read of the input stops the client for a reason in the input.
+ends_cause : (breaks : Breaks) (caller : Option (Version × Cred)) (requests : ℕ) (why : End)
+    (left rest : Option (List ℕ)) (text : List ℕ) (is_end : Bool) → is_early why is_end ≡ false →
+    EndsHere caller requests why left rest text → MayEnd breaks why
+ends_cause breaks caller requests Ended left rest text is_end late here = tt
+ends_cause breaks caller requests NoMemory left rest text is_end late here = tt
+ends_cause breaks caller requests NoHello left rest text is_end late here = tt
+ends_cause breaks caller requests (Fault Truncated) left rest text is_end late here = tt
+ends_cause breaks caller requests (Fault TooLong) left rest text is_end late here = tt
+ends_cause breaks caller requests (Fault BadOp) left rest text is_end late here = tt
+ends_cause breaks caller requests (Fault BadField) left rest text is_end late here = tt
+ends_cause breaks caller requests (Fault Read) left rest text is_end late here = absurd (cc late)
+ends_cause breaks None requests Write left rest text is_end late here = absurd here.0
+ends_cause breaks (Some caller) requests Write left rest text is_end late (inl bound) =
+    absurd (let other : Write ≡ Bound = bound.1 in cc other)
+ends_cause breaks (Some caller) requests Write left rest text is_end late (inr read) = absurd read.1
+ends_cause breaks caller requests Bound left rest text is_end late here = tt
+ends_cause breaks None requests Left left rest text is_end late here = absurd here.0
+ends_cause breaks (Some caller) requests Left left rest text is_end late (inl bound) =
+    absurd (let other : Left ≡ Bound = bound.1 in cc other)
+ends_cause breaks (Some caller) requests Left left rest text is_end late (inr read) = absurd read.1
+
+pub taken_cause : (breaks : Breaks) (old new : Session) (result : Result TakenUp End) (why : End)
+    (left rest : Option (List ℕ)) (text : List ℕ) (is_end : Bool) → result ≡ Err why → is_early why is_end ≡ false →
+    TakesUp old new result left rest text → MayEnd breaks why
+taken_cause breaks old new result why left rest text is_end is late takes =
+    let here = subst (λ (r : Result TakenUp End). TakesUp old new r left rest text) is takes in
+    ends_cause breaks old.caller old.requests why left rest text is_end late here.1
+
+-- A client that may be closed ends its session for a reason that there is.
+reported_cause : (breaks : Breaks) (why : End) (bytes : List ℕ) → MayEnd breaks why →
+    (bytes ≢ [] → breaks.writing ≡ true) → MayEnd breaks (reported why bytes)
+reported_cause breaks why [] may lost = may
+reported_cause breaks why (byte ∷ bytes) may lost =
+    lost (λ none. absurd (omega (arith, ap (length {A = ℕ}) none)))
+
+stopped_cause : (breaks : Breaks) (parked : Option Parked) (stopped : Option End) → IfSome stopped (MayEnd breaks) →
+    is_some stopped ≡ true → MayEnd breaks (end_at_close parked stopped)
+stopped_cause breaks parked None cause some = absurd (cc some)
+stopped_cause breaks parked (Some why) cause some = cause
+
+any_cause : (breaks : Breaks) (parked : Option Parked) (stopped : Option End) → IfSome stopped (MayEnd breaks) →
+    MayBreak breaks → MayEnd breaks (end_at_close parked stopped)
+any_cause breaks None None cause may = may.0
+any_cause breaks (Some parked) None cause may = may.1
+any_cause breaks parked (Some why) cause may = cause
+
+finished_cause : (breaks : Breaks) (parked : Option Parked) (stopped : Option End) (broken : Bool) (bytes : List ℕ) →
+    HasCause breaks stopped broken →
+    (broken || (is_some stopped && (length bytes == 0))) ≡ true →
+    MayEnd breaks (reported (end_at_close parked stopped) bytes)
+finished_cause breaks parked stopped true bytes cause done =
+    reported_cause breaks (end_at_close parked stopped) bytes
+    (stopped_cause breaks parked stopped cause.0 (cause.1 refl).1) (λ some. (cause.1 refl).0)
+finished_cause breaks parked None false bytes cause done = absurd (cc done)
+finished_cause breaks parked (Some why) false [] cause done = cause.0
+finished_cause breaks parked (Some why) false (byte ∷ bytes) cause done =
+    let some : (length (byte ∷ bytes) == 0) ≡ false =
+    ne_eqb (length (byte ∷ bytes)) 0 (λ none. absurd (omega (arith, none))) in
+    let no : false ≡ true = sym some ∙ done in
+    absurd (cc no)
+
+pub closing_cause : {T : Type 0} (breaks : Breaks) (client : Sitting T) →
+    HasCause breaks client.stopped client.broken → MayClose breaks client →
+    MayEnd breaks (reported (end_at_close client.parked client.stopped) client.talk.unsent.bytes)
+closing_cause breaks client cause (inl done) =
+    finished_cause breaks client.parked client.stopped client.broken client.talk.unsent.bytes cause done
+closing_cause breaks client cause (inr may) =
+    reported_cause breaks (end_at_close client.parked client.stopped) client.talk.unsent.bytes
+    (any_cause breaks client.parked client.stopped cause.0 may) (λ some. may.1)
 
 -- ---- the input
 
@@ -104,24 +205,10 @@ some_bytes : (bytes : List ℕ) → bytes ≢ [] → 0 < length bytes
 some_bytes [] some = absurd (some refl)
 some_bytes (x ∷ xs) some = omega arith
 
--- It has not stopped.
-pub unstopped : (stopped : Option End) → is_some stopped ≡ not true → stopped ≡ None
-unstopped None none = refl
-unstopped (Some why) none = absurd (cc none)
-
 -- Some bytes wait.
 pub some_waits : (bytes : List ℕ) → (length bytes == 0) ≡ false → bytes ≢ []
 some_waits [] waits = absurd (cc waits)
 some_waits (x ∷ xs) waits = λ none. absurd (omega (arith, ap (length {A = ℕ}) none))
-
--- The reason of a client that is closed: why it stopped, or that nothing more can be read.
-abbrev pub closing_end : Option End → End
-closing_end None = Fault Read
-closing_end (Some why) = why
-
-closing : (stopped : Option End) → unwrap_or stopped (Fault Read) ≡ closing_end stopped
-closing None = refl
-closing (Some why) = refl
 
 module _ {T : Type 0} (incoming outgoing : T → Option (List ℕ)) where
   -- The client with this connection.
@@ -296,33 +383,48 @@ module _ {T : Type 0} (incoming outgoing : T → Option (List ℕ)) where
     at = broken_at start origin client now sits.sent client.parked client.stopped sits.at;
   }
 
-  -- The same, and then what keeps the session.
-  pub breaks_then : (old client new : Sitting T) → client ≡ old →
-      Keeps incoming outgoing (broken_off client) new → Keeps incoming outgoing old new
-  breaks_then old client new view keeps =
-      keeps_from old client new view (keeps_then client (broken_off client) new (breaks client) keeps)
+  -- The client is broken off: it stops for this reason, unless it has stopped.
+  broken_at_last : (client : Sitting T) (why : End) (stopped : Option End) → client.stopped ≡ stopped →
+      (client.stopped ≡ None → Keeps incoming outgoing client (stopped_for why client)) →
+      Keeps incoming outgoing client (broken_off_for why client)
+  broken_at_last client why None same stops =
+      let last = stopped_for why client in
+      let is : broken_off_for why client ≡ broken_off last = ap (λ (o : Option End). let s : Sitting T = record {
+        connection = client.connection;
+        talk = client.talk;
+        input = client.input;
+        parked = client.parked;
+        stopped = Some (unwrap_or o why);
+        broken = true;
+      } in s) same in
+      keeps_to client (broken_off last) (broken_off_for why client) is
+      (keeps_then client last (broken_off last) (stops same) (breaks last))
+  broken_at_last client why (Some other) same stops =
+      let is : broken_off_for why client ≡ broken_off client = ap (λ (o : Option End). let s : Sitting T = record {
+        connection = client.connection;
+        talk = client.talk;
+        input = client.input;
+        parked = client.parked;
+        stopped = o;
+        broken = true;
+      } in s) (ap (λ (o : Option End). let p : Option End = Some (unwrap_or o why) in p) same ∙ sym same) in
+      keeps_to client (broken_off client) (broken_off_for why client) is (breaks client)
 
-  -- A client without a parked call is given up: it stops, unless it has stopped.
-  pub breaks_reading : (old mid new : Sitting T) → Keeps incoming outgoing old mid → IsFree mid →
-      new ≡ stopped_for (Fault Read) mid → Keeps incoming outgoing old new
-  breaks_reading old mid new keeps free is =
-      keeps_to old (stopped_for (Fault Read) mid) new is
-      (keeps_then old mid (stopped_for (Fault Read) mid) keeps (stops_reading mid free))
+  pub breaks_reading : (old mid new : Sitting T) → Keeps incoming outgoing old mid → mid.parked ≡ None →
+      new ≡ broken_off_for (Fault Read) mid → Keeps incoming outgoing old new
+  breaks_reading old mid new keeps none is =
+      keeps_to old (broken_off_for (Fault Read) mid) new is
+      (keeps_then old mid (broken_off_for (Fault Read) mid) keeps
+      (broken_at_last mid (Fault Read) mid.stopped refl (λ going. stops_reading mid (none, going))))
 
-  pub breaks_writing : (old client mid new : Sitting T) → client ≡ old →
-      Keeps incoming outgoing (broken_off client) mid → mid.talk ≡ client.talk → IsFree mid →
-      old.talk.unsent.bytes ≢ [] → new ≡ stopped_for Write mid → Keeps incoming outgoing old new
-  breaks_writing old client mid new view keeps same free some is =
-      let talk = same ∙ ap (λ (c : Sitting T). c.talk) view in
-      keeps_to old (stopped_for Write mid) new is
-      (keeps_then old mid (stopped_for Write mid) (breaks_then old client mid view keeps)
-      (stops_writing mid free (subst (λ (t : Talk). t.unsent.bytes ≢ []) (sym talk) some)))
-
-  -- It has no parked call, and by its fields it has not stopped.
-  pub free_now : (mid client : Sitting T) → client ≡ mid → mid.parked ≡ None → is_some client.stopped ≡ not true →
-      IsFree mid
-  free_now mid client view none going =
-      (none, sym (ap (λ (c : Sitting T). c.stopped) view) ∙ unstopped client.stopped going)
+  pub breaks_writing : (old mid new : Sitting T) → Keeps incoming outgoing old mid → mid.parked ≡ None →
+      mid.talk ≡ old.talk → old.talk.unsent.bytes ≢ [] → new ≡ broken_off_for Write mid →
+      Keeps incoming outgoing old new
+  breaks_writing old mid new keeps none same some is =
+      let left = subst (λ (t : Talk). t.unsent.bytes ≢ []) (sym same) some in
+      keeps_to old (broken_off_for Write mid) new is
+      (keeps_then old mid (broken_off_for Write mid) keeps
+      (broken_at_last mid Write mid.stopped refl (λ going. stops_writing mid (none, going) left)))
 
   pub free_as : (old client : Sitting T) → client ≡ old → IsFree old → IsFree client
   free_as old client view free =
@@ -541,42 +643,43 @@ module _ {T : Type 0} (incoming outgoing : T → Option (List ℕ)) where
         unsent));
   }
 
-  -- A client that has no parked call is closed.
-  stopped_at : (start : Pass) (origin : T) (client : Sitting T) (now : Pass) (sent : List ℕ)
-      (stopped : Option End) → IsAt incoming outgoing start origin client now sent None stopped →
-      HasStopped incoming outgoing start origin client now sent (closing_end stopped)
-  stopped_at start origin client now sent None at = read_at start origin client now sent at
-  stopped_at start origin client now sent (Some why) at = at
+  -- A client is closed. Its call is left, if one is parked.
+  closing_at : (start : Pass) (origin : T) (client : Sitting T) (now : Pass) (sent : List ℕ)
+      (parked : Option Parked) (stopped : Option End) →
+      IsAt incoming outgoing start origin client now sent parked stopped →
+      HasStopped incoming outgoing start origin client now sent (end_at_close parked stopped)
+  closing_at start origin client now sent None None at = read_at start origin client now sent at
+  closing_at start origin client now sent None (Some why) at = at
+  closing_at start origin client now sent (Some parked) None at =
+      left_at start origin client client.input now sent parked None at
+  closing_at start origin client now sent (Some parked) (Some why) at = absurd at
 
-  pub closed : {B : Type 0} (closes : Closing B) (start : Pass) (origin : T) (client : Sitting T) (now : Pass)
-      (book book' : B) → client.parked ≡ None → Sits incoming outgoing start origin client now →
-      closes book (incoming client.connection) (outgoing client.connection) book' →
-      IsOver incoming outgoing closes start origin (report (closing_end client.stopped) client.talk) now book book'
-  closed closes start origin client now book book' none sits done =
-      let stopped = stopped_at start origin client now sits.sent client.stopped
-      (subst (λ (p : Option Parked). IsAt incoming outgoing start origin client now sits.sent p client.stopped) none
-      sits.at) in
+  closed : {B : Type 0} (closes : Closing T B) (start : Pass) (origin : T) (client : Sitting T) (now : Pass)
+      (book book' : B) → Sits incoming outgoing start origin client now →
+      closes.leaves book (incoming client.connection) (outgoing client.connection) book' →
+      IsOver incoming outgoing closes start origin
+      (report (end_at_close client.parked client.stopped) client.talk) now book book'
+  closed closes start origin client now book book' sits done =
+      let why = end_at_close client.parked client.stopped in
+      let stopped = closing_at start origin client now sits.sent client.parked client.stopped sits.at in
       record {
         rest = stopped.0;
         kept = incoming client.connection;
         more = outgoing client.connection;
-        serves = ends (asks_with zero_moment ⊤) SLOTS (closing_end client.stopped) client.talk start now
-            (incoming origin) stopped.0 (outgoing origin) (outgoing client.connection) sits.sent stopped.2 sits.wrote;
+        serves = ends (asks_with zero_moment ⊤) SLOTS why client.talk start now (incoming origin) stopped.0
+            (outgoing origin) (outgoing client.connection) sits.sent stopped.2 sits.wrote;
         behind = stopped.1;
         closed = done;
       }
 
-  pub closed_over : {B : Type 0} (closes : Closing B) (old mid client : Sitting T) (why : End) (served : Served)
-      (book book' : B) → Keeps incoming outgoing old mid → mid.parked ≡ None → client ≡ mid →
-      why ≡ unwrap_or client.stopped (Fault Read) → served ≡ report why client.talk →
-      closes book (incoming client.connection) (outgoing client.connection) book' → (start now : Pass) (origin : T) →
-      Sits incoming outgoing start origin old now →
+  pub closed_over : {B : Type 0} (closes : Closing T B) (old client : Sitting T) (why : End) (served : Served)
+      (book book' : B) → client ≡ old → why ≡ end_at_close client.parked client.stopped →
+      served ≡ report why client.talk →
+      closes.leaves book (incoming client.connection) (outgoing client.connection) book' →
+      (start now : Pass) (origin : T) → Sits incoming outgoing start origin old now →
       IsOver incoming outgoing closes start origin served now book book'
-  closed_over closes old mid client why served book book' keeps none same reason is done start now origin sits =
-      let left = ap (λ (c : Sitting T). c.parked) same ∙ none in
-      let here = subst (λ (c : Sitting T). Sits incoming outgoing start origin c now) (sym same)
-      (keeps now start origin sits) in
-      let why_is = reason ∙ closing client.stopped in
+  closed_over closes old client why served book book' same reason is done start now origin sits =
+      let here = subst (λ (c : Sitting T). Sits incoming outgoing start origin c now) (sym same) sits in
       subst (λ (s : Served). IsOver incoming outgoing closes start origin s now book book')
-      (sym (is ∙ ap (λ (w : End). report w client.talk) why_is))
-      (closed closes start origin client now book book' left here done)
+      (sym (is ∙ ap (λ (w : End). report w client.talk) reason))
+      (closed closes start origin client now book book' here done)

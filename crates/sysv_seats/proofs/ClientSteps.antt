@@ -1,12 +1,15 @@
 -- The steps of a client: what is taken up from its input, and what becomes of a request.
 use Rattle.std.proofs.Common.{◌≡◌, ◌∙◌, ℕ, ℤ, ◌+◌, ◌-◌, ◌≤◌, List, [], ◌++◌, length, take, drop, Option, None, Some}
-use Rattle.std.proofs.Common.{Result, Ok, Err, true, false, inl, inr, refl, sym, ap, ap₂, subst, subst₂, arith}
+use Rattle.std.proofs.Common.{Bool, Result, Ok, Err, true, false, inl, inr, refl, sym, ap, ap₂, subst, subst₂, arith}
 use Rattle.std.proofs.Common.{length-append, length-drop}
 use Rattle.std.proofs.lemmas.List.{drop_at, take_all, take_at}
 use Rattle.std.specs.Prelude.{⊤}
-use Rattle.std.specs.Io.KnownBytes.{Appends, prepend_known}
+use Rattle.std.specs.Io.KnownBytes.{Appends, IsAtEnd, prepend_known}
 use Rattle.sysv_keys.specs.declared.identifier.TheConstants.{SLOTS}
+use Rattle.sysv_model.specs.declared.attributes.Row.{Row}
+use Rattle.sysv_model.specs.declared.attributes.Stat.{Stat}
 use Rattle.sysv_model.specs.declared.cred.Cred.{Cred}
+use Rattle.sysv_model.specs.declared.errno.Errno.{Errno}
 use Rattle.sysv_model.specs.declared.flags.Flags.{Flags}
 use Rattle.sysv_model.specs.declared.limits.TheConstants.{MESSAGE_BYTES}
 use Rattle.sysv_session.specs.declared.kernel.RequestOutcome.{RequestOutcome}
@@ -16,7 +19,7 @@ use Rattle.sysv_session.specs.declared.served.End.TheVariants.{Ended, NoMemory, 
 use Rattle.sysv_session.specs.declared.session.Session.{Session}
 use Rattle.sysv_session.specs.declared.session.TakenUp.{TakenUp}
 use Rattle.sysv_session.specs.declared.session.TakenUp.TheVariants.{Hello, Request as Asked}
-use Rattle.sysv_session.specs.Answers.{IsAsked, MayAnswer}
+use Rattle.sysv_session.specs.Answers.{IsAsked, IsReplied as HasReply, MayAnswer}
 use Rattle.sysv_session.specs.Calls.{Meaning}
 use Rattle.sysv_session.specs.Conversation.{Puts, Talk, gathered}
 use Rattle.sysv_session.specs.Outbox.{Unsent, with_frame}
@@ -27,9 +30,17 @@ use Rattle.sysv_session.proofs.Arrived.{IsSettled, IsSettledEnd, takes_up_more}
 use Rattle.sysv_session.proofs.GoesOn.{greets, greet_ends, puts, put_ends, stops, takes_hello, takes_request}
 use Rattle.sysv_service.specs.declared.progress.Progress.{Progress}
 use Rattle.sysv_service.specs.declared.progress.Progress.TheVariants as progress
+use Rattle.sysv_service.specs.declared.progress.ReceiveWait.{ReceiveWait}
+use Rattle.sysv_service.specs.declared.progress.SendWait.{SendWait}
+use Rattle.sysv_steps.specs.State.{Phase}
+use Rattle.sysv_queue.specs.Delivery.{Given}
 use Rattle.sysv_service.specs.Ran.{Pass}
 use Rattle.sysv_wire.specs.declared.fault.Fault.TheVariants.{Truncated, TooLong, BadOp, BadField, Read}
+use Rattle.sysv_wire.specs.declared.frame.Op.{Op}
+use Rattle.sysv_wire.specs.declared.frame.Op.TheVariants as op
 use Rattle.sysv_wire.specs.declared.frame.Version.{Version}
+use Rattle.sysv_wire.specs.declared.reply.ReplyContent.{ReplyContent}
+use Rattle.sysv_wire.specs.declared.reply.ReplyContent.TheVariants as content
 use Rattle.sysv_wire.specs.declared.request.Ask.{Ask}
 use Rattle.sysv_wire.specs.declared.request.Ask.TheVariants as kind
 use Rattle.sysv_wire.specs.declared.request.Request.{Request}
@@ -39,7 +50,10 @@ use Rattle.sysv_seats.specs.declared.waiting.Waiting.{Waiting}
 use Rattle.sysv_seats.specs.declared.waiting.Waiting.TheVariants.{Send, Receive}
 use Rattle.sysv_seats.specs.Asked.{asks_with}
 use Rattle.sysv_seats.specs.InPieces.{asks_any}
-use Rattle.sysv_seats.specs.Parked.{HasBegun, IsWaitOf, MayProgress}
+use Rattle.sysv_seats.specs.Asked.{Asks}
+use Rattle.sysv_seats.specs.Parked.{GoesOn, HasBegun, IsReplied, IsWaitOf, MayProgress, Proceeds}
+use Rattle.sysv_seats.specs.Parked.{receive_progress, send_progress}
+use Rattle.sysv_seats.specs.Replies.{done_reply, given_reply, id_reply, row_reply, stat_reply}
 use Rattle.sysv_seats.specs.Sits.{GreetsAs, HasAsked, HasFrame, HasStopped, IsAt, IsBehind, IsFree, IsPending, IsReady}
 use Rattle.sysv_seats.specs.Sits.{IsWaiting, ReadsNext, Sits, Sitting, is_early, is_wait_of}
 use Rattle.sysv_seats.specs.Sits.{messages_so_far, stopped_for, talking, with_input, zero_moment}
@@ -131,18 +145,106 @@ no_body request body not asked = no_body_at request.ask body not asked.2
 -- ---- ends that are settled
 
 -- An end that may not mean that more is to come does not depend on what follows.
-pub settled_early : (why : End) (more : Option (List ℕ)) → is_early why ≡ false → IsSettledEnd why more
-settled_early Ended more late = absurd (grind (arith, late))
-settled_early NoMemory more late = tt
-settled_early NoHello more late = tt
-settled_early (Fault Truncated) more late = absurd (grind (arith, late))
-settled_early (Fault TooLong) more late = tt
-settled_early (Fault BadOp) more late = tt
-settled_early (Fault BadField) more late = tt
-settled_early (Fault Read) more late = tt
-settled_early Write more late = tt
-settled_early Bound more late = tt
-settled_early Left more late = tt
+pub settled_late : (why : End) (more : Option (List ℕ)) (is_end : Bool) → is_early why is_end ≡ false →
+    (is_end ≡ true → IsAtEnd more) → IsSettledEnd why more
+settled_late Ended more true late last = last refl
+settled_late Ended more false late last = absurd (grind (arith, late))
+settled_late NoMemory more is_end late last = tt
+settled_late NoHello more is_end late last = tt
+settled_late (Fault Truncated) more true late last = last refl
+settled_late (Fault Truncated) more false late last = absurd (grind (arith, late))
+settled_late (Fault TooLong) more is_end late last = tt
+settled_late (Fault BadOp) more is_end late last = tt
+settled_late (Fault BadField) more is_end late last = tt
+settled_late (Fault Read) more is_end late last = tt
+settled_late Write more is_end late last = tt
+settled_late Bound more is_end late last = tt
+settled_late Left more is_end late last = tt
+
+-- ---- calls that are over have a reply
+
+id_has : (version : Version) (told : Result ℤ Errno) → HasReply (id_reply version told)
+id_has version (Ok id) = tt
+id_has version (Err why) = tt
+
+done_has : (version : Version) (o : Op) (content : ReplyContent) (told : Result ⊤ Errno) →
+    HasReply (done_reply version o content told)
+done_has version o content (Ok done) = tt
+done_has version o content (Err why) = tt
+
+given_has : (version : Version) (told : Result Given Errno) → HasReply (given_reply version told)
+given_has version (Ok delivery) = tt
+given_has version (Err why) = tt
+
+stat_has : (version : Version) (told : Result Stat Errno) → HasReply (stat_reply version told)
+stat_has version (Ok stat) = tt
+stat_has version (Err why) = tt
+
+row_has : (version : Version) (told : Result (Option Row) Errno) → HasReply (row_reply version told)
+row_has version (Ok row) = tt
+row_has version (Err why) = tt
+
+-- A caller that does not leave is told how each call ended.
+asks_replied : (may : ℕ → Type 0) (version : Version) (cred : Cred) (ask : Ask) (text : List ℕ) (before : Pass)
+    (outcome : RequestOutcome) (given : List ℕ) (after : Pass) →
+    Asks may ⊥ version cred ask text before outcome given after →
+    HasReply outcome
+asks_replied may version cred (kind.Hello other) text before outcome given after asked = absurd asked
+asks_replied may version cred (kind.Get key flags) text before outcome given after asked =
+    subst HasReply (sym asked.0.4) (id_has version asked.0.0)
+asks_replied may version cred (kind.Snd id mtype flags) text before outcome given after
+    ((released, mid, read, inl over), none) =
+    subst HasReply (sym over.4) (done_has version op.Snd content.Snd over.0)
+asks_replied may version cred (kind.Snd id mtype flags) text before outcome given after
+    ((released, mid, read, inr left), none) = absurd left.0.0
+asks_replied may version cred (kind.Rcv id size mtype flags) text before outcome given after (inl over) =
+    subst HasReply (sym over.4) (given_has version over.0)
+asks_replied may version cred (kind.Rcv id size mtype flags) text before outcome given after (inr left) =
+    absurd left.0.0
+asks_replied may version cred (kind.Stat id) text before outcome given after asked =
+    subst HasReply (sym asked.0.4) (stat_has version asked.0.0)
+asks_replied may version cred (kind.Set id to) text before outcome given after asked =
+    subst HasReply (sym asked.0.4) (done_has version op.Set content.Set asked.0.0)
+asks_replied may version cred (kind.Rm id) text before outcome given after asked =
+    subst HasReply (sym asked.0.4) (done_has version op.Rm content.Rm asked.0.0)
+asks_replied may version cred (kind.Row slot) text before outcome given after asked =
+    subst HasReply (sym asked.0.2) (row_has version asked.0.0)
+
+pub begun_replied : (may : ℕ → Type 0) (version : Version) (cred : Cred) (ask : Ask) (text : List ℕ) (before : Pass)
+    (came : Progress Waiting RequestOutcome) (given : List ℕ) (after : Pass) →
+    HasBegun may version cred ask text before came given after → IsReplied came
+begun_replied may version cred ask text before (progress.Waits waiting) given after begun = tt
+begun_replied may version cred ask text before (progress.Over outcome) given after begun =
+    asks_replied may version cred ask text before outcome given after begun
+
+send_has : (version : Version) (came : Progress SendWait (Result ⊤ Errno)) → IsReplied (send_progress version came)
+send_has version (progress.Waits w) = tt
+send_has version (progress.Over told) = done_has version op.Snd content.Snd told
+
+receive_has : (version : Version) (came : Progress ReceiveWait (Result Given Errno)) →
+    IsReplied (receive_progress version came)
+receive_has version (progress.Waits w) = tt
+receive_has version (progress.Over told) = given_has version told
+
+proceeds_replied : (may : ℕ → Type 0) (version : Version) (waiting : Waiting) (text : List ℕ) (phase : Phase)
+    (before : Pass) (came : Progress Waiting RequestOutcome) (given : List ℕ) (after : Pass) →
+    Proceeds may version waiting text phase before came given after → IsReplied came
+proceeds_replied may version (Send w) text phase before came given after on =
+    subst IsReplied (sym on.2) (send_has version on.0)
+proceeds_replied may version (Receive w) text phase before came given after on =
+    subst IsReplied (sym on.2) (receive_has version on.0)
+
+pub goes_replied : (may : ℕ → Type 0) (version : Version) (waiting : Waiting) (text : List ℕ) (before : Pass)
+    (came : Progress Waiting RequestOutcome) (given : List ℕ) (after : Pass) →
+    GoesOn may version waiting text before came given after → IsReplied came
+goes_replied may version waiting text before came given after (inl still) = subst IsReplied (sym still.1) tt
+goes_replied may version waiting text before came given after (inr went) =
+    proceeds_replied may version waiting text went.0 went.1 came given after went.3
+
+-- The outcome of a call that is over has a reply.
+pub over_has : (came : Progress Waiting RequestOutcome) (outcome : RequestOutcome) → came ≡ progress.Over outcome →
+    IsReplied came → HasReply outcome
+over_has came outcome is replied = subst IsReplied is replied
 
 -- ---- requests that were taken up
 

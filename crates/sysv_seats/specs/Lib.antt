@@ -6,6 +6,7 @@ pub mod KernelHandles
 pub mod Parked
 pub mod News
 pub mod InPieces
+pub mod Breaking
 pub mod Untold
 pub mod Memory
 pub mod NonBlocking

@@ -1,6 +1,8 @@
 -- What is kept of connections in memory (this project's profile).
 use Rattle.std.specs.Prelude.{◌≡◌, ◌<◌, ◌≤◌, ℕ, List, [], ◌∷◌, ◌++◌, map, Option, None, Some, vec_len, vec_capacity}
 use Rattle.sysv_seats.specs.declared.book.Replies.{Replies}
+use Rattle.sysv_seats.specs.PacedStreams.{PacedStream, breaks_of}
+use Rattle.sysv_seats.specs.Untold.{Closing}
 
 -- The replies of the closed connections, connection by connection, in the order in which they were
 -- closed.
@@ -18,3 +20,7 @@ KeepsMore book written book' =
 abbrev pub Keeps : Replies → Option (List ℕ) → Option (List ℕ) → Replies → Type 0
 Keeps book rest None book' = ⊥
 Keeps book rest (Some written) book' = KeepsMore book written book'
+
+-- How connections in memory end.
+abbrev pub closing_in_memory : Closing PacedStream Replies
+closing_in_memory = record { breaks = breaks_of; leaves = Keeps }

@@ -1,5 +1,6 @@
 -- Streams in memory, and the steps that pace them (this project's profile).
-use Rattle.std.specs.Prelude.{◌≡◌, ◌-◌, ◌^◌, ◌==◌, ◌&&◌, ◌++◌, ℕ, ⊤, not, List, [], ◌∷◌, length, min, take, drop}
+use Rattle.std.specs.Prelude.{◌≡◌, ◌-◌, ◌^◌, ◌==◌, ◌&&◌, ◌||◌, ◌++◌, ℕ, Bool, true, false, ⊤, not, List, [], ◌∷◌}
+use Rattle.std.specs.Prelude.{length, min, take, drop}
 use Rattle.std.specs.Prelude.{Option, None, Some, if◌then◌else◌}
 use Rattle.sysv_seats.specs.declared.memory_stream.Step.{Step}
 use Rattle.sysv_seats.specs.declared.memory_stream.Step.TheVariants as step
@@ -9,16 +10,18 @@ use Rattle.sysv_seats.specs.declared.non_blocking.Filled.{Filled}
 use Rattle.sysv_seats.specs.declared.non_blocking.Filled.TheVariants as filled
 use Rattle.sysv_seats.specs.declared.non_blocking.Over.{Over}
 use Rattle.sysv_seats.specs.declared.non_blocking.Over.TheVariants as over
+use Rattle.sysv_seats.specs.Breaking.{Breaks}
 
 -- What the contracts see of a stream in memory: the bytes still to be read, those that were
--- written, the number of bytes that can still be written, and the steps of its next reads and
--- writes.
+-- written, the number of bytes that can still be written, the steps of its next reads and writes, and
+-- whether its client may leave or be cut off.
 pub record PacedStream : Type 0 where
   pub unread : List ℕ
   pub written : List ℕ
   pub room : ℕ
   pub reads : List Step
   pub writes : List Step
+  pub cut : Bool
 
 -- The step of the next read or write. After the last step there is no limit.
 abbrev pub next_step : List Step → Step
@@ -102,3 +105,24 @@ DrainsAt (step.AtMost most) before bytes result after =
     × (after ≡ after_write before bytes (writable before (length bytes)))
 DrainsAt step.Reset before bytes result after = (result ≡ drained.Failed) × (after ≡ before)
 DrainsAt step.Fail before bytes result after = (result ≡ drained.Failed) × (after ≡ before)
+
+-- ---- what may happen
+
+-- The step fails.
+abbrev pub is_failing : Step → Bool
+is_failing (step.AtMost most) = false
+is_failing step.Reset = true
+is_failing step.Fail = true
+
+-- One of the steps fails.
+abbrev pub has_failing : List Step → Bool
+has_failing [] = false
+has_failing (next ∷ later) = is_failing next || has_failing later
+
+-- A read or a write may fail only at a step that does, or if the client is cut off.
+abbrev pub breaks_of : PacedStream → Breaks
+breaks_of stream = record {
+  reading = has_failing stream.reads || stream.cut;
+  writing = has_failing stream.writes || stream.cut;
+  cutting = stream.cut;
+}

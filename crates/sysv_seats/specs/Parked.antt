@@ -9,7 +9,7 @@ use Rattle.sysv_model.specs.declared.limits.TheConstants.{MESSAGE_BYTES}
 use Rattle.sysv_model.specs.declared.selector.Selector.{Selector}
 use Rattle.sysv_queue.specs.Delivery.{Given}
 use Rattle.sysv_session.specs.declared.kernel.RequestOutcome.{RequestOutcome}
-use Rattle.sysv_session.specs.Answers.{MayAnswer}
+use Rattle.sysv_session.specs.Answers.{MayAnswer, IsReplied as HasReply}
 use Rattle.sysv_service.specs.declared.progress.Progress.{Progress}
 use Rattle.sysv_service.specs.declared.progress.Progress.TheVariants as progress
 use Rattle.sysv_service.specs.declared.progress.ReceiveWait.{ReceiveWait}
@@ -87,6 +87,11 @@ HasBegun may version cred ask text before (progress.Over outcome) given after =
 abbrev pub MayProgress : Version → Ask → Progress Waiting RequestOutcome → List ℕ → Type 0
 MayProgress version ask (progress.Waits waiting) given = IsWaitOf ask waiting
 MayProgress version ask (progress.Over outcome) given = MayAnswer version ask outcome given
+
+-- If the request is over, it has a reply: no caller has left.
+abbrev pub IsReplied : Progress Waiting RequestOutcome → Type 0
+IsReplied (progress.Waits waiting) = ⊤
+IsReplied (progress.Over outcome) = HasReply outcome
 
 -- ---- a parked call goes on
 

@@ -2,8 +2,9 @@
 -- its connection and was not taken up is its input. A client either can take up more, or has a call
 -- that is parked, or has stopped: then it takes up no more, and the replies that were gathered are
 -- still given to its connection.
-use Rattle.std.specs.Prelude.{◌≡◌, ◌≤◌, ◌<◌, ◌+◌, ◌-◌, ◌⊎◌, ◌^◌, ◌||◌, ◌&&◌, ◌==◌, ⊤, ℕ, Bool, true, false, List, ◌++◌}
-use Rattle.std.specs.Prelude.{Option, None, Some, is_some}
+use Rattle.std.specs.Prelude.{◌≡◌, ◌≤◌, ◌<◌, ◌+◌, ◌-◌, ◌⊎◌, ◌^◌, ◌||◌, ◌&&◌, ◌==◌, ⊤, ℕ, Bool, true, false, not, List}
+use Rattle.std.specs.Prelude.{◌++◌}
+use Rattle.std.specs.Prelude.{Option, None, Some, is_some, unwrap_or}
 use Rattle.std.specs.Prelude.{IfSome, Result, length}
 use Rattle.std.specs.Io.KnownBytes.{Appends, Consumes, prepend_known}
 use Rattle.sysv_keys.specs.declared.identifier.TheConstants.{SLOTS}
@@ -29,6 +30,7 @@ use Rattle.sysv_seats.specs.declared.parked.Parked.{Parked}
 use Rattle.sysv_seats.specs.declared.waiting.Waiting.{Waiting}
 use Rattle.sysv_seats.specs.declared.waiting.Waiting.TheVariants.{Send, Receive}
 use Rattle.sysv_seats.specs.Asked.{ServesPassTogether, asks_with}
+use Rattle.sysv_seats.specs.Breaking.{Breaks, MayBreak}
 use Rattle.sysv_seats.specs.Parked.{IsParked}
 use Rattle.sysv_seats.specs.Untold.{Closing}
 
@@ -102,14 +104,14 @@ module _ {T : Type 0} (incoming outgoing : T → Option (List ℕ)) where
 
   -- The client's session, which began with the pass `start` on the connection `origin`, is over. It
   -- reported this, and its connection was closed into the book.
-  pub record IsOver {B : Type 0} (closes : Closing B) (start : Pass) (origin : T) (served : Served) (now : Pass)
+  pub record IsOver {B : Type 0} (closes : Closing T B) (start : Pass) (origin : T) (served : Served) (now : Pass)
       (book book' : B) : Type 0 where
     pub rest : Option (List ℕ)
     pub kept : Option (List ℕ)
     pub more : Option (List ℕ)
     pub serves : ServesPassTogether zero_moment ⊤ served start now (incoming origin) rest (outgoing origin) more
     pub behind : IsBehind rest kept
-    pub closed : closes book kept more book'
+    pub closed : closes.leaves book kept more book'
 
   -- Wherever the client was before, it is still one of the same session.
   abbrev pub KeepsWith : (old : Sitting T) → Pass → (new : Sitting T) → Pass → Type 0
@@ -182,10 +184,25 @@ module _ {T : Type 0} where
     broken = true;
   }
 
+  -- The same, and the client has stopped, for this reason if for no other.
+  abbrev pub broken_off_for : End → Sitting T → Sitting T
+  broken_off_for why client = record {
+    connection = client.connection;
+    talk = client.talk;
+    input = client.input;
+    parked = client.parked;
+    stopped = Some (unwrap_or client.stopped why);
+    broken = true;
+  }
+
   -- Nothing is left to do but to close the client: its connection takes no more replies, or it has
   -- stopped and its connection has taken all of them.
   abbrev pub is_finished : Sitting T → Bool
   is_finished client = client.broken || (is_some client.stopped && (length client.talk.unsent.bytes == 0))
+
+  -- Nothing is left to do but to close the client, or its session may be broken off.
+  abbrev pub MayClose : Breaks → Sitting T → Type 0
+  MayClose breaks client = (is_finished client ≡ true) ⊎ MayBreak breaks
 
   -- These bytes were appended to the input, or memory for them was refused.
   abbrev pub Arrives : List ℕ → Sitting T → Sitting T → Type 0
@@ -206,19 +223,27 @@ module _ {T : Type 0} where
     pub same : new ≡ talking new.talk old
     pub read : size ≡ length old.input - length rest
 
--- The end may only mean that more bytes are to come.
-abbrev pub is_early : End → Bool
-is_early Ended = true
-is_early NoMemory = false
-is_early NoHello = false
-is_early (Fault Truncated) = true
-is_early (Fault TooLong) = false
-is_early (Fault BadOp) = false
-is_early (Fault BadField) = false
-is_early (Fault Read) = false
-is_early Write = false
-is_early Bound = false
-is_early Left = false
+-- The end may only mean that more bytes are to come, unless this is the end of the input. No read of
+-- bytes that have arrived fails.
+abbrev pub is_early : End → (is_end : Bool) → Bool
+is_early Ended is_end = not is_end
+is_early NoMemory is_end = false
+is_early NoHello is_end = false
+is_early (Fault Truncated) is_end = not is_end
+is_early (Fault TooLong) is_end = false
+is_early (Fault BadOp) is_end = false
+is_early (Fault BadField) is_end = false
+is_early (Fault Read) is_end = true
+is_early Write is_end = false
+is_early Bound is_end = false
+is_early Left is_end = false
+
+-- Why the session of a client ends that is closed: why it has stopped; or its call is left; or
+-- nothing more is read.
+abbrev pub end_at_close : Option Parked → Option End → End
+end_at_close parked (Some why) = why
+end_at_close None None = Fault Read
+end_at_close (Some parked) None = Left
 
 -- ---- what every client keeps
 

@@ -5,10 +5,11 @@ ghost use Rattle.sysv_service.specs.Ran.{Pass};
 ghost use Rattle.sysv_session.specs.Answers.{IsAsked};
 ghost use Rattle.sysv_session.specs.TakenUp.{TakesUp};
 ghost use Rattle.sysv_wire.specs.Requests.{op_of, request_spelling};
+ghost use Rattle.sysv_seats.specs.Breaking.{MayBreak, MayEnd};
 ghost use Rattle.sysv_seats.specs.KernelHandles.{KeepsHandles};
 ghost use Rattle.sysv_seats.specs.News.{Keeps as KeepsNews, news_of, told_of};
-ghost use Rattle.sysv_seats.specs.Parked.{HasBegun, MayProgress};
-ghost use Rattle.sysv_seats.specs.Sits.{Arrives, GreetsAs, HasAsked, IsFree, IsOver, IsPending, Keeps, KeepsWith, ReadsNext, Sits, is_early as early, is_finished, parked_bytes, parked_wait, stopped_for, zero_moment};
+ghost use Rattle.sysv_seats.specs.Parked.{HasBegun, IsReplied, MayProgress};
+ghost use Rattle.sysv_seats.specs.Sits.{Arrives, GreetsAs, HasAsked, IsFree, IsOver, IsPending, Keeps, KeepsWith, MayClose, ReadsNext, Sits, broken_off_for, end_at_close, is_early as early, is_finished, parked_bytes, parked_wait, stopped_for, zero_moment};
 
 use crate::kernel::ServiceKernel;
 use crate::news::Told;
@@ -67,6 +68,7 @@ pub struct Client<T: NonBlocking> {
 
 impl<T: NonBlocking> Model for Client<T> {
     ghost use Rattle.std.specs.Prelude.{◌≤◌, vec_len, drop};
+    ghost use Rattle.sysv_seats.specs.Breaking.{HasCause};
     ghost use Rattle.sysv_seats.specs.Sits.{HasFrame, IsCounted, Sitting};
 
     ghost Value = { Sitting T };
@@ -81,7 +83,8 @@ impl<T: NonBlocking> Model for Client<T> {
     } };
 
     ghost invariant = { λ c. (c.start ≤ vec_len c.input)
-        × HasFrame (drop c.start c.input.items) c.parked × IsCounted c.conversation c.parked };
+        × HasFrame (drop c.start c.input.items) c.parked × IsCounted c.conversation c.parked
+        × HasCause (T.closes.breaks c.connection) c.stopped c.is_broken };
 }
 
 impl<T: NonBlocking> Client<T> {
@@ -193,6 +196,21 @@ impl<T: NonBlocking> Client<T> {
         self.is_broken || (self.stopped.is_some() && self.unsent_bytes() == 0)
     }
 
+    /// Returns whether the client may leave a call that waits, and may be cut off.
+    pub fn may_be_cut(&self) -> bool
+        ensures cutting { result ≡ (T.closes.breaks self.now.connection).cutting }
+        ensures all { result ≡ true → MayBreak (T.closes.breaks self.now.connection) }
+    {
+        self.connection.may_be_cut()
+    }
+
+    /// Returns whether the client may be closed: nothing else is left to do, or it may be cut off.
+    pub fn may_close(&self) -> bool
+        ensures { result ≡ true → MayClose (T.closes.breaks self.now.connection) self.now }
+    {
+        self.is_over() || self.may_be_cut()
+    }
+
     /// Learns that bytes may be there to be read.
     pub fn note_readable(&mut self)
         ensures { self.new ≡ self.old }
@@ -201,31 +219,40 @@ impl<T: NonBlocking> Client<T> {
     }
 
     /// Learns that the peer has shut down its writing. A parked call is left, now or when it is
-    /// parked.
+    /// parked, if the client may leave.
     pub fn leave(&mut self)
         ensures keeps { Keeps T.incoming T.outgoing self.old self.new }
+        ensures breaks { T.closes.breaks self.new.connection
+            ≡ T.closes.breaks self.old.connection }
     {
         self.has_left = true;
-        self.give_up();
+        self.heed_leave();
     }
 
-    /// Ends the client because of a limit. A parked call is left, and the connection takes no more
-    /// replies.
+    /// Ends the client because of a limit, if it may be cut off. A parked call is left, and the
+    /// connection takes no more replies.
     pub fn cut(&mut self)
         ensures keeps { Keeps T.incoming T.outgoing self.old self.new }
-        ensures broken { self.new.broken ≡ true }
+        ensures broken { (T.closes.breaks self.old.connection).cutting ≡ true
+            → self.new.broken ≡ true }
+        ensures stays { (T.closes.breaks self.old.connection).cutting ≡ false
+            → self.new ≡ self.old }
+        ensures breaks { T.closes.breaks self.new.connection
+            ≡ T.closes.breaks self.old.connection }
     {
-        self.is_broken = true;
-        self.give_up();
-        if self.stopped.is_none() {
-            self.stop(End::Fault(Fault::Read));
+        if !self.may_be_cut() {
+            return;
         }
+        self.give_up();
+        self.break_off(End::Fault(Fault::Read));
     }
 
     /// Gives the connection as many bytes of the replies as it takes now.
     pub fn drain(&mut self)
         ensures keeps { Keeps T.incoming T.outgoing self.old self.new }
         ensures broken { self.old.broken ≡ true → self.new ≡ self.old }
+        ensures breaks { T.closes.breaks self.new.connection
+            ≡ T.closes.breaks self.old.connection }
     {
         if self.is_broken || self.conversation.is_empty() {
             return;
@@ -246,6 +273,8 @@ impl<T: NonBlocking> Client<T> {
         ensures keeps { KeepsWith T.incoming T.outgoing self.old kernel.old.pass self.new
             kernel.new.pass }
         ensures handles { KeepsHandles kernel.old kernel.new }
+        ensures breaks { T.closes.breaks self.new.connection
+            ≡ T.closes.breaks self.old.connection }
     {
         if self.is_held() {
             return;
@@ -260,6 +289,8 @@ impl<T: NonBlocking> Client<T> {
         ensures keeps { KeepsWith T.incoming T.outgoing self.old kernel.old.pass self.new
             kernel.new.pass }
         ensures handles { KeepsHandles kernel.old kernel.new }
+        ensures breaks { T.closes.breaks self.new.connection
+            ≡ T.closes.breaks self.old.connection }
     {
         let Some(parked) = self.parked else {
             return;
@@ -278,23 +309,24 @@ impl<T: NonBlocking> Client<T> {
         } = parked;
         let progress = kernel.go_on(&request, &tools.text, &mut tools.given, waiting);
         self.settle(cred, request, length, progress, tools);
-        self.has_input = true;
+        self.has_input = self.is_within_request();
     }
 
     /// Closes the client, and returns what its session did. Replies that the connection has not
-    /// taken are lost.
-    pub fn close(mut self, book: &mut T::Book) -> Served
-        ensures { (start now : Pass) (origin : T) →
+    /// taken are lost. Of a client that may be closed, the session ends for a reason that there is.
+    pub fn close(self, book: &mut T::Book) -> Served
+        ensures over { (start now : Pass) (origin : T) →
             Sits T.incoming T.outgoing start origin self now →
             IsOver T.incoming T.outgoing T.closes start origin result now book.old book.new }
+        ensures cause { MayClose (T.closes.breaks self.connection) self
+            → MayEnd (T.closes.breaks self.connection) result.«end» }
     {
-        self.give_up();
         let Client {
             connection,
             conversation,
             input: _,
             start: _,
-            parked: _,
+            parked,
             stopped,
             is_ready: _,
             has_input: _,
@@ -304,11 +336,12 @@ impl<T: NonBlocking> Client<T> {
             sent: _,
         } = self;
         connection.close(book);
-        conversation.end(stopped.unwrap_or(End::Fault(Fault::Read)))
+        conversation.end(closing_end(&parked, stopped))
     }
 
     /// Gives up the parked call, if there is one: it is left, and nothing more is taken up.
     fn give_up(&mut self)
+        requires { (T.closes.breaks self.old.connection).writing ≡ true }
         ensures keeps { Keeps T.incoming T.outgoing self.old self.new }
         ensures none { self.new.parked ≡ None }
         ensures same { (self.new.connection ≡ self.old.connection)
@@ -322,17 +355,20 @@ impl<T: NonBlocking> Client<T> {
         self.stopped = Some(End::Left);
     }
 
-    /// Gives up the parked call if the peer has shut down its writing.
+    /// Gives up the parked call if the peer has shut down its writing, and the client may leave.
     fn heed_leave(&mut self)
         ensures keeps { Keeps T.incoming T.outgoing self.old self.new }
+        ensures breaks { T.closes.breaks self.new.connection
+            ≡ T.closes.breaks self.old.connection }
     {
-        if self.has_left {
+        if self.has_left && self.may_be_cut() {
             self.give_up();
         }
     }
 
     /// Stops the client: nothing more is taken up, for this reason.
     fn stop(&mut self, why: End)
+        requires { MayEnd (T.closes.breaks self.old.connection) why }
         ensures { self.new ≡ stopped_for why self.old }
     {
         self.stopped = Some(why);
@@ -341,15 +377,27 @@ impl<T: NonBlocking> Client<T> {
 
     /// Ends the client because a write failed.
     fn fail(&mut self)
-        requires { self.old.talk.unsent.bytes ≢ [] }
+        requires unsent { self.old.talk.unsent.bytes ≢ [] }
+        requires writing { (T.closes.breaks self.old.connection).writing ≡ true }
         ensures keeps { Keeps T.incoming T.outgoing self.old self.new }
         ensures broken { self.new.broken ≡ true }
+        ensures breaks { T.closes.breaks self.new.connection
+            ≡ T.closes.breaks self.old.connection }
     {
-        self.is_broken = true;
         self.give_up();
-        if self.stopped.is_none() {
-            self.stop(End::Write);
-        }
+        self.break_off(End::Write);
+    }
+
+    /// Ends the client, whose connection takes no more replies. It stops for this reason, unless it
+    /// has stopped.
+    fn break_off(&mut self, why: End)
+        requires cause { MayEnd (T.closes.breaks self.old.connection) why }
+        requires writing { (T.closes.breaks self.old.connection).writing ≡ true }
+        ensures { self.new ≡ broken_off_for why self.old }
+    {
+        self.stopped = Some(self.stopped.unwrap_or(why));
+        self.has_input = false;
+        self.is_broken = true;
     }
 
     /// Takes up a share of what has arrived, or what one read returns.
@@ -358,6 +406,8 @@ impl<T: NonBlocking> Client<T> {
         ensures keeps { KeepsWith T.incoming T.outgoing self.old kernel.old.pass self.new
             kernel.new.pass }
         ensures handles { KeepsHandles kernel.old kernel.new }
+        ensures breaks { T.closes.breaks self.new.connection
+            ≡ T.closes.breaks self.old.connection }
     {
         if self.has_input {
             self.take_share(kernel, tools);
@@ -372,6 +422,8 @@ impl<T: NonBlocking> Client<T> {
         ensures keeps { KeepsWith T.incoming T.outgoing self.old kernel.old.pass self.new
             kernel.new.pass }
         ensures handles { KeepsHandles kernel.old kernel.new }
+        ensures breaks { T.closes.breaks self.new.connection
+            ≡ T.closes.breaks self.old.connection }
     {
         match self.connection.fill(&mut tools.arrived) {
             Filled::Bytes(count) => {
@@ -389,7 +441,8 @@ impl<T: NonBlocking> Client<T> {
     /// Appends bytes that were read to the input, or stops if memory for them is refused.
     fn arrive(&mut self, bytes: &[u8])
         requires free { IsFree self.old }
-        ensures { Arrives bytes.now self.old self.new }
+        ensures arrives { Arrives bytes.now self.old self.new }
+        ensures same { self.new.connection ≡ self.old.connection }
     {
         if self.input.extend_from_slice(bytes).is_err() {
             self.stop(End::NoMemory);
@@ -401,6 +454,8 @@ impl<T: NonBlocking> Client<T> {
         ensures keeps { KeepsWith T.incoming T.outgoing self.old kernel.old.pass self.new
             kernel.new.pass }
         ensures handles { KeepsHandles kernel.old kernel.new }
+        ensures breaks { T.closes.breaks self.new.connection
+            ≡ T.closes.breaks self.old.connection }
     {
         for _ in 0..SHARE {
             self.has_input = true;
@@ -413,6 +468,7 @@ impl<T: NonBlocking> Client<T> {
             }
             self.take_up(false, kernel, tools);
         }
+        self.has_input = self.is_within_request();
     }
 
     /// Takes up the request at the front of the input, and answers it unless it waits. `is_end` is
@@ -428,6 +484,8 @@ impl<T: NonBlocking> Client<T> {
         ensures keeps { KeepsWith T.incoming T.outgoing self.old kernel.old.pass self.new
             kernel.new.pass }
         ensures handles { KeepsHandles kernel.old kernel.new }
+        ensures breaks { T.closes.breaks self.new.connection
+            ≡ T.closes.breaks self.old.connection }
     {
         let (size, taken) = self.read_next(&mut tools.text);
         self.requests = self.requests.wrapping_add(u64::from(taken.is_ok()));
@@ -439,7 +497,7 @@ impl<T: NonBlocking> Client<T> {
             Ok(TakenUp::Request(cred, request)) => {
                 self.ask(cred, request, size, kernel, tools);
             }
-            Err(why) if !is_end && is_early(why) => self.has_input = false,
+            Err(why) if is_early(why, is_end) => self.has_input = false,
             Err(why) => self.stop(why),
         }
     }
@@ -451,6 +509,7 @@ impl<T: NonBlocking> Client<T> {
         ensures takes { ReadsNext self.old result.0 result.1 text.new self.new }
         ensures pending { (cred : Cred) (request : Request) →
             result.1 ≡ Ok (TakenUp.Request cred request) → IsPending self.new }
+        ensures same { self.new.connection ≡ self.old.connection }
     {
         let mut rest = &self.input[self.start..];
         let before = rest.len();
@@ -462,6 +521,7 @@ impl<T: NonBlocking> Client<T> {
     fn greet(&mut self, version: Version, tools: &mut Tools)
         requires free { IsFree self.old }
         ensures greets { GreetsAs version self.old self.new }
+        ensures same { self.new.connection ≡ self.old.connection }
     {
         tools.given.clear();
         if let Err(why) = self.conversation.greet(version, SLOTS as u32, &tools.given) {
@@ -487,6 +547,8 @@ impl<T: NonBlocking> Client<T> {
             kernel.old.pass →
             Sits T.incoming T.outgoing start origin self.new kernel.new.pass }
         ensures handles { KeepsHandles kernel.old kernel.new }
+        ensures breaks { T.closes.breaks self.new.connection
+            ≡ T.closes.breaks self.old.connection }
     {
         tools.given.clear();
         let progress = kernel.begin(cred, &request, &tools.text, &mut tools.given);
@@ -506,12 +568,15 @@ impl<T: NonBlocking> Client<T> {
         requires pending { IsPending self.old }
         requires frame { size ≤ length self.old.input }
         requires answer { MayProgress request.version request.ask progress tools.old.given }
+        requires replied { IsReplied progress }
         ensures keeps { (start before now : Pass) (origin : T) (text : List ℕ) →
             HasAsked T.incoming T.outgoing start origin self.old cred request text size before →
             HasBegun zero_moment request.version cred request.ask text before progress
             tools.old.given now →
             Sits T.incoming T.outgoing start origin self.new now }
         ensures news { KeepsNews (news_of (told_of request.ask progress)) tools.old tools.new }
+        ensures breaks { T.closes.breaks self.new.connection
+            ≡ T.closes.breaks self.old.connection }
     {
         match progress {
             Progress::Over(outcome) => {
@@ -554,11 +619,13 @@ impl<T: NonBlocking> Client<T> {
     fn compact(&mut self)
         ensures { self.new ≡ self.old }
     {
-        if self.start == self.input.len() && self.input.capacity() > MOST_KEPT {
-            self.input.clear();
-            self.input.shrink_to_fit();
-        } else {
+        if self.start < self.input.len() {
             self.input.drain(..self.start);
+        } else {
+            self.input.clear();
+            if self.input.capacity() > MOST_KEPT {
+                self.input.shrink_to_fit();
+            }
         }
         self.start = 0;
     }
@@ -577,9 +644,25 @@ fn take_up_from<R: Read>(
     conversation.take_up(&mut Watched::new(input), text)
 }
 
-/// Returns whether the end may only mean that more bytes are to come.
-fn is_early(why: End) -> bool
-    ensures { result ≡ early why }
+/// Returns why the session of a client ends that is closed with this call and for this reason.
+fn closing_end(parked: &Option<Parked>, stopped: Option<End>) -> End
+    ensures { result ≡ end_at_close parked.now stopped }
 {
-    matches!(why, End::Ended | End::Fault(Fault::Truncated))
+    match (stopped, parked) {
+        (Some(why), _) => why,
+        (None, None) => End::Fault(Fault::Read),
+        (None, Some(_)) => End::Left,
+    }
+}
+
+/// Returns whether the end may only mean that more bytes are to come. `is_end` is whether nothing
+/// follows the input. No read of bytes that have arrived fails.
+fn is_early(why: End, is_end: bool) -> bool
+    ensures { result ≡ early why is_end }
+{
+    match why {
+        End::Ended | End::Fault(Fault::Truncated) => !is_end,
+        End::Fault(Fault::Read) => true,
+        _ => false,
+    }
 }

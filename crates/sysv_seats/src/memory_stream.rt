@@ -1,6 +1,7 @@
 //! Connections in memory that never wait, and whose reads and writes go by a list of steps.
-ghost use Rattle.std.specs.Prelude.{◌≡◌, [], IfSome, length};
-ghost use Rattle.sysv_seats.specs.PacedStreams.{DrainsAt, FillsAs, later_steps, limit_of, next_step, over_of};
+ghost use Rattle.std.specs.Prelude.{◌≡◌, [], IfSome, false, length, true};
+ghost use Rattle.sysv_seats.specs.Breaking.{MayBreak};
+ghost use Rattle.sysv_seats.specs.PacedStreams.{DrainsAt, FillsAs, breaks_of, later_steps, limit_of, next_step, over_of};
 
 use crate::book::Replies;
 use crate::non_blocking::{Drained, Filled, NonBlocking, Over};
@@ -29,6 +30,8 @@ pub struct MemoryStream<'a> {
     room: usize,
     reads: &'a [Step],
     writes: &'a [Step],
+    /// Whether the client may leave or be cut off.
+    cut: bool,
 }
 
 impl<'a> Model for MemoryStream<'a> {
@@ -43,6 +46,7 @@ impl<'a> Model for MemoryStream<'a> {
       room = stream.room;
       reads = stream.reads.now;
       writes = stream.writes.now;
+      cut = stream.cut;
     } };
 
     ghost invariant = { λ stream.
@@ -52,7 +56,7 @@ impl<'a> Model for MemoryStream<'a> {
 impl<'a> MemoryStream<'a> {
     /// Creates a connection whose client writes `input`, and to which `room` bytes can be written.
     /// Each read takes the next step of `reads`, and each write the next one of `writes`; after the
-    /// last step there is no limit.
+    /// last step there is no limit. The client stays, and is not cut off.
     ///
     /// Returns `None` if memory is refused.
     pub fn new(
@@ -68,6 +72,7 @@ impl<'a> MemoryStream<'a> {
           room = room;
           reads = reads.now;
           writes = writes.now;
+          cut = false;
         }) }
     {
         let output = Vec::with_capacity(alloc, room).ok()?;
@@ -77,7 +82,30 @@ impl<'a> MemoryStream<'a> {
             room,
             reads,
             writes,
+            cut: false,
         })
+    }
+
+    /// Returns the connection, whose client may now leave or be cut off.
+    pub fn with_cuts(self) -> MemoryStream<'a>
+        ensures { result ≡ record self.entry { cut = true } }
+    {
+        let MemoryStream {
+            input,
+            output,
+            room,
+            reads,
+            writes,
+            cut: _,
+        } = self;
+        MemoryStream {
+            input,
+            output,
+            room,
+            reads,
+            writes,
+            cut: true,
+        }
     }
 
     /// Returns what was written so far.
@@ -102,8 +130,8 @@ impl<'a> MemoryStream<'a> {
 
 impl<'a> NonBlocking for MemoryStream<'a> {
     ghost use Rattle.std.specs.Prelude.{◌≡◌, None, Some};
-    ghost use Rattle.sysv_seats.specs.Memory.{Keeps};
-    ghost use Rattle.sysv_seats.specs.PacedStreams.{DrainsAt, FailsAt, FillsAs, next_step, over_of};
+    ghost use Rattle.sysv_seats.specs.Memory.{closing_in_memory};
+    ghost use Rattle.sysv_seats.specs.PacedStreams.{DrainsAt, FailsAt, FillsAs, breaks_of, next_step, over_of};
     ghost use Rattle.sysv_seats.specs.NonBlocking.{DrainAppends, FillConsumes};
 
     type Book = Replies;
@@ -116,7 +144,7 @@ impl<'a> NonBlocking for MemoryStream<'a> {
 
     ghost refuses = { λ stream. FailsAt (next_step stream.writes) };
 
-    ghost closes = { Keeps };
+    ghost closes = { closing_in_memory };
 
     #[tactic(auto, using(crate::proofs::Known::never_none))]
     fn fill(&mut self, buf: &mut [u8]) -> Filled
@@ -129,6 +157,9 @@ impl<'a> NonBlocking for MemoryStream<'a> {
         ensures written { self.new.written ≡ self.old.written }
         ensures refuses { FailsAt (next_step self.old.writes)
             → FailsAt (next_step self.new.writes) }
+        ensures breaks { breaks_of self.new ≡ breaks_of self.old }
+        ensures reset { result ≡ Filled.Over Over.Reset → (breaks_of self.new).reading ≡ true }
+        ensures failed { result ≡ Filled.Over Over.Failed → (breaks_of self.new).reading ≡ true }
     {
         if let Some(why) = self.over() {
             return Filled::Over(why);
@@ -154,6 +185,8 @@ impl<'a> NonBlocking for MemoryStream<'a> {
             → (result ≡ Drained.Failed) × FailsAt (next_step self.new.writes) }
         ensures unread { self.new.unread ≡ self.old.unread }
         ensures over { over_of self.new ≡ over_of self.old }
+        ensures breaks { breaks_of self.new ≡ breaks_of self.old }
+        ensures writing { result ≡ Drained.Failed → (breaks_of self.new).writing ≡ true }
     {
         let Step::AtMost(most) = next(self.writes) else {
             return Drained::Failed;
@@ -168,6 +201,10 @@ impl<'a> NonBlocking for MemoryStream<'a> {
             return Drained::NothingNow;
         }
         Drained::Took(count)
+    }
+
+    fn may_be_cut(&self) -> bool {
+        self.cut
     }
 
     fn close(self, book: &mut Replies) {

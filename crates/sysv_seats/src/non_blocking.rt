@@ -1,5 +1,6 @@
 //! Connections that never wait.
-ghost use Rattle.std.specs.Prelude.{◌≡◌, ℕ, List, Option, None, Some, IfSome};
+ghost use Rattle.std.specs.Prelude.{◌≡◌, ◌⊎◌, ℕ, List, Option, None, Some, IfSome, true};
+ghost use Rattle.sysv_seats.specs.Breaking.{MayBreak};
 ghost use Rattle.sysv_seats.specs.NonBlocking.{DrainAppends, FillConsumes};
 
 /// A connection whose reads and writes return at once.
@@ -8,6 +9,7 @@ ghost use Rattle.sysv_seats.specs.NonBlocking.{DrainAppends, FillConsumes};
 /// closes it once.
 pub trait NonBlocking {
     ghost use Rattle.sysv_seats.specs.declared.non_blocking.Over.{Over};
+    ghost use Rattle.sysv_seats.specs.Untold.{Closing};
 
     /// What is kept of the connections that were closed.
     type Book;
@@ -24,9 +26,10 @@ pub trait NonBlocking {
     /// Each write fails from now on.
     ghost refuses: { Self → Type 0 };
 
-    /// What becomes of a book when a connection is closed that has these bytes still to be read,
-    /// and to which these bytes were written.
-    ghost closes: { Self.Book → Option (List ℕ) → Option (List ℕ) → Self.Book → Type 0 };
+    /// How connections end. `breaks` is what may break off a session on one, which no read or
+    /// write changes. `leaves` is what becomes of a book when a connection is closed that has these
+    /// bytes still to be read, and to which these bytes were written.
+    ghost closes: { Closing Self Self.Book };
 
     /// Reads into the front of `buf` what can be read now. Once reading is over, every read says
     /// so. A connection that does not tell its bytes does not tell them after a read either.
@@ -37,7 +40,12 @@ pub trait NonBlocking {
         ensures again { (why : Over) → over self.old ≡ Some why
             → (result ≡ Filled.Over why) × (over self.new ≡ Some why) }
         ensures written { outgoing self.new ≡ outgoing self.old }
-        ensures refuses { refuses self.old → refuses self.new };
+        ensures refuses { refuses self.old → refuses self.new }
+        ensures breaks { closes.breaks self.new ≡ closes.breaks self.old }
+        ensures reset { result ≡ Filled.Over Over.Reset
+            → (closes.breaks self.new).reading ≡ true }
+        ensures failed { result ≡ Filled.Over Over.Failed
+            → (closes.breaks self.new).reading ≡ true };
 
     /// Writes what can be written of `bytes` now, from the front. Once a write has failed, every
     /// write fails.
@@ -46,11 +54,19 @@ pub trait NonBlocking {
         ensures failed { result ≡ Drained.Failed → refuses self.new }
         ensures again { refuses self.old → (result ≡ Drained.Failed) × refuses self.new }
         ensures unread { incoming self.new ≡ incoming self.old }
-        ensures over { over self.new ≡ over self.old };
+        ensures over { over self.new ≡ over self.old }
+        ensures breaks { closes.breaks self.new ≡ closes.breaks self.old }
+        ensures writing { result ≡ Drained.Failed → (closes.breaks self.new).writing ≡ true };
+
+    /// Returns whether the connection's client may leave a call that waits, and may be cut off by
+    /// the server.
+    fn may_be_cut(&self) -> bool
+        ensures cutting { result ≡ (closes.breaks self.now).cutting }
+        ensures all { result ≡ true → MayBreak (closes.breaks self.now) };
 
     /// Closes the connection.
     fn close(self, book: &mut Self::Book)
-        ensures { closes book.old (incoming self) (outgoing self) book.new };
+        ensures { closes.leaves book.old (incoming self) (outgoing self) book.new };
 }
 
 /// The result of a read that does not wait.

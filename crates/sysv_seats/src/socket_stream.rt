@@ -122,6 +122,10 @@ impl NonBlocking for SocketStream {
         Drained::Failed
     }
 
+    fn may_be_cut(&self) -> bool {
+        true
+    }
+
     fn close(self, _book: &mut ()) {}
 }
 

@@ -239,7 +239,11 @@ fn remove_front(bytes: &mut Vec<u8>, n: usize)
     requires { n ≤ length bytes.old.items }
     ensures { bytes.new.items ≡ drop n bytes.old.items }
 {
-    bytes.drain(..n);
+    if n == bytes.len() {
+        bytes.clear();
+    } else {
+        bytes.drain(..n);
+    }
 }
 
 /// Brings all marks `n` bytes nearer.

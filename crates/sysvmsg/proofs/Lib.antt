@@ -2,4 +2,4 @@
 pub mod WordLemmas
 pub mod AskedLemmas
 pub mod EndLemmas
-pub mod ServerLemmas
+pub mod TimeLemmas

@@ -1,5 +1,5 @@
 -- How the program ends: its exit status, and how a server ends (this project's programs).
-use Rattle.std.specs.Prelude.{◌≡◌, ◌≤◌, ◌↔◌, ⊤, ℕ, Bool, List, [], ◌∷◌, ◌++◌, codes, Option, None, Some}
+use Rattle.std.specs.Prelude.{◌≡◌, ◌↔◌, ⊤, ℕ, Bool, List, [], ◌∷◌, ◌++◌, codes, Option, None, Some}
 use Rattle.std.specs.Fmt.{decimal}
 use Rattle.std.specs.Io.KnownBytes.{Appends}
 use Rattle.std.specs.Process.{exit_status}
@@ -10,6 +10,7 @@ use Rattle.sysv_server.specs.declared.host.Reason.{Reason}
 use Rattle.sysv_server.specs.declared.host.Reason.TheVariants.{Full, InputOver, NoSocket, Accept}
 use Rattle.sysv_engine.specs.declared.sums.Sums.{Sums}
 use Rattle.sysv_server.specs.declared.terms.Terms.{Terms}
+use Rattle.sysvmsg.specs.Room.{places_within}
 
 -- The program succeeds.
 abbrev pub Succeeds : ExitCode → Type 0
@@ -37,22 +38,26 @@ IsMeantToEnd (Some (NoSocket why)) = ⊥
 IsMeantToEnd (Some (Accept why)) = ⊥
 IsMeantToEnd None = ⊤
 
--- A server that accepted no more connections for this reason was to accept no more, and the line
--- with its sums was printed whole, and nothing else was.
-abbrev pub HasServed : Sums → Option Reason → (shown after : Option (List ℕ)) → Type 0
-HasServed sums reason shown after = IsMeantToEnd reason × Appends shown after (sums_line sums)
+-- A server that accepted no more connections for this reason was to accept no more, memory was
+-- refused for none of its sessions, and the line with its sums was printed whole, and nothing else
+-- was.
+abbrev pub HasServed : Ended → Option Reason → (shown after : Option (List ℕ)) → Type 0
+HasServed ended reason shown after =
+    IsMeantToEnd reason × (ended.refused ≡ 0) × Appends shown after (sums_line ended.sums)
 
--- A server on these terms ended so. It had at most as many places as the terms have sessions at once:
--- fewer if there are too few descriptors.
-abbrev pub EndsWithin : Terms → Ended → Type 0
-EndsWithin terms ended =
-    (places : ℕ) × (1 ≤ places) × (places ≤ terms.at_once) × EndsOn terms.blocks places terms.sessions ended
+-- A server on these terms ended so, under this limit of open files. It had as many places as the terms
+-- have sessions at once, or as many as there are descriptors for.
+abbrev pub EndsWithin : Option ℕ → Terms → Ended → Type 0
+EndsWithin limit terms ended =
+    EndsOn terms.blocks (places_within limit terms.workers terms.at_once) terms.sessions ended
 
 -- A server that may have an input served on these terms until the input was over or the maximum
--- number of sessions was reached, and the sums of its sessions were printed.
+-- number of sessions was reached, and the sums of its sessions were printed. The limit of open files is
+-- the one that it read before.
 pub record HasServedAll (has_input : Bool) (terms : Terms) (shown after : Option (List ℕ)) : Type 0 where
+  pub limit : Option ℕ
   pub ended : Ended
   pub reason : Option Reason
-  pub ends : EndsWithin terms ended
+  pub ends : EndsWithin limit terms ended
   pub meant : HasReason has_input terms.sessions ended.sums.sessions reason
-  pub served : HasServed ended.sums reason shown after
+  pub served : HasServed ended reason shown after

@@ -7,6 +7,7 @@ pub mod Who
 pub mod Tasks
 pub mod Servers
 pub mod Requests
+pub mod Room
 pub mod Ends
 pub mod Scripts
 pub mod Clients

@@ -1,5 +1,7 @@
 -- Commands that make several calls over one connection (this project's programs), by their options.
 use Rattle.std.specs.Prelude.{ℕ, ◌-◌, ◌^◌, Bool, true, false, Option, None, Some, is_some, unwrap_or, ◌||◌, if◌then◌else◌}
+use Rattle.sysv_clients.specs.declared.command.Form.{Form}
+use Rattle.sysv_clients.specs.declared.command.Form.TheVariants.{Line, Raw, Zero, Object}
 use Rattle.sysv_clients.specs.declared.command.Receipt.{Receipt}
 use Rattle.sysv_clients.specs.declared.command.Target.TheVariants.{Id, Key, All}
 use Rattle.sysv_clients.specs.declared.command.Task.{Task}
@@ -26,9 +28,17 @@ receiving_of cred receipt how =
       ahead = unwrap_or how.ahead 1;
     }
 
+-- A message in this form is not its body and an LF.
+abbrev pub is_of_options : Form → Bool
+is_of_options Line = false
+is_of_options Raw = true
+is_of_options Zero = true
+is_of_options Object = true
+
 -- A rcv with these options shows its messages as a stream.
 abbrev pub is_of_stream : Receipt → How → Bool
-is_of_stream receipt how = how.follow || (is_some how.count || (receipt.raw || receipt.show_type))
+is_of_stream receipt how =
+    how.follow || (is_some how.count || (is_of_options receipt.form || receipt.show_type))
 
 -- How a task with these options is done.
 abbrev pub way_by : Cred → Task → How → Way

@@ -2,6 +2,8 @@
 use Rattle.std.specs.Prelude.{◌≡◌, ◌≤◌, ◌⊎◌, ℕ, ℤ, pos, Bool, true, false, List, [], codes, length, Option, Some}
 use Rattle.std.specs.Prelude.{None, is_some, unwrap_or}
 use Rattle.clap.specs.Words.{Row}
+use Rattle.sysv_clients.specs.declared.command.Form.{Form}
+use Rattle.sysv_clients.specs.declared.command.Form.TheVariants.{Line, Raw, Zero, Object}
 use Rattle.sysv_clients.specs.declared.command.Format.{Format}
 use Rattle.sysv_clients.specs.declared.command.Format.TheVariants.{Table as AsTable, Json}
 use Rattle.sysv_clients.specs.declared.command.Making.{Making}
@@ -16,7 +18,7 @@ use Rattle.sysv_model.specs.declared.limits.TheConstants.{BODY_ROOM}
 use Rattle.sysv_words.specs.Words.{IsNat32}
 use Rattle.sysvmsg.specs.declared.asked.How.{How}
 use Rattle.sysvmsg.specs.declared.who.Who.{Who}
-use Rattle.sysvmsg.specs.Words.{Has, HasFlag, HasMaybe, HasOr, IsOctalMode, WantsType, word_of}
+use Rattle.sysvmsg.specs.Words.{Has, HasFlag, HasMaybe, HasOr, IsOctalMode, IsOn, IsTime, WantsType, word_of}
 
 -- The command has a user ID, a group ID and a process ID, or lacks them, and has `--me` or not.
 pub record StatesWho (words : List Row) (who : Who) : Type 0 where
@@ -36,7 +38,8 @@ pub record HasHow (words : List Row) (how : How) : Type 0 where
   pub follow : HasFlag words (codes "follow") how.follow
   pub count : HasMaybe IsNat32 (word_of words (codes "count")) how.count
   pub ahead : HasMaybe IsAhead (word_of words (codes "ahead")) how.ahead
-  pub wait : HasMaybe IsNat32 (word_of words (codes "wait")) how.wait
+  pub wait : HasMaybe IsTime (word_of words (codes "wait")) how.wait
+  pub stderr : HasFlag words (codes "stderr") how.stderr
 
 -- The queues are listed as JSON objects.
 abbrev pub is_json : Format → Bool
@@ -57,10 +60,6 @@ Lists id words (Receive receipt) = ⊥
 -- An `ipcs` with these words has this task.
 abbrev pub AsksToList : List Row → Task → Type 0
 AsksToList words task = Lists (word_of words (codes "id")) words task
-
--- clap found this flag as `true`.
-abbrev pub IsOn : Option (List ℕ) → Type 0
-IsOn flag = flag ≡ Some (codes "true")
 
 -- The words after `-q` and `-Q` of an `ipcrm` and its flag `--all` name this queue: that of the
 -- identifier, or all queues if there is none and the flag is on, or else that of the key.
@@ -114,6 +113,13 @@ AsksToSend words (Remove target) = ⊥
 AsksToSend words (Make making) = ⊥
 AsksToSend words (Receive receipt) = ⊥
 
+-- The flags `--raw`, `--zero` and `--json` of a `rcv`, of which at most one is on, ask for this form.
+abbrev pub ShowsIn : (raw zero json : Option (List ℕ)) → Form → Type 0
+ShowsIn raw zero json Line = ¬ IsOn raw × ¬ IsOn zero × ¬ IsOn json
+ShowsIn raw zero json Raw = IsOn raw × ¬ IsOn zero × ¬ IsOn json
+ShowsIn raw zero json Zero = ¬ IsOn raw × IsOn zero × ¬ IsOn json
+ShowsIn raw zero json Object = ¬ IsOn raw × ¬ IsOn zero × IsOn json
+
 -- A `rcv` with these words has this receipt.
 pub record Receives (words : List Row) (receipt : Receipt) : Type 0 where
   pub has_key : Has IsKey (word_of words (codes "key")) receipt.key
@@ -126,7 +132,8 @@ pub record Receives (words : List Row) (receipt : Receipt) : Type 0 where
   pub has_nowait : HasFlag words (codes "nowait") receipt.nowait
   pub has_noerror : HasFlag words (codes "noerror") receipt.noerror
   pub has_show_type : HasFlag words (codes "show-type") receipt.show_type
-  pub has_raw : HasFlag words (codes "raw") receipt.raw
+  pub has_form : ShowsIn (word_of words (codes "raw")) (word_of words (codes "zero")) (word_of words (codes "json"))
+      receipt.form
 
 -- A `rcv` with these words has this task.
 abbrev pub AsksToReceive : List Row → Task → Type 0

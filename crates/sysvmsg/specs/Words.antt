@@ -1,12 +1,14 @@
 -- What the words of a parsed command mean (this project's programs). clap lists the words of a
 -- command in rows, under the names that the table of commands has.
-use Rattle.std.specs.Prelude.{◌≡◌, ◌≤◌, ⊤, ℕ, ℤ, pos, neg_ℤ, Bool, true, false, List, codes, Option, Some, None, Result}
-use Rattle.std.specs.Prelude.{MatchResult}
+use Rattle.std.specs.Prelude.{◌≡◌, ◌≤◌, ◌+◌, ◌-◌, ◌*◌, ◌^◌, ◌⊎◌, ⊤, ℕ, ℤ, pos, neg_ℤ, Bool, true, false, List, codes}
+use Rattle.std.specs.Prelude.{Option, Some, None, Result}
+use Rattle.std.specs.Prelude.{Contains, MatchResult, length}
 use Rattle.std.specs.Str.Parse.{IsNumeral, digits_value}
 use Rattle.clap.specs.Words.{Row, first_of, found_of, one_of, rows_of}
 use Rattle.clap.specs.declared.parser.matches.ArgMatches.{ArgMatches}
 use Rattle.sysvmsg.specs.declared.asked.TheConstants.{MAX_MODE}
 use Rattle.sysv_clients.specs.Words.{IsType}
+use Rattle.sysv_words.specs.Words.{IsNat32, SplitsAt, is_negative}
 
 -- The words of a command, as clap found them.
 abbrev pub words_in : ArgMatches → List Row
@@ -33,6 +35,10 @@ HasMaybe Says (Some word) None = ⊥
 HasMaybe Says None (Some value) = ⊥
 HasMaybe Says None None = ⊤
 
+-- clap found this flag as `true`.
+abbrev pub IsOn : Option (List ℕ) → Type 0
+IsOn flag = flag ≡ Some (codes "true")
+
 -- A flag is on if clap found it as `true`. It is off if clap found it as `false` or did not find it.
 abbrev pub IsFlag : Option (List ℕ) → Bool → Type 0
 IsFlag (Some text) on = ((text ≡ codes "true") → on ≡ true) × ((text ≡ codes "false") → on ≡ false)
@@ -52,6 +58,37 @@ abbrev pub WantsType : (one upto except : Option (List ℕ)) → ℤ → Type 0
 WantsType (Some word) upto except mtype = IsType word mtype
 WantsType None (Some word) except mtype = (most : ℤ) × IsType word most × (mtype ≡ neg_ℤ most)
 WantsType None None except mtype = HasOr IsType (pos 0) except mtype
+
+-- The word is a numeral of this number, without a minus before it.
+abbrev pub IsUnsigned : List ℕ → ℕ → Type 0
+IsUnsigned word number = (is_negative word ≡ false) × IsNat32 word number
+
+-- One to three decimal places of this number of thousandths.
+pub record IsThousandths (places : List ℕ) (number : ℕ) : Type 0 where
+  pub digits : ℕ
+  pub is_digits : IsUnsigned places digits
+  pub least : 1 ≤ length places
+  pub most : length places ≤ 3
+  pub value : number ≡ digits * 10 ^ (3 - length places)
+
+-- A number of seconds and its decimal places are this number of milliseconds.
+pub record ArePartsOf (whole places : List ℕ) (time : ℕ) : Type 0 where
+  pub seconds : ℕ
+  pub thousandths : ℕ
+  pub is_whole : IsUnsigned whole seconds
+  pub is_rest : IsThousandths places thousandths
+  pub value : time ≡ seconds * 1000 + thousandths
+
+-- A number of seconds without decimal places is this number of milliseconds.
+abbrev pub AreSeconds : List ℕ → ℕ → Type 0
+AreSeconds word time = (seconds : ℕ) × IsNat32 word seconds × (time ≡ seconds * 1000)
+
+-- The word is a number of seconds, without a point, or with one and one to three decimal places. It is
+-- this number of milliseconds.
+abbrev pub IsTime : List ℕ → ℕ → Type 0
+IsTime word time =
+    (¬ Contains word 46 × AreSeconds word time)
+    ⊎ ((whole : List ℕ) × (places : List ℕ) × SplitsAt 46 word whole places × ArePartsOf whole places time)
 
 -- The word is an octal numeral of this mode of a file.
 abbrev pub IsOctalMode : List ℕ → ℕ → Type 0

@@ -1,12 +1,12 @@
 //! The request that a command line makes.
 
-ghost use Rattle.std.specs.Prelude.{◌≡◌, IfOk, MatchOption, OnOk, codes, is_some, map, pos};
+ghost use Rattle.std.specs.Prelude.{◌≡◌, ◌≤◌, ℕ, IfOk, IfSome, MatchOption, OnOk, codes, false, is_some, map, pos, true};
 ghost use Rattle.clap.specs.Words.{app_of, subcommand_rows_of};
 ghost use Rattle.sysvmsg.specs.Asked.{AreAtOnce, AreBlocks, AreTerms, AreWorkers, HasLimits, IsWithinLimits};
 ghost use Rattle.sysvmsg.specs.Requests.{AsksFor, ClientAsks, IsAskedBy, IsMeant};
 ghost use Rattle.sysvmsg.specs.Servers.{AsksForAtOnce, AsksForBlocks, AsksForFile, AsksForTerms, AsksForWorkers, AsksToServe, HasPath};
-ghost use Rattle.sysvmsg.specs.Tasks.{AsksToList, AsksToMake, AsksToReceive, AsksToRemove, AsksToSend, HasTask, HasHow, NamesTarget, IsAhead, Receives, StatesWho, is_json};
-ghost use Rattle.sysvmsg.specs.Words.{Has, HasFlag, HasMaybe, HasOr, IsMode, IsOctalMode, IsRead, WantsType, word_of, words_in};
+ghost use Rattle.sysvmsg.specs.Tasks.{AsksToList, AsksToMake, AsksToReceive, AsksToRemove, AsksToSend, HasTask, HasHow, NamesTarget, IsAhead, Receives, ShowsIn, StatesWho, is_json};
+ghost use Rattle.sysvmsg.specs.Words.{ArePartsOf, AreSeconds, Has, HasFlag, HasMaybe, HasOr, IsMode, IsOctalMode, IsOn, IsRead, IsThousandths, IsTime, IsUnsigned, WantsType, word_of, words_in};
 ghost use Rattle.sysv_words.specs.Words.{IsNat32, IsNat64};
 ghost use Rattle.sysv_clients.specs.Run.{HasShortText};
 ghost use Rattle.sysv_clients.specs.Words.{IsKey, IsType};
@@ -17,10 +17,10 @@ use clap::error::ErrorKind;
 use clap::{ArgMatches, Command as CommandLine, Error};
 use std::alloc::{AllocError, Global};
 use std::convert::AsStr;
-use sysv_clients::{Format, MAX_AHEAD, Making, Receipt, Target, Task, id_of, key_of, type_of};
+use sysv_clients::{Form, Format, MAX_AHEAD, Making, Receipt, Target, Task, id_of, key_of, type_of};
 use sysv_model::{BODY_ROOM, MAX_BLOCKS, MIN_BLOCKS};
 use sysv_server::{MAX_CLIENTS, Patience, Terms};
-use sysv_words::Reads;
+use sysv_words::{Reads, one_split, split_at_mark};
 
 /// The request that a command line makes.
 #[derive(Clone, Copy, PartialEq, Eq, Debug)]
@@ -51,8 +51,10 @@ pub(crate) struct How {
     pub(crate) count: Option<u32>,
     /// The number of receives that a `rcv` has on their way.
     pub(crate) ahead: Option<u32>,
-    /// The number of seconds that each send or receive waits at most.
-    pub(crate) wait: Option<u32>,
+    /// The number of milliseconds that each send or receive waits at most.
+    pub(crate) wait: Option<u64>,
+    /// Whether each fault is a sentence on standard error.
+    pub(crate) stderr: bool,
 }
 
 /// The socket file and the terms of a server.
@@ -118,7 +120,12 @@ const BAD_MODE: Bad = "a mode is 0 to 777 in octal";
 
 const BAD_SESSIONS: Bad = "the number of sessions is 0 to 18446744073709551615";
 
-const BAD_COUNT: Bad = "a number of messages, bytes or seconds is 0 to 4294967295";
+const BAD_COUNT: Bad = "a number of messages or bytes is 0 to 4294967295";
+
+const BAD_TIME: Bad =
+    "a time is 0 to 4294967295 seconds, with or without a point and one to three more digits";
+
+const BAD_FORM: Bad = "--raw, --zero and --json exclude one another";
 
 const BAD_AHEAD: Bad = "the number of receives ahead is 1 to 64";
 
@@ -219,7 +226,8 @@ fn how_of(words: &ArgMatches<'_>) -> Result<How, Bad>
         follow: has_flag(words, "follow"),
         count: number_if(words, "count")?,
         ahead: ahead_of(words)?,
-        wait: number_if(words, "wait")?,
+        wait: time_if(words, "wait")?,
+        stderr: has_flag(words, "stderr"),
     })
 }
 
@@ -509,8 +517,27 @@ fn receipt_of(words: &ArgMatches<'_>) -> Result<Receipt, Bad>
         nowait: has_flag(words, "nowait"),
         noerror: has_flag(words, "noerror"),
         show_type: has_flag(words, "show-type"),
-        raw: has_flag(words, "raw"),
+        form: form_of(words)?,
     })
+}
+
+/// Returns the form in which a `rcv` shows a message.
+fn form_of(words: &ArgMatches<'_>) -> Result<Form, Bad>
+    ensures { IsRead result (ShowsIn (word_of (words_in words.now) (codes "raw"))
+        (word_of (words_in words.now) (codes "zero"))
+        (word_of (words_in words.now) (codes "json"))) }
+{
+    match (
+        is_on(words, "raw"),
+        is_on(words, "zero"),
+        is_on(words, "json"),
+    ) {
+        (false, false, false) => Ok(Form::Line),
+        (true, false, false) => Ok(Form::Raw),
+        (false, true, false) => Ok(Form::Zero),
+        (false, false, true) => Ok(Form::Object),
+        _ => Err(BAD_FORM),
+    }
 }
 
 /// Returns the type argument of a `rcv`: 0 for any type, a positive number for one type or for any
@@ -570,7 +597,7 @@ fn number(words: &ArgMatches<'_>, id: &str, default: u32) -> Result<u32, Bad>
     }
 }
 
-/// Returns the number of messages, bytes or seconds that an option has, if the command has it.
+/// Returns the number of messages or bytes that an option has, if the command has it.
 fn number_if(words: &ArgMatches<'_>, id: &str) -> Result<Option<u32>, Bad>
     ensures { IsRead result (HasMaybe IsNat32 (word_of (words_in words.now) id.now)) }
 {
@@ -581,6 +608,82 @@ fn number_if(words: &ArgMatches<'_>, id: &str) -> Result<Option<u32>, Bad>
         },
         None => Ok(None),
     }
+}
+
+/// Returns the number of milliseconds that an option has, if the command has it.
+fn time_if(words: &ArgMatches<'_>, id: &str) -> Result<Option<u64>, Bad>
+    ensures { IsRead result (HasMaybe IsTime (word_of (words_in words.now) id.now)) }
+{
+    match word_in(words, id) {
+        Some(word) => match milliseconds(word.as_bytes()) {
+            Some(time) => Ok(Some(time)),
+            None => Err(BAD_TIME),
+        },
+        None => Ok(None),
+    }
+}
+
+/// Parses a number of seconds from 0 to 4294967295, which may have a point and one to three more
+/// digits. Returns the number of milliseconds, or `None` for any other word.
+fn milliseconds(word: &[u8]) -> Option<u64>
+    ensures { MatchOption result ((time : ℕ) → ¬ IsTime word.now time) (IsTime word.now) }
+{
+    one_split();
+    match split_at_mark(word, b'.') {
+        Some((seconds, places)) => parts(seconds, places),
+        None => whole_seconds(word),
+    }
+}
+
+/// Returns the number of milliseconds of a number of seconds without a point, or `None` for any
+/// other word.
+fn whole_seconds(word: &[u8]) -> Option<u64>
+    ensures { MatchOption result ((time : ℕ) → ¬ AreSeconds word.now time) (AreSeconds word.now) }
+{
+    match u32::read(word) {
+        Some(seconds) => Some(u64::from(seconds) * 1000),
+        None => None,
+    }
+}
+
+/// Returns the number of milliseconds of a number of seconds and its decimal places, or `None` for
+/// any other words.
+fn parts(seconds: &[u8], places: &[u8]) -> Option<u64>
+    ensures { MatchOption result ((time : ℕ) → ¬ ArePartsOf seconds.now places.now time)
+        (ArePartsOf seconds.now places.now) }
+{
+    match (unsigned(seconds), thousandths(places)) {
+        (Some(seconds), Some(thousandths)) => Some(u64::from(seconds) * 1000 + thousandths),
+        _ => None,
+    }
+}
+
+/// Returns the number of thousandths of one to three decimal places, or `None` for any other word.
+fn thousandths(places: &[u8]) -> Option<u64>
+    ensures number { MatchOption result ((number : ℕ) → ¬ IsThousandths places.now number)
+        (IsThousandths places.now) }
+    ensures few { IfSome result (λ number. number ≤ 429496729500) }
+{
+    let Some(digits) = unsigned(places) else {
+        return None;
+    };
+    match places.len() {
+        1 => Some(u64::from(digits) * 100),
+        2 => Some(u64::from(digits) * 10),
+        3 => Some(u64::from(digits)),
+        _ => None,
+    }
+}
+
+/// Parses a number from 0 to 4294967295 without a sign. Returns `None` for any other word.
+fn unsigned(word: &[u8]) -> Option<u32>
+    ensures { MatchOption result ((number : ℕ) → ¬ IsUnsigned word.now number)
+        (IsUnsigned word.now) }
+{
+    if word.first() == Some(&b'-') {
+        return None;
+    }
+    u32::read(word)
 }
 
 /// Returns the user, group or process ID that an option has, if the command has it.
@@ -609,6 +712,14 @@ fn has_word(words: &ArgMatches<'_>, name: &str) -> bool
         Some(_) => true,
         None => false,
     }
+}
+
+/// Returns whether clap found a flag as `true`.
+fn is_on(words: &ArgMatches<'_>, name: &str) -> bool
+    ensures on { result ≡ true → IsOn (word_of (words_in words.now) name.now) }
+    ensures off { result ≡ false → ¬ IsOn (word_of (words_in words.now) name.now) }
+{
+    word_in(words, name) == Some("true")
 }
 
 /// Returns whether a command has a flag.

@@ -8,7 +8,8 @@ const VERSION: &str = "0.2.0";
 /// The end of the help of the whole program.
 const SESSION: &str = "\
 Errors of commands are printed on standard output, as `sysvmsg: ENOMSG`; those
-of an `rcv` with --count, --follow, --raw or --show-type on standard error.
+of an `rcv` with --count, --follow, --raw, --zero, --json or --show-type on
+standard error.
 Exit status: 0 if all is done, 1 after an error, 2 if the command line is not
 understood, 3 if the time of --wait is over.
 
@@ -55,6 +56,8 @@ enum Form {
     Letter(char, &'static str),
     /// As `--id`.
     Flag,
+    /// As `-0` or `--id`.
+    ShortFlag(char),
 }
 
 /// Arguments of which at most one may be present, or exactly one if `required` is true.
@@ -82,6 +85,12 @@ const PROCESS: Argument = (
     "pid",
     Form::Value("N"),
     "The caller's process ID [default: 1]",
+);
+
+const STDERR: Argument = (
+    "stderr",
+    Form::Flag,
+    "Prints errors on stderr; also by SYSVMSG_STDERR=1",
 );
 
 const ME: Argument = (
@@ -208,6 +217,7 @@ Example:
             Form::Value("SECONDS"),
             "Waits at most that long per message, else EAGAIN",
         ),
+        STDERR,
         ME,
         USER,
         GROUP,
@@ -269,6 +279,16 @@ Example:
         ),
         ("raw", Form::Flag, "Prints no newline after the body"),
         (
+            "zero",
+            Form::ShortFlag('0'),
+            "Ends the body with a zero byte, not a newline",
+        ),
+        (
+            "json",
+            Form::Flag,
+            "Prints a JSON object with the type and the body",
+        ),
+        (
             "create",
             Form::Flag,
             "Creates the queue if there is none (IPC_CREAT)",
@@ -298,6 +318,7 @@ Example:
             Form::Flag,
             "Cuts a longer body to S bytes (MSG_NOERROR)",
         ),
+        STDERR,
         ME,
         USER,
         GROUP,
@@ -314,6 +335,10 @@ Example:
         },
         Group {
             of: &["ahead", "follow"],
+            required: false,
+        },
+        Group {
+            of: &["raw", "zero", "json"],
             required: false,
         },
         Group {
@@ -341,6 +366,7 @@ Example:
         ),
         ("json", Form::Flag, "Prints a JSON object per queue"),
         WAIT,
+        STDERR,
         ME,
         USER,
         GROUP,
@@ -373,6 +399,7 @@ Example:
             "Removes each queue that the caller may remove",
         ),
         WAIT,
+        STDERR,
         ME,
         USER,
         GROUP,
@@ -410,6 +437,7 @@ Example:
             "The maximum number of queued bytes [default: 16384]",
         ),
         WAIT,
+        STDERR,
         ME,
         USER,
         GROUP,
@@ -460,13 +488,13 @@ pub(crate) fn command_named<'a>(alloc: Global, name: &str) -> Result<Command<'a>
 fn command_of<'a>(alloc: Global, known: Known) -> Result<Command<'a>, AllocError> {
     let mut command = with_arguments(alloc, known)?;
     for (place, group) in known.groups.iter().enumerate() {
-        command = command.group(group_of(alloc, NAMES[place.min(3)], *group)?)?;
+        command = command.group(group_of(alloc, NAMES[place.min(4)], *group)?)?;
     }
     Ok(command)
 }
 
-/// The names of the groups of a command, which has at most four.
-const NAMES: [&str; 4] = ["one", "two", "three", "four"];
+/// The names of the groups of a command, which has at most five.
+const NAMES: [&str; 5] = ["one", "two", "three", "four", "five"];
 
 fn with_arguments<'a>(alloc: Global, known: Known) -> Result<Command<'a>, AllocError> {
     let mut command = Command::new(alloc, known.name)
@@ -490,8 +518,13 @@ fn argument_of<'a>(alloc: Global, given: Argument) -> Result<Arg<'a>, AllocError
         Form::Value(name) => valued(argument, name).long(id),
         Form::ValueWith(name, other) => valued(argument, name).long(id).requires_arg(other)?,
         Form::Letter(letter, name) => valued(argument, name).short(letter),
-        Form::Flag => argument.action(ArgAction::SetTrue).long(id),
+        Form::Flag => flag(argument, id),
+        Form::ShortFlag(letter) => flag(argument, id).short(letter),
     })
+}
+
+fn flag<'a>(argument: Arg<'a>, id: &'static str) -> Arg<'a> {
+    argument.action(ArgAction::SetTrue).long(id)
 }
 
 fn valued<'a>(argument: Arg<'a>, name: &'static str) -> Arg<'a> {

@@ -11,18 +11,21 @@ use crate::asked::How;
 use crate::input::{Unread, read_body};
 use crate::leaver::{Leaver, bound};
 use crate::place::{Leave, Place};
-use crate::plain::complain;
 use crate::several::{Way, receive_at, remove_at, send_at, way_of};
-use crate::{FAULT, TIMED_OUT, say};
+use crate::teller::Teller;
+use crate::{FAULT, TIMED_OUT};
 use std::alloc::Global;
-use std::io;
 use std::io::{BufReader, BufWriter, Eprint, Read, Write};
 use std::process::ExitCode;
+use std::str;
 use sysv_clients::{ClientFault, Command, Task, run_client};
 use sysv_model::{BODY_ROOM, Errno};
 
 /// The status of a client whose call was left.
 const LATE: i32 = 3;
+
+/// No memory for what a command needs.
+const NO_MEMORY: ClientFault = ClientFault::NoMemory;
 
 /// More bytes than a client shows of one message.
 const PAGE_ROOM: usize = 8_300;
@@ -47,11 +50,16 @@ pub(crate) fn run_as<I: Read, P: Place, S: Write>(
         (P.incoming place) (P.outgoing place) (I.remaining input.old)
         (S.contents screen.old) (S.contents screen.new)) result }
 {
+    let teller = Teller {
+        path,
+        task: &command.task,
+        is_aside: how.stderr,
+    };
     match way_of(command.cred, &command.task, how) {
-        Way::Stream(receiving) => receive_at(rt, place, path, &receiving, how.wait, screen),
-        Way::Lines(sending) => send_at(rt, input, place, path, &sending, how.wait),
-        Way::Clear => remove_at(rt, place, path, command.cred, how.wait),
-        Way::Once => run_one(rt, input, place, path, command, how, screen),
+        Way::Stream(receiving) => receive_at(rt, place, &teller, &receiving, how.wait, screen),
+        Way::Lines(sending) => send_at(rt, input, place, &teller, &sending, how.wait),
+        Way::Clear => remove_at(rt, place, &teller, command.cred, how.wait),
+        Way::Once => run_one(rt, input, place, &teller, command, how, screen),
     }
 }
 
@@ -64,7 +72,7 @@ fn run_one<I: Read, P: Place, S: Write>(
     rt: &(impl Print + Eprint + AllocGlobal),
     input: &mut I,
     place: P,
-    path: &str,
+    teller: &Teller<'_>,
     command: &Command<'_>,
     how: &How,
     screen: &mut S,
@@ -75,9 +83,9 @@ fn run_one<I: Read, P: Place, S: Write>(
         (S.contents screen.old) (S.contents screen.new)) result }
 {
     if how.from_input {
-        run_with_input(rt, input, place, path, command, how.wait, screen)
+        run_with_input(rt, input, place, teller, command, how.wait, screen)
     } else {
-        run_at(rt, place, path, command, how.wait, screen)
+        run_at(rt, place, teller, command, how.wait, screen)
     }
 }
 
@@ -88,9 +96,9 @@ fn run_with_input<I: Read, P: Place, S: Write>(
     rt: &(impl Print + Eprint + AllocGlobal),
     input: &mut I,
     place: P,
-    path: &str,
+    teller: &Teller<'_>,
     command: &Command<'_>,
-    wait: Option<u32>,
+    wait: Option<u64>,
     screen: &mut S,
 ) -> ExitCode
     ensures { SucceedsOnlyIf (HasRunFrom command.now.cred command.now.task
@@ -98,12 +106,12 @@ fn run_with_input<I: Read, P: Place, S: Write>(
         (S.contents screen.old) (S.contents screen.new)) result }
 {
     match read_body(rt.alloc(), input) {
-        Ok(body) => run_at(rt, place, path, &with_body(command, &body), wait, screen),
-        Err(Unread::NoMemory) => say(rt, "no memory"),
-        Err(Unread::Failed(why)) => {
-            complain(rt, "standard input", &why, "");
-            say(rt, "cannot read")
+        Ok(body) => run_at(rt, place, teller, &with_body(command, &body), wait, screen),
+        Err(Unread::NoMemory) => {
+            teller.fault(rt, NO_MEMORY.line());
+            ExitCode::from(FAULT)
         }
+        Err(Unread::Failed(why)) => teller.no_input(rt, &why),
     }
 }
 
@@ -142,9 +150,9 @@ fn with_body<'a>(command: &Command<'_>, body: &'a [u8]) -> Command<'a>
     }
 }
 
-/// Connects to the server at `path` and runs a command there. Each reply is waited for no longer than
-/// this number of seconds, if there is one. If no connection can be made, the reason is reported on
-/// standard error.
+/// Connects to the server at `path` and runs a command there. Each reply is waited for no longer
+/// than this number of milliseconds, if there is one. If no connection can be made, the reason is
+/// reported on standard error.
 ///
 /// # Conditions
 ///
@@ -152,9 +160,9 @@ fn with_body<'a>(command: &Command<'_>, body: &'a [u8]) -> Command<'a>
 fn run_at<P: Place, S: Write>(
     rt: &(impl Print + Eprint + AllocGlobal),
     place: P,
-    path: &str,
+    teller: &Teller<'_>,
     command: &Command<'_>,
-    wait: Option<u32>,
+    wait: Option<u64>,
     screen: &mut S,
 ) -> ExitCode
     requires { HasShortText command.now.task }
@@ -163,12 +171,13 @@ fn run_at<P: Place, S: Write>(
 {
     let (reader, writer) = match place.connect() {
         Ok(ends) => ends,
-        Err(why) => return no_server(rt, path, &why),
+        Err(why) => return teller.no_server(rt, &why),
     };
     match wait {
-        Some(seconds) if can_wait(&command.task) => {
-            run_within(rt.alloc(), reader, writer, command, seconds, screen)
+        Some(_) if can_wait(&command.task) => {
+            run_within(rt, reader, writer, command, wait, teller, screen)
         }
+        _ if teller.is_aside => run_within(rt, reader, writer, command, wait, teller, screen),
         _ => {
             bound(&reader, wait);
             run_over(rt.alloc(), reader, writer, command, screen)
@@ -181,33 +190,40 @@ fn can_wait(task: &Task<'_>) -> bool {
     matches!(task, Task::Send { .. } | Task::Receive(_))
 }
 
-/// Runs a `snd` or a `rcv` over a connection like `run_over`, but leaves a call that has no reply
-/// after this number of seconds. If the server then ends the session without a reply, the call had
-/// no effect: the line of ENOMSG or, for a `snd`, of EAGAIN is shown, and the status is that of a
-/// time-out.
+/// Runs a command over a connection like `run_over`, but tells its fault as the teller does, and
+/// leaves a call of a `snd` or a `rcv` that has no reply
+/// after this number of milliseconds. If the server then ends the session without a reply, the call
+/// had no effect: the line of ENOMSG or, for a `snd`, of EAGAIN is shown, and the status is that of
+/// a time-out.
 ///
 /// # Conditions
 ///
 /// - The body of a `snd` has at most 8,256 bytes.
 fn run_within<R: Leave + Drop, W: Write + Drop, S: Write>(
-    alloc: Global,
+    rt: &(impl Print + Eprint + AllocGlobal),
     reader: R,
     writer: W,
     command: &Command<'_>,
-    seconds: u32,
+    wait: Option<u64>,
+    teller: &Teller<'_>,
     screen: &mut S,
 ) -> ExitCode
     requires { HasShortText command.now.task }
     ensures { SucceedsOnlyIf (HasRun command.now (pos 0) (R.remaining reader)
         (W.contents writer) (S.contents screen.old) (S.contents screen.new)) result }
 {
-    let mut leaver = Leaver::new(reader, Some(seconds));
-    let Ok(mut page) = Vec::with_capacity(alloc, PAGE_ROOM) else {
-        return no_memory(screen);
+    let mut leaver = Leaver::new(reader, wait).leaving_if(can_wait(&command.task));
+    let Ok(mut page) = Vec::with_capacity(rt.alloc(), PAGE_ROOM) else {
+        teller.fault(rt, NO_MEMORY.line());
+        return ExitCode::from(FAULT);
     };
-    let status = run_through(alloc, &mut leaver, writer, command, &mut page);
+    let status = run_through(rt.alloc(), &mut leaver, writer, command, &mut page);
     let has_left = leaver.has_left();
     let text = text_within(command, status, page.as_slice(), has_left);
+    if status != 0 && teller.is_aside {
+        teller.fault(rt, str::from_utf8(text).unwrap_or(NO_MEMORY.line()));
+        return failed(has_left);
+    }
     show(screen, text, status_within(status, has_left))
 }
 
@@ -325,16 +341,4 @@ fn no_memory<S: Write>(screen: &mut S) -> ExitCode
 {
     let _ = screen.write_all(ClientFault::NoMemory.line().as_bytes());
     ExitCode::from(FAULT)
-}
-
-/// Reports that no connection can be made.
-pub(crate) fn no_server(
-    rt: &(impl Print + Eprint + AllocGlobal),
-    path: &str,
-    why: &io::Error,
-) -> ExitCode
-    ensures { Succeeds result → ⊥ }
-{
-    complain(rt, path, why, "");
-    say(rt, "no server")
 }

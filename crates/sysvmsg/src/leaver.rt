@@ -17,6 +17,8 @@ pub(crate) struct Leaver<R> {
     reader: R,
     /// Whether the server has sent anything.
     is_served: bool,
+    /// Whether a call may be left.
+    may_leave: bool,
     /// Whether the call was left.
     is_leaving: bool,
     /// Whether the session ended after that.
@@ -26,19 +28,28 @@ pub(crate) struct Leaver<R> {
 }
 
 impl<R: Leave> Leaver<R> {
-    /// Returns the reader of a connection on which a read waits at most this number of seconds, or
-    /// without end if there is none.
-    pub(crate) fn new(reader: R, seconds: Option<u32>) -> Leaver<R>
+    /// Returns the reader of a connection on which a read waits at most this number of
+    /// milliseconds, or without end if there is none.
+    pub(crate) fn new(reader: R, time: Option<u64>) -> Leaver<R>
         ensures { result.reader ≡ reader }
     {
-        bound(&reader, seconds);
+        bound(&reader, time);
         Leaver {
             reader,
             is_served: false,
+            may_leave: true,
             is_leaving: false,
             has_left: false,
             has_ended: false,
         }
+    }
+
+    /// Returns the same reader, which leaves a call only if `may_leave` is true. If it leaves none, a
+    /// read that waits too long fails.
+    pub(crate) fn leaving_if(self, may_leave: bool) -> Leaver<R>
+        ensures { result.reader ≡ self.reader }
+    {
+        Leaver { may_leave, ..self }
     }
 
     /// Returns whether the call was left and the session then ended without a reply.
@@ -60,20 +71,20 @@ impl<R: Leave> Leaver<R> {
     }
 }
 
-/// Lets each read of a connection wait at most this number of seconds, or without end if there is
-/// none.
-pub(crate) fn bound<R: Leave>(reader: &R, seconds: Option<u32>) {
-    if let Some(seconds) = seconds {
-        reader.limit(limit(seconds));
+/// Lets each read of a connection wait at most this number of milliseconds, or without end if there
+/// is none.
+pub(crate) fn bound<R: Leave>(reader: &R, time: Option<u64>) {
+    if let Some(time) = time {
+        reader.limit(limit(time));
     }
 }
 
-/// Returns the time of this number of seconds, or a tenth of a second for 0: a server may need some
-/// time for each reply.
-fn limit(seconds: u32) -> Duration {
-    match seconds {
+/// Returns the time of this number of milliseconds, or a tenth of a second for 0: a server may need
+/// some time for each reply.
+fn limit(time: u64) -> Duration {
+    match time {
         0 => Duration::from_millis(100),
-        _ => Duration::from_secs(u64::from(seconds)),
+        _ => Duration::from_millis(time),
     }
 }
 
@@ -82,7 +93,8 @@ impl<R: Leave> Read for Leaver<R> {
 
     fn read(&mut self, buf: &mut [u8]) -> io::Result<usize> {
         let why = match self.reader.read(buf) {
-            Err(why) if why.kind() == ErrorKind::WouldBlock && !self.is_leaving => why,
+            Err(why) if why.kind() == ErrorKind::WouldBlock && self.may_leave && !self.is_leaving =>
+                why,
             outcome => {
                 self.is_served |= outcome.is_ok();
                 self.has_ended |= self.is_leaving && matches!(outcome, Ok(0));

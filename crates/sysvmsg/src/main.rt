@@ -15,9 +15,10 @@ mod scripts;
 mod serving;
 mod several;
 mod socket;
+mod teller;
 mod who;
 
-use asked::{Asked, no_text, read_words};
+use asked::{Asked, How, no_text, read_words};
 use clap::Error;
 use clap::error::ErrorKind;
 use connection::run_as;
@@ -25,11 +26,12 @@ use place::Socket;
 use scripts::answer_script;
 use serving::serve_at;
 use std::fs::File;
+use std::io::Eprint;
 use std::os::fd::{AsRawFd, RawFd};
 use std::process::ExitCode;
 use std::{env, io};
 use sysv_clients::Command;
-use who::{credentials, own, wants_me};
+use who::{credentials, own, wants_me, wants_stderr};
 
 /// The exit status if a request was refused or a fault occurred.
 const FAULT: u8 = 1;
@@ -48,7 +50,7 @@ fn main(rt: HostRuntime) -> ExitCode {
     let words = match env::args(&rt) {
         Ok(words) => words,
         Err(why) if why.kind() == io::ErrorKind::OutOfMemory => return say(&rt, "no memory"),
-        Err(_) => return tell(&rt, &no_text(rt.alloc())),
+        Err(_) => return tell(&rt, &no_text(rt.alloc()), wants_stderr(&rt)),
     };
     let Ok(words) = words.collect::<Vec<String>>(rt.alloc()) else {
         return say(&rt, "no memory");
@@ -64,6 +66,10 @@ fn main(rt: HostRuntime) -> ExitCode {
                 how,
             },
         ) => {
+            let how = How {
+                stderr: how.stderr || wants_stderr(&rt),
+                ..how
+            };
             let cred = credentials(&who, wants_me(&rt), own());
             let command = Command { cred, task };
             let mut stream = None;
@@ -79,7 +85,10 @@ fn main(rt: HostRuntime) -> ExitCode {
                 &mut screen,
             )
         }
-        Err(error) => tell(&rt, &error),
+        Err(error) => {
+            let is_aside = has_stderr(words.as_slice()) || wants_stderr(&rt);
+            tell(&rt, &error, is_aside)
+        }
     }
 }
 
@@ -91,8 +100,21 @@ fn stand_in(rt: &HostRuntime) -> Option<File> {
     (file.as_raw_fd() <= STANDARD_ERROR).then_some(file)
 }
 
-/// Prints why a command line is not valid, or the help or the version that it requests.
-fn tell(rt: &impl Print, error: &Error) -> ExitCode {
+/// Returns whether a word before `--` is `--stderr`.
+fn has_stderr(words: &[String]) -> bool {
+    for word in words {
+        match word.as_str() {
+            "--" => return false,
+            "--stderr" => return true,
+            _ => {}
+        }
+    }
+    false
+}
+
+/// Prints why a command line is not valid, or the help or the version that it requests. The former
+/// is printed on standard error if `is_aside` is true.
+fn tell(rt: &(impl Print + Eprint), error: &Error, is_aside: bool) -> ExitCode {
     match error.kind() {
         ErrorKind::OutOfMemory => say(rt, "no memory"),
         ErrorKind::DisplayHelp | ErrorKind::DisplayVersion => {
@@ -100,7 +122,11 @@ fn tell(rt: &impl Print, error: &Error) -> ExitCode {
             ExitCode::SUCCESS
         }
         _ => {
-            let _ = rt.print(error);
+            let _ = if is_aside {
+                eprint!(rt; "{error}")
+            } else {
+                rt.print(error)
+            };
             ExitCode::from(NOT_UNDERSTOOD)
         }
     }

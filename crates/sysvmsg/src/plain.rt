@@ -14,6 +14,14 @@ pub(crate) fn complain(rt: &(impl Eprint + AllocGlobal), what: &str, why: &io::E
     };
 }
 
+/// Ends a line on standard error with what the system says of an error, without its number.
+pub(crate) fn reason(rt: &(impl Eprint + AllocGlobal), why: &io::Error) {
+    let _ = match format!(in rt.alloc(); "{why}") {
+        Ok(text) => eprintln!(rt; ": {}", without_number(text.as_str())),
+        Err(_) => eprintln!(rt; ""),
+    };
+}
+
 /// Returns the message of a system's error without its number.
 fn without_number(text: &str) -> &str {
     match text.split_once(NUMBER) {

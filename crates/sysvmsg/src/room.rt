@@ -1,5 +1,6 @@
 //! The number of clients for which a process has descriptors.
-ghost use Rattle.std.specs.Prelude.{◌≤◌};
+ghost use Rattle.std.specs.Prelude.{◌≡◌, ◌≤◌};
+ghost use Rattle.sysvmsg.specs.Room.{places_within};
 
 use libc::types::rlimit;
 use libc::{RLIMIT_NOFILE, getrlimit};
@@ -11,21 +12,31 @@ const OWN: u64 = 5;
 /// The number of descriptors of a worker: its bell and its poll.
 const OF_WORKER: u64 = 2;
 
-/// Returns for how many clients a server with this number of workers has descriptors, at least 1
-/// and at most `most`. If the limit is not known, they suffice.
-pub(crate) fn room(workers: u32, most: u32) -> u32
-    requires { 1 ≤ most }
-    ensures { (1 ≤ result) × (result ≤ most) }
-{
+/// Returns the limit of open files of the process, or `None` if it is not known.
+pub(crate) fn open_files() -> Option<u64> {
     let mut limit = rlimit {
         rlim_cur: 0,
         rlim_max: 0,
     };
     if getrlimit(RLIMIT_NOFILE, &mut limit) != 0 {
-        return most;
+        return None;
     }
+    Some(limit.rlim_cur)
+}
+
+/// Returns how many clients a server with this number of workers serves at once under this limit of
+/// open files: `most`, or fewer if it has fewer descriptors, but at least 1. If the limit is not
+/// known, they suffice.
+pub(crate) fn room(limit: Option<u64>, workers: u32, most: u32) -> u32
+    requires { 1 ≤ most }
+    ensures exact { result ≡ places_within limit workers most }
+    ensures range { (1 ≤ result) × (result ≤ most) }
+{
+    let Some(limit) = limit else {
+        return most;
+    };
     let used = OWN + OF_WORKER * u64::from(workers);
-    let left = limit.rlim_cur.saturating_sub(used).max(1);
+    let left = limit.saturating_sub(used).max(1);
     match u32::try_from(left) {
         Ok(left) => left.min(most),
         Err(_) => most,

@@ -7,7 +7,7 @@ ghost use Rattle.sysvmsg.specs.Ends.{EndsWithin, HasServed, HasServedAll, Succee
 
 use crate::asked::Serving;
 use crate::plain::complain;
-use crate::room::room;
+use crate::room::{open_files, room};
 use crate::socket::listen_at;
 use crate::{FAULT, say};
 use libc::net::{POLLOUT, poll};
@@ -115,8 +115,8 @@ pub(crate) fn serve_at<
         (S.contents screen.old) (S.contents screen.new)) result }
 {
     let mut reason = None;
-    match run_server(rt, input, serving, &mut reason) {
-        Ok(ended) => end(rt, &ended.sums, reason, screen),
+    match run_server(rt, input, serving, open_files(), &mut reason) {
+        Ok(ended) => end(rt, &ended, reason, screen),
         Err(fault) => {
             explain(rt, fault, &serving.terms);
             say(rt, "no memory")
@@ -124,18 +124,25 @@ pub(crate) fn serve_at<
     }
 }
 
-/// Runs a server. It ends after its input has ended only if the command line says so.
+/// Runs a server under this limit of open files. It ends after its input has ended only if the
+/// command line says so.
 fn run_server<
     I: Read + AsRawFd + Drop,
     R: Files + Net + Threads + Wait + Sync + Eprint + AllocGlobal + Clone + Drop,
->(rt: &R, input: I, serving: &Serving<'_>, reason: &mut Option<Reason>) -> Result<Ended, ServeFault>
+>(
+    rt: &R,
+    input: I,
+    serving: &Serving<'_>,
+    limit: Option<u64>,
+    reason: &mut Option<Reason>,
+) -> Result<Ended, ServeFault>
     requires { HasLimits serving.now }
-    ensures ends { IfOk result (EndsWithin serving.now.terms) }
+    ensures ends { IfOk result (EndsWithin limit serving.now.terms) }
     ensures meant { IfOk result (λ ended. HasReason serving.now.until_eof
         serving.now.terms.sessions ended.sums.sessions reason.new) }
 {
     let mut terms = serving.terms;
-    terms.at_once = room(terms.workers, terms.at_once);
+    terms.at_once = room(limit, terms.workers, terms.at_once);
     let host = Reporter {
         rt,
         serving,
@@ -146,16 +153,18 @@ fn run_server<
 }
 
 /// Prints how a server ended that accepted no more connections for this reason. If an accept
-/// failed, that is reported on standard error.
+/// failed, that is reported on standard error. The server fails also if memory was refused for a
+/// session.
 fn end<R: Print + Eprint + AllocGlobal, S: Write>(
     rt: &R,
-    sums: &Sums,
+    ended: &Ended,
     reason: Option<Reason>,
     screen: &mut S,
 ) -> ExitCode
-    ensures { SucceedsOnlyIf (HasServed sums.now reason (S.contents screen.old)
+    ensures { SucceedsOnlyIf (HasServed ended.now reason (S.contents screen.old)
         (S.contents screen.new)) result }
 {
+    let sums = &ended.sums;
     match reason {
         Some(Reason::NoSocket(why)) if why.kind() == ErrorKind::OutOfMemory => {
             say(rt, "no memory")
@@ -168,7 +177,14 @@ fn end<R: Print + Eprint + AllocGlobal, S: Write>(
             tell(screen, sums);
             ExitCode::from(FAULT)
         }
-        Some(Reason::Full | Reason::InputOver) | None => tell(screen, sums),
+        Some(Reason::Full | Reason::InputOver) | None => {
+            let told = tell(screen, sums);
+            if ended.refused == 0 {
+                told
+            } else {
+                ExitCode::from(FAULT)
+            }
+        }
     }
 }
 

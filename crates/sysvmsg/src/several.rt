@@ -6,19 +6,19 @@ ghost use Rattle.sysv_clients.specs.declared.sending.Unsent.{Unsent as AnUnsent}
 ghost use Rattle.sysv_clients.specs.declared.stream.Stop.{Stop as AStop};
 ghost use Rattle.sysvmsg.specs.Clients.{HasCleared, HasReceived, HasSent};
 ghost use Rattle.sysvmsg.specs.Ends.{SucceedsIf, SucceedsOnlyIf};
-ghost use Rattle.sysvmsg.specs.Several.{is_of_stream, receiving_of, way_by};
+ghost use Rattle.sysvmsg.specs.Several.{is_of_options, is_of_stream, receiving_of, way_by};
 
 use crate::FAULT;
 use crate::asked::How;
-use crate::connection::{failed, no_server};
+use crate::connection::failed;
 use crate::leaver::{Leaver, Outgoing, bound};
 use crate::place::{Leave, Place};
-use crate::plain::{complain, report};
+use crate::teller::Teller;
 use std::alloc::Global;
 use std::io::{BufReader, BufWriter, Eprint, Read, Write};
 use std::process::ExitCode;
 use sysv_clients::{
-    ClientFault, Cut, Receipt, Receiving, Refusal, Sending, Stop, Target, Task, Unsent,
+    ClientFault, Cut, Form, Receipt, Receiving, Refusal, Sending, Stop, Target, Task, Unsent,
     receive_all, remove_all, send_lines,
 };
 use sysv_model::{Cred, Errno};
@@ -93,7 +93,17 @@ pub(crate) fn way_of(cred: Cred, task: &Task<'_>, how: &How) -> Way
 fn is_stream(receipt: &Receipt, how: &How) -> bool
     ensures { result ≡ is_of_stream receipt.now how.now }
 {
-    how.follow || how.count.is_some() || receipt.raw || receipt.show_type
+    how.follow || how.count.is_some() || is_of_options(receipt.form) || receipt.show_type
+}
+
+/// Returns whether a message in this form is not its body and an LF.
+fn is_of_options(form: Form) -> bool
+    ensures { result ≡ is_of_options form }
+{
+    match form {
+        Form::Line => false,
+        Form::Raw | Form::Zero | Form::Object => true,
+    }
 }
 
 /// Returns the receives of a `rcv` with these options: as many as `--count` states, or all with
@@ -115,13 +125,13 @@ fn receiving(cred: Cred, receipt: Receipt, how: &How) -> Receiving
 }
 
 /// Connects to the server at `path` and receives messages there, each of which is waited for no
-/// longer than this number of seconds, if there is one. Faults are reported on standard error.
+/// longer than this number of milliseconds, if there is one. Faults are reported on standard error.
 pub(crate) fn receive_at<P: Place, S: Write>(
     rt: &(impl Eprint + AllocGlobal),
     place: P,
-    path: &str,
+    teller: &Teller<'_>,
     receiving: &Receiving,
-    wait: Option<u32>,
+    wait: Option<u64>,
     screen: &mut S,
 ) -> ExitCode
     ensures { SucceedsOnlyIf (HasReceived receiving.now (Ok tt) (P.incoming place)
@@ -129,13 +139,9 @@ pub(crate) fn receive_at<P: Place, S: Write>(
 {
     let (reader, writer) = match place.connect() {
         Ok(ends) => ends,
-        Err(why) => {
-            complain(rt, path, &why, "");
-            report(rt, "sysvmsg: no server\n");
-            return ExitCode::from(FAULT);
-        }
+        Err(why) => return teller.no_server_of_stream(rt, &why),
     };
-    receive_on(rt, reader, writer, receiving, wait, screen)
+    receive_on(rt, reader, writer, receiving, wait, teller, screen)
 }
 
 /// Receives messages over a connection like `receive_at`.
@@ -144,7 +150,8 @@ fn receive_on<R: Leave + Drop, W: Write + Drop, S: Write>(
     reader: R,
     writer: W,
     receiving: &Receiving,
-    wait: Option<u32>,
+    wait: Option<u64>,
+    teller: &Teller<'_>,
     screen: &mut S,
 ) -> ExitCode
     ensures { (ended : Result ⊤ AStop) × HasReceived receiving.now ended
@@ -154,20 +161,20 @@ fn receive_on<R: Leave + Drop, W: Write + Drop, S: Write>(
     match receive_over(rt.alloc(), reader, writer, receiving, wait, screen) {
         Ok(()) => ExitCode::SUCCESS,
         Err(failure) => {
-            report(rt, failure.error.line());
+            teller.fault_of_stream(rt, failure.error.line());
             failed(failure.is_late)
         }
     }
 }
 
-/// Receives messages over a connection. A receive that is left after this number of seconds fails
-/// with ENOMSG.
+/// Receives messages over a connection. A receive that is left after this number of milliseconds
+/// fails with ENOMSG.
 fn receive_over<R: Leave + Drop, W: Write + Drop, S: Write>(
     alloc: Global,
     reader: R,
     writer: W,
     receiving: &Receiving,
-    wait: Option<u32>,
+    wait: Option<u64>,
     screen: &mut S,
 ) -> Result<(), Failure<Stop>>
     ensures { (ended : Result ⊤ AStop) × HasReceived receiving.now ended
@@ -206,22 +213,22 @@ fn receive_through<R: Read + Drop, W: Write + Drop, S: Write>(
 }
 
 /// Connects to the server at `path` and sends each line of `input` there. Each send waits no longer
-/// than this number of seconds, if there is one. If the input cannot be read, the reason is reported
-/// on standard error.
+/// than this number of milliseconds, if there is one. If the input cannot be read, the reason is
+/// reported on standard error.
 pub(crate) fn send_at<I: Read, P: Place>(
     rt: &(impl Print + Eprint + AllocGlobal),
     input: &mut I,
     place: P,
-    path: &str,
+    teller: &Teller<'_>,
     sending: &Sending,
-    wait: Option<u32>,
+    wait: Option<u64>,
 ) -> ExitCode
     ensures { SucceedsOnlyIf (HasSent sending.now (Ok tt) (P.incoming place)
         (P.outgoing place) (I.remaining input.old)) result }
 {
     match place.connect() {
-        Ok((reader, writer)) => send_on(rt, input, reader, writer, sending, wait),
-        Err(why) => no_server(rt, path, &why),
+        Ok((reader, writer)) => send_on(rt, input, reader, writer, sending, wait, teller),
+        Err(why) => teller.no_server(rt, &why),
     }
 }
 
@@ -232,7 +239,8 @@ fn send_on<I: Read, R: Leave + Drop, W: Write + Drop>(
     reader: R,
     writer: W,
     sending: &Sending,
-    wait: Option<u32>,
+    wait: Option<u64>,
+    teller: &Teller<'_>,
 ) -> ExitCode
     ensures { (ended : Result ⊤ AnUnsent) × HasSent sending.now ended
         (R.remaining reader) (W.contents writer) (I.remaining input.old)
@@ -243,11 +251,11 @@ fn send_on<I: Read, R: Leave + Drop, W: Write + Drop>(
         Err(failure) => failure,
     };
     match &failure.error {
-        Unsent::Input(why) => complain(rt, "standard input", why, ""),
+        Unsent::Input(why) => return teller.no_input(rt, why),
         Unsent::Cut(cut) => explain(rt, cut),
         _ => {}
     }
-    let _ = print!(rt; "{}", failure.error.line());
+    teller.fault(rt, failure.error.line());
     failed(failure.is_late)
 }
 
@@ -272,7 +280,7 @@ fn explain(rt: &impl Eprint, cut: &Cut) {
     }
 }
 
-/// Sends lines over a connection. A send that is left after this number of seconds fails with
+/// Sends lines over a connection. A send that is left after this number of milliseconds fails with
 /// EAGAIN.
 fn send_over<I: Read, R: Leave + Drop, W: Write + Drop>(
     alloc: Global,
@@ -280,7 +288,7 @@ fn send_over<I: Read, R: Leave + Drop, W: Write + Drop>(
     reader: R,
     writer: W,
     sending: &Sending,
-    wait: Option<u32>,
+    wait: Option<u64>,
 ) -> Result<(), Failure<Unsent>>
     ensures { (ended : Result ⊤ AnUnsent) × HasSent sending.now ended
         (R.remaining reader) (W.contents writer) (I.remaining input.old)
@@ -331,20 +339,20 @@ fn send_through<I: Read, R: Read + Drop, W: Write + Drop>(
 
 /// Connects to the server at `path` and removes all queues there that the caller may remove. Each
 /// other queue is named on standard error, and the status is that of a fault then. Each reply is
-/// waited for no longer than this number of seconds, if there is one.
+/// waited for no longer than this number of milliseconds, if there is one.
 pub(crate) fn remove_at<P: Place>(
     rt: &(impl Print + Eprint + AllocGlobal),
     place: P,
-    path: &str,
+    teller: &Teller<'_>,
     cred: Cred,
-    wait: Option<u32>,
+    wait: Option<u64>,
 ) -> ExitCode
     ensures { SucceedsOnlyIf (HasCleared cred (Ok tt) (P.incoming place)
         (P.outgoing place) [] []) result }
 {
     match place.connect() {
-        Ok((reader, writer)) => remove_on(rt, reader, writer, cred, wait),
-        Err(why) => no_server(rt, path, &why),
+        Ok((reader, writer)) => remove_on(rt, reader, writer, cred, wait, teller),
+        Err(why) => teller.no_server(rt, &why),
     }
 }
 
@@ -354,7 +362,8 @@ fn remove_on<R: Leave + Drop, W: Write + Drop>(
     reader: R,
     writer: W,
     cred: Cred,
-    wait: Option<u32>,
+    wait: Option<u64>,
+    teller: &Teller<'_>,
 ) -> ExitCode
     ensures { (ended : Result ⊤ AFault) × (refusals : List ARefusal)
         × HasCleared cred ended (R.remaining reader) (W.contents writer) [] refusals
@@ -363,15 +372,13 @@ fn remove_on<R: Leave + Drop, W: Write + Drop>(
     let mut refusals = Vec::new(rt.alloc());
     bound(&reader, wait);
     let outcome = remove_through(rt.alloc(), reader, writer, cred, &mut refusals);
-    for Refusal { id, error } in &refusals {
-        let _ = eprintln!(rt; "sysvmsg: queue {id}: {error}");
+    for refusal in &refusals {
+        teller.refusal(rt, refusal);
     }
     match outcome {
         Ok(()) if refusals.is_empty() => return ExitCode::SUCCESS,
         Ok(()) => {}
-        Err(fault) => {
-            let _ = print!(rt; "{}", fault.line());
-        }
+        Err(fault) => teller.fault(rt, fault.line()),
     }
     ExitCode::from(FAULT)
 }

@@ -20,6 +20,19 @@ const SOCKET: &str = "s";
 /// What is said if the file is there already, and may be one that `--replace` removes.
 const HINT: &str = " (--replace removes a socket that no server uses)";
 
+/// What is said if `--replace` leaves the file, by the reason.
+const SERVED: &str = " (a server listens there)";
+
+const NO_SOCKET: &str = " (not a socket: --replace leaves it)";
+
+const MAY_NOT_REMOVE: &str = " (no permission to remove it)";
+
+const NOT_REMOVED: &str = " (it cannot be removed)";
+
+const MAY_NOT_CONNECT: &str = " (no permission to find out whether a server listens there)";
+
+const NOT_KNOWN: &str = " (--replace cannot find out whether a server listens there)";
+
 /// The names of the files that a server makes.
 #[derive(Drop)]
 struct Names {
@@ -35,32 +48,30 @@ pub(crate) fn listen_at<R: Files + Net + Eprint + AllocGlobal + Clone + Drop>(
     file: &SocketFile<'_>,
 ) -> io::Result<UnixListener> {
     let names = names_of(rt.alloc(), file.path)?;
-    if file.replace {
-        clear(rt, file.path, &names);
-    }
+    let hint = if file.replace {
+        clear(rt, file.path, &names)
+    } else {
+        HINT
+    };
     match file.mode {
-        Some(mode) => bind_with(rt, file, &names, mode),
+        Some(mode) => bind_with(rt, file, &names, mode, hint),
         None => {
             let outcome = UnixListener::bind(rt, file.path);
-            told(rt, file, file.path, outcome)
+            told(rt, file.path, hint, outcome)
         }
     }
 }
 
-/// Returns the outcome. If the file `path` is at fault, that is reported on standard error.
+/// Returns the outcome. If the file `path` is at fault, that is reported on standard error, with the
+/// hint if the file is there already.
 fn told<T, R: Eprint + AllocGlobal>(
     rt: &R,
-    file: &SocketFile<'_>,
     path: &str,
+    hint: &str,
     outcome: io::Result<T>,
 ) -> io::Result<T> {
     if let Err(why) = &outcome {
-        let hint = if is_there(why) && !file.replace {
-            HINT
-        } else {
-            ""
-        };
-        complain(rt, path, why, hint);
+        complain(rt, path, why, if is_there(why) { hint } else { "" });
     }
     outcome
 }
@@ -71,25 +82,46 @@ fn is_there(why: &io::Error) -> bool {
 }
 
 /// Removes what a server that was killed has left: the socket, and the private folder if nothing is
-/// in it but its socket. A socket on which a server listens stays.
-fn clear<R: Files + Net + AllocGlobal + Clone + Drop>(rt: &R, path: &str, names: &Names) {
-    remove_unused(rt, path);
+/// in it but its socket. A socket on which a server listens stays. Returns why the file at `path`
+/// stays, or nothing if it does not.
+fn clear<R: Files + Net + AllocGlobal + Clone + Drop>(
+    rt: &R,
+    path: &str,
+    names: &Names,
+) -> &'static str {
+    let left = remove_unused(rt, path);
     if has_no_other(rt, names) {
-        remove_unused(rt, names.private.as_str());
+        let _ = remove_unused(rt, names.private.as_str());
         let _ = fs::remove_dir(rt, names.folder.as_str());
+    }
+    left
+}
+
+/// Removes the file at `path` if it is a socket on which no server listens. Returns why it stays, or
+/// nothing if it does not.
+fn remove_unused<R: Files + Net>(rt: &R, path: &str) -> &'static str {
+    match fs::symlink_metadata(rt, path) {
+        Ok(found) if !found.file_type().is_socket() => return NO_SOCKET,
+        Ok(_) => {}
+        Err(_) => return "",
+    }
+    match UnixStream::connect(rt, path) {
+        Ok(_) => SERVED,
+        Err(why) => match why.kind() {
+            ErrorKind::ConnectionRefused => remove(rt, path),
+            ErrorKind::WouldBlock => SERVED,
+            ErrorKind::PermissionDenied => MAY_NOT_CONNECT,
+            _ => NOT_KNOWN,
+        },
     }
 }
 
-/// Removes the file at `path` if it is a socket on which no server listens.
-fn remove_unused<R: Files + Net>(rt: &R, path: &str) {
-    let is_socket = fs::symlink_metadata(rt, path).is_ok_and(|found| found.file_type().is_socket());
-    if !is_socket {
-        return;
-    }
-    if let Err(why) = UnixStream::connect(rt, path) {
-        if why.kind() == ErrorKind::ConnectionRefused {
-            let _ = fs::remove_file(rt, path);
-        }
+/// Removes the file at `path`. Returns why it stays, or nothing if it does not.
+fn remove<R: Files>(rt: &R, path: &str) -> &'static str {
+    match fs::remove_file(rt, path) {
+        Ok(()) => "",
+        Err(why) if why.kind() == ErrorKind::PermissionDenied => MAY_NOT_REMOVE,
+        Err(_) => NOT_REMOVED,
     }
 }
 
@@ -109,14 +141,15 @@ fn bind_with<R: Files + Net + Eprint + AllocGlobal>(
     file: &SocketFile<'_>,
     names: &Names,
     mode: u32,
+    hint: &str,
 ) -> io::Result<UnixListener> {
     let (folder, private) = (names.folder.as_str(), names.private.as_str());
     let made = DirBuilder::new().mode(PRIVATE).create(rt, folder);
-    told(rt, file, folder, made)?;
+    told(rt, folder, if file.replace { "" } else { hint }, made)?;
     let outcome = bind_in(rt, private, file.path, mode);
     let _ = fs::remove_file(rt, private);
     let _ = fs::remove_dir(rt, folder);
-    told(rt, file, file.path, outcome)
+    told(rt, file.path, hint, outcome)
 }
 
 /// Returns the names of the files that a server at this path makes.

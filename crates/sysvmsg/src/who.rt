@@ -29,6 +29,9 @@ const USUAL: Cred = Cred {
 /// The environment variable that has the effect of `--me` if its value is 1.
 const ME: &str = "SYSVMSG_ME";
 
+/// The environment variable that has the effect of `--stderr` if its value is 1.
+const STDERR: &str = "SYSVMSG_STDERR";
+
 /// Returns the credentials that a client states: those of the words, and for the others `own`, if
 /// the words or the environment want them, or the usual ones.
 pub(crate) fn credentials(who: &Who, wants_me: bool, own: Cred) -> Cred
@@ -54,7 +57,17 @@ fn cred_of(who: &Who, usual: Cred) -> Cred
 
 /// Returns whether the environment wants the IDs of this process.
 pub(crate) fn wants_me(rt: &(impl Env + AllocGlobal)) -> bool {
-    match env::var(rt, ME) {
+    is_one(rt, ME)
+}
+
+/// Returns whether the environment wants faults on standard error.
+pub(crate) fn wants_stderr(rt: &(impl Env + AllocGlobal)) -> bool {
+    is_one(rt, STDERR)
+}
+
+/// Returns whether an environment variable has the value 1.
+fn is_one(rt: &(impl Env + AllocGlobal), name: &str) -> bool {
+    match env::var(rt, name) {
         Ok(value) => value.as_str() == "1",
         Err(_) => false,
     }

@@ -1,7 +1,10 @@
-//! Tests of the engine of a server, over connections in memory, with frames worked out by hand.
+//! Tests of the engine of a server, over connections in memory, and of its clients and kernels over a
+//! service, with frames worked out by hand.
 #![tactic(auto)]
 
 #[cfg(test)]
 mod frames;
 #[cfg(test)]
 mod memory;
+#[cfg(test)]
+mod worked;

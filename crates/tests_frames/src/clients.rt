@@ -9,11 +9,13 @@ use std::alloc::Global;
 use std::io;
 use std::io::{ErrorKind, Read, Write};
 use std::process::Abort;
-use sysv_clients::{Command, Format, Receipt, Target, Task, id_of, key_of, run_client, type_of};
+use sysv_clients::{
+    Command, Form, Format, Receipt, Target, Task, id_of, key_of, run_client, type_of,
+};
 use sysv_model::{BODY_ROOM, Cred};
 
 /// The number of bytes that a tape has space for.
-const TAPE_ROOM: usize = 9000;
+const TAPE_ROOM: usize = 50_000;
 
 /// Bytes to read, or bytes that were written.
 #[derive(Drop)]
@@ -206,7 +208,7 @@ const ANY: Receipt = Receipt {
     nowait: false,
     noerror: false,
     show_type: false,
-    raw: false,
+    form: Form::Line,
 };
 
 /// The task to list the queues as a table.

@@ -5,7 +5,7 @@ use crate::server::{CREATE, FOUND, HELLO, KNOWN, SEND, SENT, talks};
 use std::alloc::Global;
 use std::net::Net;
 use std::os::unix::net::UnixStream;
-use sysv_clients::{Command, Format, Receipt, Target, Task, run_client};
+use sysv_clients::{Command, Form, Format, Receipt, Target, Task, run_client};
 use sysv_model::Cred;
 
 /// The number of bytes that a screen has space for.
@@ -38,7 +38,7 @@ const RECEIVE: Task<'static> = Task::Receive(Receipt {
     nowait: false,
     noerror: false,
     show_type: false,
-    raw: false,
+    form: Form::Line,
 });
 
 /// Asserts that a client with this task shows these bytes and ends with this status.

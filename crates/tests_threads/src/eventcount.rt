@@ -3,7 +3,7 @@ ghost use Rattle.std.specs.Prelude.{◌≡◌};
 
 mod threads;
 
-use crate::parts::LIMIT;
+use crate::parts::{LIMIT, assert_is};
 use std::test::Fail;
 use sysv_eventcount::{Awaited, Eventcount, OpenRefused, Seat, Sequencer, Worn};
 
@@ -20,12 +20,12 @@ fn advance_three_times(count: &Eventcount, seat: &mut Seat) -> Option<[u64; 3]>
 #[test]
 fn an_eventcount_counts_advances(rt: HostRuntime) -> Result<(), Fail> {
     let (count, mut seat) = Eventcount::open(rt.alloc(), 0)?;
-    assert_eq!(rt; advance_three_times(&count, &mut seat), Some([1, 2, 3]));
+    assert_is(&rt, advance_three_times(&count, &mut seat), Some([1, 2, 3]));
     let three = count.await_turns(&mut seat, 3, 10);
     let four = count.await_turns(&mut seat, 4, 10);
-    assert_eq!(rt; (three, four), (Awaited::Reached(3), Awaited::Short(3)));
+    assert_is(&rt, (three, four), (Awaited::Reached(3), Awaited::Short(3)));
     let read = count.read(&mut seat);
-    assert_eq!(rt; (read, count.await_at_least(&rt, &mut seat, 3)), (3, 3));
+    assert_is(&rt, (read, count.await_at_least(&rt, &mut seat, 3)), (3, 3));
     count.wake(&rt);
     Ok(())
 }
@@ -48,7 +48,7 @@ fn advance_beside(count: &Eventcount, seat: &mut Seat) -> Option<(u64, u64, Awai
 fn read_tells_own_knowledge_only(rt: HostRuntime) -> Result<(), Fail> {
     let (count, mut seat) = Eventcount::open(rt.alloc(), 3)?;
     let seen = advance_beside(&count, &mut seat);
-    assert_eq!(rt; seen, Some((4, 4, Awaited::Reached(4), 4)));
+    assert_is(&rt, seen, Some((4, 4, Awaited::Reached(4), 4)));
     Ok(())
 }
 
@@ -76,8 +76,8 @@ fn draw_beside(turns: &Sequencer, seat: &mut Seat) -> Option<[u64; 2]>
 #[test]
 fn a_sequencer_draws_each_number_once(rt: HostRuntime) -> Result<(), Fail> {
     let (turns, mut seat) = Sequencer::open(rt.alloc(), 0)?;
-    assert_eq!(rt; draw_three(&turns, &mut seat), Some([0, 1, 2]));
-    assert_eq!(rt; draw_beside(&turns, &mut seat), Some([3, 4]));
+    assert_is(&rt, draw_three(&turns, &mut seat), Some([0, 1, 2]));
+    assert_is(&rt, draw_beside(&turns, &mut seat), Some([3, 4]));
     Ok(())
 }
 
@@ -102,7 +102,7 @@ fn one_lock_round_everything(rt: HostRuntime) -> Result<(), Fail> {
     let (count, mut counting) = Eventcount::open(rt.alloc(), 5)?;
     let (turns, mut drawing) = Sequencer::open(rt.alloc(), 5)?;
     let stepped = step_without_waiting(&count, &mut counting, &turns, &mut drawing);
-    assert_eq!(rt; stepped, Some((5, 6, Awaited::Reached(5))));
+    assert_is(&rt, stepped, Some((5, 6, Awaited::Reached(5))));
     Ok(())
 }
 
@@ -137,25 +137,33 @@ fn count_ticket_splits(turns: &Sequencer, seat: Seat, most: u32) -> u32
 #[test]
 fn the_newest_seat_splits_ten_times(rt: HostRuntime) -> Result<(), Fail> {
     let (count, seat) = Eventcount::open(rt.alloc(), 0)?;
-    assert_eq!(rt; count_splits(&count, seat, 100), 10);
+    assert_is(&rt, count_splits(&count, seat, 100), 10);
     let (turns, seat) = Sequencer::open(rt.alloc(), 0)?;
-    assert_eq!(rt; count_ticket_splits(&turns, seat, 100), 10);
+    assert_is(&rt, count_ticket_splits(&turns, seat, 100), 10);
     Ok(())
 }
 
 #[test]
 fn a_worn_sequencer_draws_nothing(rt: HostRuntime) -> Result<(), Fail> {
     let (turns, mut seat) = Sequencer::open(rt.alloc(), LIMIT)?;
-    assert_eq!(rt; turns.ticket(&mut seat), Err(Worn));
+    assert_is(&rt, turns.ticket(&mut seat), Err(Worn));
+    Ok(())
+}
+
+#[test]
+fn a_worn_eventcount_counts_nothing(rt: HostRuntime) -> Result<(), Fail> {
+    let (count, mut seat) = Eventcount::open(rt.alloc(), LIMIT)?;
+    assert_is(&rt, count.advance(&mut seat), Err(Worn));
+    assert_is(&rt, count.read(&mut seat), LIMIT);
     Ok(())
 }
 
 #[test]
 fn the_last_advance_reaches_the_limit(rt: HostRuntime) -> Result<(), Fail> {
     let (count, mut seat) = Eventcount::open(rt.alloc(), LIMIT - 1)?;
-    assert_eq!(rt; count.advance(&mut seat), Ok(LIMIT));
-    assert_eq!(rt; count.advance(&mut seat), Err(Worn));
-    assert_eq!(rt; count.read(&mut seat), LIMIT);
+    assert_is(&rt, count.advance(&mut seat), Ok(LIMIT));
+    assert_is(&rt, count.advance(&mut seat), Err(Worn));
+    assert_is(&rt, count.read(&mut seat), LIMIT);
     Ok(())
 }
 

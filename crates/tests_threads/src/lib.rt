@@ -1,8 +1,6 @@
-//! Tests of eventcounts, buffers, workers, gates and banks, by one thread and by several.
+//! Tests of eventcounts, buffers and workers, by one thread and by several.
 #![tactic(auto)]
 
-#[cfg(test)]
-mod bank;
 #[cfg(test)]
 mod buffer;
 #[cfg(test)]
@@ -10,14 +8,8 @@ mod eventcount;
 #[cfg(test)]
 mod examples;
 #[cfg(test)]
-mod gate;
-#[cfg(test)]
 mod growths;
 #[cfg(test)]
-mod no_growths;
-#[cfg(test)]
 mod parts;
-#[cfg(test)]
-mod sum;
 #[cfg(test)]
 mod workers;

@@ -14,26 +14,100 @@ const WANTS: &[u8] = b"\0\0\0\x16\x02\x03\0\0\0\x40\0\0\x20\0\0\0\0\0\0\0\0\0";
 
 #[test]
 fn a_message_is_shown_as_the_options_say(rt: HostRuntime) {
-    let table: [(bool, bool, u32, &[u8]); 7] = [
-        (false, false, 8192, b"a\n\0b\n"),
-        (false, true, 8192, b"a\n\0b"),
-        (true, false, 8192, b"-3\ta\n\0b\n"),
-        (true, true, 8192, b"-3\ta\n\0b"),
-        (false, false, 3, b"a\n\0\n"),
-        (true, true, 0, b"-3\t"),
-        (false, false, u32::MAX, b"a\n\0b\n"),
+    let table: [(bool, Form, u32, &[u8]); 12] = [
+        (false, Form::Line, 8192, b"a\n\0b\n"),
+        (false, Form::Raw, 8192, b"a\n\0b"),
+        (true, Form::Line, 8192, b"-3\ta\n\0b\n"),
+        (true, Form::Raw, 8192, b"-3\ta\n\0b"),
+        (false, Form::Line, 3, b"a\n\0\n"),
+        (true, Form::Raw, 0, b"-3\t"),
+        (false, Form::Line, u32::MAX, b"a\n\0b\n"),
+        (false, Form::Zero, 8192, b"a\n\0b\0"),
+        (true, Form::Zero, 1, b"-3\ta\0"),
+        (
+            false,
+            Form::Object,
+            8192,
+            b"{\"type\":-3,\"body\":\"a\\u000a\\u0000b\"}\n",
+        ),
+        (true, Form::Object, 1, b"{\"type\":-3,\"body\":\"a\"}\n"),
+        (false, Form::Object, 0, b"{\"type\":-3,\"body\":\"\"}\n"),
     ];
-    for (show_type, raw, size, shown) in table {
+    for (show_type, form, size, shown) in table {
         let mut talk = Talk::new(&rt, rt.alloc(), &[WELCOME, GOT, ODD]);
         let receipt = Receipt {
             show_type,
-            raw,
+            form,
             size,
             ..ANY
         };
         assert_is(&rt, talk.run(&rt, rt.alloc(), Task::Receive(receipt)), 0);
         assert!(rt; talk.screen.text() == shown, "{size}");
     }
+}
+
+/// Asserts that a message of type 7 with this body is shown as this JSON object.
+fn is_object(rt: &(impl Abort + AllocGlobal), body: &[u8], wanted: &[u8]) {
+    let len = (body.len() + 11) as u32;
+    let alloc = rt.alloc();
+    let front = joined(
+        rt,
+        alloc,
+        &[&len.to_be_bytes(), b"\x02\x03\0\0\0\0\0\0\0\0\x07"],
+    );
+    let mut talk = Talk::new(rt, alloc, &[WELCOME, GOT, front.text(), body]);
+    let receipt = Receipt {
+        form: Form::Object,
+        ..ANY
+    };
+    assert_is(rt, talk.run(rt, alloc, Task::Receive(receipt)), 0);
+    assert!(rt; talk.screen.text() == wanted);
+}
+
+#[test]
+fn a_json_object_has_the_body_as_a_string_or_in_base64(rt: HostRuntime) {
+    let table: [(&[u8], &[u8]); 8] = [
+        (b"plain", b"\"body\":\"plain\""),
+        (b"\"\\/", b"\"body\":\"\\\"\\\\/\""),
+        (
+            b"\x01\t\x1f \x7f",
+            b"\"body\":\"\\u0001\\u0009\\u001f \x7f\"",
+        ),
+        (
+            b"\xc3\xa9\xf0\x9f\x98\x80",
+            b"\"body\":\"\xc3\xa9\xf0\x9f\x98\x80\"",
+        ),
+        (b"\xff", b"\"base64\":\"/w==\""),
+        (b"\xfb\xef\xbe", b"\"base64\":\"++++\""),
+        (b"ab\xc3", b"\"base64\":\"YWLD\""),
+        (b"\xed\xa0\x80\0", b"\"base64\":\"7aCAAA==\""),
+    ];
+    for (body, member) in table {
+        let wanted = joined(&rt, rt.alloc(), &[b"{\"type\":7,", member, b"}\n"]);
+        is_object(&rt, body, wanted.text());
+    }
+}
+
+#[test]
+fn the_longest_message_is_shown_as_a_json_object(rt: HostRuntime) {
+    let escaped = [*b"\\u0000"; 8192];
+    let text = joined(
+        &rt,
+        rt.alloc(),
+        &[b"{\"type\":7,\"body\":\"", escaped.as_flattened(), b"\"}\n"],
+    );
+    is_object(&rt, &[0; 8192], text.text());
+    let encoded = [*b"////"; 2730];
+    let text = joined(
+        &rt,
+        rt.alloc(),
+        &[
+            b"{\"type\":7,\"base64\":\"",
+            encoded.as_flattened(),
+            b"//8=\"}\n",
+        ],
+    );
+    is_object(&rt, &[0xff; 8192], text.text());
 }
 
 #[test]

@@ -87,11 +87,31 @@ fn paced<'a>(
     reads: &'a [Step],
     writes: &'a [Step],
 ) -> Client<MemoryStream<'a>> {
-    let stream = match MemoryStream::new(alloc, input, 1_000, reads, writes) {
+    Client::open(alloc, stream(rt, alloc, input, reads, writes))
+}
+
+/// Returns a client like that of `client`, which may leave or be cut off.
+fn loose<'a>(
+    rt: &impl Abort,
+    alloc: Global,
+    input: &'a [u8],
+    writes: &'a [Step],
+) -> Client<MemoryStream<'a>> {
+    Client::open(alloc, stream(rt, alloc, input, &[], writes).with_cuts())
+}
+
+/// Returns the connection of a client. Tolerates one refusal of memory.
+fn stream<'a>(
+    rt: &impl Abort,
+    alloc: Global,
+    input: &'a [u8],
+    reads: &'a [Step],
+    writes: &'a [Step],
+) -> MemoryStream<'a> {
+    match MemoryStream::new(alloc, input, 1_000, reads, writes) {
         Some(stream) => stream,
         None => MemoryStream::new(alloc, input, 1_000, reads, writes).expect(rt, "a second try"),
-    };
-    Client::open(alloc, stream)
+    }
 }
 
 /// Asserts that a client has taken up this number of requests, that its connection has taken this
@@ -370,11 +390,32 @@ fn a_parked_receive_is_left(rt: HostRuntime) {
     let (service, pass) = opened(&rt, alloc, 128, 0);
     let mut kernel = ServiceKernel::new(&rt, &service, &ZERO, pass);
     let mut tools = tools(&rt, alloc);
-    let mut client = client(&rt, alloc, WAITING, &[]);
+    let mut client = loose(&rt, alloc, WAITING, &[]);
     turn(&mut kernel, &mut tools, &mut client);
     client.leave();
     assert!(rt; client.waiting().is_none() && client.is_over());
     assert_closed(&rt, alloc, client, End::Left, (3, 0, 0), GREETED);
+    let pass = kernel.into_pass();
+    ended(&rt, service, pass, 0);
+}
+
+// A client that may neither leave nor be cut off goes on, and its parked call waits on.
+#[test]
+fn a_client_that_stays(rt: HostRuntime) {
+    let alloc = rt.alloc();
+    let (service, pass) = opened(&rt, alloc, 128, 0);
+    let mut kernel = ServiceKernel::new(&rt, &service, &ZERO, pass);
+    let mut tools = tools(&rt, alloc);
+    let mut stays = client(&rt, alloc, WAITING, &[]);
+    turn(&mut kernel, &mut tools, &mut stays);
+    assert!(rt; !stays.may_be_cut() && !stays.may_close());
+    stays.leave();
+    stays.cut();
+    assert!(rt; stays.waiting().is_some() && !stays.is_over());
+    let loose = loose(&rt, alloc, WAITING, &[]);
+    assert!(rt; loose.may_be_cut() && loose.may_close());
+    assert_closed(&rt, alloc, stays, End::Left, (3, 0, 0), GREETED);
+    assert_closed(&rt, alloc, loose, End::Fault(sysv_wire::Fault::Read), (0, 0, 0), &[]);
     let pass = kernel.into_pass();
     ended(&rt, service, pass, 0);
 }
@@ -388,7 +429,7 @@ fn a_client_that_is_cut(rt: HostRuntime) {
     let mut kernel = ServiceKernel::new(&rt, &service, &ZERO, pass);
     let mut tools = tools(&rt, alloc);
     let steps = [Step::AtMost(20), Step::AtMost(0), Step::AtMost(0)];
-    let mut client = client(&rt, alloc, SESSION, &steps);
+    let mut client = loose(&rt, alloc, SESSION, &steps);
     turn(&mut kernel, &mut tools, &mut client);
     turn(&mut kernel, &mut tools, &mut client);
     assert!(rt; client.has_unsent() && !client.is_over());

@@ -1,8 +1,7 @@
-//! Sessions over a service.
+//! Sessions over a service. `tests_engine` has the one whose bytes were worked out by hand.
 ghost use Rattle.std.specs.Prelude.{◌≡◌};
 ghost use Rattle.sysv_service.specs.Seats.{AreOf};
 
-use super::served::assert_served;
 use crate::parts::{CLOCK, Still, closed, opened};
 use std::alloc::Global;
 use std::process::Abort;
@@ -54,27 +53,6 @@ fn served<R: Abort + Wait>(
     let pass = kernel.into_pass();
     ended(rt, service, pass, waiting);
     told
-}
-
-#[test]
-fn the_session_cut_after_each_byte(rt: HostRuntime) {
-    for cut in 0..SESSION.len() + 1 {
-        let mut reader = Pieces::both(&SESSION[..cut], &SESSION[cut..]);
-        let mut page = Page::new();
-        let told = served(&rt, rt.alloc(), &mut reader, &mut page, 0);
-        assert_served(&rt, &told, &page, End::Ended, (5, 1, 1, 0), ANSWERS);
-    }
-}
-
-#[test]
-fn the_session_by_pieces(rt: HostRuntime) {
-    for piece in [1, 2, 3, 7, 64] {
-        let mut reader = Pieces::new(SESSION, piece);
-        let mut page = Page::new();
-        page.piece = piece;
-        let told = served(&rt, rt.alloc(), &mut reader, &mut page, 0);
-        assert_served(&rt, &told, &page, End::Ended, (5, 1, 1, 0), ANSWERS);
-    }
 }
 
 /// Runs a session of a hello, a get of queue 0 with key 7 and mode 0600, and these bytes, whose

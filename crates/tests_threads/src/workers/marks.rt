@@ -47,7 +47,7 @@ fn each_item_is_run_once(rt: HostRuntime) {
     let mut source = Numbers::below(ITEMS);
     let states = four(&rt, rt.alloc());
     let left = ran(&rt, rt.alloc(), states, &mut source, &Marking);
-    assert_eq!(rt; left.len(), 4);
+    assert_is(&rt, left.len(), 4);
     let mut all = [0_u8; 1_000];
     for state in &left {
         for (sum, mark) in all.iter_mut().zip(state.marks.iter()) {
@@ -55,5 +55,5 @@ fn each_item_is_run_once(rt: HostRuntime) {
         }
     }
     assert!(rt; all.iter().all(|mark| *mark == 1));
-    assert_eq!(rt; source.asked, ITEMS + 1);
+    assert_is(&rt, source.asked, ITEMS + 1);
 }

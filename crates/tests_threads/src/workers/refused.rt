@@ -27,9 +27,9 @@ fn are_refused<R: Threads + Wait + Abort + Sync>(rt: &R, alloc: Global, count: u
         Ok(_) => panic!(rt; "{count} states"),
         Err(refused) => {
             let WorkersRefused { why, states } = refused;
-            assert_eq!(rt; why, WorkersFault::BadCount);
-            assert_eq!(rt; items_of(rt, states, count as u64), 0);
-            assert_eq!(rt; source.asked, 0);
+            assert_is(rt, why, WorkersFault::BadCount);
+            assert_is(rt, items_of(rt, states, count as u64), 0);
+            assert_is(rt, source.asked, 0);
         }
     }
 }
@@ -41,7 +41,7 @@ fn are_run<R: Threads + Wait + Abort + Sync>(rt: &R, alloc: Global, count: usize
     let mut source = Numbers::below(400);
     let states = tickets(rt, alloc, count);
     let left = ran(rt, alloc, states, &mut source, &Counting);
-    assert_eq!(rt; items_of(rt, left, count as u64), 400);
+    assert_is(rt, items_of(rt, left, count as u64), 400);
 }
 
 #[test]
@@ -61,6 +61,6 @@ fn a_source_with_nothing(rt: HostRuntime) {
     let mut source = Numbers::below(0);
     let states = tickets(&rt, rt.alloc(), 3);
     let left = ran(&rt, rt.alloc(), states, &mut source, &Counting);
-    assert_eq!(rt; items_of(&rt, left, 3), 0);
-    assert_eq!(rt; source.asked, 1);
+    assert_is(&rt, items_of(&rt, left, 3), 0);
+    assert_is(&rt, source.asked, 1);
 }

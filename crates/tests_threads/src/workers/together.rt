@@ -46,7 +46,7 @@ fn one_item_waits_for_another(rt: HostRuntime) {
     let mut source = Numbers::below(2);
     let states = tickets(&rt, rt.alloc(), 2);
     let left = ran(&rt, rt.alloc(), states, &mut source, &job);
-    assert_eq!(rt; items_of(&rt, left, 2), 2);
+    assert_is(&rt, items_of(&rt, left, 2), 2);
     assert!(rt; !job.late.load(SeqCst));
-    assert_eq!(rt; source.asked, 3);
+    assert_is(&rt, source.asked, 3);
 }

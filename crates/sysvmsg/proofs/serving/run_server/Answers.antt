@@ -1,8 +1,11 @@
--- A server has at most as many places as its terms allow.
-use Rattle.sysvmsg.proofs.ServerLemmas.{ends_within}
+-- A server has as many places as its terms and the limit of open files allow.
+use Rattle.std.proofs.Common.{subst}
+use Rattle.std.specs.Prelude.{IfOk}
+use Rattle.sysv_server.specs.Serving.{EndsOn}
 use Rattle.sysvmsg.proofs.serving.run_server.Goals as goal
 
 pub returns-clause-ends : goal.returns-clause-ends
 returns-clause-ends g c =
-    ends_within c.args.serving.now.terms c.room.result c.serve_listener.result c.room.ensures.0 c.room.ensures.1
-    c.serve_listener.ensures.ok
+    let terms = c.args.serving.now.terms in
+    subst (λ places. IfOk c.serve_listener.result (λ ended. EndsOn terms.blocks places terms.sessions ended))
+    c.room.ensures.exact c.serve_listener.ensures.ok

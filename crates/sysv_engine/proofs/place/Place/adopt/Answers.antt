@@ -6,7 +6,6 @@ use Rattle.sysv_engine.proofs.place.Place.adopt.Goals as goal
 
 pub returns : goal.returns
 returns g c =
-    takes g.T.NonBlocking.incoming g.T.NonBlocking.outgoing g.T.NonBlocking.closes _ c.close.new.self c.seat.new.self
-    c.args.connection c.open.result c.close.ensures.keeps c.close.ensures.vacant
-    (c.seat.ensures ∙ ap (taken_by c.open.result) c.self.view_is)
-    c.open.ensures.sits
+    takes g.T.NonBlocking.incoming g.T.NonBlocking.outgoing g.T.NonBlocking.closes _ c.seat.new.self
+    c.args.connection c.open.result c.requires (c.seat.ensures ∙ ap (taken_by c.open.result) c.self.view_is)
+    c.open.ensures.connection c.open.ensures.sits

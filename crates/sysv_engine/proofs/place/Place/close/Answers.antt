@@ -1,15 +1,23 @@
--- A client is closed, and its session is counted.
-use Rattle.std.proofs.Common.{◌≡◌, ◌∙◌, Some}
+-- A client that may be closed is closed, and its session is counted.
+use Rattle.std.proofs.Common.{◌≡◌, ◌∙◌, Option, Some, ap, subst, sym}
+use Rattle.std.specs.Prelude.{IfSome}
+use Rattle.sysv_seats.specs.Sits.{MayClose, Sitting}
+use Rattle.sysv_engine.specs.Places.{Seated}
 use Rattle.sysv_engine.proofs.PlaceLemmas.{closed_at, keeps_from}
 use Rattle.sysv_engine.proofs.place.Place.close.Goals as goal
 
-pub returns-clause-keeps : goal.returns-clause-keeps
-returns-clause-keeps g c =
+pub returns : goal.returns
+returns g c =
+    let t = g.T.NonBlocking in
+    let S : Type 0 = Seated g.row.T-Book.Denot g.row.T.Denot in
     let held : c.self.inside.client ≡ Some c.in_ok-client.client = cc in
     let same = c.count.ensures.same in
-    keeps_from g.T.NonBlocking.incoming g.T.NonBlocking.outgoing g.T.NonBlocking.closes _ _ c.count.new.self
-    c.self.view_is
-    (closed_at g.T.NonBlocking.incoming g.T.NonBlocking.outgoing g.T.NonBlocking.closes _ c.count.new.self
-    c.in_ok-client.client c.close-served.result c.close-served.new.book held
-    (same.0, same.1, same.2, same.3 ∙ c.take.ensures.after) c.count.ensures.sums c.count.ensures.refused
-    c.close-served.ensures)
+    let may = subst (λ (o : Option (Sitting g.row.T.Denot)).
+    IfSome o (λ client. MayClose (t.closes.breaks client.connection) client))
+    (sym (ap (λ (p : S). p.client) c.self.view_is) ∙ held) (c.may_close.ensures c.if-not-may_close.false) in
+    record {
+      keeps = keeps_from t.incoming t.outgoing t.closes _ _ c.count.new.self c.self.view_is
+          (closed_at t.incoming t.outgoing t.closes _ c.count.new.self c.in_ok-client.client c.close-served.result
+          c.close-served.new.book held (same.0, same.1, same.2, same.3 ∙ c.take.ensures.after) c.count.ensures.sums
+          c.count.ensures.refused c.close-served.ensures.over (c.close-served.ensures.cause may));
+    }

@@ -1,5 +1,9 @@
 -- The call is begun, and its outcome is settled.
+use Rattle.sysv_seats.proofs.ClientSteps.{begun_replied}
 use Rattle.sysv_seats.proofs.client.Client.ask.Goals as goal
+
+pub settle-requires-clause-replied : goal.settle-requires-clause-replied
+settle-requires-clause-replied g c = begun_replied _ _ _ _ _ _ _ _ _ c.begin-progress.ensures.begun
 
 pub returns-clause-keeps : goal.returns-clause-keeps
 returns-clause-keeps g c = λ start origin asked.

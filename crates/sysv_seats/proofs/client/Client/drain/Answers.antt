@@ -4,8 +4,8 @@ use Rattle.sysv_seats.proofs.client.Client.drain.Goals as goal
 
 pub invariant_of-self : goal.invariant_of-self
 invariant_of-self g c =
-    kept_sent _ _ _ c.self.inside.conversation c.self.inside.parked c.sent.new.self c.in-Took.count c.sent.ensures
-    c.self.invariant
+    kept_sent _ _ _ c.self.inside.conversation c.self.inside.parked c.sent.new.self c.in-Took.count _ _
+    c.self.inside.stopped c.self.inside.is_broken c.sent.ensures c.drain.ensures.breaks c.self.invariant
 
 pub returns-in-Took-clause-keeps : goal.returns-in-Took-clause-keeps
 returns-in-Took-clause-keeps g c = keeps_from g.T.NonBlocking.incoming g.T.NonBlocking.outgoing _ _ _ c.self.view_is

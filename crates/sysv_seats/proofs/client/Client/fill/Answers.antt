@@ -2,6 +2,7 @@
 use Rattle.std.proofs.Common.{◌≡◌, ◌++◌, ◌∙◌, ℕ, List, ap, arith, length, refl, subst, sym, take}
 use Rattle.std.proofs.Math.Seq.{take-append_seam}
 use Rattle.std.specs.Io.KnownBytes.{Consumes}
+use Rattle.sysv_seats.specs.Sits.{Sitting}
 use Rattle.sysv_seats.proofs.ClientLemmas.{filled, filled_last, filled_none, filled_not}
 use Rattle.sysv_seats.proofs.client.Client.fill.Goals as goal
 
@@ -19,7 +20,7 @@ returns-in-Bytes-clause-keeps g c =
     c.self.view_is c.requires.free
     (subst (λ (l : List ℕ). Consumes (g.T.NonBlocking.incoming c.self.inside.connection)
     (g.T.NonBlocking.incoming c.fill.new.self) (take c.in-Bytes.count l)) (sym same) c.in-Bytes.ensures.bytes.2)
-    c.fill.ensures.untold c.fill.ensures.written c.arrive.ensures c.take_share.ensures.keeps
+    c.fill.ensures.untold c.fill.ensures.written c.arrive.ensures.arrives c.take_share.ensures.keeps
 
 pub returns-in-NothingNow-clause-keeps : goal.returns-in-NothingNow-clause-keeps
 returns-in-NothingNow-clause-keeps g c =
@@ -37,4 +38,7 @@ returns-in-Over-Reset g c = record {
       c.self.view_is c.requires.free c.in-Over-Reset.ensures.bytes.0 c.fill.ensures.untold c.fill.ensures.written
       c.stop.ensures;
   handles = (refl, refl);
+  breaks = ap (λ (s : Sitting g.row.T.Denot). g.T.NonBlocking.closes.breaks s.connection) c.stop.ensures
+      ∙ (c.fill.ensures.breaks
+      ∙ ap (λ (s : Sitting g.row.T.Denot). g.T.NonBlocking.closes.breaks s.connection) c.self.view_is);
 }

@@ -2,8 +2,11 @@
 use Rattle.std.proofs.Common.{◌≡◌, ◌∙◌, ℕ, List, ap, subst, sym}
 use Rattle.sysv_seats.specs.Parked.{HasBegun, IsParked}
 use Rattle.sysv_seats.specs.Sits.{Sits, Sitting, zero_moment}
-use Rattle.sysv_seats.proofs.ClientSteps.{asked_before, is_waiting}
+use Rattle.sysv_seats.proofs.ClientSteps.{asked_before, goes_replied, is_waiting}
 use Rattle.sysv_seats.proofs.client.Client.go_on.Goals as goal
+
+pub settle-requires-clause-replied : goal.settle-requires-clause-replied
+settle-requires-clause-replied g c = goes_replied _ _ _ _ _ _ _ _ c.go_on-progress.ensures.looks
 
 pub returns-clause-keeps : goal.returns-clause-keeps
 returns-clause-keeps g c = λ start origin sits.

@@ -6,7 +6,8 @@ use Rattle.sysv_session.specs.declared.served.End.{End}
 use Rattle.sysv_session.specs.Conversation.{Puts}
 use Rattle.sysv_seats.specs.declared.tools.Tools.{Tools}
 use Rattle.sysv_seats.specs.Sits.{HasAsked, IsPending, Sits, Sitting, is_wait_of}
-use Rattle.sysv_seats.proofs.ClientSteps.{answers, parks, put_none, put_reply, short_given, waits_by}
+use Rattle.sysv_seats.proofs.ClientLemmas.{put_cause}
+use Rattle.sysv_seats.proofs.ClientSteps.{answers, over_has, parks, put_none, put_reply, short_given, waits_by}
 use Rattle.sysv_seats.proofs.client.Client.settle.Goals as goal
 
 -- The body that was given is the same.
@@ -19,14 +20,25 @@ put-requires-clause-text g c =
     (short_given c.args.request.version c.args.request.ask c.in-Over.outcome c.args.tools.now.given
     (answers _ _ c.args.progress _ _ c.in-Over.is c.requires.answer))
 
+pub stop-requires : goal.stop-requires
+stop-requires g c =
+    let put = subst (λ (r : Result ⊤ End). Puts r c.args.request.version c.in-Over.outcome c.tell.new.self.given
+    c.self.inside.conversation c.put.new.self) c.in-Err.is c.put.ensures in
+    put_cause (g.T.NonBlocking.closes.breaks c.self.inside.connection) _ c.in-Over.outcome _ _ _ c.in-Err.why
+    (over_has c.args.progress c.in-Over.outcome c.in-Over.is c.requires.replied) put
+
 pub invariant_of-self-in-Waits : goal.invariant_of-self-in-Waits
 invariant_of-self-in-Waits g c =
     let waits : is_wait_of c.args.request.ask c.in-Waits.waiting ≡ true =
     waits_by _ _ c.args.progress _ _ c.in-Waits.is c.requires.answer in
     let same = sym c.self-in-Waits.view_is in
     let frame = subst (λ (s : Sitting g.row.T.Denot). c.args.size ≤ length s.input) same c.requires.frame in
-    let pending = subst (λ (s : Sitting g.row.T.Denot). IsPending s) same c.requires.pending in
-    (omega arith, (frame, waits), (omega (arith, pending), omega arith, c.self-in-Waits.invariant.2.2))
+    let pending = subst (λ (s : Sitting g.row.T.Denot). IsPending s) same c.requires.pending in (
+      omega arith,
+      (frame, waits),
+      (omega (arith, pending), omega arith, c.self-in-Waits.invariant.2.2),
+      c.self-in-Waits.invariant.3,
+    )
 
 pub returns-in-Err-clause-keeps : goal.returns-in-Err-clause-keeps
 returns-in-Err-clause-keeps g c = λ start before now origin text asked begun.

@@ -1,4 +1,5 @@
 -- So far the client is one of the same session, and the kernel has the same service and clock.
+use Rattle.std.proofs.Common.{◌≡◌}
 use Rattle.sysv_seats.specs.KernelHandles.{KeepsHandles}
 use Rattle.sysv_seats.specs.Sits.{KeepsWith}
 use Rattle.sysv_seats.proofs.client.Client.take_share.Given as goal
@@ -7,4 +8,5 @@ abbrev pub invariant-loop : goal.invariant-loop
 invariant-loop g l = record {
   keeps : KeepsWith g.T.NonBlocking.incoming g.T.NonBlocking.outgoing l.fn.self l.fn.kernel.pass l.self l.kernel.pass;
   handles : KeepsHandles l.fn.kernel l.kernel;
+  breaks : g.T.NonBlocking.closes.breaks l.self.connection ≡ g.T.NonBlocking.closes.breaks l.fn.self.connection;
 }

@@ -1,13 +1,12 @@
 -- What was taken up is answered, or ends the session.
-use Rattle.std.proofs.Common.{◌≡◌, ◌∙◌, ℕ, List, Err, ap, subst, sym, false}
+use Rattle.std.proofs.Common.{◌≡◌, ◌∙◌, ℕ, List, subst, sym, false}
 use Rattle.std.proofs.lemmas.List.{drop-drop}
 use Rattle.sysv_session.specs.declared.served.End.{End}
 use Rattle.sysv_session.specs.declared.session.TakenUp.TheVariants.{Hello, Request as Asked}
-use Rattle.sysv_session.proofs.Arrived.{settled_at_end}
-use Rattle.sysv_seats.specs.Sits.{GreetsAs, HasAsked, IsPending, ReadsNext, Sitting, is_early, stopped_for}
-use Rattle.sysv_seats.proofs.ClientSteps.{asks_next, greets_next, ok_of, one_end, settled_early, stops_next}
+use Rattle.sysv_seats.specs.Sits.{GreetsAs, HasAsked, IsPending, ReadsNext, Sitting, is_early}
+use Rattle.sysv_seats.proofs.ClientSteps.{asks_next, greets_next, ok_of, one_end, settled_late, stops_next}
+use Rattle.sysv_seats.proofs.ClientLemmas.{taken_cause}
 use Rattle.sysv_seats.proofs.client.Client.take_up.Goals as goal
-use Rattle.sysv_seats.proofs.client.Client.take_up.Goals.{then-not-is_end+else-is_early, else-not-is_end}
 
 pub ask-requires-clause-pending : goal.ask-requires-clause-pending
 ask-requires-clause-pending g c =
@@ -49,23 +48,23 @@ returns-in-Ok-Request-clause-keeps g c = λ start origin sits.
     c.read_next-size.new.self c.read_next-size.result.0 c.read_next-size.result.1 c.read_next-size.new.text
     c.requires.free c.read_next-size.ensures.takes sits c.in-Ok-Request.cred c.in-Ok-Request.request is))
 
+pub stop-requires : goal.stop-requires
+stop-requires g c =
+    taken_cause (g.T.NonBlocking.closes.breaks c.self.inside.connection) _ _ c.read_next-size.result.1 c.in-Err-2.why _
+    _ _ c.args.is_end c.in-Err-2.is
+    (subst (λ (e : End). is_early e c.args.is_end ≡ false)
+    (one_end c.read_next-size.result.1 c.in-Err.why c.in-Err-2.why c.in-Err.is c.in-Err-2.is)
+    (sym c.is_early.ensures ∙ c.if-is_early.false))
+    c.read_next-size.ensures.takes.takes
+
 pub returns-in-Err-2-clause-keeps : goal.returns-in-Err-2-clause-keeps
 returns-in-Err-2-clause-keeps g c = λ start origin sits.
     let reads = subst (λ (s : Sitting g.row.T.Denot). ReadsNext c.args.self.now c.read_next-size.result.0
     c.read_next-size.result.1 c.read_next-size.new.text s) (sym c.self.view_is) c.read_next-size.ensures.takes in
-    elim c.if-not-is_end.branch [
-      | then-not-is_end+else-is_early w ↦
-          stops_next g.T.NonBlocking.incoming g.T.NonBlocking.outgoing start c.args.kernel.now.pass origin
-          c.args.self.now _ c.read_next-size.result.0 c.read_next-size.result.1 c.read_next-size.new.text
-          c.requires.free reads sits c.in-Err-2.why c.stop.new.self c.in-Err-2.is
-          (settled_early c.in-Err-2.why _ (subst (λ (e : End). is_early e ≡ false)
-          (one_end c.read_next-size.result.1 c.in-Err.why c.in-Err-2.why c.in-Err.is c.in-Err-2.is)
-          (sym w.is_early.ensures ∙ w.if-is_early.false)))
-          (c.stop.ensures ∙ ap (stopped_for c.in-Err-2.why) w.self-is)
-      | else-not-is_end w ↦
-          stops_next g.T.NonBlocking.incoming g.T.NonBlocking.outgoing start c.args.kernel.now.pass origin
-          c.args.self.now _ c.read_next-size.result.0 c.read_next-size.result.1 c.read_next-size.new.text
-          c.requires.free reads sits c.in-Err-2.why c.stop.new.self c.in-Err-2.is
-          (settled_at_end (Err c.in-Err-2.why) _ (c.requires.end w.if-not-is_end.false))
-          (c.stop.ensures ∙ ap (stopped_for c.in-Err-2.why) w.self-is)
-    ]
+    let late = subst (λ (e : End). is_early e c.args.is_end ≡ false)
+    (one_end c.read_next-size.result.1 c.in-Err.why c.in-Err-2.why c.in-Err.is c.in-Err-2.is)
+    (sym c.is_early.ensures ∙ c.if-is_early.false) in
+    stops_next g.T.NonBlocking.incoming g.T.NonBlocking.outgoing start c.args.kernel.now.pass origin
+    c.args.self.now _ c.read_next-size.result.0 c.read_next-size.result.1 c.read_next-size.new.text
+    c.requires.free reads sits c.in-Err-2.why c.stop.new.self c.in-Err-2.is
+    (settled_late c.in-Err-2.why _ c.args.is_end late c.requires.end) c.stop.ensures
