@@ -215,13 +215,13 @@ repeated_more ask (suc count) more =
     ∙ sym (append_assoc frame (repeated_spelling ask count) (repeated_spelling ask more))
 
 -- More receives were written.
-pub asks_more : (receiving : Receiving) (left rest taken more most shown after : Option (List ℕ)) (taking : Taking)
-    (added now : ℕ)
-    → Takes receiving left rest taken more shown after taking → now ≡ taking.waiting + added → now ≤ taking.owed
-    → now ≤ ahead_of receiving → Appends more most (repeated_spelling taking.ask added)
-    → Takes receiving left rest taken most shown after
-    (record { ask = taking.ask; owed = taking.owed; waiting = now })
-asks_more receiving left rest taken more most shown after taking added now so_far many due few wrote =
+pub asks_more : (receiving : Receiving) (left rest taken more most shown after : Option (List ℕ)) (taking now : Taking)
+    (added : ℕ)
+    → Takes receiving left rest taken more shown after taking → now.ask ≡ taking.ask → now.owed ≡ taking.owed
+    → now.waiting ≡ taking.waiting + added → now.waiting ≤ taking.owed → now.waiting ≤ ahead_of receiving
+    → Appends more most (repeated_spelling taking.ask added)
+    → Takes receiving left rest taken most shown after now
+asks_more receiving left rest taken more most shown after taking now added so_far same owes many due few wrote =
     let ask = taking_ask receiving so_far.opened in
     let calls = so_far.opened ++ so_far.takes in
     let frames = repeated_spelling ask taking.waiting in
@@ -230,7 +230,7 @@ asks_more receiving left rest taken more most shown after taking added now so_fa
       takes = so_far.takes;
       follows = so_far.follows;
       found = so_far.found;
-      ask = so_far.ask;
+      ask = same ∙ so_far.ask;
       took = so_far.took;
       reads = so_far.reads;
       writes = subst (Appends taken most)
@@ -240,8 +240,8 @@ asks_more receiving left rest taken more most shown after taking added now so_fa
           (Appends-trans taken more most _ _ so_far.writes
           (subst (λ (a : Ask). Appends more most (repeated_spelling a added)) so_far.ask wrote));
       shows = so_far.shows;
-      owes = so_far.owes;
-      due = due;
+      owes = omega (arith, so_far.owes, owes);
+      due = omega (arith, due, owes);
       few = few;
     }
 
@@ -250,6 +250,18 @@ shown_more : (style : Style) (calls : List Call) (one : Call) →
 shown_more style calls one =
     flat_map-append (λ (e : Call). received_text style e.answer e.given) calls (one ∷ [])
     ∙ ap (λ l. shown_by style calls ++ l) (append-nil (received_text style one.answer one.given))
+
+-- A message in this style.
+pub as_shown : (style of : Style) (answer : ReplyContent) (given : List ℕ) (shown after : Option (List ℕ)) → style ≡ of
+    → Appends shown after (received_text style answer given) → Appends shown after (received_text of answer given)
+as_shown style of answer given shown after is shows =
+    subst (λ (s : Style). Appends shown after (received_text s answer given)) is shows
+
+pub as_prefix : (style of : Style) (answer : ReplyContent) (given : List ℕ) (shown after : Option (List ℕ)) → style ≡ of
+    → AppendsPrefix shown after (received_text style answer given)
+    → AppendsPrefix shown after (received_text of answer given)
+as_prefix style of answer given shown after is shows =
+    subst (λ (s : Style). AppendsPrefix shown after (received_text s answer given)) is shows
 
 -- The frames of the calls with one more, and of the receives after it.
 written_so : (opened takes : List Call) (ask : Ask) (answer : ReplyContent) (given : List ℕ) (count : ℕ) →
@@ -537,7 +549,7 @@ stops_at receiving error left mid rest taken more shown after so taking fewer so
       found = so_far.found;
       asks = so_far.ask;
       replied = each_more (IsReplied ask) so_far.takes one (all_replied ask so_far.takes so_far.took)
-          (refl, refl, inr (error, refl, refl));
+          (refl, refl, inr (error, (refl, refl)));
       meets = record {
         first = so_far.takes;
         one = one;
@@ -692,7 +704,7 @@ stops_again receiving why error left mid rest taken more shown so after ask wait
       follows = so_far.follows;
       found = so_far.found;
       asks = so_far.asks;
-      replied = each_more (IsReplied of) so_far.takes one so_far.replied (refl, refl, inr (error, refl, refl));
+      replied = each_more (IsReplied of) so_far.takes one so_far.replied (refl, refl, inr (error, (refl, refl)));
       meets = meets_refusal why error (ahead_of receiving) waiting fewer so_far.unwritten so_far.takes one some
           so_far.few (refl, refl) so_far.meets;
       reads = reads_so left mid rest so_far.opened so_far.takes of ask (content.Refused error) [] so_far.asks

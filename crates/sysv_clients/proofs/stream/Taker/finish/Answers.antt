@@ -1,5 +1,5 @@
 use Rattle.std.proofs.Common.{arith, refl, ◌∙◌, ◌-◌}
-use Rattle.sysv_clients.proofs.StreamLemmas.{stops_again, stops_all, stops_lost, stops_more, stops_unshown}
+use Rattle.sysv_clients.proofs.StreamLemmas.{as_prefix, as_shown, stops_again, stops_all, stops_lost, stops_more, stops_unshown}
 use Rattle.sysv_clients.proofs.stream.Taker.finish.Goals as goal
 use Rattle.sysv_clients.proofs.stream.Taker.finish.Goals.{in-Message, in-Refused}
 
@@ -23,7 +23,7 @@ returns-in-Unshown-clause-stops g c = λ receiving left taken more shown style s
     stops_unshown receiving c.loop-waiting.why h.0 h.1 left _ _ taken more shown _ _ c.args.taking.now.ask
     c.loop-waiting.waiting (c.loop-waiting.waiting - 1)
     (c.loop-waiting.invariant.stops receiving left taken more shown style stops)
-    (omega (arith, c.loop-waiting-test.true)) h.2 h.3 (rw style h.4)
+    (omega (arith, c.loop-waiting-test.true)) h.2 h.3 (as_prefix _ _ h.0 h.1 _ _ style h.4)
 
 pub loop-waiting-preserved : goal.loop-waiting-preserved
 loop-waiting-preserved g c =
@@ -36,7 +36,7 @@ loop-waiting-preserved g c =
                 (stops_more receiving c.loop-waiting.why h.0 h.1 left _ _ taken more shown _ _ c.args.taking.now.ask
                 c.loop-waiting.waiting (c.loop-waiting.waiting - 1)
                 (c.loop-waiting.invariant.stops receiving left taken more shown style stops)
-                (omega (arith, c.loop-waiting-test.true)) h.2 h.3 (rw style h.4));
+                (omega (arith, c.loop-waiting-test.true)) h.2 h.3 (as_shown _ _ h.0 h.1 _ _ style h.4));
             screen = record {
               same = c.take.ensures.screen.same ∙ c.loop-waiting.invariant.screen.same;
               failed = w.in-Message.ensures.screen.failed ∙ c.loop-waiting.invariant.screen.failed;

@@ -10,7 +10,7 @@ abbrev pub invariant-loop-waiting : goal.invariant-loop-waiting
 invariant-loop-waiting g l = record {
   stops : (receiving : AReceiving) (left taken more shown : Option (List ℕ))
       → l.style ≡ style_of_receipt receiving.receipt
-      → Stops receiving l.fault left (g.R.Read.remaining (stream_of l.initial.reader)) taken more shown
+      → Stops receiving l.fn.fault left (g.R.Read.remaining (stream_of l.initial.reader)) taken more shown
       (g.S.Write.contents (stream_of l.initial.screen)) l.taking.ask l.taking.waiting
       → Stops receiving l.why left (g.R.Read.remaining (stream_of l.reader)) taken more shown
       (g.S.Write.contents (stream_of l.screen)) l.taking.ask l.waiting;

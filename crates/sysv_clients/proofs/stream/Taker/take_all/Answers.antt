@@ -1,7 +1,7 @@
 use Rattle.std.proofs.Common.{arith, refl, ◌∙◌, ◌-◌}
 use Rattle.std.proofs.lemmas.Result.{err_from_is_err_and}
-use Rattle.sysv_clients.proofs.StreamLemmas.{asks_more, begins, finishes, loses, stops_at, stops_writing, takes_more}
-use Rattle.sysv_clients.proofs.StreamLemmas.{unfound, unshown}
+use Rattle.sysv_clients.proofs.StreamLemmas.{as_prefix, as_shown, asks_more, begins, finishes, loses, stops_at}
+use Rattle.sysv_clients.proofs.StreamLemmas.{stops_writing, takes_more, unfound, unshown}
 use Rattle.sysv_clients.proofs.stream.Taker.take_all.Goals as goal
 
 pub returns-in_err-taking-clause-takes : goal.returns-in_err-taking-clause-takes
@@ -30,8 +30,8 @@ returns-in-Err-clause-takes g c =
 pub returns-in-Refused-clause-takes : goal.returns-in-Refused-clause-takes
 returns-in-Refused-clause-takes g c =
     let r = c.in-Ok.ensures.requests in
-    let asked = asks_more c.args.receiving.now _ _ _ _ _ _ _ c.loop-taking.taking r.0 c.request.new.taking.waiting
-    c.loop-taking.invariant.takes r.1 r.3 r.4 r.5 in
+    let asked = asks_more c.args.receiving.now _ _ _ _ _ _ _ c.loop-taking.taking c.request.new.taking r.0
+    c.loop-taking.invariant.takes c.request.ensures.ask c.request.ensures.owed r.1 r.3 r.4 r.5 in
     let h = c.in-Refused.ensures.takes in
     c.finish-in-Refused.ensures.stops c.args.receiving.now _ _ _ _ c.of_receipt-style.ensures
     (stops_at c.args.receiving.now c.in-Refused.error _ _ _ _ _ _ _ _ _ (c.request.new.taking.waiting - 1) asked
@@ -40,29 +40,30 @@ returns-in-Refused-clause-takes g c =
 pub returns-in-Lost-clause-takes : goal.returns-in-Lost-clause-takes
 returns-in-Lost-clause-takes g c =
     let r = c.in-Ok.ensures.requests in
-    let asked = asks_more c.args.receiving.now _ _ _ _ _ _ _ c.loop-taking.taking r.0 c.request.new.taking.waiting
-    c.loop-taking.invariant.takes r.1 r.3 r.4 r.5 in
+    let asked = asks_more c.args.receiving.now _ _ _ _ _ _ _ c.loop-taking.taking c.request.new.taking r.0
+    c.loop-taking.invariant.takes c.request.ensures.ask c.request.ensures.owed r.1 r.3 r.4 r.5 in
     loses c.args.receiving.now _ _ _ _ _ _ _ _ asked r.2 c.in-Lost.ensures.takes.0
 
 pub returns-in-Unshown-clause-takes : goal.returns-in-Unshown-clause-takes
 returns-in-Unshown-clause-takes g c =
     let r = c.in-Ok.ensures.requests in
     let h = c.in-Unshown.ensures.takes in
-    let asked = asks_more c.args.receiving.now _ _ _ _ _ _ _ c.loop-taking.taking r.0 c.request.new.taking.waiting
-    c.loop-taking.invariant.takes r.1 r.3 r.4 r.5 in
+    let asked = asks_more c.args.receiving.now _ _ _ _ _ _ _ c.loop-taking.taking c.request.new.taking r.0
+    c.loop-taking.invariant.takes c.request.ensures.ask c.request.ensures.owed r.1 r.3 r.4 r.5 in
     unshown c.args.receiving.now h.0 h.1 _ _ _ _ _ _ _ _ _ (c.request.new.taking.waiting - 1) asked
-    (omega (arith, r.2)) h.2 h.3 h.4
+    (omega (arith, r.2)) h.2 h.3 (as_prefix _ _ h.0 h.1 _ _ c.of_receipt-style.ensures h.4)
 
 pub loop-taking-preserved : goal.loop-taking-preserved
 loop-taking-preserved g c =
     let r = c.in-Ok.ensures.requests in
     let h = c.in-Message.ensures.takes in
-    let asked = asks_more c.args.receiving.now _ _ _ _ _ _ _ c.loop-taking.taking r.0 c.request.new.taking.waiting
-    c.loop-taking.invariant.takes r.1 r.3 r.4 r.5 in
+    let asked = asks_more c.args.receiving.now _ _ _ _ _ _ _ c.loop-taking.taking c.request.new.taking r.0
+    c.loop-taking.invariant.takes c.request.ensures.ask c.request.ensures.owed r.1 r.3 r.4 r.5 in
     record {
-      takes = takes_more c.args.receiving.now h.0 h.1 _ _ _ _ _ _ _ _ _ (c.loop-taking.taking.owed - 1)
-          (c.request.new.taking.waiting - 1) asked (omega (arith, r.2)) (omega (arith, c.loop-taking-test.true)) h.2 h.3
-          h.4;
+      takes = takes_more c.args.receiving.now h.0 h.1 _ _ _ _ _ _ _ _ c.request.new.taking
+          (c.request.new.taking.owed - 1) (c.request.new.taking.waiting - 1) asked (omega (arith, r.2))
+          (omega (arith, c.loop-taking-test.true, c.request.ensures.owed)) h.2 h.3
+          (as_shown _ _ h.0 h.1 _ _ c.of_receipt-style.ensures h.4);
       text = c.take.ensures.text ∙ c.loop-taking.invariant.text;
       screen = record {
         same = c.take.ensures.screen.same ∙ c.loop-taking.invariant.screen.same;
