@@ -374,8 +374,8 @@ fn a_parked_receive_goes_on(rt: HostRuntime) {
     );
     waits.go_on(&mut kernel, &mut tools);
     waits.drain();
-    assert!(rt; waits.waiting().is_none() && waits.has_more());
-    turn(&mut kernel, &mut tools, &mut waits);
+    assert!(rt; waits.waiting().is_none() && !waits.has_more());
+    waits.note_readable();
     turn(&mut kernel, &mut tools, &mut waits);
     assert!(rt; waits.is_over());
     assert_closed(&rt, alloc, waits, End::Ended, (3, 1, 0), RECEIVED);
