@@ -1,7 +1,7 @@
 //! What the options and the further commands of clients request and show.
 use super::*;
 use sysv_clients::{ClientFault, Making, Receiving, Stop, receive_all, receive_watched};
-use sysv_model::{Errno, Watched};
+use sysv_model::{Errno, MESSAGE_BYTES, Watched};
 
 /// The reply with a message of type -3 and of these four bytes: `a`, LF, NUL, `b`.
 const ODD: &[u8] = b"\0\0\0\x0f\x02\x03\0\xff\xff\xff\xff\xff\xff\xff\xfda\n\0b";
@@ -48,7 +48,7 @@ fn a_message_is_shown_as_the_options_say(rt: HostRuntime) {
 
 /// Asserts that a message of type 7 with this body is shown as this JSON object.
 fn is_object(rt: &(impl Abort + AllocGlobal), body: &[u8], wanted: &[u8]) {
-    let len = (body.len() + 11) as u32;
+    let len = body.len().min(MESSAGE_BYTES) as u32 + 11;
     let alloc = rt.alloc();
     let front = joined(
         rt,
