@@ -13,4 +13,5 @@ returns g c success =
     ∙ ended in
     let text = c.text_within-text.ensures ended ∙ c.as_slice.ensures.value in
     shown_again c.args.command.now _ _ _ _ _ _ c.run_through-status.new.screen.items _
-    (ap g.R.Read.remaining (c.leaving_if-leaver.ensures ∙ c.new.ensures)) c.in-Ok.ensures.items text (c.run_through-status.ensures zero) done.1
+    (ap g.R.Read.remaining (c.leaving_if-leaver.ensures ∙ c.new.ensures)) c.in-Ok.ensures.items text
+    (c.run_through-status.ensures zero) done.1
