@@ -40,7 +40,7 @@ complete -c sysvmsg -n '__sysvmsg_is help; and __sysvmsg_has_words 2' -a 'serve 
 
 set -l clients -c sysvmsg -n '__sysvmsg_is snd rcv ipcs ipcrm ipcmk'
 complete $clients -l stderr -d 'Print errors on standard error'
-complete $clients -l me -d 'By default your own IDs'
+complete $clients -l me -d 'Your own IDs by default'
 complete $clients -l uid -x -d "The caller's user ID"
 complete $clients -l gid -x -d "The caller's group ID"
 complete $clients -l pid -x -d "The caller's process ID"
