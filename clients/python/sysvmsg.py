@@ -44,6 +44,7 @@ _REPLY_MIN, _REPLY_MAX = 3, 8203
 _MODE_MAX = 0o777
 _READ = 65536
 _LONGEST = 1_000_000.0  # how many seconds the system waits at once
+_LEAVE = 60.0  # how many seconds the server may take to end a session whose call was given up
 
 
 class QueueError(OSError):
@@ -137,7 +138,7 @@ class NotMade(ConnectionError):
 
 
 class ConnectionLost(ConnectionError):
-    """The session ended without a reply. It is not known whether the call took effect."""
+    """The session ended without a reply, or the server does not end it. It is not known whether the call took effect."""
 
 
 class ProtocolError(ConnectionError):
@@ -388,7 +389,8 @@ class _Session:
             self._step(None)
 
     def leave(self) -> None:
-        """Gives up the call that waits, if one does, and ends the session. Requests that were not sent are dropped."""
+        """Gives up the call that waits, if one does, and ends the session. Requests that were not sent are dropped. If
+        the server does not end the session, requests without a reply fail with `ConnectionLost`."""
         if self.is_over:
             return
         self.output.clear()
@@ -397,8 +399,10 @@ class _Session:
             self.peer.shutdown(socket.SHUT_WR)
         except OSError:
             pass
+        deadline = time.monotonic() + _LEAVE
         while not self.is_over:
-            self._step(None)
+            if not self._step(deadline):
+                self._end(ConnectionLost("the server does not reply"))
 
     def close(self) -> None:
         self.is_over = True
