@@ -182,7 +182,7 @@ static void take_serving(struct run *run)
     }
 }
 
-/* Beside a command only the faults of the server are shown. */
+/* With a command, only the errors of the server are shown. */
 static void take_lines(struct run *run)
 {
     enum line line;
