@@ -29,8 +29,8 @@ use Rattle.sysv_core.specs.Removed.{AreRemovedForGood}
 use Rattle.sysv_core.specs.Tending.{AreTended}
 use Rattle.sysv_core.proofs.Histories.{turn_of}
 use Rattle.sysv_core.proofs.TurnInHistory.{Made, made_at, slot_around, registry_around}
-use Rattle.sysv_core.proofs.EachRowIsTended.{any_more, or_left, live_more}
-use Rattle.sysv_core.proofs.InstalledBeforeSettled.{SettledOnceInstalled}
+use Rattle.sysv_core.proofs.Life.{any_more, or_no, or_left, live_more}
+use Rattle.sysv_core.proofs.LifeLaws.{SettledOnceInstalled}
 
 -- ---- rows stay while the settled count does
 
@@ -41,10 +41,6 @@ no_forget id c reply e = refl
 no_settle : (id : ℤ) (c : RegistryCall) (reply : RegistryReply) → changes_row reply ≡ false → settles id c reply ≡ false
 no_settle id (Settle at) (Changed true) e = absurd cc
 no_settle id c reply e = refl
-
-or_no : (b : Bool) → (b || false) ≡ b
-or_no true = refl
-or_no false = refl
 
 row_still : (h : RegistryHistory) (e : RegistryEntry) (row : KeyRow) → changes_row e.reply ≡ false → IsRow h row →
     IsRow (h ++ e ∷ []) row

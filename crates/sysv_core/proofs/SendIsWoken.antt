@@ -1,6 +1,6 @@
 -- The queue of a send that waits for blocks is live and may be written to, or a set or a removal of
 -- it is still before its giveback, which ends the wait because the pool takes back every chain.
-use Rattle.std.proofs.Common.{◌≡◌, ◌≢◌, ◌⊎◌, inl, inr, ℕ, zero, suc, ℤ, pos, ◌+◌, ◌<◌, ◌≤◌, Bool, true, false, cond}
+use Rattle.std.proofs.Common.{◌≡◌, ◌≢◌, ◌⊎◌, inl, inr, ℕ, suc, ℤ, pos, ◌+◌, ◌<◌, ◌≤◌, Bool, true, false, cond}
 use Rattle.std.proofs.Common.{List, [], ◌∷◌, ◌++◌, Option, None, Some, refl, sym, ap, subst, ◌∙◌, arith, length}
 use Rattle.std.proofs.Common.{slice_get, slice_set, option_map}
 use Rattle.std.proofs.Math.Dec.{eqb}
@@ -35,21 +35,20 @@ use Rattle.sysv_steps.specs.Begin.{is_refused, first}
 use Rattle.sysv_steps.specs.Asks.{asks}
 use Rattle.sysv_steps.specs.Next.{waits_or, goes_on, after_set, after_remove, next}
 use Rattle.sysv_steps.specs.Resume.{resume, awaited}
-use Rattle.sysv_core.specs.World.{World, Opening, Started, Doing, Given, Happening, Preset, Start, Step, opening}
-use Rattle.sysv_core.specs.World.{doing_in, starting, begun, value_of, Continues, StartsAt, StepsAt, preset_who}
-use Rattle.sysv_core.specs.World.{preset_cred, preset_flags, preset_begin, with_preset_turns, Presets, Makes}
-use Rattle.sysv_core.specs.Run.{Leads}
-use Rattle.sysv_core.specs.Sound.{IsSound, StaysSound}
+use Rattle.sysv_core.specs.World.{World, Opening, Started, Doing, Given, opening, doing_in, starting, begun, value_of}
+use Rattle.sysv_core.specs.World.{preset_who, preset_cred, preset_flags, preset_begin, with_preset_turns}
+use Rattle.sysv_core.specs.Sound.{IsSound}
 use Rattle.sysv_core.specs.Parked.{IsOpenTo, HasToGiveBack, IsToBeWoken}
 use Rattle.sysv_core.proofs.Lists.{get_set_same, get_set_other, same_place}
 use Rattle.sysv_core.proofs.Histories.{turn_of, slot_more, pool_more, slot_stays, pool_stays, begun_turns, preset_slot}
 use Rattle.sysv_core.proofs.Histories.{preset_pool, released_more}
 use Rattle.sysv_core.proofs.SoundStays.{moved, other, does, none_busy}
 use Rattle.sysv_core.proofs.TurnInHistory.{slot_around}
-use Rattle.sysv_core.proofs.EachRowIsTended.{live_more}
+use Rattle.sysv_core.proofs.Life.{live_more}
 use Rattle.sysv_core.proofs.WaitsForBlocks.{IsRight, IsShort, AllRight, Comes, Follows, FollowsIn, followed}
 use Rattle.sysv_core.proofs.WaitsForBlocks.{told_too_few}
-use Rattle.sysv_core.proofs.WaitsForBlocks.{makes_right}
+use Rattle.sysv_core.proofs.WaitsForBlocks.{move_right}
+use Rattle.sysv_core.proofs.Moves.{Move, stood, began, turned, awoke, preset_made}
 
 some_is : {X : Type 0} {x y : X} → Some x ≡ Some y → y ≡ x
 some_is e = cc
@@ -176,11 +175,11 @@ giver_goes (MsgctlRmid at) (AtRemoveGiveback blocks) (AtRegistry c reply) state 
 giver_goes asked phase deed state id p n = absurd p
 
 -- Some actor's call still has to release a chain.
-record SomeGive (id : ℤ) (actors : List (Option Doing)) : Type 0 where
-  place : ℕ
-  doing : Doing
-  there : slice_get actors place ≡ Some (Some doing)
-  gives : HasToGiveBack doing.call.asked doing.state id
+pub record SomeGive (id : ℤ) (actors : List (Option Doing)) : Type 0 where
+  pub place : ℕ
+  pub doing : Doing
+  pub there : slice_get actors place ≡ Some (Some doing)
+  pub gives : HasToGiveBack doing.call.asked doing.state id
 
 still_give : (id : ℤ) (actors : List (Option Doing)) (place : ℕ) (was new : Option Doing) →
     slice_get actors place ≡ Some was → SomeGive id actors →
@@ -377,13 +376,10 @@ module _ (generation blocks : ℕ) (turns : List Turn) (actors : List (Option Do
 
 -- ---- every actor
 
-record AllWoken (w : World) : Type 0 where
-  right : AllRight w
-  woken : (place : ℕ) (d : Doing) → slice_get w.actors place ≡ Some (Some d) → IsWoken w.turns w.actors d.state
-  asked : (place : ℕ) (d : Doing) → slice_get w.actors place ≡ Some (Some d) → IsAsked d.call.asked d.state
-
-same_woken : (w after : World) → after ≡ w → AllWoken w → AllWoken after
-same_woken w after e k = subst AllWoken (sym e) k
+pub record AllWoken (w : World) : Type 0 where
+  pub right : AllRight w
+  pub woken : (place : ℕ) (d : Doing) → slice_get w.actors place ≡ Some (Some d) → IsWoken w.turns w.actors d.state
+  pub asked : (place : ℕ) (d : Doing) → slice_get w.actors place ≡ Some (Some d) → IsAsked d.call.asked d.state
 
 turn_woken : (w after : World) (place now : ℕ) (call : Started) (phase : Phase) (deed : Deed) (state : State) →
     AllWoken w → AllRight after → IsSound after →
@@ -516,43 +512,6 @@ begun_asked cred (MsgctlRmid id) n false = refl
 
 -- ---- what happens
 
-continues_woken : (w after : World) (given : List Given) (place now : ℕ) (call : Started) (state : State) → AllWoken w →
-    AllRight after → IsSound after → slice_get w.actors place ≡ Some (Some record { call = call; state = state }) →
-    Continues w (suc place) now call state given after → AllWoken after
-continues_woken w after given place now call (Goes phase) k right sound there t =
-    turn_woken w after place now call phase t.0 t.1 k right sound there t.2 t.3 t.4 (ap (λ (x : World). x.turns) t.6)
-    (ap (λ (x : World). x.actors) t.6)
-continues_woken w after given place now call (Waits wait) k right sound there (inl t) =
-    let value = value_of w.turns (awaited wait) in
-    stand_woken w after place (Some record { call = call; state = Waits wait }) call (Goes (resume wait value)) k right
-    there
-    (λ d id is p.
-    let same : d ≡ record { call = call; state = Waits wait } = some_is is in
-    waits_gives call.asked wait id (subst (λ (x : Doing). HasToGiveBack x.call.asked x.state id) same p))
-    (resumed_woken wait value) (resumed_asked call.asked wait value) (ap (λ (x : World). x.turns) t.2)
-    (ap (λ (x : World). x.actors) t.2)
-continues_woken w after given place now call (Waits wait) k right sound there (inr t) = same_woken w after t.1.1 k
-continues_woken w after given place now call (Over ending) k right sound there t = same_woken w after t.1 k
-
-steps_woken : (w after : World) (given : List Given) (place now : ℕ) (o : Option (Option Doing)) → AllWoken w →
-    AllRight after → IsSound after → slice_get w.actors place ≡ o → StepsAt w (suc place) now o given after →
-    AllWoken after
-steps_woken w after given place now None k right sound there t = same_woken w after t.1 k
-steps_woken w after given place now (Some None) k right sound there t = same_woken w after t.1 k
-steps_woken w after given place now (Some (Some d)) k right sound there t =
-    continues_woken w after given place now d.call d.state k right sound there t
-
-starts_woken : (w after : World) (given : List Given) (place : ℕ) (cred : Cred) (asked : SystemCall)
-    (o : Option (Option Doing)) → AllWoken w → AllRight after → slice_get w.actors place ≡ o →
-    StartsAt w (suc place) cred asked o given after → AllWoken after
-starts_woken w after given place cred asked None k right there t = same_woken w after t.1 k
-starts_woken w after given place cred asked (Some (Some d)) k right there t = same_woken w after t.1 k
-starts_woken w after given place cred asked (Some None) k right there t =
-    let call = starting w (suc place) cred asked in
-    stand_woken w after place None call (begun call) k right there (λ d id e. absurd cc)
-    (begun_woken cred asked call.released (is_refused asked)) (begun_asked cred asked call.released (is_refused asked))
-    (ap (λ (x : World). x.turns) t.1) (ap (λ (x : World). x.actors) t.1)
-
 -- The three turns of a preset leave each queue open that was open.
 preset_open : (turns : List Turn) → IsLegalHistory (slot_history 0 (with_preset_turns turns)) → (id : ℤ) (by : Cred) →
     IsOpenTo (slot_history (slot_of_id id) turns) id by →
@@ -598,42 +557,45 @@ preset_still turns actors legal st k = by_state st k
     by_state (Waits (OnArrived goal receive)) q = tt
     by_state x q = tt
 
-preset_woken : (w after : World) (made : Bool) → AllWoken w → AllRight after → IsSound after → Presets w made after →
+move_woken : (w after : World) (given : List Given) → AllWoken w → AllRight after → IsSound after → Move w given after →
     AllWoken after
-preset_woken w after made k right s (inr p) = same_woken w after p.2 k
-preset_woken w after made k right s (inl p) =
-    let turns_are : after.turns ≡ with_preset_turns w.turns = ap (λ (x : World). x.turns) p.2 in
-    let actors_are : after.actors ≡ w.actors = ap (λ (x : World). x.actors) p.2 in
+move_woken w after given k right sound (stood t) = subst AllWoken (sym t.1) k
+move_woken w after given k right sound (began place cred asked there t) =
+    let call = starting w (suc place) cred asked in
+    stand_woken w after place None call (begun call) k right there (λ d id e. absurd cc)
+    (begun_woken cred asked call.released (is_refused asked)) (begun_asked cred asked call.released (is_refused asked))
+    (ap (λ (x : World). x.turns) t.1) (ap (λ (x : World). x.actors) t.1)
+move_woken w after given k right sound (turned place now call phase there t) =
+    turn_woken w after place now call phase t.0 t.1 k right sound there t.2 t.3 t.4 (ap (λ (x : World). x.turns) t.6)
+    (ap (λ (x : World). x.actors) t.6)
+move_woken w after given k right sound (awoke place call wait there reached gave is) =
+    let value = value_of w.turns (awaited wait) in
+    stand_woken w after place (Some record { call = call; state = Waits wait }) call (Goes (resume wait value)) k right
+    there
+    (λ d id is p.
+    let same : d ≡ record { call = call; state = Waits wait } = some_is is in
+    waits_gives call.asked wait id (subst (λ (x : Doing). HasToGiveBack x.call.asked x.state id) same p))
+    (resumed_woken wait value) (resumed_asked call.asked wait value) (ap (λ (x : World). x.turns) is)
+    (ap (λ (x : World). x.actors) is)
+move_woken w after given k right sound (preset_made unused gave is) =
     let legal : IsLegalHistory (slot_history 0 (with_preset_turns w.turns)) =
-    subst (λ ts. IsLegalHistory (slot_history 0 ts)) turns_are (s.legal.slots 0) in
-    record {
-      right = right;
-      woken = λ at e here.
-          subst (λ ts. IsWoken ts after.actors e.state) (sym turns_are)
-          (subst (λ xs. IsWoken (with_preset_turns w.turns) xs e.state) (sym actors_are)
-          (preset_still w.turns w.actors legal e.state
-          (k.woken at e (subst (λ xs. slice_get xs at ≡ Some (Some e)) actors_are here))));
-      asked = λ at e here. k.asked at e (subst (λ xs. slice_get xs at ≡ Some (Some e)) actors_are here);
+    subst (λ (v : World). IsLegalHistory (slot_history 0 v.turns)) is (sound.legal.slots 0) in
+    subst AllWoken (sym is) record {
+      right = subst AllRight is right;
+      woken = λ at e here. preset_still w.turns w.actors legal e.state (k.woken at e here);
+      asked = k.asked;
     }
 
-makes_woken : (w after : World) (x : Happening) (given : List Given) → AllWoken w → AllRight after → IsSound after →
-    Makes w x given after → AllWoken after
-makes_woken w after Preset given k right s m = preset_woken w after m.1.0 k right s m.1.1
-makes_woken w after (Start actor cred asked) given k right s (inl worn) = same_woken w after worn.1.1 k
-makes_woken w after (Start zero cred asked) given k right s (inr young) = same_woken w after young.1.1 k
-makes_woken w after (Start (suc place) cred asked) given k right s (inr young) =
-    starts_woken w after given place cred asked (slice_get w.actors place) k right refl young.1
-makes_woken w after (Step actor now) given k right s (inl worn) = same_woken w after worn.1.1 k
-makes_woken w after (Step zero now) given k right s (inr young) = same_woken w after young.1.1 k
-makes_woken w after (Step (suc place) now) given k right s (inr young) =
-    steps_woken w after given place now (slice_get w.actors place) k right s refl young.1
+pub moves_woken : (w after : World) (given : List Given) → AllWoken w → IsSound after → Move w given after →
+    AllWoken after
+moves_woken w after given k sound m = move_woken w after given k (move_right w after given k.right m) sound m
 
-leads_woken : StaysSound → (w after : World) (xs : List Happening) (given : List Given) → IsSound w → AllWoken w →
-    Leads w xs given after → AllWoken after
-leads_woken sound w after [] given s k l = same_woken w after l.1 k
-leads_woken sound w after (x ∷ xs) given s k l =
-    let mid = sound w l.0 x l.1 s l.3 in
-    leads_woken sound l.0 after xs l.2 mid (makes_woken w l.0 x l.1 k (makes_right w l.0 x l.1 k.right l.3) mid l.3) l.4
+pub opening_woken : (o : Opening) → AllWoken (opening o)
+opening_woken o = record {
+  right = λ at e here. absurd (none_busy o.actors at e here);
+  woken = λ at e here. absurd (none_busy o.actors at e here);
+  asked = λ at e here. absurd (none_busy o.actors at e here);
+}
 
 -- ---- who waits for blocks
 
@@ -649,13 +611,7 @@ to_be_woken w goal send below is (inr (inl g)) =
     inr (record { place = g.place; doing = g.doing; there = g.there; gives = g.gives })
 to_be_woken w goal send below is (inr (inr since)) = absurd (omega (arith, below, is, since))
 
-pub are_to_be_woken : StaysSound → (o : Opening) (w : World) (list : List Happening) (given : List Given) →
-    IsSound (opening o) → Leads (opening o) list given w → AreToBeWoken w
-are_to_be_woken sound o w list given s led = λ place d goal send there waits below.
-    let k = leads_woken sound (opening o) w list given s (record {
-      right = λ at e here. absurd (none_busy o.actors at e here);
-      woken = λ at e here. absurd (none_busy o.actors at e here);
-      asked = λ at e here. absurd (none_busy o.actors at e here);
-    }) led in
+pub are_to_be_woken : (w : World) → AllWoken w → AreToBeWoken w
+are_to_be_woken w k = λ place d goal send there waits below.
     let short = subst (IsShort w.blocks (pool_history w.turns)) waits (k.right place d there).short in
     to_be_woken w goal send below short.0 (subst (IsWoken w.turns w.actors) waits (k.woken place d there))

@@ -33,14 +33,15 @@ use Rattle.sysv_steps.specs.Next.{next}
 use Rattle.sysv_steps.specs.HeldBlocks.{held, HasItsBlocks}
 use Rattle.sysv_steps.specs.Resume.{resume, awaited}
 use Rattle.sysv_core.specs.Kinds.{Kind, kind_of, IsOf}
-use Rattle.sysv_core.specs.World.{World, Opening, Started, Doing, Given, Preset, Start, Step, opening, doing_in}
-use Rattle.sysv_core.specs.World.{starting, begun, value_of, Continues, StartsAt, StepsAt, preset_who, preset_flags}
-use Rattle.sysv_core.specs.World.{preset_begin, preset_install, preset_settle, with_preset_turns, Presets}
+use Rattle.sysv_core.specs.World.{World, Opening, Started, Doing, Given, opening, doing_in, starting, begun, value_of}
+use Rattle.sysv_core.specs.World.{preset_who, preset_flags, preset_begin, preset_install, preset_settle}
+use Rattle.sysv_core.specs.World.{with_preset_turns, with_preset}
 use Rattle.sysv_core.specs.Sound.{IsToCaller, AreOwn, IsMadeIn, IsSound, StaysSound}
 use Rattle.sysv_core.proofs.Lists.{get_set_same, get_set_other, same_place}
 use Rattle.sysv_core.proofs.Histories.{turn_of, slot_more, registry_more}
 use Rattle.sysv_core.proofs.BlocksConserved.{BlockLaws, turn_conserves, stands_conserves, resumed_holds, begun_holds}
 use Rattle.sysv_core.proofs.BlocksConserved.{preset_conserves, opening_conserves}
+use Rattle.sysv_core.proofs.Moves.{Move, stood, began, turned, awoke, preset_made, moves}
 use Rattle.sysv_core.proofs.StepKeepsKind.{IsLater, later_of, later, makes as newly, leads_on, of_next, blocks_later}
 use Rattle.sysv_core.proofs.StepKeepsKind.{blocks_next, gives_blocks, begun_later, resumed_later}
 
@@ -229,9 +230,6 @@ module _
     (more : (generation blocks : ℕ) (turns : List Turn) (who : Who) (deed : Deed) → AreLegal generation blocks turns →
     IsLegalDeed generation blocks turns deed → AreLegal generation blocks (turns ++ turn_of who deed ∷ []))
     (b : BlockLaws) where
-  stays_sound : (w after : World) → after ≡ w → IsSound w → IsSound after
-  stays_sound w after e s = subst IsSound (sym e) s
-
   module _ (w : World) (s : IsSound w) (place : ℕ) (call : Started) where
     -- The world after a turn of the call.
     pub turn_sound : (phase : Phase) (now : ℕ) (deed : Deed) (state : State) →
@@ -318,35 +316,6 @@ module _
             (begun_holds cred asked call.released) s.blocks;
       }
 
-  continues_sound : (w after : World) (given : List Given) (place now : ℕ) (call : Started) (state : State) →
-      IsSound w → slice_get w.actors place ≡ Some (Some record { call = call; state = state }) →
-      Continues w (suc place) now call state given after → IsSound after
-  continues_sound w after given place now call (Goes phase) s there t =
-      stays_sound _ after t.6 (turn_sound w s place call phase now t.0 t.1 there t.2 t.3 t.4)
-  continues_sound w after given place now call (Waits wait) s there (inl t) =
-      let d : Doing = record { call = call; state = Waits wait } in
-      stays_sound _ after t.2
-      (look_sound w s place call d (Goes (resume wait (value_of w.turns (awaited wait)))) refl there
-      (resumed_later (kind_of call.asked) wait (value_of w.turns (awaited wait)) (s.own place d there).0)
-      (resumed_holds wait (value_of w.turns (awaited wait))))
-  continues_sound w after given place now call (Waits wait) s there (inr t) = stays_sound w after t.1.1 s
-  continues_sound w after given place now call (Over ending) s there t = stays_sound w after t.1 s
-
-  steps_sound : (w after : World) (given : List Given) (place now : ℕ) (o : Option (Option Doing)) → IsSound w →
-      slice_get w.actors place ≡ o → StepsAt w (suc place) now o given after → IsSound after
-  steps_sound w after given place now None s there t = stays_sound w after t.1 s
-  steps_sound w after given place now (Some None) s there t = stays_sound w after t.1 s
-  steps_sound w after given place now (Some (Some d)) s there t =
-      continues_sound w after given place now d.call d.state s there t
-
-  starts_sound : (w after : World) (given : List Given) (place : ℕ) (cred : Cred) (asked : SystemCall)
-      (o : Option (Option Doing)) → IsSound w → slice_get w.actors place ≡ o →
-      StartsAt w (suc place) cred asked o given after → IsSound after
-  starts_sound w after given place cred asked None s there t = stays_sound w after t.1 s
-  starts_sound w after given place cred asked (Some (Some d)) s there t = stays_sound w after t.1 s
-  starts_sound w after given place cred asked (Some None) s there t =
-      stays_sound _ after t.1 (start_sound w place cred asked s there)
-
 -- ---- the preset
 
 module _
@@ -388,15 +357,14 @@ module _
     (more : (generation blocks : ℕ) (turns : List Turn) (who : Who) (deed : Deed) → AreLegal generation blocks turns →
     IsLegalDeed generation blocks turns deed → AreLegal generation blocks (turns ++ turn_of who deed ∷ []))
     (b : BlockLaws) (unused : UnusedSlots) where
-  preset_sound : (w after : World) (made : Bool) → IsSound w → Presets w made after → IsSound after
-  preset_sound w after made s (inr p) = stays_sound more b w after p.2 s
-  preset_sound w after made s (inl p) = stays_sound more b _ after p.2 record {
-    legal = preset_legal more unused w.generation w.blocks w.turns s.legal p.0 (vacant_there more unused w s p.0);
+  preset_sound : (w : World) → IsSound w → IsUnused w.generation (registry_history w.turns) 0 → IsSound (with_preset w)
+  preset_sound w s u = record {
+    legal = preset_legal more unused w.generation w.blocks w.turns s.legal u (vacant_there more unused w s u);
     own = s.own;
     installs = λ place d get id here e. past (slot_of_id id) (s.installs place d get id here e);
     lives = λ slot a lives. settle_lives slot a lives;
     blocks = preset_conserves b w.generation w.blocks w.turns w.actors s.legal s.blocks
-        (preset_legal more unused w.generation w.blocks w.turns s.legal p.0 (vacant_there more unused w s p.0));
+        (preset_legal more unused w.generation w.blocks w.turns s.legal u (vacant_there more unused w s u));
   }
     where
       first : List Turn
@@ -432,16 +400,22 @@ module _
           (still_made _ (turn_of preset_who preset_install) slot
           (still_made w.turns (turn_of preset_who preset_begin) slot m))
 
+  move_sound : (w after : World) (given : List Given) → IsSound w → Move w given after → IsSound after
+  move_sound w after given s (stood t) = subst IsSound (sym t.1) s
+  move_sound w after given s (began place cred asked there t) =
+      subst IsSound (sym t.1) (start_sound more b w place cred asked s there)
+  move_sound w after given s (turned place now call phase there t) =
+      subst IsSound (sym t.6) (turn_sound more b w s place call phase now t.0 t.1 there t.2 t.3 t.4)
+  move_sound w after given s (awoke place call wait there reached gave is) =
+      let d : Doing = record { call = call; state = Waits wait } in
+      let value = value_of w.turns (awaited wait) in
+      subst IsSound (sym is)
+      (look_sound more b w s place call d (Goes (resume wait value)) refl there
+      (resumed_later (kind_of call.asked) wait value (s.own place d there).0) (resumed_holds wait value))
+  move_sound w after given s (preset_made u gave is) = subst IsSound (sym is) (preset_sound w s u)
+
   pub makes_sound : StaysSound
-  makes_sound w after Preset given s m = preset_sound w after m.1.0 s m.1.1
-  makes_sound w after (Start actor cred asked) given s (inl worn) = stays_sound more b w after worn.1.1 s
-  makes_sound w after (Start zero cred asked) given s (inr young) = stays_sound more b w after young.1.1 s
-  makes_sound w after (Start (suc place) cred asked) given s (inr young) =
-      starts_sound more b w after given place cred asked (slice_get w.actors place) s refl young.1
-  makes_sound w after (Step actor now) given s (inl worn) = stays_sound more b w after worn.1.1 s
-  makes_sound w after (Step zero now) given s (inr young) = stays_sound more b w after young.1.1 s
-  makes_sound w after (Step (suc place) now) given s (inr young) =
-      steps_sound more b w after given place now (slice_get w.actors place) s refl young.1
+  makes_sound w after x given s m = move_sound w after given s (moves w after x given m)
 
 pub none_busy : (n place : ℕ) (d : Doing) → slice_get (replicate n None) place ≡ Some (Some d) → ⊥
 none_busy zero place d e = cc

@@ -1,7 +1,7 @@
 -- A send that waits for blocks below its goal waits while too few are free. It read the released
 -- count before it was refused. So as long as the count is not above that value, no chain came back
 -- since the refusal, and reservations since then only took blocks.
-use Rattle.std.proofs.Common.{◌≡◌, ◌⊎◌, inl, inr, ℕ, zero, suc, ◌+◌, ◌<◌, ◌≤◌, Bool, true, false, cond, List, [], ◌∷◌}
+use Rattle.std.proofs.Common.{◌≡◌, ◌⊎◌, inl, inr, ℕ, suc, ◌+◌, ◌<◌, ◌≤◌, Bool, true, false, cond, List, [], ◌∷◌}
 use Rattle.std.proofs.Common.{◌++◌, Option, None, Some, refl, sym, subst, arith, length, slice_get, slice_set}
 use Rattle.std.proofs.lemmas.List.{append-nil}
 use Rattle.std.specs.Prelude.{ℤ}
@@ -29,12 +29,10 @@ use Rattle.sysv_steps.specs.Next.{after_begin, after_install, after_settle, afte
 use Rattle.sysv_steps.specs.Next.{goes_on, after_look, after_reserve, after_place, after_take, after_stat, after_set}
 use Rattle.sysv_steps.specs.Next.{after_remove, after_forget, after_giveback, next}
 use Rattle.sysv_steps.specs.Resume.{resume, awaited}
-use Rattle.sysv_core.specs.World.{World, Opening, Started, Doing, Given, Happening, Preset, Start, Step, opening}
-use Rattle.sysv_core.specs.World.{doing_in, starting, begun, value_of, Continues, StartsAt, StepsAt, preset_who}
-use Rattle.sysv_core.specs.World.{preset_begin, preset_install, preset_settle, Presets, Makes}
-use Rattle.sysv_core.specs.Run.{Leads}
-use Rattle.sysv_core.proofs.Histories.{turn_of, pool_more, one, released_more, returned_more, reserved_more}
-use Rattle.sysv_core.proofs.SoundStays.{moved, other, does, none_busy}
+use Rattle.sysv_core.specs.World.{World, Started, Doing, Given, doing_in, starting, begun, value_of}
+use Rattle.sysv_core.proofs.Histories.{turn_of, pool_more, preset_pool, one, released_more, returned_more, reserved_more}
+use Rattle.sysv_core.proofs.SoundStays.{moved, other, does}
+use Rattle.sysv_core.proofs.Moves.{Move, stood, began, turned, awoke, preset_made}
 
 -- ---- what a call keeps
 
@@ -374,68 +372,24 @@ begun_right blocks h cred (MsgctlRmid id) false = record { read = omega arith; s
 abbrev pub AllRight : World → Type 0
 AllRight w = AreRight w.blocks w.turns w.actors
 
-same_right : (w after : World) → after ≡ w → AllRight w → AllRight after
-same_right w after e r = subst AllRight (sym e) r
-
-continues_right : (w after : World) (given : List Given) (place now : ℕ) (call : Started) (state : State) → AllRight w →
-    slice_get w.actors place ≡ Some (Some record { call = call; state = state }) →
-    Continues w (suc place) now call state given after → AllRight after
-continues_right w after given place now call (Goes phase) all there t =
-    subst AllRight (sym t.6) (turn_right w all place call phase now t.0 t.1 there t.2 t.3 t.4)
-continues_right w after given place now call (Waits wait) all there (inl t) =
-    let d : Doing = record { call = call; state = Waits wait } in
-    subst AllRight (sym t.2)
-    (stand_right w all place call (Some d) (Goes (resume wait (value_of w.turns (awaited wait)))) there
-    (resumed_right w.blocks w.turns wait (all place d there)))
-continues_right w after given place now call (Waits wait) all there (inr t) = same_right w after t.1.1 all
-continues_right w after given place now call (Over ending) all there t = same_right w after t.1 all
-
-steps_right : (w after : World) (given : List Given) (place now : ℕ) (o : Option (Option Doing)) → AllRight w →
-    slice_get w.actors place ≡ o → StepsAt w (suc place) now o given after → AllRight after
-steps_right w after given place now None all there t = same_right w after t.1 all
-steps_right w after given place now (Some None) all there t = same_right w after t.1 all
-steps_right w after given place now (Some (Some d)) all there t =
-    continues_right w after given place now d.call d.state all there t
-
-starts_right : (w after : World) (given : List Given) (place : ℕ) (cred : Cred) (asked : SystemCall)
-    (o : Option (Option Doing)) → AllRight w → slice_get w.actors place ≡ o →
-    StartsAt w (suc place) cred asked o given after → AllRight after
-starts_right w after given place cred asked None all there t = same_right w after t.1 all
-starts_right w after given place cred asked (Some (Some d)) all there t = same_right w after t.1 all
-starts_right w after given place cred asked (Some None) all there t =
+pub move_right : (w after : World) (given : List Given) → AllRight w → Move w given after → AllRight after
+move_right w after given all (stood t) = subst AllRight (sym t.1) all
+move_right w after given all (began place cred asked there t) =
     let call = starting w (suc place) cred asked in
     subst AllRight (sym t.1)
     (stand_right w all place call None (begun call) there
     (begun_right w.blocks (pool_history w.turns) cred asked (is_refused asked)))
-
+move_right w after given all (turned place now call phase there t) =
+    subst AllRight (sym t.6) (turn_right w all place call phase now t.0 t.1 there t.2 t.3 t.4)
+move_right w after given all (awoke place call wait there reached gave is) =
+    let d : Doing = record { call = call; state = Waits wait } in
+    subst AllRight (sym is)
+    (stand_right w all place call (Some d) (Goes (resume wait (value_of w.turns (awaited wait)))) there
+    (resumed_right w.blocks w.turns wait (all place d there)))
 -- A preset makes no turn at the pool.
-preset_right : (w after : World) (made : Bool) → AllRight w → Presets w made after → AllRight after
-preset_right w after made all (inr p) = same_right w after p.2 all
-preset_right w after made all (inl p) =
-    let begun_turns = w.turns ++ turn_of preset_who preset_begin ∷ [] in
-    let installed_turns = begun_turns ++ turn_of preset_who preset_install ∷ [] in
-    subst AllRight (sym p.2)
-    (λ place d there.
-    still_right w.blocks installed_turns preset_who preset_settle d.state
-    (still_right w.blocks begun_turns preset_who preset_install d.state
-    (still_right w.blocks w.turns preset_who preset_begin d.state (all place d there))))
-
-pub makes_right : (w after : World) (x : Happening) (given : List Given) → AllRight w → Makes w x given after →
-    AllRight after
-makes_right w after Preset given all m = preset_right w after m.1.0 all m.1.1
-makes_right w after (Start actor cred asked) given all (inl worn) = same_right w after worn.1.1 all
-makes_right w after (Start zero cred asked) given all (inr young) = same_right w after young.1.1 all
-makes_right w after (Start (suc place) cred asked) given all (inr young) =
-    starts_right w after given place cred asked (slice_get w.actors place) all refl young.1
-makes_right w after (Step actor now) given all (inl worn) = same_right w after worn.1.1 all
-makes_right w after (Step zero now) given all (inr young) = same_right w after young.1.1 all
-makes_right w after (Step (suc place) now) given all (inr young) =
-    steps_right w after given place now (slice_get w.actors place) all refl young.1
-
-pub leads_right : (w after : World) (xs : List Happening) (given : List Given) → AllRight w → Leads w xs given after →
-    AllRight after
-leads_right w after [] given all l = same_right w after l.1 all
-leads_right w after (x ∷ xs) given all l = leads_right l.0 after xs l.2 (makes_right w l.0 x l.1 all l.3) l.4
+move_right w after given all (preset_made unused gave is) =
+    subst AllRight (sym is)
+    (λ place d there. subst (λ h. IsRight w.blocks h d.state) (sym (preset_pool w.turns)) (all place d there))
 
 -- ---- who waits for blocks
 
@@ -450,10 +404,7 @@ is_short : (size : ℕ) (h : PoolHistory) (goal : ℕ) (send : Sending) → rele
 is_short size h goal send below (is, inl since) = absurd (omega (arith, below, is, since))
 is_short size h goal send below (is, inr few) = few
 
-pub are_short : (o : Opening) (w : World) (list : List Happening) (given : List Given) →
-    Leads (opening o) list given w → AreShort w
-are_short o w list given led = λ place d goal send there waits below.
-    let r =
-    leads_right (opening o) w list given (λ at e here. absurd (none_busy o.actors at e here)) led place d there in
+pub are_short : (w : World) → AllRight w → AreShort w
+are_short w all = λ place d goal send there waits below.
     is_short w.blocks (pool_history w.turns) goal send below
-    (subst (IsShort w.blocks (pool_history w.turns)) waits r.short)
+    (subst (IsShort w.blocks (pool_history w.turns)) waits (all place d there).short)

@@ -29,7 +29,7 @@ use Rattle.sysv_steps.specs.Answers.{is_at_slot, was_removed, refused_by, EachAn
 use Rattle.sysv_steps.specs.Played.{Plays}
 use Rattle.sysv_core.proofs.Histories.{slot_more}
 use Rattle.sysv_core.proofs.TurnInHistory.{slot_around}
-use Rattle.sysv_core.proofs.EachRowIsTended.{live_more}
+use Rattle.sysv_core.proofs.Life.{live_more}
 use Rattle.sysv_service.specs.Stopped.{superuser}
 
 -- The history of a slot in an order.
