@@ -6,6 +6,7 @@ pub mod BlocksConserved
 pub mod SoundStays
 pub mod PartsOfOneCall
 pub mod TurnInHistory
+pub mod Told
 pub mod Moves
 pub mod Life
 pub mod LifeGoesOn

@@ -286,7 +286,8 @@ module _ (turns : List Turn) (who : Who) (deed : Deed) where
   pub done_now : (j : Job) → does j deed ≡ true → done j (turns ++ turn_of who deed ∷ []) ≡ true
   done_now j e = done_more j ∙ or_right (done j turns) (does j deed) e
 
-  pub not_done : (j : Job) → done j turns ≡ false → does j deed ≡ false → done j (turns ++ turn_of who deed ∷ []) ≡ false
+  pub not_done : (j : Job) → done j turns ≡ false → does j deed ≡ false →
+      done j (turns ++ turn_of who deed ∷ []) ≡ false
   not_done j e f = done_more j ∙ (ap (λ b. b || does j deed) e ∙ f)
 
   pub undone : (j : Job) → done j (turns ++ turn_of who deed ∷ []) ≡ false →
@@ -538,9 +539,11 @@ module _ (turns : List Turn) (f : Facts turns) (who : Who) where
   once_by slot at call reply id false fine before middle after e x same first =
       f.once slot id before middle after e x (sym (append-nil (slot_history slot turns)) ∙ same) first
 
-  once_then : (deed : Deed) → IsFine turns deed → (slot : ℕ) (id : ℤ) → IsInstalledOnce id (slot_history slot (more deed))
+  once_then : (deed : Deed) → IsFine turns deed → (slot : ℕ) (id : ℤ) →
+      IsInstalledOnce id (slot_history slot (more deed))
   once_then (AtSlot at call reply) fine slot id = subst (IsInstalledOnce id)
-      (sym (slot_more slot turns (turn_of who (AtSlot at call reply)))) (once_by slot at call reply id (eqb at slot) fine)
+      (sym (slot_more slot turns (turn_of who (AtSlot at call reply))))
+      (once_by slot at call reply id (eqb at slot) fine)
   once_then (AtRegistry call reply) fine slot id = subst (IsInstalledOnce id)
       (sym (slot_stays slot turns who (AtRegistry call reply) refl)) (f.once slot id)
   once_then (AtPool call reply) fine slot id = subst (IsInstalledOnce id)
@@ -596,7 +599,8 @@ made_for id turns e =
     let k = key_of id s.it.deed s.passes in (
       k.0,
       sym (in_registry (makes id k.0) turns)
-          ∙ passed (λ (t : Turn). does (making id) t.deed) (λ (t : Turn). of_registry (makes id k.0) t.deed) turns s k.1,
+          ∙ passed (λ (t : Turn). does (making id) t.deed) (λ (t : Turn). of_registry (makes id k.0) t.deed) turns s
+          k.1,
     )
 
 of_key : (id key : ℤ) (deed : Deed) → of_registry (makes id key) deed ≡ true → does (making id) deed ≡ true

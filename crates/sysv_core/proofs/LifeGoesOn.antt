@@ -1,6 +1,7 @@
 -- A turn of a call does the job that the call has, or none; and each job that was begun is held by
 -- one call until it is done.
-use Rattle.std.proofs.Common.{◌≡◌, ◌≢◌, ◌⊎◌, inl, inr, ℕ, zero, suc, ℤ, pos, Bool, true, false, cond, List, [], ◌∷◌, ◌++◌}
+use Rattle.std.proofs.Common.{◌≡◌, ◌≢◌, ◌⊎◌, inl, inr, ℕ, zero, suc, ℤ, pos, Bool, true, false, cond, List, [], ◌∷◌}
+use Rattle.std.proofs.Common.{◌++◌}
 use Rattle.std.proofs.Common.{Option, None, Some, IsSome, refl, sym, ap, subst, ◌∙◌, arith, slice_get, slice_set}
 use Rattle.std.proofs.Common.{append_assoc, option_map, replicate}
 use Rattle.std.proofs.lemmas.Option.{slice_get-map}
@@ -12,8 +13,8 @@ use Rattle.sysv_model.specs.declared.limits.TheConstants.{IPC_PRIVATE}
 use Rattle.sysv_model.specs.History.{Who, Installed, Gone, Full, NoMatch, Discarded}
 use Rattle.sysv_model.specs.Live.{live}
 use Rattle.sysv_model.specs.Registry.{Begin, Made, Changed, RegistryEntry, RegistryHistory}
-use Rattle.sysv_model.specs.Pool.{Release, Reserved, TooFew, Released, Foreign}
-use Rattle.sysv_model.specs.Turn.{Ask, OfSlot, OfRegistry, OfPool, Deed, AtSlot, AtRegistry, AtPool, asked_by, Turn}
+use Rattle.sysv_model.specs.Pool.{TooFew, Released, Foreign}
+use Rattle.sysv_model.specs.Turn.{Deed, AtSlot, AtRegistry, AtPool, asked_by, Turn}
 use Rattle.sysv_model.specs.Turn.{slot_entry, registry_entry, pool_entry, slot_history, registry_history, pool_history}
 use Rattle.sysv_keys.specs.declared.registry.KeyRow.{KeyRow}
 use Rattle.sysv_keys.specs.Identifier.{slot_of_id}
@@ -21,7 +22,8 @@ use Rattle.sysv_keys.specs.Rows.{makes, forgets, settles, is_settled, IsRow}
 use Rattle.sysv_keys.specs.LegalReply.{IsLegalHistory as IsLegalRegistryHistory}
 use Rattle.sysv_keys.specs.RegistryLaw.{RegistryLaw}
 use Rattle.sysv_objects.specs.LegalDeed.{IsLegalDeed, AreLegal}
-use Rattle.sysv_steps.specs.State.{Afterwards, IsRefused, WaitsOn, Phase, AtBegin, AtInstall, AtSettle, AtUnmake, AtLook}
+use Rattle.sysv_steps.specs.State.{Afterwards, IsRefused, WaitsOn, Phase, AtBegin, AtInstall, AtSettle, AtUnmake}
+use Rattle.sysv_steps.specs.State.{AtLook}
 use Rattle.sysv_steps.specs.State.{Getting, Wait, OnSettled, OnFreed, OnReleased, OnArrived, Id, Refused}
 use Rattle.sysv_steps.specs.State.{AtReserve, AtSendGiveback, AtTake, AtRemove, AtForget, State, Goes, Waits, Over}
 use Rattle.sysv_steps.specs.Call.{SystemCall, Msgget, Msgsnd, Msgrcv, MsgctlStat, MsgctlSet, MsgctlRmid}
@@ -31,6 +33,7 @@ use Rattle.sysv_steps.specs.Asks.{asks}
 use Rattle.sysv_steps.specs.Next.{waits_or, goes_on, next}
 use Rattle.sysv_core.specs.World.{Started, Doing, doing_in, preset_who, preset_cred, preset_flags, preset_begin}
 use Rattle.sysv_core.specs.World.{preset_install, preset_settle, with_preset_turns}
+use Rattle.sysv_core.proofs.Told.{told, told_is}
 use Rattle.sysv_core.proofs.Lists.{map-slice_set, slice_set-same, get_set_same, get_set_other, same_place}
 use Rattle.sysv_core.proofs.Histories.{turn_of, slot_more, registry_more, pool_more, begun_turns, installed_turns}
 use Rattle.sysv_core.proofs.TurnInHistory.{slot_around, registry_around}
@@ -40,21 +43,6 @@ use Rattle.sysv_core.proofs.Life.{IsNext, job_at, job_in, jobs_of, some_is, eith
 use Rattle.sysv_core.proofs.Life.{one_job, no_job, job_does, done_on, ready_on, done_now, not_done, undone, done_by}
 use Rattle.sysv_core.proofs.Life.{Facts, ordered, in_use, IsSeemly, IsLegalAtSlot, IsFine, facts_more}
 use Rattle.sysv_core.proofs.Life.{in_registry, WasMade, made_for, gave, none_after}
-
--- ---- what a deed asks
-
--- The deed, with the request that was made.
-abbrev pub told : Ask → Deed → Deed
-told (OfSlot slot call) (AtSlot at c reply) = AtSlot slot call reply
-told (OfRegistry call) (AtRegistry c reply) = AtRegistry call reply
-told (OfPool call) (AtPool c reply) = AtPool call reply
-told ask deed = AtPool (Release 0) (Reserved 0)
-
-pub told_is : (ask : Ask) (deed : Deed) → asked_by deed ≡ ask → told ask deed ≡ deed
-told_is (OfSlot slot call) (AtSlot at c reply) e = cc
-told_is (OfRegistry call) (AtRegistry c reply) e = cc
-told_is (OfPool call) (AtPool c reply) e = cc
-told_is ask deed e = absurd cc
 
 -- ---- the jobs of the calls
 
@@ -106,9 +94,19 @@ after : (task : Task) (id : ℤ) (i : Job) → follow_of task id ≡ Some i → 
 after ToMake id i e = subst (IsAfter (making id)) (some_is e)
     record { on = λ ts d. d; back = λ ts d. d; owned = refl; apart = λ x. let t : ToInstall ≡ ToMake = task_is x in cc }
 after ToInstall id i e = subst (IsAfter (installing id)) (some_is e)
-    record { on = λ ts d. d; back = λ ts d. d; owned = refl; apart = λ x. let t : ToSettle ≡ ToInstall = task_is x in cc }
+    record {
+      on = λ ts d. d;
+      back = λ ts d. d;
+      owned = refl;
+      apart = λ x. let t : ToSettle ≡ ToInstall = task_is x in cc;
+    }
 after ToRemove id i e = subst (IsAfter (removing id)) (some_is e)
-    record { on = λ ts d. d; back = λ ts d. d; owned = refl; apart = λ x. let t : ToForget ≡ ToRemove = task_is x in cc }
+    record {
+      on = λ ts d. d;
+      back = λ ts d. d;
+      owned = refl;
+      apart = λ x. let t : ToForget ≡ ToRemove = task_is x in cc;
+    }
 after task id i e = absurd cc
 
 module _ (turns : List Turn) (who : Who) (deed : Deed) where
@@ -267,11 +265,14 @@ module _ (registry_law : (generation : ℕ) (h : RegistryHistory) → IsLegalReg
 
   has_row : (id key : ℤ) → WasMade id turns → done (forgetting id) turns ≡ false →
       (k : ℤ) × IsRow (registry_history turns) (row_of id k)
-  has_row id key m e = (m.0, record {
-    made = m.1;
-    kept = sym (in_registry (forgets id) turns) ∙ e;
-    stage = refl;
-  })
+  has_row id key m e = (
+    m.0,
+    record {
+      made = m.1;
+      kept = sym (in_registry (forgets id) turns) ∙ e;
+      stage = refl;
+    },
+  )
 
   -- That of an identifier that was installed and not removed.
   row_made : (id : ℤ) → done (making id) turns ≡ true → done (forgetting id) turns ≡ false →
@@ -299,7 +300,8 @@ module _ (registry_law : (generation : ℕ) (h : RegistryHistory) → IsLegalReg
           (subst (λ i. done (installing i) turns ≡ true) (ap (λ (r : KeyRow). r.id) same) u.installed) n.1
 
   legal_made : (who : Who) (key : ℤ) (flags : Flags) (id : ℤ) →
-      IsLegalRegistryHistory generation (registry_history (turns ++ turn_of who (AtRegistry (Begin key flags) (Made id)) ∷ []))
+      IsLegalRegistryHistory generation
+      (registry_history (turns ++ turn_of who (AtRegistry (Begin key flags) (Made id)) ∷ []))
       → done (making id) turns ≡ false
   legal_made who key flags id then = falls (done (making id) turns) false again refl
     where
@@ -351,7 +353,8 @@ module _ (registry_law : (generation : ℕ) (h : RegistryHistory) → IsLegalReg
       gone (inr d) =
           let h = has (settling id) refl in
           let row = row_made id (ordered turns f (installing id) h.0) d in
-          absurd (l row.0 (record { made = row.1.made; kept = row.1.kept; stage = sym (in_registry (settles id) turns) ∙ h.1 }))
+          absurd (l row.0
+          (record { made = row.1.made; kept = row.1.kept; stage = sym (in_registry (settles id) turns) ∙ h.1 }))
   step_told who (AtSettle id) deed now state has l then n = absurd cc
   step_told who (AtForget id blocks) (AtRegistry c (Changed true)) now state has l then n = (
     (tt, tt, refl),
@@ -440,7 +443,8 @@ jobs_set actors place call state = ap (slice_set (jobs_of actors) place) (sym (j
     ∙ sym (map-slice_set job_in actors place (doing_in call state))
 
 -- The actor whose call has a job.
-pub job_there : (actors : List (Option Doing)) (place : ℕ) (j : Job) → slice_get (jobs_of actors) place ≡ Some (Some j) →
+pub job_there : (actors : List (Option Doing)) (place : ℕ) (j : Job) →
+    slice_get (jobs_of actors) place ≡ Some (Some j) →
     (d : Doing) × (slice_get actors place ≡ Some (Some d)) × (job_at d.state ≡ Some j)
 job_there actors place j at = by_value (slice_get actors place) refl (sym (slice_get-map job_in actors place) ∙ at)
   where
@@ -483,7 +487,8 @@ resumed_none (OnArrived goal receive) value = refl
 pub begun_none : (cred : Cred) (asked : SystemCall) (released : ℕ) → job_at (begin cred asked released) ≡ None
 begun_none cred asked released = by_value asked (is_refused asked)
   where
-    by_value : (c : SystemCall) (b : Bool) → job_at (cond b (Over (Refused EINVAL)) (Goes (first cred c released))) ≡ None
+    by_value : (c : SystemCall) (b : Bool) →
+        job_at (cond b (Over (Refused EINVAL)) (Goes (first cred c released))) ≡ None
     by_value c true = refl
     by_value (Msgget key flags) false = refl
     by_value (Msgsnd id mtype flags text) false = refl
@@ -587,7 +592,8 @@ module _ (law : (generation : ℕ) (h : RegistryHistory) → IsLegalRegistryHist
       was ≡ job_at (Goes phase) → asked_by deed ≡ asks phase 0 → next phase deed ≡ Some state →
       Life turns (was ∷ jobs) → Life (turns ++ turn_of preset_who deed ∷ []) (job_at state ∷ jobs)
   preset_turn turns was jobs phase deed state legal is asked goes l =
-      life_goes law generation blocks turns l.facts (front_legal generation blocks turns (turn_of preset_who deed) legal)
+      life_goes law generation blocks turns l.facts
+      (front_legal generation blocks turns (turn_of preset_who deed) legal)
       (was ∷ jobs) l 0 preset_who phase 0 deed state (ap (λ x. Some x) is) asked
       (deed_legal generation blocks turns preset_who deed legal) legal.registry goes
 

@@ -7,7 +7,8 @@ use Rattle.sysv_keys.specs.Rows.{IsUnused}
 use Rattle.sysv_steps.specs.Call.{SystemCall}
 use Rattle.sysv_steps.specs.State.{Phase, Wait, State, Goes, Waits, Over}
 use Rattle.sysv_steps.specs.Resume.{awaited, goal_of, resume}
-use Rattle.sysv_core.specs.World.{World, Started, Doing, Given, Happening, Preset, Start, Step, StaysWith, starting, Begins}
+use Rattle.sysv_core.specs.World.{World, Started, Doing, Given, Happening, Preset, Start, Step, StaysWith, starting}
+use Rattle.sysv_core.specs.World.{Begins}
 use Rattle.sysv_core.specs.World.{Turns, value_of, in_state, Continues, StartsAt, StepsAt, with_preset, Makes}
 
 pub data Move (w : World) (given : List Given) (after : World) : Type 0 where
@@ -21,7 +22,8 @@ pub data Move (w : World) (given : List Given) (after : World) : Type 0 where
       slice_get w.actors place ≡ Some (Some record { call = call; state = Waits wait }) →
       goal_of wait ≤ value_of w.turns (awaited wait) → given ≡ [] →
       after ≡ in_state w (suc place) call (Goes (resume wait (value_of w.turns (awaited wait)))) → Move w given after
-  preset_made : IsUnused w.generation (registry_history w.turns) 0 → given ≡ [] → after ≡ with_preset w → Move w given after
+  preset_made : IsUnused w.generation (registry_history w.turns) 0 → given ≡ [] → after ≡ with_preset w →
+      Move w given after
 
 starts_move : (w after : World) (given : List Given) (place : ℕ) (cred : Cred) (asked : SystemCall)
     (o : Option (Option Doing)) → slice_get w.actors place ≡ o → StartsAt w (suc place) cred asked o given after →

@@ -95,6 +95,15 @@ counts_led b state (led.To doing) n h = refl
 counts_led b state (led.Over ended) n h = refl
 counts_led b state (led.Stays doing) n h = absurd h
 
+-- What is seen after the call of a place was led on.
+abbrev led_on : Seen → ℕ → Led → Objects → Seen
+led_on seen place l objects = record {
+  objects = objects;
+  states = slice_set seen.states place (kept_led l);
+  steps = seen.steps + counted_led l;
+  tally = seen.tally;
+}
+
 -- Some world after the event is what the world of the code is seen as.
 abbrev pub Moves : World → Event → Stepped → Seen → Type 0
 Moves w event result new = (after : World) × Steps w event result after × IsSeenAs after new
@@ -257,12 +266,7 @@ module _ (w : World) (seen : Seen) (s : IsSeenAs w seen) (sound : StaysSound) wh
       LeadsTo (gives_back (Some (kind_of d.call.asked))) state l →
       let after : World = in_state (record w { turns = turns }) (suc n) d.call state in
       Continues w (suc n) now d.call d.state (given_in d.call state) after →
-      Moves w (Step (suc n) now) (told_by (suc n) l) (record {
-        objects = objects;
-        states = slice_set seen.states place (kept_led l);
-        steps = seen.steps + counted_led l;
-        tally = seen.tally;
-      })
+      Moves w (Step (suc n) now) (told_by (suc n) l) (led_on seen place l objects)
   goes n place now l objects d turns state young same busy own stands size to continues =
       let after : World = in_state (record w { turns = turns }) (suc n) d.call state in
       let made =
@@ -282,12 +286,7 @@ module _ (w : World) (seen : Seen) (s : IsSeenAs w seen) (sound : StaysSound) wh
 
   turn_here : (n place now : ℕ) (p : Phase) (l : Led) (objects : Objects) (d : Doing) → w.steps < WORN → n ≡ place →
       slice_get w.actors n ≡ Some (Some d) → d.state ≡ Goes p → TurnLeads seen.objects p now l objects →
-      Moves w (Step (suc n) now) (told_by (suc n) l) (record {
-        objects = objects;
-        states = slice_set seen.states place (kept_led l);
-        steps = seen.steps + counted_led l;
-        tally = seen.tally;
-      })
+      Moves w (Step (suc n) now) (told_by (suc n) l) (led_on seen place l objects)
   turn_here n place now p l objects d young same busy is turn =
       let own = s.sound.own n d busy in
       let kind : phase_kind p ≡ Some (kind_of d.call.asked) = subst (IsOf (kind_of d.call.asked)) is own.0 in
@@ -307,12 +306,7 @@ module _ (w : World) (seen : Seen) (s : IsSeenAs w seen) (sound : StaysSound) wh
       slice_get w.actors n ≡ Some (Some d) → d.state ≡ Waits wait →
       slice_get seen.states place ≡ Some (Some (Waits wait)) →
       Continues w (suc n) now d.call d.state [] w → Stays (Waits wait) l →
-      Moves w (Step (suc n) now) (told_by (suc n) l) (record {
-        objects = seen.objects;
-        states = slice_set seen.states place (kept_led l);
-        steps = seen.steps + counted_led l;
-        tally = seen.tally;
-      })
+      Moves w (Step (suc n) now) (told_by (suc n) l) (led_on seen place l seen.objects)
   stays_here n place now wait (led.Stays doing) d young busy is there continues stays = (
     w,
     ([], inr (young, subst (λ o. StepsAt w (suc n) now o [] w) (sym busy) continues), (young, refl)),
@@ -332,12 +326,7 @@ module _ (w : World) (seen : Seen) (s : IsSeenAs w seen) (sound : StaysSound) wh
       slice_get w.actors n ≡ Some (Some d) → d.state ≡ Waits wait →
       slice_get seen.states place ≡ Some (Some (Waits wait)) →
       LookLeads seen.objects wait l →
-      Moves w (Step (suc n) now) (told_by (suc n) l) (record {
-        objects = seen.objects;
-        states = slice_set seen.states place (kept_led l);
-        steps = seen.steps + counted_led l;
-        tally = seen.tally;
-      })
+      Moves w (Step (suc n) now) (told_by (suc n) l) (led_on seen place l seen.objects)
   look_here n place now wait l d young same busy is there look = elim (look w.generation w.turns s.objects) [
     | inl reached ↦
         let own = s.sound.own n d busy in
@@ -354,36 +343,21 @@ module _ (w : World) (seen : Seen) (s : IsSeenAs w seen) (sound : StaysSound) wh
 
   step_here : (n place now : ℕ) (state : State) (l : Led) (objects : Objects) → seen.steps < WORN → n ≡ place →
       slice_get seen.states place ≡ Some (Some state) → StepLeads seen.objects state now l objects →
-      Moves w (Step (suc n) now) (told_by (suc n) l) (record {
-        objects = objects;
-        states = slice_set seen.states place (kept_led l);
-        steps = seen.steps + counted_led l;
-        tally = seen.tally;
-      })
+      Moves w (Step (suc n) now) (told_by (suc n) l) (led_on seen place l objects)
   step_here n place now (Goes p) l objects h same there step =
       let found = busy_at place (Goes p) there in
       turn_here n place now p l objects found.0 (young_too h) same (ap (slice_get w.actors) same ∙ found.1) found.2 step
   step_here n place now (Waits wait) l objects h same there step =
       let found = busy_at place (Waits wait) there in
       subst (λ o.
-      Moves w (Step (suc n) now) (told_by (suc n) l) (record {
-        objects = o;
-        states = slice_set seen.states place (kept_led l);
-        steps = seen.steps + counted_led l;
-        tally = seen.tally;
-      })) (sym step.1)
+      Moves w (Step (suc n) now) (told_by (suc n) l) (led_on seen place l o)) (sym step.1)
       (look_here n place now wait l found.0 (young_too h) same (ap (slice_get w.actors) same ∙ found.1) found.2 there
       step.0)
   step_here n place now (Over ending) l objects h same there step = absurd step
 
   pub step_busy : (actor place now : ℕ) (state : State) (l : Led) (objects : Objects) → seen.steps < WORN →
       actor ≡ place + 1 → slice_get seen.states place ≡ Some (Some state) → StepLeads seen.objects state now l objects →
-      Moves w (Step actor now) (told_by actor l) (record {
-        objects = objects;
-        states = slice_set seen.states place (kept_led l);
-        steps = seen.steps + counted_led l;
-        tally = seen.tally;
-      })
+      Moves w (Step actor now) (told_by actor l) (led_on seen place l objects)
   step_busy zero place now state l objects h e there step = absurd (omega arith)
   step_busy (suc n) place now state l objects h e there step =
       step_here n place now state l objects h (omega arith) there step

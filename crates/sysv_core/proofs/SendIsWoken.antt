@@ -35,6 +35,7 @@ use Rattle.sysv_steps.specs.Begin.{is_refused, first}
 use Rattle.sysv_steps.specs.Asks.{asks}
 use Rattle.sysv_steps.specs.Next.{waits_or, goes_on, after_set, after_remove, next}
 use Rattle.sysv_steps.specs.Resume.{resume, awaited}
+use Rattle.sysv_steps.specs.HoldsAsked.{Holds}
 use Rattle.sysv_core.specs.World.{World, Opening, Started, Doing, Given, opening, doing_in, starting, begun, value_of}
 use Rattle.sysv_core.specs.World.{preset_who, preset_cred, preset_flags, preset_begin, with_preset_turns}
 use Rattle.sysv_core.specs.Sound.{IsSound}
@@ -124,14 +125,21 @@ open_past turns who slot c reply id by legal open_ =
 -- ---- who has still to give back
 
 -- A set and a removal are before a turn of their own, and no other call is.
-abbrev IsAsked : SystemCall → State → Type 0
-IsAsked asked (Goes (AtSet cred id to)) = asked ≡ MsgctlSet id to
-IsAsked asked (Goes (AtRemove cred id)) = asked ≡ MsgctlRmid id
-IsAsked asked state = Unit {0}
+abbrev IsAsked : SystemCall → Phase → Type 0
+IsAsked asked (AtSet cred id to) = asked ≡ MsgctlSet id to
+IsAsked asked (AtRemove cred id) = asked ≡ MsgctlRmid id
+IsAsked asked phase = Unit {0}
+
+is_asked : (cred : Cred) (asked : SystemCall) (phase : Phase) → Holds cred asked (Goes phase) → IsAsked asked phase
+is_asked cred (MsgctlSet id to) (AtSet by at what) h = ap (λ i. MsgctlSet i to) (sym h.1) ∙ ap (MsgctlSet at) (sym h.2)
+is_asked cred (MsgctlRmid id) (AtRemove by at) h = ap MsgctlRmid (sym h.1)
+is_asked cred asked (AtSet by at what) h = absurd h
+is_asked cred asked (AtRemove by at) h = absurd h
+is_asked cred asked phase h = tt
 
 set_goes : (id : ℤ) (asked : SystemCall) (phase : Phase) (now slot : ℕ) (c : Call) (reply : Reply) (state : State) →
     OfSlot slot c ≡ asks phase now → next phase (AtSlot slot c reply) ≡ Some state → IsSetBy id c reply →
-    IsAsked asked (Goes phase) →
+    IsAsked asked phase →
     HasToGiveBack asked state id
 set_goes id asked (AtSet by at to) now slot c reply state a n (x, cred, y, m, ce, re, xe) own =
     let row : after_set Done ≡ Some state = ap after_set (sym re) ∙ n in
@@ -142,7 +150,7 @@ set_goes id asked phase now slot c reply state a n (x, cred, y, m, ce, re, xe) o
 
 removal_goes : (id : ℤ) (asked : SystemCall) (phase : Phase) (now slot : ℕ) (c : Call) (reply : Reply) (state : State) →
     OfSlot slot c ≡ asks phase now → next phase (AtSlot slot c reply) ≡ Some state → IsRemovedBy id c reply →
-    IsAsked asked (Goes phase) →
+    IsAsked asked phase →
     HasToGiveBack asked state id
 removal_goes id asked (AtRemove by at) now slot c reply state a n (x, cred, messages, ce, re, xe) own =
     let row : after_remove at (Discarded messages) ≡ Some state = ap (after_remove at) (sym re) ∙ n in
@@ -272,7 +280,7 @@ module _ (generation blocks : ℕ) (turns : List Turn) (actors : List (Option Do
     (phase : Phase) (there : slice_get actors place ≡ Some (Some record { call = call; state = Goes phase })) (now : ℕ)
     (deed : Deed) (state : State)
     (asked : asked_by deed ≡ asks phase now) (legal : IsLegalDeed generation blocks turns deed)
-    (goes : next phase deed ≡ Some state) (own : IsAsked call.asked (Goes phase))
+    (goes : next phase deed ≡ Some state) (own : IsAsked call.asked phase)
     (back : AtPoolWith Foreign deed → ⊥) where
   abbrev was : Option Doing
   was = Some record { call = call; state = Goes phase }
@@ -369,27 +377,20 @@ module _ (generation blocks : ℕ) (turns : List Turn) (actors : List (Option Do
   own_woken r k (Waits (OnArrived goal receive)) is c = tt
   own_woken r k st is c = tt
 
-  own_asked : (st : State) → Comes phase st → IsAsked call.asked st
-  own_asked (Goes (AtSet cred id to)) c = absurd c
-  own_asked (Goes (AtRemove cred id)) c = absurd c
-  own_asked st c = tt
-
 -- ---- every actor
 
 pub record AllWoken (w : World) : Type 0 where
   pub right : AllRight w
   pub woken : (place : ℕ) (d : Doing) → slice_get w.actors place ≡ Some (Some d) → IsWoken w.turns w.actors d.state
-  pub asked : (place : ℕ) (d : Doing) → slice_get w.actors place ≡ Some (Some d) → IsAsked d.call.asked d.state
 
 turn_woken : (w after : World) (place now : ℕ) (call : Started) (phase : Phase) (deed : Deed) (state : State) →
-    AllWoken w → AllRight after → IsSound after →
+    AllWoken w → AllRight after → IsSound after → IsAsked call.asked phase →
     slice_get w.actors place ≡ Some (Some record { call = call; state = Goes phase }) →
     asked_by deed ≡ asks phase now → IsLegalDeed w.generation w.blocks w.turns deed → next phase deed ≡ Some state →
     after.turns ≡ w.turns ++ turn_of call.who deed ∷ [] →
     after.actors ≡ slice_set w.actors place (doing_in call state) → AllWoken after
-turn_woken w after place now call phase deed state k right sound there asked legal goes turns_are actors_are =
+turn_woken w after place now call phase deed state k right sound own there asked legal goes turns_are actors_are =
     let d : Doing = record { call = call; state = Goes phase } in
-    let own = k.asked place d there in
     let back = never_foreign w after call.who deed sound turns_are in
     let r = k.right place d there in
     let f : Follows w.blocks (pool_history w.turns) phase state =
@@ -410,15 +411,6 @@ turn_woken w after place now call phase deed state k right sound there asked leg
             | other old ↦ still_woken w.generation w.blocks w.turns w.actors place call phase there now deed state asked
                 legal goes own back e.state (k.right at e old) (k.woken at e old)
           ]));
-      asked = λ at e here.
-          elim (does w.actors place (Some d) call state at e there
-          (subst (λ xs. slice_get xs at ≡ Some (Some e)) actors_are here)) [
-            | moved same c s ↦
-                subst (λ (x : Started). IsAsked x.asked e.state) (sym c) (subst (IsAsked call.asked) (sym s)
-                (own_asked w.generation w.blocks w.turns w.actors place call phase there now deed state asked legal goes
-                own back state f.comes))
-            | other old ↦ k.asked at e old
-          ];
     }
 
 -- A call that continues without a turn, or that starts.
@@ -447,9 +439,9 @@ stays_woken turns actors place was new there none st k = by_state st k
 stand_woken : (w after : World) (place : ℕ) (was : Option Doing) (call : Started) (state : State) → AllWoken w →
     AllRight after → slice_get w.actors place ≡ Some was →
     ((d : Doing) (id : ℤ) → was ≡ Some d → HasToGiveBack d.call.asked d.state id → ⊥) →
-    ((turns : List Turn) (actors : List (Option Doing)) → IsWoken turns actors state) → IsAsked call.asked state →
+    ((turns : List Turn) (actors : List (Option Doing)) → IsWoken turns actors state) →
     after.turns ≡ w.turns → after.actors ≡ slice_set w.actors place (doing_in call state) → AllWoken after
-stand_woken w after place was call state k right there none free own turns_are actors_are = record {
+stand_woken w after place was call state k right there none free turns_are actors_are = record {
   right = right;
   woken = λ at e here.
       subst (λ ts. IsWoken ts after.actors e.state) (sym turns_are)
@@ -460,13 +452,6 @@ stand_woken w after place was call state k right there none free own turns_are a
             (free w.turns (slice_set w.actors place (doing_in call state)))
         | other old ↦ stays_woken w.turns w.actors place was (doing_in call state) there none e.state (k.woken at e old)
       ]));
-  asked = λ at e here.
-      elim (does w.actors place was call state at e there
-      (subst (λ xs. slice_get xs at ≡ Some (Some e)) actors_are here)) [
-        | moved same c s ↦
-            subst (λ (x : Started). IsAsked x.asked e.state) (sym c) (subst (IsAsked call.asked) (sym s) own)
-        | other old ↦ k.asked at e old
-      ];
 }
 
 waits_gives : (asked : SystemCall) (wait : Wait) (id : ℤ) → HasToGiveBack asked (Waits wait) id → ⊥
@@ -484,12 +469,6 @@ resumed_woken (OnFreed goal s) value turns actors = tt
 resumed_woken (OnReleased goal s) value turns actors = tt
 resumed_woken (OnArrived goal receive) value turns actors = tt
 
-resumed_asked : (asked : SystemCall) (wait : Wait) (value : ℕ) → IsAsked asked (Goes (resume wait value))
-resumed_asked asked (OnSettled goal get) value = tt
-resumed_asked asked (OnFreed goal s) value = tt
-resumed_asked asked (OnReleased goal s) value = tt
-resumed_asked asked (OnArrived goal receive) value = tt
-
 begun_woken : (cred : Cred) (asked : SystemCall) (n : ℕ) (b : Bool) (turns : List Turn) (actors : List (Option Doing)) →
     IsWoken turns actors (cond b (Over (Refused EINVAL)) (Goes (first cred asked n)))
 begun_woken cred asked n true turns actors = tt
@@ -499,16 +478,6 @@ begun_woken cred (Msgrcv id size mtype flags) n false turns actors = tt
 begun_woken cred (MsgctlStat id) n false turns actors = tt
 begun_woken cred (MsgctlSet id to) n false turns actors = tt
 begun_woken cred (MsgctlRmid id) n false turns actors = tt
-
-begun_asked : (cred : Cred) (asked : SystemCall) (n : ℕ) (b : Bool) →
-    IsAsked asked (cond b (Over (Refused EINVAL)) (Goes (first cred asked n)))
-begun_asked cred asked n true = tt
-begun_asked cred (Msgget key flags) n false = tt
-begun_asked cred (Msgsnd id mtype flags text) n false = tt
-begun_asked cred (Msgrcv id size mtype flags) n false = tt
-begun_asked cred (MsgctlStat id) n false = tt
-begun_asked cred (MsgctlSet id to) n false = refl
-begun_asked cred (MsgctlRmid id) n false = refl
 
 -- ---- what happens
 
@@ -557,44 +526,49 @@ preset_still turns actors legal st k = by_state st k
     by_state (Waits (OnArrived goal receive)) q = tt
     by_state x q = tt
 
-move_woken : (w after : World) (given : List Given) → AllWoken w → AllRight after → IsSound after → Move w given after →
-    AllWoken after
-move_woken w after given k right sound (stood t) = subst AllWoken (sym t.1) k
-move_woken w after given k right sound (began place cred asked there t) =
+-- Each call holds what it was asked.
+abbrev pub AllHold : World → Type 0
+AllHold w = (place : ℕ) (d : Doing) → slice_get w.actors place ≡ Some (Some d) → Holds d.call.cred d.call.asked d.state
+
+move_woken : (w after : World) (given : List Given) → AllHold w → AllWoken w → AllRight after → IsSound after →
+    Move w given after → AllWoken after
+move_woken w after given holds k right sound (stood t) = subst AllWoken (sym t.1) k
+move_woken w after given holds k right sound (began place cred asked there t) =
     let call = starting w (suc place) cred asked in
     stand_woken w after place None call (begun call) k right there (λ d id e. absurd cc)
-    (begun_woken cred asked call.released (is_refused asked)) (begun_asked cred asked call.released (is_refused asked))
+    (begun_woken cred asked call.released (is_refused asked))
     (ap (λ (x : World). x.turns) t.1) (ap (λ (x : World). x.actors) t.1)
-move_woken w after given k right sound (turned place now call phase there t) =
-    turn_woken w after place now call phase t.0 t.1 k right sound there t.2 t.3 t.4 (ap (λ (x : World). x.turns) t.6)
+move_woken w after given holds k right sound (turned place now call phase there t) =
+    turn_woken w after place now call phase t.0 t.1 k right sound
+    (is_asked call.cred call.asked phase (holds place (record { call = call; state = Goes phase }) there)) there t.2 t.3
+    t.4 (ap (λ (x : World). x.turns) t.6)
     (ap (λ (x : World). x.actors) t.6)
-move_woken w after given k right sound (awoke place call wait there reached gave is) =
+move_woken w after given holds k right sound (awoke place call wait there reached gave is) =
     let value = value_of w.turns (awaited wait) in
     stand_woken w after place (Some record { call = call; state = Waits wait }) call (Goes (resume wait value)) k right
     there
     (λ d id is p.
     let same : d ≡ record { call = call; state = Waits wait } = some_is is in
     waits_gives call.asked wait id (subst (λ (x : Doing). HasToGiveBack x.call.asked x.state id) same p))
-    (resumed_woken wait value) (resumed_asked call.asked wait value) (ap (λ (x : World). x.turns) is)
+    (resumed_woken wait value) (ap (λ (x : World). x.turns) is)
     (ap (λ (x : World). x.actors) is)
-move_woken w after given k right sound (preset_made unused gave is) =
+move_woken w after given holds k right sound (preset_made unused gave is) =
     let legal : IsLegalHistory (slot_history 0 (with_preset_turns w.turns)) =
     subst (λ (v : World). IsLegalHistory (slot_history 0 v.turns)) is (sound.legal.slots 0) in
     subst AllWoken (sym is) record {
       right = subst AllRight is right;
       woken = λ at e here. preset_still w.turns w.actors legal e.state (k.woken at e here);
-      asked = k.asked;
     }
 
-pub moves_woken : (w after : World) (given : List Given) → AllWoken w → IsSound after → Move w given after →
+pub moves_woken : (w after : World) (given : List Given) → AllHold w → AllWoken w → IsSound after → Move w given after →
     AllWoken after
-moves_woken w after given k sound m = move_woken w after given k (move_right w after given k.right m) sound m
+moves_woken w after given holds k sound m =
+    move_woken w after given holds k (move_right w after given k.right m) sound m
 
 pub opening_woken : (o : Opening) → AllWoken (opening o)
 opening_woken o = record {
   right = λ at e here. absurd (none_busy o.actors at e here);
   woken = λ at e here. absurd (none_busy o.actors at e here);
-  asked = λ at e here. absurd (none_busy o.actors at e here);
 }
 
 -- ---- who waits for blocks

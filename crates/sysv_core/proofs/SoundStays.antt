@@ -25,9 +25,8 @@ use Rattle.sysv_keys.specs.LegalReply.{IsLegalReply as IsLegalRegistryReply}
 use Rattle.sysv_keys.specs.Unused.{UnusedSlots}
 use Rattle.sysv_objects.specs.LegalDeed.{IsLegalDeed, AreLegal}
 use Rattle.sysv_steps.specs.Call.{SystemCall}
-use Rattle.sysv_steps.specs.State.{Getting, Phase, AtBegin, AtInstall, AtSettle, AtProbe, AtUnmake, AtLook, AtReserve}
-use Rattle.sysv_steps.specs.State.{AtPlace, AtSendGiveback, AtTake, AtReceiveGiveback, AtStat, AtSet, AtSetGiveback}
-use Rattle.sysv_steps.specs.State.{AtRemove, AtForget, AtRemoveGiveback, State, Goes, Waits, Over}
+use Rattle.sysv_steps.specs.State.{Getting, Phase, AtBegin, AtInstall}
+use Rattle.sysv_steps.specs.State.{State, Goes, Waits, Over}
 use Rattle.sysv_steps.specs.Asks.{asks}
 use Rattle.sysv_steps.specs.Next.{next}
 use Rattle.sysv_steps.specs.HeldBlocks.{held, HasItsBlocks}
@@ -140,22 +139,7 @@ installs_there : (phase : Phase) (now slot : ℕ) (id key : ℤ) (cred : Cred) (
     OfSlot slot (Install id key cred mode moment) ≡ asks phase now →
     (get : Getting) × (made : ℤ) × (phase ≡ AtInstall get made) × (slot ≡ slot_of_id made)
 installs_there (AtInstall get made) now slot id key cred mode moment e = (get, made, refl, cc)
-installs_there (AtBegin get) now slot id key cred mode moment e = absurd cc
-installs_there (AtSettle made) now slot id key cred mode moment e = absurd cc
-installs_there (AtProbe get made settled) now slot id key cred mode moment e = absurd cc
-installs_there (AtUnmake made) now slot id key cred mode moment e = absurd cc
-installs_there (AtLook send) now slot id key cred mode moment e = absurd cc
-installs_there (AtReserve send) now slot id key cred mode moment e = absurd cc
-installs_there (AtPlace send blocks) now slot id key cred mode moment e = absurd cc
-installs_there (AtSendGiveback blocks afterwards) now slot id key cred mode moment e = absurd cc
-installs_there (AtTake receive) now slot id key cred mode moment e = absurd cc
-installs_there (AtReceiveGiveback blocks mtype text) now slot id key cred mode moment e = absurd cc
-installs_there (AtStat asker at) now slot id key cred mode moment e = absurd cc
-installs_there (AtSet asker at to) now slot id key cred mode moment e = absurd cc
-installs_there AtSetGiveback now slot id key cred mode moment e = absurd cc
-installs_there (AtRemove asker at) now slot id key cred mode moment e = absurd cc
-installs_there (AtForget at blocks) now slot id key cred mode moment e = absurd cc
-installs_there (AtRemoveGiveback blocks) now slot id key cred mode moment e = absurd cc
+installs_there phase now slot id key cred mode moment e = absurd cc
 
 -- ---- the actors
 

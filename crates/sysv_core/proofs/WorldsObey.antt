@@ -550,17 +550,20 @@ module _ (law : (generation : ℕ) (h : RegistryHistory) → IsLegalRegistryHist
     inv : Inv IsOfPreset w given
     woken : AllWoken w
 
-  leads_keep : StaysSound → (w after : World) (xs : List Happening) (given more : List Given) → Kept w given →
+  leads_keep : StaysSound → EachHoldsWhatItWasAsked → (w after : World) (xs : List Happening)
+      (given more : List Given) → Kept w given →
       Leads w xs more after → Kept after (given ++ more)
-  leads_keep sound w after [] given more k l =
+  leads_keep sound holds w after [] given more k l =
       record { inv = stays w after given more l k.inv; woken = subst AllWoken (sym l.1) k.woken }
-  leads_keep sound w after (x ∷ xs) given more k l =
+  leads_keep sound holds w after (x ∷ xs) given more k l =
       let ok = sound w l.0 x l.1 k.inv.sound l.3 in
       let m = moves w l.0 x l.1 l.3 in
       subst (λ gs. Kept after (given ++ gs)) (sym l.5) (subst (Kept after) (append_assoc given l.1 l.2)
-      (leads_keep sound l.0 after xs (given ++ l.1) l.2 (record {
+      (leads_keep sound holds l.0 after xs (given ++ l.1) l.2 (record {
         inv = move_keeps w l.0 given l.1 k.inv ok m;
-        woken = moves_woken w l.0 l.1 k.woken ok m;
+        woken = moves_woken w l.0 l.1 (λ place d there.
+            holds d.call.cred d.call.asked d.call.released (deeds_of d.call.who w.turns) d.state
+            (stands_there w given k.inv place d there).plays) k.woken ok m;
       }) l.4))
 
 nothing_in : {X : Type 0} (x : X) → Contains [] x → ⊥
@@ -588,7 +591,7 @@ pub run_obeys : StaysSound → ((generation blocks : ℕ) → AreLegal generatio
 run_obeys sound none laws no_match full full_for_look counts refused holds o list given w led =
     let start : Kept laws.registry (opening o) [] =
     record { inv = opens o (none o.generation o.blocks); woken = opening_woken o } in
-    let k = leads_keep laws.registry sound (opening o) w list [] given start led in
+    let k = leads_keep laws.registry sound holds (opening o) w list [] given start led in
     let i = k.inv in
     let opened = leads_opened (opening o) w list given led in
     let shared = lawful laws o w given i opened.0 opened.1 IsMade i.made in

@@ -1,5 +1,5 @@
 -- The turn that reads a row moves no block, does no job of an identifier, and belongs to no call.
-use Rattle.std.proofs.Common.{◌≡◌, ◌≢◌, inl, inr, ℕ, suc, ℤ, ◌+◌, Bool, true, false, cond, List, [], ◌∷◌, ◌++◌, Option}
+use Rattle.std.proofs.Common.{◌≡◌, ◌≢◌, inl, ℕ, suc, ◌+◌, Bool, true, false, cond, List, [], ◌∷◌, ◌++◌, Option}
 use Rattle.std.proofs.Common.{refl, sym, ap, subst, ◌∙◌, arith}
 use Rattle.std.specs.List.{All, Contains}
 use Rattle.std.proofs.Math.Dec.{eqb}
@@ -17,13 +17,11 @@ use Rattle.sysv_queue.specs.BlocksKept.{TurnKeepsBlocks}
 use Rattle.sysv_queue.specs.LegalReply.{Legal, IsLegalHistory}
 use Rattle.sysv_keys.specs.declared.identifier.TheConstants.{SLOTS}
 use Rattle.sysv_keys.specs.Identifier.{slot_of_id}
-use Rattle.sysv_keys.specs.Rows.{is_made, is_settled, is_forgotten}
 use Rattle.sysv_objects.specs.LegalDeed.{IsLegalDeed, AreLegal}
 use Rattle.sysv_steps.specs.Played.{Plays}
 use Rattle.sysv_core.specs.World.{World, Started, Doing, Given, begun}
 use Rattle.sysv_core.specs.Conserved.{blocks_waiting, blocks_in_calls, AreConserved}
 use Rattle.sysv_core.specs.Sound.{IsSound, IsMadeIn}
-use Rattle.sysv_core.specs.Removed.{IsInItsSlot}
 use Rattle.sysv_core.proofs.Histories.{turn_of, slot_more, registry_more, pool_stays}
 use Rattle.sysv_core.proofs.BlocksConserved.{waiting_at, is_sum, same_sum}
 use Rattle.sysv_core.proofs.SoundStays.{before, installed, lived, installs, still_made}

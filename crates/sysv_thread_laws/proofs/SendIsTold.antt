@@ -504,7 +504,8 @@ stands_so who (Some (Some d)) state e =
 
 -- ---- the law
 
-module _ (o : Opening) (w : World) (given : List Given) (i : Inv IsRowRead w given) (lawful : ObeysOnThreads o w given) where
+module _ (o : Opening) (w : World) (given : List Given) (i : Inv IsRowRead w given)
+    (lawful : ObeysOnThreads o w given) where
   in_call : (call : Started) → Contains w.calls call → (state : State) →
       standing_of call.who w.actors ≡ Some state → IsInCall w call state
   in_call call has state e =

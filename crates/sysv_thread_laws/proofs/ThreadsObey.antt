@@ -1,30 +1,26 @@
 -- Every list of moments leads only to worlds that obey the laws of threads.
-use Rattle.std.proofs.Common.{◌≡◌, ◌≤◌, inl, inr, ℕ, zero, suc, List, [], ◌∷◌, ◌++◌, None, Some, refl, sym, subst, ◌∙◌}
-use Rattle.std.proofs.Common.{arith, append_assoc, slice_get}
-use Rattle.std.specs.List.{All}
-use Rattle.std.proofs.Math.ListN.{get_or}
+use Rattle.std.proofs.Common.{◌≡◌, ◌≤◌, ℕ, zero, suc, List, [], ◌∷◌, ◌++◌, None, Some, refl, sym, subst, ◌∙◌}
+use Rattle.std.proofs.Common.{append_assoc, slice_get}
 use Rattle.std.proofs.lemmas.List.{append-nil}
-use Rattle.std.proofs.lemmas.List.Elements.{All-push}
 use Rattle.sysv_model.specs.declared.cred.Cred.{Cred}
-use Rattle.sysv_model.specs.History.{Who, Actor, ReadRow}
-use Rattle.sysv_model.specs.Turn.{Deed, AtSlot, Turn, registry_history}
+use Rattle.sysv_model.specs.History.{Who}
+use Rattle.sysv_model.specs.Turn.{Deed, Turn}
 use Rattle.sysv_objects.specs.LegalDeed.{IsLegalDeed, AreLegal}
 use Rattle.sysv_steps.specs.Call.{SystemCall}
-use Rattle.sysv_steps.specs.State.{Phase, Wait, State, Goes, Waits}
-use Rattle.sysv_steps.specs.Begin.{is_refused}
+use Rattle.sysv_steps.specs.State.{Wait, State, Goes, Waits}
 use Rattle.sysv_steps.specs.Resume.{goal_of, resume}
 use Rattle.sysv_steps.specs.Played.{resumes}
 use Rattle.sysv_core.specs.Kinds.{kind_of}
-use Rattle.sysv_core.specs.World.{World, Opening, Started, Doing, Given, opening, doing_in, given_in, begun, in_state}
-use Rattle.sysv_core.specs.World.{with_call, Turns}
-use Rattle.sysv_core.specs.Sound.{IsSound, StaysSound}
+use Rattle.sysv_core.specs.World.{World, Opening, Started, Doing, Given, opening, given_in, begun, in_state}
+use Rattle.sysv_core.specs.World.{with_call}
+use Rattle.sysv_core.specs.Sound.{IsSound}
 use Rattle.sysv_core.proofs.Histories.{turn_of}
 use Rattle.sysv_core.proofs.BlocksConserved.{BlockLaws, stands_conserves, resumed_holds, begun_holds}
 use Rattle.sysv_core.proofs.StepKeepsKind.{later_of, blocks_later, begun_later, resumed_later}
 use Rattle.sysv_core.proofs.SoundStays.{own_still, later_installs, turn_sound, look_sound}
 use Rattle.sysv_core.proofs.LifeGoesOn.{lives_stand, resumed_none}
 use Rattle.sysv_core.proofs.WorldsObey.{Inv, Laws, stands_there, goes_on, starts, turns_keep, opens, lawful}
-use Rattle.sysv_thread_laws.specs.FreeRun.{nobody, starting_with, Moment, Starts, TakesTurn, Wakes, Reads, StartsCall}
+use Rattle.sysv_thread_laws.specs.FreeRun.{starting_with, Moment, Starts, TakesTurn, Wakes, Reads, StartsCall}
 use Rattle.sysv_thread_laws.specs.FreeRun.{TakesItsTurn, WakesUp, ReadsRow, Brings, LeadsOnThreads}
 use Rattle.sysv_thread_laws.specs.OnThreads.{IsRowRead, IsMadeOrRead, ObeysOnThreads}
 use Rattle.sysv_thread_laws.proofs.RowReadIsNeutral.{row_keeps}
@@ -37,7 +33,8 @@ IsHeld w given = Inv IsRowRead w given
 same_held : (w after : World) (given : List Given) → after ≡ w → IsHeld w given → IsHeld after given
 same_held w after given e h = subst (λ (v : World). IsHeld v given) (sym e) h
 
-module _ (more : (generation blocks : ℕ) (turns : List Turn) (who : Who) (deed : Deed) → AreLegal generation blocks turns →
+module _
+    (more : (generation blocks : ℕ) (turns : List Turn) (who : Who) (deed : Deed) → AreLegal generation blocks turns →
     IsLegalDeed generation blocks turns deed → AreLegal generation blocks (turns ++ turn_of who deed ∷ []))
     (b : BlockLaws) (laws : Laws) where
   -- ---- a call starts

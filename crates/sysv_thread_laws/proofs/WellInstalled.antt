@@ -1,18 +1,16 @@
 -- Each queue of a free run is installed in the slot of its identifier, and the identifier is not
 -- negative.
-use Rattle.std.proofs.Common.{◌≡◌, ◌<◌, ◌≤◌, ℕ, ℤ, pos, Bool, true, false, List, [], ◌∷◌, ◌++◌, map, Option}
+use Rattle.std.proofs.Common.{◌≡◌, ◌<◌, ℕ, ℤ, pos, true, false, List, [], ◌∷◌, map}
 use Rattle.std.proofs.Common.{refl, sym, ap, subst, ◌∙◌, arith, int_lt, length}
 use Rattle.std.specs.List.{All}
 use Rattle.std.proofs.Math.ListN.{get_or}
-use Rattle.std.proofs.lemmas.Bool.Decides.{Decides-int_eq, nat_tests}
+use Rattle.std.proofs.lemmas.Bool.Decides.{nat_tests}
 use Rattle.std.proofs.lemmas.List.Elements.{All-nil, All-cons, All-head, All-tail}
 use Rattle.std.proofs.lemmas.List.Folds.{list_any_at}
 use Rattle.sysv_model.specs.History.{Install, Installed}
-use Rattle.sysv_model.specs.Registry.{RegistryReply, Made, RegistryEntry, RegistryHistory}
 use Rattle.sysv_model.specs.Turn.{Deed, AtSlot, Turn, registry_history}
 use Rattle.sysv_model.specs.Turns.{Numbered}
 use Rattle.sysv_keys.specs.RegistryLaw.{RegistryLaw}
-use Rattle.sysv_core.specs.World.{Doing}
 use Rattle.sysv_core.specs.Removed.{IsInItsSlot}
 use Rattle.sysv_core.proofs.Life.{installing, does, done, same_int, Facts, ordered, made_for}
 use Rattle.sysv_thread_laws.specs.OrderIsRun.{Renamed, renamed_turn}
