@@ -11,14 +11,12 @@ use Rattle.std.proofs.lemmas.Bool.Decides.{Decides-int_eq}
 use Rattle.std.proofs.lemmas.List.{append-nil}
 use Rattle.std.proofs.lemmas.List.Elements.{All-push}
 use Rattle.std.proofs.lemmas.List.Folds.{list_any-append}
-use Rattle.std.proofs.lemmas.List.Sums.{fold-append}
 use Rattle.sysv_model.specs.declared.attributes.Attributes.{Attributes}
 use Rattle.sysv_model.specs.History.{Who, Call, Install, Place, Take, Set, Remove, Reply, Installed, Accepted, Taken}
-use Rattle.sysv_model.specs.History.{Done, Discarded, Entry, History}
+use Rattle.sysv_model.specs.History.{Done, Discarded, Entry}
 use Rattle.sysv_model.specs.Live.{live, live_after, HasId, IsLive}
-use Rattle.sysv_model.specs.Registry.{RegistryCall, RegistryReply, RegistryEntry, Begin, Settle}
-use Rattle.sysv_model.specs.Registry.{Forget, Made, Changed}
-use Rattle.sysv_model.specs.Turn.{Deed, AtSlot, AtRegistry, AtPool, Turn, slot_history, registry_history}
+use Rattle.sysv_model.specs.Registry.{RegistryCall, RegistryReply, RegistryEntry, Begin, Settle, Forget, Made, Changed}
+use Rattle.sysv_model.specs.Turn.{Deed, AtSlot, AtRegistry, AtPool, Turn, slot_entry, slot_history, registry_history}
 use Rattle.sysv_queue.specs.Slot.{Slot, slot_of}
 use Rattle.sysv_queue.specs.LegalReply.{Legal}
 use Rattle.sysv_queue.specs.QueueLaw.{removes, installs}
@@ -30,8 +28,8 @@ use Rattle.sysv_core.specs.World.{Doing}
 use Rattle.sysv_core.specs.Vacant.{FindsVacant, AllFindVacant}
 use Rattle.sysv_core.specs.Forgotten.{TakesItsRow, AllTakeTheirRows}
 use Rattle.sysv_core.specs.Removed.{IsInItsSlot}
-use Rattle.sysv_core.proofs.Histories.{turn_of, slot_more, slot_stays}
-use Rattle.sysv_core.proofs.TurnInHistory.{slot_around, itself}
+use Rattle.sysv_core.proofs.Histories.{turn_of, slot_more, live_by, live_turn}
+use Rattle.sysv_core.proofs.TurnInHistory.{itself}
 
 -- ---- jobs
 
@@ -179,13 +177,14 @@ both_true false b e = absurd cc
 pub any_more : {X : Type 0} (p : X → Bool) (xs : List X) (x : X) → list_any p (xs ++ x ∷ []) ≡ (list_any p xs || p x)
 any_more p xs x = list_any-append p xs (x ∷ []) ∙ ap (λ b. list_any p xs || b) (or_no (p x))
 
--- An element that passes a test.
+-- The first element that passes a test.
 pub record Passes {X : Type 0} (p : X → Bool) (xs : List X) : Type 0 where
   pub front : List X
   pub it : X
   pub back : List X
   pub whole : xs ≡ front ++ it ∷ back
   pub passes : p it ≡ true
+  pub none_before : list_any p front ≡ false
 
 pub passing : {X : Type 0} (p : X → Bool) (xs : List X) → list_any p xs ≡ true → Passes p xs
 passing p [] e = absurd cc
@@ -193,10 +192,17 @@ passing p (x ∷ xs) e = by_first (p x) refl e (passing p xs)
   where
     by_first : (b : Bool) → p x ≡ b → (b || list_any p xs) ≡ true → (list_any p xs ≡ true → Passes p xs) →
         Passes p (x ∷ xs)
-    by_first true is any rest = record { front = []; it = x; back = xs; whole = refl; passes = is }
+    by_first true is any rest = record { front = []; it = x; back = xs; whole = refl; passes = is; none_before = refl }
     by_first false is any rest =
         let r = rest any in
-        record { front = x ∷ r.front; it = r.it; back = r.back; whole = ap (λ k. x ∷ k) r.whole; passes = r.passes }
+        record {
+          front = x ∷ r.front;
+          it = r.it;
+          back = r.back;
+          whole = ap (λ k. x ∷ k) r.whole;
+          passes = r.passes;
+          none_before = ap (λ b. b || list_any p r.front) is ∙ r.none_before;
+        }
 
 pub passed : {X : Type 0} (p q : X → Bool) (xs : List X) (s : Passes p xs) → q s.it ≡ true → list_any q xs ≡ true
 passed p q xs s e =
@@ -312,7 +318,7 @@ pub record Facts (turns : List Turn) : Type 0 where
       IsNext j front
   pub once : (slot : ℕ) (id : ℤ) → IsInstalledOnce id (slot_history slot turns)
   -- A queue is live from its install to its removal.
-  pub lives : (slot : ℕ) (a : Attributes) → live (slot_history slot turns) ≡ Some a → IsInUse turns slot a.id
+  pub lives : (slot : ℕ) (id : ℤ) → HasId (live (slot_history slot turns)) id → IsInUse turns slot id
   pub alive : (id : ℤ) → done (installing id) turns ≡ true → done (removing id) turns ≡ false →
       IsLive (slot_history (slot_of_id id) turns) id
   pub home : All (λ (t : Turn). IsInItsSlot t.deed) turns
@@ -324,14 +330,6 @@ ordered turns f j e =
     let s = passing (λ (t : Turn). does j t.deed) turns e in
     subst (IsReady j) (sym s.whole)
     (ready_on j s.front (s.it ∷ s.back) (f.fresh s.front s.back s.it j s.whole s.passes).0)
-
-pub in_use : (turns : List Turn) → Facts turns → (slot : ℕ) (id : ℤ) → HasId (live (slot_history slot turns)) id →
-    IsInUse turns slot id
-in_use turns f slot id has = by_value (live (slot_history slot turns)) refl has
-  where
-    by_value : (l : Option Attributes) → live (slot_history slot turns) ≡ l → HasId l id → IsInUse turns slot id
-    by_value None e none = absurd none
-    by_value (Some a) e same = subst (IsInUse turns slot) same (f.lives slot a e)
 
 slot_first : (p : Call → Reply → Bool) (slot : ℕ) (who : Who) (deed : Deed) (turns : List Turn) →
     (list_any (λ (e : Entry). p e.call e.reply) (slot_history slot turns) ≡ true →
@@ -374,25 +372,18 @@ pub record IsFine (turns : List Turn) (deed : Deed) : Type 0 where
   pub legal : IsLegalAtSlot turns deed
   pub next : (j : Job) → does j deed ≡ true → IsNext j turns
 
-pub live_more : (h : History) (e : Entry) → live (h ++ e ∷ []) ≡ live_after (live h) e.call e.reply
-live_more h e = fold-append (λ (old : Option Attributes) (x : Entry). live_after old x.call x.reply) None h (e ∷ [])
-
--- A live queue was live before the turn, or was installed in it.
-lived : (l : Option Attributes) (call : Call) (reply : Reply) (a : Attributes) → live_after l call reply ≡ Some a →
-    (removes a.id call reply ≡ false)
-    × ((installs a.id call reply ≡ true) ⊎ ((b : Attributes) × (l ≡ Some b) × (b.id ≡ a.id)))
-lived l (Install id key cred mode now) (Installed true) a e =
-    (refl, inl ((Decides-int_eq id a.id).1 (ap (λ (x : Attributes). x.id) (some_is e))))
-lived (Some b) (Place id cred mtype bytes now) (Accepted number) a e =
-    (refl, inr (b, refl, ap (λ (x : Attributes). x.id) (some_is e)))
-lived (Some b) (Take id cred selector size noerror now) (Taken m) a e =
-    (refl, inr (b, refl, ap (λ (x : Attributes). x.id) (some_is e)))
-lived (Some b) (Set id cred to now) Done a e = (refl, inr (b, refl, ap (λ (x : Attributes). x.id) (some_is e)))
-lived None (Place id cred mtype bytes now) (Accepted number) a e = absurd cc
-lived None (Take id cred selector size noerror now) (Taken m) a e = absurd cc
-lived None (Set id cred to now) Done a e = absurd cc
-lived l (Remove id cred) (Discarded messages) a e = absurd cc
-lived l call reply a e = (refl, inr (a, e, refl))
+-- A turn that leaves a queue live installed it, or found it live and did not remove it.
+pub lived : (l : Option Attributes) (id : ℤ) (call : Call) (reply : Reply) → HasId (live_after l call reply) id →
+    (removes id call reply ≡ false) × ((installs id call reply ≡ true) ⊎ HasId l id)
+lived l id (Install at key cred mode now) (Installed true) lives = (refl, inl ((Decides-int_eq at id).1 lives))
+lived (Some a) id (Place at cred mtype bytes now) (Accepted number) lives = (refl, inr lives)
+lived (Some a) id (Take at cred selector size noerror now) (Taken m) lives = (refl, inr lives)
+lived (Some a) id (Set at cred to now) Done lives = (refl, inr lives)
+lived None id (Place at cred mtype bytes now) (Accepted number) lives = absurd lives
+lived None id (Take at cred selector size noerror now) (Taken m) lives = absurd lives
+lived None id (Set at cred to now) Done lives = absurd lives
+lived l id (Remove at cred) (Discarded messages) lives = absurd lives
+lived l id call reply lives = (refl, inr lives)
 
 -- A legal turn keeps a queue live that it does not remove.
 keeps : (id : ℤ) (f : Attributes → Attributes) → ((a : Attributes) → (f a).id ≡ a.id) → (l : Option Attributes) →
@@ -400,7 +391,7 @@ keeps : (id : ℤ) (f : Attributes → Attributes) → ((a : Attributes) → (f 
 keeps id f same None lives = absurd lives
 keeps id f same (Some a) lives = same a ∙ lives
 
-one_id : (o : Option Attributes) (x y : ℤ) → HasId o x → HasId o y → x ≡ y
+pub one_id : (o : Option Attributes) (x y : ℤ) → HasId o x → HasId o y → x ≡ y
 one_id None x y p q = absurd p
 one_id (Some a) x y p q = sym p ∙ q
 
@@ -444,79 +435,61 @@ module _ (turns : List Turn) (f : Facts turns) (who : Who) where
     kept = not_done turns who deed (removing id) u.kept kept;
   }
 
-  lives_by : (slot at : ℕ) (call : Call) (reply : Reply) (a : Attributes) (b : Bool) → (b ≡ true → at ≡ slot) →
-      (at ≡ slot → b ≡ true) → IsFine turns (AtSlot at call reply) →
-      live (slot_history slot turns ++ cond b (record { who = who; call = call; reply = reply } ∷ []) []) ≡ Some a →
-      IsInUse (more (AtSlot at call reply)) slot a.id
-  lives_by slot at call reply a true here there fine e =
-      let deed = AtSlot at call reply in
-      let l = lived (live (slot_history slot turns)) call reply a
-      (sym (live_more (slot_history slot turns) (record { who = who; call = call; reply = reply })) ∙ e) in
-      elim l.1 [
-        | inl now ↦ record {
-          here = sym (install_home at a.id call reply fine.seemly.0 now) ∙ here refl;
-          installed = done_now turns who deed (installing a.id) now;
-          kept = not_done turns who deed (removing a.id)
-              (falls (done (removing a.id) turns) (done (installing a.id) turns) (ordered turns f (removing a.id))
-              (fine.next (installing a.id) now).1) l.0;
-        }
-        | inr old ↦ in_use_still deed slot a.id (subst (IsInUse turns slot) old.2 (f.lives slot old.0 old.1)) l.0
-      ]
-  lives_by slot at call reply a false here there fine e =
-      let u = f.lives slot a (ap live (sym (append-nil (slot_history slot turns))) ∙ e) in
-      in_use_still (AtSlot at call reply) slot a.id u (falls (removes a.id call reply) false (λ gone.
-      there (sym (in_use turns f at a.id
-      (removal_live (slot_of (slot_history at turns)) a.id call reply fine.legal gone)).here ∙ u.here)) refl)
-
   same_slot : (at slot : ℕ) → at ≡ slot → eqb at slot ≡ true
   same_slot at slot e = ap (eqb at) (sym e) ∙ itself at
 
-  lives_then : (deed : Deed) → IsFine turns deed → (slot : ℕ) (a : Attributes) →
-      live (slot_history slot (more deed)) ≡ Some a → IsInUse (more deed) slot a.id
-  lives_then (AtSlot at call reply) fine slot a e =
-      lives_by slot at call reply a (eqb at slot) (λ same. eqb-true at slot same) (same_slot at slot) fine
-      (ap live (sym (slot_more slot turns (turn_of who (AtSlot at call reply)))) ∙ e)
-  lives_then (AtRegistry call reply) fine slot a e = in_use_still (AtRegistry call reply) slot a.id
-      (f.lives slot a (ap live (sym (slot_stays slot turns who (AtRegistry call reply) refl)) ∙ e)) refl
-  lives_then (AtPool call reply) fine slot a e = in_use_still (AtPool call reply) slot a.id
-      (f.lives slot a (ap live (sym (slot_stays slot turns who (AtPool call reply) refl)) ∙ e)) refl
+  lives_then : (deed : Deed) → IsFine turns deed → (slot : ℕ) (id : ℤ) →
+      HasId (live_by slot deed (live (slot_history slot turns))) id → IsInUse (more deed) slot id
+  lives_then (AtSlot at call reply) fine slot id has = by_slot (eqb at slot) refl has
+    where
+      by_slot : (b : Bool) → eqb at slot ≡ b →
+          HasId (cond b (live_after (live (slot_history slot turns)) call reply) (live (slot_history slot turns))) id →
+          IsInUse (more (AtSlot at call reply)) slot id
+      by_slot true same h =
+          let l = lived (live (slot_history slot turns)) id call reply h in
+          elim l.1 [
+            | inl now ↦ record {
+              here = sym (install_home at id call reply fine.seemly.0 now) ∙ eqb-true at slot same;
+              installed = done_now turns who (AtSlot at call reply) (installing id) now;
+              kept = not_done turns who (AtSlot at call reply) (removing id)
+                  (falls (done (removing id) turns) (done (installing id) turns) (ordered turns f (removing id))
+                  (fine.next (installing id) now).1) l.0;
+            }
+            | inr old ↦ in_use_still (AtSlot at call reply) slot id (f.lives slot id old) l.0
+          ]
+      by_slot false apart h =
+          let u = f.lives slot id h in
+          in_use_still (AtSlot at call reply) slot id u (falls (removes id call reply) false (λ gone.
+          sym apart
+          ∙ same_slot at slot (sym (f.lives at id
+          (removal_live (slot_of (slot_history at turns)) id call reply fine.legal gone)).here ∙ u.here)) refl)
+  lives_then (AtRegistry call reply) fine slot id has =
+      in_use_still (AtRegistry call reply) slot id (f.lives slot id has) refl
+  lives_then (AtPool call reply) fine slot id has =
+      in_use_still (AtPool call reply) slot id (f.lives slot id has) refl
 
-  -- A live queue that a turn at some slot does not remove.
-  alive_by : (slot : ℕ) (call : Call) (reply : Reply) (id : ℤ) (b : Bool) → (b ≡ true → slot ≡ slot_of_id id) →
-      Legal (slot_of (slot_history slot turns)) call reply → removes id call reply ≡ false →
-      IsLive (slot_history (slot_of_id id) turns) id →
-      IsLive (slot_history (slot_of_id id) turns ++ cond b (record { who = who; call = call; reply = reply } ∷ []) [])
-      id
-  alive_by slot call reply id true here legal kept lives =
-      let h = slot_history (slot_of_id id) turns in
-      subst (λ l. HasId l id) (sym (live_more h (record { who = who; call = call; reply = reply })))
-      (lives_on (slot_of h) id call reply
-      (subst (λ n. Legal (slot_of (slot_history n turns)) call reply) (here refl) legal) lives kept)
-  alive_by slot call reply id false here legal kept lives =
-      subst (λ (h : History). IsLive h id) (sym (append-nil (slot_history (slot_of_id id) turns))) lives
-
-  alive_still : (deed : Deed) → IsFine turns deed → (id : ℤ) → does (removing id) deed ≡ false →
-      IsLive (slot_history (slot_of_id id) turns) id → IsLive (slot_history (slot_of_id id) (more deed)) id
-  alive_still (AtSlot slot call reply) fine id kept lives = subst (λ (h : History). IsLive h id)
-      (sym (slot_more (slot_of_id id) turns (turn_of who (AtSlot slot call reply))))
-      (alive_by slot call reply id (eqb slot (slot_of_id id)) (λ e. eqb-true slot (slot_of_id id) e) fine.legal kept
-      lives)
-  alive_still (AtRegistry call reply) fine id kept lives = subst (λ (h : History). IsLive h id)
-      (sym (slot_stays (slot_of_id id) turns who (AtRegistry call reply) refl)) lives
-  alive_still (AtPool call reply) fine id kept lives = subst (λ (h : History). IsLive h id)
-      (sym (slot_stays (slot_of_id id) turns who (AtPool call reply) refl)) lives
-
-  alive_now : (deed : Deed) → IsFine turns deed → (id : ℤ) → does (installing id) deed ≡ true →
-      IsLive (slot_history (slot_of_id id) (more deed)) id
-  alive_now (AtSlot slot call reply) fine id e =
-      subst (λ n. IsLive (slot_history n (more (AtSlot slot call reply))) id)
-      (install_home slot id call reply fine.seemly.0 e)
-      (subst (λ (h : History). IsLive h id) (sym (slot_around slot turns [] who call reply))
-      (subst (λ l. HasId l id)
-      (sym (live_more (slot_history slot turns) (record { who = who; call = call; reply = reply })))
-      (installed_live (live (slot_history slot turns)) id call reply e)))
-  alive_now (AtRegistry call reply) fine id e = absurd cc
-  alive_now (AtPool call reply) fine id e = absurd cc
+  alive_then : (deed : Deed) → IsFine turns deed → (id : ℤ) →
+      (does (installing id) deed ≡ true)
+      ⊎ (IsLive (slot_history (slot_of_id id) turns) id × (does (removing id) deed ≡ false)) →
+      HasId (live_by (slot_of_id id) deed (live (slot_history (slot_of_id id) turns))) id
+  alive_then (AtSlot at call reply) fine id (inl now) =
+      let l = live (slot_history (slot_of_id id) turns) in
+      subst (λ b. HasId (cond b (live_after l call reply) l) id)
+      (sym (same_slot at (slot_of_id id) (install_home at id call reply fine.seemly.0 now)))
+      (installed_live l id call reply now)
+  alive_then (AtSlot at call reply) fine id (inr (lives, kept)) =
+      by_slot (eqb at (slot_of_id id)) (λ e. eqb-true at (slot_of_id id) e)
+    where
+      by_slot : (b : Bool) → (b ≡ true → at ≡ slot_of_id id) →
+          HasId (cond b (live_after (live (slot_history (slot_of_id id) turns)) call reply)
+          (live (slot_history (slot_of_id id) turns))) id
+      by_slot true here = lives_on (slot_of (slot_history (slot_of_id id) turns)) id call reply
+          (subst (λ n. Legal (slot_of (slot_history n turns)) call reply) (here refl) fine.legal) lives kept
+      by_slot false here = lives
+  alive_then (AtRegistry call reply) fine id (inl now) = absurd cc
+  alive_then (AtRegistry call reply) fine id (inr old) = old.0
+  alive_then (AtPool call reply) fine id (inl now) = absurd cc
+  alive_then (AtPool call reply) fine id (inr old) = old.0
 
   once_by : (slot at : ℕ) (call : Call) (reply : Reply) (id : ℤ) (b : Bool) → IsFine turns (AtSlot at call reply) →
       IsInstalledOnce id (slot_history slot turns ++ cond b (record { who = who; call = call; reply = reply } ∷ []) [])
@@ -540,14 +513,12 @@ module _ (turns : List Turn) (f : Facts turns) (who : Who) where
       f.once slot id before middle after e x (sym (append-nil (slot_history slot turns)) ∙ same) first
 
   once_then : (deed : Deed) → IsFine turns deed → (slot : ℕ) (id : ℤ) →
-      IsInstalledOnce id (slot_history slot (more deed))
-  once_then (AtSlot at call reply) fine slot id = subst (IsInstalledOnce id)
-      (sym (slot_more slot turns (turn_of who (AtSlot at call reply))))
-      (once_by slot at call reply id (eqb at slot) fine)
-  once_then (AtRegistry call reply) fine slot id = subst (IsInstalledOnce id)
-      (sym (slot_stays slot turns who (AtRegistry call reply) refl)) (f.once slot id)
-  once_then (AtPool call reply) fine slot id = subst (IsInstalledOnce id)
-      (sym (slot_stays slot turns who (AtPool call reply) refl)) (f.once slot id)
+      IsInstalledOnce id (slot_history slot turns ++ slot_entry slot who deed)
+  once_then (AtSlot at call reply) fine slot id = once_by slot at call reply id (eqb at slot) fine
+  once_then (AtRegistry call reply) fine slot id =
+      subst (IsInstalledOnce id) (sym (append-nil (slot_history slot turns))) (f.once slot id)
+  once_then (AtPool call reply) fine slot id =
+      subst (IsInstalledOnce id) (sym (append-nil (slot_history slot turns))) (f.once slot id)
 
   pub facts_more : (deed : Deed) → IsFine turns deed → Facts (more deed)
   facts_more deed fine = record {
@@ -556,14 +527,17 @@ module _ (turns : List Turn) (f : Facts turns) (who : Who) where
           (fine.next j (ap (λ (x : Turn). does j x.deed) (sym last.1) ∙ e))
       | inr old ↦ f.fresh front old.0 t j old.1 e
     ];
-    once = once_then deed fine;
-    lives = lives_then deed fine;
+    once = λ slot id.
+        subst (IsInstalledOnce id) (sym (slot_more slot turns (turn_of who deed))) (once_then deed fine slot id);
+    lives = λ slot id has.
+        lives_then deed fine slot id (subst (λ l. HasId l id) (live_turn slot turns who deed) has);
     alive = λ id made kept.
         let k = undone turns who deed (removing id) kept in
-        elim (done_by turns who deed (installing id) made) [
-          | inl old ↦ alive_still deed fine id k.1 (f.alive id old k.0)
-          | inr now ↦ alive_now deed fine id now
-        ];
+        subst (λ l. HasId l id) (sym (live_turn (slot_of_id id) turns who deed))
+        (alive_then deed fine id (elim (done_by turns who deed (installing id) made) [
+          | inl old ↦ inr (f.alive id old k.0, k.1)
+          | inr now ↦ inl now
+        ]));
     home = All-push (λ (t : Turn). IsInItsSlot t.deed) turns (turn_of who deed) f.home fine.seemly.0;
     vacant = All-push (λ (t : Turn). FindsVacant t.deed) turns (turn_of who deed) f.vacant fine.seemly.1;
     taken = All-push (λ (t : Turn). TakesItsRow t.deed) turns (turn_of who deed) f.taken fine.seemly.2;

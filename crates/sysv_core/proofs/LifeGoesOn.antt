@@ -1,8 +1,7 @@
 -- A turn of a call does the job that the call has, or none; and each job that was begun is held by
 -- one call until it is done.
 use Rattle.std.proofs.Common.{◌≡◌, ◌≢◌, ◌⊎◌, inl, inr, ℕ, zero, suc, ℤ, pos, Bool, true, false, cond, List, [], ◌∷◌}
-use Rattle.std.proofs.Common.{◌++◌}
-use Rattle.std.proofs.Common.{Option, None, Some, IsSome, refl, sym, ap, subst, ◌∙◌, arith, slice_get, slice_set}
+use Rattle.std.proofs.Common.{◌++◌, Option, None, Some, IsSome, refl, sym, ap, subst, ◌∙◌, arith, slice_get, slice_set}
 use Rattle.std.proofs.Common.{append_assoc, option_map, replicate}
 use Rattle.std.proofs.lemmas.Option.{slice_get-map}
 use Rattle.sysv_model.specs.declared.attributes.Attributes.{Attributes}
@@ -11,11 +10,11 @@ use Rattle.sysv_model.specs.declared.flags.Flags.{Flags}
 use Rattle.sysv_model.specs.declared.errno.Errno.TheVariants.{EINVAL}
 use Rattle.sysv_model.specs.declared.limits.TheConstants.{IPC_PRIVATE}
 use Rattle.sysv_model.specs.History.{Who, Installed, Gone, Full, NoMatch, Discarded}
-use Rattle.sysv_model.specs.Live.{live}
+use Rattle.sysv_model.specs.Live.{live, HasId}
 use Rattle.sysv_model.specs.Registry.{Begin, Made, Changed, RegistryEntry, RegistryHistory}
 use Rattle.sysv_model.specs.Pool.{TooFew, Released, Foreign}
-use Rattle.sysv_model.specs.Turn.{Deed, AtSlot, AtRegistry, AtPool, asked_by, Turn}
-use Rattle.sysv_model.specs.Turn.{slot_entry, registry_entry, pool_entry, slot_history, registry_history, pool_history}
+use Rattle.sysv_model.specs.Turn.{Deed, AtSlot, AtRegistry, AtPool, asked_by, Turn, slot_entry, registry_entry}
+use Rattle.sysv_model.specs.Turn.{pool_entry, slot_history, registry_history, pool_history}
 use Rattle.sysv_keys.specs.declared.registry.KeyRow.{KeyRow}
 use Rattle.sysv_keys.specs.Identifier.{slot_of_id}
 use Rattle.sysv_keys.specs.Rows.{makes, forgets, settles, is_settled, IsRow}
@@ -23,10 +22,9 @@ use Rattle.sysv_keys.specs.LegalReply.{IsLegalHistory as IsLegalRegistryHistory}
 use Rattle.sysv_keys.specs.RegistryLaw.{RegistryLaw}
 use Rattle.sysv_objects.specs.LegalDeed.{IsLegalDeed, AreLegal}
 use Rattle.sysv_steps.specs.State.{Afterwards, IsRefused, WaitsOn, Phase, AtBegin, AtInstall, AtSettle, AtUnmake}
-use Rattle.sysv_steps.specs.State.{AtLook}
-use Rattle.sysv_steps.specs.State.{Getting, Wait, OnSettled, OnFreed, OnReleased, OnArrived, Id, Refused}
-use Rattle.sysv_steps.specs.State.{AtReserve, AtSendGiveback, AtTake, AtRemove, AtForget, State, Goes, Waits, Over}
-use Rattle.sysv_steps.specs.Call.{SystemCall, Msgget, Msgsnd, Msgrcv, MsgctlStat, MsgctlSet, MsgctlRmid}
+use Rattle.sysv_steps.specs.State.{AtLook, Getting, Wait, OnSettled, Id, Refused, AtReserve, AtSendGiveback, AtTake}
+use Rattle.sysv_steps.specs.State.{AtRemove, AtForget, State, Goes, Waits, Over}
+use Rattle.sysv_steps.specs.Call.{SystemCall, Msgget}
 use Rattle.sysv_steps.specs.Begin.{is_refused, first, begin}
 use Rattle.sysv_steps.specs.Resume.{resume}
 use Rattle.sysv_steps.specs.Asks.{asks}
@@ -39,10 +37,10 @@ use Rattle.sysv_core.proofs.Histories.{turn_of, slot_more, registry_more, pool_m
 use Rattle.sysv_core.proofs.TurnInHistory.{slot_around, registry_around}
 use Rattle.sysv_core.proofs.Life.{Task, ToMake, ToInstall, ToSettle, ToRemove, ToForget, ToUnmake, Job, making}
 use Rattle.sysv_core.proofs.Life.{installing, settling, removing, forgetting, job_of, does, done, IsReadyFor, IsReady}
-use Rattle.sysv_core.proofs.Life.{IsNext, job_at, job_in, jobs_of, some_is, either, not_both, falls, passing}
-use Rattle.sysv_core.proofs.Life.{one_job, no_job, job_does, done_on, ready_on, done_now, not_done, undone, done_by}
-use Rattle.sysv_core.proofs.Life.{Facts, ordered, in_use, IsSeemly, IsLegalAtSlot, IsFine, facts_more}
-use Rattle.sysv_core.proofs.Life.{in_registry, WasMade, made_for, gave, none_after}
+use Rattle.sysv_core.proofs.Life.{IsNext, job_at, job_in, jobs_of, some_is, either, not_both, falls, passing, one_job}
+use Rattle.sysv_core.proofs.Life.{no_job, job_does, done_on, ready_on, done_now, not_done, undone, done_by, Facts}
+use Rattle.sysv_core.proofs.Life.{ordered, IsSeemly, IsLegalAtSlot, IsFine, facts_more, in_registry, made_for, gave}
+use Rattle.sysv_core.proofs.Life.{none_after}
 
 -- ---- the jobs of the calls
 
@@ -87,26 +85,16 @@ record IsAfter (j i : Job) : Type 0 where
   owned : is_owned i.task ≡ true
   apart : i ≢ j
 
-task_is : {i j : Job} → i ≡ j → i.task ≡ j.task
-task_is e = ap (λ (j : Job). j.task) e
+tasks : {i j : Job} → i ≡ j → i.task ≡ j.task
+tasks e = ap (λ (j : Job). j.task) e
 
 after : (task : Task) (id : ℤ) (i : Job) → follow_of task id ≡ Some i → IsAfter (record { task = task; id = id }) i
 after ToMake id i e = subst (IsAfter (making id)) (some_is e)
-    record { on = λ ts d. d; back = λ ts d. d; owned = refl; apart = λ x. let t : ToInstall ≡ ToMake = task_is x in cc }
+    record { on = λ ts d. d; back = λ ts d. d; owned = refl; apart = λ x. let t : ToInstall ≡ ToMake = tasks x in cc }
 after ToInstall id i e = subst (IsAfter (installing id)) (some_is e)
-    record {
-      on = λ ts d. d;
-      back = λ ts d. d;
-      owned = refl;
-      apart = λ x. let t : ToSettle ≡ ToInstall = task_is x in cc;
-    }
+    record { on = λ ts d. d; back = λ ts d. d; owned = refl; apart = λ x. let t : ToSettle ≡ ToInstall = tasks x in cc }
 after ToRemove id i e = subst (IsAfter (removing id)) (some_is e)
-    record {
-      on = λ ts d. d;
-      back = λ ts d. d;
-      owned = refl;
-      apart = λ x. let t : ToForget ≡ ToRemove = task_is x in cc;
-    }
+    record { on = λ ts d. d; back = λ ts d. d; owned = refl; apart = λ x. let t : ToForget ≡ ToRemove = tasks x in cc }
 after task id i e = absurd cc
 
 module _ (turns : List Turn) (who : Who) (deed : Deed) where
@@ -223,29 +211,6 @@ module _ (turns : List Turn) (who : Who) (deed : Deed) where
           slice_get jobs p ≡ Some (Some i)
       then_is p i apart at = sym (get_set_other jobs place p then apart) ∙ at
 
-  -- A turn of nobody that does no job.
-  pub life_apart : (jobs : List (Option Job)) → Life turns jobs → IsFine turns deed → job_of deed ≡ None →
-      Life more jobs
-  life_apart jobs l fine none = record {
-    facts = facts_more turns l.facts who deed fine;
-    holds = λ p i at.
-        let h = l.holds p i at in (
-          (
-            ready_on i turns (turn_of who deed ∷ []) h.0.0,
-            not_done turns who deed i h.0.1 (no_job i deed none),
-          ),
-          h.1,
-        );
-    alone = l.alone;
-    owed = λ i o n. elim (readies i.task i.id o n.0) [
-      | inr now ↦ not_both (does now.0 deed) now.1 (no_job now.0 deed none)
-      | inl ready ↦ elim (l.owed i o (ready, (undone turns who deed i n.1).0)) [
-        | inl h ↦ inl h
-        | inr gone ↦ inr (done_on (forgetting i.id) turns (turn_of who deed ∷ []) gone)
-      ]
-    ];
-  }
-
 -- ---- a turn of a call
 
 abbrev next_job : Option State → Option Job
@@ -263,21 +228,11 @@ module _ (registry_law : (generation : ℕ) (h : RegistryHistory) → IsLegalReg
   abbrev row_of : ℤ → ℤ → KeyRow
   row_of id key = record { id = id; key = key; live = is_settled id (registry_history turns) }
 
-  has_row : (id key : ℤ) → WasMade id turns → done (forgetting id) turns ≡ false →
-      (k : ℤ) × IsRow (registry_history turns) (row_of id k)
-  has_row id key m e = (
-    m.0,
-    record {
-      made = m.1;
-      kept = sym (in_registry (forgets id) turns) ∙ e;
-      stage = refl;
-    },
-  )
-
-  -- That of an identifier that was installed and not removed.
   row_made : (id : ℤ) → done (making id) turns ≡ true → done (forgetting id) turns ≡ false →
       (k : ℤ) × IsRow (registry_history turns) (row_of id k)
-  row_made id m e = has_row id (pos 0) (made_for id turns m) e
+  row_made id m e =
+      let made = made_for id turns m in
+      (made.0, record { made = made.1; kept = sym (in_registry (forgets id) turns) ∙ e; stage = refl })
 
   -- The slot of an identifier that is to be installed is vacant.
   occupied : (id : ℤ) → IsNext (installing id) turns → IsSome (live (slot_history (slot_of_id id) turns)) → ⊥
@@ -286,7 +241,7 @@ module _ (registry_law : (generation : ℕ) (h : RegistryHistory) → IsLegalReg
       by_value : (l : Option Attributes) → live (slot_history (slot_of_id id) turns) ≡ l → IsSome l → ⊥
       by_value None e none = let bad : false ≡ true = none in cc
       by_value (Some a) e there =
-          let u = f.lives (slot_of_id id) a e in
+          let u = f.lives (slot_of_id id) a.id (subst (λ l. HasId l a.id) (sym e) refl) in
           let of : (i : ℤ) → done (forgetting i) turns ≡ true → done (removing i) turns ≡ true =
           λ i. ordered turns f (forgetting i) in
           let its = row_made a.id (ordered turns f (installing a.id) u.installed)
@@ -323,6 +278,17 @@ module _ (registry_law : (generation : ℕ) (h : RegistryHistory) → IsLegalReg
       IsLegalRegistryHistory generation (registry_history (turns ++ turn_of who deed ∷ [])) →
       next phase deed ≡ Some state → IsSeemly deed × Step turns deed (job_at (Goes phase)) (job_at state)
 
+  -- A turn that does no job, and one that does that of the call.
+  quiet : (deed : Deed) (state : State) (o : Option State) → o ≡ Some state → IsSeemly deed → job_of deed ≡ None →
+      next_job o ≡ None → IsSeemly deed × Step turns deed None (job_at state)
+  quiet deed state o n seemly none to = (seemly, rests none (λ j e. absurd cc) (ap next_job (sym n) ∙ to))
+
+  own : (j : Job) (deed : Deed) (state : State) (o : Option State) → o ≡ Some state → IsSeemly deed →
+      job_of deed ≡ Some j → IsNext j turns → next_job o ≡ follow j →
+      IsSeemly deed × Step turns deed (Some j) (job_at state)
+  own j deed state o n seemly job is_next to =
+      (seemly, acts j job is_next (λ i e. sym (some_is e)) (λ e. refl) (ap next_job (sym n) ∙ to))
+
   step_told : (who : Who) (phase : Phase) (deed : Deed) (now : ℕ) (state : State) →
       Goes_on who phase (told (asks phase now) deed) state
   step_told who (AtBegin get) (AtRegistry c (Made id)) now state has l then n = (
@@ -330,17 +296,13 @@ module _ (registry_law : (generation : ℕ) (h : RegistryHistory) → IsLegalReg
     acts (making id) refl (tt, legal_made who get.key get.flags id then) (λ i e. absurd cc) (λ e. absurd cc)
         (ap next_job (sym n)),
   )
-  step_told who (AtInstall get id) (AtSlot at c (Installed true)) now state has l then n = (
-    (refl, refl, tt),
-    acts (installing id) refl (has (installing id) refl) (λ i e. sym (some_is e)) (λ e. refl) (ap next_job (sym n)),
-  )
+  step_told who (AtInstall get id) (AtSlot at c (Installed true)) now state has l then n =
+      own (installing id) _ state _ n (refl, refl, tt) refl (has (installing id) refl) refl
   step_told who (AtInstall get id) (AtSlot at c (Installed false)) now state has l then n =
       absurd (occupied id (has (installing id) refl) l)
   step_told who (AtInstall get id) deed now state has l then n = absurd cc
-  step_told who (AtSettle id) (AtRegistry c (Changed true)) now state has l then n = (
-    (tt, tt, tt),
-    acts (settling id) refl (has (settling id) refl) (λ i e. sym (some_is e)) (λ e. refl) (ap next_job (sym n)),
-  )
+  step_told who (AtSettle id) (AtRegistry c (Changed true)) now state has l then n =
+      own (settling id) _ state _ n (tt, tt, tt) refl (has (settling id) refl) refl
   step_told who (AtSettle id) (AtRegistry c (Changed false)) now state has l then n = (
     (tt, tt, tt),
     rests refl (λ j e. subst (λ (i : Job). done (forgetting i.id) turns ≡ true) (some_is e) (gone (either _)))
@@ -356,10 +318,8 @@ module _ (registry_law : (generation : ℕ) (h : RegistryHistory) → IsLegalReg
           absurd (l row.0
           (record { made = row.1.made; kept = row.1.kept; stage = sym (in_registry (settles id) turns) ∙ h.1 }))
   step_told who (AtSettle id) deed now state has l then n = absurd cc
-  step_told who (AtForget id blocks) (AtRegistry c (Changed true)) now state has l then n = (
-    (tt, tt, refl),
-    acts (forgetting id) refl (has (forgetting id) refl) (λ i e. sym (some_is e)) (λ e. refl) (ap next_job (sym n)),
-  )
+  step_told who (AtForget id blocks) (AtRegistry c (Changed true)) now state has l then n =
+      own (forgetting id) _ state _ n (tt, tt, refl) refl (has (forgetting id) refl) refl
   step_told who (AtForget id blocks) (AtRegistry c (Changed false)) now state has l then n =
       let h = has (forgetting id) refl in
       let row = row_made id (ordered turns f (installing id) (ordered turns f (removing id) h.0)) h.1 in
@@ -367,38 +327,26 @@ module _ (registry_law : (generation : ℕ) (h : RegistryHistory) → IsLegalReg
   step_told who (AtForget id blocks) deed now state has l then n = absurd cc
   step_told who (AtUnmake id) deed now state has l then n = absurd (has (record { task = ToUnmake; id = id }) refl).0
   step_told who (AtRemove by id) (AtSlot at c (Discarded messages)) now state has l then n =
-      let u = in_use turns f (slot_of_id id) id l.0 in (
+      let u = f.lives (slot_of_id id) id l.0 in (
         (tt, tt, tt),
         acts (removing id) refl (u.installed, u.kept) (λ i e. absurd cc) (λ e. absurd cc) (ap next_job (sym n)),
       )
-  step_told who (AtLook send) (AtSlot at c (Full freed)) now state has l then n = (
-    (tt, tt, tt),
-    rests refl (λ j e. absurd cc) (ap next_job (sym n) ∙ rested (waits_or send.nowait _ _)),
-  )
-  step_told who (AtReserve send) (AtPool c TooFew) now state has l then n = (
-    (tt, tt, tt),
-    rests refl (λ j e. absurd cc) (ap next_job (sym n) ∙ rested (waits_or send.nowait _ _)),
-  )
-  step_told who (AtTake receive) (AtSlot at c (NoMatch arrived)) now state has l then n = (
-    (tt, tt, tt),
-    rests refl (λ j e. absurd cc) (ap next_job (sym n) ∙ rested (waits_or receive.nowait _ _)),
-  )
+  step_told who (AtLook send) (AtSlot at c (Full freed)) now state has l then n =
+      quiet _ state _ n (tt, tt, tt) refl (rested (waits_or send.nowait _ _))
+  step_told who (AtReserve send) (AtPool c TooFew) now state has l then n =
+      quiet _ state _ n (tt, tt, tt) refl (rested (waits_or send.nowait _ _))
+  step_told who (AtTake receive) (AtSlot at c (NoMatch arrived)) now state has l then n =
+      quiet _ state _ n (tt, tt, tt) refl (rested (waits_or receive.nowait _ _))
   step_told who (AtSendGiveback blocks afterwards) (AtPool c Released) now state has l then n =
-      ((tt, tt, tt), rests refl (λ j e. absurd cc) (ap next_job (sym n) ∙ rested afterwards))
+      quiet _ state _ n (tt, tt, tt) refl (rested afterwards)
   step_told who (AtSendGiveback blocks afterwards) (AtPool c Foreign) now state has l then n =
-      ((tt, tt, tt), rests refl (λ j e. absurd cc) (ap next_job (sym n) ∙ rested afterwards))
-  step_told who phase (AtSlot at c Gone) now state has l then n =
-      ((tt, tt, tt), rests refl (λ j e. absurd cc) (ap next_job (sym n)))
-  step_told who phase (AtSlot at c reply) now state has l then n =
-      ((tt, tt, tt), rests refl (λ j e. absurd cc) (ap next_job (sym n)))
-  step_told who phase (AtRegistry c (Changed done)) now state has l then n =
-      ((tt, tt, tt), rests refl (λ j e. absurd cc) (ap next_job (sym n)))
-  step_told who phase (AtRegistry c reply) now state has l then n =
-      ((tt, tt, tt), rests refl (λ j e. absurd cc) (ap next_job (sym n)))
-  step_told who phase (AtPool c Released) now state has l then n =
-      ((tt, tt, tt), rests refl (λ j e. absurd cc) (ap next_job (sym n)))
-  step_told who phase (AtPool c reply) now state has l then n =
-      ((tt, tt, tt), rests refl (λ j e. absurd cc) (ap next_job (sym n)))
+      quiet _ state _ n (tt, tt, tt) refl (rested afterwards)
+  step_told who phase (AtSlot at c Gone) now state has l then n = quiet _ state _ n (tt, tt, tt) refl refl
+  step_told who phase (AtSlot at c reply) now state has l then n = quiet _ state _ n (tt, tt, tt) refl refl
+  step_told who phase (AtRegistry c (Changed done)) now state has l then n = quiet _ state _ n (tt, tt, tt) refl refl
+  step_told who phase (AtRegistry c reply) now state has l then n = quiet _ state _ n (tt, tt, tt) refl refl
+  step_told who phase (AtPool c Released) now state has l then n = quiet _ state _ n (tt, tt, tt) refl refl
+  step_told who phase (AtPool c reply) now state has l then n = quiet _ state _ n (tt, tt, tt) refl refl
 
   -- The call makes a turn.
   pub life_goes : (jobs : List (Option Job)) → Life turns jobs → (place : ℕ) (who : Who) (phase : Phase) (now : ℕ)
@@ -480,9 +428,7 @@ lives_stand turns actors place was call state there none then l =
 
 pub resumed_none : (wait : Wait) (value : ℕ) → job_at (Goes (resume wait value)) ≡ None
 resumed_none (OnSettled goal get) value = refl
-resumed_none (OnFreed goal send) value = refl
-resumed_none (OnReleased goal send) value = refl
-resumed_none (OnArrived goal receive) value = refl
+resumed_none wait value = refl
 
 pub begun_none : (cred : Cred) (asked : SystemCall) (released : ℕ) → job_at (begin cred asked released) ≡ None
 begun_none cred asked released = by_value asked (is_refused asked)
@@ -491,11 +437,7 @@ begun_none cred asked released = by_value asked (is_refused asked)
         job_at (cond b (Over (Refused EINVAL)) (Goes (first cred c released))) ≡ None
     by_value c true = refl
     by_value (Msgget key flags) false = refl
-    by_value (Msgsnd id mtype flags text) false = refl
-    by_value (Msgrcv id size mtype flags) false = refl
-    by_value (MsgctlStat id) false = refl
-    by_value (MsgctlSet id to) false = refl
-    by_value (MsgctlRmid id) false = refl
+    by_value c false = refl
 
 none_in : (n place : ℕ) (j : Job) → slice_get (jobs_of (replicate n None)) place ≡ Some (Some j) → ⊥
 none_in zero place j e = cc
@@ -507,7 +449,7 @@ opening_lives n = record {
   facts = record {
     fresh = λ front back t j whole e. none_after front back t whole;
     once = λ slot id before middle after e f same i. none_after before (middle ++ f ∷ after) e same;
-    lives = λ slot a e. absurd cc;
+    lives = λ slot id has. absurd has;
     alive = λ id e kept. absurd cc;
     home = λ k d low. absurd (omega (arith, low));
     vacant = λ k d low. absurd (omega (arith, low));
@@ -559,6 +501,14 @@ life_behind turns jobs l = record {
         IsHeld j jobs ⊎ (done (forgetting j.id) turns ≡ true)
     there j zero at = absurd cc
     there j (suc p) at = inl (p, at)
+
+-- A turn of nobody that does no job.
+pub life_apart : (turns : List Turn) (who : Who) (deed : Deed) (jobs : List (Option Job)) → Life turns jobs →
+    IsFine turns deed → job_of deed ≡ None → Life (turns ++ turn_of who deed ∷ []) jobs
+life_apart turns who deed jobs l fine none =
+    life_behind (turns ++ turn_of who deed ∷ []) jobs
+    (life_turn turns who deed (None ∷ jobs) (life_before turns jobs l) 0 None None refl fine
+    (rests none (λ j e. absurd cc) refl))
 
 -- The turns before a turn are legal if those up to it are, and so is its deed.
 front_legal : (generation blocks : ℕ) (turns : List Turn) (t : Turn) → AreLegal generation blocks (turns ++ t ∷ []) →

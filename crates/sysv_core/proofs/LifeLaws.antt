@@ -1,7 +1,7 @@
 -- What the lives of the identifiers mean: each row is tended, a removal is for good, and an
 -- identifier is settled only once it was installed.
-use Rattle.std.proofs.Common.{◌≡◌, ◌⊎◌, inl, inr, ℕ, ℤ, Bool, true, false, List, ◌∷◌, ◌++◌, Some, refl, sym}
-use Rattle.std.proofs.Common.{ap, subst, ◌∙◌, arith, append_assoc}
+use Rattle.std.proofs.Common.{◌≡◌, ◌⊎◌, inl, inr, ℕ, ℤ, Bool, true, false, List, ◌∷◌, ◌++◌, Some, refl, sym, ap, subst}
+use Rattle.std.proofs.Common.{◌∙◌, arith, append_assoc}
 use Rattle.std.specs.List.{All, list_any, Contains}
 use Rattle.std.proofs.lemmas.List.Elements.{All-contains, Contains-append_right}
 use Rattle.std.proofs.lemmas.List.Folds.{list_any-append}
@@ -22,8 +22,8 @@ use Rattle.sysv_core.specs.Removed.{IsInItsSlot, AreRemovedForGood}
 use Rattle.sysv_core.proofs.Histories.{turn_of}
 use Rattle.sysv_core.proofs.TurnInHistory.{slot_around}
 use Rattle.sysv_core.proofs.Life.{Job, installing, settling, removing, forgetting, does, done, done_on, IsNext, job_at}
-use Rattle.sysv_core.proofs.Life.{either}
-use Rattle.sysv_core.proofs.Life.{or_left, or_right, not_both, passing, Facts, install_home, in_registry, was_made}
+use Rattle.sysv_core.proofs.Life.{either, or_left, or_right, not_both, passing, Facts, install_home, in_registry}
+use Rattle.sysv_core.proofs.Life.{was_made}
 use Rattle.sysv_core.proofs.LifeGoesOn.{Lives, is_owned, job_there}
 
 -- ---- each row is tended

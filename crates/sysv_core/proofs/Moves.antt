@@ -8,8 +8,7 @@ use Rattle.sysv_steps.specs.Call.{SystemCall}
 use Rattle.sysv_steps.specs.State.{Phase, Wait, State, Goes, Waits, Over}
 use Rattle.sysv_steps.specs.Resume.{awaited, goal_of, resume}
 use Rattle.sysv_core.specs.World.{World, Started, Doing, Given, Happening, Preset, Start, Step, StaysWith, starting}
-use Rattle.sysv_core.specs.World.{Begins}
-use Rattle.sysv_core.specs.World.{Turns, value_of, in_state, Continues, StartsAt, StepsAt, with_preset, Makes}
+use Rattle.sysv_core.specs.World.{Begins, Turns, value_of, in_state, Continues, StartsAt, StepsAt, with_preset, Makes}
 
 pub data Move (w : World) (given : List Given) (after : World) : Type 0 where
   stood : StaysWith w given after → Move w given after

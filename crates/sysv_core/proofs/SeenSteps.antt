@@ -148,65 +148,38 @@ module _ (w : World) (seen : Seen) (s : IsSeenAs w seen) (sound : StaysSound) wh
 
   -- ---- an event that is not possible
 
+  none_starts : (actor : ℕ) (cred : Cred) (call : Call (List ℕ) (List ℕ)) (o : Option (Option Doing)) →
+      seen.steps < WORN → actor_at w.actors actor ≡ o → StartsAt w actor cred (asked_of call) o [] w →
+      Moves w (Start actor cred call) stepped.Nothing seen
+  none_starts actor cred call o h is stays =
+      let young = young_too h in
+      (w, ([], inr (young, subst (λ x. StartsAt w actor cred (asked_of call) x [] w) (sym is) stays), (young, refl)), s)
+
+  none_steps : (actor now : ℕ) (o : Option (Option Doing)) → seen.steps < WORN → actor_at w.actors actor ≡ o →
+      StepsAt w actor now o [] w → Moves w (Step actor now) stepped.Nothing seen
+  none_steps actor now o h is stays =
+      let young = young_too h in
+      (w, ([], inr (young, subst (λ x. StepsAt w actor now x [] w) (sym is) stays), (young, refl)), s)
+
   pub start_absent : (actor : ℕ) (cred : Cred) (call : Call (List ℕ) (List ℕ)) → seen.steps < WORN →
       (actor ≡ 0) ⊎ (length seen.states < actor) → Moves w (Start actor cred call) stepped.Nothing seen
-  start_absent actor cred call h none =
-      let young = young_too h in (
-        w,
-        (
-          [],
-          inr (young, subst (λ o. StartsAt w actor cred (asked_of call) o [] w) (sym (absent actor none)) (refl, refl)),
-          (young, refl),
-        ),
-        s,
-      )
+  start_absent actor cred call h none = none_starts actor cred call None h (absent actor none) (refl, refl)
 
   pub start_busy : (actor place : ℕ) (cred : Cred) (call : Call (List ℕ) (List ℕ)) (p : State) → seen.steps < WORN →
       actor ≡ place + 1 → slice_get seen.states place ≡ Some (Some p) →
       Moves w (Start actor cred call) stepped.Nothing seen
   start_busy actor place cred call p h e there =
-      let young = young_too h in
-      let d = busy_at place p there in (
-        w,
-        (
-          [],
-          inr (
-            young,
-            subst (λ o. StartsAt w actor cred (asked_of call) o [] w) (sym (at actor place e ∙ d.1)) (refl, refl),
-          ),
-          (young, refl),
-        ),
-        s,
-      )
+      let d = busy_at place p there in
+      none_starts actor cred call (Some (Some d.0)) h (at actor place e ∙ d.1) (refl, refl)
 
   pub step_absent : (actor now : ℕ) → seen.steps < WORN → (actor ≡ 0) ⊎ (length seen.states < actor) →
       Moves w (Step actor now) stepped.Nothing seen
-  step_absent actor now h none =
-      let young = young_too h in (
-        w,
-        (
-          [],
-          inr (young, subst (λ o. StepsAt w actor now o [] w) (sym (absent actor none)) (refl, refl)),
-          (young, refl),
-        ),
-        s,
-      )
+  step_absent actor now h none = none_steps actor now None h (absent actor none) (refl, refl)
 
   pub step_idle : (actor place now : ℕ) → seen.steps < WORN → actor ≡ place + 1 →
       slice_get seen.states place ≡ Some None → Moves w (Step actor now) stepped.Nothing seen
   step_idle actor place now h e there =
-      let young = young_too h in (
-        w,
-        (
-          [],
-          inr (
-            young,
-            subst (λ o. StepsAt w actor now o [] w) (sym (at actor place e ∙ idle_at place there)) (refl, refl),
-          ),
-          (young, refl),
-        ),
-        s,
-      )
+      none_steps actor now (Some None) h (at actor place e ∙ idle_at place there) (refl, refl)
 
   -- ---- the start of a call
 

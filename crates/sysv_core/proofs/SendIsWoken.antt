@@ -1,11 +1,10 @@
 -- The queue of a send that waits for blocks is live and may be written to, or a set or a removal of
 -- it is still before its giveback, which ends the wait because the pool takes back every chain.
-use Rattle.std.proofs.Common.{◌≡◌, ◌≢◌, ◌⊎◌, inl, inr, ℕ, suc, ℤ, pos, ◌+◌, ◌<◌, ◌≤◌, Bool, true, false, cond}
-use Rattle.std.proofs.Common.{List, [], ◌∷◌, ◌++◌, Option, None, Some, refl, sym, ap, subst, ◌∙◌, arith, length}
-use Rattle.std.proofs.Common.{slice_get, slice_set, option_map}
+use Rattle.std.proofs.Common.{◌≡◌, ◌≢◌, ◌⊎◌, inl, inr, ℕ, suc, ℤ, pos, ◌+◌, ◌<◌, ◌≤◌, Bool, true, false, cond, List, []}
+use Rattle.std.proofs.Common.{◌∷◌, ◌++◌, Option, None, Some, refl, sym, ap, subst, ◌∙◌, arith, length, slice_get}
+use Rattle.std.proofs.Common.{slice_set, option_map}
 use Rattle.std.proofs.Math.Dec.{eqb}
 use Rattle.std.proofs.lemmas.Bool.{eqb-true}
-use Rattle.std.proofs.lemmas.List.{append-nil}
 use Rattle.std.proofs.lemmas.List.Elements.{All-contains, Contains-append_right}
 use Rattle.std.specs.List.{Contains}
 use Rattle.sysv_model.specs.declared.attributes.Attributes.{Attributes}
@@ -17,7 +16,7 @@ use Rattle.sysv_model.specs.declared.limits.TheConstants.{IPC_PRIVATE}
 use Rattle.sysv_model.specs.Message.{Message}
 use Rattle.sysv_model.specs.History.{Who, Call, Install, Look, Place, Take, Set, Remove, Reply, Installed, Full, Fits}
 use Rattle.sysv_model.specs.History.{Accepted, Taken, Done, Discarded, History}
-use Rattle.sysv_model.specs.Live.{live_after, HasId}
+use Rattle.sysv_model.specs.Live.{live, live_after, HasId}
 use Rattle.sysv_model.specs.Registry.{Changed}
 use Rattle.sysv_model.specs.Pool.{PoolCall, PoolReply, Released, Foreign, PoolEntry, PoolHistory, released}
 use Rattle.sysv_model.specs.Turn.{OfSlot, Deed, AtSlot, AtRegistry, AtPool, asked_by, Turn, pool_entry, slot_history}
@@ -27,9 +26,9 @@ use Rattle.sysv_queue.specs.Slot.{Slot, slot_of}
 use Rattle.sysv_queue.specs.LegalReply.{Legal, IsLegalReply, IsLegalHistory}
 use Rattle.sysv_keys.specs.Identifier.{slot_of_id}
 use Rattle.sysv_objects.specs.LegalDeed.{IsLegalDeed}
-use Rattle.sysv_steps.specs.Call.{SystemCall, Msgget, Msgsnd, Msgrcv, MsgctlStat, MsgctlSet, MsgctlRmid}
-use Rattle.sysv_steps.specs.State.{Sending, Wait, OnSettled, OnFreed, OnReleased, OnArrived, Phase, AtLook, AtReserve}
-use Rattle.sysv_steps.specs.State.{AtSet, AtSetGiveback, AtRemove, AtForget, AtRemoveGiveback, State, Goes, Waits, Over}
+use Rattle.sysv_steps.specs.Call.{SystemCall, Msgget, MsgctlSet, MsgctlRmid}
+use Rattle.sysv_steps.specs.State.{Sending, Ending, Wait, OnSettled, OnReleased, Phase, AtLook, AtReserve, AtSet}
+use Rattle.sysv_steps.specs.State.{AtSetGiveback, AtRemove, AtForget, AtRemoveGiveback, State, Goes, Waits, Over}
 use Rattle.sysv_steps.specs.State.{Refused}
 use Rattle.sysv_steps.specs.Begin.{is_refused, first}
 use Rattle.sysv_steps.specs.Asks.{asks}
@@ -41,14 +40,13 @@ use Rattle.sysv_core.specs.World.{preset_who, preset_cred, preset_flags, preset_
 use Rattle.sysv_core.specs.Sound.{IsSound}
 use Rattle.sysv_core.specs.Parked.{IsOpenTo, HasToGiveBack, IsToBeWoken}
 use Rattle.sysv_core.proofs.Lists.{get_set_same, get_set_other, same_place}
-use Rattle.sysv_core.proofs.Histories.{turn_of, slot_more, pool_more, slot_stays, pool_stays, begun_turns, preset_slot}
+use Rattle.sysv_core.proofs.Histories.{turn_of, pool_more, slot_stays, pool_stays, live_turn, begun_turns, preset_slot}
 use Rattle.sysv_core.proofs.Histories.{preset_pool, released_more}
 use Rattle.sysv_core.proofs.SoundStays.{moved, other, does, none_busy}
 use Rattle.sysv_core.proofs.TurnInHistory.{slot_around}
-use Rattle.sysv_core.proofs.Life.{live_more}
-use Rattle.sysv_core.proofs.WaitsForBlocks.{IsRight, IsShort, AllRight, Comes, Follows, FollowsIn, followed}
-use Rattle.sysv_core.proofs.WaitsForBlocks.{told_too_few}
-use Rattle.sysv_core.proofs.WaitsForBlocks.{move_right}
+use Rattle.sysv_core.proofs.Life.{one_id}
+use Rattle.sysv_core.proofs.WaitsForBlocks.{read_by, IsRight, IsShort, AllRight, Comes, Follows, FollowsIn, followed}
+use Rattle.sysv_core.proofs.WaitsForBlocks.{told_too_few, move_right}
 use Rattle.sysv_core.proofs.Moves.{Move, stood, began, turned, awoke, preset_made}
 
 some_is : {X : Type 0} {x y : X} → Some x ≡ Some y → y ≡ x
@@ -61,10 +59,6 @@ keeps : (id : ℤ) (cred : Cred) (f : Attributes → Attributes) → ((a : Attri
     HasId l id → MayWrite cred l → HasId (option_map f l) id × MayWrite cred (option_map f l)
 keeps id cred f same still None lives may = absurd lives
 keeps id cred f same still (Some a) lives may = (same a ∙ lives, still a may)
-
-one_id : (o : Option Attributes) (x y : ℤ) → HasId o x → HasId o y → x ≡ y
-one_id None x y p q = absurd p
-one_id (Some a) x y p q = sym p ∙ q
 
 -- The turn set the queue or removed it.
 abbrev IsSetBy : ℤ → Call → Reply → Type 0
@@ -94,33 +88,29 @@ open_on s id by (Remove at cred) (Discarded messages) l lives may =
     inr (inr (at, cred, messages, refl, refl, one_id s.live at id l.0 lives))
 open_on s id by call reply l lives may = inl (lives, may)
 
+open_then : (turns : List Turn) (slot : ℕ) (c : Call) (reply : Reply) (id : ℤ) (by : Cred) (b : Bool) →
+    (b ≡ true → slot ≡ slot_of_id id) → Legal (slot_of (slot_history slot turns)) c reply →
+    IsOpenTo (slot_history (slot_of_id id) turns) id by →
+    Open (cond b (live_after (live (slot_history (slot_of_id id) turns)) c reply)
+    (live (slot_history (slot_of_id id) turns))) id by ⊎ Changes id c reply
+open_then turns slot c reply id by true here legal o =
+    open_on (slot_of (slot_history (slot_of_id id) turns)) id by c reply
+    (subst (λ n. Legal (slot_of (slot_history n turns)) c reply) (here refl) legal) o.lives o.may_write
+open_then turns slot c reply id by false here legal o = inl (o.lives, o.may_write)
+
 open_past : (turns : List Turn) (who : Who) (slot : ℕ) (c : Call) (reply : Reply) (id : ℤ) (by : Cred) →
     Legal (slot_of (slot_history slot turns)) c reply → IsOpenTo (slot_history (slot_of_id id) turns) id by →
     IsOpenTo (slot_history (slot_of_id id) (turns ++ turn_of who (AtSlot slot c reply) ∷ [])) id by ⊎ Changes id c reply
-open_past turns who slot c reply id by legal open_ =
-    elim (by_slot (eqb slot (slot_of_id id)) (λ e. eqb-true slot (slot_of_id id) e)) [
-      | inl on ↦ inl (subst (λ (h : History). IsOpenTo h id by)
-          (sym (slot_more (slot_of_id id) turns (turn_of who (AtSlot slot c reply)))) on)
+open_past turns who slot c reply id by legal o =
+    let is = live_turn (slot_of_id id) turns who (AtSlot slot c reply) in
+    elim (open_then turns slot c reply id by (eqb slot (slot_of_id id)) (λ e. eqb-true slot (slot_of_id id) e) legal
+    o) [
+      | inl on ↦ inl record {
+        lives = subst (λ l. HasId l id) (sym is) on.0;
+        may_write = subst (λ l. MayWrite by l) (sym is) on.1;
+      }
       | inr gone ↦ inr gone
     ]
-  where
-    by_slot : (b : Bool) → (b ≡ true → slot ≡ slot_of_id id) →
-        IsOpenTo (slot_history (slot_of_id id) turns ++ cond b (record { who = who; call = c; reply = reply } ∷ []) [])
-        id by ⊎ Changes id c reply
-    by_slot true here =
-        elim (open_on (slot_of (slot_history (slot_of_id id) turns)) id by c reply
-        (subst (λ n. Legal (slot_of (slot_history n turns)) c reply) (here refl) legal) open_.lives open_.may_write) [
-          | inl on ↦
-              let more =
-              live_more (slot_history (slot_of_id id) turns) (record { who = who; call = c; reply = reply }) in
-              inl record {
-                lives = subst (λ l. HasId l id) (sym more) on.0;
-                may_write = subst (λ l. MayWrite by l) (sym more) on.1;
-              }
-          | inr gone ↦ inr gone
-        ]
-    by_slot false here =
-        inl (subst (λ (h : History). IsOpenTo h id by) (sym (append-nil (slot_history (slot_of_id id) turns))) open_)
 
 -- ---- who has still to give back
 
@@ -210,27 +200,22 @@ still_give id actors place was new there s = elim (same_place place s.place) [
 gives_now : (id : ℤ) (actors : List (Option Doing)) (place : ℕ) (was : Option Doing) (call : Started) (state : State) →
     slice_get actors place ≡ Some was → HasToGiveBack call.asked state id →
     SomeGive id (slice_set actors place (doing_in call state))
-gives_now id actors place was call (Goes phase) there p = record {
+gives_now id actors place was call state there p = record {
   place = place;
-  doing = record { call = call; state = Goes phase };
-  there = get_set_same actors place _ was there;
+  doing = record { call = call; state = state };
+  there = get_set_same actors place (doing_in call state) was there ∙ ap (λ x. Some x) (under_way state p);
   gives = p;
 }
-gives_now id actors place was call (Waits wait) there p = record {
-  place = place;
-  doing = record { call = call; state = Waits wait };
-  there = get_set_same actors place _ was there;
-  gives = p;
-}
-gives_now id actors place was call (Over ending) there p = absurd (never call.asked p)
   where
-    never : (asked : SystemCall) → HasToGiveBack asked (Over ending) id → ⊥
-    never (MsgctlSet at to) q = q
-    never (MsgctlRmid at) q = q
-    never (Msgget key flags) q = q
-    never (Msgsnd at mtype flags text) q = q
-    never (Msgrcv at size mtype flags) q = q
-    never (MsgctlStat at) q = q
+    never : (asked : SystemCall) (ending : Ending) → HasToGiveBack asked (Over ending) id → ⊥
+    never (MsgctlSet at to) ending q = q
+    never asked ending q = q
+
+    under_way : (st : State) → HasToGiveBack call.asked st id →
+        doing_in call st ≡ Some record { call = call; state = st }
+    under_way (Goes phase) q = refl
+    under_way (Waits wait) q = refl
+    under_way (Over ending) q = absurd (never call.asked ending q)
 
 -- ---- why a send that reserves may wait
 
@@ -243,6 +228,14 @@ abbrev IsWoken : List Turn → List (Option Doing) → State → Type 0
 IsWoken turns actors (Goes (AtReserve s)) = Woken turns actors s
 IsWoken turns actors (Waits (OnReleased goal s)) = Woken turns actors s
 IsWoken turns actors state = Unit {0}
+
+-- What holds of each send that reserves, or waits for blocks, holds of each call.
+each_woken : (turns more : List Turn) (actors then : List (Option Doing)) (st : State) →
+    ((s : Sending) → read_by st ≡ s.released → Woken turns actors s → Woken more then s) →
+    IsWoken turns actors st → IsWoken more then st
+each_woken turns more actors then (Goes (AtReserve s)) f k = f s refl k
+each_woken turns more actors then (Waits (OnReleased goal s)) f k = f s refl k
+each_woken turns more actors then st f k = tt
 
 -- A turn at the pool that takes back a chain ends each wait.
 after_giving : (turns : List Turn) (who : Who) (deed : Deed) (n : ℕ) → n ≤ released (pool_history turns) →
@@ -334,12 +327,8 @@ module _ (generation blocks : ℕ) (turns : List Turn) (actors : List (Option Do
   -- Another call.
   still_woken : (st : State) → IsRight blocks (pool_history turns) st → IsWoken turns actors st →
       IsWoken later moved_actors st
-  still_woken (Goes (AtReserve s)) r k = woken_on s r.read k
-  still_woken (Waits (OnReleased goal s)) r k = woken_on s r.read k
-  still_woken (Waits (OnSettled goal get)) r k = tt
-  still_woken (Waits (OnFreed goal s)) r k = tt
-  still_woken (Waits (OnArrived goal receive)) r k = tt
-  still_woken st r k = tt
+  still_woken st r k = each_woken turns later actors moved_actors st
+      (λ s is. woken_on s (subst (λ n. n ≤ released (pool_history turns)) is r.read)) k
 
   -- The call itself.
   looked : (s t : Sending) (d : Deed) → d ≡ deed → asked_by d ≡ asks (AtLook s) now →
@@ -372,9 +361,6 @@ module _ (generation blocks : ℕ) (turns : List Turn) (actors : List (Option Do
   own_woken r k (Waits (OnReleased goal t)) is at =
       let r_at = subst (λ p. IsRight blocks (pool_history turns) (Goes p)) at r in
       woken_on t r_at.read (subst (λ p. IsWoken turns actors (Goes p)) at k)
-  own_woken r k (Waits (OnSettled goal get)) is c = tt
-  own_woken r k (Waits (OnFreed goal s)) is c = tt
-  own_woken r k (Waits (OnArrived goal receive)) is c = tt
   own_woken r k st is c = tt
 
 -- ---- every actor
@@ -418,7 +404,8 @@ stays_woken : (turns : List Turn) (actors : List (Option Doing)) (place : ℕ) (
     slice_get actors place ≡ Some was →
     ((d : Doing) (id : ℤ) → was ≡ Some d → HasToGiveBack d.call.asked d.state id → ⊥) →
     (st : State) → IsWoken turns actors st → IsWoken turns (slice_set actors place new) st
-stays_woken turns actors place was new there none st k = by_state st k
+stays_woken turns actors place was new there none st k =
+    each_woken turns turns actors (slice_set actors place new) st (λ s is. woken_still s) k
   where
     woken_still : (s : Sending) → Woken turns actors s → Woken turns (slice_set actors place new) s
     woken_still s (inl o) = inl o
@@ -427,14 +414,6 @@ stays_woken turns actors place was new there none st k = by_state st k
       | inl m ↦ absurd (none m.0 s.id m.1 m.2)
     ]
     woken_still s (inr (inr p)) = inr (inr p)
-
-    by_state : (x : State) → IsWoken turns actors x → IsWoken turns (slice_set actors place new) x
-    by_state (Goes (AtReserve s)) q = woken_still s q
-    by_state (Waits (OnReleased goal s)) q = woken_still s q
-    by_state (Waits (OnSettled goal get)) q = tt
-    by_state (Waits (OnFreed goal s)) q = tt
-    by_state (Waits (OnArrived goal receive)) q = tt
-    by_state x q = tt
 
 stand_woken : (w after : World) (place : ℕ) (was : Option Doing) (call : Started) (state : State) → AllWoken w →
     AllRight after → slice_get w.actors place ≡ Some was →
@@ -456,28 +435,18 @@ stand_woken w after place was call state k right there none free turns_are actor
 
 waits_gives : (asked : SystemCall) (wait : Wait) (id : ℤ) → HasToGiveBack asked (Waits wait) id → ⊥
 waits_gives (MsgctlSet at to) wait id q = q
-waits_gives (MsgctlRmid at) wait id q = q
-waits_gives (Msgget key flags) wait id q = q
-waits_gives (Msgsnd at mtype flags text) wait id q = q
-waits_gives (Msgrcv at size mtype flags) wait id q = q
-waits_gives (MsgctlStat at) wait id q = q
+waits_gives asked wait id q = q
 
 resumed_woken : (wait : Wait) (value : ℕ) (turns : List Turn) (actors : List (Option Doing)) →
     IsWoken turns actors (Goes (resume wait value))
 resumed_woken (OnSettled goal get) value turns actors = tt
-resumed_woken (OnFreed goal s) value turns actors = tt
-resumed_woken (OnReleased goal s) value turns actors = tt
-resumed_woken (OnArrived goal receive) value turns actors = tt
+resumed_woken wait value turns actors = tt
 
 begun_woken : (cred : Cred) (asked : SystemCall) (n : ℕ) (b : Bool) (turns : List Turn) (actors : List (Option Doing)) →
     IsWoken turns actors (cond b (Over (Refused EINVAL)) (Goes (first cred asked n)))
 begun_woken cred asked n true turns actors = tt
 begun_woken cred (Msgget key flags) n false turns actors = tt
-begun_woken cred (Msgsnd id mtype flags text) n false turns actors = tt
-begun_woken cred (Msgrcv id size mtype flags) n false turns actors = tt
-begun_woken cred (MsgctlStat id) n false turns actors = tt
-begun_woken cred (MsgctlSet id to) n false turns actors = tt
-begun_woken cred (MsgctlRmid id) n false turns actors = tt
+begun_woken cred asked n false turns actors = tt
 
 -- ---- what happens
 
@@ -511,20 +480,12 @@ preset_open turns legal id by o =
 preset_still : (turns : List Turn) (actors : List (Option Doing)) →
     IsLegalHistory (slot_history 0 (with_preset_turns turns)) → (st : State) → IsWoken turns actors st →
     IsWoken (with_preset_turns turns) actors st
-preset_still turns actors legal st k = by_state st k
+preset_still turns actors legal st k = each_woken turns (with_preset_turns turns) actors actors st (λ s is. still s) k
   where
     still : (s : Sending) → Woken turns actors s → Woken (with_preset_turns turns) actors s
     still s (inl o) = inl (preset_open turns legal s.id s.cred o)
     still s (inr (inl g)) = inr (inl g)
     still s (inr (inr p)) = inr (inr (subst (λ h. s.released < released h) (sym (preset_pool turns)) p))
-
-    by_state : (x : State) → IsWoken turns actors x → IsWoken (with_preset_turns turns) actors x
-    by_state (Goes (AtReserve s)) q = still s q
-    by_state (Waits (OnReleased goal s)) q = still s q
-    by_state (Waits (OnSettled goal get)) q = tt
-    by_state (Waits (OnFreed goal s)) q = tt
-    by_state (Waits (OnArrived goal receive)) q = tt
-    by_state x q = tt
 
 -- Each call holds what it was asked.
 abbrev pub AllHold : World → Type 0

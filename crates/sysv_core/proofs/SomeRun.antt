@@ -3,22 +3,18 @@ use Rattle.std.proofs.Common.{◌≡◌, ℕ, zero, suc, ◌<◌, ◌≤◌, inl
 use Rattle.std.proofs.Common.{Some, refl, sym, subst, slice_get}
 use Rattle.sysv_model.specs.declared.cred.Cred.{Cred}
 use Rattle.sysv_model.specs.declared.limits.TheConstants.{WORN}
-use Rattle.sysv_model.specs.History.{Installed}
-use Rattle.sysv_model.specs.History.{Gone, Denied, Granted, Full, Fits, Accepted, NoMatch, TooLong, Taken, Told, Done}
-use Rattle.sysv_model.specs.History.{Discarded, Refused}
-use Rattle.sysv_model.specs.Registry.{Found, Made, Busy, Unbound}
-use Rattle.sysv_model.specs.Registry.{Changed}
+use Rattle.sysv_model.specs.History.{Installed, Gone, Denied, Granted, Full, Fits, Accepted, NoMatch, TooLong, Taken}
+use Rattle.sysv_model.specs.History.{Told, Done, Discarded, Refused}
+use Rattle.sysv_model.specs.Registry.{Found, Made, Busy, Unbound, Changed}
 use Rattle.sysv_model.specs.Pool.{Reserved, TooFew, Released, Foreign}
-use Rattle.sysv_model.specs.Turn.{Deed, AtSlot, AtRegistry, AtPool, asked_by, Turn}
-use Rattle.sysv_model.specs.Turn.{registry_history}
+use Rattle.sysv_model.specs.Turn.{Deed, AtSlot, AtRegistry, AtPool, asked_by, Turn, registry_history}
 use Rattle.sysv_keys.specs.Unused.{UnusedSlots}
 use Rattle.sysv_objects.specs.LegalDeed.{IsLegalDeed, AreLegal}
 use Rattle.sysv_objects.specs.OneDeed.{SomeDeedIsLegal}
 use Rattle.sysv_steps.specs.Call.{SystemCall}
-use Rattle.sysv_steps.specs.State.{Phase, AtBegin, AtInstall, AtSettle, AtProbe, AtUnmake}
-use Rattle.sysv_steps.specs.State.{AtLook, AtReserve, AtPlace, AtSendGiveback, AtTake, AtReceiveGiveback, AtStat, AtSet}
-use Rattle.sysv_steps.specs.State.{AtSetGiveback, AtRemove, AtForget, AtRemoveGiveback, State, Goes, Waits}
-use Rattle.sysv_steps.specs.State.{Over}
+use Rattle.sysv_steps.specs.State.{Phase, AtBegin, AtInstall, AtSettle, AtProbe, AtUnmake, AtLook, AtReserve, AtPlace}
+use Rattle.sysv_steps.specs.State.{AtSendGiveback, AtTake, AtReceiveGiveback, AtStat, AtSet, AtSetGiveback, AtRemove}
+use Rattle.sysv_steps.specs.State.{AtForget, AtRemoveGiveback, State, Goes, Waits, Over}
 use Rattle.sysv_steps.specs.Asks.{asks}
 use Rattle.sysv_steps.specs.Next.{next}
 use Rattle.sysv_steps.specs.Resume.{awaited, goal_of, resume}

@@ -1,20 +1,17 @@
 -- Each happening in a sound world leaves a sound world.
-use Rattle.std.proofs.Common.{◌≡◌, ◌⊎◌, inl, inr, ℕ, zero, suc, ℤ, pos, ◌||◌, ◌&&◌, Bool, true, false, cond, ◌+◌, List}
-use Rattle.std.proofs.Common.{[], ◌∷◌, ◌++◌, Option, None, Some, refl, sym, ap, subst, ◌∙◌, slice_get, slice_set}
-use Rattle.std.proofs.Common.{replicate}
+use Rattle.std.proofs.Common.{◌≡◌, ◌⊎◌, inl, inr, ℕ, zero, suc, ℤ, pos, ◌&&◌, Bool, true, false, cond, ◌+◌, List, []}
+use Rattle.std.proofs.Common.{◌∷◌, ◌++◌, Option, None, Some, refl, sym, ap, subst, ◌∙◌, slice_get, slice_set, replicate}
 use Rattle.std.proofs.Math.Dec.{eqb}
-use Rattle.std.proofs.lemmas.Bool.Decides.{Decides-int_eq}
 use Rattle.std.proofs.lemmas.Bool.{eqb-true}
 use Rattle.std.specs.Ordering.{int_eq}
 use Rattle.std.proofs.lemmas.List.{append-nil}
 use Rattle.std.proofs.lemmas.List.Folds.{list_any-append}
-use Rattle.std.proofs.lemmas.List.Sums.{fold-append}
 use Rattle.sysv_model.specs.declared.attributes.Attributes.{Attributes}
 use Rattle.sysv_model.specs.declared.cred.Cred.{Cred}
 use Rattle.sysv_model.specs.declared.flags.Flags.{Flags}
 use Rattle.sysv_model.specs.declared.limits.TheConstants.{IPC_PRIVATE}
 use Rattle.sysv_model.specs.History.{Who, Call, Install, Place, Take, Set, Remove, Reply, Accepted, Taken, Done}
-use Rattle.sysv_model.specs.History.{Discarded, Entry}
+use Rattle.sysv_model.specs.History.{Discarded}
 use Rattle.sysv_model.specs.Live.{live, live_after}
 use Rattle.sysv_model.specs.Registry.{RegistryEntry, Begin, Settle, Made, Changed}
 use Rattle.sysv_model.specs.Turn.{OfSlot, Deed, AtSlot, AtRegistry, AtPool, asked_by, Turn, registry_entry}
@@ -25,8 +22,7 @@ use Rattle.sysv_keys.specs.LegalReply.{IsLegalReply as IsLegalRegistryReply}
 use Rattle.sysv_keys.specs.Unused.{UnusedSlots}
 use Rattle.sysv_objects.specs.LegalDeed.{IsLegalDeed, AreLegal}
 use Rattle.sysv_steps.specs.Call.{SystemCall}
-use Rattle.sysv_steps.specs.State.{Getting, Phase, AtBegin, AtInstall}
-use Rattle.sysv_steps.specs.State.{State, Goes, Waits, Over}
+use Rattle.sysv_steps.specs.State.{Getting, Phase, AtBegin, AtInstall, State, Goes, Waits, Over}
 use Rattle.sysv_steps.specs.Asks.{asks}
 use Rattle.sysv_steps.specs.Next.{next}
 use Rattle.sysv_steps.specs.HeldBlocks.{held, HasItsBlocks}
@@ -37,7 +33,8 @@ use Rattle.sysv_core.specs.World.{preset_who, preset_flags, preset_begin, preset
 use Rattle.sysv_core.specs.World.{with_preset_turns, with_preset}
 use Rattle.sysv_core.specs.Sound.{IsToCaller, AreOwn, IsMadeIn, IsSound, StaysSound}
 use Rattle.sysv_core.proofs.Lists.{get_set_same, get_set_other, same_place}
-use Rattle.sysv_core.proofs.Histories.{turn_of, slot_more, registry_more}
+use Rattle.sysv_core.proofs.Histories.{turn_of, slot_more, registry_more, live_by, live_turn}
+use Rattle.sysv_core.proofs.Life.{or_left, or_right, same_int}
 use Rattle.sysv_core.proofs.BlocksConserved.{BlockLaws, turn_conserves, stands_conserves, resumed_holds, begun_holds}
 use Rattle.sysv_core.proofs.BlocksConserved.{preset_conserves, opening_conserves}
 use Rattle.sysv_core.proofs.Moves.{Move, stood, began, turned, awoke, preset_made, moves}
@@ -45,14 +42,6 @@ use Rattle.sysv_core.proofs.StepKeepsKind.{IsLater, later_of, later, makes as ne
 use Rattle.sysv_core.proofs.StepKeepsKind.{blocks_next, gives_blocks, begun_later, resumed_later}
 
 -- ---- what was made stays made
-
-or_left : (a b : Bool) → a ≡ true → (a || b) ≡ true
-or_left true b e = refl
-or_left false b e = absurd cc
-
-or_right : (a b : Bool) → b ≡ true → (a || b) ≡ true
-or_right true b e = refl
-or_right false b e = e
 
 pub made_more : (id key : ℤ) (turns : List Turn) (t : Turn) → is_made id key (registry_history turns) ≡ true →
     is_made id key (registry_history (turns ++ t ∷ [])) ≡ true
@@ -64,9 +53,6 @@ made_more id key turns t e =
 
 pub still_made : (turns : List Turn) (t : Turn) (slot : ℕ) → IsMadeIn turns slot → IsMadeIn (turns ++ t ∷ []) slot
 still_made turns t slot m = record { id = m.id; key = m.key; made = made_more m.id m.key turns t m.made; here = m.here }
-
-same_int : (a : ℤ) → int_eq a a ≡ true
-same_int a = (Decides-int_eq a a).1 refl
 
 -- A begin that makes an identifier.
 pub made_it : (turns : List Turn) (who : Who) (key : ℤ) (flags : Flags) (id : ℤ) →
@@ -104,35 +90,24 @@ pub data Lived (turns : List Turn) (slot : ℕ) (deed : Deed) : Type 0 where
   before : (a : Attributes) → live (slot_history slot turns) ≡ Some a → Lived turns slot deed
   installed : (call : Call) (reply : Reply) → deed ≡ AtSlot slot call reply → IsInstall call → Lived turns slot deed
 
-lived_by : (turns : List Turn) (slot at : ℕ) (call : Call) (reply : Reply) (who : Who) (a : Attributes) (b : Bool) →
-    (b ≡ true → at ≡ slot) →
-    live (slot_history slot turns ++ cond b (record { who = who; call = call; reply = reply } ∷ []) []) ≡ Some a →
-    Lived turns slot (AtSlot at call reply)
-lived_by turns slot at call reply who a true here e =
-    elim (lived_before (live (slot_history slot turns)) call reply a
-    (sym (fold-append (λ (old : Option Attributes) (x : Entry). live_after old x.call x.reply) None
-    (slot_history slot turns) (record { who = who; call = call; reply = reply } ∷ [])) ∙ e)) [
+lived_then : (turns : List Turn) (slot : ℕ) (deed : Deed) (a : Attributes) →
+    live_by slot deed (live (slot_history slot turns)) ≡ Some a → Lived turns slot deed
+lived_then turns slot (AtSlot at call reply) a e = by_slot (eqb at slot) (λ same. eqb-true at slot same) e
+  where
+    by_slot : (b : Bool) → (b ≡ true → at ≡ slot) →
+        cond b (live_after (live (slot_history slot turns)) call reply) (live (slot_history slot turns)) ≡ Some a →
+        Lived turns slot (AtSlot at call reply)
+    by_slot true here is = elim (lived_before (live (slot_history slot turns)) call reply a is) [
       | inl i ↦ installed call reply (ap (λ n. AtSlot n call reply) (here refl)) i
       | inr b ↦ before b.0 b.1
     ]
-lived_by turns slot at call reply who a false here e =
-    before a (ap live (sym (append-nil (slot_history slot turns))) ∙ e)
-
-eqb_same : (a b : ℕ) → eqb a b ≡ true → a ≡ b
-eqb_same a b e = eqb-true a b e
+    by_slot false here is = before a is
+lived_then turns slot (AtRegistry call reply) a e = before a e
+lived_then turns slot (AtPool call reply) a e = before a e
 
 pub lived : (turns : List Turn) (who : Who) (deed : Deed) (slot : ℕ) (a : Attributes) →
     live (slot_history slot (turns ++ turn_of who deed ∷ [])) ≡ Some a → Lived turns slot deed
-lived turns who (AtSlot at call reply) slot a e =
-    lived_by turns slot at call reply who a (eqb at slot) (eqb_same at slot)
-    (ap live (sym (slot_more slot turns (turn_of who (AtSlot at call reply)))) ∙ e)
-lived turns who (AtRegistry call reply) slot a e =
-    before a
-    (ap live (sym (slot_more slot turns (turn_of who (AtRegistry call reply)) ∙ append-nil (slot_history slot turns)))
-    ∙ e)
-lived turns who (AtPool call reply) slot a e =
-    before a
-    (ap live (sym (slot_more slot turns (turn_of who (AtPool call reply)) ∙ append-nil (slot_history slot turns))) ∙ e)
+lived turns who deed slot a e = lived_then turns slot deed a (sym (live_turn slot turns who deed) ∙ e)
 
 -- The step that requests an install.
 installs_there : (phase : Phase) (now slot : ℕ) (id key : ℤ) (cred : Cred) (mode moment : ℕ) →

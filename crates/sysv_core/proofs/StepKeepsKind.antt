@@ -1,25 +1,21 @@
 -- A step of a call leads to a state of a call of the same kind.
-use Rattle.std.proofs.Common.{◌≡◌, ◌↔◌, ◌<◌, ◌≤◌, inl, inr, IsTrue, rules, arith, ℕ, ℤ, Bool, true, false, cond}
-use Rattle.std.proofs.Common.{length, List, Option, None, Some, refl, sym, subst}
+use Rattle.std.proofs.Common.{◌≡◌, ◌↔◌, ◌<◌, ◌≤◌, inl, inr, IsTrue, rules, arith, ℕ, ℤ, Bool, true, false, cond, length}
+use Rattle.std.proofs.Common.{List, Option, None, Some, refl, sym, subst}
 use Rattle.sysv_model.specs.declared.cred.Cred.{Cred}
 use Rattle.sysv_model.specs.declared.errno.Errno.{Errno}
 use Rattle.sysv_model.specs.declared.errno.Errno.TheVariants.{EINVAL}
-use Rattle.sysv_model.specs.History.{Installed, Gone, Denied, Full, Fits, NoMatch}
-use Rattle.sysv_model.specs.History.{Taken, Done, Discarded}
+use Rattle.sysv_model.specs.History.{Installed, Gone, Denied, Full, Fits, NoMatch, Taken, Done, Discarded}
 use Rattle.sysv_model.specs.Registry.{RegistryCall, Found, Made, Busy, Changed}
 use Rattle.sysv_model.specs.Pool.{blocks_for, PoolCall, Reserve, PoolReply, Reserved, TooFew, Released, Foreign}
 use Rattle.sysv_model.specs.Turn.{OfPool, Deed, AtSlot, AtRegistry, AtPool, asked_by, Turn, pool_history}
 use Rattle.sysv_pool.specs.LegalReply.{IsLegalReply as IsLegalPoolReply}
 use Rattle.sysv_objects.specs.LegalDeed.{IsLegalDeed}
-use Rattle.sysv_steps.specs.Call.{SystemCall, Msgget, Msgsnd, Msgrcv, MsgctlStat, MsgctlSet, MsgctlRmid}
-use Rattle.sysv_steps.specs.State.{Getting, Sending, Wait, OnSettled, OnFreed, OnReleased, OnArrived}
-use Rattle.sysv_steps.specs.State.{Afterwards, IsRefused, WaitsOn, Phase, AtBegin, AtInstall, AtProbe}
-use Rattle.sysv_steps.specs.State.{AtLook, AtReserve, AtPlace, AtSendGiveback, AtTake}
-use Rattle.sysv_steps.specs.State.{AtSet, AtRemove, AtForget, State, Goes}
-use Rattle.sysv_steps.specs.State.{Waits, Over, Refused}
+use Rattle.sysv_steps.specs.Call.{SystemCall, Msgget}
+use Rattle.sysv_steps.specs.State.{Getting, Sending, Wait, OnSettled, Afterwards, IsRefused, WaitsOn, Phase, AtBegin}
+use Rattle.sysv_steps.specs.State.{AtInstall, AtProbe, AtLook, AtReserve, AtPlace, AtSendGiveback, AtTake, AtSet}
+use Rattle.sysv_steps.specs.State.{AtRemove, AtForget, State, Goes, Waits, Over, Refused}
 use Rattle.sysv_steps.specs.Begin.{is_refused, first, begin}
-use Rattle.sysv_steps.specs.Next.{waits_or, goes_on}
-use Rattle.sysv_steps.specs.Next.{next}
+use Rattle.sysv_steps.specs.Next.{waits_or, goes_on, next}
 use Rattle.sysv_steps.specs.Resume.{resume}
 use Rattle.sysv_steps.specs.Asks.{asks}
 use Rattle.sysv_steps.specs.HeldBlocks.{HasItsBlocks}
@@ -183,18 +179,12 @@ gives_blocks generation blocks turns phase now deed e l = tt
 pub resumed_later : (kind : Kind) (wait : Wait) (value : ℕ) → wait_kind wait ≡ Some kind →
     IsLater kind (Goes (resume wait value))
 resumed_later kind (OnSettled goal get) value k = (k, refl, tt)
-resumed_later kind (OnFreed goal send) value k = (k, refl, tt)
-resumed_later kind (OnArrived goal receive) value k = (k, refl, tt)
-resumed_later kind (OnReleased goal send) value k = (k, refl, tt)
+resumed_later kind wait value k = (k, refl, tt)
 
 first_later : (cred : Cred) (asked : SystemCall) (released : ℕ) →
     IsLater (kind_of asked) (Goes (first cred asked released))
 first_later cred (Msgget key flags) released = (refl, refl, tt)
-first_later cred (Msgsnd id mtype flags text) released = (refl, refl, tt)
-first_later cred (Msgrcv id size mtype flags) released = (refl, refl, tt)
-first_later cred (MsgctlStat id) released = (refl, refl, tt)
-first_later cred (MsgctlSet id to) released = (refl, refl, tt)
-first_later cred (MsgctlRmid id) released = (refl, refl, tt)
+first_later cred asked released = (refl, refl, tt)
 
 begun_by : (cred : Cred) (asked : SystemCall) (released : ℕ) (b : Bool) →
     IsLater (kind_of asked) (cond b (Over (Refused EINVAL)) (Goes (first cred asked released)))

@@ -1,14 +1,13 @@
 -- A send that waits for blocks below its goal waits while too few are free. It read the released
 -- count before it was refused. So as long as the count is not above that value, no chain came back
 -- since the refusal, and reservations since then only took blocks.
-use Rattle.std.proofs.Common.{◌≡◌, ◌⊎◌, inl, inr, ℕ, suc, ◌+◌, ◌<◌, ◌≤◌, Bool, true, false, cond, List, [], ◌∷◌}
-use Rattle.std.proofs.Common.{◌++◌, Option, None, Some, refl, sym, subst, arith, length, slice_get, slice_set}
+use Rattle.std.proofs.Common.{◌≡◌, ◌⊎◌, inl, inr, ℕ, suc, ◌+◌, ◌<◌, ◌≤◌, Bool, true, false, cond, List, [], ◌∷◌, ◌++◌}
+use Rattle.std.proofs.Common.{Option, None, Some, refl, sym, subst, arith, length, slice_get, slice_set}
 use Rattle.std.proofs.lemmas.List.{append-nil}
 use Rattle.sysv_model.specs.declared.cred.Cred.{Cred}
 use Rattle.sysv_model.specs.declared.errno.Errno.{Errno}
 use Rattle.sysv_model.specs.declared.errno.Errno.TheVariants.{EAGAIN, EINVAL, ENOMSG}
-use Rattle.sysv_model.specs.History.{Who, Gone, Full, Fits, NoMatch}
-use Rattle.sysv_model.specs.History.{Installed}
+use Rattle.sysv_model.specs.History.{Who, Gone, Full, Fits, NoMatch, Installed}
 use Rattle.sysv_model.specs.Registry.{Made, Changed}
 use Rattle.sysv_model.specs.Pool.{PoolCall, Reserve, Release, PoolReply, Reserved, TooFew, Released, Foreign, PoolEntry}
 use Rattle.sysv_model.specs.Pool.{PoolHistory, blocks_for, frees, released}
@@ -16,17 +15,13 @@ use Rattle.sysv_model.specs.Turn.{OfPool, Deed, AtSlot, AtRegistry, AtPool, aske
 use Rattle.sysv_pool.specs.State.{returned_by, free_after}
 use Rattle.sysv_pool.specs.LegalReply.{IsLegalReply}
 use Rattle.sysv_objects.specs.LegalDeed.{IsLegalDeed}
-use Rattle.sysv_steps.specs.Call.{SystemCall, Msgget, Msgsnd, Msgrcv, MsgctlStat, MsgctlSet, MsgctlRmid}
-use Rattle.sysv_steps.specs.State.{Sending, Wait, OnSettled, OnFreed, OnReleased, OnArrived}
-use Rattle.sysv_steps.specs.State.{Afterwards, IsRefused, WaitsOn, Phase, AtBegin, AtInstall}
-use Rattle.sysv_steps.specs.State.{AtLook, AtReserve, AtPlace, AtSendGiveback, AtTake}
-use Rattle.sysv_steps.specs.State.{State, Goes}
-use Rattle.sysv_steps.specs.State.{Waits, Over, Refused}
+use Rattle.sysv_steps.specs.Call.{SystemCall, Msgsnd}
+use Rattle.sysv_steps.specs.State.{Sending, Wait, OnSettled, OnFreed, OnReleased, OnArrived, Afterwards, IsRefused}
+use Rattle.sysv_steps.specs.State.{WaitsOn, Phase, AtBegin, AtInstall, AtLook, AtReserve, AtPlace, AtSendGiveback}
+use Rattle.sysv_steps.specs.State.{AtTake, State, Goes, Waits, Over, Refused}
 use Rattle.sysv_steps.specs.Begin.{is_refused, first}
 use Rattle.sysv_steps.specs.Asks.{asks}
-use Rattle.sysv_steps.specs.Next.{waits_or}
-use Rattle.sysv_steps.specs.Next.{goes_on}
-use Rattle.sysv_steps.specs.Next.{next}
+use Rattle.sysv_steps.specs.Next.{waits_or, goes_on, next}
 use Rattle.sysv_steps.specs.Resume.{resume, awaited}
 use Rattle.sysv_core.specs.World.{World, Started, Doing, Given, doing_in, starting, begun, value_of}
 use Rattle.sysv_core.proofs.Histories.{turn_of, pool_more, preset_pool, one, released_more, returned_more}
@@ -88,9 +83,6 @@ short_more size h e send read (inr few) = elim (counts_or_not e.call e.reply) [
 still_short : (size : ℕ) (h : PoolHistory) (e : PoolEntry) (state : State) → read_by state ≤ released h →
     IsShort size h state → IsShort size (h ++ e ∷ []) state
 still_short size h e (Waits (OnReleased goal send)) read s = (s.0, short_more size h e send read s.1)
-still_short size h e (Waits (OnSettled goal get)) read s = tt
-still_short size h e (Waits (OnFreed goal send)) read s = tt
-still_short size h e (Waits (OnArrived goal receive)) read s = tt
 still_short size h e (Goes (AtSendGiveback blocks (WaitsOn (OnReleased goal send)))) read s = s
 still_short size h e state read s = tt
 
@@ -276,12 +268,8 @@ resumed_right blocks turns (OnArrived goal receive) r = record { read = omega ar
 begun_right : (blocks : ℕ) (h : PoolHistory) (cred : Cred) (asked : SystemCall) (b : Bool) →
     IsRight blocks h (cond b (Over (Refused EINVAL)) (Goes (first cred asked (released h))))
 begun_right blocks h cred asked true = record { read = omega arith; short = tt }
-begun_right blocks h cred (Msgget key flags) false = record { read = omega arith; short = tt }
 begun_right blocks h cred (Msgsnd id mtype flags text) false = record { read = omega arith; short = tt }
-begun_right blocks h cred (Msgrcv id size mtype flags) false = record { read = omega arith; short = tt }
-begun_right blocks h cred (MsgctlStat id) false = record { read = omega arith; short = tt }
-begun_right blocks h cred (MsgctlSet id to) false = record { read = omega arith; short = tt }
-begun_right blocks h cred (MsgctlRmid id) false = record { read = omega arith; short = tt }
+begun_right blocks h cred asked false = record { read = omega arith; short = tt }
 
 -- ---- what happens
 

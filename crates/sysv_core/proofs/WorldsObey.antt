@@ -52,8 +52,7 @@ use Rattle.sysv_core.proofs.LifeLaws.{are_tended, good_of, settled_once_installe
 use Rattle.sysv_core.proofs.ToldAfterRemoval.{told_so}
 use Rattle.sysv_core.proofs.Lists.{get_set_same, get_set_other, same_place}
 use Rattle.sysv_core.proofs.PartsOfOneCall.{same_who, same_itself, not_same, same_or_not, own_deed, other_deed}
-use Rattle.sysv_core.proofs.PartsOfOneCall.{own_endings}
-use Rattle.sysv_core.proofs.PartsOfOneCall.{other_endings, IsIn, at_actor, own_standing, other_standing}
+use Rattle.sysv_core.proofs.PartsOfOneCall.{own_endings, other_endings, IsIn, at_actor, own_standing, other_standing}
 
 -- The call was started by an actor before this step number.
 abbrev pub IsBefore : ℕ → Started → Type 0

@@ -46,8 +46,8 @@ use Rattle.sysv_steps.specs.WaitsFor.{WaitsFor}
 use Rattle.sysv_core.specs.World.{World, Opening, Started, Doing, Given, begun}
 use Rattle.sysv_core.specs.AnswerLaw.{Fate, stands_in, standing, standing_of, AsksAsItWasAsked}
 use Rattle.sysv_core.specs.Parked.{HasTooFewBlocks, HasChangeToTell, IsToBeWoken, HasToGiveBack}
-use Rattle.sysv_core.proofs.Life.{live_more, or_left, or_right}
-use Rattle.sysv_core.proofs.Histories.{turn_of, slot_more, one, released_more}
+use Rattle.sysv_core.proofs.Life.{or_left, or_right}
+use Rattle.sysv_core.proofs.Histories.{turn_of, slot_more, live_more, one, released_more}
 use Rattle.sysv_core.proofs.Lists.{same_place}
 use Rattle.sysv_core.proofs.PartsOfOneCall.{same_who, same_itself, at_actor}
 use Rattle.sysv_core.proofs.TurnInHistory.{made_at, slot_around}
