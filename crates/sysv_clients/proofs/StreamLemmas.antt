@@ -475,10 +475,11 @@ finishes receiving left rest taken more shown after taking done so_far none =
     }
 
 -- What was read is no reply to a receive.
-pub loses : (receiving : Receiving) (left mid rest taken more shown after : Option (List ℕ)) (taking : Taking)
-    → Takes receiving left mid taken more shown after taking → 0 < taking.waiting → HasNoReply taking.ask mid rest
-    → TakesAll receiving (Err (Fault NoReply)) left rest taken more shown after
-loses receiving left mid rest taken more shown after taking so_far some none =
+pub loses : (receiving : Receiving) (left mid rest taken more shown after so : Option (List ℕ)) (taking : Taking)
+    → Takes receiving left mid taken more shown after taking → 0 < taking.waiting → so ≡ after
+    → HasNoReply taking.ask mid rest
+    → TakesAll receiving (Err (Fault NoReply)) left rest taken more shown so
+loses receiving left mid rest taken more shown after so taking so_far some kept none =
     let ask = taking_ask receiving so_far.opened in
     let calls = so_far.opened ++ so_far.takes in
     record {
@@ -501,7 +502,8 @@ loses receiving left mid rest taken more shown after taking so_far some none =
           subst (λ (a : Ask). HasNoReply a mid rest) so_far.ask none,
         )));
       });
-      shows = so_far.shows;
+      shows = subst (λ (s : Option (List ℕ)).
+          Appends shown s (shown_by (style_of_receipt receiving.receipt) so_far.takes)) (sym kept) so_far.shows;
     }
 
 -- The writer failed in more receives.

@@ -269,7 +269,7 @@ Example:
         (
             "ahead",
             Form::ValueWith("A", "count"),
-            "Requests up to A messages before they come, 1 to 64 [default: 1]",
+            "Requests up to A messages ahead, 1 to 64 [default: 1]",
         ),
         ("follow", Form::Flag, "Receives messages until it is ended"),
         (

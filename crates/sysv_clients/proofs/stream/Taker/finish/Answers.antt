@@ -47,7 +47,7 @@ loop-waiting-preserved g c =
           let h = w.in-Refused.ensures.takes in
           record {
             stops = λ receiving left taken more shown style stops.
-                rw (w.why-is, w.first_of.ensures)
+                rw (w.why-is, w.first_of-why.ensures)
                 (stops_again receiving c.loop-waiting.why w.in-Refused.error left _ _ taken more shown _ _
                 c.args.taking.now.ask c.loop-waiting.waiting (c.loop-waiting.waiting - 1)
                 (c.loop-waiting.invariant.stops receiving left taken more shown style stops)

@@ -42,7 +42,8 @@ returns-in-Lost-clause-takes g c =
     let r = c.in-Ok.ensures.requests in
     let asked = asks_more c.args.receiving.now _ _ _ _ _ _ _ c.loop-taking.taking c.request.new.taking r.0
     c.loop-taking.invariant.takes c.request.ensures.ask c.request.ensures.owed r.1 r.3 r.4 r.5 in
-    loses c.args.receiving.now _ _ _ _ _ _ _ _ asked r.2 c.in-Lost.ensures.takes.0
+    let h = c.in-Lost.ensures.takes in
+    loses c.args.receiving.now _ _ _ _ _ _ _ _ _ asked r.2 h.1 h.0
 
 pub returns-in-Unshown-clause-takes : goal.returns-in-Unshown-clause-takes
 returns-in-Unshown-clause-takes g c =
