@@ -1,5 +1,6 @@
 -- Commands that make several calls over one connection (this project's programs), by their options.
-use Rattle.std.specs.Prelude.{ℕ, ◌-◌, ◌^◌, Bool, true, false, Option, None, Some, is_some, unwrap_or, ◌||◌, if◌then◌else◌}
+use Rattle.std.specs.Prelude.{ℕ, ◌-◌, ◌^◌, Bool, true, false, Option, None, Some, is_some, unwrap_or, ◌||◌}
+use Rattle.std.specs.Prelude.{if◌then◌else◌}
 use Rattle.sysv_clients.specs.declared.command.Form.{Form}
 use Rattle.sysv_clients.specs.declared.command.Form.TheVariants.{Line, Raw, Zero, Object}
 use Rattle.sysv_clients.specs.declared.command.Receipt.{Receipt}
