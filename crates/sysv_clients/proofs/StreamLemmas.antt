@@ -1,5 +1,6 @@
 -- A session of several messages in progress, and how it ends.
-use Rattle.std.proofs.Common.{◌≡◌, ℕ, zero, suc, pos, ◌+◌, ◌-◌, ◌<◌, ◌≤◌, List, [], ◌∷◌, ◌++◌, length, Option, None, Some}
+use Rattle.std.proofs.Common.{◌≡◌, ℕ, zero, suc, pos, ◌+◌, ◌-◌, ◌<◌, ◌≤◌, List, [], ◌∷◌, ◌++◌, length, Option, None}
+use Rattle.std.proofs.Common.{Some}
 use Rattle.std.proofs.Common.{Ok, Err, ◌⊎◌, inl, inr, refl, sym, ap, subst, ◌∙◌, append_assoc, append-nil, arith}
 use Rattle.std.proofs.lemmas.List.{length-append}
 use Rattle.std.proofs.lemmas.List.Concat.{flat_map-append}
@@ -14,8 +15,7 @@ use Rattle.sysv_clients.specs.declared.stream.Taking.{Taking}
 use Rattle.sysv_clients.specs.declared.style.Style.{Style}
 use Rattle.sysv_clients.specs.Asks.{find_ask, receive_ask, request_of}
 use Rattle.sysv_clients.specs.Calls.{BreaksPlan, Call, Each, IsCallDone, Made, read_by, written_by}
-use Rattle.sysv_clients.specs.Sending.{HasReply}
-use Rattle.sysv_clients.specs.Stream.{AreTakenBy, EndsTakes, EndsTaking, IsRefusedIn, IsReplied, TakesAll, ahead_of}
+use Rattle.sysv_clients.specs.Stream.{EndsTakes, EndsTaking, IsRefusedIn, IsReplied, TakesAll, ahead_of}
 use Rattle.sysv_clients.specs.Stream.{count_of, finding_plan, received_text, repeated_spelling, shown_by, taking_ask}
 use Rattle.sysv_clients.specs.Style.{style_of_receipt}
 use Rattle.sysv_clients.specs.Taking.{Finds, IsTaken, MeetsFault, Stops, Takes, first_fault}

@@ -1,5 +1,5 @@
 -- This number of the requests were written.
-use Rattle.std.proofs.Common.{◌≡◌, ◌-◌, ◌≤◌, false}
+use Rattle.std.proofs.Common.{◌≡◌, ◌-◌, ◌≤◌}
 use Rattle.std.specs.Io.KnownBytes.{Appends}
 use Rattle.sysv_clients.specs.Stream.{repeated_spelling}
 use Rattle.sysv_model.specs.Watched.{stream_name, stream_of}

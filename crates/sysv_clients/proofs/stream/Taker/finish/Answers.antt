@@ -1,5 +1,6 @@
 use Rattle.std.proofs.Common.{arith, refl, ◌∙◌, ◌-◌}
-use Rattle.sysv_clients.proofs.StreamLemmas.{as_prefix, as_shown, stops_again, stops_all, stops_lost, stops_more, stops_unshown}
+use Rattle.sysv_clients.proofs.StreamLemmas.{as_prefix, as_shown, stops_again, stops_all, stops_lost, stops_more}
+use Rattle.sysv_clients.proofs.StreamLemmas.{stops_unshown}
 use Rattle.sysv_clients.proofs.stream.Taker.finish.Goals as goal
 use Rattle.sysv_clients.proofs.stream.Taker.finish.Goals.{in-Message, in-Refused}
 
