@@ -85,9 +85,19 @@ fn receives_are_requested_in_a_window(rt: HostRuntime) {
             return;
         }
         assert!(rt; outcome.is_ok(), "{count}, {ahead}");
-        assert!(rt; talk.requests.text() == requested(&rt, rt.alloc(), count).text(), "{count}");
-        assert_eq!(rt; talk.requests.flushed, flushes.min(9) + 2, "{count}, {ahead}");
-        assert!(rt; talk.screen.text() == shown(&rt, rt.alloc(), count).text(), "{count}");
+        assert!(rt;
+            talk.requests.text() == requested(&rt, rt.alloc(), count).text(),
+            "{count}"
+        );
+        assert_eq!(rt;
+            talk.requests.flushed,
+            flushes.min(9) + 2,
+            "{count}, {ahead}"
+        );
+        assert!(rt;
+            talk.screen.text() == shown(&rt, rt.alloc(), count).text(),
+            "{count}"
+        );
         assert_eq!(rt; talk.screen.flushed as u64, count, "{count}");
         assert_is(&rt, talk.replies.read, talk.replies.len());
     }
@@ -130,7 +140,8 @@ fn a_receive_that_does_not_wait_is_alone(rt: HostRuntime) {
     assert!(rt; outcome == Err(Stop::Fault(ClientFault::Refused(Errno::ENOMSG))));
     assert_is(&rt, talk.requests.flushed, 4);
     assert!(rt; talk.screen.text() == b"abc\n".as_slice());
-    assert_is(&rt, talk.replies.read, talk.replies.len() - MESSAGE.len());
+    let read = WELCOME.len() + GOT.len() + MESSAGE.len() + UNTAKEN.len();
+    assert_is(&rt, talk.replies.read, read);
 }
 
 #[test]
@@ -177,8 +188,14 @@ fn messages_on_their_way_are_shown_if_the_writer_fails(rt: HostRuntime) {
             }
             assert!(rt; outcome == Err(Stop::Fault(fault)), "{room}");
             let all = requested(&rt, rt.alloc(), 6);
-            assert!(rt; Some(talk.requests.text()) == all.text().get(..room), "{room}");
-            assert!(rt; talk.screen.text() == shown(&rt, rt.alloc(), messages).text(), "{room}");
+            assert!(rt;
+                Some(talk.requests.text()) == all.text().get(..room),
+                "{room}"
+            );
+            assert!(rt;
+                talk.screen.text() == shown(&rt, rt.alloc(), messages).text(),
+                "{room}"
+            );
         }
     }
 }
@@ -195,7 +212,10 @@ fn the_writer_fails_before_a_receive_is_on_its_way(rt: HostRuntime) {
         }
         assert!(rt; outcome == Err(Stop::Fault(ClientFault::NoReply)), "{room}");
         let all = requested(&rt, rt.alloc(), 4);
-        assert!(rt; Some(talk.requests.text()) == all.text().get(..room), "{room}");
+        assert!(rt;
+            Some(talk.requests.text()) == all.text().get(..room),
+            "{room}"
+        );
         assert_eq!(rt; talk.replies.read, WELCOME.len() + GOT.len(), "{room}");
     }
 }
@@ -210,7 +230,10 @@ fn a_screen_that_fails_ends_the_receives_on_their_way(rt: HostRuntime) {
             return;
         }
         assert!(rt; outcome == Err(Stop::Screen), "{room}");
-        assert!(rt; talk.requests.text() == requested(&rt, rt.alloc(), 4).text(), "{room}");
+        assert!(rt;
+            talk.requests.text() == requested(&rt, rt.alloc(), 4).text(),
+            "{room}"
+        );
         assert!(rt; talk.screen.text() == &b"abc\nabc\n"[..room], "{room}");
     }
     // (also at a message after a refusal)
