@@ -1,6 +1,6 @@
 -- The result of a start or a step of a call in the code, as a state of the definitions (this
 -- project's profile).
-use Rattle.std.specs.Prelude.{◌≡◌, ◌<◌, ◌≤◌, ◌⊎◌, ℕ, Bool, List, Some}
+use Rattle.std.specs.Prelude.{◌≡◌, ◌<◌, ◌≤◌, ◌⊎◌, ℕ, Bool, List, Some, None}
 use Rattle.sysv_model.specs.Turn.{Deed, Turn, asked_by}
 use Rattle.sysv_objects.specs.Objects.{Objects}
 use Rattle.sysv_objects.specs.StandsFor.{StandsFor, MakesTurn}
@@ -8,22 +8,28 @@ use Rattle.sysv_steps.specs.State.{Phase, Wait, State, Goes, Waits, Over}
 use Rattle.sysv_steps.specs.Asks.{asks}
 use Rattle.sysv_steps.specs.Next.{next}
 use Rattle.sysv_steps.specs.Resume.{awaited, goal_of, resume}
+use Rattle.sysv_steps.specs.declared.outcome.Outcome.{Outcome}
 use Rattle.sysv_core.specs.declared.doing.Led.{Led}
 use Rattle.sysv_core.specs.declared.doing.Led.TheVariants as led
 use Rattle.sysv_core.specs.Answered.{TellsEnding}
 use Rattle.sysv_core.specs.Kinds.{phase_kind, wait_kind, gives_back}
-use Rattle.sysv_core.specs.Standing.{stands_at}
-use Rattle.sysv_core.specs.Held.{text_in}
+use Rattle.sysv_core.specs.Standing.{doing_state}
 use Rattle.sysv_core.specs.World.{value_of}
 
 -- The code's call continues in the state in which the definitions' call is, or both are over and
 -- the code reports the ending, with the body or without it. A spare body is not reported.
 abbrev pub LeadsTo : Bool → State → Led → Type 0
-LeadsTo back state (led.To doing) = state ≡ stands_at doing.standing (text_in doing.body)
+LeadsTo back state (led.To doing) = state ≡ doing_state doing
 LeadsTo back (Over ending) (led.Over ended) = TellsEnding back ending ended.result ended.body
 LeadsTo back (Goes phase) (led.Over ended) = ⊥
 LeadsTo back (Waits wait) (led.Over ended) = ⊥
 LeadsTo back state (led.Stays doing) = ⊥
+
+-- The call is over with this outcome, and returns no body.
+abbrev pub EndsWith : Outcome → Led → Type 0
+EndsWith told (led.Over ended) = (ended.result ≡ told) × (ended.body ≡ None)
+EndsWith told (led.To doing) = ⊥
+EndsWith told (led.Stays doing) = ⊥
 
 -- One turn of the call in that phase at its object, and its result.
 pub record TurnLeads (old : Objects) (phase : Phase) (now : ℕ) (result : Led) (new : Objects) : Type 0 where
@@ -36,7 +42,7 @@ pub record TurnLeads (old : Objects) (phase : Phase) (now : ℕ) (result : Led) 
 
 -- The call still is in the state in which it was.
 abbrev pub Stays : State → Led → Type 0
-Stays state (led.Stays doing) = state ≡ stands_at doing.standing (text_in doing.body)
+Stays state (led.Stays doing) = state ≡ doing_state doing
 Stays state (led.To doing) = ⊥
 Stays state (led.Over ended) = ⊥
 

@@ -14,7 +14,6 @@ pub use Rattle.sysv_keys.specs.RegistryLaw
 pub use Rattle.sysv_objects.specs.Objects
 pub use Rattle.sysv_objects.specs.LegalDeed
 pub use Rattle.sysv_steps.specs.State
-pub use Rattle.sysv_steps.specs.HeldBlocks
 pub use Rattle.sysv_steps.specs.Next
 pub use Rattle.sysv_steps.specs.Played
 pub use Rattle.sysv_steps.specs.AsksFor
@@ -28,7 +27,6 @@ pub mod Answered
 pub mod Tallying
 pub mod Seen
 pub mod Standing
-pub mod Held
 pub mod Kept
 pub mod Led
 pub mod Preset

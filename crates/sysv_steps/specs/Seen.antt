@@ -3,9 +3,10 @@
 -- bytes that a receive returned. The code's wait keeps the value that its count must exceed, which
 -- is one below the goal. The definitions keep only the number of blocks of a chain, and only the
 -- type of a delivery.
-use Rattle.std.specs.Prelude.{ℕ, ℤ, ◌+◌, List, Ok, Err, ⊤}
+use Rattle.std.specs.Prelude.{ℕ, ℤ, ◌+◌, List, Result, Ok, Err, ⊤}
 use Rattle.sysv_queue.specs.Delivery.{Given}
 use Rattle.sysv_model.specs.declared.attributes.Stat.{Stat}
+use Rattle.sysv_model.specs.declared.errno.Errno.{Errno}
 use Rattle.sysv_steps.specs.declared.get.Getting.{Getting as GetKept}
 use Rattle.sysv_steps.specs.declared.get.GetStep.{GetStep}
 use Rattle.sysv_steps.specs.declared.get.GetStep.TheVariants as get
@@ -35,14 +36,18 @@ use Rattle.sysv_steps.specs.State.{AtUnmake, AtLook, AtReserve, AtPlace, AtSendG
 use Rattle.sysv_steps.specs.State.{AtStat, AtSet, AtSetGiveback, AtRemove, AtForget, AtRemoveGiveback, Ending, Id, Zero}
 use Rattle.sysv_steps.specs.State.{Got, Told, Refused, State, Goes, Waits, Over}
 
+-- The end of a call of the code, by what its result means.
+abbrev pub ending_of : {T : Type 0} → (T → Ending) → Result T Errno → Ending
+ending_of ending (Ok told) = ending told
+ending_of ending (Err why) = Refused why
+
 -- The state of a call of the code, by what its steps, its waits and its result mean.
 abbrev pub state_of : {S W T : Type 0} → (S → Phase) → (W → Wait) → (T → Ending) → StateKept S W T → State
 state_of phase wait ending (state.Goes step) = Goes (phase step)
 state_of phase wait ending (state.Waits w) = Waits (wait w)
-state_of phase wait ending (state.Over (Ok told)) = Over (ending told)
-state_of phase wait ending (state.Over (Err why)) = Over (Refused why)
+state_of phase wait ending (state.Over told) = Over (ending_of ending told)
 
--- A wait that there is not.
+-- The wait of a call that never waits: there is none.
 abbrev pub no_wait : NoWait → Wait
 no_wait = elim [ ]
 

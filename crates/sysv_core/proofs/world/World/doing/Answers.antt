@@ -6,9 +6,8 @@ use Rattle.sysv_steps.specs.State.{State}
 use Rattle.sysv_core.specs.declared.doing.Doing.{Doing}
 use Rattle.sysv_core.specs.Kept.{state_kept, states_kept}
 use Rattle.sysv_core.specs.Standing.{state_at, StandsNowhere, StandsThere}
-use Rattle.sysv_core.specs.Held.{text_in}
 use Rattle.sysv_core.specs.Seen.{Seen}
-use Rattle.sysv_core.proofs.world.World.standing.Goals as goal
+use Rattle.sysv_core.proofs.world.World.doing.Goals as goal
 
 -- What is seen at an actor's place is what is kept there.
 seen_there : (actors : List (Option Doing)) (states : List (Option State)) (actor place : ℕ) (doing : Option Doing) →
@@ -44,7 +43,7 @@ returns-in-Some c =
     let there = stands_there c.self.inside.actors.items c.args.self.now.states c.args.actor c.in_ok-place.place
     c.index.result.now (Some doing)
     (ap (λ (v : Seen). v.states) c.self.view_is) c.in_ok-place.ensures c.index.ensures c.in-Some.is in
-    subst (λ s. StandsThere s doing.standing) (sym there) (text_in doing.body, refl)
+    subst (λ s. StandsThere s doing) (sym there) refl
 
 pub returns-in-None : goal.returns-in-None
 returns-in-None c =
