@@ -17,7 +17,7 @@ use Rattle.sysv_steps.specs.Bodies.{StillCanSend}
 use Rattle.sysv_service.specs.declared.progress.Progress.{Progress}
 use Rattle.sysv_service.specs.declared.progress.Progress.TheVariants as progress
 use Rattle.sysv_service.specs.UnderWay.{stopped_at, StoppedBy, GetsOn, SendsOn}
-use Rattle.sysv_service.specs.declared.waiting.Waited.TheVariants.{Above, Below, Worn}
+use Rattle.sysv_service.specs.declared.waiting.Waited.TheVariants.{Above, Still, Worn}
 use Rattle.sysv_service.specs.Reading.{Reads, GivesUp}
 use Rattle.sysv_service.specs.Told.{TellsId, TellsZero, TellsStat}
 use Rattle.sysv_service.specs.Waited.{WaitsAbove, EndsWait}
@@ -74,8 +74,8 @@ module _ (wait : Wait) (count : Count) (above : ℕ) (is : count ≡ awaited wai
     inl (subst (λ g. g ≤ value) (sym goal) w.0, e),
   )
 
-  pub ends_below : WaitsAbove count above before Below after → state ≡ Waits wait → EndsWait wait before state after
-  ends_below w e = inl (w.0, subst (λ c. Reads c w.0 before.seats after.seats) is w.1, w.2, inr e)
+  pub ends_still : WaitsAbove count above before Still after → state ≡ Waits wait → EndsWait wait before state after
+  ends_still w e = inl (w.0, subst (λ c. Reads c w.0 before.seats after.seats) is w.1, w.2, inr e)
 
   pub ends_worn : WaitsAbove count above before Worn after → state ≡ Over (Refused EOVERFLOW) →
       EndsWait wait before state after

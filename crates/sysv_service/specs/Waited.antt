@@ -22,7 +22,7 @@ IsUnmet wait before after = (value : ℕ) × (value < goal_of wait) × Reads (aw
 abbrev pub WaitsAbove : Count → ℕ → Pass → Waited → Pass → Type 0
 WaitsAbove count above before (waited.Above value) after =
     (above + 1 ≤ value) × Reads count value before.seats after.seats × (after.held ≡ before.held)
-WaitsAbove count above before waited.Below after =
+WaitsAbove count above before waited.Still after =
     (value : ℕ) × Reads count value before.seats after.seats × (after.held ≡ before.held)
 WaitsAbove count above before waited.Worn after =
     (value : ℕ) × (value < above + 1) × GivesUp count value before.seats after.seats × (after.held ≡ before.held)

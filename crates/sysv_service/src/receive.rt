@@ -100,7 +100,7 @@ impl Service {
         let id = wait.receive.id;
         match self.wait_above(rt, pass, SharedCount::Arrived { id }, wait.above) {
             Waited::Above(_value) => State::Goes(wait.resume()),
-            Waited::Below => State::Waits(wait),
+            Waited::Still => State::Waits(wait),
             Waited::Worn => State::Over(Err(Errno::EOVERFLOW)),
         }
     }

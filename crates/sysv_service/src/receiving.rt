@@ -95,13 +95,8 @@ impl Service {
         ensures ran { ReceivesOn (C.may clock.now) (Goes (AtTake (receiving receive)))
             pass.old result out.new pass.new }
     {
-        self.receive_on(
-            rt,
-            pass,
-            clock,
-            out,
-            State::Goes(ReceiveStep::Take(receive)),
-        )
+        let begun = State::Goes(ReceiveStep::Take(receive));
+        self.receive_on(rt, pass, clock, out, begun)
     }
 
     /// Makes the steps of a receive that holds no message, until it waits or is over.

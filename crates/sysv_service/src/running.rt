@@ -2,11 +2,11 @@
 
 ghost use Rattle.std.specs.Prelude.{◌≡◌, ℕ, ◌+◌, ⊤, Err};
 ghost use Rattle.sysv_model.specs.declared.errno.Errno.{Errno as Why};
+ghost use Rattle.sysv_steps.specs.declared.state.State.{State as StateKept};
 ghost use Rattle.sysv_steps.specs.State.{Phase as PhaseSeen, Wait as WaitSeen, Ending as EndingSeen, Over};
 ghost use Rattle.sysv_steps.specs.Resume.{awaited as is_awaited, goal_of, resume as resumes};
 ghost use Rattle.sysv_steps.specs.Seen.{ending_of, state_of};
 ghost use Rattle.sysv_steps.specs.Stepping.{no_moment};
-ghost use Rattle.sysv_service.specs.declared.progress.Progress.{Progress as Came};
 ghost use Rattle.sysv_service.specs.Seats.{AreOf};
 ghost use Rattle.sysv_service.specs.SharedCounts.{count_of};
 ghost use Rattle.sysv_service.specs.Ran.{StepsOn, Comes};
@@ -44,7 +44,7 @@ pub(crate) trait Stepper {
     ghost ending: { Self → Self.Done → EndingSeen };
 
     /// What its steps need of what they use.
-    ghost can: { Self → State Self.Step Self.Wait Self.Done → Type 0 } = { λ _ _. ⊤ };
+    ghost can: { Self → StateKept Self.Step Self.Wait Self.Done → Type 0 } = { λ _ _. ⊤ };
 
     /// Makes one step.
     fn step(
@@ -150,7 +150,7 @@ impl Service {
         let (count, above) = stepper.awaited(&wait);
         match self.wait_above(rt, pass, count, above) {
             Waited::Above(value) => State::Goes(stepper.resume(wait, value)),
-            Waited::Below => State::Waits(wait),
+            Waited::Still => State::Waits(wait),
             Waited::Worn => State::Over(Err(Errno::EOVERFLOW)),
         }
     }

@@ -17,7 +17,7 @@ pub(crate) enum Waited {
     /// The count has this value, which is above the value of the wait.
     Above(u64),
     /// The count is not above the value of the wait, which is the greatest that there is.
-    Below,
+    Still,
     /// The gate of the object is worn out.
     Worn,
 }
@@ -34,12 +34,12 @@ impl Service {
         requires { AreOf self.now pass.old.seats }
         ensures pass { AreOf self.now pass.new.seats }
         ensures waited { WaitsAbove (count_of count) above pass.old result pass.new }
-        ensures below { result ≡ Waited.Below → 2 ^ 64 ≤ above + 1 }
+        ensures still { result ≡ Waited.Still → 2 ^ 64 ≤ above + 1 }
     {
         let goal = above.saturating_add(1);
         match self.gates.await_count(rt, &mut pass.seats, count, goal) {
             Awaited::Reached(value) if value > above => Waited::Above(value),
-            Awaited::Reached(_below) => Waited::Below,
+            Awaited::Reached(_below) => Waited::Still,
             Awaited::Worn => Waited::Worn,
         }
     }

@@ -1,4 +1,5 @@
-use Rattle.std.proofs.Common.{◌≡◌, ℕ, List, refl, sym, subst}
+use Rattle.std.proofs.Common.{◌≡◌, ℕ, List, refl, sym, subst, rules, w32, FitsSigned}
+use Rattle.std.proofs.lemmas.Int.{to_z-of_z}
 use Rattle.sysv_steps.specs.declared.send.Sending.{Sending}
 use Rattle.sysv_steps.specs.Seen.{sending, send_wait}
 use Rattle.sysv_steps.specs.State.{AtLook}
@@ -20,9 +21,10 @@ module _ (w x : SendWait) (before after : Pass) (is : w ≡ x) where
 
 pub returns-in_err-look-in-Room-clause-below : goal.returns-in_err-look-in-Room-clause-below
 returns-in_err-look-in-Room-clause-below c =
+    let id : FitsSigned w32 c.in-Room.send.id = search rules in
+    let below = simp to_z-of_z at c.in_err-look-in-Room.ensures.below in
     if_none c.from_residual.result
-    (still _ _ c.args.pass.now c.look.new.pass c.in-Room.is
-    (λ text. (c.in_err-look-in-Room.ensures.below, c.look.ensures.held)))
+    (still _ _ c.args.pass.now c.look.new.pass c.in-Room.is (λ text. (below, c.look.ensures.held)))
 
 pub returns-in_err-send-in-Blocks-clause-below : goal.returns-in_err-send-in-Blocks-clause-below
 returns-in_err-send-in-Blocks-clause-below c =
@@ -32,10 +34,10 @@ returns-in_err-send-in-Blocks-clause-below c =
 
 pub returns-in_ok-look-in-Room-clause-reached : goal.returns-in_ok-look-in-Room-clause-reached
 returns-in_ok-look-in-Room-clause-reached c =
+    let id : FitsSigned w32 c.in-Room.send.id = search rules in
+    let at = simp to_z-of_z at c.in_ok-look-in-Room.ensures.reached in
     reached _ _ c.args.pass.now c.look.new.pass c.in-Room.is _
-    (λ text.
-    let at = c.in_ok-look-in-Room.ensures.reached in
-    (c.in_ok-look-in-Room.field-0, at.0, at.1, c.look.ensures.held, refl))
+    (λ text. (c.in_ok-look-in-Room.field-0, at.0, at.1, c.look.ensures.held, refl))
 
 pub returns-in_ok-send-in-Blocks-clause-reached : goal.returns-in_ok-send-in-Blocks-clause-reached
 returns-in_ok-send-in-Blocks-clause-reached c =

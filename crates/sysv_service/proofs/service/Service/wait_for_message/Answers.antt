@@ -3,7 +3,7 @@ use Rattle.std.proofs.lemmas.Int.{to_z-of_z}
 use Rattle.sysv_steps.specs.Resume.{awaited}
 use Rattle.sysv_steps.specs.Seen.{receive_wait}
 use Rattle.sysv_service.specs.Waited.{WaitsAbove}
-use Rattle.sysv_service.proofs.ProceedsByStep.{ends_above, ends_below, ends_worn}
+use Rattle.sysv_service.proofs.ProceedsByStep.{ends_above, ends_still, ends_worn}
 use Rattle.sysv_service.proofs.service.Service.wait_for_message.Goals as goal
 
 pub returns-in-Above-clause-ended : goal.returns-in-Above-clause-ended
@@ -15,14 +15,14 @@ returns-in-Above-clause-ended c = λ out.
     subst (λ w. WaitsAbove (awaited wait) c.args.wait.above c.args.pass.now w c.wait_above.new.pass) c.in-Above.is told in
     ends_above wait (awaited wait) c.args.wait.above refl refl c.args.pass.now c.wait_above.new.pass _ _ waited refl
 
-pub returns-in-Below-clause-ended : goal.returns-in-Below-clause-ended
-returns-in-Below-clause-ended c = λ out.
+pub returns-in-Still-clause-ended : goal.returns-in-Still-clause-ended
+returns-in-Still-clause-ended c = λ out.
     let wait = receive_wait c.args.wait in
     let id : FitsSigned w32 c.args.wait.receive.id = search rules in
     let told = simp to_z-of_z at c.wait_above.ensures.waited in
     let waited =
-    subst (λ w. WaitsAbove (awaited wait) c.args.wait.above c.args.pass.now w c.wait_above.new.pass) c.in-Below.is told in
-    ends_below wait (awaited wait) c.args.wait.above refl refl c.args.pass.now c.wait_above.new.pass _ waited refl
+    subst (λ w. WaitsAbove (awaited wait) c.args.wait.above c.args.pass.now w c.wait_above.new.pass) c.in-Still.is told in
+    ends_still wait (awaited wait) c.args.wait.above refl refl c.args.pass.now c.wait_above.new.pass _ waited refl
 
 pub returns-in-Worn-clause-ended : goal.returns-in-Worn-clause-ended
 returns-in-Worn-clause-ended c = λ out.

@@ -2,7 +2,7 @@ use Rattle.std.proofs.Common.{ap, refl, sym, subst}
 use Rattle.sysv_steps.specs.State.{Goes}
 use Rattle.sysv_service.specs.Waited.{WaitsAbove}
 use Rattle.sysv_service.specs.SharedCounts.{count_of}
-use Rattle.sysv_service.proofs.ProceedsByStep.{ends_above, ends_below, ends_worn}
+use Rattle.sysv_service.proofs.ProceedsByStep.{ends_above, ends_still, ends_worn}
 use Rattle.sysv_service.proofs.service.Service.wait_out.Goals as goal
 
 pub returns-in-Above-clause-ended : goal.returns-in-Above-clause-ended
@@ -14,12 +14,12 @@ returns-in-Above-clause-ended g c =
     c.awaited.ensures.count c.awaited.ensures.above c.args.pass.now c.wait_above.new.pass _ _ waited
     (sym (ap Goes c.resume.ensures.next))
 
-pub returns-in-Below-clause-ended : goal.returns-in-Below-clause-ended
-returns-in-Below-clause-ended g c =
+pub returns-in-Still-clause-ended : goal.returns-in-Still-clause-ended
+returns-in-Still-clause-ended g c =
     let waited = subst (λ w.
-    WaitsAbove (count_of c.awaited.result.0) c.awaited.result.1 c.args.pass.now w c.wait_above.new.pass) c.in-Below.is
+    WaitsAbove (count_of c.awaited.result.0) c.awaited.result.1 c.args.pass.now w c.wait_above.new.pass) c.in-Still.is
     c.wait_above.ensures.waited in
-    ends_below (g.S.Stepper.wait c.args.stepper.now c.args.wait) (count_of c.awaited.result.0) c.awaited.result.1
+    ends_still (g.S.Stepper.wait c.args.stepper.now c.args.wait) (count_of c.awaited.result.0) c.awaited.result.1
     c.awaited.ensures.count c.awaited.ensures.above c.args.pass.now c.wait_above.new.pass _ waited refl
 
 pub returns-in-Worn-clause-ended : goal.returns-in-Worn-clause-ended
