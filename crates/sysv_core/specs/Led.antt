@@ -1,6 +1,6 @@
 -- The result of a start or a step of a call in the code, as a state of the definitions (this
 -- project's profile).
-use Rattle.std.specs.Prelude.{◌≡◌, ◌<◌, ◌≤◌, ◌⊎◌, ℕ, Bool, List, Some, None}
+use Rattle.std.specs.Prelude.{◌≡◌, ◌<◌, ◌≤◌, ◌⊎◌, ℕ, Bool, List, Some}
 use Rattle.sysv_model.specs.Turn.{Deed, Turn, asked_by}
 use Rattle.sysv_objects.specs.Objects.{Objects}
 use Rattle.sysv_objects.specs.StandsFor.{StandsFor, MakesTurn}
@@ -8,7 +8,6 @@ use Rattle.sysv_steps.specs.State.{Phase, Wait, State, Goes, Waits, Over}
 use Rattle.sysv_steps.specs.Asks.{asks}
 use Rattle.sysv_steps.specs.Next.{next}
 use Rattle.sysv_steps.specs.Resume.{awaited, goal_of, resume}
-use Rattle.sysv_steps.specs.declared.outcome.Outcome.{Outcome}
 use Rattle.sysv_core.specs.declared.doing.Led.{Led}
 use Rattle.sysv_core.specs.declared.doing.Led.TheVariants as led
 use Rattle.sysv_core.specs.Answered.{TellsEnding}
@@ -24,12 +23,6 @@ LeadsTo back (Over ending) (led.Over ended) = TellsEnding back ending ended.resu
 LeadsTo back (Goes phase) (led.Over ended) = ⊥
 LeadsTo back (Waits wait) (led.Over ended) = ⊥
 LeadsTo back state (led.Stays doing) = ⊥
-
--- The call is over with this outcome, and returns no body.
-abbrev pub EndsWith : Outcome → Led → Type 0
-EndsWith told (led.Over ended) = (ended.result ≡ told) × (ended.body ≡ None)
-EndsWith told (led.To doing) = ⊥
-EndsWith told (led.Stays doing) = ⊥
 
 -- One turn of the call in that phase at its object, and its result.
 pub record TurnLeads (old : Objects) (phase : Phase) (now : ℕ) (result : Led) (new : Objects) : Type 0 where

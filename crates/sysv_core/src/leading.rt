@@ -1,12 +1,12 @@
 //! What the state of an actor's call makes of the actor: the call continues, or it is over.
 
-ghost use Rattle.std.specs.Prelude.{◌≡◌, true, false};
+ghost use Rattle.std.specs.Prelude.{◌≡◌, true, false, None};
 ghost use Rattle.sysv_steps.specs.Seen.{get_state, send_state, receive_state, stat_state, set_state, remove_state};
 ghost use Rattle.sysv_steps.specs.Bodies.{StillCanSend};
 ghost use Rattle.sysv_steps.specs.Seen.{ending_of};
 ghost use Rattle.sysv_steps.specs.State.{Zero};
 ghost use Rattle.sysv_core.specs.Answered.{outcome_of};
-ghost use Rattle.sysv_core.specs.Led.{LeadsTo, EndsWith};
+ghost use Rattle.sysv_core.specs.Led.{LeadsTo};
 ghost use Rattle.sysv_core.specs.Tallying.{is_got};
 
 use crate::doing::{Doing, Ended, Led, Sent, Standing};
@@ -22,8 +22,8 @@ pub(crate) fn get_leads(state: GetState) -> Led
     match state {
         State::Goes(step) => Led::To(Doing::Get(Standing::At(step))),
         State::Waits(wait) => Led::To(Doing::Get(Standing::Waits(wait))),
-        State::Over(Ok(id)) => over(Outcome::Id(id), None),
-        State::Over(Err(why)) => over(Outcome::Refused(why), None),
+        State::Over(Ok(id)) => Led::Over(ended(Outcome::Id(id), None)),
+        State::Over(Err(why)) => Led::Over(ended(Outcome::Refused(why), None)),
     }
 }
 
@@ -42,7 +42,7 @@ pub(crate) fn send_leads(state: SendState, body: Body) -> Led
             let at = Standing::Waits(wait);
             Led::To(Doing::Send(Sent { at, body }))
         }
-        State::Over(told) => over(done(told), Some(body)),
+        State::Over(told) => Led::Over(ended(done(told), Some(body))),
     }
 }
 
@@ -87,8 +87,8 @@ pub(crate) fn stat_leads(state: StatState) -> Led
 {
     match state {
         State::Goes(step) => Led::To(Doing::Stat(step)),
-        State::Over(Ok(stat)) => over(Outcome::Stat(stat), None),
-        State::Over(Err(why)) => over(Outcome::Refused(why), None),
+        State::Over(Ok(stat)) => Led::Over(ended(Outcome::Stat(stat), None)),
+        State::Over(Err(why)) => Led::Over(ended(Outcome::Refused(why), None)),
     }
 }
 
@@ -98,7 +98,7 @@ pub(crate) fn set_leads(state: SetState) -> Led
 {
     match state {
         State::Goes(step) => Led::To(Doing::Set(step)),
-        State::Over(told) => over(done(told), None),
+        State::Over(told) => Led::Over(ended(done(told), None)),
     }
 }
 
@@ -108,13 +108,14 @@ pub(crate) fn remove_leads(state: RemoveState) -> Led
 {
     match state {
         State::Goes(step) => Led::To(Doing::Remove(step)),
-        State::Over(told) => over(done(told), None),
+        State::Over(told) => Led::Over(ended(done(told), None)),
     }
 }
 
 /// Returns the outcome of a call that returns no value.
 fn done(told: Result<(), Errno>) -> Outcome
-    ensures { result ≡ outcome_of (ending_of (λ _. Zero) told) }
+    ensures outcome { result ≡ outcome_of (ending_of (λ _. Zero) told) }
+    ensures not_got { is_got result ≡ false }
 {
     match told {
         Ok(()) => Outcome::Zero,
@@ -122,16 +123,16 @@ fn done(told: Result<(), Errno>) -> Outcome
     }
 }
 
-/// Returns the result of a call that is over and returns no message. `spare` is its body, if it
-/// brought one.
-fn over(told: Outcome, spare: Option<Body>) -> Led
+/// Returns the end of a call that returns no message. `spare` is its body, if it brought one.
+fn ended(told: Outcome, spare: Option<Body>) -> Ended
     requires { is_got told ≡ false }
-    ensures { EndsWith told result }
+    ensures told { result.result ≡ told }
+    ensures body { result.body ≡ None }
 {
-    Led::Over(Ended {
+    Ended {
         result: told,
         body: None,
         spare,
         delivery: None,
-    })
+    }
 }
