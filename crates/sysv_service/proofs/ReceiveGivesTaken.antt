@@ -1,6 +1,6 @@
 -- Proves that a receive returns what it took.
 use Rattle.std.proofs.Common.{◌≡◌, inl, inr, ℕ, ℤ, Bool, true, false, if◌then◌else◌, List, ◌∷◌, ◌++◌, [], Result, Ok}
-use Rattle.std.proofs.Common.{Err, IfOk, ap, subst, ◌∙◌}
+use Rattle.std.proofs.Common.{Err, IfOk, subst}
 use Rattle.sysv_queue.specs.Delivery.{Given}
 use Rattle.sysv_model.specs.declared.cred.Cred.{Cred}
 use Rattle.sysv_model.specs.declared.errno.Errno.{Errno}

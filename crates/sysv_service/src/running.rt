@@ -3,6 +3,7 @@
 ghost use Rattle.std.specs.Prelude.{◌≡◌, ℕ, ◌+◌, ⊤, Err};
 ghost use Rattle.sysv_model.specs.declared.errno.Errno.{Errno as Why};
 ghost use Rattle.sysv_steps.specs.declared.state.State.{State as StateKept};
+ghost use Rattle.sysv_steps.specs.declared.state.State.TheVariants.{Over as IsOver};
 ghost use Rattle.sysv_steps.specs.State.{Phase as PhaseSeen, Wait as WaitSeen, Ending as EndingSeen, Over};
 ghost use Rattle.sysv_steps.specs.Resume.{awaited as is_awaited, goal_of, resume as resumes};
 ghost use Rattle.sysv_steps.specs.Seen.{ending_of, state_of};
@@ -73,7 +74,7 @@ pub(crate) trait Stepper {
         ensures can { can self.now (State.Goes result) };
 
     /// It may be refused with any error.
-    ghost is_refused: { (s : Self) (why : Why) → can s (State.Over (Err why)) };
+    ghost is_refused: { (s : Self) (why : Why) → can s (IsOver (Err why)) };
 }
 
 impl Service {
