@@ -1,5 +1,5 @@
 -- What a turn of a call at the objects themselves leads to.
-use Rattle.std.proofs.Common.{◌≡◌, ◌↔◌, ◌<◌, ◌≤◌, ◌⊎◌, inl, inr, IsTrue, ℕ, Bool, true, false, List, Some, refl, sym, ap}
+use Rattle.std.proofs.Common.{◌≡◌, ◌↔◌, ◌<◌, ◌≤◌, ◌⊎◌, inl, inr, IsTrue, ℕ, Bool, true, false, List, refl, sym, ap}
 use Rattle.std.proofs.Common.{subst, ◌∙◌}
 use Rattle.sysv_model.specs.Turn.{Turn}
 use Rattle.sysv_objects.specs.Objects.{Objects}
@@ -24,8 +24,8 @@ use Rattle.sysv_steps.specs.declared.remove.RemoveStep.TheVariants as remove
 use Rattle.sysv_core.specs.declared.doing.Led.{Led}
 use Rattle.sysv_steps.specs.Resume.{awaited, goal_of, resume}
 use Rattle.sysv_core.specs.World.{value_of}
-use Rattle.sysv_core.specs.Led.{LeadsTo, TurnLeads, Stays}
-use Rattle.sysv_core.specs.Kinds.{phase_kind, wait_kind, gives_back}
+use Rattle.sysv_core.specs.Led.{LeadsTo, TurnLeads}
+use Rattle.sysv_core.specs.Kinds.{phase_kind, gives_back}
 use Rattle.sysv_core.proofs.StepKeepsKind.{not_over}
 
 -- ---- the objects always have a turn
@@ -106,17 +106,17 @@ remove_keeps (remove.Giveback chain) = refl
 -- ---- a look at the count of a wait
 
 module _ (wait : Wait) (value : ℕ) (turns : List Turn) (is : value ≡ value_of turns (awaited wait)) (over : Bool)
-    (test : IsTrue over ↔ goal_of wait ≤ value) (l : Led) where
-  abbrev pub Looks : Type 0
-  Looks = ((goal_of wait ≤ value_of turns (awaited wait))
-      × LeadsTo (gives_back (wait_kind wait)) (Goes (resume wait (value_of turns (awaited wait)))) l)
-      ⊎ ((value_of turns (awaited wait) < goal_of wait) × Stays (Waits wait) l)
-
-  pub looks_over : IsTrue over → LeadsTo (gives_back (wait_kind wait)) (Goes (resume wait value)) l → Looks
-  looks_over yes leads = inl (
-    subst (λ n. goal_of wait ≤ n) is (test.0 yes),
-    subst (λ n. LeadsTo (gives_back (wait_kind wait)) (Goes (resume wait n)) l) is leads,
+    (test : IsTrue over ↔ goal_of wait ≤ value) where
+  -- The count is at the goal, and the call continues in this state.
+  pub looks_over : {Q : Type 0} (state : State) → IsTrue over → Goes (resume wait value) ≡ state →
+      ((goal_of wait ≤ value_of turns (awaited wait)) × (Goes (resume wait (value_of turns (awaited wait))) ≡ state))
+      ⊎ Q
+  looks_over state reached e = inl (
+    subst (λ n. goal_of wait ≤ n) is (test.0 reached),
+    subst (λ n. Goes (resume wait n) ≡ state) is e,
   )
 
-  pub looks_on : over ≡ false → Stays (Waits wait) l → Looks
-  looks_on no stays = inr (not_over over no (goal_of wait) value (value_of turns (awaited wait)) test is, stays)
+  -- The count is below the goal, and the call still waits.
+  pub looks_on : {Q : Type 0} (state : State) → over ≡ false → Waits wait ≡ state →
+      Q ⊎ ((value_of turns (awaited wait) < goal_of wait) × (Waits wait ≡ state))
+  looks_on state below e = inr (not_over over below (goal_of wait) value (value_of turns (awaited wait)) test is, e)

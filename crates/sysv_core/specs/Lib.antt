@@ -26,6 +26,7 @@ pub mod Sound
 pub mod Answered
 pub mod Tallying
 pub mod Seen
+pub mod Held
 pub mod Standing
 pub mod Kept
 pub mod Led

@@ -1,10 +1,6 @@
 -- The call under way of an actor, as the code keeps it (this project's profile): the step before
 -- which the call is, or its wait; none if the actor is idle or does not exist. Actors count from 1.
 use Rattle.std.specs.Prelude.{◌≡◌, ℕ, zero, suc, List, Option, Some, None, slice_get, ⊤}
-use Rattle.sysv_steps.specs.declared.send.SendStep.{SendStep}
-use Rattle.sysv_steps.specs.declared.send.SendWait.{SendWait}
-use Rattle.sysv_steps.specs.declared.state.State.TheVariants as kept
-use Rattle.sysv_steps.specs.Bodies.{StillCanSend}
 use Rattle.sysv_steps.specs.State.{Phase, Wait, State, Goes, Waits}
 use Rattle.sysv_steps.specs.Seen.{get_phase, get_wait, send_phase, send_wait, receive_phase, receive_wait, stat_phase}
 use Rattle.sysv_steps.specs.Seen.{set_phase, remove_phase}
@@ -26,11 +22,6 @@ doing_state (doing.Receive at body) = stands_at (λ step. receive_phase step bod
 doing_state (doing.Stat step) = Goes (stat_phase step)
 doing_state (doing.Set step) = Goes (set_phase step)
 doing_state (doing.Remove step) = Goes (remove_phase step)
-
--- A send at this position can still send this body.
-abbrev pub CanStillSend : Standing SendStep SendWait → List ℕ → Type 0
-CanStillSend (standing.At step) body = StillCanSend (kept.Goes step) body
-CanStillSend (standing.Waits wait) body = StillCanSend (kept.Waits wait) body
 
 -- The state of the actor's call, if there is such an actor and it is in a call.
 abbrev pub state_at : List (Option State) → ℕ → Option (Option State)

@@ -1,7 +1,7 @@
 //! A call under way, and the result of its start or of one of its steps.
 
 ghost use Rattle.std.specs.Prelude.{◌≡◌, is_some};
-ghost use Rattle.sysv_core.specs.Standing.{CanStillSend};
+ghost use Rattle.sysv_core.specs.Held.{CanStillSend, can_in_one_way};
 ghost use Rattle.sysv_core.specs.Tallying.{is_got};
 
 use sysv_model::Body;
@@ -47,7 +47,7 @@ pub enum Standing<S, W> {
 pub struct Sent {
     pub at: Standing<SendStep, SendWait>,
     pub body: Body,
-    pub ghost can: { CanStillSend at body },
+    pub ghost can: { CanStillSend at body } by { can_in_one_way at body },
 }
 
 /// The result of a start or a step of a call.

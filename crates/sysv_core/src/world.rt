@@ -264,7 +264,10 @@ impl World {
             StandsThere (state_at self.now.states actor) doing.now) }
     {
         let place = self.place_of(actor)?;
-        self.actors[place].as_ref()
+        match &self.actors[place] {
+            Some(doing) => Some(doing),
+            None => None,
+        }
     }
 
     /// Ends the world and returns the number of blocks that are then free: all blocks with which

@@ -9,8 +9,8 @@ pub returns-then-is_over : goal.returns-then-is_over
 returns-then-is_over c = λ generation turns s.
     let id : FitsSigned w32 c.args.wait.receive.id = search rules in
     let is = simp to_z-of_z at (c.arrived.ensures generation turns s) in
-    let yes : IsTrue c.is_over.result = search rules in
-    looks_over (receive_wait c.args.wait) c.arrived.result turns is c.is_over.result c.is_over.ensures _ yes
+    let above : IsTrue c.is_over.result = search rules in
+    looks_over (receive_wait c.args.wait) c.arrived.result turns is c.is_over.result c.is_over.ensures _ above
     (ap Goes (c.resume.ensures c.arrived.result c.args.body))
 
 pub returns-else-is_over : goal.returns-else-is_over
