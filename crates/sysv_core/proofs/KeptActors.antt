@@ -12,8 +12,7 @@ use Rattle.sysv_steps.specs.State.{State, Goes, Waits, Over}
 use Rattle.sysv_core.specs.declared.doing.Doing.{Doing}
 use Rattle.sysv_core.specs.declared.doing.Led.{Led}
 use Rattle.sysv_core.specs.declared.doing.Led.TheVariants as led
-use Rattle.sysv_core.specs.Held.{text_in}
-use Rattle.sysv_core.specs.Standing.{stands_at}
+use Rattle.sysv_core.specs.Standing.{doing_state}
 use Rattle.sysv_queue.specs.Tally.{Tallied}
 use Rattle.sysv_core.specs.Kept.{state_kept, states_kept, doing_led, kept_led, counted_led, told_by}
 use Rattle.sysv_core.specs.Tallying.{is_got, messages_given}
@@ -23,7 +22,7 @@ use Rattle.sysv_core.proofs.Lists.{map-slice_set, slice_set-same, slice_set-twic
 
 pub kept_some : (x : Option Doing) → is_some x ≡ true → (p : State) × (state_kept x ≡ Some p)
 kept_some None e = absurd cc
-kept_some (Some d) e = (stands_at d.standing (text_in d.body), refl)
+kept_some (Some d) e = (doing_state d, refl)
 
 pub kept_none : (x : Option Doing) → is_some x ≡ false → state_kept x ≡ None
 kept_none None e = refl

@@ -1,6 +1,6 @@
 pub mod Lists
 pub mod StepKeepsKind
-pub mod HeldByStep
+pub mod TurnLeads
 pub mod Histories
 pub mod BlocksConserved
 pub mod SoundStays

@@ -15,7 +15,7 @@ use Rattle.sysv_queue.specs.Tally.{Tallied}
 use Rattle.sysv_objects.specs.LegalDeed.{IsLegalDeed, AreLegal}
 use Rattle.sysv_objects.specs.Objects.{Objects}
 use Rattle.sysv_objects.specs.StandsFor.{StandsFor as ObjectsStandFor}
-use Rattle.sysv_steps.specs.State.{Phase, Wait, State, Goes, Waits, Over}
+use Rattle.sysv_steps.specs.State.{Phase, Wait, Ending, State, Goes, Waits, Over}
 use Rattle.sysv_steps.specs.Resume.{awaited, resume}
 use Rattle.sysv_steps.specs.Begin.{begin}
 use Rattle.sysv_steps.specs.declared.call.Call.{Call}
@@ -23,8 +23,10 @@ use Rattle.sysv_core.specs.declared.doing.Led.{Led}
 use Rattle.sysv_core.specs.declared.doing.Led.TheVariants as led
 use Rattle.sysv_core.specs.declared.event.Event.{Event}
 use Rattle.sysv_core.specs.declared.event.Event.TheVariants.{Start, Step}
-use Rattle.sysv_core.specs.declared.event.Standing.{Standing as StandingKept}
-use Rattle.sysv_core.specs.declared.event.Standing.TheVariants as standing
+use Rattle.sysv_core.specs.declared.doing.Doing.{Doing as DoingKept}
+use Rattle.sysv_core.specs.declared.doing.Doing.TheVariants as doing
+use Rattle.sysv_core.specs.declared.doing.Standing.{Standing}
+use Rattle.sysv_core.specs.declared.doing.Standing.TheVariants as standing
 use Rattle.sysv_core.specs.declared.event.Stepped.{Stepped}
 use Rattle.sysv_core.specs.declared.event.Stepped.TheVariants as stepped
 use Rattle.sysv_core.specs.World.{World, Started, Doing, Given, Start as Begun, Step as Stepping, Preset, actor_at}
@@ -33,8 +35,7 @@ use Rattle.sysv_core.specs.World.{StartsAt, StepsAt, Presets, with_preset}
 use Rattle.sysv_core.specs.Kinds.{kind_of, phase_kind, wait_kind, gives_back, IsOf}
 use Rattle.sysv_core.specs.Sound.{IsToCaller, StaysSound}
 use Rattle.sysv_steps.specs.Asked.{asked_of}
-use Rattle.sysv_core.specs.Standing.{stands_at}
-use Rattle.sysv_core.specs.Held.{text_in}
+use Rattle.sysv_core.specs.Standing.{stands_at, doing_state}
 use Rattle.sysv_core.specs.Kept.{kept_led, counted_led, told_by}
 use Rattle.sysv_core.specs.Led.{LeadsTo, TurnLeads, LookLeads, Stays, StepLeads}
 use Rattle.sysv_core.specs.Preset.{MakesPreset}
@@ -57,15 +58,25 @@ busy_in (Some (Some d)) s e = (d, refl, cc)
 
 -- ---- what a start or a step leads to
 
+stands_on : {S W : Type 0} (phase : S → Phase) (wait : W → Wait) (k : Standing S W) (ending : Ending) →
+    Over ending ≡ stands_at phase wait k → ⊥
+stands_on phase wait (standing.At step) ending e = cc
+stands_on phase wait (standing.Waits w) ending e = cc
+
+-- A call under way is not over.
+never_over : (ending : Ending) (d : DoingKept) → Over ending ≡ doing_state d → ⊥
+never_over ending (doing.Get at) e = stands_on _ _ at ending e
+never_over ending (doing.Send sent) e = stands_on _ _ sent.at ending e
+never_over ending (doing.Receive at body) e = stands_on _ _ at ending e
+never_over ending (doing.Stat step) e = cc
+never_over ending (doing.Set step) e = cc
+never_over ending (doing.Remove step) e = cc
+
 state_led : (call : Started) (b : Bool) (state : State) (l : Led) → LeadsTo b state l →
     state_in (doing_in call state) ≡ kept_led l
 state_led call b (Goes phase) (led.To doing) h = ap Some h
 state_led call b (Waits wait) (led.To doing) h = ap Some h
-state_led call b (Over ending) (led.To doing) h = not_over doing.standing (text_in doing.body) h
-  where
-    not_over : (k : StandingKept) (text : List ℕ) → Over ending ≡ stands_at k text → None ≡ Some (stands_at k text)
-    not_over (standing.At phase) text e = absurd cc
-    not_over (standing.Waits wait) text e = absurd cc
+state_led call b (Over ending) (led.To doing) h = absurd (never_over ending doing h)
 state_led call b (Over ending) (led.Over ended) h = refl
 state_led call b (Goes phase) (led.Over ended) h = absurd h
 state_led call b (Waits wait) (led.Over ended) h = absurd h
@@ -77,12 +88,7 @@ tells_led : (w : World) (call : Started) (actor : ℕ) (state : State) (l : Led)
     Gives w (given_in call state) (told_by actor l)
 tells_led w call actor (Goes phase) (led.To doing) young own h = (young, refl)
 tells_led w call actor (Waits wait) (led.To doing) young own h = (young, refl)
-tells_led w call actor (Over ending) (led.To doing) young own h = not_over doing.standing (text_in doing.body) h
-  where
-    not_over : (k : StandingKept) (text : List ℕ) → Over ending ≡ stands_at k text →
-        Gives w (given_in call (Over ending)) (told_by actor (led.To doing))
-    not_over (standing.At phase) text e = absurd cc
-    not_over (standing.Waits wait) text e = absurd cc
+tells_led w call actor (Over ending) (led.To doing) young own h = absurd (never_over ending doing h)
 tells_led w call actor (Over ending) (led.Over ended) young own h =
     let g : Given = record { call = call; ending = ending } in
     (young, (g, refl, record { caller = own; ending = h }))

@@ -8,12 +8,11 @@ use Rattle.sysv_core.specs.declared.doing.Led.{Led}
 use Rattle.sysv_core.specs.declared.doing.Led.TheVariants as led
 use Rattle.sysv_core.specs.declared.event.Stepped.{Stepped}
 use Rattle.sysv_core.specs.declared.event.Stepped.TheVariants as stepped
-use Rattle.sysv_core.specs.Standing.{stands_at}
-use Rattle.sysv_core.specs.Held.{text_in}
+use Rattle.sysv_core.specs.Standing.{doing_state}
 
 -- The state of the call that an actor is in, if it is in one.
 abbrev pub state_kept : Option Doing → Option State
-state_kept doing = option_map (λ (d : Doing). stands_at d.standing (text_in d.body)) doing
+state_kept doing = option_map doing_state doing
 
 -- The states of the calls of all actors.
 abbrev pub states_kept : List (Option Doing) → List (Option State)

@@ -64,22 +64,3 @@ gives_back None = false
 gives_back (Some Sends) = false
 gives_back (Some Receives) = true
 gives_back (Some Bare) = false
-
--- A call of this kind brings a body.
-abbrev pub brings : Option Kind → Bool
-brings None = false
-brings (Some Sends) = true
-brings (Some Receives) = true
-brings (Some Bare) = false
-
--- The kind of the calls that can be in this state.
-abbrev pub kind_at : State → Option Kind
-kind_at (Goes phase) = phase_kind phase
-kind_at (Waits wait) = wait_kind wait
-kind_at (Over ending) = None
-
--- The calls that can be in this state bring a body.
-abbrev pub has_body : State → Bool
-has_body (Goes phase) = brings (phase_kind phase)
-has_body (Waits wait) = brings (wait_kind wait)
-has_body (Over ending) = false

@@ -12,14 +12,13 @@ use Rattle.sysv_core.specs.declared.doing.Led.{Led}
 use Rattle.sysv_core.specs.declared.doing.Led.TheVariants as led
 use Rattle.sysv_core.specs.Answered.{TellsEnding}
 use Rattle.sysv_core.specs.Kinds.{phase_kind, wait_kind, gives_back}
-use Rattle.sysv_core.specs.Standing.{stands_at}
-use Rattle.sysv_core.specs.Held.{text_in}
+use Rattle.sysv_core.specs.Standing.{doing_state}
 use Rattle.sysv_core.specs.World.{value_of}
 
 -- The code's call continues in the state in which the definitions' call is, or both are over and
 -- the code reports the ending, with the body or without it. A spare body is not reported.
 abbrev pub LeadsTo : Bool → State → Led → Type 0
-LeadsTo back state (led.To doing) = state ≡ stands_at doing.standing (text_in doing.body)
+LeadsTo back state (led.To doing) = state ≡ doing_state doing
 LeadsTo back (Over ending) (led.Over ended) = TellsEnding back ending ended.result ended.body
 LeadsTo back (Goes phase) (led.Over ended) = ⊥
 LeadsTo back (Waits wait) (led.Over ended) = ⊥
@@ -36,7 +35,7 @@ pub record TurnLeads (old : Objects) (phase : Phase) (now : ℕ) (result : Led) 
 
 -- The call still is in the state in which it was.
 abbrev pub Stays : State → Led → Type 0
-Stays state (led.Stays doing) = state ≡ stands_at doing.standing (text_in doing.body)
+Stays state (led.Stays doing) = state ≡ doing_state doing
 Stays state (led.To doing) = ⊥
 Stays state (led.Over ended) = ⊥
 

@@ -14,7 +14,6 @@ pub use Rattle.sysv_keys.specs.RegistryLaw
 pub use Rattle.sysv_objects.specs.Objects
 pub use Rattle.sysv_objects.specs.LegalDeed
 pub use Rattle.sysv_steps.specs.State
-pub use Rattle.sysv_steps.specs.HeldBlocks
 pub use Rattle.sysv_steps.specs.Next
 pub use Rattle.sysv_steps.specs.Played
 pub use Rattle.sysv_steps.specs.AsksFor
@@ -27,8 +26,8 @@ pub mod Sound
 pub mod Answered
 pub mod Tallying
 pub mod Seen
-pub mod Standing
 pub mod Held
+pub mod Standing
 pub mod Kept
 pub mod Led
 pub mod Preset

@@ -1,22 +1,53 @@
 //! A call under way, and the result of its start or of one of its steps.
 
 ghost use Rattle.std.specs.Prelude.{◌≡◌, is_some};
-ghost use Rattle.sysv_core.specs.Held.{IsHeld};
+ghost use Rattle.sysv_core.specs.Held.{CanStillSend, can_in_one_way};
 ghost use Rattle.sysv_core.specs.Tallying.{is_got};
 
-use crate::event::Standing;
 use sysv_model::Body;
 use sysv_queue::Delivery;
-use sysv_steps::Outcome;
+use sysv_steps::{
+    GetStep, GetWait, Outcome, ReceiveStep, ReceiveWait, RemoveStep, SendStep, SendWait, SetStep,
+    StatStep,
+};
 
 /// A call under way: the step before which it is or the wait that it is in, and the body of a send
 /// or a receive.
 ///
-/// A `Doing` cannot be dropped, because it may hold blocks of the pool; end it with `chain_in`.
-pub struct Doing {
-    pub standing: Standing,
-    pub body: Option<Body>,
-    pub ghost held: { IsHeld standing body },
+/// A `Doing` can be neither dropped nor copied, because it may hold blocks of the pool; end it with
+/// `chain_in`.
+pub enum Doing {
+    /// A `msgget`.
+    Get(Standing<GetStep, GetWait>),
+    /// A `msgsnd`.
+    Send(Sent),
+    /// A `msgrcv`, with the body that it fills.
+    Receive {
+        at: Standing<ReceiveStep, ReceiveWait>,
+        body: Body,
+    },
+    /// An IPC_STAT.
+    Stat(StatStep),
+    /// An IPC_SET.
+    Set(SetStep),
+    /// An IPC_RMID.
+    Remove(RemoveStep),
+}
+
+/// The position of a call under way that may wait.
+pub enum Standing<S, W> {
+    /// The call is before this step.
+    At(S),
+    /// The call is in this wait, until a step of its actor finds the count above the value.
+    Waits(W),
+}
+
+/// A send under way, with its body. The body is not too long, and before its place the send holds
+/// the number of blocks that the body needs.
+pub struct Sent {
+    pub at: Standing<SendStep, SendWait>,
+    pub body: Body,
+    pub ghost can: { CanStillSend at body } by { can_in_one_way at body },
 }
 
 /// The result of a start or a step of a call.

@@ -1,7 +1,7 @@
 //! The events of a world, and their results.
 
 use sysv_model::{Body, Cred};
-use sysv_steps::{Call, Outcome, Phase, Wait};
+use sysv_steps::{Call, Outcome};
 
 /// An event of a world: an actor starts a call, or makes one step of the call that it is in. Actors
 /// count from 1.
@@ -12,14 +12,6 @@ pub enum Event {
     Start { actor: u32, cred: Cred, call: Call },
     /// The actor makes one step at the time `now`, in seconds.
     Step { actor: u32, now: u64 },
-}
-
-/// The position of a call under way. What the call holds there can be neither dropped nor copied.
-pub enum Standing {
-    /// The call is before this step.
-    At(Phase),
-    /// The call is in this wait, until a step of its actor finds the count above the value.
-    Waits(Wait),
 }
 
 /// The answer to an actor's call.

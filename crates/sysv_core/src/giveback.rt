@@ -1,76 +1,34 @@
 //! Ends calls under way and returns the blocks that they hold.
 
-ghost use Rattle.std.specs.Prelude.{◌≡◌, List, ℕ};
+ghost use Rattle.std.specs.Prelude.{◌≡◌};
 ghost use Rattle.sysv_steps.specs.HeldBlocks.{held};
-ghost use Rattle.sysv_steps.specs.State.{Goes};
-ghost use Rattle.sysv_steps.specs.Seen.{phase_of};
-ghost use Rattle.sysv_core.specs.Held.{text_in};
 ghost use Rattle.sysv_core.specs.Kept.{blocks_kept};
-ghost use Rattle.sysv_core.specs.Standing.{stands_at};
+ghost use Rattle.sysv_core.specs.Standing.{doing_state};
 
-use crate::doing::Doing;
-use crate::event::Standing;
+use crate::doing::{Doing, Sent, Standing};
 use sysv_pool::Chain;
-use sysv_queue::Tally;
-use sysv_steps::Phase;
 
-/// Ends the call at its position and returns the blocks that it holds. A message that a receive has
-/// taken is lost.
+/// Ends the call and returns the blocks that it holds. A message that a receive has taken is lost.
 pub(crate) fn chain_in(doing: Doing) -> Chain
-    ensures { result.blocks ≡ held (stands_at doing.standing (text_in doing.body)) }
+    ensures { result.blocks ≡ held (doing_state doing) }
 {
-    let Doing {
-        standing,
-        body: _body,
-    } = doing;
-    match standing {
-        Standing::At(phase) => chain_of(phase),
-        Standing::Waits(_wait) => Chain::empty(),
-    }
-}
-
-/// Returns the chain that a call holds before this step, or an empty chain.
-fn chain_of(phase: Phase) -> Chain
-    ensures { (text : List ℕ) → result.blocks ≡ held (Goes (phase_of phase text)) }
-{
-    match phase {
-        Phase::Place { send: _send, chain } => chain,
-        Phase::SendGiveback {
-            chain,
-            afterwards: _afterwards,
-        } => chain,
-        Phase::Forget { id: _id, chain } => chain,
-        Phase::RemoveGiveback { chain } => chain,
-        Phase::ReceiveGiveback { chain, delivery } => {
-            delivery.lost(&mut Tally::open());
-            chain
+    match doing {
+        Doing::Get(Standing::At(_step)) => Chain::empty(),
+        Doing::Get(Standing::Waits(_wait)) => Chain::empty(),
+        Doing::Send(send) => {
+            let Sent { at, body: _body } = send;
+            match at {
+                Standing::At(step) => step.into_chain(),
+                Standing::Waits(_wait) => Chain::empty(),
+            }
         }
-        Phase::Begin(_get) => Chain::empty(),
-        Phase::Install { get: _get, id: _id } => Chain::empty(),
-        Phase::Settle { id: _id } => Chain::empty(),
-        Phase::Unmake { id: _id } => Chain::empty(),
-        Phase::Probe {
-            get: _get,
-            id: _id,
-            settled: _settled,
-        } => Chain::empty(),
-        Phase::Look(_send) => Chain::empty(),
-        Phase::Reserve(_send) => Chain::empty(),
-        Phase::Take(_receive) => Chain::empty(),
-        Phase::Stat {
-            cred: _cred,
-            id: _id,
-        } => Chain::empty(),
-        Phase::Remove {
-            cred: _cred,
-            id: _id,
-        } => Chain::empty(),
-        Phase::Set {
-            cred: _cred,
-            id: _id,
-            to: _to,
-        } => Chain::empty(),
-        Phase::SetGiveback => Chain::empty(),
+        Doing::Receive { at, body: _body } => match at {
+            Standing::At(step) => step.into_chain(),
+            Standing::Waits(_wait) => Chain::empty(),
+        },
+        Doing::Stat(_step) => Chain::empty(),
+        Doing::Set(_step) => Chain::empty(),
+        Doing::Remove(step) => step.into_chain(),
     }
 }
 

@@ -15,10 +15,14 @@ mod doing;
 mod event;
 mod giveback;
 mod laws;
+mod leading;
+mod looks;
 mod preset;
+mod turns;
 mod world;
 
-pub use event::{Answer, Event, Standing, Stepped};
+pub use doing::{Doing, Sent, Standing};
+pub use event::{Answer, Event, Stepped};
 pub use laws::{
     each_world_is_sound, every_run_obeys, exact_fit, no_wrong_reply, one_run, one_step, some_run,
     some_step, worked_answers, worked_run, worked_selection, worked_waits,

@@ -13,7 +13,7 @@ ghost use Rattle.sysv_core.specs.declared.event.Event.TheVariants.{Start, Step};
 
 use crate::actor_steps::{advance, begin, counted};
 use crate::doing::{Doing, Ended, Led};
-use crate::event::{Answer, Event, Standing, Stepped};
+use crate::event::{Answer, Event, Stepped};
 use crate::giveback::{chain_in, end_all};
 use crate::laws::{each_world_is_sound, every_run_obeys};
 use crate::preset::preset_queue;
@@ -257,15 +257,15 @@ impl World {
         self.tally
     }
 
-    /// Returns the position of the call of `actor`: before a step, or in a wait. Returns `None` if
-    /// the actor is idle or does not exist. Actors count from 1.
-    pub fn standing(&self, actor: u32) -> Option<&Standing>
-        ensures { MatchOption result (StandsNowhere (state_at self.now.states actor)) (λ standing.
-            StandsThere (state_at self.now.states actor) standing.now) }
+    /// Returns the call of `actor` under way: before a step, or in a wait. Returns `None` if the
+    /// actor is idle or does not exist. Actors count from 1.
+    pub fn doing(&self, actor: u32) -> Option<&Doing>
+        ensures { MatchOption result (StandsNowhere (state_at self.now.states actor)) (λ doing.
+            StandsThere (state_at self.now.states actor) doing.now) }
     {
         let place = self.place_of(actor)?;
         match &self.actors[place] {
-            Some(doing) => Some(&doing.standing),
+            Some(doing) => Some(doing),
             None => None,
         }
     }

@@ -14,8 +14,8 @@ use Rattle.sysv_core.proofs.Lists.{get_set_same}
 use Rattle.sysv_core.proofs.SoundStays.{does, moved, other}
 use Rattle.sysv_script.specs.declared.names.Operation.{Operation}
 use Rattle.sysv_script.specs.declared.names.Operation.TheVariants.{Get}
-use Rattle.sysv_script.specs.Names.{operation_of}
-use Rattle.sysv_script.specs.Scene.{operation_in, under_way}
+use Rattle.sysv_script.specs.Names.{operation_in, operation_of}
+use Rattle.sysv_script.specs.Scene.{under_way}
 use Rattle.sysv_script.proofs.StepKeepsOperation.{StandsAs, next_as, resumed_as, begin_as_asked, operation_goes}
 
 -- ---- the actors

@@ -2,17 +2,17 @@
 use Rattle.std.proofs.Common.{◌≡◌, ℕ, zero, suc, List, [], ◌∷◌, ◌++◌, Option, Some, None, option_map, map, slice_get}
 use Rattle.std.proofs.Common.{refl, sym, ap, subst, ◌∙◌}
 use Rattle.std.proofs.lemmas.Option.{slice_get-map}
-use Rattle.sysv_core.specs.declared.event.Standing.{Standing as StandingKept}
+use Rattle.sysv_core.specs.declared.doing.Doing.{Doing as DoingKept}
 use Rattle.sysv_steps.specs.State.{State}
 use Rattle.sysv_core.specs.World.{World, Doing, actor_at}
 use Rattle.sysv_core.specs.Seen.{Seen, IsSeenAs, state_in}
-use Rattle.sysv_core.specs.Standing.{state_at, stands_at, StandsThere, StandsNowhere}
+use Rattle.sysv_core.specs.Standing.{state_at, doing_state, StandsThere, StandsNowhere}
 use Rattle.sysv_script.specs.Heads.{head_text}
-use Rattle.sysv_script.specs.Names.{standing_text}
+use Rattle.sysv_script.specs.Names.{operation_in, standing_text}
 use Rattle.sysv_script.specs.declared.head.Head.{Head}
 use Rattle.sysv_script.specs.declared.head.Head.TheVariants as head
 use Rattle.sysv_script.specs.declared.names.Operation.{Operation}
-use Rattle.sysv_script.specs.Scene.{operation_in, under_way, standing_line}
+use Rattle.sysv_script.specs.Scene.{under_way, standing_line}
 
 seen_at : (actors : List (Option Doing)) (states : List (Option State)) (actor : ℕ) → map state_in actors ≡ states →
     state_at states actor ≡ option_map state_in (actor_at actors actor)
@@ -20,7 +20,7 @@ seen_at actors states zero e = refl
 seen_at actors states (suc place) e = ap (λ ss. slice_get ss place) (sym e) ∙ slice_get-map state_in actors place
 
 -- What the world reports is the state of the actor's call in each world as which it is seen.
-pub told_there : (w : World) (seen : Seen) (actor : ℕ) (told : StandingKept) → IsSeenAs w seen →
+pub told_there : (w : World) (seen : Seen) (actor : ℕ) (told : DoingKept) → IsSeenAs w seen →
     StandsThere (state_at seen.states actor) told → StandsThere (option_map state_in (actor_at w.actors actor)) told
 told_there w seen actor told sight stands =
     subst (λ o. StandsThere o told) (seen_at w.actors seen.states actor sight.states) stands
@@ -35,18 +35,18 @@ idle_line actor None stands = refl
 idle_line actor (Some None) stands = refl
 idle_line actor (Some (Some d)) stands = absurd stands
 
-pub going_line : (actor : ℕ) (o : Option (Option Doing)) (told : StandingKept) (line : Head) →
+pub going_line : (actor : ℕ) (o : Option (Option Doing)) (told : DoingKept) (line : Head) →
     StandsThere (option_map state_in o) told →
-    ((text : List ℕ) → head_text line ≡ standing_text actor (stands_at told text)) →
+    head_text line ≡ standing_text actor (doing_state told) →
     head_text line ++ 10 ∷ [] ≡ standing_line actor o
 going_line actor None told line stands says = absurd stands
 going_line actor (Some None) told line stands says = absurd stands
 going_line actor (Some (Some d)) told line stands says =
-    ap (λ t. t ++ 10 ∷ []) (says stands.0 ∙ sym (ap (standing_text actor) stands.1))
+    ap (λ t. t ++ 10 ∷ []) (says ∙ sym (ap (standing_text actor) stands))
 
-pub going_way : (o : Option (Option Doing)) (told : StandingKept) (operation : Operation) →
+pub going_way : (o : Option (Option Doing)) (told : DoingKept) (operation : Operation) →
     StandsThere (option_map state_in o) told →
-    ((text : List ℕ) → operation_in (stands_at told text) ≡ Some operation) → Some operation ≡ under_way o
+    operation_in (doing_state told) ≡ Some operation → Some operation ≡ under_way o
 going_way None told operation stands says = absurd stands
 going_way (Some None) told operation stands says = absurd stands
-going_way (Some (Some d)) told operation stands says = sym (says stands.0) ∙ sym (ap operation_in stands.1)
+going_way (Some (Some d)) told operation stands says = sym says ∙ sym (ap operation_in stands)

@@ -1,6 +1,6 @@
 -- The names of calls, and of the steps before which they are, in a script (this project's script
 -- language).
-use Rattle.std.specs.Prelude.{ℕ, List, ◌++◌, codes}
+use Rattle.std.specs.Prelude.{ℕ, List, ◌++◌, Option, Some, None, codes}
 use Rattle.std.specs.Fmt.{decimal}
 use Rattle.sysv_script.specs.declared.names.Operation.{Operation}
 use Rattle.sysv_script.specs.declared.names.Operation.TheVariants.{Get, Send, Receive, Stat as OfStat, Set as OfSet}
@@ -67,6 +67,18 @@ operation_of_wait (OnSettled goal get) = Get
 operation_of_wait (OnFreed goal send) = Send
 operation_of_wait (OnReleased goal send) = Send
 operation_of_wait (OnArrived goal receive) = Receive
+
+-- The kind of a call under way, by its state.
+abbrev pub operation_in : State → Option Operation
+operation_in (Goes phase) = Some (operation_at phase)
+operation_in (Waits wait) = Some (operation_of_wait wait)
+operation_in (Over ending) = None
+
+-- The name of the step before which a call is: none if it waits or is over.
+abbrev pub step_now : State → Option (List ℕ)
+step_now (Goes phase) = Some (step_in phase)
+step_now (Waits wait) = None
+step_now (Over ending) = None
 
 -- The line for an actor whose call is in this state.
 abbrev pub standing_text : ℕ → State → List ℕ

@@ -8,7 +8,6 @@ use Rattle.std.specs.Prelude.{map, slice_get, slice_set, unwrap_or, if◌then◌
 use Rattle.std.specs.List.{range_with_len}
 use Rattle.sysv_model.specs.declared.cred.Cred.{Cred}
 use Rattle.sysv_steps.specs.Call.{SystemCall, Msgget, Msgsnd, Msgrcv, MsgctlStat, MsgctlSet, MsgctlRmid}
-use Rattle.sysv_steps.specs.State.{State, Goes, Waits, Over}
 use Rattle.sysv_steps.specs.declared.call.Call.{Call}
 use Rattle.sysv_steps.specs.declared.call.Call.TheVariants as call
 use Rattle.sysv_core.specs.declared.event.Event.{Event}
@@ -22,7 +21,7 @@ use Rattle.sysv_script.specs.Said.{AllContinue, GivesBlocks}
 use Rattle.sysv_script.specs.declared.names.Operation.{Operation}
 use Rattle.sysv_script.specs.declared.head.Head.TheVariants as head
 use Rattle.sysv_script.specs.Heads.{head_text}
-use Rattle.sysv_script.specs.Names.{operation_at, operation_of, operation_of_wait, standing_text}
+use Rattle.sysv_script.specs.Names.{operation_in, operation_of, standing_text}
 use Rattle.sysv_script.specs.declared.actor.TheConstants.{SCRIPT_ACTORS}
 use Rattle.sysv_script.specs.declared.stage.TheConstants.{SCRIPT_BLOCKS, MAX_STEPS}
 
@@ -63,12 +62,6 @@ with_cred creds actor cred = slice_set creds (actor - 1) cred
 -- The scene with another world.
 abbrev pub in_world : Scene → World → Scene
 in_world s world = record s { world = world }
-
--- The kind of a call under way, by its state.
-abbrev pub operation_in : State → Option Operation
-operation_in (Goes phase) = Some (operation_at phase)
-operation_in (Waits wait) = Some (operation_of_wait wait)
-operation_in (Over ending) = None
 
 -- The kind of the call that an actor is in: none if it is idle or does not exist.
 abbrev pub under_way : Option (Option Doing) → Option Operation

@@ -1,14 +1,13 @@
 //! The lines that a script prints.
-ghost use Rattle.std.specs.Prelude.{◌≡◌, ℕ, List, Some};
-ghost use Rattle.sysv_steps.specs.State.{Goes, Waits};
-ghost use Rattle.sysv_steps.specs.Seen.{phase_of, wait_of};
+ghost use Rattle.std.specs.Prelude.{◌≡◌, Some};
+ghost use Rattle.sysv_core.specs.Standing.{doing_state};
 ghost use Rattle.sysv_script.specs.Names.{standing_text};
 ghost use Rattle.sysv_script.specs.Heads.{head_text};
 
 use crate::names::{Operation, Step};
 use crate::printed::Printed;
 use std::fmt;
-use sysv_steps::{Outcome, Phase, Wait};
+use sysv_core::{Doing, Outcome};
 
 /// A line of the output, without the bytes of a message that may follow.
 #[derive(Clone, Copy)]
@@ -49,26 +48,18 @@ pub enum Head {
 }
 
 impl Head {
-    /// Returns the line for an actor whose call is before the step of `phase`.
-    pub fn at(actor: u32, phase: &Phase) -> Head
-        ensures { (text : List ℕ) → head_text result
-            ≡ standing_text actor (Goes (phase_of phase.now text)) }
+    /// Returns the line for an actor that is in this call.
+    pub fn of_doing(actor: u32, doing: &Doing) -> Head
+        ensures { head_text result ≡ standing_text actor (doing_state doing.now) }
     {
-        Head::At {
-            actor,
-            operation: Operation::of_phase(phase),
-            step: Step::of_phase(phase),
-        }
-    }
-
-    /// Returns the line for an actor whose call waits.
-    pub fn waits(actor: u32, wait: Wait) -> Head
-        ensures { (text : List ℕ) → head_text result
-            ≡ standing_text actor (Waits (wait_of wait text)) }
-    {
-        Head::Waits {
-            actor,
-            operation: Operation::of_wait(wait),
+        let operation = Operation::of_doing(doing);
+        match Step::of_doing(doing) {
+            Some(step) => Head::At {
+                actor,
+                operation,
+                step,
+            },
+            None => Head::Waits { actor, operation },
         }
     }
 }

@@ -1,13 +1,15 @@
 //! The names of calls and their steps in a script.
-ghost use Rattle.std.specs.Prelude.{◌≡◌, ℕ, List, Some};
-ghost use Rattle.sysv_steps.specs.Seen.{phase_of, wait_of};
-ghost use Rattle.sysv_script.specs.Names.{operation_at, operation_of, operation_of_wait, step_in};
+ghost use Rattle.std.specs.Prelude.{◌≡◌, ℕ, List, Some, option_map};
+ghost use Rattle.sysv_steps.specs.Seen.{get_phase, send_phase};
+ghost use Rattle.sysv_core.specs.Standing.{doing_state};
+ghost use Rattle.sysv_script.specs.Names.{operation_in, operation_of, step_in, step_now};
 ghost use Rattle.sysv_script.specs.SaidBy.{call_asked};
 ghost use Rattle.sysv_script.specs.Heads.{operation_name, step_name};
 
 use crate::call::Text;
 use std::fmt;
-use sysv_steps::{Call, Phase, Wait};
+use sysv_core::{Doing, Sent, Standing};
+use sysv_steps::{Call, GetStep, ReceiveStep, RemoveStep, SendStep, SetStep};
 
 /// The kind of a call.
 #[derive(Clone, Copy)]
@@ -41,35 +43,17 @@ impl Operation {
         }
     }
 
-    /// Returns the kind of the call that is before this step.
-    pub fn of_phase(phase: &Phase) -> Operation
-        ensures { (text : List ℕ) → result ≡ operation_at (phase_of phase.now text) }
+    /// Returns the kind of a call under way.
+    pub fn of_doing(doing: &Doing) -> Operation
+        ensures { operation_in (doing_state doing.now) ≡ Some result }
     {
-        match phase {
-            Phase::Begin(_)
-            | Phase::Install { .. }
-            | Phase::Settle { .. }
-            | Phase::Probe { .. }
-            | Phase::Unmake { .. } => Operation::Get,
-            Phase::Look(_) | Phase::Reserve(_) | Phase::Place { .. } | Phase::SendGiveback { .. } =>
-                Operation::Send,
-            Phase::Take(_) | Phase::ReceiveGiveback { .. } => Operation::Receive,
-            Phase::Stat { .. } => Operation::Stat,
-            Phase::Set { .. } | Phase::SetGiveback => Operation::Set,
-            Phase::Remove { .. } | Phase::Forget { .. } | Phase::RemoveGiveback { .. } => {
-                Operation::Remove
-            }
-        }
-    }
-
-    /// Returns the kind of the call that is in this wait.
-    pub fn of_wait(wait: Wait) -> Operation
-        ensures { (text : List ℕ) → result ≡ operation_of_wait (wait_of wait text) }
-    {
-        match wait {
-            Wait::Settled { .. } => Operation::Get,
-            Wait::Freed { .. } | Wait::Released { .. } => Operation::Send,
-            Wait::Arrived { .. } => Operation::Receive,
+        match doing {
+            Doing::Get(_) => Operation::Get,
+            Doing::Send(_) => Operation::Send,
+            Doing::Receive { .. } => Operation::Receive,
+            Doing::Stat(_) => Operation::Stat,
+            Doing::Set(_) => Operation::Set,
+            Doing::Remove(_) => Operation::Remove,
         }
     }
 }
@@ -121,27 +105,53 @@ pub enum Step {
 }
 
 impl Step {
-    /// Returns the next step of a call in this phase.
-    pub(crate) fn of_phase(phase: &Phase) -> Step
-        ensures { (text : List ℕ) → step_name result ≡ step_in (phase_of phase.now text) }
+    /// Returns the next step of a call under way, or `None` if the call waits.
+    pub(crate) fn of_doing(doing: &Doing) -> Option<Step>
+        ensures { option_map step_name result ≡ step_now (doing_state doing.now) }
     {
-        match phase {
-            Phase::Begin(_) => Step::Begin,
-            Phase::Install { .. } => Step::Install,
-            Phase::Settle { .. } => Step::Settle,
-            Phase::Probe { .. } => Step::Probe,
-            Phase::Unmake { .. } | Phase::Forget { .. } => Step::Forget,
-            Phase::Look(_) => Step::Look,
-            Phase::Reserve(_) => Step::Reserve,
-            Phase::Place { .. } => Step::Place,
-            Phase::SendGiveback { .. }
-            | Phase::ReceiveGiveback { .. }
-            | Phase::SetGiveback
-            | Phase::RemoveGiveback { .. } => Step::Giveback,
-            Phase::Take(_) => Step::Take,
-            Phase::Stat { .. } => Step::Stat,
-            Phase::Set { .. } => Step::Set,
-            Phase::Remove { .. } => Step::Remove,
+        match doing {
+            Doing::Get(Standing::At(step)) => Some(Step::of_get(step)),
+            Doing::Send(Sent { at, .. }) => match at {
+                Standing::At(step) => Some(Step::of_send(step)),
+                Standing::Waits(_) => None,
+            },
+            Doing::Receive { at, .. } => match at {
+                Standing::At(ReceiveStep::Take(_)) => Some(Step::Take),
+                Standing::At(ReceiveStep::Giveback { .. }) => Some(Step::Giveback),
+                Standing::Waits(_) => None,
+            },
+            Doing::Get(Standing::Waits(_)) => None,
+            Doing::Stat(_) => Some(Step::Stat),
+            Doing::Set(SetStep::Set { .. }) => Some(Step::Set),
+            Doing::Set(SetStep::Giveback) => Some(Step::Giveback),
+            Doing::Remove(RemoveStep::Remove { .. }) => Some(Step::Remove),
+            Doing::Remove(RemoveStep::Forget { .. }) => Some(Step::Forget),
+            Doing::Remove(RemoveStep::Giveback { .. }) => Some(Step::Giveback),
+        }
+    }
+
+    /// Returns the name of a step of a get.
+    fn of_get(step: &GetStep) -> Step
+        ensures { step_name result ≡ step_in (get_phase step.now) }
+    {
+        match step {
+            GetStep::Begin(_) => Step::Begin,
+            GetStep::Install { .. } => Step::Install,
+            GetStep::Settle { .. } => Step::Settle,
+            GetStep::Probe { .. } => Step::Probe,
+            GetStep::Unmake { .. } => Step::Forget,
+        }
+    }
+
+    /// Returns the name of a step of a send.
+    fn of_send(step: &SendStep) -> Step
+        ensures { (text : List ℕ) → step_name result ≡ step_in (send_phase step.now text) }
+    {
+        match step {
+            SendStep::Look(_) => Step::Look,
+            SendStep::Reserve(_) => Step::Reserve,
+            SendStep::Place { .. } => Step::Place,
+            SendStep::Giveback { .. } => Step::Giveback,
         }
     }
 }

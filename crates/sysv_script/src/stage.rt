@@ -15,7 +15,7 @@ use crate::output::Output;
 use crate::{Head, Line, Operation, SCRIPT_ACTORS, Text};
 use std::alloc::Global;
 use std::mem;
-use sysv_core::{Answer, Call, Event, Standing, Stepped, World};
+use sysv_core::{Answer, Call, Event, Stepped, World};
 use sysv_model::{BLOCK_BYTES, Body, Cred, NoMemory};
 
 /// The number of blocks of a script's world.
@@ -242,10 +242,7 @@ impl Stage {
         ensures { (s : Scene) → IsSceneOf s self.now →
             result ≡ doing_at (actor_at s.world.actors actor) }
     {
-        match self.world.standing(actor)? {
-            Standing::At(phase) => Some(Operation::of_phase(phase)),
-            Standing::Waits(wait) => Some(Operation::of_wait(*wait)),
-        }
+        Some(Operation::of_doing(self.world.doing(actor)?))
     }
 
     /// Returns the call with a body: that of a send has the bytes on its line, and that of a
@@ -380,9 +377,8 @@ impl Stage {
         ensures { (s : Scene) → IsSceneOf s self.now →
             head_text result ++ 10 ∷ [] ≡ standing_line actor (actor_at s.world.actors actor) }
     {
-        match self.world.standing(actor) {
-            Some(Standing::At(phase)) => Head::at(actor, phase),
-            Some(Standing::Waits(wait)) => Head::waits(actor, *wait),
+        match self.world.doing(actor) {
+            Some(doing) => Head::of_doing(actor, doing),
             None => Head::Idle { actor },
         }
     }

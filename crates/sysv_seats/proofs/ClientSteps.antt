@@ -30,8 +30,8 @@ use Rattle.sysv_session.proofs.Arrived.{IsSettled, IsSettledEnd, takes_up_more}
 use Rattle.sysv_session.proofs.GoesOn.{greets, greet_ends, puts, put_ends, stops, takes_hello, takes_request}
 use Rattle.sysv_service.specs.declared.progress.Progress.{Progress}
 use Rattle.sysv_service.specs.declared.progress.Progress.TheVariants as progress
-use Rattle.sysv_service.specs.declared.progress.ReceiveWait.{ReceiveWait}
-use Rattle.sysv_service.specs.declared.progress.SendWait.{SendWait}
+use Rattle.sysv_steps.specs.declared.receive.ReceiveWait.{ReceiveWait}
+use Rattle.sysv_steps.specs.declared.send.SendWait.{SendWait}
 use Rattle.sysv_steps.specs.State.{Phase}
 use Rattle.sysv_queue.specs.Delivery.{Given}
 use Rattle.sysv_service.specs.Ran.{Pass}

@@ -7,8 +7,8 @@ use Rattle.sysv_queue.specs.Delivery.{Given}
 use Rattle.sysv_session.specs.declared.kernel.RequestOutcome.{RequestOutcome}
 use Rattle.sysv_service.specs.declared.progress.Progress.{Progress}
 use Rattle.sysv_service.specs.declared.progress.Progress.TheVariants as progress
-use Rattle.sysv_service.specs.declared.progress.ReceiveWait.{ReceiveWait}
-use Rattle.sysv_service.specs.declared.progress.SendWait.{SendWait}
+use Rattle.sysv_steps.specs.declared.receive.ReceiveWait.{ReceiveWait}
+use Rattle.sysv_steps.specs.declared.send.SendWait.{SendWait}
 use Rattle.sysv_service.specs.Ran.{Pass}
 use Rattle.sysv_service.specs.Told.{TellsGot}
 use Rattle.sysv_service.specs.UnderWay.{ReceivesOn}

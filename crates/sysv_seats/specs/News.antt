@@ -11,7 +11,7 @@ use Rattle.std.specs.Option.{option_to_list}
 use Rattle.sysv_keys.specs.Identifier.{slot_of_id}
 use Rattle.sysv_service.specs.declared.progress.Progress.{Progress}
 use Rattle.sysv_service.specs.declared.progress.Progress.TheVariants as progress
-use Rattle.sysv_service.specs.declared.progress.SendWait.TheVariants.{Room}
+use Rattle.sysv_steps.specs.declared.send.SendWait.TheVariants.{Room}
 use Rattle.sysv_session.specs.declared.kernel.RequestOutcome.{RequestOutcome}
 use Rattle.sysv_session.specs.declared.kernel.RequestOutcome.TheVariants.{Reply, Got, Left}
 use Rattle.sysv_wire.specs.declared.reply.ReplyContent.{ReplyContent}

@@ -12,10 +12,11 @@ use Rattle.sysv_session.specs.declared.kernel.RequestOutcome.{RequestOutcome}
 use Rattle.sysv_session.specs.Answers.{MayAnswer, IsReplied as HasReply}
 use Rattle.sysv_service.specs.declared.progress.Progress.{Progress}
 use Rattle.sysv_service.specs.declared.progress.Progress.TheVariants as progress
-use Rattle.sysv_service.specs.declared.progress.ReceiveWait.{ReceiveWait}
-use Rattle.sysv_service.specs.declared.progress.SendWait.{SendWait}
+use Rattle.sysv_steps.specs.declared.receive.ReceiveWait.{ReceiveWait}
+use Rattle.sysv_steps.specs.declared.send.SendWait.{SendWait}
 use Rattle.sysv_service.specs.Ran.{Pass}
-use Rattle.sysv_service.specs.UnderWay.{ReceivesOn, SendsOn, IsReached, StillWaits, receive_wait, send_wait}
+use Rattle.sysv_steps.specs.Seen.{receive_wait, send_wait}
+use Rattle.sysv_service.specs.UnderWay.{ReceivesOn, SendsOn, IsReached, StillWaits}
 use Rattle.sysv_steps.specs.Call.{Msgsnd, Msgrcv}
 use Rattle.sysv_steps.specs.Resume.{Count, ArrivedOf, FreedOf, Released}
 use Rattle.sysv_steps.specs.State.{Phase, Wait, Goes, Waits}

@@ -17,7 +17,6 @@ pub mod ClosedParts
 pub mod ReadsInOrder
 pub mod Crossing
 pub mod ProceedsByStep
-pub mod KindStays
 pub mod ReceiveGivesTaken
 pub mod FirstPassFits
 pub mod SlotBySlot

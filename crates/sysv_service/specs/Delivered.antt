@@ -3,11 +3,10 @@
 use Rattle.std.specs.Prelude.{ℕ, List}
 use Rattle.sysv_model.specs.Turn.{Deed}
 use Rattle.sysv_queue.specs.Delivery.{Given}
-use Rattle.sysv_steps.specs.declared.state.Phase.{Phase as PhaseKept}
-use Rattle.sysv_steps.specs.declared.state.State.{State as StateKept}
-use Rattle.sysv_steps.specs.Seen.{state_of}
+use Rattle.sysv_steps.specs.declared.receive.ReceiveStep.{ReceiveStep}
+use Rattle.sysv_steps.specs.Seen.{receive_state}
 use Rattle.sysv_steps.specs.State.{State, Ending, Over}
-use Rattle.sysv_steps.specs.Giving.{HaveTaken, HasWhatItGives, StepsGiving as StepsGivingFor}
+use Rattle.sysv_steps.specs.Giving.{ReceiveKept, HaveTaken, HasWhatItGives, StepsGiving as StepsGivingFor}
 use Rattle.sysv_service.specs.Seats.{MakesTurnAt, FindsWorn}
 use Rattle.sysv_service.specs.Ran.{Pass, Ran}
 
@@ -21,12 +20,12 @@ pub record HasGiven (may : ℕ → Type 0) (from : State) (old : Pass) (given : 
 -- ---- on the way
 
 -- One step, after which the receive still has what it will return, or has just taken it.
-abbrev pub StepsGiving : (ℕ → Type 0) → PhaseKept → List ℕ → Pass → StateKept → List ℕ → Pass → Type 0
+abbrev pub StepsGiving : (ℕ → Type 0) → ReceiveStep → List ℕ → Pass → ReceiveKept → List ℕ → Pass → Type 0
 StepsGiving may there text before kept out after =
     StepsGivingFor MakesTurnAt FindsWorn may there text before.seats before.held kept out after.seats after.held
 
 -- The turns of the call so far, with the turn that took what it will return among them, if it has
 -- taken it.
-abbrev pub ComesGiving : (ℕ → Type 0) → State → Pass → StateKept → List ℕ → Pass → Type 0
+abbrev pub ComesGiving : (ℕ → Type 0) → State → Pass → ReceiveKept → List ℕ → Pass → Type 0
 ComesGiving may from old kept out new =
-    (deeds : List Deed) × Ran may from old deeds (state_of kept out) new × HasWhatItGives kept deeds
+    (deeds : List Deed) × Ran may from old deeds (receive_state kept out) new × HasWhatItGives kept deeds

@@ -8,7 +8,7 @@ pub use Rattle.sysv_model.specs.Pool
 pub use Rattle.sysv_model.specs.Turn
 pub use Rattle.sysv_steps.specs.State
 pub use Rattle.sysv_steps.specs.Next
-pub use Rattle.sysv_steps.specs.Kinds
+pub use Rattle.sysv_steps.specs.Bodies
 pub use Rattle.sysv_steps.specs.Stepping
 pub use Rattle.sysv_steps.specs.Giving
 pub mod Counts

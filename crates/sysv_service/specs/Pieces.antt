@@ -9,9 +9,9 @@ use Rattle.sysv_steps.specs.Resume.{awaited}
 use Rattle.sysv_steps.specs.Giving.{HaveTaken}
 use Rattle.sysv_service.specs.declared.progress.Progress.{Progress}
 use Rattle.sysv_service.specs.declared.progress.Progress.TheVariants as progress
-use Rattle.sysv_service.specs.declared.progress.ReceiveWait.{ReceiveWait}
-use Rattle.sysv_service.specs.declared.progress.SendWait.{SendWait}
-use Rattle.sysv_service.specs.declared.progress.GetWait.{GetWait}
+use Rattle.sysv_steps.specs.declared.receive.ReceiveWait.{ReceiveWait}
+use Rattle.sysv_steps.specs.declared.send.SendWait.{SendWait}
+use Rattle.sysv_steps.specs.declared.get.GetWait.{GetWait}
 use Rattle.sysv_service.specs.Ran.{Pass, Ran, begins, steps, turns_back, reads, resumes, gives_up, Comes}
 use Rattle.sysv_service.specs.Delivered.{HasGiven}
 use Rattle.sysv_service.specs.UnderWay.{ReceivesOn, SendsOn, GetsOn, IsReached, StillWaits}

@@ -1,49 +1,37 @@
 -- Calls that are made in pieces. A call makes its steps until it waits or is over. A call that
 -- waits looks at the count for which it waits, and goes on once the count is at its goal. This
 -- project's profile.
-use Rattle.std.specs.Prelude.{◌≡◌, ℕ, ℤ, ◌+◌, ◌≤◌, ⊤, List, [], length, Result, IfOk}
+use Rattle.std.specs.Prelude.{◌≡◌, ℕ, ℤ, ◌≤◌, ⊤, List, [], length, Result, IfOk}
 use Rattle.sysv_model.specs.declared.errno.Errno.{Errno}
 use Rattle.sysv_model.specs.declared.limits.TheConstants.{MESSAGE_BYTES}
 use Rattle.sysv_queue.specs.Delivery.{Given}
-use Rattle.sysv_steps.specs.declared.ending.Ending.{Ending as EndingKept}
-use Rattle.sysv_steps.specs.declared.wait.Wait.{Wait as WaitKept}
-use Rattle.sysv_steps.specs.State.{Ending, Phase, State, Wait, OnSettled, OnFreed, OnReleased, OnArrived, Waits, Over}
+use Rattle.sysv_steps.specs.declared.state.State.{State as StateKept}
+use Rattle.sysv_steps.specs.declared.state.State.TheVariants as state
+use Rattle.sysv_steps.specs.declared.receive.ReceiveWait.{ReceiveWait}
+use Rattle.sysv_steps.specs.declared.send.SendWait.{SendWait}
+use Rattle.sysv_steps.specs.declared.get.GetWait.{GetWait}
+use Rattle.sysv_steps.specs.State.{Ending, Phase, State, Wait, Waits, Over}
 use Rattle.sysv_steps.specs.Resume.{awaited, goal_of, resume}
-use Rattle.sysv_steps.specs.Seen.{getting, sending, receiving, wait_of, ending_of}
+use Rattle.sysv_steps.specs.Seen.{get_wait, send_wait, receive_wait, ending_of}
 use Rattle.sysv_service.specs.Reading.{Reads}
 use Rattle.sysv_service.specs.declared.progress.Progress.{Progress}
 use Rattle.sysv_service.specs.declared.progress.Progress.TheVariants as progress
-use Rattle.sysv_service.specs.declared.progress.ReceiveWait.{ReceiveWait}
-use Rattle.sysv_service.specs.declared.progress.SendWait.{SendWait}
-use Rattle.sysv_service.specs.declared.progress.SendWait.TheVariants.{Room, Blocks}
-use Rattle.sysv_service.specs.declared.progress.GetWait.{GetWait}
 use Rattle.sysv_service.specs.Ran.{Pass, Comes}
 use Rattle.sysv_service.specs.Waited.{IsUnmet}
 use Rattle.sysv_service.specs.Told.{TellsId, TellsZero, TellsGot}
 use Rattle.sysv_service.specs.Delivered.{HasGiven}
 
--- ---- the waits of the code
-
--- A receive that waits.
-abbrev pub receive_wait : ReceiveWait → Wait
-receive_wait w = OnArrived (w.above + 1) (receiving w.receive)
-
--- A send that waits, whose body is `text`.
-abbrev pub send_wait : SendWait → List ℕ → Wait
-send_wait (Room above s) text = OnFreed (above + 1) (sending s text)
-send_wait (Blocks above s) text = OnReleased (above + 1) (sending s text)
-
--- A get that waits.
-abbrev pub get_wait : GetWait → Wait
-get_wait w = OnSettled (w.above + 1) (getting w.get)
-
 -- ---- how far a call has come
 
--- The state of a call that waits or is over. `text` is the body of a send, or the bytes that a
--- receive returns.
-abbrev pub stopped_at : Progress WaitKept EndingKept → List ℕ → State
-stopped_at (progress.Waits w) text = Waits (wait_of w text)
-stopped_at (progress.Over end) text = Over (ending_of end text)
+-- The state of a call that waits or is over, by what its waits and its result mean.
+abbrev pub stopped_at : {W T : Type 0} → (W → Wait) → (T → Ending) → Progress W (Result T Errno) → State
+stopped_at wait ending (progress.Waits w) = Waits (wait w)
+stopped_at wait ending (progress.Over told) = Over (ending_of ending told)
+
+-- What holds of the state of a call holds of a call that waits or is over.
+abbrev pub StoppedBy : {S W T : Type 0} → (StateKept S W T → Type 0) → Progress W (Result T Errno) → Type 0
+StoppedBy can (progress.Waits w) = can (state.Waits w)
+StoppedBy can (progress.Over told) = can (state.Over told)
 
 -- A receive was in the state `from` with the pass `old`. It has made its steps, and waits or is
 -- over. If it waits, `out` is empty. If it returns a message, that is the one that it took.

@@ -1,28 +1,25 @@
 //! `msgctl`.
 
-ghost use Rattle.std.specs.Prelude.{◌≡◌, ℕ, []};
+ghost use Rattle.std.specs.Prelude.{◌≡◌};
 ghost use Rattle.sysv_steps.specs.Call.{MsgctlStat, MsgctlSet, MsgctlRmid};
 ghost use Rattle.sysv_steps.specs.Begin.{begin as begins};
 ghost use Rattle.sysv_steps.specs.State.{Over, Ending as Ends};
-ghost use Rattle.sysv_steps.specs.Seen.{ending_of};
 ghost use Rattle.sysv_service.specs.Seats.{AreOf};
 ghost use Rattle.sysv_steps.specs.Stepping.{no_moment};
 ghost use Rattle.sysv_service.specs.Ran.{Comes};
-ghost use Rattle.sysv_steps.specs.Kinds.{Stats, Sets, Removes};
 ghost use Rattle.sysv_service.specs.Told.{TellsZero, TellsStat, TellsRow};
 
-use crate::AtGates;
 use crate::pass::Pass;
 use crate::running::Stepper;
 use crate::service::Service;
-use crate::waiting::zero_of;
+use crate::{AtGates, SharedCount};
 use std::sync::Wait as MayWait;
 use sysv_keys::SLOTS;
 use sysv_model::{Cred, Errno, Row, SetTo, Stat};
 use sysv_objects::{ObjectCall, ObjectReply, SlotCall, SlotReply};
 use sysv_steps::{
-    Clock, Ending, Phase, State, begin_remove, begin_set, begin_stat, remove_step, set_step,
-    stat_step,
+    Clock, NoWait, RemoveState, RemoveStep, SetState, SetStep, StatState, StatStep, remove_step,
+    set_step, stat_step,
 };
 
 impl Service {
@@ -53,7 +50,7 @@ impl Service {
             × Comes no_moment (begins cred (MsgctlStat id) 0) pass.old (Over ending) pass.new
             × TellsStat ending result }
     {
-        stat_of(self.run(rt, pass, &StatStepper, begin_stat(cred, id)))
+        self.run(rt, pass, &StatStepper, StatStep::begin(cred, id))
     }
 
     /// Sets the owner, the mode and the limit `qbytes` of the queue `id`, and its time of change
@@ -88,7 +85,7 @@ impl Service {
             (Over ending) pass.new × TellsZero ending result }
     {
         let stepper = SetStepper { clock };
-        zero_of(self.run(rt, pass, &stepper, begin_set(cred, id, to)))
+        self.run(rt, pass, &stepper, SetStep::begin(cred, id, to))
     }
 
     /// Removes the queue `id` and discards its queued messages (POSIX.1-2017, `msgctl`, IPC_RMID).
@@ -118,7 +115,7 @@ impl Service {
             × Comes no_moment (begins cred (MsgctlRmid id) 0) pass.old (Over ending) pass.new
             × TellsZero ending result }
     {
-        zero_of(self.run(rt, pass, &RemoveStepper, begin_remove(cred, id)))
+        self.run(rt, pass, &RemoveStepper, RemoveStep::begin(cred, id))
     }
 
     /// Returns the row of the live queue in this slot, or `None` if no queue is live there (this
@@ -162,15 +159,40 @@ impl Service {
 struct StatStepper;
 
 impl Stepper for StatStepper {
-    ghost kind = { Stats };
+    ghost use Rattle.sysv_steps.specs.State.{Told};
+    ghost use Rattle.sysv_steps.specs.Seen.{stat_phase, no_wait};
 
-    ghost resumes = { λ _ _ waits. absurd waits };
+    type Step = StatStep;
 
-    ghost is_refused = { λ _. tt };
+    type Wait = NoWait;
 
-    fn step(&self, rt: &impl MayWait, service: &Service, pass: &mut Pass, phase: Phase) -> State {
+    type Done = Stat;
+
+    ghost phase = { λ _. stat_phase };
+
+    ghost wait = { λ _. no_wait };
+
+    ghost ending = { λ _. Told };
+
+    ghost is_refused = { λ _ _. tt };
+
+    fn step(
+        &self,
+        rt: &impl MayWait,
+        service: &Service,
+        pass: &mut Pass,
+        step: StatStep,
+    ) -> StatState {
         let gates = AtGates::of(rt, &service.gates);
-        stat_step(&gates, &mut pass.seats, phase)
+        stat_step(&gates, &mut pass.seats, step)
+    }
+
+    fn awaited(&self, waits: &NoWait) -> (SharedCount, u64) {
+        match *waits {}
+    }
+
+    fn resume(&self, waits: NoWait, _value: u64) -> StatStep {
+        match waits {}
     }
 }
 
@@ -181,17 +203,42 @@ struct SetStepper<'a, C> {
 }
 
 impl<'a, C: Clock> Stepper for SetStepper<'a, C> {
-    ghost kind = { Sets };
+    ghost use Rattle.sysv_steps.specs.State.{Zero};
+    ghost use Rattle.sysv_steps.specs.Seen.{set_phase, no_wait};
+
+    type Step = SetStep;
+
+    type Wait = NoWait;
+
+    type Done = ();
 
     ghost may = { λ s. C.may s.clock.now };
 
-    ghost resumes = { λ _ _ waits. absurd waits };
+    ghost phase = { λ _. set_phase };
 
-    ghost is_refused = { λ _. tt };
+    ghost wait = { λ _. no_wait };
 
-    fn step(&self, rt: &impl MayWait, service: &Service, pass: &mut Pass, phase: Phase) -> State {
+    ghost ending = { λ _ _. Zero };
+
+    ghost is_refused = { λ _ _. tt };
+
+    fn step(
+        &self,
+        rt: &impl MayWait,
+        service: &Service,
+        pass: &mut Pass,
+        step: SetStep,
+    ) -> SetState {
         let gates = AtGates::of(rt, &service.gates);
-        set_step(&gates, &mut pass.seats, &mut pass.held, self.clock, phase)
+        set_step(&gates, &mut pass.seats, &mut pass.held, self.clock, step)
+    }
+
+    fn awaited(&self, waits: &NoWait) -> (SharedCount, u64) {
+        match *waits {}
+    }
+
+    fn resume(&self, waits: NoWait, _value: u64) -> SetStep {
+        match waits {}
     }
 }
 
@@ -199,26 +246,39 @@ impl<'a, C: Clock> Stepper for SetStepper<'a, C> {
 struct RemoveStepper;
 
 impl Stepper for RemoveStepper {
-    ghost kind = { Removes };
+    ghost use Rattle.sysv_steps.specs.State.{Zero};
+    ghost use Rattle.sysv_steps.specs.Seen.{remove_phase, no_wait};
 
-    ghost resumes = { λ _ _ waits. absurd waits };
+    type Step = RemoveStep;
 
-    ghost is_refused = { λ _. tt };
+    type Wait = NoWait;
 
-    fn step(&self, rt: &impl MayWait, service: &Service, pass: &mut Pass, phase: Phase) -> State {
+    type Done = ();
+
+    ghost phase = { λ _. remove_phase };
+
+    ghost wait = { λ _. no_wait };
+
+    ghost ending = { λ _ _. Zero };
+
+    ghost is_refused = { λ _ _. tt };
+
+    fn step(
+        &self,
+        rt: &impl MayWait,
+        service: &Service,
+        pass: &mut Pass,
+        step: RemoveStep,
+    ) -> RemoveState {
         let gates = AtGates::of(rt, &service.gates);
-        remove_step(&gates, &mut pass.seats, &mut pass.held, phase)
+        remove_step(&gates, &mut pass.seats, &mut pass.held, step)
     }
-}
 
-/// Returns the result of an IPC_STAT.
-fn stat_of(ending: Ending) -> Result<Stat, Errno>
-    requires { Stats (Over (ending_of ending [])) }
-    ensures { TellsStat (ending_of ending []) result }
-{
-    match ending {
-        Ending::Told(stat) => Ok(stat),
-        Ending::Refused(why) => Err(why),
-        _other => unreachable!(),
+    fn awaited(&self, waits: &NoWait) -> (SharedCount, u64) {
+        match *waits {}
+    }
+
+    fn resume(&self, waits: NoWait, _value: u64) -> RemoveStep {
+        match waits {}
     }
 }

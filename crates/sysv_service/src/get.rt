@@ -1,22 +1,20 @@
 //! `msgget`.
 
-ghost use Rattle.std.specs.Prelude.{◌≡◌, []};
+ghost use Rattle.std.specs.Prelude.{◌≡◌};
 ghost use Rattle.sysv_steps.specs.Call.{Msgget};
 ghost use Rattle.sysv_steps.specs.Begin.{begin as begins};
 ghost use Rattle.sysv_steps.specs.State.{Over, Ending as Ends};
-ghost use Rattle.sysv_steps.specs.Seen.{ending_of};
-ghost use Rattle.sysv_steps.specs.Kinds.{Gets};
 ghost use Rattle.sysv_service.specs.Seats.{AreOf};
 ghost use Rattle.sysv_service.specs.Ran.{Comes};
 ghost use Rattle.sysv_service.specs.Told.{TellsId};
 
-use crate::AtGates;
 use crate::pass::Pass;
 use crate::running::Stepper;
 use crate::service::Service;
+use crate::{AtGates, SharedCount};
 use std::sync::Wait as MayWait;
 use sysv_model::{Cred, Errno, Flags};
-use sysv_steps::{Clock, Ending, Getting, Phase, State, get_step};
+use sysv_steps::{Clock, GetState, GetStep, GetWait, Getting, get_step};
 
 impl Service {
     /// Returns the identifier of the queue with this key, or that of a new queue (POSIX.1-2017,
@@ -55,7 +53,7 @@ impl Service {
             (Over ending) pass.new × TellsId ending result }
     {
         let stepper = GetStepper { clock };
-        id_of(self.run(rt, pass, &stepper, Getting::begin(cred, key, flags)))
+        self.run(rt, pass, &stepper, Getting::begin(cred, key, flags))
     }
 }
 
@@ -66,30 +64,41 @@ pub(crate) struct GetStepper<'a, C> {
 }
 
 impl<'a, C: Clock> Stepper for GetStepper<'a, C> {
-    ghost use Rattle.sysv_service.specs.Waited.{wait_gets};
+    ghost use Rattle.sysv_steps.specs.State.{Id};
+    ghost use Rattle.sysv_steps.specs.Seen.{get_phase, get_wait};
 
-    ghost kind = { Gets };
+    type Step = GetStep;
+
+    type Wait = GetWait;
+
+    type Done = i32;
 
     ghost may = { λ s. C.may s.clock.now };
 
-    ghost resumes = { wait_gets };
+    ghost phase = { λ _. get_phase };
 
-    ghost is_refused = { λ _. tt };
+    ghost wait = { λ _. get_wait };
 
-    fn step(&self, rt: &impl MayWait, service: &Service, pass: &mut Pass, phase: Phase) -> State {
+    ghost ending = { λ _. Id };
+
+    ghost is_refused = { λ _ _. tt };
+
+    fn step(
+        &self,
+        rt: &impl MayWait,
+        service: &Service,
+        pass: &mut Pass,
+        step: GetStep,
+    ) -> GetState {
         let gates = AtGates::of(rt, &service.gates);
-        get_step(&gates, &mut pass.seats, self.clock, phase)
+        get_step(&gates, &mut pass.seats, self.clock, step)
     }
-}
 
-/// Returns the result of a `msgget`.
-pub(crate) fn id_of(ending: Ending) -> Result<i32, Errno>
-    requires { Gets (Over (ending_of ending [])) }
-    ensures { TellsId (ending_of ending []) result }
-{
-    match ending {
-        Ending::Id(id) => Ok(id),
-        Ending::Refused(why) => Err(why),
-        _other => unreachable!(),
+    fn awaited(&self, waits: &GetWait) -> (SharedCount, u64) {
+        (SharedCount::Settled, waits.above)
+    }
+
+    fn resume(&self, waits: GetWait, _value: u64) -> GetStep {
+        waits.resume()
     }
 }

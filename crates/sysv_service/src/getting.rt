@@ -1,21 +1,21 @@
 //! `msgget` in pieces.
 
-ghost use Rattle.std.specs.Prelude.{◌≡◌, [], IfNone, IfSome};
+ghost use Rattle.std.specs.Prelude.{◌≡◌, IfNone, IfSome};
 ghost use Rattle.sysv_steps.specs.Call.{Msgget};
 ghost use Rattle.sysv_steps.specs.Begin.{begin as begins};
-ghost use Rattle.sysv_steps.specs.State.{Goes, Waits, AtBegin};
-ghost use Rattle.sysv_steps.specs.Seen.{getting, wait_of, state_of};
+ghost use Rattle.sysv_steps.specs.State.{Goes, AtBegin};
+ghost use Rattle.sysv_steps.specs.Seen.{getting, get_wait};
 ghost use Rattle.sysv_service.specs.Seats.{AreOf};
-ghost use Rattle.sysv_steps.specs.Kinds.{Gets};
-ghost use Rattle.sysv_service.specs.UnderWay.{GetsOn, IsReached, StillWaits, get_wait};
+ghost use Rattle.sysv_service.specs.UnderWay.{GetsOn, IsReached, StillWaits};
 
-use crate::get::{GetStepper, id_of};
+use crate::get::GetStepper;
 use crate::pass::Pass;
-use crate::progress::{GetWait, Progress};
+use crate::progress::Progress;
 use crate::service::Service;
+use crate::shared_count::SharedCount;
 use std::sync::Wait as MayWait;
 use sysv_model::{Cred, Errno, Flags};
-use sysv_steps::{Clock, Getting, Phase, State, Wait};
+use sysv_steps::{Clock, GetStep, GetWait, Getting, State};
 
 impl Service {
     /// Begins a `msgget`: makes its steps until it waits or is over. It may wait for a turn, but
@@ -42,7 +42,12 @@ impl Service {
         ensures ran { GetsOn (C.may clock.now) (begins cred (Msgget key flags) 0) pass.old result
             pass.new }
     {
-        self.get_on(rt, pass, clock, Getting::begin(cred, key, flags))
+        self.run_on(
+            rt,
+            pass,
+            &GetStepper { clock },
+            Getting::begin(cred, key, flags),
+        )
     }
 
     /// Reads the count for which a get waits once, and never waits. Returns the get if the wait is
@@ -59,7 +64,7 @@ impl Service {
         ensures below { IfNone result (StillWaits (get_wait wait.now) pass.old pass.new) }
     {
         let GetWait { above, get } = *wait;
-        self.look(pass, &Wait::Settled { above, get })?;
+        self.look(pass, SharedCount::Settled, above)?;
         Some(get)
     }
 
@@ -85,36 +90,11 @@ impl Service {
         ensures ran { GetsOn (C.may clock.now) (Goes (AtBegin (getting get))) pass.old result
             pass.new }
     {
-        self.get_on(rt, pass, clock, State::Goes(Phase::Begin(get)))
-    }
-
-    /// Makes the steps of a get until it waits or is over.
-    fn get_on<C: Clock>(
-        &self,
-        rt: &impl MayWait,
-        pass: &mut Pass,
-        clock: &C,
-        begun: State,
-    ) -> Progress<GetWait, Result<i32, Errno>>
-        requires pass { AreOf self.now pass.old.seats }
-        requires gets { Gets (state_of begun []) }
-        ensures pass { AreOf self.now pass.new.seats }
-        ensures ran { GetsOn (C.may clock.now) (state_of begun []) pass.old result pass.new }
-    {
-        match self.run_on(rt, pass, &GetStepper { clock }, begun) {
-            Progress::Waits(wait) => Progress::Waits(waiting(wait)),
-            Progress::Over(ending) => Progress::Over(id_of(ending)),
-        }
-    }
-}
-
-/// Returns a get that waits.
-fn waiting(wait: Wait) -> GetWait
-    requires { Gets (Waits (wait_of wait [])) }
-    ensures { get_wait result ≡ wait_of wait [] }
-{
-    match wait {
-        Wait::Settled { above, get } => GetWait { above, get },
-        _other => unreachable!(),
+        self.run_on(
+            rt,
+            pass,
+            &GetStepper { clock },
+            State::Goes(GetStep::Begin(get)),
+        )
     }
 }

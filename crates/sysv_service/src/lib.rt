@@ -48,7 +48,7 @@ pub use laws::{
 pub use making::AtGates;
 pub use opening::{GatesClosed, OpenRefused};
 pub use pass::Pass;
-pub use progress::{GetWait, Progress, ReceiveWait, SendWait};
+pub use progress::Progress;
 pub use seat_laws::{
     each_seat_obeys, orders_are_of_crews, own_turns_are_last, seen_histories, seen_histories_obey,
 };
@@ -59,4 +59,4 @@ pub use shared_count::SharedCount;
 // The types that the signatures use.
 pub use sysv_model::{Body, Cred, Errno, Flags, NoMemory, Perm, Row, SetTo, Stat};
 pub use sysv_queue::{Delivery, Tally};
-pub use sysv_steps::{Clock, Getting, Receiving, Sending};
+pub use sysv_steps::{Clock, GetWait, Getting, ReceiveWait, Receiving, SendWait, Sending};

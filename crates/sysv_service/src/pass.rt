@@ -1,9 +1,10 @@
 //! The passes of a service.
 
-ghost use Rattle.std.specs.Prelude.{◌≡◌};
+ghost use Rattle.std.specs.Prelude.{◌≡◌, ◌+◌};
 
 use crate::Seats;
 use std::marker::Model;
+use std::mem;
 use sysv_pool::Chain;
 
 /// The right of one thread to call a service. It has a seat at each object. It works only with the
@@ -24,6 +25,15 @@ impl Model for Pass {
 }
 
 impl Pass {
+    /// Keeps a chain that could not be returned to the pool.
+    pub(crate) fn hold(&mut self, chain: Chain)
+        ensures { self.new ≡ record self.old { held = self.old.held + chain.blocks } }
+    {
+        let held = mem::replace(&mut self.held, Chain::empty());
+        let empty = mem::replace(&mut self.held, held.join(chain));
+        empty.end();
+    }
+
     /// Returns the seats, and the chains that could not be returned to the pool, as one chain.
     pub(crate) fn into_seats(self) -> (Seats, Chain)
         ensures { (result.0 ≡ self.seats) × (result.1.blocks ≡ self.held) }

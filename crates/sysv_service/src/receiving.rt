@@ -1,23 +1,24 @@
 //! `msgrcv` in pieces.
 
-ghost use Rattle.std.specs.Prelude.{◌≡◌, [], IfNone, IfSome};
+ghost use Rattle.std.specs.Prelude.{◌≡◌, IfNone, IfSome};
 ghost use Rattle.sysv_steps.specs.Call.{Msgrcv};
 ghost use Rattle.sysv_steps.specs.Begin.{begin as begins};
-ghost use Rattle.sysv_steps.specs.State.{Goes, Waits, AtTake};
-ghost use Rattle.sysv_steps.specs.Seen.{receiving, wait_of, state_of};
+ghost use Rattle.sysv_steps.specs.State.{Goes, AtTake, Got};
+ghost use Rattle.sysv_steps.specs.Seen.{ending_of, receiving, receive_wait, receive_state};
+ghost use Rattle.sysv_steps.specs.Bodies.{IsSized};
+ghost use Rattle.sysv_service.specs.Told.{TellsGot};
 ghost use Rattle.sysv_service.specs.Seats.{AreOf};
-ghost use Rattle.sysv_steps.specs.Kinds.{Receives};
 ghost use Rattle.sysv_steps.specs.Giving.{GivesNothing};
-ghost use Rattle.sysv_service.specs.UnderWay.{ReceivesOn, IsReached, StillWaits, receive_wait};
+ghost use Rattle.sysv_service.specs.UnderWay.{ReceivesOn, IsReached, StillWaits};
 
 use crate::pass::Pass;
-use crate::progress::{Progress, ReceiveWait};
-use crate::receive::given_of;
+use crate::progress::Progress;
 use crate::service::Service;
+use crate::shared_count::SharedCount;
 use std::sync::Wait as MayWait;
 use sysv_model::{Body, Cred, Errno, Flags};
 use sysv_queue::Delivery;
-use sysv_steps::{Clock, Phase, Receiving, State, Wait};
+use sysv_steps::{Clock, ReceiveState, ReceiveStep, ReceiveWait, Receiving, State};
 
 impl Service {
     /// Begins a `msgrcv`: makes its steps until it waits or is over. It may wait for a turn, but
@@ -67,7 +68,7 @@ impl Service {
         ensures below { IfNone result (StillWaits (receive_wait wait.now) pass.old pass.new) }
     {
         let ReceiveWait { above, receive } = *wait;
-        self.look(pass, &Wait::Arrived { above, receive })?;
+        self.look(pass, SharedCount::Arrived { id: receive.id }, above)?;
         Some(receive)
     }
 
@@ -94,7 +95,8 @@ impl Service {
         ensures ran { ReceivesOn (C.may clock.now) (Goes (AtTake (receiving receive)))
             pass.old result out.new pass.new }
     {
-        self.receive_on(rt, pass, clock, out, State::Goes(Phase::Take(receive)))
+        let begun = State::Goes(ReceiveStep::Take(receive));
+        self.receive_on(rt, pass, clock, out, begun)
     }
 
     /// Makes the steps of a receive that holds no message, until it waits or is over.
@@ -104,36 +106,40 @@ impl Service {
         pass: &mut Pass,
         clock: &C,
         out: &mut Body,
-        begun: State,
+        begun: ReceiveState,
     ) -> Progress<ReceiveWait, Result<Delivery, Errno>>
         requires pass { AreOf self.now pass.old.seats }
-        requires receives { Receives (state_of begun out.old) }
-        requires nothing { GivesNothing (state_of begun out.old) }
+        requires nothing { GivesNothing (receive_state begun out.old) }
         ensures pass { AreOf self.now pass.new.seats }
-        ensures ran { ReceivesOn (C.may clock.now) (state_of begun out.old) pass.old result
+        ensures ran { ReceivesOn (C.may clock.now) (receive_state begun out.old) pass.old result
             out.new pass.new }
     {
         let mut state = begun;
         for _ in rt.forever() {
             state = match state {
-                State::Goes(phase) => self.receive_step(rt, pass, clock, out, phase),
-                State::Waits(wait) => return Progress::Waits(waiting(wait, out)),
-                State::Over(ending) => return Progress::Over(given_of(ending, out)),
+                State::Goes(step) => self.receive_step(rt, pass, clock, out, step),
+                State::Waits(wait) => {
+                    out.clear();
+                    return Progress::Waits(wait);
+                }
+                State::Over(told) => return Progress::Over(given_of(told, out)),
             };
         }
         unreachable!()
     }
 }
 
-/// Returns a receive that waits, and empties its body.
-fn waiting(wait: Wait, out: &mut Body) -> ReceiveWait
-    requires { Receives (Waits (wait_of wait out.old)) }
-    ensures wait { receive_wait result ≡ wait_of wait out.old }
-    ensures empty { out.new ≡ [] }
+/// Returns the result of a receive. After an error it empties the body.
+fn given_of(told: Result<Delivery, Errno>, out: &mut Body) -> Result<Delivery, Errno>
+    requires { IsSized (State.Over told) out.old }
+    ensures told { TellsGot (ending_of (λ d. Got d.mtype out.old) told) result out.new }
+    ensures same { result ≡ told }
 {
-    out.clear();
-    match wait {
-        Wait::Arrived { above, receive } => ReceiveWait { above, receive },
-        _other => unreachable!(),
+    match told {
+        Ok(delivery) => Ok(delivery),
+        Err(why) => {
+            out.clear();
+            Err(why)
+        }
     }
 }

@@ -1,47 +1,80 @@
 //! Running a call: steps and waits, until it is over.
 
-ghost use Rattle.std.specs.Prelude.{◌≡◌, ℕ, List, []};
+ghost use Rattle.std.specs.Prelude.{◌≡◌, ℕ, ◌+◌, ⊤, Err};
 ghost use Rattle.sysv_model.specs.declared.errno.Errno.{Errno as Why};
-ghost use Rattle.sysv_steps.specs.State.{State as StateSeen, Wait as WaitSeen, Goes, Waits, Over, Refused};
-ghost use Rattle.sysv_steps.specs.Resume.{resume};
-ghost use Rattle.sysv_steps.specs.Seen.{phase_of, state_of, ending_of};
+ghost use Rattle.sysv_steps.specs.declared.state.State.{State as StateKept};
+ghost use Rattle.sysv_steps.specs.declared.state.State.TheVariants.{Over as IsOver};
+ghost use Rattle.sysv_steps.specs.State.{Phase as PhaseSeen, Wait as WaitSeen, Ending as EndingSeen, Over};
+ghost use Rattle.sysv_steps.specs.Resume.{awaited as is_awaited, goal_of, resume as resumes};
+ghost use Rattle.sysv_steps.specs.Seen.{ending_of, state_of};
 ghost use Rattle.sysv_steps.specs.Stepping.{no_moment};
 ghost use Rattle.sysv_service.specs.Seats.{AreOf};
+ghost use Rattle.sysv_service.specs.SharedCounts.{count_of};
 ghost use Rattle.sysv_service.specs.Ran.{StepsOn, Comes};
-ghost use Rattle.sysv_service.specs.UnderWay.{stopped_at};
+ghost use Rattle.sysv_service.specs.UnderWay.{stopped_at, StoppedBy};
+ghost use Rattle.sysv_service.specs.Waited.{EndsWait};
 
 use crate::pass::Pass;
 use crate::progress::Progress;
 use crate::service::Service;
+use crate::shared_count::SharedCount;
+use crate::waiting::Waited;
 use std::sync::Wait as MayWait;
-use sysv_steps::{Ending, Phase, State, Wait};
+use sysv_model::Errno;
+use sysv_steps::State;
 
-/// The steps of the calls of one kind, with what they use.
+/// The steps and the waits of one of the calls, with what they use.
 pub(crate) trait Stepper {
-    /// The states of such a call.
-    ghost kind: { StateSeen → Type 0 };
+    /// Its steps.
+    type Step;
+
+    /// Its waits.
+    type Wait: Drop;
+
+    /// Its result.
+    type Done;
 
     /// The times that its clock may return. It may have no clock.
     ghost may: { Self → ℕ → Type 0 } = { λ _. no_moment };
 
-    /// The body that it sends, if it sends one.
-    ghost text: { Self → List ℕ } = { λ _. [] };
+    /// The meaning of its steps, its waits and its result.
+    ghost phase: { Self → Self.Step → PhaseSeen };
+
+    ghost wait: { Self → Self.Wait → WaitSeen };
+
+    ghost ending: { Self → Self.Done → EndingSeen };
+
+    /// What its steps need of what they use.
+    ghost can: { Self → StateKept Self.Step Self.Wait Self.Done → Type 0 } = { λ _ _. ⊤ };
 
     /// Makes one step.
-    fn step(&self, rt: &impl MayWait, service: &Service, pass: &mut Pass, phase: Phase) -> State
+    fn step(
+        &self,
+        rt: &impl MayWait,
+        service: &Service,
+        pass: &mut Pass,
+        step: Self::Step,
+    ) -> State<Self::Step, Self::Wait, Self::Done>
         requires pass { AreOf service.now pass.old.seats }
-        requires kind { kind (Goes (phase_of phase (text self.now))) }
+        requires can { can self.now (State.Goes step) }
         ensures pass { AreOf service.now pass.new.seats }
-        ensures kind { kind (state_of result (text self.now)) }
-        ensures steps { StepsOn (may self.now) (phase_of phase (text self.now)) pass.old
-            (state_of result (text self.now)) pass.new };
+        ensures can { can self.now result }
+        ensures steps { StepsOn (may self.now) (phase self.now step) pass.old
+            (state_of (phase self.now) (wait self.now) (ending self.now) result) pass.new };
 
-    /// After its wait it is in one of its states.
-    ghost resumes: { (wait : WaitSeen) (value : ℕ) → kind (Waits wait)
-        → kind (Goes (resume wait value)) };
+    /// Returns the count for which it waits, and the value above which the count must rise.
+    fn awaited(&self, waits: &Self::Wait) -> (SharedCount, u64)
+        ensures count { count_of result.0 ≡ is_awaited (wait self.now waits.now) }
+        ensures above { goal_of (wait self.now waits.now) ≡ result.1 + 1 };
+
+    /// Returns the step at which it continues after the value `value` of its count ended the wait.
+    fn resume(&self, waits: Self::Wait, value: u64) -> Self::Step
+        requires { can self.now (State.Waits waits) }
+        ensures next { resumes (wait self.now waits) value ≡ phase self.now result }
+        ensures can { can self.now (State.Goes result) };
 
     /// It may be refused with any error.
-    ghost is_refused: { (why : Why) → kind (Over (Refused why)) };
+    ghost is_refused: { (s : Self) (why : Why) → can s (IsOver (Err why)) };
 }
 
 impl Service {
@@ -51,20 +84,20 @@ impl Service {
         rt: &impl MayWait,
         pass: &mut Pass,
         stepper: &S,
-        begun: State,
-    ) -> Ending
+        begun: State<S::Step, S::Wait, S::Done>,
+    ) -> Result<S::Done, Errno>
         requires pass { AreOf self.now pass.old.seats }
-        requires kind { S.kind (state_of begun (S.text stepper.now)) }
+        requires can { S.can stepper.now begun }
         ensures pass { AreOf self.now pass.new.seats }
-        ensures kind { S.kind (Over (ending_of result (S.text stepper.now))) }
-        ensures ran { Comes (S.may stepper.now) (state_of begun (S.text stepper.now)) pass.old
-            (Over (ending_of result (S.text stepper.now))) pass.new }
+        ensures ran { Comes (S.may stepper.now)
+            (state_of (S.phase stepper.now) (S.wait stepper.now) (S.ending stepper.now) begun)
+            pass.old (Over (ending_of (S.ending stepper.now) result)) pass.new }
     {
         let mut state = begun;
         for _ in rt.forever() {
             state = match self.run_on(rt, pass, stepper, state) {
-                Progress::Waits(wait) => self.wait_out(rt, pass, wait),
-                Progress::Over(ending) => return ending,
+                Progress::Waits(wait) => self.wait_out(rt, pass, stepper, wait),
+                Progress::Over(told) => return told,
             };
         }
         unreachable!()
@@ -76,23 +109,50 @@ impl Service {
         rt: &impl MayWait,
         pass: &mut Pass,
         stepper: &S,
-        begun: State,
-    ) -> Progress<Wait, Ending>
+        begun: State<S::Step, S::Wait, S::Done>,
+    ) -> Progress<S::Wait, Result<S::Done, Errno>>
         requires pass { AreOf self.now pass.old.seats }
-        requires kind { S.kind (state_of begun (S.text stepper.now)) }
+        requires can { S.can stepper.now begun }
         ensures pass { AreOf self.now pass.new.seats }
-        ensures kind { S.kind (stopped_at result (S.text stepper.now)) }
-        ensures ran { Comes (S.may stepper.now) (state_of begun (S.text stepper.now)) pass.old
-            (stopped_at result (S.text stepper.now)) pass.new }
+        ensures can { StoppedBy (S.can stepper.now) result }
+        ensures ran { Comes (S.may stepper.now)
+            (state_of (S.phase stepper.now) (S.wait stepper.now) (S.ending stepper.now) begun)
+            pass.old (stopped_at (S.wait stepper.now) (S.ending stepper.now) result) pass.new }
     {
         let mut state = begun;
         for _ in rt.forever() {
             state = match state {
-                State::Goes(phase) => stepper.step(rt, self, pass, phase),
+                State::Goes(step) => stepper.step(rt, self, pass, step),
                 State::Waits(wait) => return Progress::Waits(wait),
-                State::Over(ending) => return Progress::Over(ending),
+                State::Over(told) => return Progress::Over(told),
             };
         }
         unreachable!()
+    }
+
+    /// Waits until the wait of a call is over. Returns the state of the call afterwards: it
+    /// continues, or is over because a gate is worn out. It still waits only if no count can be
+    /// above the value of its wait.
+    fn wait_out<S: Stepper>(
+        &self,
+        rt: &impl MayWait,
+        pass: &mut Pass,
+        stepper: &S,
+        wait: S::Wait,
+    ) -> State<S::Step, S::Wait, S::Done>
+        requires pass { AreOf self.now pass.old.seats }
+        requires can { S.can stepper.now (State.Waits wait) }
+        ensures pass { AreOf self.now pass.new.seats }
+        ensures can { S.can stepper.now result }
+        ensures ended { EndsWait (S.wait stepper.now wait) pass.old
+            (state_of (S.phase stepper.now) (S.wait stepper.now) (S.ending stepper.now) result)
+            pass.new }
+    {
+        let (count, above) = stepper.awaited(&wait);
+        match self.wait_above(rt, pass, count, above) {
+            Waited::Above(value) => State::Goes(stepper.resume(wait, value)),
+            Waited::Still => State::Waits(wait),
+            Waited::Worn => State::Over(Err(Errno::EOVERFLOW)),
+        }
     }
 }

@@ -1,24 +1,24 @@
 //! `msgsnd`.
 
-ghost use Rattle.std.specs.Prelude.{◌≡◌, ℕ};
+ghost use Rattle.std.specs.Prelude.{◌≡◌, ◌+◌, ℕ, List};
 ghost use Rattle.sysv_steps.specs.Call.{Msgsnd};
 ghost use Rattle.sysv_steps.specs.Begin.{begin as begins};
 ghost use Rattle.sysv_steps.specs.State.{Over, Ending as Ends};
-ghost use Rattle.sysv_steps.specs.Resume.{Released};
+ghost use Rattle.sysv_steps.specs.Resume.{Released, awaited as is_awaited, goal_of};
+ghost use Rattle.sysv_steps.specs.Seen.{send_wait};
 ghost use Rattle.sysv_service.specs.Seats.{AreOf};
 ghost use Rattle.sysv_service.specs.Reading.{Reads};
 ghost use Rattle.sysv_service.specs.Ran.{Pass as Seen, Comes};
-ghost use Rattle.sysv_steps.specs.Kinds.{Sends};
+ghost use Rattle.sysv_service.specs.SharedCounts.{count_of};
 ghost use Rattle.sysv_service.specs.Told.{TellsZero};
 
 use crate::pass::Pass;
 use crate::running::Stepper;
 use crate::service::Service;
-use crate::waiting::zero_of;
 use crate::{AtGates, SharedCount};
 use std::sync::Wait as MayWait;
 use sysv_model::{Body, Cred, Errno, Flags};
-use sysv_steps::{Clock, Phase, Sending, State, send_step};
+use sysv_steps::{Clock, SendState, SendStep, SendWait, Sending, send_step};
 
 impl Service {
     /// Appends a message of type `mtype` with the body `text` to the queue `id` (POSIX.1-2017,
@@ -63,7 +63,7 @@ impl Service {
         let released = self.gates.count(&mut pass.seats, SharedCount::Released);
         let begun = Sending::begin(cred, id, mtype, flags, text.len(), released);
         let stepper = SendStepper { clock, text };
-        zero_of(self.run(rt, pass, &stepper, begun))
+        self.run(rt, pass, &stepper, begun)
     }
 }
 
@@ -75,20 +75,36 @@ pub(crate) struct SendStepper<'a, C> {
 }
 
 impl<'a, C: Clock> Stepper for SendStepper<'a, C> {
-    ghost use Rattle.sysv_service.specs.Waited.{wait_sends};
+    ghost use Rattle.sysv_steps.specs.State.{Zero};
+    ghost use Rattle.sysv_steps.specs.Seen.{send_phase, send_wait};
+    ghost use Rattle.sysv_steps.specs.Bodies.{StillCanSend};
 
-    ghost kind = { Sends };
+    type Step = SendStep;
+
+    type Wait = SendWait;
+
+    type Done = ();
 
     ghost may = { λ s. C.may s.clock.now };
 
-    ghost text = { λ s. s.text.now };
+    ghost phase = { λ s step. send_phase step s.text.now };
 
-    ghost resumes = { wait_sends };
+    ghost wait = { λ s waits. send_wait waits s.text.now };
 
-    ghost is_refused = { λ _. tt };
+    ghost ending = { λ _ _. Zero };
+
+    ghost can = { λ s state. StillCanSend state s.text.now };
+
+    ghost is_refused = { λ _ _. tt };
 
     #[inline(always)]
-    fn step(&self, rt: &impl MayWait, service: &Service, pass: &mut Pass, phase: Phase) -> State {
+    fn step(
+        &self,
+        rt: &impl MayWait,
+        service: &Service,
+        pass: &mut Pass,
+        step: SendStep,
+    ) -> SendState {
         let gates = AtGates::of(rt, &service.gates);
         send_step(
             &gates,
@@ -96,7 +112,26 @@ impl<'a, C: Clock> Stepper for SendStepper<'a, C> {
             &mut pass.held,
             self.clock,
             self.text,
-            phase,
+            step,
         )
+    }
+
+    fn awaited(&self, waits: &SendWait) -> (SharedCount, u64) {
+        awaited_by(waits)
+    }
+
+    fn resume(&self, waits: SendWait, value: u64) -> SendStep {
+        waits.resume(value)
+    }
+}
+
+/// Returns the count for which a send waits, and the value above which the count must rise.
+pub(crate) fn awaited_by(waits: &SendWait) -> (SharedCount, u64)
+    ensures count { (text : List ℕ) → count_of result.0 ≡ is_awaited (send_wait waits.now text) }
+    ensures above { (text : List ℕ) → goal_of (send_wait waits.now text) ≡ result.1 + 1 }
+{
+    match *waits {
+        SendWait::Room { above, send } => (SharedCount::Freed { id: send.id }, above),
+        SendWait::Blocks { above, .. } => (SharedCount::Released, above),
     }
 }

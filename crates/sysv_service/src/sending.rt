@@ -4,24 +4,22 @@ ghost use Rattle.std.specs.Prelude.{◌≡◌, ◌≤◌, ℕ, List, length, IfN
 ghost use Rattle.sysv_model.specs.declared.limits.TheConstants.{MESSAGE_BYTES};
 ghost use Rattle.sysv_steps.specs.Call.{Msgsnd};
 ghost use Rattle.sysv_steps.specs.Begin.{begin as begins};
-ghost use Rattle.sysv_steps.specs.State.{Goes, Waits, AtLook};
+ghost use Rattle.sysv_steps.specs.State.{Goes, AtLook};
 ghost use Rattle.sysv_steps.specs.Resume.{Released};
-ghost use Rattle.sysv_steps.specs.Seen.{sending, wait_of, state_of};
+ghost use Rattle.sysv_steps.specs.Seen.{sending, send_wait};
 ghost use Rattle.sysv_service.specs.Seats.{AreOf};
 ghost use Rattle.sysv_service.specs.Reading.{Reads};
-ghost use Rattle.sysv_steps.specs.Kinds.{Sends};
 ghost use Rattle.sysv_service.specs.Ran.{Pass as Seen};
-ghost use Rattle.sysv_service.specs.UnderWay.{SendsOn, IsReached, StillWaits, send_wait};
+ghost use Rattle.sysv_service.specs.UnderWay.{SendsOn, IsReached, StillWaits};
 
 use crate::pass::Pass;
-use crate::progress::{Progress, SendWait};
+use crate::progress::Progress;
 use crate::send::SendStepper;
 use crate::service::Service;
 use crate::shared_count::SharedCount;
-use crate::waiting::zero_of;
 use std::sync::Wait as MayWait;
 use sysv_model::{Body, Cred, Errno, Flags};
-use sysv_steps::{Clock, Phase, Sending, State, Wait};
+use sysv_steps::{Clock, SendStep, SendWait, Sending, State};
 
 impl Service {
     /// Begins a `msgsnd`: makes its steps until it waits or is over. It may wait for a turn, but
@@ -56,7 +54,7 @@ impl Service {
     {
         let released = self.gates.count(&mut pass.seats, SharedCount::Released);
         let begun = Sending::begin(cred, id, mtype, flags, text.len(), released);
-        self.send_on(rt, pass, clock, text, begun)
+        self.run_on(rt, pass, &SendStepper { clock, text }, begun)
     }
 
     /// Reads the count for which a send waits once, and never waits. Returns the send if the wait
@@ -75,11 +73,11 @@ impl Service {
     {
         match *wait {
             SendWait::Room { above, send } => {
-                self.look(pass, &Wait::Freed { above, send })?;
+                self.look(pass, SharedCount::Freed { id: send.id }, above)?;
                 Some(send)
             }
             SendWait::Blocks { above, mut send } => {
-                send.released = self.look(pass, &Wait::Released { above, send })?;
+                send.released = self.look(pass, SharedCount::Released, above)?;
                 Some(send)
             }
         }
@@ -110,41 +108,7 @@ impl Service {
         ensures ran { SendsOn (C.may clock.now) (Goes (AtLook (sending send text.now))) pass.old
             result text.now pass.new }
     {
-        self.send_on(rt, pass, clock, text, State::Goes(Phase::Look(send)))
-    }
-
-    /// Makes the steps of a send until it waits or is over.
-    fn send_on<C: Clock>(
-        &self,
-        rt: &impl MayWait,
-        pass: &mut Pass,
-        clock: &C,
-        text: &Body,
-        begun: State,
-    ) -> Progress<SendWait, Result<(), Errno>>
-        requires pass { AreOf self.now pass.old.seats }
-        requires sends { Sends (state_of begun text.now) }
-        ensures pass { AreOf self.now pass.new.seats }
-        ensures ran { SendsOn (C.may clock.now) (state_of begun text.now) pass.old result text.now
-            pass.new }
-    {
-        let stepper = SendStepper { clock, text };
-        match self.run_on(rt, pass, &stepper, begun) {
-            Progress::Waits(wait) => Progress::Waits(waiting(wait, text)),
-            Progress::Over(ending) => Progress::Over(zero_of(ending)),
-        }
-    }
-}
-
-/// Returns a send of `text` that waits.
-fn waiting(wait: Wait, text: &Body) -> SendWait
-    requires { Sends (Waits (wait_of wait text.now)) }
-    ensures wait { send_wait result text.now ≡ wait_of wait text.now }
-    ensures short { length text.now ≤ MESSAGE_BYTES }
-{
-    match wait {
-        Wait::Freed { above, send } => SendWait::Room { above, send },
-        Wait::Released { above, send } => SendWait::Blocks { above, send },
-        _other => unreachable!(),
+        let begun = State::Goes(SendStep::Look(send));
+        self.run_on(rt, pass, &SendStepper { clock, text }, begun)
     }
 }

@@ -13,6 +13,5 @@ pub mod OneEffect
 pub mod WorkedPlays
 pub mod HeldAfterDeed
 pub mod SendKeepsRead
-pub mod KindStays
 pub mod StepFromReply
 pub mod ReceiveGivesTaken

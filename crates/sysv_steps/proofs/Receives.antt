@@ -1,7 +1,7 @@
 -- A receive that plays to its end has a right result. While it is under way, it has taken no
 -- message, its identifier was not found gone, and it remembers whether the identifier was found
 -- live; one that does not wait has met no want of a message.
-use Rattle.std.proofs.Common.{◌≡◌, ℕ, ℤ, ◌+◌, ◌≤◌, inl, inr, Bool, true, false, List, [], ◌∷◌, ◌++◌, Some, cond, refl}
+use Rattle.std.proofs.Common.{◌≡◌, ℕ, ℤ, ◌+◌, inl, inr, Bool, true, false, List, [], ◌∷◌, ◌++◌, Some, cond, refl}
 use Rattle.std.proofs.Common.{sym, ap, subst, ◌∙◌, arith, take, length}
 use Rattle.std.specs.List.{list_any, flat_map}
 use Rattle.std.proofs.lemmas.Grind.{flat_map-append}

@@ -9,7 +9,7 @@ use Rattle.sysv_pool.specs.Replies.{release_reply}
 use Rattle.sysv_steps.specs.State.{Phase, State}
 use Rattle.sysv_steps.specs.Asks.{asks}
 use Rattle.sysv_steps.specs.Next.{next}
-use Rattle.sysv_steps.specs.Stepping.{is_stamped, no_moment, refused_blocks, StepsOn, TurnsBack, GivesBack}
+use Rattle.sysv_steps.specs.Stepping.{is_stamped, refused_blocks, StepsOn, TurnsBack, GivesBack}
 use Rattle.sysv_steps.specs.Stepping.{AsksToForget}
 
 module _ {P : Type 0} (takes : P → Deed → P → Type 0) (misses : P → Ask → P → Type 0) where

@@ -1,18 +1,18 @@
 -- A receive returns the message that it took in a turn of its own: the type, the sender and the
 -- acceptance number of its delivery are those of the message (POSIX.1-2017, msgrcv; the sender and
 -- the number are this project's profile).
-use Rattle.std.specs.Prelude.{◌≡◌, ◌⊎◌, ℕ, List, [], ◌∷◌, ◌++◌, ⊤}
+use Rattle.std.specs.Prelude.{◌≡◌, ◌⊎◌, ℕ, List, [], ◌∷◌, ◌++◌, Ok, Err, ⊤}
 use Rattle.sysv_model.specs.History.{Taken}
 use Rattle.sysv_model.specs.Turn.{Ask, Deed, AtSlot}
 use Rattle.sysv_queue.specs.Delivery.{Given}
-use Rattle.sysv_steps.specs.declared.ending.Ending.TheVariants as ending
-use Rattle.sysv_steps.specs.declared.state.Phase.{Phase as PhaseKept}
-use Rattle.sysv_steps.specs.declared.state.Phase.TheVariants as phase
+use Rattle.sysv_steps.specs.declared.receive.ReceiveStep.{ReceiveStep}
+use Rattle.sysv_steps.specs.declared.receive.ReceiveStep.TheVariants as step
+use Rattle.sysv_steps.specs.declared.receive.ReceiveWait.{ReceiveWait}
 use Rattle.sysv_steps.specs.declared.state.State.{State as StateKept}
 use Rattle.sysv_steps.specs.declared.state.State.TheVariants as state
-use Rattle.sysv_steps.specs.Seen.{phase_of, state_of}
+use Rattle.sysv_steps.specs.Seen.{receive_phase, receive_state}
 use Rattle.sysv_steps.specs.State.{AtReceiveGiveback, Got, State, Goes, Over}
-use Rattle.sysv_steps.specs.Kinds.{IsSized}
+use Rattle.sysv_steps.specs.Bodies.{IsSized}
 use Rattle.sysv_steps.specs.Stepping.{Steps, FindsNoTurn}
 
 -- The turn took the message of this delivery.
@@ -26,21 +26,25 @@ abbrev pub HaveTaken : Given → List Deed → Type 0
 HaveTaken given [] = ⊥
 HaveTaken given (deed ∷ deeds) = TakesGiven given deed ⊎ HaveTaken given deeds
 
+-- The state of a receive of the code.
+abbrev pub ReceiveKept : Type 0
+ReceiveKept = StateKept ReceiveStep ReceiveWait Given
+
 -- A receive that has a message to return took it in one of the turns.
-abbrev pub HasWhatItGives : StateKept → List Deed → Type 0
-HasWhatItGives (state.Goes (phase.ReceiveGiveback chain delivery)) deeds = HaveTaken delivery deeds
-HasWhatItGives (state.Over (ending.Got delivery)) deeds = HaveTaken delivery deeds
+abbrev pub HasWhatItGives : ReceiveKept → List Deed → Type 0
+HasWhatItGives (state.Goes (step.Giveback chain delivery)) deeds = HaveTaken delivery deeds
+HasWhatItGives (state.Over (Ok delivery)) deeds = HaveTaken delivery deeds
 HasWhatItGives s deeds = ⊤
 
 -- One step of a receive, after which the receive still has the message that it returns, or has just
 -- taken it.
-abbrev pub StepsGiving : {P : Type 0} → (P → Deed → P → Type 0) → (P → Ask → P → Type 0) → (ℕ → Type 0) → PhaseKept →
-    List ℕ → P → ℕ → StateKept → List ℕ → P → ℕ → Type 0
+abbrev pub StepsGiving : {P : Type 0} → (P → Deed → P → Type 0) → (P → Ask → P → Type 0) → (ℕ → Type 0) → ReceiveStep →
+    List ℕ → P → ℕ → ReceiveKept → List ℕ → P → ℕ → Type 0
 StepsGiving takes misses may there text before kept stands out after keeps =
-    ((step : Steps takes misses may (phase_of there text) before kept (state_of stands out) after keeps)
-    × ((deeds : List Deed) → HasWhatItGives (state.Goes there) deeds → HasWhatItGives stands (deeds ++ step.deed ∷ [])))
-    ⊎ ((step : FindsNoTurn takes misses may (phase_of there text) before kept (state_of stands out) after keeps)
-    × ((deeds : List Deed) → HasWhatItGives (state.Goes there) deeds → HasWhatItGives stands (deeds ++ step.deeds)))
+    ((made : Steps takes misses may (receive_phase there text) before kept (receive_state stands out) after keeps)
+    × ((deeds : List Deed) → HasWhatItGives (state.Goes there) deeds → HasWhatItGives stands (deeds ++ made.deed ∷ [])))
+    ⊎ ((made : FindsNoTurn takes misses may (receive_phase there text) before kept (receive_state stands out) after keeps)
+    × ((deeds : List Deed) → HasWhatItGives (state.Goes there) deeds → HasWhatItGives stands (deeds ++ made.deeds)))
 
 -- ---- a receive that gives nothing
 
@@ -51,18 +55,18 @@ GivesNothing (Over (Got mtype text)) = ⊥
 GivesNothing s = ⊤
 
 -- A state without a message meets the rule about lengths.
-pub nothing_is_sized : (s : StateKept) (text : List ℕ) → GivesNothing (state_of s text) → IsSized s text
-nothing_is_sized (state.Goes (phase.ReceiveGiveback chain delivery)) text none = absurd none
-nothing_is_sized (state.Over (ending.Got delivery)) text none = absurd none
-nothing_is_sized (state.Goes p) text none = tt
-nothing_is_sized (state.Over e) text none = tt
-nothing_is_sized (state.Waits w) text none = tt
+pub nothing_is_sized : (s : ReceiveKept) (out : List ℕ) → GivesNothing (receive_state s out) → IsSized s out
+nothing_is_sized (state.Goes (step.Giveback chain delivery)) out none = absurd none
+nothing_is_sized (state.Goes (step.Take receive)) out none = tt
+nothing_is_sized (state.Over (Ok delivery)) out none = absurd none
+nothing_is_sized (state.Over (Err why)) out none = tt
+nothing_is_sized (state.Waits w) out none = tt
 
 -- A state without a message meets the rule that its message was taken.
-pub nothing_to_have : (s : StateKept) (out : List ℕ) (deeds : List Deed) → GivesNothing (state_of s out) →
+pub nothing_to_have : (s : ReceiveKept) (out : List ℕ) (deeds : List Deed) → GivesNothing (receive_state s out) →
     HasWhatItGives s deeds
-nothing_to_have (state.Goes (phase.ReceiveGiveback chain delivery)) out deeds none = absurd none
-nothing_to_have (state.Over (ending.Got delivery)) out deeds none = absurd none
-nothing_to_have (state.Goes p) out deeds none = tt
-nothing_to_have (state.Over e) out deeds none = tt
+nothing_to_have (state.Goes (step.Giveback chain delivery)) out deeds none = absurd none
+nothing_to_have (state.Goes (step.Take receive)) out deeds none = tt
+nothing_to_have (state.Over (Ok delivery)) out deeds none = absurd none
+nothing_to_have (state.Over (Err why)) out deeds none = tt
 nothing_to_have (state.Waits w) out deeds none = tt

@@ -30,7 +30,7 @@ pub mod WorkedPlays
 pub mod HeldBlocks
 pub mod ReadLast
 pub mod Seen
-pub mod Kinds
+pub mod Bodies
 pub mod Stepping
 pub mod Giving
 pub mod Telling

@@ -1,19 +1,33 @@
--- What the code keeps of a call, with the body that its driver holds, as a state of the definitions
--- (this project's profile). `text` is the body of a send under way, or the bytes that a receive
--- returned. The code's wait keeps the value that its count must exceed, which is one below the
--- goal. The definitions keep only the number of blocks of a chain, and only the type of a delivery.
-use Rattle.std.specs.Prelude.{ℕ, ◌+◌, List}
-use Rattle.sysv_steps.specs.declared.ending.Ending.{Ending as EndingKept}
-use Rattle.sysv_steps.specs.declared.ending.Ending.TheVariants as ending
+-- What the code keeps of each of the six calls, with the body that its driver holds, as a state of
+-- the definitions (this project's profile). `text` is the body of a send under way, and `out` the
+-- bytes that a receive returned. The code's wait keeps the value that its count must exceed, which
+-- is one below the goal. The definitions keep only the number of blocks of a chain, and only the
+-- type of a delivery.
+use Rattle.std.specs.Prelude.{ℕ, ℤ, ◌+◌, List, Result, Ok, Err, ⊤}
+use Rattle.sysv_queue.specs.Delivery.{Given}
+use Rattle.sysv_model.specs.declared.attributes.Stat.{Stat}
+use Rattle.sysv_model.specs.declared.errno.Errno.{Errno}
 use Rattle.sysv_steps.specs.declared.get.Getting.{Getting as GetKept}
+use Rattle.sysv_steps.specs.declared.get.GetStep.{GetStep}
+use Rattle.sysv_steps.specs.declared.get.GetStep.TheVariants as get
+use Rattle.sysv_steps.specs.declared.get.GetWait.{GetWait}
 use Rattle.sysv_steps.specs.declared.send.Sending.{Sending as SendKept}
+use Rattle.sysv_steps.specs.declared.send.SendStep.{SendStep}
+use Rattle.sysv_steps.specs.declared.send.SendStep.TheVariants as send
+use Rattle.sysv_steps.specs.declared.send.SendWait.{SendWait}
+use Rattle.sysv_steps.specs.declared.send.SendWait.TheVariants.{Room, Blocks}
+use Rattle.sysv_steps.specs.declared.send.Afterwards.{Afterwards as AfterwardsKept}
+use Rattle.sysv_steps.specs.declared.send.Afterwards.TheVariants as afterwards
 use Rattle.sysv_steps.specs.declared.receive.Receiving.{Receiving as ReceiveKept}
-use Rattle.sysv_steps.specs.declared.wait.Wait.{Wait as WaitKept}
-use Rattle.sysv_steps.specs.declared.wait.Wait.TheVariants as wait
-use Rattle.sysv_steps.specs.declared.afterwards.Afterwards.{Afterwards as AfterwardsKept}
-use Rattle.sysv_steps.specs.declared.afterwards.Afterwards.TheVariants as afterwards
-use Rattle.sysv_steps.specs.declared.state.Phase.{Phase as PhaseKept}
-use Rattle.sysv_steps.specs.declared.state.Phase.TheVariants as phase
+use Rattle.sysv_steps.specs.declared.receive.ReceiveStep.{ReceiveStep}
+use Rattle.sysv_steps.specs.declared.receive.ReceiveStep.TheVariants as receive
+use Rattle.sysv_steps.specs.declared.receive.ReceiveWait.{ReceiveWait}
+use Rattle.sysv_steps.specs.declared.stat.StatStep.{StatStep}
+use Rattle.sysv_steps.specs.declared.set.SetStep.{SetStep}
+use Rattle.sysv_steps.specs.declared.set.SetStep.TheVariants as set
+use Rattle.sysv_steps.specs.declared.remove.RemoveStep.{RemoveStep}
+use Rattle.sysv_steps.specs.declared.remove.RemoveStep.TheVariants as remove
+use Rattle.sysv_steps.specs.declared.state.NoWait.{NoWait}
 use Rattle.sysv_steps.specs.declared.state.State.{State as StateKept}
 use Rattle.sysv_steps.specs.declared.state.State.TheVariants as state
 use Rattle.sysv_steps.specs.State.{Getting, Sending, Receiving, Wait, OnSettled, OnFreed, OnReleased, OnArrived}
@@ -22,9 +36,44 @@ use Rattle.sysv_steps.specs.State.{AtUnmake, AtLook, AtReserve, AtPlace, AtSendG
 use Rattle.sysv_steps.specs.State.{AtStat, AtSet, AtSetGiveback, AtRemove, AtForget, AtRemoveGiveback, Ending, Id, Zero}
 use Rattle.sysv_steps.specs.State.{Got, Told, Refused, State, Goes, Waits, Over}
 
+-- The end of a call of the code, by what its result means.
+abbrev pub ending_of : {T : Type 0} → (T → Ending) → Result T Errno → Ending
+ending_of ending (Ok told) = ending told
+ending_of ending (Err why) = Refused why
+
+-- The state of a call of the code, by what its steps, its waits and its result mean.
+abbrev pub state_of : {S W T : Type 0} → (S → Phase) → (W → Wait) → (T → Ending) → StateKept S W T → State
+state_of phase wait ending (state.Goes step) = Goes (phase step)
+state_of phase wait ending (state.Waits w) = Waits (wait w)
+state_of phase wait ending (state.Over told) = Over (ending_of ending told)
+
+-- The wait of a call that never waits: there is none.
+abbrev pub no_wait : NoWait → Wait
+no_wait = elim [ ]
+
+-- ---- msgget
+
 -- What a msgget of the code holds.
 abbrev pub getting : GetKept → Getting
 getting g = record { cred = g.cred; key = g.key; flags = g.flags }
+
+-- The step before which it is.
+abbrev pub get_phase : GetStep → Phase
+get_phase (get.Begin g) = AtBegin (getting g)
+get_phase (get.Install g id) = AtInstall (getting g) id
+get_phase (get.Settle id) = AtSettle id
+get_phase (get.Probe g id settled) = AtProbe (getting g) id settled
+get_phase (get.Unmake id) = AtUnmake id
+
+-- Its wait.
+abbrev pub get_wait : GetWait → Wait
+get_wait w = OnSettled (w.above + 1) (getting w.get)
+
+-- Its state.
+abbrev pub get_state : StateKept GetStep GetWait ℤ → State
+get_state s = state_of get_phase get_wait Id s
+
+-- ---- msgsnd
 
 -- What a send of the code holds, whose body is `text`.
 abbrev pub sending : SendKept → List ℕ → Sending
@@ -38,6 +87,29 @@ sending s text = record {
   seen = s.live_seen;
 }
 
+-- Its wait.
+abbrev pub send_wait : SendWait → List ℕ → Wait
+send_wait (Room above s) text = OnFreed (above + 1) (sending s text)
+send_wait (Blocks above s) text = OnReleased (above + 1) (sending s text)
+
+-- What it does after it has released its chain.
+abbrev pub afterwards_of : AfterwardsKept → List ℕ → Afterwards
+afterwards_of (afterwards.Refused why) text = IsRefused why
+afterwards_of (afterwards.Waits w) text = WaitsOn (send_wait w text)
+
+-- The step before which it is.
+abbrev pub send_phase : SendStep → List ℕ → Phase
+send_phase (send.Look s) text = AtLook (sending s text)
+send_phase (send.Reserve s) text = AtReserve (sending s text)
+send_phase (send.Place s chain) text = AtPlace (sending s text) chain.blocks
+send_phase (send.Giveback chain later) text = AtSendGiveback chain.blocks (afterwards_of later text)
+
+-- Its state.
+abbrev pub send_state : StateKept SendStep SendWait ⊤ → List ℕ → State
+send_state s text = state_of (λ step. send_phase step text) (λ w. send_wait w text) (λ _. Zero) s
+
+-- ---- msgrcv
+
 -- What a receive of the code holds.
 abbrev pub receiving : ReceiveKept → Receiving
 receiving r = record {
@@ -50,48 +122,44 @@ receiving r = record {
   seen = r.live_seen;
 }
 
--- A wait of the code.
-abbrev pub wait_of : WaitKept → List ℕ → Wait
-wait_of (wait.Settled above g) text = OnSettled (above + 1) (getting g)
-wait_of (wait.Freed above s) text = OnFreed (above + 1) (sending s text)
-wait_of (wait.Released above s) text = OnReleased (above + 1) (sending s text)
-wait_of (wait.Arrived above r) text = OnArrived (above + 1) (receiving r)
+-- Its wait.
+abbrev pub receive_wait : ReceiveWait → Wait
+receive_wait w = OnArrived (w.above + 1) (receiving w.receive)
 
--- What a send of the code does after it has released its chain.
-abbrev pub afterwards_of : AfterwardsKept → List ℕ → Afterwards
-afterwards_of (afterwards.Refused why) text = IsRefused why
-afterwards_of (afterwards.Waits w) text = WaitsOn (wait_of w text)
+-- The step before which it is.
+abbrev pub receive_phase : ReceiveStep → List ℕ → Phase
+receive_phase (receive.Take r) out = AtTake (receiving r)
+receive_phase (receive.Giveback chain delivery) out = AtReceiveGiveback chain.blocks delivery.mtype out
 
--- A step before which a call of the code is.
-abbrev pub phase_of : PhaseKept → List ℕ → Phase
-phase_of (phase.Begin g) text = AtBegin (getting g)
-phase_of (phase.Install g id) text = AtInstall (getting g) id
-phase_of (phase.Settle id) text = AtSettle id
-phase_of (phase.Probe g id settled) text = AtProbe (getting g) id settled
-phase_of (phase.Unmake id) text = AtUnmake id
-phase_of (phase.Look s) text = AtLook (sending s text)
-phase_of (phase.Reserve s) text = AtReserve (sending s text)
-phase_of (phase.Place s chain) text = AtPlace (sending s text) chain.blocks
-phase_of (phase.SendGiveback chain later) text = AtSendGiveback chain.blocks (afterwards_of later text)
-phase_of (phase.Take r) text = AtTake (receiving r)
-phase_of (phase.ReceiveGiveback chain delivery) text = AtReceiveGiveback chain.blocks delivery.mtype text
-phase_of (phase.Stat cred id) text = AtStat cred id
-phase_of (phase.Set cred id to) text = AtSet cred id to
-phase_of phase.SetGiveback text = AtSetGiveback
-phase_of (phase.Remove cred id) text = AtRemove cred id
-phase_of (phase.Forget id chain) text = AtForget id chain.blocks
-phase_of (phase.RemoveGiveback chain) text = AtRemoveGiveback chain.blocks
+-- Its state.
+abbrev pub receive_state : StateKept ReceiveStep ReceiveWait Given → List ℕ → State
+receive_state s out = state_of (λ step. receive_phase step out) receive_wait (λ (d : Given). Got d.mtype out) s
 
--- The end of a call of the code.
-abbrev pub ending_of : EndingKept → List ℕ → Ending
-ending_of (ending.Id id) text = Id id
-ending_of ending.Zero text = Zero
-ending_of (ending.Got delivery) text = Got delivery.mtype text
-ending_of (ending.Told stat) text = Told stat
-ending_of (ending.Refused why) text = Refused why
+-- ---- msgctl
 
--- The state of a call of the code.
-abbrev pub state_of : StateKept → List ℕ → State
-state_of (state.Goes p) text = Goes (phase_of p text)
-state_of (state.Waits w) text = Waits (wait_of w text)
-state_of (state.Over end) text = Over (ending_of end text)
+-- The step before which an IPC_STAT is.
+abbrev pub stat_phase : StatStep → Phase
+stat_phase s = AtStat s.cred s.id
+
+-- Its state.
+abbrev pub stat_state : StateKept StatStep NoWait Stat → State
+stat_state s = state_of stat_phase no_wait Told s
+
+-- The step before which an IPC_SET is.
+abbrev pub set_phase : SetStep → Phase
+set_phase (set.Set cred id to) = AtSet cred id to
+set_phase set.Giveback = AtSetGiveback
+
+-- Its state.
+abbrev pub set_state : StateKept SetStep NoWait ⊤ → State
+set_state s = state_of set_phase no_wait (λ _. Zero) s
+
+-- The step before which an IPC_RMID is.
+abbrev pub remove_phase : RemoveStep → Phase
+remove_phase (remove.Remove cred id) = AtRemove cred id
+remove_phase (remove.Forget id chain) = AtForget id chain.blocks
+remove_phase (remove.Giveback chain) = AtRemoveGiveback chain.blocks
+
+-- Its state.
+abbrev pub remove_state : StateKept RemoveStep NoWait ⊤ → State
+remove_state s = state_of remove_phase no_wait (λ _. Zero) s

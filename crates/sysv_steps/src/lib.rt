@@ -6,36 +6,31 @@
 //! the driver keep the message bodies. `specs/` has the table of steps.
 #![tactic(auto)]
 
-mod afterwards;
 mod call;
 mod clock;
-mod control;
-mod ending;
 mod get;
 mod laws;
 mod outcome;
 mod receive;
+mod remove;
 mod send;
+mod set;
+mod stat;
 mod state;
-mod wait;
 mod worn;
 
-pub use afterwards::Afterwards;
 pub use call::Call;
 pub use clock::Clock;
-pub use control::{
-    begin_remove, begin_set, begin_stat, forgotten, given_back, remove_step, removed, set_done,
-    set_step, stat_step, stat_told,
-};
-pub use ending::Ending;
-pub use get::{Getting, get_step};
+pub use get::{GetState, GetStep, GetWait, Getting, get_step};
 pub use laws::{
     after_removal, each_answer_is_right, each_deed_is_asked_for, each_has_one_effect,
     each_holds_its_blocks, each_holds_what_it_was_asked, each_is_tended, one_answer,
     waits_above_what_it_read, waits_for_its_refusal, waits_where_it_may, worked_plays,
 };
 pub use outcome::Outcome;
-pub use receive::{Receiving, receive_step};
-pub use send::{Sending, send_step};
-pub use state::{Phase, State};
-pub use wait::Wait;
+pub use receive::{ReceiveState, ReceiveStep, ReceiveWait, Receiving, receive_step};
+pub use remove::{RemoveState, RemoveStep, remove_step};
+pub use send::{Afterwards, SendState, SendStep, SendWait, Sending, send_step};
+pub use set::{SetState, SetStep, set_step};
+pub use stat::{StatState, StatStep, stat_step};
+pub use state::{NoWait, State};

@@ -1,6 +1,6 @@
 //! The steps of `msgrcv`.
 
-ghost use Rattle.std.specs.Prelude.{◌≡◌, ℕ, List, length, Some, Result, ⊤};
+ghost use Rattle.std.specs.Prelude.{◌≡◌, ◌≤◌, ◌↔◌, ℕ, List, length, Some, Ok, Result, ⊤, IsTrue};
 ghost use Rattle.sysv_model.specs.Message.{Message};
 ghost use Rattle.sysv_model.specs.History.{NoMatch, Taken};
 ghost use Rattle.sysv_model.specs.Pool.{blocks_for};
@@ -11,21 +11,21 @@ ghost use Rattle.sysv_queue.specs.Replies.{untaken_reply};
 ghost use Rattle.sysv_steps.specs.Begin.{begin as begins};
 ghost use Rattle.sysv_steps.specs.Call.{Msgrcv};
 ghost use Rattle.sysv_steps.specs.Next.{after_take as follows_take, after_giveback as follows_giveback};
-ghost use Rattle.sysv_steps.specs.Seen.{receiving, state_of, phase_of};
+ghost use Rattle.sysv_steps.specs.Resume.{goal_of, resume as resumes};
+ghost use Rattle.sysv_steps.specs.Seen.{receiving, receive_phase, receive_wait, receive_state};
 ghost use Rattle.sysv_steps.specs.State.{Got, Over, Goes};
-ghost use Rattle.sysv_steps.specs.Kinds.{Receives, IsSized};
+ghost use Rattle.sysv_steps.specs.HeldBlocks.{held};
+ghost use Rattle.sysv_steps.specs.Bodies.{IsSized};
 ghost use Rattle.sysv_steps.specs.Giving.{StepsGiving};
 
 use crate::clock::Clock;
-use crate::ending::Ending;
-use crate::state::{Phase, State};
-use crate::wait::Wait;
+use crate::state::State;
 use crate::worn::{give_back, overflow};
 use bitflags::Flags as _;
 use sysv_model::{Body, Cred, Errno, Flags, Selector};
 use sysv_objects::{ObjectCall, ObjectReply, SlotCall, SlotReply, Turns};
 use sysv_pool::Chain;
-use sysv_queue::{Delivery, TakeRefused};
+use sysv_queue::{Delivery, TakeRefused, Tally};
 
 /// A receive under way (POSIX.1-2017, `msgrcv`). Its driver keeps the body that it fills.
 #[derive(Clone, Copy, PartialEq, Eq, Debug)]
@@ -46,17 +46,72 @@ pub struct Receiving {
     pub live_seen: bool,
 }
 
+/// The step before which a `msgrcv` is.
+pub enum ReceiveStep {
+    /// A message is taken.
+    Take(Receiving),
+    /// The pool takes back the chain of a message that was taken, after its body was copied.
+    Giveback { chain: Chain, delivery: Delivery },
+}
+
+/// A `msgrcv` that waits for a message: until the arrived count of the slot of its queue is above
+/// `above` (this project's profile).
+#[derive(Clone, Copy, PartialEq, Eq, Debug)]
+pub struct ReceiveWait {
+    /// The value above which the count must rise.
+    pub above: u64,
+    /// The receive as it continues after the wait.
+    pub receive: Receiving,
+}
+
+/// The state of a `msgrcv`. Its result is the delivery of the message: the driver keeps the body
+/// that was written, and spends the delivery after it has passed the body on.
+pub type ReceiveState = State<ReceiveStep, ReceiveWait, Delivery>;
+
+impl ReceiveStep {
+    /// Returns the chain that a receive holds before this step, or an empty chain. A message that
+    /// it has taken is lost.
+    pub fn into_chain(self) -> Chain
+        ensures { (out : List ℕ) → result.blocks ≡ held (Goes (receive_phase self out)) }
+    {
+        match self {
+            ReceiveStep::Take(_receive) => Chain::empty(),
+            ReceiveStep::Giveback { chain, delivery } => {
+                delivery.lost(&mut Tally::open());
+                chain
+            }
+        }
+    }
+}
+
+impl ReceiveWait {
+    /// Returns whether the value `value` of the arrived count ends the wait: it is above `above`.
+    pub fn is_over(&self, value: u64) -> bool
+        ensures { IsTrue result ↔ goal_of (receive_wait self.now) ≤ value }
+    {
+        value > self.above
+    }
+
+    /// Returns the step at which the receive continues after its wait: it takes again.
+    pub fn resume(self) -> ReceiveStep
+        ensures { (value : ℕ) (out : List ℕ) →
+            resumes (receive_wait self) value ≡ receive_phase result out }
+    {
+        ReceiveStep::Take(self.receive)
+    }
+}
+
 impl Receiving {
     /// Returns the state of a receive at its start. It fails with EINVAL if `id` is negative
     /// (POSIX.1-2017, `msgrcv`, ERRORS). Otherwise it is before its take.
-    pub fn begin(cred: Cred, id: i32, size: u32, mtype: i64, flags: Flags) -> State
-        ensures { (text : List ℕ) (released : ℕ) →
-            begins cred (Msgrcv id size mtype flags) released ≡ state_of result text }
+    pub fn begin(cred: Cred, id: i32, size: u32, mtype: i64, flags: Flags) -> ReceiveState
+        ensures { (out : List ℕ) (released : ℕ) →
+            begins cred (Msgrcv id size mtype flags) released ≡ receive_state result out }
     {
         if id < 0 {
-            return State::Over(Ending::Refused(Errno::EINVAL));
+            return State::refused(Errno::EINVAL);
         }
-        State::Goes(Phase::Take(Receiving {
+        State::Goes(ReceiveStep::Take(Receiving {
             cred,
             id,
             selector: Selector::of(mtype, flags),
@@ -69,24 +124,24 @@ impl Receiving {
 
     /// Returns the state of the receive after it took a message and its driver copied at most
     /// `size` bytes of the body. The receive then releases the message's chain.
-    pub fn given(self, delivery: Delivery, chain: Chain) -> State
+    pub fn given(self, delivery: Delivery, chain: Chain) -> ReceiveState
         ensures next { (m : Message) (text : List ℕ) → Gives delivery m self.size text →
             chain.blocks ≡ blocks_for (length m.bytes) →
-            follows_take (receiving self) (Taken m) ≡ Some (state_of result text) }
-        ensures kept { result ≡ State.Goes (Phase.ReceiveGiveback chain delivery) }
+            follows_take (receiving self) (Taken m) ≡ Some (receive_state result text) }
+        ensures kept { result ≡ State.Goes (ReceiveStep.Giveback chain delivery) }
     {
-        State::Goes(Phase::ReceiveGiveback { chain, delivery })
+        State::Goes(ReceiveStep::Giveback { chain, delivery })
     }
 
     /// Returns the state of a receive after the chain of its message was released, or was refused
     /// by the pool as foreign: over, with the message.
-    pub fn given_back(delivery: Delivery) -> State
+    pub fn given_back(delivery: Delivery) -> ReceiveState
         ensures next { (text : List ℕ) (done : Result ⊤ Chained) →
             follows_giveback (Over (Got delivery.mtype text)) (release_reply done)
-            ≡ Some (state_of result text) }
-        ensures kept { result ≡ State.Over (Ending.Got delivery) }
+            ≡ Some (receive_state result text) }
+        ensures kept { result ≡ State.Over (Ok delivery) }
     {
-        State::Over(Ending::Got { delivery })
+        State::Over(Ok(delivery))
     }
 
     /// Returns the state of the receive after no message was taken.
@@ -97,9 +152,9 @@ impl Receiving {
     /// - If permission is denied, it fails with EACCES.
     /// - If the identifier is not live, it fails with EIDRM if an earlier turn found it live, else
     ///   with EINVAL (POSIX.1-2017, `msgrcv`, ERRORS).
-    pub fn untaken(self, why: TakeRefused) -> State
-        ensures { (text : List ℕ) → follows_take (receiving self) (untaken_reply why)
-            ≡ Some (state_of result text) }
+    pub fn untaken(self, why: TakeRefused) -> ReceiveState
+        ensures { (out : List ℕ) → follows_take (receiving self) (untaken_reply why)
+            ≡ Some (receive_state result out) }
     {
         match why {
             TakeRefused::Gone => State::refused_as_gone(self.live_seen),
@@ -112,14 +167,14 @@ impl Receiving {
     /// Returns the state of the receive after its live queue had no named message and the arrived
     /// count was `arrived`: it waits until the count is above `arrived`, or fails with ENOMSG if
     /// IPC_NOWAIT is set.
-    fn finds_none(self, arrived: u64) -> State
-        ensures { (text : List ℕ) → follows_take (receiving self) (NoMatch arrived)
-            ≡ Some (state_of result text) }
+    fn finds_none(self, arrived: u64) -> ReceiveState
+        ensures { (out : List ℕ) → follows_take (receiving self) (NoMatch arrived)
+            ≡ Some (receive_state result out) }
     {
         if self.nowait {
             return State::refused(Errno::ENOMSG);
         }
-        State::Waits(Wait::Arrived {
+        State::Waits(ReceiveWait {
             above: arrived,
             receive: Receiving {
                 live_seen: true,
@@ -139,30 +194,26 @@ impl Receiving {
 /// # Conditions
 ///
 /// - `turns` must be ready for a turn at `at`.
-/// - `phase` must be a step of a receive.
 pub fn receive_step<T: Turns, C: Clock>(
     turns: &T,
     at: &mut T::At,
     kept: &mut Chain,
     clock: &C,
     out: &mut Body,
-    phase: Phase,
-) -> State
-    requires ready { T.ready turns.now at.old }
-    requires receives { Receives (Goes (phase_of phase out.old)) }
+    step: ReceiveStep,
+) -> ReceiveState
+    requires { T.ready turns.now at.old }
     ensures stays { T.stays turns.now at.new }
-    ensures receives { Receives (state_of result out.new) }
-    ensures sized { IsSized (State.Goes phase) out.old → IsSized result out.new }
-    ensures steps { StepsGiving T.takes T.misses (C.may clock.now) phase out.old
+    ensures sized { IsSized (State.Goes step) out.old → IsSized result out.new }
+    ensures steps { StepsGiving T.takes T.misses (C.may clock.now) step out.old
         at.old kept.old.blocks result out.new at.new kept.new.blocks }
 {
-    match phase {
-        Phase::Take(receive) => take(turns, at, clock, out, receive),
-        Phase::ReceiveGiveback { chain, delivery } => {
+    match step {
+        ReceiveStep::Take(receive) => take(turns, at, clock, out, receive),
+        ReceiveStep::Giveback { chain, delivery } => {
             give_back(turns, at, kept, chain);
             Receiving::given_back(delivery)
         }
-        _other => unreachable!(),
     }
 }
 
@@ -173,13 +224,12 @@ fn take<T: Turns, C: Clock>(
     clock: &C,
     out: &mut Body,
     receive: Receiving,
-) -> State
+) -> ReceiveState
     requires { T.ready turns.now at.old }
     ensures stays { T.stays turns.now at.new }
-    ensures receives { Receives (state_of result out.new) }
     ensures sized { IsSized result out.new }
     ensures steps { (kept : ℕ) → StepsGiving T.takes T.misses (C.may clock.now)
-        (Phase.Take receive) out.old at.old kept result out.new at.new kept }
+        (ReceiveStep.Take receive) out.old at.old kept result out.new at.new kept }
 {
     let Receiving {
         cred,

@@ -1,21 +1,21 @@
 //! What all calls share: identifiers that are forgotten, chains that are released, and gates that
 //! are worn out.
 
-ghost use Rattle.std.specs.Prelude.{◌≡◌, ◌+◌};
+ghost use Rattle.std.specs.Prelude.{◌≡◌, ◌+◌, Err};
 ghost use Rattle.sysv_steps.specs.Stepping.{AsksToForget, GivesBack};
 
-use crate::{Ending, State};
+use crate::state::State;
 use std::mem;
 use sysv_model::Errno;
 use sysv_objects::{ObjectCall, ObjectReply, PoolCall, PoolReply, RegistryCall, Turns};
 use sysv_pool::Chain;
 
 /// Returns the state of a call whose turn was due at a worn-out gate: over with EOVERFLOW.
-pub(crate) fn overflow(back: ObjectCall) -> State
-    ensures { result ≡ State.Over (Ending.Refused Errno.EOVERFLOW) }
+pub(crate) fn overflow<S, W, T>(back: ObjectCall) -> State<S, W, T>
+    ensures { result ≡ State.Over (Err Errno.EOVERFLOW) }
 {
     back.into_chain().end();
-    State::Over(Ending::Refused(Errno::EOVERFLOW))
+    State::refused(Errno::EOVERFLOW)
 }
 
 /// Requests the registry to forget the identifier. If the gate of the registry is worn out, no turn

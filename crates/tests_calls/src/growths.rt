@@ -21,7 +21,7 @@ fn world_starting_at(rt: HostRuntime) {
     let _marked = mark(rt.alloc());
     match World::open_at(rt.alloc(), 2, 128, 1 << 61, 8_388_607) {
         Ok(mut world) => {
-            assert!(rt; world.standing(1).is_none());
+            assert!(rt; world.doing(1).is_none());
             assert_is(&rt, world.end(), 128);
         }
         Err(why) => assert_is(&rt, why, OpenRefused::NoMemory),

@@ -11,10 +11,12 @@ use crate::parts::{assert_is, open_body};
 use bitflags::Flags as _;
 use std::alloc::Global;
 use std::process::Abort;
-use sysv_core::{Answer, Call, Event, OpenRefused, Outcome, Standing, Stepped, World};
+use sysv_core::{
+    Answer, Call, Doing, Event, OpenRefused, Outcome, Sent, Standing, Stepped, World,
+};
 use sysv_model::{Body, Cred, Errno, Flags, NoMemory, Perm, SetTo, Stat};
 use sysv_queue::{Look, Tally};
-use sysv_steps::Phase;
+use sysv_steps::{GetStep, RemoveStep, SendStep};
 use tests_kit::{creating, flags};
 
 /// The wanted answer: the actor, how the call ended, and the contents of the body that is handed
@@ -73,8 +75,40 @@ fn assert_makes(rt: &impl Abort, world: &mut World, actor: u32, call: Call, want
     assert_eq!(rt; make(rt, world, actor, call), wanted);
 }
 
+/// Returns the step before which the get of an actor is, if it is before one.
+fn gets_at(world: &World, actor: u32) -> Option<&GetStep> {
+    match world.doing(actor)? {
+        Doing::Get(Standing::At(step)) => Some(step),
+        _ => None,
+    }
+}
+
+/// Returns the step before which the send of an actor is, if it is before one.
+fn sends_at(world: &World, actor: u32) -> Option<&SendStep> {
+    match world.doing(actor)? {
+        Doing::Send(Sent {
+            at: Standing::At(step),
+            ..
+        }) => Some(step),
+        _ => None,
+    }
+}
+
+/// Returns the step before which the removal of an actor is, if it is before one.
+fn removes_at(world: &World, actor: u32) -> Option<&RemoveStep> {
+    match world.doing(actor)? {
+        Doing::Remove(step) => Some(step),
+        _ => None,
+    }
+}
+
 fn is_waiting(world: &World, actor: u32) -> bool {
-    matches!(world.standing(actor), Some(Standing::Waits(_)))
+    match world.doing(actor) {
+        Some(Doing::Get(Standing::Waits(_))) => true,
+        Some(Doing::Send(Sent { at, .. })) => matches!(at, Standing::Waits(_)),
+        Some(Doing::Receive { at, .. }) => matches!(at, Standing::Waits(_)),
+        _ => false,
+    }
 }
 
 /// Returns a get of this key, with IPC_CREAT and mode 0600.
@@ -234,10 +268,7 @@ fn a_place_finds_that_the_room_is_gone(rt: HostRuntime) {
     let full = Outcome::Refused(Errno::EAGAIN);
     assert_nothing(&rt, world.step(step(1)));
     assert!(rt;
-        matches!(
-            world.standing(1),
-            Some(Standing::At(Phase::SendGiveback { .. }))
-        )
+        matches!(sends_at(&world, 1), Some(SendStep::Giveback { .. }))
     );
     assert_answer(&rt, world.step(step(1)), (1, full, None));
     assert_sends(&rt, alloc, &mut world, 2, b"");
@@ -427,15 +458,15 @@ fn six_calls(rt: &impl Abort, alloc: Global) -> Vec<Event> {
 #[test]
 fn an_actor_stands_before_its_next_step(rt: HostRuntime) {
     let mut world = world_with_queue(&rt, rt.alloc(), 2);
-    assert!(rt; world.standing(0).is_none());
-    assert!(rt; world.standing(1).is_none());
-    assert!(rt; world.standing(3).is_none());
+    assert!(rt; world.doing(0).is_none());
+    assert!(rt; world.doing(1).is_none());
+    assert!(rt; world.doing(3).is_none());
     let _started = world.step(send(&rt, rt.alloc(), 1, 5, b"hello"));
-    assert!(rt; matches!(world.standing(1), Some(Standing::At(Phase::Look(_)))));
-    assert!(rt; world.standing(2).is_none());
+    assert!(rt; matches!(sends_at(&world, 1), Some(SendStep::Look(_))));
+    assert!(rt; world.doing(2).is_none());
     let _looked = world.step(Event::Step { actor: 1, now: 0 });
-    assert!(rt; matches!(world.standing(1), Some(Standing::At(Phase::Reserve(_)))));
+    assert!(rt; matches!(sends_at(&world, 1), Some(SendStep::Reserve(_))));
     let _reserved = world.step(Event::Step { actor: 1, now: 0 });
-    assert!(rt; matches!(world.standing(1), Some(Standing::At(Phase::Place { .. }))));
+    assert!(rt; matches!(sends_at(&world, 1), Some(SendStep::Place { .. })));
     assert_is(&rt, world.end(), 1024);
 }

@@ -12,8 +12,9 @@ use sysv_model::{Body, Cred, Errno, Flags, NoMemory, Perm, Selector, SetTo, Stat
 use sysv_pool::{Chain, Pool};
 use sysv_queue::{Delivery, Look, PlaceRefused, Probe, QueueSlot, TakeRefused, Tally, Unplaced};
 use sysv_steps::{
-    Afterwards, Ending, Getting, Phase, Receiving, Sending, State, Wait, begin_remove, begin_set,
-    begin_stat, forgotten, given_back, removed, set_done, stat_told,
+    Afterwards, GetStep, GetWait, Getting, NoWait, ReceiveState, ReceiveStep, ReceiveWait,
+    Receiving, RemoveState, RemoveStep, SendState, SendStep, SendWait, Sending, SetStep, State,
+    StatStep,
 };
 use tests_kit::USER;
 
@@ -72,7 +73,9 @@ enum Shown {
     Remove { cred: Cred, id: i32 },
     Forget { id: i32, blocks: u32 },
     RemoveGiveback { blocks: u32 },
-    Waits(Wait),
+    WaitsToGet(GetWait),
+    WaitsToSend(SendWait),
+    WaitsToReceive(ReceiveWait),
     Id(i32),
     Zero,
     Got { mtype: i64 },
@@ -87,53 +90,139 @@ fn mtype_of(delivery: Delivery) -> i64 {
     mtype
 }
 
-fn show_phase(phase: Phase) -> Shown {
-    match phase {
-        Phase::Begin(get) => Shown::Begin(get),
-        Phase::Install { get, id } => Shown::Install { get, id },
-        Phase::Settle { id } => Shown::Settle { id },
-        Phase::Probe { get, id, settled } => Shown::Probe { get, id, settled },
-        Phase::Unmake { id } => Shown::Unmake { id },
-        Phase::Look(send) => Shown::Look(send),
-        Phase::Reserve(send) => Shown::Reserve(send),
-        Phase::Place { send, chain } => Shown::Place {
-            send,
-            blocks: chain.end(),
-        },
-        Phase::SendGiveback { chain, afterwards } => Shown::SendGiveback {
-            blocks: chain.end(),
-            afterwards,
-        },
-        Phase::Take(receive) => Shown::Take(receive),
-        Phase::ReceiveGiveback { chain, delivery } => Shown::ReceiveGiveback {
-            blocks: chain.end(),
-            mtype: mtype_of(delivery),
-        },
-        Phase::Stat { cred, id } => Shown::Stat { cred, id },
-        Phase::Set { cred, id, to } => Shown::Set { cred, id, to },
-        Phase::SetGiveback => Shown::SetGiveback,
-        Phase::Remove { cred, id } => Shown::Remove { cred, id },
-        Phase::Forget { id, chain } => Shown::Forget {
-            id,
-            blocks: chain.end(),
-        },
-        Phase::RemoveGiveback { chain } => Shown::RemoveGiveback {
-            blocks: chain.end(),
-        },
+/// A step, a wait or a result that can be shown.
+trait Shows {
+    fn shown(self) -> Shown;
+}
+
+impl Shows for GetStep {
+    fn shown(self) -> Shown {
+        match self {
+            GetStep::Begin(get) => Shown::Begin(get),
+            GetStep::Install { get, id } => Shown::Install { get, id },
+            GetStep::Settle { id } => Shown::Settle { id },
+            GetStep::Probe { get, id, settled } => Shown::Probe { get, id, settled },
+            GetStep::Unmake { id } => Shown::Unmake { id },
+        }
     }
 }
 
-fn show(state: State) -> Shown {
+impl Shows for GetWait {
+    fn shown(self) -> Shown {
+        Shown::WaitsToGet(self)
+    }
+}
+
+impl Shows for i32 {
+    fn shown(self) -> Shown {
+        Shown::Id(self)
+    }
+}
+
+impl Shows for SendStep {
+    fn shown(self) -> Shown {
+        match self {
+            SendStep::Look(send) => Shown::Look(send),
+            SendStep::Reserve(send) => Shown::Reserve(send),
+            SendStep::Place { send, chain } => Shown::Place {
+                send,
+                blocks: chain.end(),
+            },
+            SendStep::Giveback { chain, afterwards } => Shown::SendGiveback {
+                blocks: chain.end(),
+                afterwards,
+            },
+        }
+    }
+}
+
+impl Shows for SendWait {
+    fn shown(self) -> Shown {
+        Shown::WaitsToSend(self)
+    }
+}
+
+impl Shows for () {
+    fn shown(self) -> Shown {
+        Shown::Zero
+    }
+}
+
+impl Shows for ReceiveStep {
+    fn shown(self) -> Shown {
+        match self {
+            ReceiveStep::Take(receive) => Shown::Take(receive),
+            ReceiveStep::Giveback { chain, delivery } => Shown::ReceiveGiveback {
+                blocks: chain.end(),
+                mtype: mtype_of(delivery),
+            },
+        }
+    }
+}
+
+impl Shows for ReceiveWait {
+    fn shown(self) -> Shown {
+        Shown::WaitsToReceive(self)
+    }
+}
+
+impl Shows for Delivery {
+    fn shown(self) -> Shown {
+        Shown::Got {
+            mtype: mtype_of(self),
+        }
+    }
+}
+
+impl Shows for StatStep {
+    fn shown(self) -> Shown {
+        let StatStep { cred, id } = self;
+        Shown::Stat { cred, id }
+    }
+}
+
+impl Shows for NoWait {
+    fn shown(self) -> Shown {
+        match self {}
+    }
+}
+
+impl Shows for Stat {
+    fn shown(self) -> Shown {
+        Shown::Told(self)
+    }
+}
+
+impl Shows for SetStep {
+    fn shown(self) -> Shown {
+        match self {
+            SetStep::Set { cred, id, to } => Shown::Set { cred, id, to },
+            SetStep::Giveback => Shown::SetGiveback,
+        }
+    }
+}
+
+impl Shows for RemoveStep {
+    fn shown(self) -> Shown {
+        match self {
+            RemoveStep::Remove { cred, id } => Shown::Remove { cred, id },
+            RemoveStep::Forget { id, chain } => Shown::Forget {
+                id,
+                blocks: chain.end(),
+            },
+            RemoveStep::Giveback { chain } => Shown::RemoveGiveback {
+                blocks: chain.end(),
+            },
+        }
+    }
+}
+
+fn show<S: Shows, W: Shows, T: Shows>(state: State<S, W, T>) -> Shown {
     match state {
-        State::Goes(phase) => show_phase(phase),
-        State::Waits(wait) => Shown::Waits(wait),
-        State::Over(Ending::Id(id)) => Shown::Id(id),
-        State::Over(Ending::Zero) => Shown::Zero,
-        State::Over(Ending::Got { delivery }) => Shown::Got {
-            mtype: mtype_of(delivery),
-        },
-        State::Over(Ending::Told(stat)) => Shown::Told(stat),
-        State::Over(Ending::Refused(why)) => Shown::Refused(why),
+        State::Goes(step) => step.shown(),
+        State::Waits(wait) => wait.shown(),
+        State::Over(Ok(told)) => told.shown(),
+        State::Over(Err(why)) => Shown::Refused(why),
     }
 }
 
@@ -177,20 +266,48 @@ fn send_text(rt: &impl Abort, slot: &mut QueueSlot, pool: &mut Pool, alloc: Glob
     }
 }
 
-/// Returns the state of a call that was at its giveback, after the pool has its chain.
-fn release(rt: &impl Abort, pool: &mut Pool, state: State) -> Shown {
-    let (chain, after) = match state {
-        State::Goes(Phase::SendGiveback { chain, afterwards }) => (chain, afterwards.given_back()),
-        State::Goes(Phase::ReceiveGiveback { chain, delivery }) => {
-            (chain, Receiving::given_back(delivery))
-        }
-        State::Goes(Phase::SetGiveback) => (Chain::empty(), given_back()),
-        State::Goes(Phase::RemoveGiveback { chain }) => (chain, given_back()),
+/// Returns the chain of a send at its giveback, and its state afterwards.
+fn send_giveback(rt: &impl Abort, state: SendState) -> (Chain, SendState) {
+    match state {
+        State::Goes(SendStep::Giveback { chain, afterwards }) => (chain, afterwards.given_back()),
         state => {
             show(state);
             panic!(rt; "no giveback")
         }
-    };
+    }
+}
+
+/// Returns the chain of a receive at its giveback, and its state afterwards.
+fn receive_giveback(rt: &impl Abort, state: ReceiveState) -> (Chain, ReceiveState) {
+    match state {
+        State::Goes(ReceiveStep::Giveback { chain, delivery }) => {
+            (chain, Receiving::given_back(delivery))
+        }
+        state => {
+            show(state);
+            panic!(rt; "no giveback")
+        }
+    }
+}
+
+/// Returns the chain of a removal at its giveback, and its state afterwards.
+fn remove_giveback(rt: &impl Abort, state: RemoveState) -> (Chain, RemoveState) {
+    match state {
+        State::Goes(RemoveStep::Giveback { chain }) => (chain, RemoveStep::given_back()),
+        state => {
+            show(state);
+            panic!(rt; "no giveback")
+        }
+    }
+}
+
+/// Releases a chain at the pool, and shows the state of its call afterwards.
+fn release<S: Shows, W: Shows, T: Shows>(
+    rt: &impl Abort,
+    pool: &mut Pool,
+    held: (Chain, State<S, W, T>),
+) -> Shown {
+    let (chain, after) = held;
     let released = pool.released();
     assert!(rt; released < 100);
     if let Err(chain) = pool.release(chain) {
@@ -216,8 +333,8 @@ fn a_get_begins(rt: HostRuntime) {
             settled: 5
         }
     );
-    let wait = Wait::Settled { above: 5, get };
-    assert!(rt; begun(Begun::Busy { settled: 5 }) == Shown::Waits(wait));
+    let wait = GetWait { above: 5, get };
+    assert!(rt; begun(Begun::Busy { settled: 5 }) == Shown::WaitsToGet(wait));
     assert!(rt; begun(Begun::Refused(Errno::ENOSPC)) == Shown::Refused(Errno::ENOSPC));
 }
 
@@ -232,15 +349,15 @@ fn a_get_makes_a_queue(rt: HostRuntime) {
 #[test]
 fn a_get_probes_what_it_found(rt: HostRuntime) {
     let get = getting(Flags::IPC_CREAT);
-    let wait = Wait::Settled { above: 5, get };
+    let wait = GetWait { above: 5, get };
     let probed = |found| show(get.probed(259, 5, found));
-    assert!(rt; probed(Probe::Gone) == Shown::Waits(wait));
+    assert!(rt; probed(Probe::Gone) == Shown::WaitsToGet(wait));
     assert!(rt; probed(Probe::Denied) == Shown::Refused(Errno::EACCES));
     assert!(rt; probed(Probe::Granted) == Shown::Id(259));
     let get = getting(Flags::IPC_CREAT | Flags::IPC_EXCL);
-    let wait = Wait::Settled { above: 5, get };
+    let wait = GetWait { above: 5, get };
     let probed = |found| show(get.probed(259, 5, found));
-    assert!(rt; probed(Probe::Gone) == Shown::Waits(wait));
+    assert!(rt; probed(Probe::Gone) == Shown::WaitsToGet(wait));
     assert!(rt; probed(Probe::Denied) == Shown::Refused(Errno::EEXIST));
     assert!(rt; probed(Probe::Granted) == Shown::Refused(Errno::EEXIST));
     let old = getting(Flags::IPC_EXCL);
@@ -271,10 +388,10 @@ fn the_attributes_are_told(rt: HostRuntime) {
         cred: USER,
         id: 259,
     };
-    assert!(rt; show(begin_stat(USER, 259)) == read);
-    assert!(rt; show(begin_stat(USER, -1)) == Shown::Refused(Errno::EINVAL));
-    assert!(rt; show(stat_told(Ok(stat))) == Shown::Told(stat));
-    assert!(rt; show(stat_told(Err(Errno::EACCES))) == Shown::Refused(Errno::EACCES));
+    assert!(rt; show(StatStep::begin(USER, 259)) == read);
+    assert!(rt; show(StatStep::begin(USER, -1)) == Shown::Refused(Errno::EINVAL));
+    assert!(rt; show(StatStep::told(Ok(stat))) == Shown::Told(stat));
+    assert!(rt; show(StatStep::told(Err(Errno::EACCES))) == Shown::Refused(Errno::EACCES));
 }
 
 #[test]
@@ -290,12 +407,12 @@ fn a_queue_is_changed(rt: HostRuntime) {
         id: 259,
         to,
     };
-    assert!(rt; show(begin_set(USER, 259, to)) == set);
-    assert!(rt; show(begin_set(USER, -1, to)) == Shown::Refused(Errno::EINVAL));
-    assert!(rt; show(set_done(Ok(()))) == Shown::SetGiveback);
-    assert!(rt; show(set_done(Err(Errno::EPERM))) == Shown::Refused(Errno::EPERM));
+    assert!(rt; show(SetStep::begin(USER, 259, to)) == set);
+    assert!(rt; show(SetStep::begin(USER, -1, to)) == Shown::Refused(Errno::EINVAL));
+    assert!(rt; show(SetStep::done(Ok(()))) == Shown::SetGiveback);
+    assert!(rt; show(SetStep::done(Err(Errno::EPERM))) == Shown::Refused(Errno::EPERM));
     let mut pool = open_pool(&rt, rt.alloc(), 128);
-    assert!(rt; release(&rt, &mut pool, set_done(Ok(()))) == Shown::Zero);
+    assert!(rt; release(&rt, &mut pool, (Chain::empty(), SetStep::given_back())) == Shown::Zero);
     assert_is(&rt, pool.free(), 128);
     pool.end();
 }
@@ -306,9 +423,9 @@ fn a_removal_begins(rt: HostRuntime) {
         cred: USER,
         id: 259,
     };
-    assert!(rt; show(begin_remove(USER, 259)) == remove);
-    assert!(rt; show(begin_remove(USER, -1)) == Shown::Refused(Errno::EINVAL));
-    assert!(rt; show(removed(259, Err(Errno::EPERM))) == Shown::Refused(Errno::EPERM));
+    assert!(rt; show(RemoveStep::begin(USER, 259)) == remove);
+    assert!(rt; show(RemoveStep::begin(USER, -1)) == Shown::Refused(Errno::EINVAL));
+    assert!(rt; show(RemoveStep::removed(259, Err(Errno::EPERM))) == Shown::Refused(Errno::EPERM));
 }
 
 #[test]
@@ -318,45 +435,45 @@ fn a_removal_gives_back_what_it_discarded(rt: HostRuntime) {
     send_text(&rt, &mut slot, &mut pool, rt.alloc());
     let (arrived, freed) = slot.counts();
     assert!(rt; arrived < 100 && freed < 100);
-    let chain = match removed(0, slot.remove(0, USER)) {
-        State::Goes(Phase::Forget { id: 0, chain }) => chain,
+    let chain = match RemoveStep::removed(0, slot.remove(0, USER)) {
+        State::Goes(RemoveStep::Forget { id: 0, chain }) => chain,
         state => {
             show(state);
             panic!(rt; "no forget")
         }
     };
     assert_is(&rt, chain.blocks(), 3);
-    assert!(rt; release(&rt, &mut pool, forgotten(chain)) == Shown::Zero);
+    assert!(rt; release(&rt, &mut pool, remove_giveback(&rt, RemoveStep::forgotten(chain))) == Shown::Zero);
     assert_is(&rt, pool.free(), 128);
     pool.end();
     assert_is(&rt, slot.end().end(), 0);
-    assert!(rt; show(forgotten(Chain::empty())) == Shown::RemoveGiveback { blocks: 0 });
+    assert!(rt; show(RemoveStep::forgotten(Chain::empty())) == Shown::RemoveGiveback { blocks: 0 });
 }
 
 #[test]
 fn a_wait_ends_above_its_value(rt: HostRuntime) {
     let get = getting(Flags::IPC_CREAT);
-    let settled = Wait::Settled { above: 5, get };
+    let settled = GetWait { above: 5, get };
     assert!(rt; !settled.is_over(5) && settled.is_over(6));
     assert!(rt; !settled.is_over(0) && settled.is_over(u64::MAX));
-    assert!(rt; show_phase(settled.resume(6)) == Shown::Begin(get));
-    let arrived = Wait::Arrived {
+    assert!(rt; settled.resume().shown() == Shown::Begin(get));
+    let arrived = ReceiveWait {
         above: 0,
         receive: receiving(true),
     };
     assert!(rt; !arrived.is_over(0) && arrived.is_over(1));
-    assert!(rt; show_phase(arrived.resume(1)) == Shown::Take(receiving(true)));
+    assert!(rt; arrived.resume().shown() == Shown::Take(receiving(true)));
 }
 
 #[test]
 fn the_released_count_is_read_by_its_own_wait_alone(rt: HostRuntime) {
-    let freed = Wait::Freed {
+    let freed = SendWait::Room {
         above: u64::MAX,
         send: sending(true),
     };
     assert!(rt; !freed.is_over(u64::MAX));
-    assert!(rt; show_phase(freed.resume(9)) == Shown::Look(sending(true)));
-    let released = Wait::Released {
+    assert!(rt; freed.resume(9).shown() == Shown::Look(sending(true)));
+    let released = SendWait::Blocks {
         above: 7,
         send: sending(true),
     };
@@ -365,7 +482,7 @@ fn the_released_count_is_read_by_its_own_wait_alone(rt: HostRuntime) {
         released: 9,
         ..sending(true)
     };
-    assert!(rt; show_phase(released.resume(9)) == Shown::Look(later));
+    assert!(rt; released.resume(9).shown() == Shown::Look(later));
 }
 
 #[test]
@@ -374,16 +491,16 @@ fn a_send_waits_for_room(rt: HostRuntime) {
         nowait: false,
         ..sending(live_seen)
     };
-    let wait = Wait::Freed {
+    let wait = SendWait::Room {
         above: 3,
         send: waiting(true),
     };
     let full = Look::Full { freed: 3 };
-    assert!(rt; show(waiting(false).looked(full)) == Shown::Waits(wait));
+    assert!(rt; show(waiting(false).looked(full)) == Shown::WaitsToSend(wait));
     let mut pool = open_pool(&rt, rt.alloc(), 128);
     let chain = three_blocks(&rt, &mut pool);
     let refused = waiting(true).unplaced(Unplaced::Full { freed: 3 }, chain);
-    assert!(rt; release(&rt, &mut pool, refused) == Shown::Waits(wait));
+    assert!(rt; release(&rt, &mut pool, send_giveback(&rt, refused)) == Shown::WaitsToSend(wait));
     assert_is(&rt, pool.free(), 128);
     pool.end();
 }
@@ -394,11 +511,11 @@ fn a_send_waits_for_blocks(rt: HostRuntime) {
         nowait: false,
         ..sending(true)
     };
-    let wait = Wait::Released {
+    let wait = SendWait::Blocks {
         above: 7,
         send: waiting,
     };
-    assert!(rt; show(waiting.reserved(None)) == Shown::Waits(wait));
+    assert!(rt; show(waiting.reserved(None)) == Shown::WaitsToSend(wait));
     assert!(rt; show(sending(true).reserved(None)) == Shown::Refused(Errno::EAGAIN));
     let mut pool = open_pool(&rt, rt.alloc(), 128);
     let chain = three_blocks(&rt, &mut pool);
@@ -416,12 +533,12 @@ fn a_receive_waits_for_a_message(rt: HostRuntime) {
         nowait: false,
         ..receiving(live_seen)
     };
-    let wait = Wait::Arrived {
+    let wait = ReceiveWait {
         above: 1,
         receive: waiting(true),
     };
     let none = TakeRefused::NoMatch { arrived: 1 };
-    assert!(rt; show(waiting(false).untaken(none)) == Shown::Waits(wait));
+    assert!(rt; show(waiting(false).untaken(none)) == Shown::WaitsToReceive(wait));
     let gone = waiting(true).untaken(TakeRefused::Gone);
     assert!(rt; show(gone) == Shown::Refused(Errno::EIDRM));
 }
@@ -458,7 +575,7 @@ fn a_send_is_refused_at_its_place(rt: HostRuntime) {
         let chain = three_blocks(&rt, &mut pool);
         let refused = sending(true).unplaced(why, chain);
         assert_is(&rt, pool.free(), 125);
-        assert!(rt; release(&rt, &mut pool, refused) == Shown::Refused(errno));
+        assert!(rt; release(&rt, &mut pool, send_giveback(&rt, refused)) == Shown::Refused(errno));
         assert_is(&rt, pool.free(), 128);
     }
     pool.end();
@@ -502,7 +619,7 @@ fn a_receive_gives_back_what_it_took(rt: HostRuntime) {
         Err(why) => panic!(rt; "not taken: {why:?}"),
     };
     assert_is(&rt, pool.free(), 125);
-    assert!(rt; release(&rt, &mut pool, given) == Shown::Got { mtype: 2 });
+    assert!(rt; release(&rt, &mut pool, receive_giveback(&rt, given)) == Shown::Got { mtype: 2 });
     assert_is(&rt, pool.free(), 128);
     assert_is(&rt, out.len(), 9);
     pool.end();

@@ -1,8 +1,7 @@
 //! The steps of calls at objects.
 
-ghost use Rattle.std.specs.Prelude.{◌≡◌, []};
-ghost use Rattle.sysv_steps.specs.Seen.{state_of};
-ghost use Rattle.sysv_steps.specs.Kinds.{Gets, Receives, Removes, Sends, Sets};
+ghost use Rattle.std.specs.Prelude.{◌≡◌};
+ghost use Rattle.sysv_steps.specs.Bodies.{StillCanSend};
 ghost use Rattle.sysv_objects.specs.Objects.{CountsUpTo};
 
 use crate::objects::{end, objects_at, turn};
@@ -14,8 +13,9 @@ use sysv_objects::{ObjectCall, ObjectReply, Objects, Turns};
 use sysv_pool::Chain;
 use sysv_queue::Tally;
 use sysv_steps::{
-    Clock, Ending, Getting, Phase, Receiving, Sending, State, get_step, receive_step, remove_step,
-    send_step, set_step, stat_step,
+    Clock, GetState, GetStep, Getting, ReceiveState, ReceiveStep, Receiving, RemoveState,
+    RemoveStep, SendState, SendStep, Sending, SetState, SetStep, State, StatStep, get_step,
+    receive_step, remove_step, send_step, set_step, stat_step,
 };
 use tests_kit::{USER, creating};
 
@@ -90,28 +90,26 @@ impl Clock for Still {
 }
 
 /// Returns the step that the call makes next.
-fn at_step(rt: &impl Abort, state: State) -> Phase
+fn at_step<S, W, T>(rt: &impl Abort, state: State<S, W, T>) -> S
     ensures { state ≡ State.Goes result }
 {
     match state {
-        State::Goes(phase) => phase,
+        State::Goes(step) => step,
         _other => panic!(rt; "the call does not go on"),
     }
 }
 
 /// Asserts that the call is over and succeeded.
-fn assert_done(rt: &impl Abort, state: State) {
+fn assert_done<S, W>(rt: &impl Abort, state: State<S, W, ()>) {
     match state {
-        State::Over(Ending::Zero) => {}
+        State::Over(Ok(())) => {}
         _other => panic!(rt; "another end"),
     }
 }
 
 /// Returns the state of a get that begins, and that makes the queue of a key without one.
-fn getting() -> State
-    ensures { Gets (state_of result []) }
-{
-    State::Goes(Phase::Begin(Getting {
+fn getting() -> GetState {
+    State::Goes(GetStep::Begin(Getting {
         cred: USER,
         key: 7,
         flags: creating(),
@@ -119,30 +117,28 @@ fn getting() -> State
 }
 
 /// Asserts that a get is over with this identifier.
-fn assert_id(rt: &impl Abort, state: State, want: i32) {
+fn assert_id(rt: &impl Abort, state: GetState, want: i32) {
     match state {
-        State::Over(Ending::Id(id)) => assert_is(rt, id, want),
+        State::Over(Ok(id)) => assert_is(rt, id, want),
         _other => panic!(rt; "another end"),
     }
 }
 
 /// Makes the next step of a get.
-fn get_on(rt: &impl Abort, at: &mut Counted, state: State) -> State
-    requires low { CountsUpTo at.old.raised at.old.objects }
-    requires gets { Gets (state_of state []) }
-    ensures low { CountsUpTo at.new.raised at.new.objects }
-    ensures gets { Gets (state_of result []) }
+fn get_on(rt: &impl Abort, at: &mut Counted, state: GetState) -> GetState
+    requires { CountsUpTo at.old.raised at.old.objects }
+    ensures { CountsUpTo at.new.raised at.new.objects }
 {
     assert!(rt; at.raised < 100);
     get_step(&AtObjects, at, &Still, at_step(rt, state))
 }
 
 /// Makes the next step of a send of this body.
-fn send_on(rt: &impl Abort, at: &mut Counted, text: &Body, state: State) -> State
+fn send_on(rt: &impl Abort, at: &mut Counted, text: &Body, state: SendState) -> SendState
     requires low { CountsUpTo at.old.raised at.old.objects }
-    requires sends { Sends (state_of state text.now) }
+    requires body { StillCanSend state text.now }
     ensures low { CountsUpTo at.new.raised at.new.objects }
-    ensures sends { Sends (state_of result text.now) }
+    ensures body { StillCanSend result text.now }
 {
     assert!(rt; at.raised < 100);
     let mut kept = Chain::empty();
@@ -152,11 +148,14 @@ fn send_on(rt: &impl Abort, at: &mut Counted, text: &Body, state: State) -> Stat
 }
 
 /// Makes the next step of a receive into this body.
-fn receive_on(rt: &impl Abort, at: &mut Counted, out: &mut Body, state: State) -> State
-    requires low { CountsUpTo at.old.raised at.old.objects }
-    requires receives { Receives (state_of state out.old) }
-    ensures low { CountsUpTo at.new.raised at.new.objects }
-    ensures receives { Receives (state_of result out.new) }
+fn receive_on(
+    rt: &impl Abort,
+    at: &mut Counted,
+    out: &mut Body,
+    state: ReceiveState,
+) -> ReceiveState
+    requires { CountsUpTo at.old.raised at.old.objects }
+    ensures { CountsUpTo at.new.raised at.new.objects }
 {
     assert!(rt; at.raised < 100);
     let mut kept = Chain::empty();
@@ -166,11 +165,9 @@ fn receive_on(rt: &impl Abort, at: &mut Counted, out: &mut Body, state: State) -
 }
 
 /// Makes the next step of an IPC_SET.
-fn set_on(rt: &impl Abort, at: &mut Counted, state: State) -> State
-    requires low { CountsUpTo at.old.raised at.old.objects }
-    requires sets { Sets (state_of state []) }
-    ensures low { CountsUpTo at.new.raised at.new.objects }
-    ensures sets { Sets (state_of result []) }
+fn set_on(rt: &impl Abort, at: &mut Counted, state: SetState) -> SetState
+    requires { CountsUpTo at.old.raised at.old.objects }
+    ensures { CountsUpTo at.new.raised at.new.objects }
 {
     assert!(rt; at.raised < 100);
     let mut kept = Chain::empty();
@@ -180,11 +177,9 @@ fn set_on(rt: &impl Abort, at: &mut Counted, state: State) -> State
 }
 
 /// Makes the next step of an IPC_RMID.
-fn remove_on(rt: &impl Abort, at: &mut Counted, state: State) -> State
-    requires low { CountsUpTo at.old.raised at.old.objects }
-    requires removes { Removes (state_of state []) }
-    ensures low { CountsUpTo at.new.raised at.new.objects }
-    ensures removes { Removes (state_of result []) }
+fn remove_on(rt: &impl Abort, at: &mut Counted, state: RemoveState) -> RemoveState
+    requires { CountsUpTo at.old.raised at.old.objects }
+    ensures { CountsUpTo at.new.raised at.new.objects }
 {
     assert!(rt; at.raised < 100);
     let mut kept = Chain::empty();
@@ -233,13 +228,13 @@ fn a_message_is_sent_and_received(rt: HostRuntime) {
     let mut at = with_queue(&rt, rt.alloc());
     assert!(rt; text.push_piece(b"hello"));
     assert!(rt; text.len() < 8193);
-    let looked = send_on(&rt, &mut at, &text, State::Goes(Phase::Look(SEND)));
+    let looked = send_on(&rt, &mut at, &text, State::Goes(SendStep::Look(SEND)));
     let reserved = send_on(&rt, &mut at, &text, looked);
     let placed = send_on(&rt, &mut at, &text, reserved);
     assert_done(&rt, placed);
-    let taken = receive_on(&rt, &mut at, &mut out, State::Goes(Phase::Take(RECEIVE)));
+    let taken = receive_on(&rt, &mut at, &mut out, State::Goes(ReceiveStep::Take(RECEIVE)));
     let given = receive_on(&rt, &mut at, &mut out, taken);
-    let State::Over(Ending::Got { delivery }) = given else {
+    let State::Over(Ok(delivery)) = given else {
         panic!(rt; "no message");
     };
     assert_is(&rt, delivery.mtype(), 5);
@@ -253,15 +248,15 @@ fn a_queue_is_told_set_and_removed(rt: HostRuntime) {
     let mut at = with_queue(&rt, rt.alloc());
     let (cred, id) = (USER, 0);
     assert!(rt; at.raised < 100);
-    let told = stat_step(&AtObjects, &mut at, Phase::Stat { cred, id });
-    let State::Over(Ending::Told(stat)) = told else {
+    let told = stat_step(&AtObjects, &mut at, StatStep { cred, id });
+    let State::Over(Ok(stat)) = told else {
         panic!(rt; "another end");
     };
     assert_is(&rt, (stat.key, stat.qnum), (7, 0));
-    let set = set_on(&rt, &mut at, State::Goes(Phase::Set { cred, id, to: TO }));
+    let set = set_on(&rt, &mut at, State::Goes(SetStep::Set { cred, id, to: TO }));
     let set = set_on(&rt, &mut at, set);
     assert_done(&rt, set);
-    let removed = remove_on(&rt, &mut at, State::Goes(Phase::Remove { cred, id }));
+    let removed = remove_on(&rt, &mut at, State::Goes(RemoveStep::Remove { cred, id }));
     let forgotten = remove_on(&rt, &mut at, removed);
     let released = remove_on(&rt, &mut at, forgotten);
     assert_done(&rt, released);

@@ -7,8 +7,8 @@ use sysv_model::{Errno, Flags};
 use sysv_objects::{ObjectCall, ObjectReply, Turns};
 use sysv_pool::Chain;
 use sysv_steps::{
-    Afterwards, Ending, Getting, Phase, State, get_step, receive_step, remove_step, send_step,
-    set_step, stat_step,
+    Afterwards, GetStep, Getting, ReceiveStep, RemoveState, RemoveStep, SendStep, SetStep, State,
+    StatStep, get_step, receive_step, remove_step, send_step, set_step, stat_step,
 };
 use tests_kit::USER;
 
@@ -39,10 +39,10 @@ impl Turns for WornGates {
 }
 
 /// Asserts that the call is over, with this error, or with success if there is none.
-fn assert_over(rt: &impl Abort, state: State, why: Option<Errno>) {
+fn assert_over<S, W, T: Drop>(rt: &impl Abort, state: State<S, W, T>, why: Option<Errno>) {
     match state {
-        State::Over(Ending::Refused(errno)) => assert_is(rt, Some(errno), why),
-        State::Over(Ending::Zero) => assert_is(rt, None, why),
+        State::Over(Err(errno)) => assert_is(rt, Some(errno), why),
+        State::Over(Ok(_told)) if why.is_none() => {}
         _other => panic!(rt; "the call goes on"),
     }
 }
@@ -52,11 +52,11 @@ fn gets_at_worn_gates(rt: HostRuntime) {
     let mut back = 0;
     let worn = Some(Errno::EOVERFLOW);
     let id = 1;
-    let begun = get_step(&WornGates, &mut back, &Still, Phase::Begin(GET));
+    let begun = get_step(&WornGates, &mut back, &Still, GetStep::Begin(GET));
     assert_over(&rt, begun, worn);
-    let settled = get_step(&WornGates, &mut back, &Still, Phase::Settle { id });
+    let settled = get_step(&WornGates, &mut back, &Still, GetStep::Settle { id });
     assert_over(&rt, settled, worn);
-    let probe = Phase::Probe {
+    let probe = GetStep::Probe {
         get: GET,
         id,
         settled: 3,
@@ -65,10 +65,10 @@ fn gets_at_worn_gates(rt: HostRuntime) {
     assert_is(&rt, back, 3);
     // The identifier of a queue that was not installed is forgotten, and the result of a call whose
     // queue was unmade stays.
-    let install = Phase::Install { get: GET, id };
+    let install = GetStep::Install { get: GET, id };
     assert_over(&rt, get_step(&WornGates, &mut back, &Still, install), worn);
     assert_is(&rt, back, 5);
-    let unmade = get_step(&WornGates, &mut back, &Still, Phase::Unmake { id });
+    let unmade = get_step(&WornGates, &mut back, &Still, GetStep::Unmake { id });
     assert_over(&rt, unmade, Some(Errno::ENOSPC));
     assert_is(&rt, back, 6);
 }
@@ -81,15 +81,15 @@ fn sends_at_worn_gates(rt: HostRuntime) {
     let text = open_body(&rt, rt.alloc());
     assert!(rt; text.len() == 0);
     let mut pool = open_pool(&rt, rt.alloc(), 128);
-    let look = Phase::Look(SEND);
+    let look = SendStep::Look(SEND);
     let looked = send_step(&WornGates, &mut back, &mut kept, &Still, &text, look);
     assert_over(&rt, looked, worn);
-    let reserve = Phase::Reserve(SEND);
+    let reserve = SendStep::Reserve(SEND);
     let reserved = send_step(&WornGates, &mut back, &mut kept, &Still, &text, reserve);
     assert_over(&rt, reserved, worn);
     // A send at its place first gives its chain back, and a chain that cannot be given back is
     // kept.
-    let place = Phase::Place {
+    let place = SendStep::Place {
         send: SEND,
         chain: Chain::empty(),
     };
@@ -100,7 +100,7 @@ fn sends_at_worn_gates(rt: HostRuntime) {
     let Some(chain) = pool.reserve(65) else {
         panic!(rt; "no blocks")
     };
-    let giveback = Phase::SendGiveback {
+    let giveback = SendStep::Giveback {
         chain,
         afterwards: Afterwards::Refused(Errno::EAGAIN),
     };
@@ -111,9 +111,9 @@ fn sends_at_worn_gates(rt: HostRuntime) {
 }
 
 /// Asserts that a send gives back a chain of no blocks, and then fails with EOVERFLOW.
-fn assert_gives_nothing_back(rt: &impl Abort, phase: Phase) {
-    match phase {
-        Phase::SendGiveback { chain, afterwards } => {
+fn assert_gives_nothing_back(rt: &impl Abort, step: SendStep) {
+    match step {
+        SendStep::Giveback { chain, afterwards } => {
             assert!(rt; afterwards == Afterwards::Refused(Errno::EOVERFLOW));
             assert_is(rt, chain.end(), 0);
         }
@@ -126,9 +126,12 @@ fn receives_at_worn_gates(rt: HostRuntime) {
     let mut back = 0;
     let mut kept = Chain::empty();
     let mut out = open_body(&rt, rt.alloc());
-    let take = Phase::Take(RECEIVE);
+    let take = ReceiveStep::Take(RECEIVE);
     let taken = receive_step(&WornGates, &mut back, &mut kept, &Still, &mut out, take);
-    assert_over(&rt, taken, Some(Errno::EOVERFLOW));
+    match taken {
+        State::Over(Err(why)) => assert_is(&rt, why, Errno::EOVERFLOW),
+        _other => panic!(rt; "the receive goes on"),
+    }
     assert_is(&rt, (back, kept.end()), (1, 0));
 }
 
@@ -138,14 +141,14 @@ fn commands_at_worn_gates(rt: HostRuntime) {
     let mut kept = Chain::empty();
     let worn = Some(Errno::EOVERFLOW);
     let (cred, id) = (USER, 1);
-    let stat = Phase::Stat { cred, id };
+    let stat = StatStep { cred, id };
     assert_over(&rt, stat_step(&WornGates, &mut back, stat), worn);
-    let set = Phase::Set { cred, id, to: TO };
+    let set = SetStep::Set { cred, id, to: TO };
     let done = set_step(&WornGates, &mut back, &mut kept, &Still, set);
     assert_over(&rt, done, worn);
-    let given = set_step(&WornGates, &mut back, &mut kept, &Still, Phase::SetGiveback);
+    let given = set_step(&WornGates, &mut back, &mut kept, &Still, SetStep::Giveback);
     assert_over(&rt, given, None);
-    let remove = Phase::Remove { cred, id };
+    let remove = RemoveStep::Remove { cred, id };
     let removed = remove_step(&WornGates, &mut back, &mut kept, remove);
     assert_over(&rt, removed, worn);
     // The result of a removal stays, even if a gate is worn out after it.
@@ -153,7 +156,7 @@ fn commands_at_worn_gates(rt: HostRuntime) {
     let Some(chain) = pool.reserve(65) else {
         panic!(rt; "no blocks")
     };
-    let forget = Phase::Forget { id, chain };
+    let forget = RemoveStep::Forget { id, chain };
     match remove_step(&WornGates, &mut back, &mut kept, forget) {
         State::Goes(giveback) => {
             let over = after_giveback(&rt, &mut back, &mut kept, giveback);
@@ -166,10 +169,15 @@ fn commands_at_worn_gates(rt: HostRuntime) {
 }
 
 /// Makes the step in which the chain of a removal is given back, and returns the state after it.
-fn after_giveback(rt: &impl Abort, back: &mut u32, kept: &mut Chain, phase: Phase) -> State {
-    match phase {
-        Phase::RemoveGiveback { chain } => {
-            remove_step(&WornGates, back, kept, Phase::RemoveGiveback { chain })
+fn after_giveback(
+    rt: &impl Abort,
+    back: &mut u32,
+    kept: &mut Chain,
+    step: RemoveStep,
+) -> RemoveState {
+    match step {
+        RemoveStep::Giveback { chain } => {
+            remove_step(&WornGates, back, kept, RemoveStep::Giveback { chain })
         }
         _other => panic!(rt; "another step"),
     }

@@ -72,18 +72,15 @@ fn a_send_refused_at_its_place_waits_for_room(rt: HostRuntime) {
     assert_makes(&rt, &mut world, 1, Call::Set { id: 0, to }, Outcome::Zero);
     let call = send_to(&rt, alloc, 0, 1, b"a", flags(0));
     assert_nothing(&rt, world.step(start(2, call)));
-    assert!(rt; matches!(world.standing(2), Some(Standing::At(Phase::Look(_)))));
+    assert!(rt; matches!(sends_at(&world, 2), Some(SendStep::Look(_))));
     assert_nothing(&rt, world.step(step(2)));
-    assert!(rt; matches!(world.standing(2), Some(Standing::At(Phase::Reserve(_)))));
+    assert!(rt; matches!(sends_at(&world, 2), Some(SendStep::Reserve(_))));
     assert_nothing(&rt, world.step(step(2)));
-    assert!(rt; matches!(world.standing(2), Some(Standing::At(Phase::Place { .. }))));
+    assert!(rt; matches!(sends_at(&world, 2), Some(SendStep::Place { .. })));
     assert_sends_type(&rt, alloc, &mut world, 1, 1, b"b");
     assert_nothing(&rt, world.step(step(2)));
     assert!(rt;
-        matches!(
-            world.standing(2),
-            Some(Standing::At(Phase::SendGiveback { .. }))
-        )
+        matches!(sends_at(&world, 2), Some(SendStep::Giveback { .. }))
     );
     assert_nothing(&rt, world.step(step(2)));
     assert!(rt; is_waiting(&world, 2));

@@ -63,9 +63,9 @@ fn stranger(actor: u32, call: Call) -> Event {
 fn a_get_waits_until_the_key_is_settled(rt: HostRuntime) {
     let mut world = world_at(&rt, rt.alloc(), 0, 0);
     assert_nothing(&rt, world.step(start(1, get_or_make(4))));
-    assert!(rt; matches!(world.standing(1), Some(Standing::At(Phase::Begin(_)))));
+    assert!(rt; matches!(gets_at(&world, 1), Some(GetStep::Begin(_))));
     assert_nothing(&rt, world.step(step(1)));
-    assert!(rt; matches!(world.standing(1), Some(Standing::At(Phase::Install { .. }))));
+    assert!(rt; matches!(gets_at(&world, 1), Some(GetStep::Install { .. })));
     let call = Call::Get {
         key: 4,
         flags: flags(0),
@@ -84,9 +84,9 @@ fn a_get_waits_between_removal_and_forget(rt: HostRuntime) {
     let mut world = world_at(&rt, rt.alloc(), 0, 0);
     assert_makes(&rt, &mut world, 1, get_or_make(4), Outcome::Id(0));
     assert_nothing(&rt, world.step(start(1, Call::Remove { id: 0 })));
-    assert!(rt; matches!(world.standing(1), Some(Standing::At(Phase::Remove { .. }))));
+    assert!(rt; matches!(removes_at(&world, 1), Some(RemoveStep::Remove { .. })));
     assert_nothing(&rt, world.step(step(1)));
-    assert!(rt; matches!(world.standing(1), Some(Standing::At(Phase::Forget { .. }))));
+    assert!(rt; matches!(removes_at(&world, 1), Some(RemoveStep::Forget { .. })));
     let call = Call::Get {
         key: 4,
         flags: flags(512 + 1024 + 0o600),

@@ -3,8 +3,8 @@ ghost use Rattle.std.specs.Prelude.{◌≡◌, ◌≢◌, ◌≤◌, [], length}
 ghost use Rattle.sysv_model.specs.declared.limits.TheConstants.{MESSAGE_BYTES};
 ghost use Rattle.sysv_seats.specs.Parked.{IsWaitOf};
 ghost use Rattle.sysv_service.specs.Seats.{AreOf};
-ghost use Rattle.sysv_service.specs.declared.progress.ReceiveWait.{ReceiveWait};
-ghost use Rattle.sysv_service.specs.declared.progress.SendWait.{SendWait};
+ghost use Rattle.sysv_steps.specs.declared.receive.ReceiveWait.{ReceiveWait};
+ghost use Rattle.sysv_steps.specs.declared.send.SendWait.{SendWait};
 ghost use Rattle.sysv_wire.specs.Requests.{op_of};
 
 use crate::parts::{CLOCK, Still, closed, opened};

@@ -2,13 +2,13 @@ use Rattle.std.proofs.Common.{◌≡◌, rules, w32, FitsSigned, [], ◌∷◌, 
 use Rattle.std.proofs.lemmas.Int.{to_z-of_z}
 use Rattle.sysv_model.specs.Registry.{Forget, Changed}
 use Rattle.sysv_model.specs.Turn.{AtRegistry}
-use Rattle.sysv_steps.specs.Seen.{state_of}
+use Rattle.sysv_steps.specs.Seen.{get_state}
 use Rattle.sysv_steps.proofs.get.install.Goals as goal
 
 pub returns-in-Err-clause-steps : goal.returns-in-Err-clause-steps
 returns-in-Err-clause-steps g c = λ kept.
     let id = c.ranges.id in
-    let ends = ap (λ s. state_of s []) c.overflow.ensures in
+    let ends = ap get_state c.overflow.ensures in
     let bits : c.bits.result ≡ c.args.get.flags.0 = search rules in
     let key : FitsSigned w32 c.args.get.key = search rules in
     let missed = c.in-Err.ensures.missed.1 in

@@ -5,16 +5,15 @@ use Rattle.sysv_model.specs.History.{Take, Taken}
 use Rattle.sysv_model.specs.Turn.{AtSlot}
 use Rattle.sysv_pool.specs.Chain.{Chained}
 use Rattle.sysv_queue.specs.Replies.{untaken_reply}
-use Rattle.sysv_steps.specs.declared.state.Phase.TheVariants as phase
+use Rattle.sysv_steps.specs.declared.receive.ReceiveStep.TheVariants as step
 use Rattle.sysv_steps.specs.State.{AtTake}
-use Rattle.sysv_steps.specs.Seen.{state_of, receiving}
+use Rattle.sysv_steps.specs.Seen.{receive_state, receiving}
 use Rattle.sysv_objects.specs.declared.slot.SlotCall.TheVariants as called
 use Rattle.sysv_objects.specs.declared.slot.SlotReply.TheVariants as reply
 use Rattle.sysv_steps.specs.Giving.{HasWhatItGives, nothing_is_sized}
-use Rattle.sysv_steps.proofs.KindStays.{untaken_gives_nothing}
 use Rattle.sysv_steps.proofs.StepFromReply.{stepped}
 use Rattle.sysv_steps.specs.Telling.{slot_told}
-use Rattle.sysv_steps.proofs.ReceiveGivesTaken.{took, gives_nothing}
+use Rattle.sysv_steps.proofs.ReceiveGivesTaken.{took, gives_nothing, untaken_gives_nothing}
 use Rattle.sysv_steps.proofs.receive.take.Goals as goal
 
 pub returns-in-Ok-Slot-Taken-Ok-clause-steps : goal.returns-in-Ok-Slot-Taken-Ok-clause-steps
@@ -32,7 +31,7 @@ returns-in-Ok-Slot-Taken-Ok-clause-steps g c = λ kept.
     let out = c.finish-delivery.new.out in
     let gives = c.finish-delivery.ensures.given in
     let goes = c.given.ensures.next taken out gives (ap (λ (x : Chained). x.blocks) c.finish-delivery.ensures.chain) in
-    took g.T.Turns.takes g.T.Turns.misses may (phase.Take r) c.args.out.now c.args.at.now kept c.given.result out
+    took g.T.Turns.takes g.T.Turns.misses may (step.Take r) c.args.out.now c.args.at.now kept c.given.result out
     c.make.new.at kept
     (record {
       deed = AtSlot (slot_of_id r.id) (Take r.id r.cred r.selector r.size r.noerror c.now.result) (Taken taken);
@@ -63,9 +62,9 @@ returns-in-Ok-Slot-Taken-Err-clause-steps g c = λ kept.
     let turn = simp to_z-of_z at made in
     let out = c.args.out.now in
     let goes = c.untaken.ensures out in
-    gives_nothing g.T.Turns.takes g.T.Turns.misses may (phase.Take r) out c.args.at.now kept c.untaken.result out
+    gives_nothing g.T.Turns.takes g.T.Turns.misses may (step.Take r) out c.args.at.now kept c.untaken.result out
     c.make.new.at kept (untaken_gives_nothing (receiving r) c.in-Ok-Slot-Taken-Err.why _ goes)
-    (stepped g.T.Turns.takes g.T.Turns.misses may (AtTake (receiving r)) c.args.at.now (state_of c.untaken.result out)
+    (stepped g.T.Turns.takes g.T.Turns.misses may (AtTake (receiving r)) c.args.at.now (receive_state c.untaken.result out)
     c.make.new.at
     (AtSlot (slot_of_id r.id) (Take r.id r.cred r.selector r.size r.noerror c.now.result)
     (untaken_reply c.in-Ok-Slot-Taken-Err.why)) c.now.result (λ e. c.now.ensures) refl goes turn refl kept)

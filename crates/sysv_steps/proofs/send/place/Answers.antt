@@ -5,19 +5,12 @@ use Rattle.sysv_model.specs.History.{Place, Accepted}
 use Rattle.sysv_model.specs.Turn.{AtSlot}
 use Rattle.sysv_pool.specs.Chain.{Chained}
 use Rattle.sysv_steps.specs.State.{AtPlace}
-use Rattle.sysv_steps.specs.Seen.{state_of, sending}
+use Rattle.sysv_steps.specs.Seen.{send_state, sending}
 use Rattle.sysv_objects.specs.declared.slot.SlotCall.TheVariants as called
 use Rattle.sysv_objects.specs.declared.slot.SlotReply.TheVariants as reply
-use Rattle.sysv_steps.proofs.KindStays.{place_sends}
 use Rattle.sysv_steps.proofs.StepFromReply.{stepped}
 use Rattle.sysv_steps.specs.Telling.{slot_told}
 use Rattle.sysv_steps.proofs.send.place.Goals as goal
-
-pub returns-in-Ok-Slot-Placed-Ok-clause-sends : goal.returns-in-Ok-Slot-Placed-Ok-clause-sends
-returns-in-Ok-Slot-Placed-Ok-clause-sends g c =
-    let send = sending c.args.send c.args.text.now in
-    place_sends send c.args.chain.blocks (Accepted 0) _ c.requires.sends
-    (c.placed.ensures send c.args.chain.blocks 0 c.args.text.now)
 
 pub returns-in-Ok-Slot-Placed-Ok-clause-steps : goal.returns-in-Ok-Slot-Placed-Ok-clause-steps
 returns-in-Ok-Slot-Placed-Ok-clause-steps g c =
@@ -40,8 +33,8 @@ returns-in-Ok-Slot-Placed-Ok-clause-steps g c =
     (AtSlot (slot_of_id c.args.send.id) (Place c.args.send.id c.args.send.cred c.args.send.mtype bytes c.now.result)
     (Accepted number)) c.make.new.at) filled told in
     stepped g.T.Turns.takes g.T.Turns.misses may (AtPlace send c.args.chain.blocks) c.args.at.now
-    (state_of c.placed.result c.args.text.now) c.make.new.at
+    (send_state c.placed.result c.args.text.now) c.make.new.at
     (AtSlot (slot_of_id c.args.send.id)
     (Place c.args.send.id c.args.send.cred c.args.send.mtype c.args.text.now c.now.result) (Accepted number))
     c.now.result (λ e. c.now.ensures) refl
-    (c.placed.ensures send c.args.chain.blocks number c.args.text.now) made refl
+    (c.placed.ensures.next send c.args.chain.blocks number c.args.text.now) made refl

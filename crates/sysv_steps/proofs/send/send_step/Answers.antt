@@ -1,9 +1,7 @@
 use Rattle.std.proofs.Common.{Ok, refl, sym, subst}
-use Rattle.sysv_steps.specs.State.{AtLook, AtReserve, AtSendGiveback, Goes}
-use Rattle.sysv_steps.specs.Seen.{phase_of, state_of, sending, afterwards_of}
-use Rattle.sysv_steps.specs.Kinds.{Sends}
+use Rattle.sysv_steps.specs.State.{AtLook, AtReserve, AtSendGiveback}
+use Rattle.sysv_steps.specs.Seen.{send_phase, send_state, sending, afterwards_of}
 use Rattle.sysv_steps.specs.Stepping.{StepsOn}
-use Rattle.sysv_steps.proofs.KindStays.{given_sends}
 use Rattle.sysv_steps.specs.Stepping.{lifts}
 use Rattle.sysv_steps.proofs.StepFromReply.{given}
 use Rattle.sysv_steps.proofs.send.send_step.Goals as goal
@@ -13,37 +11,31 @@ returns-in-Look-clause-steps g c =
     let may = g.C.Clock.may c.args.clock.now in
     let kept = c.args.kept.now.blocks in
     subst (λ p.
-    StepsOn g.T.Turns.takes g.T.Turns.misses may (phase_of p c.args.text.now) c.args.at.now kept
-    (state_of c.look.result c.args.text.now) c.look.new.at kept) (sym c.in-Look.is)
+    StepsOn g.T.Turns.takes g.T.Turns.misses may (send_phase p c.args.text.now) c.args.at.now kept
+    (send_state c.look.result c.args.text.now) c.look.new.at kept) (sym c.in-Look.is)
     (lifts g.T.Turns.takes g.T.Turns.misses may (AtLook (sending c.in-Look.send c.args.text.now)) c.args.at.now kept
-    (state_of c.look.result c.args.text.now) c.look.new.at kept (c.look.ensures.steps kept))
+    (send_state c.look.result c.args.text.now) c.look.new.at kept (c.look.ensures.steps kept))
 
 pub returns-in-Reserve-clause-steps : goal.returns-in-Reserve-clause-steps
 returns-in-Reserve-clause-steps g c =
     let may = g.C.Clock.may c.args.clock.now in
     let kept = c.args.kept.now.blocks in
     subst (λ p.
-    StepsOn g.T.Turns.takes g.T.Turns.misses may (phase_of p c.args.text.now) c.args.at.now kept
-    (state_of c.reserve.result c.args.text.now) c.reserve.new.at kept) (sym c.in-Reserve.is)
+    StepsOn g.T.Turns.takes g.T.Turns.misses may (send_phase p c.args.text.now) c.args.at.now kept
+    (send_state c.reserve.result c.args.text.now) c.reserve.new.at kept) (sym c.in-Reserve.is)
     (lifts g.T.Turns.takes g.T.Turns.misses may (AtReserve (sending c.in-Reserve.send c.args.text.now)) c.args.at.now
-    kept (state_of c.reserve.result c.args.text.now) c.reserve.new.at kept (c.reserve.ensures.steps kept))
+    kept (send_state c.reserve.result c.args.text.now) c.reserve.new.at kept (c.reserve.ensures.steps kept))
 
-pub returns-in-SendGiveback-clause-sends : goal.returns-in-SendGiveback-clause-sends
-returns-in-SendGiveback-clause-sends g c =
-    let sends = subst (λ p. Sends (Goes (phase_of p c.args.text.now))) c.in-SendGiveback.is c.requires.sends in
-    given_sends (afterwards_of c.in-SendGiveback.afterwards c.args.text.now) (Ok tt) _ sends
-    (c.given_back.ensures c.args.text.now (Ok tt))
-
-pub returns-in-SendGiveback-clause-steps : goal.returns-in-SendGiveback-clause-steps
-returns-in-SendGiveback-clause-steps g c =
+pub returns-in-Giveback-clause-steps : goal.returns-in-Giveback-clause-steps
+returns-in-Giveback-clause-steps g c =
     let may = g.C.Clock.may c.args.clock.now in
     let text = c.args.text.now in
-    let blocks = c.in-SendGiveback.chain.blocks in
+    let blocks = c.in-Giveback.chain.blocks in
     subst (λ p.
-    StepsOn g.T.Turns.takes g.T.Turns.misses may (phase_of p text) c.args.at.now c.args.kept.now.blocks
-    (state_of c.given_back.result text) c.give_back.new.at c.give_back.new.kept.blocks) (sym c.in-SendGiveback.is)
+    StepsOn g.T.Turns.takes g.T.Turns.misses may (send_phase p text) c.args.at.now c.args.kept.now.blocks
+    (send_state c.given_back.result text) c.give_back.new.at c.give_back.new.kept.blocks) (sym c.in-Giveback.is)
     (given g.T.Turns.takes g.T.Turns.misses may
-    (AtSendGiveback blocks (afterwards_of c.in-SendGiveback.afterwards text)) c.args.at.now
-    (state_of c.given_back.result text) c.give_back.new.at
-    blocks c.args.kept.now.blocks c.give_back.new.kept.blocks refl refl (λ done. c.given_back.ensures text done)
-    (λ held. (let on = c.given_back.ensures text (Ok tt) in cc, refl, refl, held)) c.give_back.ensures.released)
+    (AtSendGiveback blocks (afterwards_of c.in-Giveback.afterwards text)) c.args.at.now
+    (send_state c.given_back.result text) c.give_back.new.at
+    blocks c.args.kept.now.blocks c.give_back.new.kept.blocks refl refl (λ done. c.given_back.ensures.next text done)
+    (λ held. (let on = c.given_back.ensures.next text (Ok tt) in cc, refl, refl, held)) c.give_back.ensures.released)

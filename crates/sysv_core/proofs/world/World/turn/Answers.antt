@@ -2,8 +2,7 @@ use Rattle.std.proofs.Common.{◌+◌, ◌≤◌, Some, None, refl, sym, ap, sub
 use Rattle.sysv_core.specs.declared.event.Event.TheVariants.{Step}
 use Rattle.sysv_core.specs.declared.event.Stepped.TheVariants.{Nothing}
 use Rattle.sysv_objects.specs.Objects.{CountsUpTo}
-use Rattle.sysv_core.specs.Held.{text_in}
-use Rattle.sysv_core.specs.Standing.{stands_at}
+use Rattle.sysv_core.specs.Standing.{doing_state}
 use Rattle.sysv_core.specs.Seen.{Seen, IsSeenAs}
 use Rattle.sysv_core.specs.Kept.{state_kept, counted_led}
 use Rattle.sysv_core.specs.Led.{StepLeads}
@@ -38,7 +37,7 @@ returns-clause-single c = λ w s.
     let view = ap (λ (v : Seen). v.states) c.self.view_is in
     let x = c.index_mut.result.now in
     let d = c.in-Some-take.doing in
-    let state = stands_at d.standing (text_in d.body) in
+    let state = doing_state d in
     let busy = ap state_kept (sym c.take.ensures.value ∙ c.in-Some-take.is) in
     let there = seen_at c.self.inside.actors.items c.args.self.now.states view c.in-Some.place c.in-Some.ensures.1 x
     c.index_mut.ensures.value ∙ ap Some busy in
@@ -66,7 +65,7 @@ invariant_of-self-2 c =
     let was = c.self.invariant.2 in
     let now = returns-clause-single c was.0 (subst (IsSeenAs was.0) c.self.view_is was.1) in
     let steps = ap (λ (v : Seen). v.steps) c.self.view_is in
-    let up = counts_on c.self.inside.objects (stands_at d.standing (text_in d.body)) c.args.now c.advance-led.result
+    let up = counts_on c.self.inside.objects (doing_state d) c.args.now c.advance-led.result
     c.advance-led.new.objects c.self.inside.steps c.advance-led.ensures c.self.invariant.1 in
     let least = c.counted.ensures.least in
     let given = subst (λ r. messages_given r ≤ counted_led c.advance-led.result) (sym c.settle.ensures.told)

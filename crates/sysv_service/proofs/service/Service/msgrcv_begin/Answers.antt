@@ -1,16 +1,9 @@
 use Rattle.std.proofs.Common.{sym, subst, w32, w64, to_z, of_z}
 use Rattle.std.proofs.lemmas.Int.{to_z-of_z}
-use Rattle.sysv_steps.specs.Kinds.{Receives}
 use Rattle.sysv_steps.specs.Giving.{GivesNothing}
 use Rattle.sysv_service.specs.UnderWay.{ReceivesOn}
-use Rattle.sysv_service.proofs.KindStays.{begin_gives_nothing, begin_receives}
+use Rattle.sysv_service.proofs.ReceiveGivesTaken.{begin_gives_nothing}
 use Rattle.sysv_service.proofs.service.Service.msgrcv_begin.Goals as goal
-
-pub receive_on-requires-clause-receives : goal.receive_on-requires-clause-receives
-receive_on-requires-clause-receives g c =
-    subst Receives (c.begin-begun.ensures c.args.out.now 0)
-    (begin_receives c.args.cred (to_z w32 (of_z w32 c.args.id)) c.args.size (to_z w64 (of_z w64 c.args.mtype))
-    c.args.flags)
 
 pub receive_on-requires-clause-nothing : goal.receive_on-requires-clause-nothing
 receive_on-requires-clause-nothing g c =

@@ -8,7 +8,7 @@ pub returns-clause-steps : goal.returns-clause-steps
 returns-clause-steps g c =
     subst
     (λ (b : Pass).
-    StepsGiving MakesTurnAt FindsWorn (g.C.Clock.may c.args.clock.now) c.args.phase c.args.out.now b.seats b.held
+    StepsGiving MakesTurnAt FindsWorn (g.C.Clock.may c.args.clock.now) c.args.step c.args.out.now b.seats b.held
     c.receive_step.result c.receive_step.new.out c.receive_step.new.at
     c.receive_step.new.kept.blocks)
     c.pass.view_is c.receive_step.ensures.steps
