@@ -5,7 +5,7 @@ use Rattle.std.proofs.Common.{◌≡◌, ◌≢◌, inl, inr, Bool, ℕ, ◌+◌
 use Rattle.std.proofs.Common.{None, ◌++◌, refl, arith, sym, ap, subst, ◌∙◌, append_assoc}
 use Rattle.std.specs.Prelude.{Result, Ok, Err, IfErr, IfOk, IsSomeAnd, ◌^◌, ◌-◌, true, false, is_some, min}
 use Rattle.std.specs.List.{FoldsTo, sum_by}
-use Rattle.std.specs.declared.io.error.Error.{Error}
+use Rattle.std.specs.declared.io.Error.{Error}
 use Rattle.std.proofs.lemmas.List.{append-nil}
 use Rattle.std.proofs.lemmas.List.Sums.{sum_by-cons}
 use Rattle.std.specs.Prelude.{⊤}
@@ -297,3 +297,72 @@ module _ {L I H : Type 0} (told : L → Option (List SocketStream)) (listens : L
     record { before = books; after = books'; count = counted; left = left.2 },
     (left.0, gave_tell left.0 s s' left.1),
   )
+
+  -- The same of a result, for a listener in the states that the source was lent it in and left it in.
+  module _ (blocks workers m : ℕ) (s s' : Accepting L I H) (books books' : List ⊤) (result : Result Ended ServeFault)
+      (none : s.accepted ≡ 0) (same : s.most ≡ m) (small : m ≤ 2 ^ 64 - 1)
+      (ok : IfOk result (λ ended. Serves blocks s books ended s' books'))
+      (err : IfErr result (λ why. LeavesConnections untold untold leaves_nothing Gives (HasLived blocks) s books why s'
+      books')) where
+    pub still_holds : s'.listener.ghost_name ≡ s.listener.ghost_name
+    still_holds = of result ok err
+      where
+        of : (r : Result Ended ServeFault) → IfOk r (λ ended. Serves blocks s books ended s' books')
+            → IfErr r (λ why. LeavesConnections untold untold leaves_nothing Gives (HasLived blocks) s books why s'
+            books') → s'.listener.ghost_name ≡ s.listener.ghost_name
+        of (Ok ended) all left = served_hold blocks s s' books books' ended all
+        of (Err why) all left = failed_hold (HasLived blocks) s s' books books' why left
+
+    module _ (l l' : L) (counted : length books ≡ workers) (before : s.listener.now ≡ l)
+        (after : s'.listener.now ≡ l') where
+      pub all_end : IfOk result (λ ended. EndsFrom told listens blocks workers m l ended l')
+      all_end = of result ok
+        where
+          of : (r : Result Ended ServeFault) → IfOk r (λ ended. Serves blocks s books ended s' books')
+              → IfOk r (λ ended. EndsFrom told listens blocks workers m l ended l')
+          of (Ok ended) all =
+              subst (λ k. EndsFrom told listens blocks workers m k ended l') before
+              (subst (λ k. EndsFrom told listens blocks workers m s.listener.now ended k) after
+              (ends_from blocks workers m s s' books books' ended none same small counted all))
+          of (Err why) all = tt
+
+      pub all_fail : IfErr result (λ why. FailsFrom told blocks workers m l why l')
+      all_fail = of result err
+        where
+          of : (r : Result Ended ServeFault)
+              → IfErr r (λ why. LeavesConnections untold untold leaves_nothing Gives (HasLived blocks) s books why s'
+              books') → IfErr r (λ why. FailsFrom told blocks workers m l why l')
+          of (Ok ended) left = tt
+          of (Err why) left =
+              subst (λ k. FailsFrom told blocks workers m k why l') before
+              (subst (λ k. FailsFrom told blocks workers m s.listener.now why k) after
+              (fails_from blocks workers m s s' books books' why none same small counted left))
+
+    pub all_for : (input : Bool) (reason : Option Reason) → s.reason ≡ None → is_some s.input ≡ input →
+        s'.reason ≡ reason → IfOk result (λ ended. HasCause reads input m ended.sums.sessions reason)
+    all_for input reason unended of_input of_reason = of result ok
+      where
+        of : (r : Result Ended ServeFault) → IfOk r (λ ended. Serves blocks s books ended s' books')
+            → IfOk r (λ ended. HasCause reads input m ended.sums.sessions reason)
+        of (Ok ended) all =
+            ends_for blocks m s s' books books' ended input reason none same small unended of_input of_reason all
+        of (Err why) all = tt
+
+-- What is told of a listener and of an input may be left out.
+pub ok_so : {A E : Type 0} (P Q : A → Type 0) (result : Result A E) → ((x : A) → P x → Q x) → IfOk result P →
+    IfOk result Q
+ok_so P Q (Ok x) so p = so x p
+ok_so P Q (Err e) so p = tt
+
+pub err_so : {A E : Type 0} (P Q : E → Type 0) (result : Result A E) → ((e : E) → P e → Q e) → IfErr result P →
+    IfErr result Q
+err_so P Q (Ok x) so p = tt
+err_so P Q (Err e) so p = so e p
+
+pub has_reason : {I : Type 0} (reads : I → ℕ → Result ℕ Error → I → Type 0) (input : Bool) (m sessions : ℕ)
+    (reason : Option Reason) → HasCause reads input m sessions reason → HasReason input m sessions reason
+has_reason reads input m sessions None cause = cause
+has_reason reads input m sessions (Some Full) cause = cause
+has_reason reads input m sessions (Some InputOver) cause = cause.0
+has_reason reads input m sessions (Some (NoSocket why)) cause = cause
+has_reason reads input m sessions (Some (Accept why)) cause = cause

@@ -1,8 +1,8 @@
 -- What a socket has accepted, and when an input is over (this project's profile).
 use Rattle.std.specs.Prelude.{◌≡◌, ◌≢◌, ◌≤◌, ℕ, List, Option, None, Some, ◌++◌, Result, Ok, Err}
 use Rattle.std.specs.IoError.{error_kind}
-use Rattle.std.specs.declared.io.error.Error.{Error}
-use Rattle.std.specs.declared.io.kind.ErrorKind.TheVariants.{Interrupted}
+use Rattle.std.specs.declared.io.Error.{Error}
+use Rattle.std.specs.declared.io.ErrorKind.TheVariants.{Interrupted}
 
 -- These values and then the others, if they are told.
 abbrev pub added : {A : Type 0} → Option (List A) → List A → Option (List A)

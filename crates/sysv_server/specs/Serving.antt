@@ -3,7 +3,7 @@
 -- and there is one session for each connection.
 use Rattle.std.specs.Prelude.{◌≡◌, ◌≢◌, ◌≤◌, ◌+◌, ◌^◌, ⊤, ℕ, Bool, true, false, List, [], Option, Some, None, Result}
 use Rattle.std.specs.Prelude.{length}
-use Rattle.std.specs.declared.io.error.Error.{Error}
+use Rattle.std.specs.declared.io.Error.{Error}
 use Rattle.std.specs.List.{AllByRecursion}
 use Rattle.std.specs.List.Sorted.{IsPermutation}
 use Rattle.sysv_bank.specs.Banks.{Each2}

@@ -141,12 +141,7 @@ impl<'a, L: Listens, I: Input + Drop, H: Host> Accepting<'a, L, I, H> {
             host: self.host,
             accepted: self.accepted,
         };
-        door.accept_next(
-            self.listener,
-            &mut self.told,
-            &mut self.input,
-            self.retries,
-        )
+        door.accept_next(self.listener, &mut self.told, &mut self.input, self.retries)
     }
 }
 

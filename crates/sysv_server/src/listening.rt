@@ -1,6 +1,6 @@
 //! Sockets that connections are accepted from, and inputs whose end ends a server.
-ghost use Rattle.std.specs.Prelude.{◌≡◌, ℕ, Bool, true, false, List, ◌∷◌, [], Option, IfOk, OnOk, OnErr, Result, length};
-ghost use Rattle.std.specs.declared.io.error.Error.{Error};
+ghost use Rattle.std.specs.Prelude.{◌≡◌, ℕ, Bool, true, false, is_some, List, ◌∷◌, [], Option, IfOk, OnOk, OnErr, Result, length};
+ghost use Rattle.std.specs.declared.io.Error.{Error};
 ghost use Rattle.sysv_seats.specs.declared.socket_stream.SocketStream.{SocketStream};
 ghost use Rattle.sysv_server.specs.Listening.{added};
 
@@ -181,9 +181,9 @@ fn accept_from(listener: &UnixListener) -> io::Result<SocketStream> {
 
 /// An input of the standard library.
 #[derive(Drop)]
-pub(crate) struct Reading<I>(pub(crate) I);
+pub(crate) struct Reading<I: Drop>(I);
 
-impl<I: Read + AsRawFd> Input for Reading<I> {
+impl<I: Read + AsRawFd + Drop> Input for Reading<I> {
     ghost use Rattle.std.specs.Prelude.{◌≡◌, ◌<◌, ⊤, MatchResult};
     ghost use Rattle.std.specs.Io.KnownBytes.{IsAtEnd};
 
@@ -196,5 +196,15 @@ impl<I: Read + AsRawFd> Input for Reading<I> {
 
     fn read(&mut self, piece: &mut [u8]) -> io::Result<usize> {
         self.0.read(piece)
+    }
+}
+
+/// Returns the input of a server, if there is one.
+pub(crate) fn reading<I: Drop>(input: Option<I>) -> Option<Reading<I>>
+    ensures { is_some result ≡ is_some input }
+{
+    match input {
+        Some(input) => Some(Reading(input)),
+        None => None,
     }
 }

@@ -8,7 +8,7 @@ ghost use Rattle.sysv_server.specs.declared.serving.TheConstants.{MAX_CLIENTS};
 
 use crate::accepting::Accepting;
 use crate::host::{Host, Quiet, Reason};
-use crate::listening::{Hosted, Input, Lent, Listens, Reading};
+use crate::listening::{Hosted, Input, Lent, Listens, Reading, reading};
 use crate::terms::Terms;
 use std::alloc::Global;
 use std::io::Read;
@@ -73,7 +73,16 @@ pub fn serve_on<R: Threads + Wait + Net + Sync>(
     let mut lent = Lent::new(listener);
     let mut reason = None;
     let input = None::<Reading<UnixStream>>;
-    match run(rt, alloc, &mut lent, false, &Quiet, input, terms, &mut reason) {
+    match run(
+        rt,
+        alloc,
+        &mut lent,
+        false,
+        &Quiet,
+        input,
+        terms,
+        &mut reason,
+    ) {
         Ok(ended) => Ok(ended.sums),
         Err(why) => Err(why),
     }
@@ -116,11 +125,8 @@ pub fn serve_listener<I: Read + AsRawFd + Drop, H: Host + Drop, R: Threads + Wai
     ensures balance { IfOk result (λ ended. IsBalanced ended.sums) }
     ensures err { IfErr result (FailsOn terms.blocks terms.at_once terms.sessions) }
 {
-    let input = match input {
-        Some(input) => Some(Reading(input)),
-        None => None,
-    };
     let mut socket = Hosted::new(&host);
+    let input = reading(input);
     run(rt, alloc, &mut socket, true, &host, input, terms, reason)
 }
 

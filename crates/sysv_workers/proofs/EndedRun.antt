@@ -165,7 +165,8 @@ module _ {W T : Type 0} (runs : W → T → W → Type 0) (fits : W → Type 0) 
   fails_early gives before after source why cause back all = record {
     back = back;
     still = all;
-    asked = ⊎_elim (λ (e : why ≡ Thread). subst (λ (y : WorkersFault). LeavesSource gives (length before) source y source) (sym e) refl)
+    asked = ⊎_elim (λ (e : why ≡ Thread).
+        subst (λ (y : WorkersFault). LeavesSource gives (length before) source y source) (sym e) refl)
         (λ (e : why ≡ Missed).
         subst (λ (y : WorkersFault). LeavesSource gives (length before) source y source) (sym e) ([], inr (refl, refl)))
         cause;

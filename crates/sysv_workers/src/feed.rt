@@ -21,7 +21,7 @@ pub(crate) enum Feed<T> {
 }
 
 /// Puts the items of the source until it has no more, and returns their number. Returns `None` only
-/// if the source has returned more than 2^62 items, which wear out the buffer.
+/// if the source has returned at least 2^62 items, which wear out the buffer.
 pub(crate) fn put_all<T: Drop, S: Source<T>, R: Wait>(
     rt: &R,
     buffer: &ManyBuffer<Feed<T>>,
