@@ -166,7 +166,7 @@ module _ {L I H : Type 0} (told : L → Option (List SocketStream)) (listens : L
       (reason : Option Reason)
       → s.accepted ≡ 0 → s.most ≡ m → m ≤ 2 ^ 64 - 1 → is_some s.input ≡ input → Given items s last
       → GivesAll Gives s items s' → sessions ≡ capped (length items)
-      → IsSomeAnd reason (HasEnded told listens reads last)
+      → IsSomeAnd reason (HasEnded listens reads last)
       → HasCause reads input m sessions reason
   has_cause m sessions s last s' items input None none same small of_input gave all count why = why
   has_cause m sessions s last s' items input (Some Full) none same small of_input gave all count full =
@@ -268,7 +268,7 @@ module _ {L I H : Type 0} (told : L → Option (List SocketStream)) (listens : L
         | inr why ↦
             has_cause m ended.sums.sessions s gave.last s' served.given input reason none same small of_input
             gave.gave gave (sums ∙ ap capped counted)
-            (subst (λ r. IsSomeAnd r (HasEnded told listens reads gave.last)) of_reason why)
+            (subst (λ r. IsSomeAnd r (HasEnded listens reads gave.last)) of_reason why)
       ]
 
   -- what a fault leaves of the service on a listener, and of the listener

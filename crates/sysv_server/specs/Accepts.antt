@@ -21,8 +21,7 @@ EndsInput reads has_input InputOver = (has_input ≡ true) × IsOver reads
 EndsInput reads has_input (NoSocket why) = ⊥
 EndsInput reads has_input (Accept why) = ⊤
 
-module _ {L I H : Type 0} (told : L → Option (List SocketStream)) (listens : L → Bool)
-    (reads : I → ℕ → Result ℕ Error → I → Type 0) where
+module _ {L I H : Type 0} (listens : L → Bool) (reads : I → ℕ → Result ℕ Error → I → Type 0) where
   -- The source may end for this reason: the limit is reached, its input is over, its listener could not
   -- be opened, or an accept failed.
   abbrev pub HasEnded : Accepting L I H → Reason → Type 0
@@ -31,6 +30,8 @@ module _ {L I H : Type 0} (told : L → Option (List SocketStream)) (listens : L
   HasEnded source (NoSocket why) = listens source.listener.now ≡ false
   HasEnded source (Accept why) = ⊤
 
+module _ {L I H : Type 0} (told : L → Option (List SocketStream)) (listens : L → Bool)
+    (reads : I → ℕ → Result ℕ Error → I → Type 0) where
   -- The source returned a connection or none, and its counts changed accordingly. A connection that it
   -- returned is the one that its listener accepted, which accepted no other. It returns a connection
   -- only below the limit, if there is one, and has an open listener then. It returns none only if it
@@ -38,7 +39,7 @@ module _ {L I H : Type 0} (told : L → Option (List SocketStream)) (listens : L
   abbrev pub Accepts : Accepting L I H → Option SocketStream → Accepting L I H → Type 0
   Accepts old None new =
       (new.most ≡ old.most) × (new.accepted ≡ old.accepted)
-      × ((is_some old.reason ≡ true) ⊎ IsSomeAnd new.reason (HasEnded old))
+      × ((is_some old.reason ≡ true) ⊎ IsSomeAnd new.reason (HasEnded listens reads old))
       × (listens new.listener.now ≡ false) × (told new.listener.now ≡ told old.listener.now)
       × (new.listener.ghost_name ≡ old.listener.ghost_name)
   Accepts old (Some stream) new =

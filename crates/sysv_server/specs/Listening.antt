@@ -15,7 +15,7 @@ abbrev pub IsLast : Result ℕ Error → Type 0
 IsLast (Ok count) = count ≡ 0
 IsLast (Err why) = error_kind why ≢ Interrupted
 
--- An input is over: a read of it, of at most one byte or more, was its last. `reads` are the reads of
+-- An input is over: a read of it, which had room for a byte, was its last. `reads` are the reads of
 -- that input.
 pub record IsOver {I : Type 0} (reads : I → ℕ → Result ℕ Error → I → Type 0) : Type 0 where
   pub before : I
