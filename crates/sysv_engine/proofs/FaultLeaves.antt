@@ -1,9 +1,10 @@
 -- A fault of a server leaves the connections as the refusal of its workers leaves the source, and the
 -- books as it leaves the workers' states.
-use Rattle.std.proofs.Common.{◌≡◌, ℕ, List, Option, sym, subst}
+use Rattle.std.proofs.Common.{◌≡◌, ◌≤◌, ℕ, List, Option, sym, subst, arith}
 use Rattle.sysv_service.specs.Seats.{Gates}
 use Rattle.sysv_workers.specs.Parts.{Part, Leads}
 use Rattle.sysv_workers.specs.Running.{GivesBack, LeavesSource}
+use Rattle.sysv_workers.specs.declared.workers.TheConstants.{MAX_WORKERS}
 use Rattle.sysv_workers.specs.declared.refusals.WorkersFault.{WorkersFault}
 use Rattle.sysv_workers.specs.declared.refusals.WorkersFault.TheVariants.{BadCount, NoMemory, Thread, Worn, Missed}
 use Rattle.sysv_engine.specs.declared.fault.ServeFault.{ServeFault}
@@ -18,16 +19,17 @@ module _ {T B : Type 0} (incoming outgoing : T → Option (List ℕ)) (closes : 
       (same : after ≡ states → books' ≡ books)
       (unused : after ≡ states → LeavesUnused incoming outgoing closes Ran books books')
       (led : (parts : List (Part W T)) × Leads runs states parts after →
-      LeavesBooks incoming outgoing closes Ran books books') where
+      LeavesBooks incoming outgoing closes Ran books books') (workers : ℕ) (few : workers ≤ MAX_WORKERS) where
     abbrev Leaves : ServeFault → Type 0
     Leaves why = LeavesConnections incoming outgoing closes gives Ran source books why source' books'
 
-    pub left : (why : WorkersFault) (fault : ServeFault) → FaultOf why fault → LeavesSource gives source why source' →
-        GivesBack runs states why after → Leaves fault
+    pub left : (why : WorkersFault) (fault : ServeFault) → FaultOf why fault →
+        LeavesSource gives workers source why source' → GivesBack runs states why after → Leaves fault
     left BadCount fault named leaves back = absurd named
     left NoMemory fault named leaves back = subst Leaves (sym named) (leaves, same back)
     left Thread fault named leaves back = subst Leaves (sym named) (leaves, same back, unused back)
-    left Worn fault named leaves back = subst Leaves (sym named) (leaves.0, leaves.1, led back)
+    left Worn fault named leaves back =
+        let far = leaves.2 in subst Leaves (sym named) (leaves.0, leaves.1, omega arith, led back)
     left Missed fault named leaves back = subst Leaves (sym named) (leaves.0, leaves.1, led back)
 
   -- What is so of the gates and the shifts may be said in other words.
@@ -53,5 +55,5 @@ module _ {T B : Type 0} (incoming outgoing : T → Option (List ℕ)) (closes : 
         → LeavesConnections incoming outgoing closes gives Says source books why source' books'
     fault_says faults.NoMemory left = left
     fault_says faults.Thread left = (left.0, left.1, unused_says left.2)
-    fault_says faults.Worn left = (left.0, left.1, says left.2)
+    fault_says faults.Worn left = (left.0, left.1, left.2, says left.3)
     fault_says faults.Missed left = (left.0, left.1, says left.2)

@@ -1,5 +1,5 @@
 -- The shifts and the desks of workers, from what a run of the workers leads to.
-use Rattle.std.proofs.Common.{◌≡◌, ◌∙◌, ℕ, ◌+◌, ◌<◌, List, [], ◌∷◌, ◌++◌, map, reverse, length, Option, ap, refl}
+use Rattle.std.proofs.Common.{◌≡◌, ◌∙◌, ℕ, ◌+◌, ◌<◌, ◌≤◌, List, [], ◌∷◌, ◌++◌, map, reverse, length, Option, ap, refl}
 use Rattle.std.proofs.Common.{sym, subst, arith, append_assoc, length-append}
 use Rattle.std.specs.List.{All, AllByRecursion, FoldsTo, flat_map, slice_index_or, sum_by}
 use Rattle.std.specs.List.Sorted.{IsPermutation}
@@ -13,6 +13,7 @@ use Rattle.sysv_service.specs.Ran.{Pass}
 use Rattle.sysv_session.specs.declared.served.Served.{Served}
 use Rattle.sysv_workers.specs.Parts.{Part, Leads, AreInOrder, IsSubsequenceOf}
 use Rattle.sysv_workers.specs.Running.{GivesBack, LeavesSource, RunsAll}
+use Rattle.sysv_workers.specs.declared.workers.TheConstants.{MAX_WORKERS}
 use Rattle.sysv_workers.specs.declared.refusals.WorkersFault.{WorkersFault}
 use Rattle.sysv_engine.specs.declared.fault.ServeFault.{ServeFault}
 use Rattle.sysv_engine.specs.declared.sums.Sums.{Sums}
@@ -330,11 +331,11 @@ module _ {W T B : Type 0} (incoming outgoing : T → Option (List ℕ)) (closes 
         record { left = none.left; none = emptied (told_in none.left.shifts) count }
 
     -- What a refused run of workers leaves of the source and of the books.
-    pub all_left : (why : WorkersFault) (told : ServeFault) → FaultOf why told → LeavesSource gives source why source'
-        → GivesBack Runs states why after
+    pub all_left : (workers : ℕ) → workers ≤ MAX_WORKERS → (why : WorkersFault) (told : ServeFault) → FaultOf why told
+        → LeavesSource gives workers source why source' → GivesBack Runs states why after
         → LeavesConnections incoming outgoing closes gives (HiredFrom gates old new) source books told source' books'
-    all_left why told named leaves back =
+    all_left workers few why told named leaves back =
         let same : after ≡ states → books' ≡ books =
         λ is. books_are' ∙ (ap (λ l. reverse (map book l)) is ∙ sym books_are) in
         left incoming outgoing closes gives source source' books books' (HiredFrom gates old new) Runs states after same
-        unused (λ parts. (led parts.0 parts.1).left) why told named leaves back
+        unused (λ parts. (led parts.0 parts.1).left) workers few why told named leaves back

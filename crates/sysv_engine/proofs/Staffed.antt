@@ -10,6 +10,7 @@ use Rattle.sysv_service.specs.Ran.{Pass}
 use Rattle.sysv_thread_laws.specs.Hiring.{Gives, TakesIn}
 use Rattle.sysv_workers.specs.Parts.{Leads, Part}
 use Rattle.sysv_workers.specs.Running.{GivesBack, LeavesSource, RunsAll}
+use Rattle.sysv_workers.specs.declared.workers.TheConstants.{MAX_WORKERS}
 use Rattle.sysv_workers.specs.declared.refusals.WorkersFault.{WorkersFault}
 use Rattle.sysv_workers.specs.declared.refusals.WorkersFault.TheVariants.{BadCount, NoMemory, Thread, Worn, Missed}
 use Rattle.sysv_workers.specs.Sources.{Gave, GivesAll, Returned}
@@ -260,10 +261,10 @@ module _ {T B : Type 0} (incoming outgoing : T → Option (List ℕ)) (closes : 
             (subst (λ l. FoldsTo TakesIn kept (reverse l) new) (sym (map_both (λ (v : View B). v.pass) view_of ps))
             taken)
 
-        pub all_left : (why : WorkersFault) (told : ServeFault) → FaultOf why told →
-            LeavesSource gives source why source' → GivesBack Runs ws why ws' →
+        pub all_left : (workers : ℕ) → workers ≤ MAX_WORKERS → (why : WorkersFault) (told : ServeFault) →
+            FaultOf why told → LeavesSource gives workers source why source' → GivesBack Runs ws why ws' →
             LeavesConnections incoming outgoing closes gives (HiredFrom gates old new) source books told source' books'
-        all_left why told named leaves back =
+        all_left workers few why told named leaves back =
             shifts.all_left incoming outgoing closes (λ (v : View B). v.pass) (λ (v : View B). v.sums)
             (λ (v : View B). v.refused) (λ (v : View B). v.book) gives gates (map view_of opened) (map view_of ps)
             source source' books books' old kept new (new_views opened all_opened)
@@ -271,7 +272,7 @@ module _ {T B : Type 0} (incoming outgoing : T → Option (List ℕ)) (closes : 
             (last_books ∙ ap reverse (sym (map_both (λ (v : View B). v.book) view_of ps)))
             (subst (λ l. FoldsTo Gives old l kept) (sym (map_both (λ (v : View B). v.pass) view_of opened)) given)
             (subst (λ l. FoldsTo TakesIn kept (reverse l) new) (sym (map_both (λ (v : View B). v.pass) view_of ps))
-            taken) why told named leaves (places_back why back)
+            taken) workers few why told named leaves (places_back why back)
 
 -- ---- a source behind another
 
@@ -318,20 +319,20 @@ module _ {D S T : Type 0} (of : D → S) (name : D → ℕ) (gives : S → Optio
   gave_name items old new (inr none) = ap name none.1
 
   -- What a refused run left of it.
-  pub leaves_behind : (why : WorkersFault) (old new : D) → LeavesSource Behind old why new →
-      LeavesSource gives (of old) why (of new)
-  leaves_behind BadCount old new leaves = ap of leaves
-  leaves_behind NoMemory old new leaves = ap of leaves
-  leaves_behind Thread old new leaves = ap of leaves
-  leaves_behind Worn old new leaves = (leaves.0, returned_behind leaves.0 old new leaves.1)
-  leaves_behind Missed old new leaves = (leaves.0, gave_behind leaves.0 old new leaves.1)
+  pub leaves_behind : (n : ℕ) (why : WorkersFault) (old new : D) → LeavesSource Behind n old why new →
+      LeavesSource gives n (of old) why (of new)
+  leaves_behind n BadCount old new leaves = ap of leaves
+  leaves_behind n NoMemory old new leaves = ap of leaves
+  leaves_behind n Thread old new leaves = ap of leaves
+  leaves_behind n Worn old new leaves = (leaves.0, returned_behind leaves.0 old new leaves.1, leaves.2)
+  leaves_behind n Missed old new leaves = (leaves.0, gave_behind leaves.0 old new leaves.1)
 
-  pub leaves_name : (why : WorkersFault) (old new : D) → LeavesSource Behind old why new → name new ≡ name old
-  leaves_name BadCount old new leaves = ap name leaves
-  leaves_name NoMemory old new leaves = ap name leaves
-  leaves_name Thread old new leaves = ap name leaves
-  leaves_name Worn old new leaves = returned_name leaves.0 old new leaves.1
-  leaves_name Missed old new leaves = gave_name leaves.0 old new leaves.1
+  pub leaves_name : (n : ℕ) (why : WorkersFault) (old new : D) → LeavesSource Behind n old why new → name new ≡ name old
+  leaves_name n BadCount old new leaves = ap name leaves
+  leaves_name n NoMemory old new leaves = ap name leaves
+  leaves_name n Thread old new leaves = ap name leaves
+  leaves_name n Worn old new leaves = returned_name leaves.0 old new leaves.1
+  leaves_name n Missed old new leaves = gave_name leaves.0 old new leaves.1
 
   module _ {W : Type 0} (runs : W → T → W → Type 0) (ws ws' : List W) (old new : D)
       (ran : RunsAll runs Behind ws old ws' new) where

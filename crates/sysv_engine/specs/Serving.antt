@@ -1,7 +1,7 @@
 -- How a server serves a source of connections, and what a fault leaves (this project's profile). Its
 -- places share one service, each place has a pass of its own, and there is one session for each
 -- connection.
-use Rattle.std.specs.Prelude.{◌≡◌, ℕ, List, [], Option, Result, length}
+use Rattle.std.specs.Prelude.{◌≡◌, ◌≤◌, ◌+◌, ◌^◌, ℕ, List, [], Option, Result, length}
 use Rattle.std.specs.List.Sorted.{IsPermutation}
 use Rattle.sysv_service.specs.Opened.{AreOpen}
 use Rattle.sysv_service.specs.Seats.{Gates, AreOf}
@@ -11,6 +11,7 @@ use Rattle.sysv_service.specs.Ran.{Pass}
 use Rattle.sysv_workers.specs.declared.refusals.WorkersFault.{WorkersFault}
 use Rattle.sysv_workers.specs.declared.refusals.WorkersFault.TheVariants as workers
 use Rattle.sysv_workers.specs.Sources.{GivesAll, Gave, Returned}
+use Rattle.sysv_workers.specs.declared.workers.TheConstants.{MAX_WORKERS}
 use Rattle.sysv_engine.specs.declared.fault.ServeFault.{ServeFault}
 use Rattle.sysv_engine.specs.declared.fault.ServeFault.TheVariants.{NoMemory, Thread, Worn, Missed}
 use Rattle.sysv_engine.specs.declared.sums.Sums.{Sums}
@@ -73,8 +74,8 @@ module _ {S T B : Type 0} (incoming outgoing : T → Option (List ℕ)) (closes 
   --
   -- After `NoMemory` the source of connections and the books are unchanged; nothing more is stated,
   -- since memory may be refused before the gates are opened. After `Thread` they are unchanged too,
-  -- and there was no session. After `Worn` the source has returned some connections, and may have
-  -- reported its end. After `Missed` it is at its end or was not read. After both, sessions led to
+  -- and there was no session. After `Worn` the source has returned at least 2^62 - 16 connections, and
+  -- may have reported its end. After `Missed` it is at its end or was not read. After both, sessions led to
   -- the books. It is not stated that their connections are those of the source, since a refused run
   -- of workers does not tell which of the items that were put into its buffer the workers took.
   abbrev pub LeavesConnections : (Gates → List Shift → Type 0) → S → List B → ServeFault → S → List B → Type 0
@@ -82,7 +83,8 @@ module _ {S T B : Type 0} (incoming outgoing : T → Option (List ℕ)) (closes 
   LeavesConnections Ran source books Thread source' books' =
       (source' ≡ source) × (books' ≡ books) × LeavesUnused incoming outgoing closes Ran books books'
   LeavesConnections Ran source books Worn source' books' =
-      (given : List T) × Returned gives source given source' × LeavesBooks incoming outgoing closes Ran books books'
+      (given : List T) × Returned gives source given source' × (2 ^ 62 ≤ length given + MAX_WORKERS)
+      × LeavesBooks incoming outgoing closes Ran books books'
   LeavesConnections Ran source books Missed source' books' =
       (given : List T) × Gave gives source given source' × LeavesBooks incoming outgoing closes Ran books books'
 

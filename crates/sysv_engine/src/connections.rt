@@ -37,7 +37,7 @@ use sysv_workers::{Source, WorkersFault, WorkersRefused, run_workers};
 ///
 /// - `NoMemory` if memory for the service or the workers is refused, or a descriptor.
 /// - `Thread` if a thread cannot be started.
-/// - `Worn` if 2^62 connections have gone to the workers.
+/// - `Worn` if the source has returned 2^62 connections, less at most one for each worker.
 /// - `Missed` if the number of sessions that were begun differs from the number of connections.
 ///
 /// After `NoMemory` and `Thread` no connection was requested from the source, and the books are

@@ -11,8 +11,8 @@ pub enum ServeFault {
     /// A thread could not be started. No connection was accepted.
     #[error("no thread")]
     Thread,
-    /// The buffer between the listener and the workers is worn out: 2^62 connections have gone
-    /// through it.
+    /// The buffer between the listener and the workers is worn out: at least 2^62 - 16 connections
+    /// were accepted.
     #[error("the buffer is worn out")]
     Worn,
     /// The number of sessions that were run differs from the number of connections that were

@@ -2,27 +2,33 @@
 -- accepting.
 use mathlib.Core.Bool.{true≢false}
 use Rattle.std.proofs.Common.{◌≡◌, ◌≢◌, inl, inr, Bool, ℕ, ◌+◌, ◌≤◌, ◌<◌, List, [], ◌∷◌, length, map, Option, Some}
-use Rattle.std.proofs.Common.{None, refl, arith, sym, ap, subst, ◌∙◌}
+use Rattle.std.proofs.Common.{None, ◌++◌, refl, arith, sym, ap, subst, ◌∙◌, append_assoc}
 use Rattle.std.specs.Prelude.{Result, Ok, Err, IfErr, IfOk, IsSomeAnd, ◌^◌, ◌-◌, true, false, is_some, min}
 use Rattle.std.specs.List.{FoldsTo, sum_by}
+use Rattle.std.specs.declared.io.Error.{Error}
+use Rattle.std.proofs.lemmas.List.{append-nil}
 use Rattle.std.proofs.lemmas.List.Sums.{sum_by-cons}
 use Rattle.std.specs.Prelude.{⊤}
 use Rattle.sysv_session.specs.declared.served.Served.{Served}
-use Rattle.sysv_workers.specs.Sources.{GivesAll}
+use Rattle.sysv_workers.specs.Sources.{GivesAll, Gave, Returned}
+use Rattle.sysv_workers.specs.declared.workers.TheConstants.{MAX_WORKERS}
 use Rattle.sysv_server.specs.declared.accepting.Accepting.{Accepting}
 use Rattle.sysv_engine.specs.declared.fault.ServeFault.{ServeFault}
 use Rattle.sysv_server.specs.declared.host.Reason.{Reason}
 use Rattle.sysv_server.specs.declared.host.Reason.TheVariants.{Full, InputOver, NoSocket, Accept}
 use Rattle.sysv_engine.specs.declared.sums.Sums.{Sums}
 use Rattle.sysv_engine.specs.declared.terms.Ended.{Ended}
-use Rattle.sysv_server.specs.Accepts.{Accepts, HasEnded, is_closed, is_unopened}
+use Rattle.sysv_server.specs.Accepts.{Accepts, HasEnded}
+use Rattle.sysv_server.specs.Listening.{IsOver, added}
 use Rattle.sysv_engine.specs.Added.{capped, one_session}
 use Rattle.sysv_seats.specs.declared.socket_stream.SocketStream.{SocketStream}
-use Rattle.sysv_engine.specs.Handled.{told_in}
+use Rattle.sysv_service.specs.Seats.{Gates}
+use Rattle.sysv_engine.specs.Handled.{Shift, told_in}
 use Rattle.sysv_engine.specs.Headline.{ServesConnections}
 use Rattle.sysv_engine.specs.declared.fault.ServeFault.TheVariants as faults
 use Rattle.sysv_engine.specs.Serving.{HasLived, LeavesConnections}
-use Rattle.sysv_server.specs.Serving.{EndsOn, FailsOn, HasReason, ServesOn}
+use Rattle.sysv_server.specs.Serving.{EndsFrom, EndsOn, FailsFrom, FailsOn, HasCause, HasReason, LeavesListener}
+use Rattle.sysv_server.specs.Serving.{LeavesSockets, ServesOn}
 use Rattle.sysv_engine.specs.Talks.{tally_of}
 use Rattle.sysv_seats.specs.Untold.{leaves_nothing, untold}
 use Rattle.sysv_engine.proofs.SessionsPerConnection.{as_books, one_each}
@@ -43,17 +49,29 @@ all_counted (t ∷ told) =
     let rest = all_counted told in
     omega arith
 
+-- ---- what is added
+
+module _ {A : Type 0} where
+  none_added : (o : Option (List A)) → added o [] ≡ o
+  none_added None = refl
+  none_added (Some xs) = ap Some (append-nil xs)
+
+  one_added : (o : Option (List A)) (x : A) (xs : List A) → added (added o (x ∷ [])) xs ≡ added o (x ∷ xs)
+  one_added None x xs = refl
+  one_added (Some ys) x xs = ap Some (append_assoc ys (x ∷ []) xs)
+
 -- ---- the connections of a listener
 
-module _ {I H : Type 0} where
-  abbrev pub Gives : Accepting I H → Option SocketStream → Accepting I H → Type 0
-  Gives = Accepts
+module _ {L I H : Type 0} (told : L → Option (List SocketStream)) (listens : L → Bool)
+    (reads : I → ℕ → Result ℕ Error → I → Type 0) where
+  abbrev pub Gives : Accepting L I H → Option SocketStream → Accepting L I H → Type 0
+  Gives = Accepts told listens reads
 
   -- the connections that were given one after the other
-  abbrev Given : List SocketStream → Accepting I H → Accepting I H → Type 0
+  abbrev Given : List SocketStream → Accepting L I H → Accepting L I H → Type 0
   Given items s s' = FoldsTo (λ s x s'. Gives s (Some x) s') s items s'
 
-  within : (items : List SocketStream) (s s' : Accepting I H) → Given items s s' → s.most ≢ 0 → s.most ≤ 2 ^ 64 - 1 →
+  within : (items : List SocketStream) (s s' : Accepting L I H) → Given items s s' → s.most ≢ 0 → s.most ≤ 2 ^ 64 - 1 →
       s.accepted ≤ s.most → s.accepted + length items ≤ s.most
   within [] s s' h some small low = omega arith
   within (x ∷ items) s s' h some small low =
@@ -64,47 +82,94 @@ module _ {I H : Type 0} where
       let all = room s.most s.accepted h.0.accepted (length items) small (step.1 some) step.2 rest in
       omega arith
 
-  pub bounded : (items : List SocketStream) (s s' : Accepting I H) → GivesAll Gives s items s' → s.accepted ≡ 0 →
+  pub bounded : (items : List SocketStream) (s s' : Accepting L I H) → GivesAll Gives s items s' → s.accepted ≡ 0 →
       s.most ≤ 2 ^ 64 - 1 → s.most ≢ 0 → length items ≤ s.most
   bounded items s s' gave none small some =
       let all = within items s gave.last gave.gave some small (omega arith) in
       omega arith
 
-  -- while connections are given, not more are counted than were given
-  stays : (items : List SocketStream) (s s' : Accepting I H) → Given items s s'
+  returned_most : (items : List SocketStream) (s s' : Accepting L I H) → Returned Gives s items s' → s.accepted ≡ 0 →
+      s.most ≤ 2 ^ 64 - 1 → s.most ≢ 0 → length items ≤ s.most
+  returned_most items s s' (inl gave) none small some =
+      let all = within items s s' gave some small (omega arith) in
+      omega arith
+  returned_most items s s' (inr gave) none small some = bounded items s s' gave none small some
+
+  -- while connections are given, not more are counted than were given, and the source has not ended
+  stays : (items : List SocketStream) (s s' : Accepting L I H) → Given items s s'
       → (s'.most ≡ s.most) × (s'.accepted ≤ s.accepted + length items) × (is_some s'.input ≡ is_some s.input)
-  stays [] s s' h = rw h (refl, omega arith, refl)
+      × (s'.reason ≡ s.reason)
+  stays [] s s' h = rw h (refl, omega arith, refl, refl)
   stays (x ∷ items) s s' h =
       let step = h.1 in
       let rest = stays items h.0 s' h.2 in
       let low = rest.1 in
       let more = step.2 in
-      (rest.0 ∙ step.0, omega arith, rest.2 ∙ step.5)
+      (rest.0 ∙ step.0, omega arith, rest.2 ∙ step.5, rest.3 ∙ step.4)
 
-  -- while connections are given, the listener stays open
-  stays_open : (items : List SocketStream) (s s' : Accepting I H) → Given items s s' → is_closed s.listening ≡ false →
-      is_closed s'.listening ≡ false
-  stays_open [] s s' h unclosed = rw (← h) unclosed
-  stays_open (x ∷ items) s s' h unclosed = stays_open items h.0 s' h.2 h.1.3
-
-  -- once a connection was given, the listener has been opened
-  is_opened : (x : SocketStream) (items : List SocketStream) (s s' : Accepting I H) → Given (x ∷ items) s s' →
-      is_unopened s'.listening ≡ false
-  is_opened x [] s s' h = rw (← h.2) h.1.4
+  -- once a connection was given, the listener is open
+  is_opened : (x : SocketStream) (items : List SocketStream) (s s' : Accepting L I H) → Given (x ∷ items) s s' →
+      listens s'.listener.now ≡ true
+  is_opened x [] s s' h = rw (← h.2) h.1.3
   is_opened x (y ∷ items) s s' h = is_opened y items h.0 s' h.2
 
-  none_given : (items : List SocketStream) (s s' : Accepting I H) → Given items s s' → is_unopened s'.listening ≡ true →
-      length items ≡ 0
+  none_given : (items : List SocketStream) (s s' : Accepting L I H) → Given items s s' →
+      listens s'.listener.now ≡ false → length items ≡ 0
   none_given [] s s' h unopened = refl
-  none_given (x ∷ items) s s' h unopened = absurd (true≢false (sym unopened ∙ is_opened x items s s' h))
+  none_given (x ∷ items) s s' h unopened = absurd (true≢false (sym (is_opened x items s s' h) ∙ unopened))
 
-  has_reason : (m sessions : ℕ) (s last s' : Accepting I H) (items : List SocketStream) (input : Bool)
+  -- the listener has accepted the connections that were given
+  tells : (items : List SocketStream) (s s' : Accepting L I H) → Given items s s' →
+      told s'.listener.now ≡ added (told s.listener.now) items
+  tells [] s s' h = rw h (sym (none_added (told s'.listener.now)))
+  tells (x ∷ items) s s' h =
+      tells items h.0 s' h.2
+      ∙ (ap (λ o. added o items) h.1.6 ∙ one_added (told s.listener.now) x items)
+
+  -- the source holds the listener that it was lent
+  holds : (items : List SocketStream) (s s' : Accepting L I H) → Given items s s' →
+      s'.listener.ghost_name ≡ s.listener.ghost_name
+  holds [] s s' h = rw h refl
+  holds (x ∷ items) s s' h = holds items h.0 s' h.2 ∙ h.1.7
+
+  all_tell : (items : List SocketStream) (s s' : Accepting L I H) → GivesAll Gives s items s' →
+      told s'.listener.now ≡ added (told s.listener.now) items
+  all_tell items s s' gave = gave.ended.4 ∙ tells items s gave.last gave.gave
+
+  all_hold : (items : List SocketStream) (s s' : Accepting L I H) → GivesAll Gives s items s' →
+      s'.listener.ghost_name ≡ s.listener.ghost_name
+  all_hold items s s' gave = gave.ended.5 ∙ holds items s gave.last gave.gave
+
+  returned_tell : (items : List SocketStream) (s s' : Accepting L I H) → Returned Gives s items s' →
+      told s'.listener.now ≡ added (told s.listener.now) items
+  returned_tell items s s' (inl some) = tells items s s' some
+  returned_tell items s s' (inr all) = all_tell items s s' all
+
+  returned_hold : (items : List SocketStream) (s s' : Accepting L I H) → Returned Gives s items s' →
+      s'.listener.ghost_name ≡ s.listener.ghost_name
+  returned_hold items s s' (inl some) = holds items s s' some
+  returned_hold items s s' (inr all) = all_hold items s s' all
+
+  gave_tell : (items : List SocketStream) (s s' : Accepting L I H) → Gave Gives s items s' →
+      told s'.listener.now ≡ added (told s.listener.now) items
+  gave_tell items s s' (inl all) = all_tell items s s' all
+  gave_tell items s s' (inr none) =
+      ap (λ (t : Accepting L I H). told t.listener.now) none.1
+      ∙ (sym (none_added (told s.listener.now)) ∙ ap (λ l. added (told s.listener.now) l) (sym none.0))
+
+  gave_hold : (items : List SocketStream) (s s' : Accepting L I H) → Gave Gives s items s' →
+      s'.listener.ghost_name ≡ s.listener.ghost_name
+  gave_hold items s s' (inl all) = all_hold items s s' all
+  gave_hold items s s' (inr none) = ap (λ (t : Accepting L I H). t.listener.ghost_name) none.1
+
+  has_cause : (m sessions : ℕ) (s last s' : Accepting L I H) (items : List SocketStream) (input : Bool)
       (reason : Option Reason)
       → s.accepted ≡ 0 → s.most ≡ m → m ≤ 2 ^ 64 - 1 → is_some s.input ≡ input → Given items s last
-      → GivesAll Gives s items s' → sessions ≡ capped (length items) → IsSomeAnd reason (HasEnded last)
-      → HasReason input m sessions reason
-  has_reason m sessions s last s' items input None none same small of_input gave all count why = why
-  has_reason m sessions s last s' items input (Some Full) none same small of_input gave all count full =
+      → GivesAll Gives s items s' → sessions ≡ capped (length items)
+      → IsSomeAnd reason (HasEnded listens reads last)
+      → HasCause reads input m sessions reason
+  has_cause m sessions s last s' items input None none same small of_input gave all count why = why
+  has_cause m sessions s last s' items input (Some Full) none same small of_input gave all count full =
       let fits : s.most ≤ 2 ^ 64 - 1 = omega arith in
       let stay = stays items s last gave in
       let some : s.most ≢ 0 = λ z. full.0 (stay.0 ∙ z) in
@@ -114,17 +179,31 @@ module _ {I H : Type 0} where
       let least = full.1 in
       let many : length items ≡ m = omega arith in
       (λ z. some (same ∙ z), count ∙ (ap capped many ∙ below m small))
-  has_reason m sessions s last s' items input (Some InputOver) none same small of_input gave all count over =
-      sym of_input ∙ (sym (stays items s last gave).2 ∙ over)
-  has_reason m sessions s last s' items input (Some (NoSocket why)) none same small of_input gave all count unopened =
+  has_cause m sessions s last s' items input (Some InputOver) none same small of_input gave all count over =
+      (sym of_input ∙ (sym (stays items s last gave).2 ∙ over.0), over.1)
+  has_cause m sessions s last s' items input (Some (NoSocket why)) none same small of_input gave all count unopened =
       let no_item = none_given items s last gave unopened in
       count ∙ (ap capped no_item ∙ below 0 (omega arith))
-  has_reason m sessions s last s' items input (Some (Accept why)) none same small of_input gave all count failed = tt
+  has_cause m sessions s last s' items input (Some (Accept why)) none same small of_input gave all count failed = tt
 
-  abbrev pub Serves : ℕ → Accepting I H → List ⊤ → Ended → Accepting I H → List ⊤ → Type 0
+  abbrev pub Serves : ℕ → Accepting L I H → List ⊤ → Ended → Accepting L I H → List ⊤ → Type 0
   Serves = ServesConnections untold untold leaves_nothing Gives
 
-  pub serves_on : (blocks workers m : ℕ) (s s' : Accepting I H) (books books' : List ⊤) (ended : Ended)
+  -- the source holds the listener that it was lent, after a run too
+  pub served_hold : (blocks : ℕ) (s s' : Accepting L I H) (books books' : List ⊤) (ended : Ended) →
+      Serves blocks s books ended s' books' → s'.listener.ghost_name ≡ s.listener.ghost_name
+  served_hold blocks s s' books books' ended served = all_hold served.given s s' served.gave
+
+  pub failed_hold : (Ran : Gates → List Shift → Type 0) (s s' : Accepting L I H) (books books' : List ⊤)
+      (why : ServeFault)
+      → LeavesConnections untold untold leaves_nothing Gives Ran s books why s' books'
+      → s'.listener.ghost_name ≡ s.listener.ghost_name
+  failed_hold Ran s s' books books' faults.NoMemory left = ap (λ (t : Accepting L I H). t.listener.ghost_name) left.0
+  failed_hold Ran s s' books books' faults.Thread left = ap (λ (t : Accepting L I H). t.listener.ghost_name) left.0
+  failed_hold Ran s s' books books' faults.Worn left = returned_hold left.0 s s' left.1
+  failed_hold Ran s s' books books' faults.Missed left = gave_hold left.0 s s' left.1
+
+  serves_on : (blocks workers m : ℕ) (s s' : Accepting L I H) (books books' : List ⊤) (ended : Ended)
       → s.accepted ≡ 0 → s.most ≡ m → m ≤ 2 ^ 64 - 1 → length books ≡ workers → Serves blocks s books ended s' books'
       → ServesOn blocks workers m ended.sums
   serves_on blocks workers m s s' books books' ended none same small counted served = record {
@@ -154,27 +233,28 @@ module _ {I H : Type 0} where
     lived = served.lived;
   }
 
-  pub ends_on : (blocks workers m : ℕ) (s s' : Accepting I H) (books books' : List ⊤)
-      (result : Result Ended ServeFault) → s.accepted ≡ 0 → s.most ≡ m → m ≤ 2 ^ 64 - 1 → length books ≡ workers
-      → IfOk result (λ ended. Serves blocks s books ended s' books')
-      → IfOk result (λ ended. EndsOn blocks workers m ended)
+  pub ends_from : (blocks workers m : ℕ) (s s' : Accepting L I H) (books books' : List ⊤) (ended : Ended)
+      → s.accepted ≡ 0 → s.most ≡ m → m ≤ 2 ^ 64 - 1 → length books ≡ workers → Serves blocks s books ended s' books'
+      → EndsFrom told listens blocks workers m s.listener.now ended s'.listener.now
   unfolding serves_on
-  ends_on blocks workers m s s' books books' (Ok ended) none same small counted all = record {
-    served = serves_on blocks workers m s s' books books' ended none same small counted all;
-    refused = all.refused;
-    removed = refl;
-    closed = all.closed;
+  ends_from blocks workers m s s' books books' ended none same small counted all = record {
+    ends = record {
+      served = serves_on blocks workers m s s' books books' ended none same small counted all;
+      refused = all.refused;
+      removed = refl;
+      closed = all.closed;
+    };
+    accepted = all_tell all.given s s' all.gave;
+    closed = all.gave.ended.3;
   }
-  ends_on blocks workers m s s' books books' (Err why) none same small counted all = tt
 
   -- the reason why no more connections were accepted tells how many sessions there were
-  pub ends_for : (blocks m : ℕ) (s s' : Accepting I H) (books books' : List ⊤)
-      (result : Result Ended ServeFault) (input : Bool) (reason : Option Reason)
-      → s.accepted ≡ 0 → s.most ≡ m → m ≤ 2 ^ 64 - 1 → is_closed s.listening ≡ false
-      → is_some s.input ≡ input → s'.reason ≡ reason
-      → IfOk result (λ ended. Serves blocks s books ended s' books')
-      → IfOk result (λ ended. HasReason input m ended.sums.sessions reason)
-  ends_for blocks m s s' books books' (Ok ended) input reason none same small unclosed of_input of_reason served =
+  pub ends_for : (blocks m : ℕ) (s s' : Accepting L I H) (books books' : List ⊤)
+      (ended : Ended) (input : Bool) (reason : Option Reason)
+      → s.accepted ≡ 0 → s.most ≡ m → m ≤ 2 ^ 64 - 1 → s.reason ≡ None
+      → is_some s.input ≡ input → s'.reason ≡ reason → Serves blocks s books ended s' books'
+      → HasCause reads input m ended.sums.sessions reason
+  ends_for blocks m s s' books books' ended input reason none same small unended of_input of_reason served =
       let gave = served.gave in
       let each = one_each untold untold leaves_nothing served.desks served.shifts served.given served.crewed.sat
       served.dealt in
@@ -182,33 +262,107 @@ module _ {I H : Type 0} where
       ≡ capped (sum_by (λ (s : Sums). s.sessions) (map (λ t. one_session (tally_of t)) (told_in served.shifts))) =
       ap (λ (s : Sums). s.sessions) served.sums in
       let counted = all_counted (told_in served.shifts) ∙ each in
+      let still : gave.last.reason ≡ None = (stays served.given s gave.last gave.gave).3 ∙ unended in
       elim gave.ended.2 [
-        | inl closed ↦ absurd (true≢false (sym closed ∙ stays_open served.given s gave.last gave.gave unclosed))
+        | inl over ↦ absurd (true≢false (sym over ∙ ap is_some still))
         | inr why ↦
-            has_reason m ended.sums.sessions s gave.last s' served.given input reason none same small of_input
+            has_cause m ended.sums.sessions s gave.last s' served.given input reason none same small of_input
             gave.gave gave (sums ∙ ap capped counted)
-            (subst (λ r. IsSomeAnd r (HasEnded gave.last)) of_reason why)
+            (subst (λ r. IsSomeAnd r (HasEnded listens reads gave.last)) of_reason why)
       ]
-  ends_for blocks m s s' books books' (Err why) input reason none same small unclosed of_input of_reason all = tt
 
-  -- what a fault leaves of the service on a listener
-  pub fails_on : (blocks workers : ℕ) (s s' : Accepting I H) (books books' : List ⊤) (why : ServeFault)
-      → length books ≡ workers
+  -- what a fault leaves of the service on a listener, and of the listener
+  pub fails_from : (blocks workers m : ℕ) (s s' : Accepting L I H) (books books' : List ⊤) (why : ServeFault)
+      → s.accepted ≡ 0 → s.most ≡ m → m ≤ 2 ^ 64 - 1 → length books ≡ workers
       → LeavesConnections untold untold leaves_nothing Gives (HasLived blocks) s books why s' books'
-      → FailsOn blocks workers why
-  fails_on blocks workers s s' books books' faults.NoMemory counted left = tt
-  fails_on blocks workers s s' books books' faults.Thread counted left =
-      (record { before = books; after = books'; count = counted; left = left.2.left }, left.2.none)
-  fails_on blocks workers s s' books books' faults.Worn counted left =
-      record { before = books; after = books'; count = counted; left = left.2 }
-  fails_on blocks workers s s' books books' faults.Missed counted left =
-      record { before = books; after = books'; count = counted; left = left.2 }
+      → FailsFrom told blocks workers m s.listener.now why s'.listener.now
+  fails_from blocks workers m s s' books books' faults.NoMemory none same small counted left =
+      (tt, ap (λ (t : Accepting L I H). told t.listener.now) left.0)
+  fails_from blocks workers m s s' books books' faults.Thread none same small counted left = (
+    (record { before = books; after = books'; count = counted; left = left.2.left }, left.2.none),
+    ap (λ (t : Accepting L I H). told t.listener.now) left.0,
+  )
+  fails_from blocks workers m s s' books books' faults.Worn none same small counted left =
+      let far = left.2 in (
+        (
+          record { before = books; after = books'; count = counted; left = left.3 },
+          λ some.
+              let fits : s.most ≤ 2 ^ 64 - 1 = omega arith in
+              let most = returned_most left.0 s s' left.1 none fits (λ z. some (sym same ∙ z)) in
+              omega arith,
+        ),
+        (left.0, returned_tell left.0 s s' left.1, far),
+      )
+  fails_from blocks workers m s s' books books' faults.Missed none same small counted left = (
+    record { before = books; after = books'; count = counted; left = left.2 },
+    (left.0, gave_tell left.0 s s' left.1),
+  )
 
-  pub all_fail_on : (blocks workers : ℕ) (s s' : Accepting I H) (books books' : List ⊤)
-      (result : Result Ended ServeFault) → length books ≡ workers
-      → IfErr result (λ why. LeavesConnections untold untold leaves_nothing Gives (HasLived blocks) s books why s'
-      books')
-      → IfErr result (FailsOn blocks workers)
-  all_fail_on blocks workers s s' books books' (Ok ended) counted left = tt
-  all_fail_on blocks workers s s' books books' (Err why) counted left =
-      fails_on blocks workers s s' books books' why counted left
+  -- The same of a result, for a listener in the states that the source was lent it in and left it in.
+  module _ (blocks workers m : ℕ) (s s' : Accepting L I H) (books books' : List ⊤) (result : Result Ended ServeFault)
+      (none : s.accepted ≡ 0) (same : s.most ≡ m) (small : m ≤ 2 ^ 64 - 1)
+      (ok : IfOk result (λ ended. Serves blocks s books ended s' books'))
+      (err : IfErr result (λ why. LeavesConnections untold untold leaves_nothing Gives (HasLived blocks) s books why s'
+      books')) where
+    pub still_holds : s'.listener.ghost_name ≡ s.listener.ghost_name
+    still_holds = of result ok err
+      where
+        of : (r : Result Ended ServeFault) → IfOk r (λ ended. Serves blocks s books ended s' books')
+            → IfErr r (λ why. LeavesConnections untold untold leaves_nothing Gives (HasLived blocks) s books why s'
+            books') → s'.listener.ghost_name ≡ s.listener.ghost_name
+        of (Ok ended) all left = served_hold blocks s s' books books' ended all
+        of (Err why) all left = failed_hold (HasLived blocks) s s' books books' why left
+
+    module _ (l l' : L) (counted : length books ≡ workers) (before : s.listener.now ≡ l)
+        (after : s'.listener.now ≡ l') where
+      pub all_end : IfOk result (λ ended. EndsFrom told listens blocks workers m l ended l')
+      all_end = of result ok
+        where
+          of : (r : Result Ended ServeFault) → IfOk r (λ ended. Serves blocks s books ended s' books')
+              → IfOk r (λ ended. EndsFrom told listens blocks workers m l ended l')
+          of (Ok ended) all =
+              subst (λ k. EndsFrom told listens blocks workers m k ended l') before
+              (subst (λ k. EndsFrom told listens blocks workers m s.listener.now ended k) after
+              (ends_from blocks workers m s s' books books' ended none same small counted all))
+          of (Err why) all = tt
+
+      pub all_fail : IfErr result (λ why. FailsFrom told blocks workers m l why l')
+      all_fail = of result err
+        where
+          of : (r : Result Ended ServeFault)
+              → IfErr r (λ why. LeavesConnections untold untold leaves_nothing Gives (HasLived blocks) s books why s'
+              books') → IfErr r (λ why. FailsFrom told blocks workers m l why l')
+          of (Ok ended) left = tt
+          of (Err why) left =
+              subst (λ k. FailsFrom told blocks workers m k why l') before
+              (subst (λ k. FailsFrom told blocks workers m s.listener.now why k) after
+              (fails_from blocks workers m s s' books books' why none same small counted left))
+
+    pub all_for : (input : Bool) (reason : Option Reason) → s.reason ≡ None → is_some s.input ≡ input →
+        s'.reason ≡ reason → IfOk result (λ ended. HasCause reads input m ended.sums.sessions reason)
+    all_for input reason unended of_input of_reason = of result ok
+      where
+        of : (r : Result Ended ServeFault) → IfOk r (λ ended. Serves blocks s books ended s' books')
+            → IfOk r (λ ended. HasCause reads input m ended.sums.sessions reason)
+        of (Ok ended) all =
+            ends_for blocks m s s' books books' ended input reason none same small unended of_input of_reason all
+        of (Err why) all = tt
+
+-- What is told of a listener and of an input may be left out.
+pub ok_so : {A E : Type 0} (P Q : A → Type 0) (result : Result A E) → ((x : A) → P x → Q x) → IfOk result P →
+    IfOk result Q
+ok_so P Q (Ok x) so p = so x p
+ok_so P Q (Err e) so p = tt
+
+pub err_so : {A E : Type 0} (P Q : E → Type 0) (result : Result A E) → ((e : E) → P e → Q e) → IfErr result P →
+    IfErr result Q
+err_so P Q (Ok x) so p = tt
+err_so P Q (Err e) so p = so e p
+
+pub has_reason : {I : Type 0} (reads : I → ℕ → Result ℕ Error → I → Type 0) (input : Bool) (m sessions : ℕ)
+    (reason : Option Reason) → HasCause reads input m sessions reason → HasReason input m sessions reason
+has_reason reads input m sessions None cause = cause
+has_reason reads input m sessions (Some Full) cause = cause
+has_reason reads input m sessions (Some InputOver) cause = cause.0
+has_reason reads input m sessions (Some (NoSocket why)) cause = cause
+has_reason reads input m sessions (Some (Accept why)) cause = cause

@@ -1,51 +1,50 @@
 -- How connections are accepted, and why no more are (this project's profile).
-use Rattle.std.specs.Prelude.{◌≡◌, ◌≢◌, ◌+◌, ◌<◌, ◌≤◌, ◌⊎◌, ⊤, ℕ, Bool, false, true, Option, None, Some, is_some}
-use Rattle.std.specs.Prelude.{IsSomeAnd}
+use Rattle.std.specs.Prelude.{◌≡◌, ◌≢◌, ◌+◌, ◌<◌, ◌≤◌, ◌⊎◌, ⊤, ℕ, Bool, false, true, List, ◌∷◌, [], Option, None, Some}
+use Rattle.std.specs.Prelude.{IsSomeAnd, Result, is_some}
+use Rattle.std.specs.declared.io.Error.{Error}
+use Rattle.sysv_seats.specs.declared.socket_stream.SocketStream.{SocketStream}
 use Rattle.sysv_server.specs.declared.accepting.Accepting.{Accepting}
-use Rattle.sysv_server.specs.declared.accepting.Listening.{Listening}
-use Rattle.sysv_server.specs.declared.accepting.Listening.TheVariants.{Closed, Unopened}
 use Rattle.sysv_server.specs.declared.host.Reason.{Reason}
 use Rattle.sysv_server.specs.declared.host.Reason.TheVariants.{Full, InputOver, NoSocket, Accept}
+use Rattle.sysv_server.specs.Listening.{IsOver, added}
 use Rattle.sysv_engine.specs.Added.{capped}
-
--- The listener is closed.
-abbrev pub is_closed : Listening → Bool
-is_closed Closed = true
-is_closed listening = false
-
--- The listener has not been opened yet.
-abbrev pub is_unopened : Listening → Bool
-is_unopened Unopened = true
-is_unopened listening = false
 
 -- The number of connections is limited, and the limit is reached.
 abbrev pub IsFull : ℕ → ℕ → Type 0
 IsFull most accepted = (most ≢ 0) × (most ≤ accepted)
 
--- While a source with an input, or without one, waited for a connection, this ended it.
-abbrev pub EndsInput : Bool → Reason → Type 0
-EndsInput has_input Full = ⊥
-EndsInput has_input InputOver = has_input ≡ true
-EndsInput has_input (NoSocket why) = ⊥
-EndsInput has_input (Accept why) = ⊤
+-- While a source with an input, or without one, waited for a connection, this ended it. `reads` are
+-- the reads of the input.
+abbrev pub EndsInput : {I : Type 0} → (I → ℕ → Result ℕ Error → I → Type 0) → Bool → Reason → Type 0
+EndsInput reads has_input Full = ⊥
+EndsInput reads has_input InputOver = (has_input ≡ true) × IsOver reads
+EndsInput reads has_input (NoSocket why) = ⊥
+EndsInput reads has_input (Accept why) = ⊤
 
--- The source may end for this reason: the limit is reached, its input has ended, its listener could
--- not be opened, or an accept failed.
-abbrev pub HasEnded : {I H : Type 0} → Accepting I H → Reason → Type 0
-HasEnded source Full = IsFull source.most source.accepted
-HasEnded source InputOver = is_some source.input ≡ true
-HasEnded source (NoSocket why) = is_unopened source.listening ≡ true
-HasEnded source (Accept why) = ⊤
+module _ {L I H : Type 0} (listens : L → Bool) (reads : I → ℕ → Result ℕ Error → I → Type 0) where
+  -- The source may end for this reason: the limit is reached, its input is over, its listener could not
+  -- be opened, or an accept failed.
+  abbrev pub HasEnded : Accepting L I H → Reason → Type 0
+  HasEnded source Full = IsFull source.most source.accepted
+  HasEnded source InputOver = (is_some source.input ≡ true) × IsOver reads
+  HasEnded source (NoSocket why) = listens source.listener.now ≡ false
+  HasEnded source (Accept why) = ⊤
 
--- The source returned a connection or none, and its counts changed accordingly. It returns a
--- connection only below the limit, if there is one, and has an open listener then. It returns none
--- only if its listener is closed, or for a reason, which is kept. Then the listener is closed.
-abbrev pub Accepts : {I H T : Type 0} → Accepting I H → Option T → Accepting I H → Type 0
-Accepts old None new =
-    (new.most ≡ old.most) × (new.accepted ≡ old.accepted)
-    × ((is_closed old.listening ≡ true) ⊎ IsSomeAnd new.reason (HasEnded old))
-    × (is_closed new.listening ≡ true)
-Accepts old (Some stream) new =
-    (new.most ≡ old.most) × (old.most ≢ 0 → old.accepted < old.most) × (new.accepted ≡ capped (old.accepted + 1))
-    × (is_closed new.listening ≡ false) × (is_unopened new.listening ≡ false)
-    × (is_some new.input ≡ is_some old.input)
+module _ {L I H : Type 0} (told : L → Option (List SocketStream)) (listens : L → Bool)
+    (reads : I → ℕ → Result ℕ Error → I → Type 0) where
+  -- The source returned a connection or none, and its counts changed accordingly. A connection that it
+  -- returned is the one that its listener accepted, which accepted no other. It returns a connection
+  -- only below the limit, if there is one, and has an open listener then. It returns none only if it
+  -- has ended, or for a reason, which is kept; then its listener has accepted none, and is closed.
+  abbrev pub Accepts : Accepting L I H → Option SocketStream → Accepting L I H → Type 0
+  Accepts old None new =
+      (new.most ≡ old.most) × (new.accepted ≡ old.accepted)
+      × ((is_some old.reason ≡ true) ⊎ IsSomeAnd new.reason (HasEnded listens reads old))
+      × (listens new.listener.now ≡ false) × (told new.listener.now ≡ told old.listener.now)
+      × (new.listener.ghost_name ≡ old.listener.ghost_name)
+  Accepts old (Some stream) new =
+      (new.most ≡ old.most) × (old.most ≢ 0 → old.accepted < old.most) × (new.accepted ≡ capped (old.accepted + 1))
+      × (listens new.listener.now ≡ true) × (new.reason ≡ old.reason)
+      × (is_some new.input ≡ is_some old.input)
+      × (told new.listener.now ≡ added (told old.listener.now) (stream ∷ []))
+      × (new.listener.ghost_name ≡ old.listener.ghost_name)

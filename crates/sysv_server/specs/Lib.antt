@@ -1,3 +1,4 @@
 -- The definitions of the server.
+pub mod Listening
 pub mod Accepts
 pub mod Serving

@@ -1,7 +1,9 @@
 -- How a server serves a listener, and what a fault leaves (this project's profile). It has a number
 -- of places, all at one service. Each place has a pass of its own and serves one client after another,
 -- and there is one session for each connection.
-use Rattle.std.specs.Prelude.{◌≡◌, ◌≢◌, ◌≤◌, ⊤, ℕ, Bool, true, List, [], Option, Some, None, Result, length}
+use Rattle.std.specs.Prelude.{◌≡◌, ◌≢◌, ◌≤◌, ◌+◌, ◌^◌, ⊤, ℕ, Bool, true, false, List, [], Option, Some, None, Result}
+use Rattle.std.specs.Prelude.{length}
+use Rattle.std.specs.declared.io.Error.{Error}
 use Rattle.std.specs.List.{AllByRecursion}
 use Rattle.std.specs.List.Sorted.{IsPermutation}
 use Rattle.sysv_bank.specs.Banks.{Each2}
@@ -18,6 +20,8 @@ use Rattle.sysv_engine.specs.Desks.{Desk, Sat, AreServedInOrder, all_connections
 use Rattle.sysv_engine.specs.Handled.{Shift, cut_off_of, refused_of, sums_of, told_in}
 use Rattle.sysv_engine.specs.OneRun.{Lived}
 use Rattle.sysv_engine.specs.Serving.{HasLived, LeavesBooks}
+use Rattle.sysv_workers.specs.declared.workers.TheConstants.{MAX_WORKERS}
+use Rattle.sysv_server.specs.Listening.{IsOver, added}
 use Rattle.sysv_server.specs.declared.host.Reason.{Reason}
 use Rattle.sysv_server.specs.declared.host.Reason.TheVariants.{Full, InputOver, NoSocket, Accept}
 
@@ -69,15 +73,17 @@ pub record LeavesSockets (places : ℕ) (Ran : Gates → List Shift → Type 0) 
   pub count : length before ≡ places
   pub left : LeavesBooks {T = SocketStream} untold untold leaves_nothing Ran before after
 
--- A server on a listener ended by this fault, with this number of blocks and of places. After
--- `NoMemory` nothing is stated, since memory may be refused before the gates are opened. After
--- `Thread` there was no session.
-abbrev pub FailsOn : (blocks places : ℕ) → ServeFault → Type 0
-FailsOn blocks places NoMemory = ⊤
-FailsOn blocks places Thread =
+-- A server on a listener ended by this fault, with this number of blocks and of places, and this maximum
+-- number of sessions, 0 for no limit. After `NoMemory` nothing is stated, since memory may be refused
+-- before the gates are opened. After `Thread` there was no session. After `Worn` at least 2^62 - 16
+-- connections were accepted, so there is no lower limit.
+abbrev pub FailsOn : (blocks places most : ℕ) → ServeFault → Type 0
+FailsOn blocks places most NoMemory = ⊤
+FailsOn blocks places most Thread =
     (sockets : LeavesSockets places (HasLived blocks)) × (told_in sockets.left.shifts ≡ [])
-FailsOn blocks places Worn = LeavesSockets places (HasLived blocks)
-FailsOn blocks places Missed = LeavesSockets places (HasLived blocks)
+FailsOn blocks places most Worn =
+    LeavesSockets places (HasLived blocks) × (most ≢ 0 → 2 ^ 62 ≤ most + MAX_WORKERS)
+FailsOn blocks places most Missed = LeavesSockets places (HasLived blocks)
 
 -- A server that may have an input, that was to run this maximum number of sessions, 0 for no limit,
 -- and that ran this number of them, accepted no more connections for this reason.
@@ -87,3 +93,35 @@ HasReason has_input most sessions (Some Full) = (most ≢ 0) × (sessions ≡ mo
 HasReason has_input most sessions (Some InputOver) = has_input ≡ true
 HasReason has_input most sessions (Some (NoSocket why)) = sessions ≡ 0
 HasReason has_input most sessions (Some (Accept why)) = ⊤
+
+-- The same, and an input that is over was read to its end, or could not be read. `reads` are the reads
+-- of the input.
+abbrev pub HasCause : {I : Type 0} → (I → ℕ → Result ℕ Error → I → Type 0) → Bool → (most sessions : ℕ) →
+    Option Reason → Type 0
+HasCause reads has_input most sessions (Some InputOver) = (has_input ≡ true) × IsOver reads
+HasCause reads has_input most sessions reason = HasReason has_input most sessions reason
+
+module _ {L : Type 0} (told : L → Option (List SocketStream)) where
+  -- A server served the connections of a listener, which went from the one state to the other and is
+  -- closed. The listener has accepted the connections on which the sessions were, each once, and no
+  -- others. `told` are the connections that the listener has accepted, if it tells them.
+  pub record EndsFrom (listens : L → Bool) (blocks places most : ℕ) (before : L) (ended : Ended)
+      (after : L) : Type 0 where
+    pub ends : EndsOn blocks places most ended
+    pub accepted : told after ≡ added (told before) ends.served.accepted
+    pub closed : listens after ≡ false
+
+  -- What a listener has accepted whose server ended by this fault. After `NoMemory` and `Thread` it has
+  -- accepted nothing. After `Worn` it has accepted at least 2^62 - 16 connections.
+  abbrev pub LeavesListener : L → ServeFault → L → Type 0
+  LeavesListener before NoMemory after = told after ≡ told before
+  LeavesListener before Thread after = told after ≡ told before
+  LeavesListener before Worn after =
+      (accepted : List SocketStream) × (told after ≡ added (told before) accepted)
+      × (2 ^ 62 ≤ length accepted + MAX_WORKERS)
+  LeavesListener before Missed after =
+      (accepted : List SocketStream) × (told after ≡ added (told before) accepted)
+
+  -- A server on a listener ended by this fault, and left the listener so.
+  abbrev pub FailsFrom : (blocks places most : ℕ) → L → ServeFault → L → Type 0
+  FailsFrom blocks places most before why after = FailsOn blocks places most why × LeavesListener before why after

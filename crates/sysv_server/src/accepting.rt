@@ -1,16 +1,16 @@
 //! A source of accepted connections.
-ghost use Rattle.std.specs.Prelude.{◌≡◌, ◌≢◌, ◌<◌, ◌≤◌, ◌-◌, ◌^◌, ◌⊎◌, true, false, is_some, IfErr, IfNone, IfOk};
-ghost use Rattle.sysv_server.specs.Accepts.{is_closed, is_unopened, EndsInput, HasEnded};
+ghost use Rattle.std.specs.Prelude.{◌≡◌, ◌≢◌, ◌<◌, ◌≤◌, ◌-◌, ◌^◌, ◌∷◌, [], true, false, is_some, IfErr, IfOk, IsNone, OnErr, OnOk};
+ghost use Rattle.sysv_server.specs.Accepts.{EndsInput, HasEnded};
+ghost use Rattle.sysv_server.specs.Listening.{added, IsOver};
 
 use crate::host::{Host, Notice, Reason};
+use crate::listening::{Input, Listens};
 use crate::polling::{FOREVER, NO_DESCRIPTOR, asking, pause};
 use libc::net::{POLLIN, poll};
 use libc::types::pollfd;
 use libc::{EAGAIN, ECONNABORTED, EMFILE, ENOMEM, EPERM};
 use std::io;
-use std::io::{ErrorKind, Read};
-use std::os::fd::AsRawFd;
-use std::os::unix::net::{UnixListener, UnixStream};
+use std::io::ErrorKind;
 use sysv_engine::Common;
 use sysv_seats::SocketStream;
 use sysv_workers::Source;
@@ -42,66 +42,13 @@ const PASSING: [i32; 8] = [
     EAGAIN,
 ];
 
-/// The socket that connections are accepted from.
-#[derive(Drop)]
-pub(crate) enum Listening<'a> {
-    /// The caller's listener, which stays open.
-    Lent(&'a UnixListener),
-    /// The server's own listener, which its host has not opened yet.
-    Unopened,
-    /// The server's own listener, which is closed when no more connections are to be accepted.
-    /// After that, clients are refused.
-    Own(UnixListener),
-    /// No listener any more.
-    Closed,
-}
-
-impl Listening<'_> {
-    /// Returns the listener, if one is open.
-    fn listener(&self) -> Option<&UnixListener>
-        ensures { IfNone result ((is_closed self.now ≡ true) ⊎ (is_unopened self.now ≡ true)) }
-    {
-        match self {
-            Listening::Lent(listener) => Some(listener),
-            Listening::Own(listener) => Some(listener),
-            Listening::Unopened | Listening::Closed => None,
-        }
-    }
-
-    /// Returns whether it is the server's own listener.
-    fn is_own(&self) -> bool {
-        match self {
-            Listening::Own(_) => true,
-            Listening::Lent(_) | Listening::Unopened | Listening::Closed => false,
-        }
-    }
-
-    /// Returns whether there is no listener any more.
-    fn is_closed(&self) -> bool
-        ensures { result ≡ is_closed self.now }
-    {
-        match self {
-            Listening::Closed => true,
-            Listening::Lent(_) | Listening::Unopened | Listening::Own(_) => false,
-        }
-    }
-
-    /// Returns whether the host has not opened the listener yet.
-    fn is_unopened(&self) -> bool
-        ensures { result ≡ is_unopened self.now }
-    {
-        match self {
-            Listening::Unopened => true,
-            Listening::Lent(_) | Listening::Own(_) | Listening::Closed => false,
-        }
-    }
-}
-
 /// A source that accepts connections, up to a maximum number if that is not 0. It ends when an
 /// accept fails, or when its input, if it has one, ends.
-#[derive(Drop)]
-pub(crate) struct Accepting<'a, I: Drop, H: Drop> {
-    listening: Listening<'a>,
+pub(crate) struct Accepting<'a, L, I: Drop, H> {
+    /// What the connections are accepted from. It is closed when no more are to be accepted.
+    listener: &'a mut L,
+    /// Whether an accept is tried again that failed for want of something.
+    retries: bool,
     /// The input whose end ends the source.
     input: Option<I>,
     /// The maximum number of connections to accept, 0 for no limit.
@@ -113,24 +60,28 @@ pub(crate) struct Accepting<'a, I: Drop, H: Drop> {
     /// Whether the host has learned that the memory of a session was refused.
     told: bool,
     common: &'a Common,
-    host: H,
+    host: &'a H,
 }
 
-impl<'a, I: Read + AsRawFd + Drop, H: Host + Drop> Accepting<'a, I, H> {
+impl<'a, L: Listens, I: Input + Drop, H: Host> Accepting<'a, L, I, H> {
     /// Creates a source that has accepted no connection.
     pub(crate) fn new(
-        listening: Listening<'a>,
+        listener: &'a mut L,
+        retries: bool,
         input: Option<I>,
         most: u64,
         common: &'a Common,
-        host: H,
-    ) -> Accepting<'a, I, H>
-        ensures begun { (result.most ≡ most) × (result.accepted ≡ 0) }
+        host: &'a H,
+    ) -> Accepting<'a, L, I, H>
+        ensures begun { (result.most ≡ most) × (result.accepted ≡ 0) × IsNone result.reason }
         ensures range { result.most ≤ 2 ^ 64 - 1 }
-        ensures given { (result.listening ≡ listening.entry) × (result.input ≡ input) }
+        ensures input { result.input ≡ input }
+        ensures listener { result.listener.now ≡ listener.old }
+        ensures same_reference { result.listener.ghost_name ≡ listener.entry.ghost_name }
     {
         Accepting {
-            listening,
+            listener,
+            retries,
             input,
             most,
             accepted: 0,
@@ -141,69 +92,67 @@ impl<'a, I: Read + AsRawFd + Drop, H: Host + Drop> Accepting<'a, I, H> {
         }
     }
 
-    /// Returns why the source has ended, if it has.
-    pub(crate) fn into_reason(self) -> Option<Reason>
-        ensures { result ≡ self.entry.reason }
+    /// Ends the source. Returns its listener, and why the source has ended, if it has.
+    pub(crate) fn into_parts(self) -> (&'a mut L, Option<Reason>)
+        ensures reason { result.1 ≡ self.entry.reason }
+        ensures listener { result.0.now ≡ self.entry.listener.now }
+        ensures same_reference { result.0.ghost_name ≡ self.entry.listener.ghost_name }
     {
-        self.reason
-    }
-
-    /// Has the host open the server's own listener, if it is not open yet.
-    fn open(&mut self) -> io::Result<()>
-        ensures same { (self.new.most ≡ self.old.most) × (self.new.accepted ≡ self.old.accepted) }
-        ensures input { is_some self.new.input ≡ is_some self.old.input }
-        ensures closed { is_closed self.new.listening ≡ is_closed self.old.listening }
-        ensures opened { IfOk result (λ _. is_unopened self.new.listening ≡ false) }
-        ensures refused { IfErr result (λ _. is_unopened self.old.listening ≡ true) }
-    {
-        if self.listening.is_unopened() {
-            self.listening = Listening::Own(self.host.listen()?);
-        }
-        Ok(())
+        let Accepting {
+            listener,
+            retries: _,
+            input: _,
+            most: _,
+            accepted: _,
+            reason,
+            told: _,
+            common: _,
+            host: _,
+        } = self;
+        (listener, reason)
     }
 
     /// Accepts the next connection. The error is why no more connections are to be accepted.
     fn accept(&mut self) -> Result<SocketStream, Reason>
-        requires { is_closed self.old.listening ≡ false }
-        ensures same { (self.new.most ≡ self.old.most) × (self.new.accepted ≡ self.old.accepted) }
+        ensures same { (self.new.most ≡ self.old.most) × (self.new.accepted ≡ self.old.accepted)
+            × (self.new.reason ≡ self.old.reason) }
         ensures input { is_some self.new.input ≡ is_some self.old.input }
         ensures bounded { IfOk result (λ _. self.old.most ≢ 0 →
             self.old.accepted < self.old.most) }
-        ensures opened { IfOk result (λ _. (is_closed self.new.listening ≡ false)
-            × (is_unopened self.new.listening ≡ false)) }
-        ensures ended { IfErr result (λ why. HasEnded self.old why) }
+        ensures opened { OnOk result (L.listens self.new.listener.now ≡ true) }
+        ensures ended { IfErr result (λ why. HasEnded L.listens I.reads self.old why) }
+        ensures ok { IfOk result (λ stream. L.accepted self.new.listener.now
+            ≡ added (L.accepted self.old.listener.now) (stream ∷ [])) }
+        ensures err { OnErr result
+            (L.accepted self.new.listener.now ≡ L.accepted self.old.listener.now) }
+        ensures same_reference { self.new.listener.ghost_name ≡ self.old.listener.ghost_name }
     {
         if self.most != 0 && self.accepted >= self.most {
             return Err(Reason::Full);
         }
-        if let Err(why) = self.open() {
-            return Err(Reason::NoSocket(why));
+        if !self.listener.is_open() {
+            if let Err(why) = self.listener.open() {
+                return Err(Reason::NoSocket(why));
+            }
         }
-        let retries = self.listening.is_own();
-        let Some(listener) = self.listening.listener() else {
-            unreachable!()
-        };
         let door = Door {
-            listener,
+            descriptor: self.listener.descriptor(),
             common: self.common,
-            host: &self.host,
+            host: self.host,
             accepted: self.accepted,
         };
-        let stream = door.accept_next(&mut self.told, &mut self.input, retries)?;
-        match SocketStream::new(stream) {
-            Ok(socket) => Ok(socket),
-            Err(why) => Err(Reason::Accept(why)),
-        }
+        door.accept_next(self.listener, &mut self.told, &mut self.input, self.retries)
     }
 }
 
-impl<I: Read + AsRawFd + Drop, H: Host + Drop> Source<SocketStream> for Accepting<'_, I, H> {
+impl<L: Listens, I: Input + Drop, H: Host> Source<SocketStream> for Accepting<'_, L, I, H> {
     ghost use Rattle.sysv_server.specs.Accepts.{Accepts};
 
-    ghost gives = { Accepts };
+    ghost gives = { Accepts L.accepted L.listens I.reads };
 
     fn next(&mut self) -> Option<SocketStream> {
-        if self.listening.is_closed() {
+        if self.reason.is_some() {
+            self.listener.close();
             return None;
         }
         match self.accept() {
@@ -213,7 +162,7 @@ impl<I: Read + AsRawFd + Drop, H: Host + Drop> Source<SocketStream> for Acceptin
             }
             Err(why) => {
                 self.reason = Some(why);
-                self.listening = Listening::Closed;
+                self.listener.close();
                 if self.common.drain(self.accepted) {
                     self.host.note(Notice::Cut);
                 }
@@ -223,10 +172,11 @@ impl<I: Read + AsRawFd + Drop, H: Host + Drop> Source<SocketStream> for Acceptin
     }
 }
 
-/// An open listener, and what is known of the connections that came through it.
+/// What is known of an open listener, and of the connections that came through it.
 #[derive(Drop)]
-struct Door<'l, 'c, 'h, H> {
-    listener: &'l UnixListener,
+struct Door<'c, 'h, H> {
+    /// The descriptor of the listener.
+    descriptor: i32,
     common: &'c Common,
     host: &'h H,
     /// The number of connections that were accepted.
@@ -242,17 +192,22 @@ struct Arrived {
     input: bool,
 }
 
-impl<H: Host> Door<'_, '_, '_, H> {
+impl<H: Host> Door<'_, '_, H> {
     /// Waits for a connection and accepts it. If the server `retries`, an accept that fails for
     /// want of something is tried again; the host is told so, and when it succeeds.
-    fn accept_next<I: Read + AsRawFd>(
+    fn accept_next<L: Listens, I: Input>(
         &self,
+        listener: &mut L,
         told: &mut bool,
         input: &mut Option<I>,
         retries: bool,
-    ) -> Result<UnixStream, Reason>
+    ) -> Result<SocketStream, Reason>
         ensures input { is_some input.new ≡ is_some input.old }
-        ensures ended { IfErr result (EndsInput (is_some input.old)) }
+        ensures ended { IfErr result (EndsInput I.reads (is_some input.old)) }
+        ensures ok { IfOk result (λ stream.
+            L.accepted listener.new ≡ added (L.accepted listener.old) (stream ∷ [])) }
+        ensures err { OnErr result (L.accepted listener.new ≡ L.accepted listener.old) }
+        ensures same { L.listens listener.new ≡ L.listens listener.old }
     {
         let mut held = false;
         for _ in 0..u64::MAX {
@@ -263,8 +218,8 @@ impl<H: Host> Door<'_, '_, '_, H> {
             if !arrived.connection {
                 continue;
             }
-            match self.listener.accept() {
-                Ok((stream, _address)) => {
+            match listener.accept() {
+                Ok(stream) => {
                     if held {
                         self.host.note(Notice::Resumed);
                     }
@@ -297,7 +252,7 @@ impl<H: Host> Door<'_, '_, '_, H> {
             *told = true;
         }
         if self.common.has_room(self.accepted) {
-            return self.arrived(input, self.listener.as_raw_fd(), FOREVER);
+            return self.arrived(input, self.descriptor, FOREVER);
         }
         self.common.await_turn(true);
         let limit = if self.common.has_room(self.accepted) {
@@ -326,9 +281,9 @@ impl<H: Host> Door<'_, '_, '_, H> {
 }
 
 /// Returns the descriptor of the input, or that of no file.
-fn descriptor<I: AsRawFd>(input: &Option<I>) -> i32 {
+fn descriptor<I: Input>(input: &Option<I>) -> i32 {
     match input {
-        Some(input) => input.as_raw_fd(),
+        Some(input) => input.descriptor(),
         None => NO_DESCRIPTOR,
     }
 }
@@ -349,9 +304,9 @@ fn is_passing(why: &io::Error) -> bool {
 
 /// Reads a piece of the input, which can be read and is dropped. Returns whether the input is at its
 /// end or cannot be read.
-fn has_ended<I: Read>(input: &mut Option<I>) -> bool
+fn has_ended<I: Input>(input: &mut Option<I>) -> bool
     ensures input { is_some input.new ≡ is_some input.old }
-    ensures ended { result ≡ true → is_some input.old ≡ true }
+    ensures ended { result ≡ true → (is_some input.old ≡ true) × IsOver I.reads }
 {
     match input {
         Some(input) => is_over(input),
@@ -360,7 +315,9 @@ fn has_ended<I: Read>(input: &mut Option<I>) -> bool
 }
 
 /// Reads a piece of the input. Returns whether the input is at its end or cannot be read.
-fn is_over(input: &mut impl Read) -> bool {
+fn is_over<I: Input>(input: &mut I) -> bool
+    ensures { result ≡ true → IsOver I.reads }
+{
     let mut piece = [0; INPUT_BYTES];
     match input.read(&mut piece) {
         Ok(count) => count == 0,

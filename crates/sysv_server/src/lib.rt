@@ -4,11 +4,13 @@
 
 mod accepting;
 mod host;
+mod listening;
 mod polling;
 mod serving;
 mod terms;
 
 pub use host::{Host, Notice, Reason};
-pub use serving::{MAX_CLIENTS, serve_listener, serve_on};
+pub use listening::{Input, Listens};
+pub use serving::{MAX_CLIENTS, serve_from, serve_listener, serve_on};
 pub use sysv_engine::{Ended, Patience, ServeFault, Sums};
 pub use terms::Terms;

@@ -1,14 +1,14 @@
 //! The server.
-ghost use Rattle.std.specs.Prelude.{◌≡◌, ◌≤◌, IfErr, IfOk, IfSome, IsNone, false, is_some, vec_len};
+ghost use Rattle.std.specs.Prelude.{◌≡◌, ◌≤◌, IfErr, IfOk, IfSome, is_some, vec_len};
 ghost use Rattle.sysv_model.specs.declared.limits.TheConstants.{MIN_BLOCKS, MAX_BLOCKS};
 ghost use Rattle.sysv_workers.specs.declared.workers.TheConstants.{MAX_WORKERS};
-ghost use Rattle.sysv_server.specs.Accepts.{is_closed};
 ghost use Rattle.sysv_engine.specs.Added.{IsBalanced};
-ghost use Rattle.sysv_server.specs.Serving.{EndsOn, FailsOn, HasReason, ServesOn};
+ghost use Rattle.sysv_server.specs.Serving.{EndsFrom, EndsOn, FailsFrom, FailsOn, HasCause, HasReason, ServesOn};
 ghost use Rattle.sysv_server.specs.declared.serving.TheConstants.{MAX_CLIENTS};
 
-use crate::accepting::{Accepting, Listening};
+use crate::accepting::Accepting;
 use crate::host::{Host, Quiet, Reason};
+use crate::listening::{Hosted, Input, Lent, Listens, Reading, reading};
 use crate::terms::Terms;
 use std::alloc::Global;
 use std::io::Read;
@@ -40,7 +40,7 @@ pub const MAX_CLIENTS: u32 = 16_384;
 ///
 /// - `NoMemory` if memory for the service or the workers is refused.
 /// - `Thread` if a thread cannot be started.
-/// - `Worn` if 2^62 connections have gone to the workers.
+/// - `Worn` if 2^62 connections were accepted, less at most one for each worker.
 /// - `Missed` if the number of sessions that were run differs from the number of accepted
 ///   connections.
 ///
@@ -60,40 +60,32 @@ pub fn serve_on<R: Threads + Wait + Net + Sync>(
     requires workers { (1 ≤ workers) × (workers ≤ MAX_WORKERS) }
     ensures ok { IfOk result (λ sums. ServesOn blocks workers sessions sums) }
     ensures balance { IfOk result IsBalanced }
-    ensures err { IfErr result (FailsOn blocks workers) }
+    ensures err { IfErr result (FailsOn blocks workers sessions) }
 {
-    let Some(common) = Common::open(
+    let terms = Terms {
+        blocks,
+        workers,
+        at_once: workers,
+        sessions,
+        patience: Patience::UNBOUNDED,
+        drain: 0,
+    };
+    let mut lent = Lent::new(listener);
+    let mut reason = None;
+    let input = None::<Reading<UnixStream>>;
+    match run(
+        rt,
         alloc,
-        workers as usize,
-        workers as usize,
-        Patience::UNBOUNDED,
-        0,
-    ) else {
-        return Err(ServeFault::NoMemory);
-    };
-    let Some(mut books) = empty_books(alloc, workers) else {
-        return Err(ServeFault::NoMemory);
-    };
-    let Some(watches) = watches(rt, alloc, &common) else {
-        return Err(ServeFault::NoMemory);
-    };
-    let mut source = lent(listener, sessions, &common);
-    match serve_all(rt, alloc, &mut source, &mut books, blocks, watches, &common) {
+        &mut lent,
+        false,
+        &Quiet,
+        input,
+        terms,
+        &mut reason,
+    ) {
         Ok(ended) => Ok(ended.sums),
         Err(why) => Err(why),
     }
-}
-
-/// Returns a source of connections from a listener that stays open.
-fn lent<'a>(
-    listener: &'a UnixListener,
-    sessions: u64,
-    common: &'a Common,
-) -> Accepting<'a, UnixStream, Quiet>
-    ensures counts { (result.most ≡ sessions) × (result.accepted ≡ 0) }
-    ensures open { (is_closed result.listening ≡ false) × IsNone result.input }
-{
-    Accepting::new(Listening::Lent(listener), None, sessions, common, Quiet)
 }
 
 /// Serves the connections of the listener that `host` opens on a new service, like `serve_on`, but
@@ -131,7 +123,73 @@ pub fn serve_listener<I: Read + AsRawFd + Drop, H: Host + Drop, R: Threads + Wai
     ensures exact { IfOk result (λ ended.
         HasReason (is_some input) terms.sessions ended.sums.sessions reason.new) }
     ensures balance { IfOk result (λ ended. IsBalanced ended.sums) }
-    ensures err { IfErr result (FailsOn terms.blocks terms.at_once) }
+    ensures err { IfErr result (FailsOn terms.blocks terms.at_once terms.sessions) }
+{
+    let mut socket = Hosted::new(&host);
+    let input = reading(input);
+    run(rt, alloc, &mut socket, true, &host, input, terms, reason)
+}
+
+/// Serves the connections that `listener` accepts on a new service, like `serve_listener`, which
+/// does so with the socket that its host opens.
+///
+/// The listener is opened if it is not open, and closed when no more connections are to be
+/// accepted. Each connection that it has accepted has a session, and there are no other sessions.
+/// At `Reason::InputOver` a read of the input returned no byte or failed. The host opens nothing;
+/// it is told what happens.
+///
+/// # Errors
+///
+/// The errors are those of `serve_on`. After `NoMemory` and `Thread` nothing was accepted.
+///
+/// # Conditions
+///
+/// The conditions are those of `serve_listener`.
+pub fn serve_from<L: Listens, I: Input + Drop, H: Host, R: Threads + Wait + Net + Sync>(
+    rt: &R,
+    alloc: Global,
+    listener: &mut L,
+    host: &H,
+    input: Option<I>,
+    terms: Terms,
+    reason: &mut Option<Reason>,
+) -> Result<Ended, ServeFault>
+    requires blocks { (MIN_BLOCKS ≤ terms.blocks) × (terms.blocks ≤ MAX_BLOCKS) }
+    requires workers { (1 ≤ terms.workers) × (terms.workers ≤ MAX_WORKERS) }
+    requires at_once { (1 ≤ terms.at_once) × (terms.at_once ≤ MAX_CLIENTS) }
+    ensures ok { IfOk result (λ ended. EndsFrom L.accepted L.listens terms.blocks terms.at_once
+        terms.sessions listener.old ended listener.new) }
+    ensures exact { IfOk result (λ ended. HasCause I.reads (is_some input) terms.sessions
+        ended.sums.sessions reason.new) }
+    ensures balance { IfOk result (λ ended. IsBalanced ended.sums) }
+    ensures err { IfErr result (λ why. FailsFrom L.accepted terms.blocks terms.at_once terms.sessions
+        listener.old why listener.new) }
+{
+    run(rt, alloc, listener, true, host, input, terms, reason)
+}
+
+/// Serves the connections that `listener` accepts, like `serve_from`. An accept that fails for want
+/// of something is tried again if the server `retries`.
+fn run<L: Listens, I: Input + Drop, H: Host, R: Threads + Wait + Net + Sync>(
+    rt: &R,
+    alloc: Global,
+    listener: &mut L,
+    retries: bool,
+    host: &H,
+    input: Option<I>,
+    terms: Terms,
+    reason: &mut Option<Reason>,
+) -> Result<Ended, ServeFault>
+    requires blocks { (MIN_BLOCKS ≤ terms.blocks) × (terms.blocks ≤ MAX_BLOCKS) }
+    requires workers { (1 ≤ terms.workers) × (terms.workers ≤ MAX_WORKERS) }
+    requires at_once { (1 ≤ terms.at_once) × (terms.at_once ≤ MAX_CLIENTS) }
+    ensures ok { IfOk result (λ ended. EndsFrom L.accepted L.listens terms.blocks terms.at_once
+        terms.sessions listener.old ended listener.new) }
+    ensures exact { IfOk result (λ ended. HasCause I.reads (is_some input) terms.sessions
+        ended.sums.sessions reason.new) }
+    ensures balance { IfOk result (λ ended. IsBalanced ended.sums) }
+    ensures err { IfErr result (λ why. FailsFrom L.accepted terms.blocks terms.at_once terms.sessions
+        listener.old why listener.new) }
 {
     let Terms {
         blocks,
@@ -153,11 +211,18 @@ pub fn serve_listener<I: Read + AsRawFd + Drop, H: Host + Drop, R: Threads + Wai
     let Some(watches) = watches(rt, alloc, &common) else {
         return Err(ServeFault::NoMemory);
     };
-    let mut source = Accepting::new(Listening::Unopened, input, sessions, &common, host);
+    let mut source = Accepting::new(listener, retries, input, sessions, &common, host);
     let outcome = serve_all(rt, alloc, &mut source, &mut books, blocks, watches, &common);
-    *reason = source.into_reason();
+    let (left, why) = source.into_parts();
+    given_back(left);
+    *reason = why;
     outcome
 }
+
+/// Uses the reference once more. This use ties it to the parameter that lent it.
+fn given_back<L>(listener: &mut L)
+    ensures { listener.new ≡ listener.old }
+{}
 
 /// Returns this number of books, in which nothing is kept. Returns `None` if memory is refused.
 fn empty_books(alloc: Global, count: u32) -> Option<Vec<()>>

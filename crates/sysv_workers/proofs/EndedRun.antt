@@ -165,9 +165,11 @@ module _ {W T : Type 0} (runs : W → T → W → Type 0) (fits : W → Type 0) 
   fails_early gives before after source why cause back all = record {
     back = back;
     still = all;
-    asked = ⊎_elim (λ (e : why ≡ Thread). subst (λ (y : WorkersFault). LeavesSource gives source y source) (sym e) refl)
+    asked = ⊎_elim (λ (e : why ≡ Thread).
+        subst (λ (y : WorkersFault). LeavesSource gives (length before) source y source) (sym e) refl)
         (λ (e : why ≡ Missed).
-        subst (λ (y : WorkersFault). LeavesSource gives source y source) (sym e) ([], inr (refl, refl))) cause;
+        subst (λ (y : WorkersFault). LeavesSource gives (length before) source y source) (sym e) ([], inr (refl, refl)))
+        cause;
     count = λ is.
         ⊎_elim (λ (e : why ≡ Thread). let z : Thread ≡ BadCount = sym e ∙ is in cc)
         (λ (e : why ≡ Missed). let z : Missed ≡ BadCount = sym e ∙ is in cc) cause;
@@ -177,17 +179,20 @@ module _ {W T : Type 0} (runs : W → T → W → Type 0) (fits : W → Type 0) 
   }
 
   pub fails_late : {S : Type 0} (gives : S → Option T → S → Type 0) (before after : List W) (source source' : S)
-      (why : WorkersFault) →
-      ((why ≡ Worn) × ((given : List T) × Returned gives source given source'))
+      (why : WorkersFault) (m : ℕ) → length before ≡ m →
+      ((why ≡ Worn) × ((given : List T) × Returned gives source given source' × (2 ^ 62 ≤ length given + m)))
       ⊎ ((why ≡ Missed) × ((given : List T) × GivesAll gives source given source')) →
       (parts : List (Part W T)) × Leads runs before parts after → All fits after →
       Fails {T = T} runs fits gives before source why after source'
-  fails_late gives before after source source' why cause led all = record {
+  fails_late gives before after source source' why m long cause led all = record {
     back = ⊎_elim (λ e. subst (λ (y : WorkersFault). GivesBack {T = T} runs before y after) (sym e.0) led)
         (λ e. subst (λ (y : WorkersFault). GivesBack {T = T} runs before y after) (sym e.0) led) cause;
     still = all;
-    asked = ⊎_elim (λ e. subst (λ (y : WorkersFault). LeavesSource gives source y source') (sym e.0) e.1)
-        (λ e. subst (λ (y : WorkersFault). LeavesSource gives source y source') (sym e.0) (e.1.0, inl e.1.1)) cause;
+    asked = ⊎_elim
+        (λ e. subst (λ (y : WorkersFault). LeavesSource gives (length before) source y source') (sym e.0)
+        (let far = e.1.2 in (e.1.0, e.1.1, omega arith)))
+        (λ e. subst (λ (y : WorkersFault). LeavesSource gives (length before) source y source') (sym e.0)
+        (e.1.0, inl e.1.1)) cause;
     count = λ is.
         ⊎_elim (λ e. let z : Worn ≡ BadCount = sym e.0 ∙ is in cc) (λ e. let z : Missed ≡ BadCount = sym e.0 ∙ is in cc)
         cause;
@@ -226,7 +231,7 @@ module _ {W T : Type 0} (runs : W → T → W → Type 0) (fits : W → Type 0) 
     cause_late NoMemory items marked ended ran put m parts same told a b c gave is all led = told
     cause_late Thread items marked ended ran put m parts same told a b c gave is all led = absurd told
     cause_late Worn items marked ended ran put m parts same told a b c gave is all led =
-        ⊎_elim a (λ t. ⊎_elim b c t) told
+        ⊎_elim a (λ t. ⊎_elim b c t.3) told
     cause_late Missed items marked ended ran put m parts same told a b c gave is all led =
         let s = gave told.0 told.1 in
         let n = s.2 in
@@ -235,30 +240,38 @@ module _ {W T : Type 0} (runs : W → T → W → Type 0) (fits : W → Type 0) 
           given = s.0;
           leads = led;
           gave = inl s.1;
-          differs = ⊎_elim (λ d. inl (λ e. d (omega arith))) (λ d. inr (λ e. d (omega arith))) told.4;
+          differs = ⊎_elim
+              (λ t. ⊎_elim (λ d. inl (λ e. d (omega arith))) (λ d. inr (λ e. d (omega arith))) t.2)
+              (λ t. inr (λ e. let few = t.0 in let far = ⊎_elim b c t.1 in absurd (omega arith))) told.2;
         }
 
-    -- The items that the source returned if not all of them were put, or if all were.
-    returned : (items : Option ℕ)
-        → (items ≡ None → (given : List T) × FoldsTo (λ s x s'. gives s (Some x) s') source given source')
+    -- The items that the source returned if the buffer was worn out, before all of them were put or
+    -- after that.
+    returned : (items : Option ℕ) (marked ended : Bool) (m : ℕ)
+        → (items ≡ None) ⊎ ((n : ℕ) × (items ≡ Some n) × (2 ^ 62 ≤ n + m) × ((marked ≡ false) ⊎ (ended ≡ false)))
+        → (items ≡ None
+        → (given : List T) × FoldsTo (λ s x s'. gives s (Some x) s') source given source' × (2 ^ 62 ≤ length given))
         → ((n : ℕ) → items ≡ Some n
         → (given : List T) × GivesAll gives source given source' × (n ≡ counted (length given)))
-        → (given : List T) × Returned gives source given source'
-    returned None early gave = let e = early refl in (e.0, inl e.1)
-    returned (Some n) early gave = let s = gave n refl in (s.0, inr s.1)
+        → (given : List T) × Returned gives source given source' × (2 ^ 62 ≤ length given + m)
+    returned items marked ended m (inl none) early gave =
+        let e = early none in let far = e.2 in (e.0, inl e.1, omega arith)
+    returned items marked ended m (inr some) early gave =
+        let s = gave some.0 some.1 in let n = s.2 in let far = some.2 in (s.0, inr s.1, omega arith)
 
     -- What is known of the source after all workers have ended.
     pub late : (why : WorkersFault) (items : Option ℕ) (marked ended : Bool) (ran put m : ℕ)
         → Told items marked ended ran put m why
-        → (items ≡ None → (given : List T) × FoldsTo (λ s x s'. gives s (Some x) s') source given source')
+        → (items ≡ None
+        → (given : List T) × FoldsTo (λ s x s'. gives s (Some x) s') source given source' × (2 ^ 62 ≤ length given))
         → ((n : ℕ) → items ≡ Some n
         → (given : List T) × GivesAll gives source given source' × (n ≡ counted (length given)))
-        → ((why ≡ Worn) × ((given : List T) × Returned gives source given source'))
+        → ((why ≡ Worn) × ((given : List T) × Returned gives source given source' × (2 ^ 62 ≤ length given + m)))
         ⊎ ((why ≡ Missed) × ((given : List T) × GivesAll gives source given source'))
     late BadCount items marked ended ran put m told early gave = absurd told
     late NoMemory items marked ended ran put m told early gave = absurd told
     late Thread items marked ended ran put m told early gave = absurd told
-    late Worn items marked ended ran put m told early gave = inl (refl, returned items early gave)
+    late Worn items marked ended ran put m told early gave = inl (refl, returned items marked ended m told early gave)
     late Missed items marked ended ran put m told early gave = let s = gave told.0 told.1 in inr (refl, (s.0, s.1))
 
   -- A thread could not be started.

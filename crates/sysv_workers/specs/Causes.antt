@@ -1,7 +1,7 @@
 -- The causes of a refused run. The seat is the one that fed the workers, after all of them were
 -- joined. It has seen all that was put into the buffer, each item and each end mark. This project's
 -- profile.
-use Rattle.std.specs.Prelude.{◌≡◌, ◌≢◌, ◌⊎◌, ℕ, ◌+◌, ◌^◌, ◌≤◌, Bool, false, true, List, length, Option, Some, None}
+use Rattle.std.specs.Prelude.{◌≡◌, ◌≢◌, ◌⊎◌, ℕ, ◌+◌, ◌^◌, ◌<◌, ◌≤◌, Bool, false, true, List, length, Option, Some, None}
 use Rattle.std.specs.List.{flat_map}
 use Rattle.sysv_buffer.specs.ManyEnds.{Holding}
 use Rattle.sysv_workers.specs.declared.feed.Feed.{Feed}
@@ -13,16 +13,20 @@ use Rattle.sysv_workers.specs.declared.refusals.WorkersFault.{WorkersFault}
 use Rattle.sysv_workers.specs.declared.refusals.WorkersFault.TheVariants.{BadCount, NoMemory, Thread, Worn, Missed}
 
 -- What the counts at the end of a run show. `Worn` is the cause only if a put or a take was
--- refused: not all items were put, or not all end marks were put, or some worker took no end mark.
--- `Missed` is the cause only if none was refused and a count differs: the number of items run, or
--- the number of items and end marks put.
+-- refused: not all items were put, or at least 2^62 items and end marks were to be put, and not all
+-- end marks were put or some worker took no end mark. `Missed` is the cause only if all items were
+-- put and a count differs: the number of items run, or the number of items and end marks put, which
+-- differs also if a put or a take was refused before 2^62 were to be put.
 abbrev pub Told : Option ℕ → Bool → Bool → ℕ → ℕ → ℕ → WorkersFault → Type 0
 Told items marked ended ran put marks BadCount = ⊥
 Told items marked ended ran put marks NoMemory = ⊥
 Told items marked ended ran put marks Thread = ⊥
-Told items marked ended ran put marks Worn = (items ≡ None) ⊎ ((marked ≡ false) ⊎ (ended ≡ false))
+Told items marked ended ran put marks Worn = (items ≡ None)
+    ⊎ ((n : ℕ) × (items ≡ Some n) × (2 ^ 62 ≤ n + marks) × ((marked ≡ false) ⊎ (ended ≡ false)))
 Told items marked ended ran put marks Missed =
-    (n : ℕ) × (items ≡ Some n) × (marked ≡ true) × (ended ≡ true) × ((ran ≢ n) ⊎ (put ≢ counted (n + marks)))
+    (n : ℕ) × (items ≡ Some n)
+    × (((marked ≡ true) × (ended ≡ true) × ((ran ≢ n) ⊎ (put ≢ counted (n + marks))))
+    ⊎ ((n + marks < 2 ^ 62) × ((marked ≡ false) ⊎ (ended ≡ false))))
 
 module _ {W T S : Type 0} where
   -- The number of items run differs from the number of items of the source, or the number of items

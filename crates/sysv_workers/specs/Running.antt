@@ -1,5 +1,5 @@
 -- What a run of workers does, and what is handed back if it is refused. This project's profile.
-use Rattle.std.specs.Prelude.{◌≡◌, ◌≢◌, ◌≤◌, List, length, Option}
+use Rattle.std.specs.Prelude.{◌≡◌, ◌≢◌, ◌≤◌, ◌+◌, ◌^◌, ℕ, List, length, Option}
 use Rattle.std.specs.List.{All, flat_map}
 use Rattle.sysv_workers.specs.Parts.{Part, Leads, AreDealt, AreInOrder}
 use Rattle.sysv_workers.specs.Sources.{GivesAll, Gave, Returned}
@@ -39,15 +39,17 @@ module _ {W T : Type 0} where
     pub missed : why ≡ Missed →
         (parts : List (Part W T)) × Leads runs before parts after × (1 ≤ length (flat_map (λ p. p.items) parts))
 
--- What a refused run leaves of the source. After `BadCount`, `NoMemory` and `Thread` the source was
--- not read. After `Worn` it has returned some items, and may have reported its end. After `Missed`
--- it is at its end or was not read.
-abbrev pub LeavesSource : {S T : Type 0} → (S → Option T → S → Type 0) → S → WorkersFault → S → Type 0
-LeavesSource gives source BadCount source' = source' ≡ source
-LeavesSource gives source NoMemory source' = source' ≡ source
-LeavesSource gives source Thread source' = source' ≡ source
-LeavesSource {T = T} gives source Worn source' = (given : List T) × Returned gives source given source'
-LeavesSource {T = T} gives source Missed source' = (given : List T) × Gave gives source given source'
+-- What a refused run of this number of workers leaves of the source. After `BadCount`, `NoMemory`
+-- and `Thread` the source was not read. After `Worn` it has returned so many items that these and an
+-- end mark for each worker are at least 2^62, and may have reported its end. After `Missed` it is at
+-- its end or was not read.
+abbrev pub LeavesSource : {S T : Type 0} → (S → Option T → S → Type 0) → ℕ → S → WorkersFault → S → Type 0
+LeavesSource gives workers source BadCount source' = source' ≡ source
+LeavesSource gives workers source NoMemory source' = source' ≡ source
+LeavesSource gives workers source Thread source' = source' ≡ source
+LeavesSource {T = T} gives workers source Worn source' =
+    (given : List T) × Returned gives source given source' × (2 ^ 62 ≤ length given + workers)
+LeavesSource {T = T} gives workers source Missed source' = (given : List T) × Gave gives source given source'
 
 module _ {W T S : Type 0} where
   -- The result of a run with an allowed number of states that was not refused.
@@ -62,6 +64,6 @@ module _ {W T S : Type 0} where
       (source : S) (why : WorkersFault) (after : List W) (source' : S) : Type 0 where
     pub back : GivesBack runs before why after
     pub still : All fits after
-    pub asked : LeavesSource gives source why source'
+    pub asked : LeavesSource gives (length before) source why source'
     pub count : why ≢ BadCount
     pub memory : why ≢ NoMemory

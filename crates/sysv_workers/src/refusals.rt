@@ -13,8 +13,8 @@ pub enum WorkersFault {
     /// A thread could not be started, and no item was run.
     #[error("no thread")]
     Thread,
-    /// The buffer between the source and the workers was worn out: 2^62 items and end marks had
-    /// been put into it.
+    /// The buffer between the source and the workers was worn out: the items of the source and an
+    /// end mark for each worker are at least 2^62.
     #[error("the buffer is worn out")]
     Worn,
     /// The number of items that were run, or the number of items and end marks that were put, is

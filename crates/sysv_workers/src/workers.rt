@@ -9,7 +9,7 @@ ghost use Rattle.sysv_workers.specs.Running.{RunsAll, GivesBack, GivesUp, Leaves
 ghost use Rattle.sysv_workers.specs.declared.workers.TheConstants.{MAX_WORKERS};
 
 use crate::crew::{Handle, Tally, collect, join_all, start_all};
-use crate::feed::{Feed, put_all, put_marks};
+use crate::feed::{Feed, WEAR, put_all, put_marks};
 use crate::job::Job;
 use crate::refusals::{WorkersFault, WorkersRefused};
 use crate::source::Source;
@@ -40,7 +40,8 @@ pub const MAX_WORKERS: usize = 16;
 /// - `BadCount` if and only if there are not 1 to 16 states.
 /// - `NoMemory` if memory is refused.
 /// - `Thread` if a thread cannot be started and no item was run.
-/// - `Worn` only if 2^62 items and end marks were put into the buffer.
+/// - `Worn` only if the items of the source and an end mark for each worker are at least 2^62,
+///   which wear out the buffer.
 /// - `Missed` only if the number of items that were run differs from the number of items of the
 ///   source, or the number of items and end marks that were put differs from the number that was to
 ///   be put.
@@ -71,7 +72,8 @@ where
     ensures fits { IfOk result (λ after. All (J.fits job.now) after.items) }
     ensures err { IfErr result (λ e. GivesBack (J.runs job.now) states.items e.why e.states.items
         × All (J.fits job.now) e.states.items) }
-    ensures asked { IfErr result (λ e. LeavesSource S.gives source.old e.why source.new) }
+    ensures asked { IfErr result (λ e.
+        LeavesSource S.gives (vec_len states) source.old e.why source.new) }
 {
     let count = states.len();
     if count < 1 || count > MAX_WORKERS {
@@ -250,10 +252,16 @@ fn fault(
     let Some(items) = items else {
         return Some(WorkersFault::Worn);
     };
+    let all = items.saturating_add(marks);
     if !marked || !tally.ended {
-        return Some(WorkersFault::Worn);
+        // (fewer wear out no buffer: if fewer were to be put, others were put)
+        return Some(if all < WEAR {
+            WorkersFault::Missed
+        } else {
+            WorkersFault::Worn
+        });
     }
-    if tally.ran != items || put != items.saturating_add(marks) {
+    if tally.ran != items || put != all {
         return Some(WorkersFault::Missed);
     }
     None

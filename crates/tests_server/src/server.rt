@@ -2,6 +2,7 @@
 ghost use Rattle.std.specs.Prelude.{◌≤◌};
 
 mod growths;
+mod in_memory;
 
 use crate::commands::five_sessions;
 use std::alloc::Global;

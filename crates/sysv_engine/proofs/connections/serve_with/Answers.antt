@@ -1,9 +1,10 @@
 -- The workers run, their places are taken back, and so are the passes and the books of these.
 use mir.Syntax.{named as lifetime}
 use denote.Param.Send.{arg_send, param_send, param_sync}
-use Rattle.std.proofs.Common.{◌≡◌, ◌∙◌, ℕ, List, ◌++◌, map, reverse, length, ap, arith, inl, inr}
+use Rattle.std.proofs.Common.{◌≡◌, ◌≤◌, ◌∙◌, ℕ, List, ◌++◌, map, reverse, length, ap, arith, inl, inr}
 use Rattle.std.proofs.Common.{subst, sym}
 use Rattle.std.specs.List.{All}
+use Rattle.sysv_workers.specs.declared.workers.TheConstants.{MAX_WORKERS}
 use Rattle.sysv_engine.specs.declared.dealing.Dealing.{Dealing}
 use Rattle.sysv_engine.specs.declared.worker.Worker.{Worker}
 use Rattle.sysv_engine.specs.Places.{IsOpened, Seated}
@@ -207,8 +208,13 @@ returns-in-Err-clause-err g c =
     let new : D = c.run_workers-outcome.new.source in
     let workers = c.staff.new.workers.items in
     let why = c.in-Err.refused.why in
-    let leaves = leaves_behind of name g.S.Source.gives why old new c.in-Err.ensures.asked in
-    let same = leaves_name of name g.S.Source.gives why old new c.in-Err.ensures.asked in
+    let count : ℕ = length workers in
+    let few : count ≤ MAX_WORKERS =
+    (let staffed = c.staff.ensures.count in
+    let kits = c.in-Some-kits.ensures.count in
+    let most = c.requires.count in omega arith) in
+    let leaves = leaves_behind of name g.S.Source.gives count why old new c.in-Err.ensures.asked in
+    let same = leaves_name of name g.S.Source.gives count why old new c.in-Err.ensures.asked in
     let left = all_left t.incoming t.outgoing t.closes own places g.S.Source.gives (of old) (of new) workers
     c.in-Err.refused.states.items c.hire.new.places.items c.gather-in-Err.new.places.items c.hire.ensures.places
     c.staff.ensures.all (some_each (λ (w : W). w.places) workers c.staff.ensures.each) c.gather-in-Err.ensures.keeps
@@ -216,7 +222,7 @@ returns-in-Err-clause-err g c =
     c.hire.new.pass c.dismiss-in-Err.new.pass c.hire.ensures.books
     (c.dismiss-in-Err.ensures.books
     ∙ ap (λ l. l ++ reverse (map book c.gather-in-Err.new.places.items)) c.hire.ensures.taken.0)
-    c.hire.ensures.gives c.dismiss-in-Err.ensures.takes why c.fault.result c.fault.ensures leaves
+    c.hire.ensures.gives c.dismiss-in-Err.ensures.takes count few why c.fault.result c.fault.ensures leaves
     c.in-Err.ensures.err.0 in
     let name_is = c.into_source.ensures.same_reference ∙ (same ∙ c.new-dealing.ensures.same_reference) in
     let back = c.given_back.ensures ∙ c.into_source.ensures.source in

@@ -96,8 +96,9 @@ returns-clause-err g c =
     (given : List _) × GivesAll g.S.Source.gives c.args.source.now given c.put_all-items.new.source
     × (n ≡ counted (length given)) = λ n is.
     let q : Q n = at_some Q c.put_all-items.result n is c.put_all-items.ensures.gave in (q.0, q.1, q.3) in
+    let long : length c.args.states.items ≡ c.len-count.result = sym c.args.states.ok.0 ∙ sym c.len-count.ensures in
     fails_late runs fits g.S.Source.gives c.args.states.items c.join_all.new.states.items c.args.source.now
-    c.put_all-items.new.source _
+    c.put_all-items.new.source _ c.len-count.result long
     (late runs fits g.S.Source.gives c.args.states.items c.join_all.new.states.items c.args.source.now
     c.put_all-items.new.source c.put_count-put.new.seat c.len-count.result _ _ _ _ _ _ _ c.in-Some-fault.ensures.some
     (λ e. at_none _ c.put_all-items.result e c.put_all-items.ensures.returned) gave)

@@ -1,0 +1,27 @@
+-- What a socket has accepted, and when an input is over (this project's profile).
+use Rattle.std.specs.Prelude.{◌≡◌, ◌≢◌, ◌≤◌, ℕ, List, Option, None, Some, ◌++◌, Result, Ok, Err}
+use Rattle.std.specs.IoError.{error_kind}
+use Rattle.std.specs.declared.io.Error.{Error}
+use Rattle.std.specs.declared.io.ErrorKind.TheVariants.{Interrupted}
+
+-- These values and then the others, if they are told.
+abbrev pub added : {A : Type 0} → Option (List A) → List A → Option (List A)
+added None more = None
+added (Some values) more = Some (values ++ more)
+
+-- The read of an input that told this was its last: there was nothing left, or the read failed and not
+-- because of a signal.
+abbrev pub IsLast : Result ℕ Error → Type 0
+IsLast (Ok count) = count ≡ 0
+IsLast (Err why) = error_kind why ≢ Interrupted
+
+-- An input is over: a read of it, which had room for a byte, was its last. `reads` are the reads of
+-- that input.
+pub record IsOver {I : Type 0} (reads : I → ℕ → Result ℕ Error → I → Type 0) : Type 0 where
+  pub before : I
+  pub room : ℕ
+  pub some : 1 ≤ room
+  pub told : Result ℕ Error
+  pub after : I
+  pub read : reads before room told after
+  pub last : IsLast told

@@ -1,0 +1,210 @@
+//! Sockets that connections are accepted from, and inputs whose end ends a server.
+ghost use Rattle.std.specs.Prelude.{◌≡◌, ℕ, Bool, true, false, is_some, List, ◌∷◌, [], Option, IfOk, OnOk, OnErr, Result, length};
+ghost use Rattle.std.specs.declared.io.Error.{Error};
+ghost use Rattle.sysv_seats.specs.declared.socket_stream.SocketStream.{SocketStream};
+ghost use Rattle.sysv_server.specs.Listening.{added};
+
+use crate::host::Host;
+use crate::polling::NO_DESCRIPTOR;
+use std::io;
+use std::io::{ErrorKind, Read};
+use std::os::fd::AsRawFd;
+use std::os::unix::net::UnixListener;
+use sysv_seats::SocketStream;
+
+/// A socket that connections are accepted from.
+pub trait Listens {
+    /// The connections that were accepted so far, in order, if it tells them.
+    ghost accepted: { Self → Option (List SocketStream) };
+
+    /// Whether clients can connect.
+    ghost listens: { Self → Bool };
+
+    /// Returns whether clients can connect.
+    fn is_open(&self) -> bool
+        ensures { result ≡ listens self.now };
+
+    /// Opens the socket. The server calls it before the first accept, when it has its memory and
+    /// its threads, if the socket is not open.
+    ///
+    /// # Errors
+    ///
+    /// - The system's error if the socket cannot be opened. It stays closed.
+    fn open(&mut self) -> io::Result<()>
+        ensures ok { OnOk result (listens self.new ≡ true) }
+        ensures err { OnErr result (listens self.new ≡ listens self.old) }
+        ensures same { accepted self.new ≡ accepted self.old };
+
+    /// Returns the descriptor that can be read when a client waits to be accepted.
+    fn descriptor(&self) -> i32;
+
+    /// Accepts the next connection.
+    ///
+    /// # Errors
+    ///
+    /// - The system's error if the accept fails. No connection was accepted.
+    fn accept(&mut self) -> io::Result<SocketStream>
+        ensures ok { IfOk result (λ stream.
+            accepted self.new ≡ added (accepted self.old) (stream ∷ [])) }
+        ensures err { OnErr result (accepted self.new ≡ accepted self.old) }
+        ensures same { listens self.new ≡ listens self.old };
+
+    /// Closes the socket. After that, clients are refused.
+    fn close(&mut self)
+        ensures closed { listens self.new ≡ false }
+        ensures same { accepted self.new ≡ accepted self.old };
+}
+
+/// An input whose end ends a server.
+pub trait Input {
+    /// What a read of at most this number of bytes may return, and what input it leaves.
+    ghost reads: { Self → ℕ → Result ℕ Error → Self → Type 0 };
+
+    /// Returns the descriptor that can be read when there are bytes, or the end.
+    fn descriptor(&self) -> i32;
+
+    /// Reads some bytes. It returns 0 at the end of the input.
+    ///
+    /// # Errors
+    ///
+    /// - The system's error if the input cannot be read.
+    fn read(&mut self, piece: &mut [u8]) -> io::Result<usize>
+        ensures { reads self.old (length piece.old) result self.new };
+}
+
+/// An open listener of the caller. It stays open, and no more is accepted from it once this is
+/// closed. It does not tell the connections.
+#[derive(Drop)]
+pub(crate) struct Lent<'a> {
+    listener: &'a UnixListener,
+    is_open: bool,
+}
+
+impl<'a> Lent<'a> {
+    /// Lends an open listener.
+    pub(crate) fn new(listener: &'a UnixListener) -> Lent<'a>
+        ensures { result.is_open ≡ true }
+    {
+        Lent {
+            listener,
+            is_open: true,
+        }
+    }
+}
+
+impl Listens for Lent<'_> {
+    ghost use Rattle.std.specs.Prelude.{None};
+
+    ghost accepted = { λ _. None };
+
+    ghost listens = { λ lent. lent.is_open };
+
+    fn is_open(&self) -> bool {
+        self.is_open
+    }
+
+    fn open(&mut self) -> io::Result<()> {
+        self.is_open = true;
+        Ok(())
+    }
+
+    fn descriptor(&self) -> i32 {
+        self.listener.as_raw_fd()
+    }
+
+    fn accept(&mut self) -> io::Result<SocketStream> {
+        accept_from(self.listener)
+    }
+
+    fn close(&mut self) {
+        self.is_open = false;
+    }
+}
+
+/// The socket that a host opens. It does not tell the connections.
+#[derive(Drop)]
+pub(crate) struct Hosted<'a, H> {
+    host: &'a H,
+    listener: Option<UnixListener>,
+}
+
+impl<'a, H> Hosted<'a, H> {
+    /// Creates the socket, which its host has not opened yet.
+    pub(crate) fn new(host: &'a H) -> Hosted<'a, H> {
+        Hosted {
+            host,
+            listener: None,
+        }
+    }
+}
+
+impl<H: Host> Listens for Hosted<'_, H> {
+    ghost use Rattle.std.specs.Prelude.{None, is_some};
+
+    ghost accepted = { λ _. None };
+
+    ghost listens = { λ hosted. is_some hosted.listener };
+
+    fn is_open(&self) -> bool {
+        self.listener.is_some()
+    }
+
+    fn open(&mut self) -> io::Result<()> {
+        self.listener = Some(self.host.listen()?);
+        Ok(())
+    }
+
+    fn descriptor(&self) -> i32 {
+        match &self.listener {
+            Some(listener) => listener.as_raw_fd(),
+            None => NO_DESCRIPTOR,
+        }
+    }
+
+    fn accept(&mut self) -> io::Result<SocketStream> {
+        match &self.listener {
+            Some(listener) => accept_from(listener),
+            None => Err(io::Error::from(ErrorKind::NotConnected)),
+        }
+    }
+
+    fn close(&mut self) {
+        self.listener = None;
+    }
+}
+
+/// Accepts a connection from a Unix socket. It is closed if it cannot be made non-blocking.
+fn accept_from(listener: &UnixListener) -> io::Result<SocketStream> {
+    let (stream, _address) = listener.accept()?;
+    SocketStream::new(stream)
+}
+
+/// An input of the standard library.
+#[derive(Drop)]
+pub(crate) struct Reading<I: Drop>(I);
+
+impl<I: Read + AsRawFd + Drop> Input for Reading<I> {
+    ghost use Rattle.std.specs.Prelude.{◌≡◌, ◌<◌, ⊤, MatchResult};
+    ghost use Rattle.std.specs.Io.KnownBytes.{IsAtEnd};
+
+    ghost reads = { λ _ room told new. MatchResult told
+        (λ count. count ≡ 0 → 0 < room → IsAtEnd (I.remaining new.0)) (λ _. ⊤) };
+
+    fn descriptor(&self) -> i32 {
+        self.0.as_raw_fd()
+    }
+
+    fn read(&mut self, piece: &mut [u8]) -> io::Result<usize> {
+        self.0.read(piece)
+    }
+}
+
+/// Returns the input of a server, if there is one.
+pub(crate) fn reading<I: Drop>(input: Option<I>) -> Option<Reading<I>>
+    ensures { is_some result ≡ is_some input }
+{
+    match input {
+        Some(input) => Some(Reading(input)),
+        None => None,
+    }
+}

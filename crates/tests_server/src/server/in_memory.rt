@@ -1,0 +1,185 @@
+//! A server on a listener in memory, which tells what it has accepted, and with an input in memory.
+ghost use Rattle.std.specs.Prelude.{◌≡◌};
+
+use super::*;
+use std::net::Shutdown;
+use std::os::fd::AsRawFd;
+use std::snapshot::Snapshot;
+use sysv_seats::SocketStream;
+use sysv_server::{Input, Listens, serve_from};
+
+/// A listener to which some clients have connected. It is open until it is closed.
+#[derive(Drop)]
+struct Connected {
+    /// The server's ends of the connections, the first one last.
+    waiting: Vec<UnixStream>,
+    accepted: Vec<Snapshot<SocketStream>>,
+    is_closed: bool,
+    /// A stream whose other end is closed, which can therefore be read.
+    readable: UnixStream,
+}
+
+impl Listens for Connected {
+    ghost use Rattle.std.specs.Prelude.{map, not, Some};
+
+    ghost accepted = { λ l. Some (map (λ s. s.value) l.accepted.items) };
+
+    ghost listens = { λ l. not l.is_closed };
+
+    fn is_open(&self) -> bool {
+        !self.is_closed
+    }
+
+    fn open(&mut self) -> io::Result<()> {
+        self.is_closed = false;
+        Ok(())
+    }
+
+    fn descriptor(&self) -> i32 {
+        self.readable.as_raw_fd()
+    }
+
+    fn accept(&mut self) -> io::Result<SocketStream> {
+        let Some(stream) = self.waiting.pop() else {
+            return Err(io::Error::from(ErrorKind::NotConnected));
+        };
+        let socket = SocketStream::new(stream)?;
+        match self.accepted.push(Snapshot::of(&socket)) {
+            Ok(()) => Ok(socket),
+            Err(_) => Err(io::Error::from(ErrorKind::OutOfMemory)),
+        }
+    }
+
+    fn close(&mut self) {
+        self.is_closed = true;
+    }
+}
+
+/// An input of some bytes, which can be read at any time.
+#[derive(Drop)]
+struct Typed {
+    left: usize,
+    readable: UnixStream,
+}
+
+impl Input for Typed {
+    ghost use Rattle.std.specs.Prelude.{◌≡◌, ◌-◌, min, Ok};
+
+    ghost reads = { λ old room told new. (told ≡ Ok (min old.left room))
+        × (new.left ≡ old.left - min old.left room) };
+
+    fn descriptor(&self) -> i32 {
+        self.readable.as_raw_fd()
+    }
+
+    fn read(&mut self, piece: &mut [u8]) -> io::Result<usize> {
+        let count = self.left.min(piece.len());
+        self.left -= count;
+        Ok(count)
+    }
+}
+
+/// Returns a stream that can be read.
+fn readable<R: Net + Abort>(rt: &R) -> UnixStream {
+    let (stream, other) = UnixStream::pair(rt).expect(rt, "two sockets");
+    drop(other);
+    stream
+}
+
+/// Connects a client that has written these requests, and returns it.
+fn client<R: Net + Abort>(rt: &R, listener: &mut Connected, requests: &[&[u8]]) -> UnixStream {
+    let (mut stream, other) = UnixStream::pair(rt).expect(rt, "two sockets");
+    for request in requests {
+        assert!(rt; stream.write_all(request).is_ok());
+    }
+    assert!(rt; stream.shutdown(Shutdown::Write).is_ok());
+    listener.waiting.insert(0, other).expect(rt, "memory");
+    stream
+}
+
+/// Returns a listener to which nobody has connected.
+fn listener<R: Net + Abort>(rt: &R, alloc: Global) -> Connected {
+    Connected {
+        waiting: Vec::new(alloc),
+        accepted: Vec::new(alloc),
+        is_closed: true,
+        readable: readable(rt),
+    }
+}
+
+/// Terms of a server that has one client at a time, up to this number.
+fn terms(sessions: u64) -> Terms
+    ensures { (result.blocks ≡ 128) × (result.workers ≡ 1) × (result.at_once ≡ 1) }
+{
+    Terms {
+        blocks: 128,
+        workers: 1,
+        at_once: 1,
+        sessions,
+        patience: Patience::UNBOUNDED,
+        drain: 0,
+    }
+}
+
+// The first client sends a message, the second receives it, and the third is not accepted: its
+// connection is closed with the listener.
+#[test]
+fn each_connection_that_was_accepted_is_served(rt: HostRuntime) {
+    let mut listener = listener(&rt, rt.alloc());
+    let mut first = client(&rt, &mut listener, &[HELLO, CREATE, SEND]);
+    let mut second = client(&rt, &mut listener, &[HELLO, RECEIVE_NOW]);
+    let mut third = client(&rt, &mut listener, &[]);
+    let mut reason = None;
+    let end = serve_from(
+        &rt,
+        rt.alloc(),
+        &mut listener,
+        &Unbound,
+        None::<Typed>,
+        terms(2),
+        &mut reason,
+    );
+    let Ok(end) = end else {
+        assert!(&rt; matches!(end, Err(ServeFault::NoMemory | ServeFault::Thread)));
+        return;
+    };
+    assert_eq!(&rt; end.sums, sums(2, 1, 0));
+    assert!(&rt; matches!(reason, Some(Reason::Full)));
+    assert!(&rt; listener.is_closed && listener.waiting.len() == 1);
+    assert_eq!(&rt; listener.accepted.len(), 2);
+    assert!(&rt; asks(&mut first, &[], &[KNOWN, FOUND, SENT]) && ends(&mut first));
+    assert!(&rt; asks(&mut second, &[], &[KNOWN, RECEIVED]) && ends(&mut second));
+    drop(listener);
+    assert!(&rt; ends(&mut third));
+}
+
+// The input has one byte, which is read before the first client is accepted. It is over before the
+// second is.
+#[test]
+fn a_server_ends_at_the_end_of_its_input(rt: HostRuntime) {
+    let mut listener = listener(&rt, rt.alloc());
+    let mut first = client(&rt, &mut listener, &[HELLO]);
+    let _second = client(&rt, &mut listener, &[HELLO]);
+    let input = Typed {
+        left: 1,
+        readable: readable(&rt),
+    };
+    let mut reason = None;
+    let end = serve_from(
+        &rt,
+        rt.alloc(),
+        &mut listener,
+        &Unbound,
+        Some(input),
+        terms(0),
+        &mut reason,
+    );
+    let Ok(end) = end else {
+        assert!(&rt; matches!(end, Err(ServeFault::NoMemory | ServeFault::Thread)));
+        return;
+    };
+    assert_eq!(&rt; end.sums, sums(1, 0, 0));
+    assert!(&rt; matches!(reason, Some(Reason::InputOver)));
+    assert!(&rt; listener.is_closed && listener.waiting.len() == 1);
+    assert!(&rt; asks(&mut first, &[], &[KNOWN]) && ends(&mut first));
+}
