@@ -9,10 +9,10 @@ ghost use Rattle.sysv_steps.specs.Stepping.{no_moment};
 ghost use Rattle.sysv_service.specs.Ran.{Comes};
 ghost use Rattle.sysv_service.specs.Told.{TellsZero, TellsStat, TellsRow};
 
+use crate::AtGates;
 use crate::pass::Pass;
 use crate::running::Stepper;
 use crate::service::Service;
-use crate::{AtGates, SharedCount};
 use std::sync::Wait as MayWait;
 use sysv_keys::SLOTS;
 use sysv_model::{Cred, Errno, Row, SetTo, Stat};
@@ -50,7 +50,7 @@ impl Service {
             × Comes no_moment (begins cred (MsgctlStat id) 0) pass.old (Over ending) pass.new
             × TellsStat ending result }
     {
-        self.run(rt, pass, &StatStepper, StatStep::begin(cred, id))
+        self.finish(rt, pass, &StatStepper, StatStep::begin(cred, id))
     }
 
     /// Sets the owner, the mode and the limit `qbytes` of the queue `id`, and its time of change
@@ -85,7 +85,7 @@ impl Service {
             (Over ending) pass.new × TellsZero ending result }
     {
         let stepper = SetStepper { clock };
-        self.run(rt, pass, &stepper, SetStep::begin(cred, id, to))
+        self.finish(rt, pass, &stepper, SetStep::begin(cred, id, to))
     }
 
     /// Removes the queue `id` and discards its queued messages (POSIX.1-2017, `msgctl`, IPC_RMID).
@@ -115,7 +115,7 @@ impl Service {
             × Comes no_moment (begins cred (MsgctlRmid id) 0) pass.old (Over ending) pass.new
             × TellsZero ending result }
     {
-        self.run(rt, pass, &RemoveStepper, RemoveStep::begin(cred, id))
+        self.finish(rt, pass, &RemoveStepper, RemoveStep::begin(cred, id))
     }
 
     /// Returns the row of the live queue in this slot, or `None` if no queue is live there (this
@@ -186,14 +186,6 @@ impl Stepper for StatStepper {
         let gates = AtGates::of(rt, &service.gates);
         stat_step(&gates, &mut pass.seats, step)
     }
-
-    fn awaited(&self, waits: &NoWait) -> (SharedCount, u64) {
-        match *waits {}
-    }
-
-    fn resume(&self, waits: NoWait, _value: u64) -> StatStep {
-        match waits {}
-    }
 }
 
 /// The steps of an IPC_SET.
@@ -232,14 +224,6 @@ impl<'a, C: Clock> Stepper for SetStepper<'a, C> {
         let gates = AtGates::of(rt, &service.gates);
         set_step(&gates, &mut pass.seats, &mut pass.held, self.clock, step)
     }
-
-    fn awaited(&self, waits: &NoWait) -> (SharedCount, u64) {
-        match *waits {}
-    }
-
-    fn resume(&self, waits: NoWait, _value: u64) -> SetStep {
-        match waits {}
-    }
 }
 
 /// The steps of an IPC_RMID.
@@ -272,13 +256,5 @@ impl Stepper for RemoveStepper {
     ) -> RemoveState {
         let gates = AtGates::of(rt, &service.gates);
         remove_step(&gates, &mut pass.seats, &mut pass.held, step)
-    }
-
-    fn awaited(&self, waits: &NoWait) -> (SharedCount, u64) {
-        match *waits {}
-    }
-
-    fn resume(&self, waits: NoWait, _value: u64) -> RemoveStep {
-        match waits {}
     }
 }

@@ -9,7 +9,7 @@ ghost use Rattle.sysv_service.specs.Ran.{Comes};
 ghost use Rattle.sysv_service.specs.Told.{TellsId};
 
 use crate::pass::Pass;
-use crate::running::Stepper;
+use crate::running::{Stepper, Waiter};
 use crate::service::Service;
 use crate::{AtGates, SharedCount};
 use std::sync::Wait as MayWait;
@@ -93,7 +93,9 @@ impl<'a, C: Clock> Stepper for GetStepper<'a, C> {
         let gates = AtGates::of(rt, &service.gates);
         get_step(&gates, &mut pass.seats, self.clock, step)
     }
+}
 
+impl<C: Clock> Waiter for GetStepper<'_, C> {
     fn awaited(&self, waits: &GetWait) -> (SharedCount, u64) {
         (SharedCount::Settled, waits.above)
     }

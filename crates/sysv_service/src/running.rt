@@ -21,9 +21,9 @@ use crate::shared_count::SharedCount;
 use crate::waiting::Waited;
 use std::sync::Wait as MayWait;
 use sysv_model::Errno;
-use sysv_steps::State;
+use sysv_steps::{NoWait, State};
 
-/// The steps and the waits of one of the calls, with what they use.
+/// The steps of one of the calls, with what they use.
 pub(crate) trait Stepper {
     /// Its steps.
     type Step;
@@ -62,24 +62,27 @@ pub(crate) trait Stepper {
         ensures steps { StepsOn (may self.now) (phase self.now step) pass.old
             (state_of (phase self.now) (wait self.now) (ending self.now) result) pass.new };
 
-    /// Returns the count for which it waits, and the value above which the count must rise.
-    fn awaited(&self, waits: &Self::Wait) -> (SharedCount, u64)
-        ensures count { count_of result.0 ≡ is_awaited (wait self.now waits.now) }
-        ensures above { goal_of (wait self.now waits.now) ≡ result.1 + 1 };
-
-    /// Returns the step at which it continues after the value `value` of its count ended the wait.
-    fn resume(&self, waits: Self::Wait, value: u64) -> Self::Step
-        requires { can self.now (State.Waits waits) }
-        ensures next { resumes (wait self.now waits) value ≡ phase self.now result }
-        ensures can { can self.now (State.Goes result) };
-
     /// It may be refused with any error.
     ghost is_refused: { (s : Self) (why : Why) → can s (IsOver (Err why)) };
 }
 
+/// The waits of a call that may wait.
+pub(crate) trait Waiter: Stepper {
+    /// Returns the count for which it waits, and the value above which the count must rise.
+    fn awaited(&self, waits: &Self::Wait) -> (SharedCount, u64)
+        ensures count { count_of result.0 ≡ is_awaited (Self.wait self.now waits.now) }
+        ensures above { goal_of (Self.wait self.now waits.now) ≡ result.1 + 1 };
+
+    /// Returns the step at which it continues after the value `value` of its count ended the wait.
+    fn resume(&self, waits: Self::Wait, value: u64) -> Self::Step
+        requires { Self.can self.now (State.Waits waits) }
+        ensures next { resumes (Self.wait self.now waits) value ≡ Self.phase self.now result }
+        ensures can { Self.can self.now (State.Goes result) };
+}
+
 impl Service {
     /// Runs a call that has begun until it is over.
-    pub(crate) fn run<S: Stepper>(
+    pub(crate) fn run<S: Waiter>(
         &self,
         rt: &impl MayWait,
         pass: &mut Pass,
@@ -101,6 +104,27 @@ impl Service {
             };
         }
         unreachable!()
+    }
+
+    /// Runs a call that has begun, and that never waits, until it is over.
+    pub(crate) fn finish<S: Stepper<Wait = NoWait>>(
+        &self,
+        rt: &impl MayWait,
+        pass: &mut Pass,
+        stepper: &S,
+        begun: State<S::Step, NoWait, S::Done>,
+    ) -> Result<S::Done, Errno>
+        requires pass { AreOf self.now pass.old.seats }
+        requires can { S.can stepper.now begun }
+        ensures pass { AreOf self.now pass.new.seats }
+        ensures ran { Comes (S.may stepper.now)
+            (state_of (S.phase stepper.now) (S.wait stepper.now) (S.ending stepper.now) begun)
+            pass.old (Over (ending_of (S.ending stepper.now) result)) pass.new }
+    {
+        match self.run_on(rt, pass, stepper, begun) {
+            Progress::Waits(never) => match never {},
+            Progress::Over(told) => told,
+        }
     }
 
     /// Makes the steps of a call that has begun until it waits or is over.
@@ -133,7 +157,7 @@ impl Service {
     /// Waits until the wait of a call is over. Returns the state of the call afterwards: it
     /// continues, or is over because a gate is worn out. It still waits only if no count can be
     /// above the value of its wait.
-    fn wait_out<S: Stepper>(
+    fn wait_out<S: Waiter>(
         &self,
         rt: &impl MayWait,
         pass: &mut Pass,

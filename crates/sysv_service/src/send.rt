@@ -13,7 +13,7 @@ ghost use Rattle.sysv_service.specs.SharedCounts.{count_of};
 ghost use Rattle.sysv_service.specs.Told.{TellsZero};
 
 use crate::pass::Pass;
-use crate::running::Stepper;
+use crate::running::{Stepper, Waiter};
 use crate::service::Service;
 use crate::{AtGates, SharedCount};
 use std::sync::Wait as MayWait;
@@ -115,7 +115,9 @@ impl<'a, C: Clock> Stepper for SendStepper<'a, C> {
             step,
         )
     }
+}
 
+impl<C: Clock> Waiter for SendStepper<'_, C> {
     fn awaited(&self, waits: &SendWait) -> (SharedCount, u64) {
         awaited_by(waits)
     }

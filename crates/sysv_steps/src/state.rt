@@ -21,7 +21,7 @@ pub enum State<S, W, T> {
 }
 
 /// The wait of a call that never waits.
-#[derive(Clone, Copy, PartialEq, Eq)]
+#[derive(Clone, Copy)]
 pub enum NoWait {}
 
 impl<S, W, T> State<S, W, T> {

@@ -13,8 +13,8 @@ use sysv_pool::{Chain, Pool};
 use sysv_queue::{Delivery, Look, PlaceRefused, Probe, QueueSlot, TakeRefused, Tally, Unplaced};
 use sysv_steps::{
     Afterwards, GetStep, GetWait, Getting, NoWait, ReceiveState, ReceiveStep, ReceiveWait,
-    Receiving, RemoveState, RemoveStep, SendState, SendStep, SendWait, Sending, SetStep, State,
-    StatStep,
+    Receiving, RemoveState, RemoveStep, SendState, SendStep, SendWait, Sending, SetStep, StatStep,
+    State,
 };
 use tests_kit::USER;
 
@@ -90,7 +90,7 @@ fn mtype_of(delivery: Delivery) -> i64 {
     mtype
 }
 
-/// A step, a wait or a result that can be shown.
+/// A state, a step, a wait or a result that can be shown.
 trait Shows {
     fn shown(self) -> Shown;
 }
@@ -181,12 +181,6 @@ impl Shows for StatStep {
     }
 }
 
-impl Shows for NoWait {
-    fn shown(self) -> Shown {
-        match self {}
-    }
-}
-
 impl Shows for Stat {
     fn shown(self) -> Shown {
         Shown::Told(self)
@@ -217,13 +211,55 @@ impl Shows for RemoveStep {
     }
 }
 
-fn show<S: Shows, W: Shows, T: Shows>(state: State<S, W, T>) -> Shown {
-    match state {
-        State::Goes(step) => step.shown(),
-        State::Waits(wait) => wait.shown(),
-        State::Over(Ok(told)) => told.shown(),
-        State::Over(Err(why)) => Shown::Refused(why),
+impl<S: Shows, T: Shows> Shows for State<S, GetWait, T> {
+    fn shown(self) -> Shown {
+        match self {
+            State::Goes(step) => step.shown(),
+            State::Waits(wait) => wait.shown(),
+            State::Over(told) => show_end(told),
+        }
     }
+}
+
+impl<S: Shows, T: Shows> Shows for State<S, SendWait, T> {
+    fn shown(self) -> Shown {
+        match self {
+            State::Goes(step) => step.shown(),
+            State::Waits(wait) => wait.shown(),
+            State::Over(told) => show_end(told),
+        }
+    }
+}
+
+impl<S: Shows, T: Shows> Shows for State<S, ReceiveWait, T> {
+    fn shown(self) -> Shown {
+        match self {
+            State::Goes(step) => step.shown(),
+            State::Waits(wait) => wait.shown(),
+            State::Over(told) => show_end(told),
+        }
+    }
+}
+
+impl<S: Shows, T: Shows> Shows for State<S, NoWait, T> {
+    fn shown(self) -> Shown {
+        match self {
+            State::Goes(step) => step.shown(),
+            State::Waits(never) => match never {},
+            State::Over(told) => show_end(told),
+        }
+    }
+}
+
+fn show_end<T: Shows>(told: Result<T, Errno>) -> Shown {
+    match told {
+        Ok(told) => told.shown(),
+        Err(why) => Shown::Refused(why),
+    }
+}
+
+fn show(state: impl Shows) -> Shown {
+    state.shown()
 }
 
 /// Opens a slot with queue 0, which belongs to its caller. Tolerates one refusal of memory.
@@ -302,11 +338,7 @@ fn remove_giveback(rt: &impl Abort, state: RemoveState) -> (Chain, RemoveState) 
 }
 
 /// Releases a chain at the pool, and shows the state of its call afterwards.
-fn release<S: Shows, W: Shows, T: Shows>(
-    rt: &impl Abort,
-    pool: &mut Pool,
-    held: (Chain, State<S, W, T>),
-) -> Shown {
+fn release<S: Shows>(rt: &impl Abort, pool: &mut Pool, held: (Chain, S)) -> Shown {
     let (chain, after) = held;
     let released = pool.released();
     assert!(rt; released < 100);
@@ -443,7 +475,13 @@ fn a_removal_gives_back_what_it_discarded(rt: HostRuntime) {
         }
     };
     assert_is(&rt, chain.blocks(), 3);
-    assert!(rt; release(&rt, &mut pool, remove_giveback(&rt, RemoveStep::forgotten(chain))) == Shown::Zero);
+    assert!(rt;
+        release(
+            &rt,
+            &mut pool,
+            remove_giveback(&rt, RemoveStep::forgotten(chain))
+        ) == Shown::Zero
+    );
     assert_is(&rt, pool.free(), 128);
     pool.end();
     assert_is(&rt, slot.end().end(), 0);

@@ -7,8 +7,8 @@ use sysv_model::{Errno, Flags};
 use sysv_objects::{ObjectCall, ObjectReply, Turns};
 use sysv_pool::Chain;
 use sysv_steps::{
-    Afterwards, GetStep, Getting, ReceiveStep, RemoveState, RemoveStep, SendStep, SetStep, State,
-    StatStep, get_step, receive_step, remove_step, send_step, set_step, stat_step,
+    Afterwards, GetStep, Getting, ReceiveStep, RemoveState, RemoveStep, SendStep, SetStep,
+    StatStep, State, get_step, receive_step, remove_step, send_step, set_step, stat_step,
 };
 use tests_kit::USER;
 

@@ -7,6 +7,6 @@ use Rattle.sysv_service.proofs.service.Service.msgctl_stat.Goals as goal
 pub returns-clause-ran : goal.returns-clause-ran
 returns-clause-ran g c =
     let id = c.ranges.id in
-    let ran = from_start (c.begin.ensures 0) c.run.ensures.ran in
+    let ran = from_start (c.begin.ensures 0) c.finish.ensures.ran in
     let comes = simp to_z-of_z at ran in
-    (ending_of Told c.run.result, comes, tells_stat c.run.result)
+    (ending_of Told c.finish.result, comes, tells_stat c.finish.result)
