@@ -13,8 +13,8 @@ use sysv_pool::{Chain, Pool};
 use sysv_queue::{Delivery, Look, PlaceRefused, Probe, QueueSlot, TakeRefused, Tally, Unplaced};
 use sysv_steps::{
     Afterwards, GetStep, GetWait, Getting, NoWait, ReceiveState, ReceiveStep, ReceiveWait,
-    Receiving, RemoveState, RemoveStep, SendState, SendStep, SendWait, Sending, SetStep, State,
-    StatStep,
+    Receiving, RemoveState, RemoveStep, SendState, SendStep, SendWait, Sending, SetStep, StatStep,
+    State,
 };
 use tests_kit::USER;
 
@@ -443,7 +443,13 @@ fn a_removal_gives_back_what_it_discarded(rt: HostRuntime) {
         }
     };
     assert_is(&rt, chain.blocks(), 3);
-    assert!(rt; release(&rt, &mut pool, remove_giveback(&rt, RemoveStep::forgotten(chain))) == Shown::Zero);
+    assert!(rt;
+        release(
+            &rt,
+            &mut pool,
+            remove_giveback(&rt, RemoveStep::forgotten(chain))
+        ) == Shown::Zero
+    );
     assert_is(&rt, pool.free(), 128);
     pool.end();
     assert_is(&rt, slot.end().end(), 0);

@@ -14,7 +14,7 @@ use sysv_pool::Chain;
 use sysv_queue::Tally;
 use sysv_steps::{
     Clock, GetState, GetStep, Getting, ReceiveState, ReceiveStep, Receiving, RemoveState,
-    RemoveStep, SendState, SendStep, Sending, SetState, SetStep, State, StatStep, get_step,
+    RemoveStep, SendState, SendStep, Sending, SetState, SetStep, StatStep, State, get_step,
     receive_step, remove_step, send_step, set_step, stat_step,
 };
 use tests_kit::{USER, creating};
@@ -232,7 +232,12 @@ fn a_message_is_sent_and_received(rt: HostRuntime) {
     let reserved = send_on(&rt, &mut at, &text, looked);
     let placed = send_on(&rt, &mut at, &text, reserved);
     assert_done(&rt, placed);
-    let taken = receive_on(&rt, &mut at, &mut out, State::Goes(ReceiveStep::Take(RECEIVE)));
+    let taken = receive_on(
+        &rt,
+        &mut at,
+        &mut out,
+        State::Goes(ReceiveStep::Take(RECEIVE)),
+    );
     let given = receive_on(&rt, &mut at, &mut out, taken);
     let State::Over(Ok(delivery)) = given else {
         panic!(rt; "no message");
