@@ -1,5 +1,5 @@
 -- What a script writes are the results of a run that obeys the laws.
-use Rattle.std.specs.Prelude.{◌≡◌, ℕ, List, Option, Result, Ok, Err, ⊤}
+use Rattle.std.specs.Prelude.{ℕ, List, Option, Ok, Err}
 use Rattle.sysv_core.specs.Headline.{EveryRunObeys}
 use Rattle.sysv_core.specs.World.{World}
 use Rattle.sysv_script.specs.declared.fault.ScriptFault.{ScriptFault}
@@ -7,7 +7,7 @@ use Rattle.sysv_script.specs.declared.fault.ScriptFault.TheVariants.{Line, Read,
 use Rattle.sysv_script.specs.Results.{IsOfRunPrinting}
 use Rattle.sysv_script.specs.ScriptRun.{EachScriptIsARun}
 use Rattle.sysv_script.specs.ScriptText.{Ending, ScriptPrints}
-use Rattle.sysv_script.specs.Written.{WritesAll, WritesPrefix, WritesRead, WritesScript, WritesAtFault}
+use Rattle.sysv_script.specs.Written.{WritesAll, WritesPrefix, WritesRead, WritesAtFault}
 use Rattle.sysv_script.specs.ObeyingRun.{IsOfObeyingRun, PrintsRun, WritesRunWhole, WritesRunPrefix, WritesRunSofar}
 use Rattle.sysv_script.specs.ObeyingRun.{WritesRunAtFault, EachScriptObeys}
 

@@ -128,9 +128,12 @@ fn receives_at_worn_gates(rt: HostRuntime) {
     let mut out = open_body(&rt, rt.alloc());
     let take = ReceiveStep::Take(RECEIVE);
     let taken = receive_step(&WornGates, &mut back, &mut kept, &Still, &mut out, take);
-    match taken {
-        State::Over(Err(why)) => assert_is(&rt, why, Errno::EOVERFLOW),
-        _other => panic!(rt; "the receive goes on"),
+    let State::Over(told) = taken else {
+        panic!(rt; "the receive goes on");
+    };
+    match told {
+        Ok(delivery) => panic!(rt; "a message of type {}", delivery.mtype()),
+        Err(why) => assert_is(&rt, why, Errno::EOVERFLOW),
     }
     assert_is(&rt, (back, kept.end()), (1, 0));
 }

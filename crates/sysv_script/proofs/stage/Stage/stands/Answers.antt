@@ -1,6 +1,4 @@
-use Rattle.std.proofs.Common.{subst}
 use Rattle.sysv_core.specs.World.{actor_at}
-use Rattle.sysv_core.specs.Standing.{state_at, StandsThere}
 use Rattle.sysv_script.proofs.PositionSeen.{told_there, told_nowhere, idle_line, going_line}
 use Rattle.sysv_script.proofs.stage.Stage.stands.Goals as goal
 
