@@ -15,7 +15,7 @@ use Rattle.sysv_queue.specs.Tally.{Tallied}
 use Rattle.sysv_objects.specs.LegalDeed.{IsLegalDeed, AreLegal}
 use Rattle.sysv_objects.specs.Objects.{Objects}
 use Rattle.sysv_objects.specs.StandsFor.{StandsFor as ObjectsStandFor}
-use Rattle.sysv_steps.specs.State.{Phase, Wait, State, Goes, Waits, Over}
+use Rattle.sysv_steps.specs.State.{Ending, Phase, Wait, State, Goes, Waits, Over}
 use Rattle.sysv_steps.specs.Resume.{awaited, resume}
 use Rattle.sysv_steps.specs.Begin.{begin}
 use Rattle.sysv_steps.specs.declared.call.Call.{Call}
@@ -57,19 +57,17 @@ busy_in (Some (Some d)) s e = (d, refl, cc)
 
 -- ---- what a start or a step leads to
 
+not_over : {ending : Ending} (k : StandingKept) (text : List ℕ) → Over ending ≡ stands_at k text → ⊥
+not_over (standing.At phase) text e = cc
+not_over (standing.Waits wait) text e = cc
+
 state_led : (call : Started) (b : Bool) (state : State) (l : Led) → LeadsTo b state l →
     state_in (doing_in call state) ≡ kept_led l
 state_led call b (Goes phase) (led.To doing) h = ap Some h
 state_led call b (Waits wait) (led.To doing) h = ap Some h
-state_led call b (Over ending) (led.To doing) h = not_over doing.standing (text_in doing.body) h
-  where
-    not_over : (k : StandingKept) (text : List ℕ) → Over ending ≡ stands_at k text → None ≡ Some (stands_at k text)
-    not_over (standing.At phase) text e = absurd cc
-    not_over (standing.Waits wait) text e = absurd cc
+state_led call b (Over ending) (led.To doing) h = absurd (not_over doing.standing (text_in doing.body) h)
 state_led call b (Over ending) (led.Over ended) h = refl
-state_led call b (Goes phase) (led.Over ended) h = absurd h
-state_led call b (Waits wait) (led.Over ended) h = absurd h
-state_led call b state (led.Stays doing) h = absurd h
+state_led call b state l h = absurd h
 
 -- The result of a start or a step is reported.
 tells_led : (w : World) (call : Started) (actor : ℕ) (state : State) (l : Led) → w.steps < WORN →
@@ -77,18 +75,12 @@ tells_led : (w : World) (call : Started) (actor : ℕ) (state : State) (l : Led)
     Gives w (given_in call state) (told_by actor l)
 tells_led w call actor (Goes phase) (led.To doing) young own h = (young, refl)
 tells_led w call actor (Waits wait) (led.To doing) young own h = (young, refl)
-tells_led w call actor (Over ending) (led.To doing) young own h = not_over doing.standing (text_in doing.body) h
-  where
-    not_over : (k : StandingKept) (text : List ℕ) → Over ending ≡ stands_at k text →
-        Gives w (given_in call (Over ending)) (told_by actor (led.To doing))
-    not_over (standing.At phase) text e = absurd cc
-    not_over (standing.Waits wait) text e = absurd cc
+tells_led w call actor (Over ending) (led.To doing) young own h =
+    absurd (not_over doing.standing (text_in doing.body) h)
 tells_led w call actor (Over ending) (led.Over ended) young own h =
     let g : Given = record { call = call; ending = ending } in
     (young, (g, refl, record { caller = own; ending = h }))
-tells_led w call actor (Goes phase) (led.Over ended) young own h = absurd h
-tells_led w call actor (Waits wait) (led.Over ended) young own h = absurd h
-tells_led w call actor state (led.Stays doing) young own h = absurd h
+tells_led w call actor state l young own h = absurd h
 
 counts_led : (b : Bool) (state : State) (l : Led) (n : ℕ) → LeadsTo b state l → n + 1 ≡ n + counted_led l
 counts_led b state (led.To doing) n h = refl
