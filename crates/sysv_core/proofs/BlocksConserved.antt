@@ -7,7 +7,6 @@ use Rattle.std.specs.List.{All, Contains, sum_by, range_with_len}
 use Rattle.std.proofs.Math.Dec.{eqb}
 use Rattle.std.proofs.Math.Nat.{mod-lt}
 use Rattle.std.proofs.lemmas.Bool.{eqb-true}
-use Rattle.std.proofs.lemmas.Bool.Decides.{nat_tests}
 use Rattle.std.proofs.lemmas.List.{append-nil}
 use Rattle.std.proofs.lemmas.List.Elements.{All-push}
 use Rattle.std.proofs.lemmas.List.Sums.{sum_by-cons}
@@ -15,7 +14,7 @@ use Rattle.sysv_model.specs.declared.cred.Cred.{Cred}
 use Rattle.sysv_model.specs.declared.errno.Errno.TheVariants.{EINVAL}
 use Rattle.sysv_model.specs.declared.limits.TheConstants.{IPC_PRIVATE}
 use Rattle.sysv_model.specs.History.{Who, Call, Install, Place, Take, Remove, Reply, Installed, Accepted, Taken}
-use Rattle.sysv_model.specs.History.{Discarded, Entry}
+use Rattle.sysv_model.specs.History.{Discarded}
 use Rattle.sysv_model.specs.Pool.{PoolCall, Reserve, Release, PoolReply, Reserved, TooFew, Released, Foreign, PoolEntry}
 use Rattle.sysv_model.specs.Pool.{PoolHistory}
 use Rattle.sysv_model.specs.Turn.{OfSlot, Deed, AtSlot, AtRegistry, AtPool, asked_by, Turn, slot_history, pool_history}
@@ -115,17 +114,6 @@ another_slot : (turns : List Turn) (who : Who) (slot : ℕ) (call : Call) (reply
 another_slot turns who slot call reply other true same apart = absurd (apart (same refl))
 another_slot turns who slot call reply other false same apart = append-nil (slot_history other turns)
 
-that_slot : (turns : List Turn) (who : Who) (slot : ℕ) (call : Call) (reply : Reply) →
-    slot_history slot (turns ++ turn_of who (AtSlot slot call reply) ∷ [])
-    ≡ slot_history slot turns ++ record { who = who; call = call; reply = reply } ∷ []
-that_slot turns who slot call reply =
-    let e : Entry = record { who = who; call = call; reply = reply } in
-    slot_more slot turns (turn_of who (AtSlot slot call reply))
-    ∙ ap (λ b. slot_history slot turns ++ cond b (e ∷ []) []) (itself slot)
-  where
-    itself : (n : ℕ) → eqb n n ≡ true
-    itself n = grind (arith, nat_tests)
-
 pub waiting_moves : TurnKeepsBlocks → (turns : List Turn) (who : Who) (slot : ℕ) (call : Call) (reply : Reply) →
     IsLegalHistory (slot_history slot turns) → Legal (slot_of (slot_history slot turns)) call reply → slot < SLOTS →
     blocks_waiting (turns ++ turn_of who (AtSlot slot call reply) ∷ []) + blocks_off call reply
@@ -138,7 +126,7 @@ waiting_moves kept turns who slot call reply legal now low =
     (sym (slot_more other turns (turn_of who (AtSlot slot call reply))
     ∙ another_slot turns who slot call reply other (eqb slot other) (λ e. eqb-true slot other e) apart))) in
     let moved : waiting_at more slot + blocks_off call reply ≡ waiting_at turns slot + blocks_put call reply =
-    ap (λ h. blocks_of (waiting_in h) + blocks_off call reply) (that_slot turns who slot call reply)
+    ap (λ h. blocks_of (waiting_in h) + blocks_off call reply) (slot_around slot turns [] who call reply)
     ∙ kept (slot_history slot turns) who call reply legal now in
     let w : ℕ = waiting_at turns slot in
     let x : ℕ = waiting_at more slot in
@@ -266,67 +254,61 @@ module _ (b : BlockLaws) (generation size : ℕ) (turns : List Turn) (actors : L
     given_is_reserved c (Reserved blocks) = refl
     given_is_reserved c reply = refl
 
+    -- What leaves the call comes to the slots or to the pool, and what the call receives leaves them.
+    moves : (deed : Deed) → asked_by deed ≡ asks phase now → IsLegalDeed generation size turns deed →
+        held state + left_by deed ≡ held (Goes phase) + given_by deed →
+        let more = turns ++ turn_of call.who deed ∷ [] in
+        (free_after size (pool_history more) + blocks_waiting more + given_by deed
+        ≡ free_after size (pool_history turns) + blocks_waiting turns + left_by deed)
+        × All (λ (e : PoolEntry). e.reply ≢ Foreign) (pool_history more)
+    moves (AtSlot slot c reply) asked l balance =
+        let pool = pool_stays turns call.who (AtSlot slot c reply) refl in
+        let moved = waiting_moves b.kept turns call.who slot c reply (legal.slots slot) l
+        (asks_slot phase now slot c asked) in (
+          omega (
+            arith,
+            ap (free_after size) pool,
+            moved,
+            left_is_put slot c reply,
+            given_is_off (slot_of (slot_history slot turns)) slot c reply l,
+          ),
+          subst (All (λ (e : PoolEntry). e.reply ≢ Foreign)) (sym pool) all.taken_back,
+        )
+    moves (AtRegistry c reply) asked l balance =
+        let pool = pool_stays turns call.who (AtRegistry c reply) refl in (
+          omega (
+            arith,
+            ap (free_after size) pool,
+            waiting_stays turns call.who (AtRegistry c reply)
+                (λ slot. slot_stays slot turns call.who (AtRegistry c reply) refl),
+          ),
+          subst (All (λ (e : PoolEntry). e.reply ≢ Foreign)) (sym pool) all.taken_back,
+        )
+    moves (AtPool c reply) asked l balance =
+        let e : PoolEntry = record { who = call.who; call = c; reply = reply } in
+        let h = pool_history turns in
+        let pool = pool_more turns (turn_of call.who (AtPool c reply)) in
+        let back = taken c reply l balance in (
+          omega (
+            arith,
+            ap (free_after size) pool,
+            waiting_stays turns call.who (AtPool c reply)
+                (λ slot. slot_stays slot turns call.who (AtPool c reply) refl),
+            free_moves size h e (b.law size h legal.pool) l,
+            left_is_returned c reply back,
+            given_is_reserved c reply,
+          ),
+          subst (All (λ (x : PoolEntry). x.reply ≢ Foreign)) (sym pool)
+              (All-push (λ (x : PoolEntry). x.reply ≢ Foreign) h e all.taken_back back),
+        )
+
     pub turn_conserves : (deed : Deed) → asked_by deed ≡ asks phase now → IsLegalDeed generation size turns deed →
         next phase deed ≡ Some state →
         AreConserved size (turns ++ turn_of call.who deed ∷ []) (slice_set actors place (doing_in call state))
-    turn_conserves (AtSlot slot c reply) asked l goes =
-        let more = turns ++ turn_of call.who (AtSlot slot c reply) ∷ [] in
-        let pool : pool_history more ≡ pool_history turns = pool_stays turns call.who (AtSlot slot c reply) refl in
-        let balance = b.step phase (AtSlot slot c reply) now state own
-        (gives_it generation size turns (AtSlot slot c reply) l) asked goes in
-        let moved =
-        waiting_moves b.kept turns call.who slot c reply (legal.slots slot) l (asks_slot phase now slot c asked) in
-        record {
-          whole = ap (λ (h : PoolHistory). free_after size h + (blocks_waiting more + blocks_in_calls then_actors)) pool
-              ∙ at_slot (free_after size (pool_history turns)) (blocks_waiting turns) (blocks_waiting more)
-              (blocks_in_calls actors) (blocks_in_calls then_actors) (held (Goes phase)) (held state)
-              (left_by (AtSlot slot c reply)) (given_by (AtSlot slot c reply))
-              (blocks_put c reply) (blocks_off c reply) balance moved calls_move (left_is_put slot c reply)
-              (given_is_off (slot_of (slot_history slot turns)) slot c reply l) all.whole;
-          taken_back = subst (All (λ (e : PoolEntry). e.reply ≢ Foreign)) (sym pool) all.taken_back;
-        }
-      where
-        at_slot : (free w v c d h k left given put off : ℕ) → k + left ≡ h + given → v + off ≡ w + put → d + h ≡ c + k →
-            left ≡ put → given ≡ off → free + (w + c) ≡ size → free + (v + d) ≡ size
-        at_slot free w v c d h k left given put off balance moved calls a b whole =
-            omega (arith, balance, moved, calls, a, b, whole)
-    turn_conserves (AtRegistry c reply) asked l goes =
-        let more = turns ++ turn_of call.who (AtRegistry c reply) ∷ [] in
-        let pool : pool_history more ≡ pool_history turns = pool_stays turns call.who (AtRegistry c reply) refl in
-        let balance = b.step phase (AtRegistry c reply) now state own
-        (gives_it generation size turns (AtRegistry c reply) l) asked goes in
-        let same = waiting_stays turns call.who (AtRegistry c reply)
-        (λ slot. slot_stays slot turns call.who (AtRegistry c reply) refl) in
-        record {
-          whole = ap (λ (h : PoolHistory). free_after size h + (blocks_waiting more + blocks_in_calls then_actors)) pool
-              ∙ omega (arith, balance, same, calls_move, all.whole);
-          taken_back = subst (All (λ (e : PoolEntry). e.reply ≢ Foreign)) (sym pool) all.taken_back;
-        }
-    turn_conserves (AtPool c reply) asked l goes =
-        let more = turns ++ turn_of call.who (AtPool c reply) ∷ [] in
-        let e : PoolEntry = record { who = call.who; call = c; reply = reply } in
-        let h = pool_history turns in
-        let pool : pool_history more ≡ h ++ e ∷ [] = pool_more turns (turn_of call.who (AtPool c reply)) in
-        let balance =
-        b.step phase (AtPool c reply) now state own (gives_it generation size turns (AtPool c reply) l) asked goes in
-        let same =
-        waiting_stays turns call.who (AtPool c reply) (λ slot. slot_stays slot turns call.who (AtPool c reply) refl) in
-        let back = taken c reply l balance in
-        record {
-          whole = ap (λ (g : PoolHistory). free_after size g + (blocks_waiting more + blocks_in_calls then_actors)) pool
-              ∙ omega (
-                arith,
-                balance,
-                same,
-                calls_move,
-                all.whole,
-                free_moves size h e (b.law size h legal.pool) l,
-                left_is_returned c reply back,
-                given_is_reserved c reply,
-              );
-          taken_back = subst (All (λ (x : PoolEntry). x.reply ≢ Foreign)) (sym pool)
-              (All-push (λ (x : PoolEntry). x.reply ≢ Foreign) h e all.taken_back back);
-        }
+    turn_conserves deed asked l goes =
+        let balance = b.step phase deed now state own (gives_it generation size turns deed l) asked goes in
+        let m = moves deed asked l balance in
+        record { whole = omega (arith, m.0, balance, calls_move, all.whole); taken_back = m.1 }
 
   -- The three turns of a preset move no block.
   pub preset_conserves : AreLegal generation size (with_preset_turns turns) →

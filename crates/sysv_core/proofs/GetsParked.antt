@@ -1,6 +1,6 @@
 -- A get that waits below its goal waits for a row of its key that another call still has to settle
 -- or forget.
-use Rattle.std.proofs.Common.{◌≡◌, inl, inr, ℕ, ℤ, ◌+◌, ◌<◌, ◌≤◌, ◌||◌, Bool, true, false, cond, List, [], ◌∷◌, ◌++◌}
+use Rattle.std.proofs.Common.{◌≡◌, inl, inr, ℕ, ℤ, ◌+◌, ◌<◌, ◌≤◌, ◌||◌, Bool, true, false, List, [], ◌∷◌, ◌++◌}
 use Rattle.std.proofs.Common.{refl, sym, ap, subst, ◌∙◌, arith, append_assoc}
 use Rattle.std.specs.List.{list_any}
 use Rattle.std.proofs.lemmas.Grind.{flat_map-append}
@@ -24,7 +24,7 @@ use Rattle.sysv_core.specs.World.{World}
 use Rattle.sysv_core.specs.Parked.{IsBeingChanged}
 use Rattle.sysv_core.specs.Removed.{AreRemovedForGood}
 use Rattle.sysv_core.specs.Tending.{AreTended}
-use Rattle.sysv_core.proofs.Histories.{turn_of, live_more}
+use Rattle.sysv_core.proofs.Histories.{turn_of, live_more, one}
 use Rattle.sysv_core.proofs.TurnInHistory.{Made, made_at, slot_around, registry_around}
 use Rattle.sysv_core.proofs.Life.{any_more, or_no, or_left, passing, lived}
 use Rattle.sysv_core.proofs.LifeLaws.{SettledOnceInstalled}
@@ -51,9 +51,6 @@ row_still h e row quiet is = record {
       ∙ (ap (λ b. is_settled row.id h || b) (no_settle row.id e.call e.reply quiet)
       ∙ (or_no (is_settled row.id h) ∙ is.stage));
 }
-
-abbrev one : Bool → ℕ
-one b = cond {A = ℕ} b 1 0
 
 count_around : (h more : RegistryHistory) (e : RegistryEntry) →
     settled (h ++ e ∷ more) ≡ settled h + (one (changes_row e.reply) + settled more)

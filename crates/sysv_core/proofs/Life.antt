@@ -3,7 +3,7 @@
 -- after the job that it follows.
 use Rattle.std.proofs.Common.{◌≡◌, ◌⊎◌, inl, inr, ℕ, ℤ, ◌||◌, ◌&&◌, Bool, true, false, cond, List, [], ◌∷◌, ◌++◌}
 use Rattle.std.proofs.Common.{Option, None, Some, refl, sym, ap, subst, ◌∙◌, map, append_assoc, option_map}
-use Rattle.std.specs.List.{All, list_any}
+use Rattle.std.specs.List.{All, list_any, flat_map}
 use Rattle.std.specs.Ordering.{int_eq}
 use Rattle.std.proofs.Math.Dec.{eqb}
 use Rattle.std.proofs.lemmas.Bool.{eqb-true}
@@ -12,6 +12,8 @@ use Rattle.std.proofs.lemmas.List.{append-nil}
 use Rattle.std.proofs.lemmas.List.Elements.{All-push}
 use Rattle.std.proofs.lemmas.List.Folds.{list_any-append}
 use Rattle.sysv_model.specs.declared.attributes.Attributes.{Attributes}
+use Rattle.sysv_model.specs.declared.cred.Cred.{Cred}
+use Rattle.sysv_model.specs.declared.errno.Errno.TheVariants.{EINVAL}
 use Rattle.sysv_model.specs.History.{Who, Call, Install, Place, Take, Set, Remove, Reply, Installed, Accepted, Taken}
 use Rattle.sysv_model.specs.History.{Done, Discarded, Entry}
 use Rattle.sysv_model.specs.Live.{live, live_after, HasId, IsLive}
@@ -23,7 +25,11 @@ use Rattle.sysv_queue.specs.QueueLaw.{removes, installs}
 use Rattle.sysv_queue.specs.ForGood.{IsInstalledOnce}
 use Rattle.sysv_keys.specs.Identifier.{slot_of_id}
 use Rattle.sysv_keys.specs.Rows.{makes, settles, forgets, is_made}
-use Rattle.sysv_steps.specs.State.{AtInstall, AtSettle, AtUnmake, AtForget, State, Goes}
+use Rattle.sysv_objects.specs.LegalDeed.{IsLegalDeed}
+use Rattle.sysv_steps.specs.Call.{SystemCall, Msgget}
+use Rattle.sysv_steps.specs.State.{Wait, OnSettled, AtInstall, AtSettle, AtUnmake, AtForget, State, Goes, Over, Refused}
+use Rattle.sysv_steps.specs.Begin.{is_refused, first, begin}
+use Rattle.sysv_steps.specs.Resume.{resume}
 use Rattle.sysv_core.specs.World.{Doing}
 use Rattle.sysv_core.specs.Vacant.{FindsVacant, AllFindVacant}
 use Rattle.sysv_core.specs.Forgotten.{TakesItsRow, AllTakeTheirRows}
@@ -39,8 +45,6 @@ pub data Task : Type 0 where
   ToSettle : Task
   ToRemove : Task
   ToForget : Task
-  -- To give up an identifier whose slot is occupied. No call comes to that.
-  ToUnmake : Task
 
 -- What is to be done with an identifier.
 pub record Job : Type 0 where
@@ -89,7 +93,6 @@ does_task ToInstall id deed = of_slot (installs id) deed
 does_task ToSettle id deed = of_registry (settles id) deed
 does_task ToRemove id deed = of_slot (removes id) deed
 does_task ToForget id deed = of_registry (forgets id) deed
-does_task ToUnmake id deed = false
 
 abbrev pub does : Job → Deed → Bool
 does j deed = does_task j.task j.id deed
@@ -105,7 +108,6 @@ IsReadyFor ToInstall id turns = done (making id) turns ≡ true
 IsReadyFor ToSettle id turns = done (installing id) turns ≡ true
 IsReadyFor ToRemove id turns = done (installing id) turns ≡ true
 IsReadyFor ToForget id turns = done (removing id) turns ≡ true
-IsReadyFor ToUnmake id turns = ⊥
 
 abbrev pub IsReady : Job → List Turn → Type 0
 IsReady j turns = IsReadyFor j.task j.id turns
@@ -114,12 +116,13 @@ IsReady j turns = IsReadyFor j.task j.id turns
 abbrev pub IsNext : Job → List Turn → Type 0
 IsNext j turns = IsReady j turns × (done j turns ≡ false)
 
--- The job that a call in this state has to do.
+-- The job that a call in this state has to do. No call comes to give an identifier up, and making
+-- one is no call's job.
 abbrev pub job_at : State → Option Job
 job_at (Goes (AtInstall get id)) = Some (installing id)
 job_at (Goes (AtSettle id)) = Some (settling id)
 job_at (Goes (AtForget id blocks)) = Some (forgetting id)
-job_at (Goes (AtUnmake id)) = Some (record { task = ToUnmake; id = id })
+job_at (Goes (AtUnmake id)) = Some (making id)
 job_at state = None
 
 abbrev pub job_in : Option Doing → Option Job
@@ -128,6 +131,20 @@ job_in (Some d) = job_at d.state
 
 abbrev pub jobs_of : List (Option Doing) → List (Option Job)
 jobs_of actors = map job_in actors
+
+-- A call has none when it starts, and none when its wait ends.
+pub resumed_none : (wait : Wait) (value : ℕ) → job_at (Goes (resume wait value)) ≡ None
+resumed_none (OnSettled goal get) value = refl
+resumed_none wait value = refl
+
+pub begun_none : (cred : Cred) (asked : SystemCall) (released : ℕ) → job_at (begin cred asked released) ≡ None
+begun_none cred asked released = by_value asked (is_refused asked)
+  where
+    by_value : (c : SystemCall) (b : Bool) →
+        job_at (cond b (Over (Refused EINVAL)) (Goes (first cred c released))) ≡ None
+    by_value c true = refl
+    by_value (Msgget key flags) false = refl
+    by_value c false = refl
 
 -- ---- booleans and lists
 
@@ -169,7 +186,7 @@ falls false b f e = refl
 pub same_int : (a : ℤ) → int_eq a a ≡ true
 same_int a = (Decides-int_eq a a).1 refl
 
-both_true : (a b : Bool) → (a && b) ≡ true → (a ≡ true) × (b ≡ true)
+pub both_true : (a b : Bool) → (a && b) ≡ true → (a ≡ true) × (b ≡ true)
 both_true true true e = (refl, refl)
 both_true true false e = absurd cc
 both_true false b e = absurd cc
@@ -283,7 +300,6 @@ ready_on j front back r = by_task j.task j.id r
     by_task ToSettle id e = done_on (installing id) front back e
     by_task ToRemove id e = done_on (installing id) front back e
     by_task ToForget id e = done_on (removing id) front back e
-    by_task ToUnmake id e = e
 
 module _ (turns : List Turn) (who : Who) (deed : Deed) where
   pub done_more : (j : Job) → done j (turns ++ turn_of who deed ∷ []) ≡ (done j turns || does j deed)
@@ -331,31 +347,32 @@ ordered turns f j e =
     subst (IsReady j) (sym s.whole)
     (ready_on j s.front (s.it ∷ s.back) (f.fresh s.front s.back s.it j s.whole s.passes).0)
 
-slot_first : (p : Call → Reply → Bool) (slot : ℕ) (who : Who) (deed : Deed) (turns : List Turn) →
-    (list_any (λ (e : Entry). p e.call e.reply) (slot_history slot turns) ≡ true →
-    list_any (λ (t : Turn). of_slot p t.deed) turns ≡ true) →
-    list_any (λ (e : Entry). p e.call e.reply) (slot_history slot (turn_of who deed ∷ turns)) ≡ true →
-    list_any (λ (t : Turn). of_slot p t.deed) (turn_of who deed ∷ turns) ≡ true
-slot_first p slot who (AtSlot at call reply) turns rest e = by_slot (eqb at slot) e
+any_parts : {X Y : Type 0} (p : Y → Bool) (f : X → List Y) (xs : List X) →
+    list_any p (flat_map f xs) ≡ list_any (λ x. list_any p (f x)) xs
+any_parts p f [] = refl
+any_parts p f (x ∷ xs) =
+    list_any-append p (f x) (flat_map f xs) ∙ ap (λ b. list_any p (f x) || b) (any_parts p f xs)
+
+in_slot : (p : Call → Reply → Bool) (slot : ℕ) (who : Who) (deed : Deed) →
+    list_any (λ (e : Entry). p e.call e.reply) (slot_entry slot who deed) ≡ true → of_slot p deed ≡ true
+in_slot p slot who (AtSlot at call reply) e = by_slot (eqb at slot) e
   where
-    by_slot : (b : Bool) →
-        list_any (λ (x : Entry). p x.call x.reply)
-        (cond b (record { who = who; call = call; reply = reply } ∷ []) [] ++ slot_history slot turns) ≡ true →
-        (p call reply || list_any (λ (t : Turn). of_slot p t.deed) turns) ≡ true
-    by_slot true some = elim (one_of (p call reply) _ some) [
-      | inl now ↦ or_left (p call reply) _ now
-      | inr old ↦ or_right (p call reply) _ (rest old)
-    ]
-    by_slot false some = or_right (p call reply) _ (rest some)
-slot_first p slot who (AtRegistry call reply) turns rest e = rest e
-slot_first p slot who (AtPool call reply) turns rest e = rest e
+    by_slot : (b : Bool) → list_any (λ (x : Entry). p x.call x.reply)
+        (cond b (record { who = who; call = call; reply = reply } ∷ []) []) ≡ true → p call reply ≡ true
+    by_slot true some = sym (or_no (p call reply)) ∙ some
+    by_slot false some = absurd cc
+in_slot p slot who (AtRegistry call reply) e = absurd cc
+in_slot p slot who (AtPool call reply) e = absurd cc
 
 -- A turn in the history of a slot is one of the turns.
 of_slots : (p : Call → Reply → Bool) (slot : ℕ) (turns : List Turn) →
     list_any (λ (e : Entry). p e.call e.reply) (slot_history slot turns) ≡ true →
     list_any (λ (t : Turn). of_slot p t.deed) turns ≡ true
-of_slots p slot [] e = absurd cc
-of_slots p slot (t ∷ turns) e = slot_first p slot t.who t.deed turns (of_slots p slot turns) e
+of_slots p slot turns e =
+    let in_it = λ (t : Turn). list_any (λ (x : Entry). p x.call x.reply) (slot_entry slot t.who t.deed) in
+    let s = passing in_it turns
+    (sym (any_parts (λ (x : Entry). p x.call x.reply) (λ (t : Turn). slot_entry slot t.who t.deed) turns) ∙ e) in
+    passed in_it (λ (t : Turn). of_slot p t.deed) turns s (in_slot p slot s.it.who s.it.deed s.passes)
 
 -- ---- one more turn
 
@@ -366,6 +383,12 @@ IsSeemly deed = IsInItsSlot deed × FindsVacant deed × TakesItsRow deed
 abbrev pub IsLegalAtSlot : List Turn → Deed → Type 0
 IsLegalAtSlot turns (AtSlot slot call reply) = Legal (slot_of (slot_history slot turns)) call reply
 IsLegalAtSlot turns deed = Unit {0}
+
+pub legal_at_slot : (generation blocks : ℕ) (turns : List Turn) (deed : Deed) →
+    IsLegalDeed generation blocks turns deed → IsLegalAtSlot turns deed
+legal_at_slot generation blocks turns (AtSlot slot call reply) l = l
+legal_at_slot generation blocks turns (AtRegistry call reply) l = tt
+legal_at_slot generation blocks turns (AtPool call reply) l = tt
 
 pub record IsFine (turns : List Turn) (deed : Deed) : Type 0 where
   pub seemly : IsSeemly deed

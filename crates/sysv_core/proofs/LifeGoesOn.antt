@@ -1,13 +1,11 @@
 -- A turn of a call does the job that the call has, or none; and each job that was begun is held by
 -- one call until it is done.
-use Rattle.std.proofs.Common.{◌≡◌, ◌≢◌, ◌⊎◌, inl, inr, ℕ, zero, suc, ℤ, pos, Bool, true, false, cond, List, [], ◌∷◌}
+use Rattle.std.proofs.Common.{◌≡◌, ◌≢◌, ◌⊎◌, inl, inr, ℕ, zero, suc, ℤ, pos, Bool, true, false, List, [], ◌∷◌}
 use Rattle.std.proofs.Common.{◌++◌, Option, None, Some, IsSome, refl, sym, ap, subst, ◌∙◌, arith, slice_get, slice_set}
 use Rattle.std.proofs.Common.{append_assoc, option_map, replicate}
 use Rattle.std.proofs.lemmas.Option.{slice_get-map}
 use Rattle.sysv_model.specs.declared.attributes.Attributes.{Attributes}
-use Rattle.sysv_model.specs.declared.cred.Cred.{Cred}
 use Rattle.sysv_model.specs.declared.flags.Flags.{Flags}
-use Rattle.sysv_model.specs.declared.errno.Errno.TheVariants.{EINVAL}
 use Rattle.sysv_model.specs.declared.limits.TheConstants.{IPC_PRIVATE}
 use Rattle.sysv_model.specs.History.{Who, Installed, Gone, Full, NoMatch, Discarded}
 use Rattle.sysv_model.specs.Live.{live, HasId}
@@ -22,11 +20,8 @@ use Rattle.sysv_keys.specs.LegalReply.{IsLegalHistory as IsLegalRegistryHistory}
 use Rattle.sysv_keys.specs.RegistryLaw.{RegistryLaw}
 use Rattle.sysv_objects.specs.LegalDeed.{IsLegalDeed, AreLegal}
 use Rattle.sysv_steps.specs.State.{Afterwards, IsRefused, WaitsOn, Phase, AtBegin, AtInstall, AtSettle, AtUnmake}
-use Rattle.sysv_steps.specs.State.{AtLook, Getting, Wait, OnSettled, Id, Refused, AtReserve, AtSendGiveback, AtTake}
+use Rattle.sysv_steps.specs.State.{AtLook, Getting, Id, AtReserve, AtSendGiveback, AtTake}
 use Rattle.sysv_steps.specs.State.{AtRemove, AtForget, State, Goes, Waits, Over}
-use Rattle.sysv_steps.specs.Call.{SystemCall, Msgget}
-use Rattle.sysv_steps.specs.Begin.{is_refused, first, begin}
-use Rattle.sysv_steps.specs.Resume.{resume}
 use Rattle.sysv_steps.specs.Asks.{asks}
 use Rattle.sysv_steps.specs.Next.{waits_or, goes_on, next}
 use Rattle.sysv_core.specs.World.{Started, Doing, doing_in, preset_who, preset_cred, preset_flags, preset_begin}
@@ -35,11 +30,11 @@ use Rattle.sysv_core.proofs.Told.{told, told_is}
 use Rattle.sysv_core.proofs.Lists.{map-slice_set, slice_set-same, get_set_same, get_set_other, same_place}
 use Rattle.sysv_core.proofs.Histories.{turn_of, slot_more, registry_more, pool_more, begun_turns, installed_turns}
 use Rattle.sysv_core.proofs.TurnInHistory.{slot_around, registry_around}
-use Rattle.sysv_core.proofs.Life.{Task, ToMake, ToInstall, ToSettle, ToRemove, ToForget, ToUnmake, Job, making}
+use Rattle.sysv_core.proofs.Life.{Task, ToMake, ToInstall, ToSettle, ToRemove, ToForget, Job, making}
 use Rattle.sysv_core.proofs.Life.{installing, settling, removing, forgetting, job_of, does, done, IsReadyFor, IsReady}
 use Rattle.sysv_core.proofs.Life.{IsNext, job_at, job_in, jobs_of, some_is, either, not_both, falls, passing, one_job}
 use Rattle.sysv_core.proofs.Life.{no_job, job_does, done_on, ready_on, done_now, not_done, undone, done_by, Facts}
-use Rattle.sysv_core.proofs.Life.{ordered, IsSeemly, IsLegalAtSlot, IsFine, facts_more, in_registry, made_for, gave}
+use Rattle.sysv_core.proofs.Life.{ordered, IsSeemly, legal_at_slot, IsFine, facts_more, in_registry, made_for, gave}
 use Rattle.sysv_core.proofs.Life.{none_after}
 
 -- ---- the jobs of the calls
@@ -111,7 +106,6 @@ module _ (turns : List Turn) (who : Who) (deed : Deed) where
       elim (done_by turns who deed (installing id) r) [ inl old ↦ inl old | inr now ↦ inr (installing id, now, refl) ]
   readies ToForget id own r =
       elim (done_by turns who deed (removing id) r) [ inl old ↦ inl old | inr now ↦ inr (removing id, now, refl) ]
-  readies ToUnmake id own r = absurd r
   readies ToMake id own r = absurd cc
   readies ToRemove id own r = absurd cc
 
@@ -273,7 +267,8 @@ module _ (registry_law : (generation : ℕ) (h : RegistryHistory) → IsLegalReg
 
   -- A turn of a call that has its job to do.
   abbrev Goes_on : Who → Phase → Deed → State → Type 0
-  Goes_on who phase deed state = ((j : Job) → job_at (Goes phase) ≡ Some j → IsNext j turns) →
+  Goes_on who phase deed state =
+      ((j : Job) → job_at (Goes phase) ≡ Some j → IsNext j turns × (is_owned j.task ≡ true)) →
       IsLegalDeed generation blocks turns deed →
       IsLegalRegistryHistory generation (registry_history (turns ++ turn_of who deed ∷ [])) →
       next phase deed ≡ Some state → IsSeemly deed × Step turns deed (job_at (Goes phase)) (job_at state)
@@ -297,12 +292,12 @@ module _ (registry_law : (generation : ℕ) (h : RegistryHistory) → IsLegalReg
         (ap next_job (sym n)),
   )
   step_told who (AtInstall get id) (AtSlot at c (Installed true)) now state has l then n =
-      own (installing id) _ state _ n (refl, refl, tt) refl (has (installing id) refl) refl
+      own (installing id) _ state _ n (refl, refl, tt) refl (has (installing id) refl).0 refl
   step_told who (AtInstall get id) (AtSlot at c (Installed false)) now state has l then n =
-      absurd (occupied id (has (installing id) refl) l)
+      absurd (occupied id (has (installing id) refl).0 l)
   step_told who (AtInstall get id) deed now state has l then n = absurd cc
   step_told who (AtSettle id) (AtRegistry c (Changed true)) now state has l then n =
-      own (settling id) _ state _ n (tt, tt, tt) refl (has (settling id) refl) refl
+      own (settling id) _ state _ n (tt, tt, tt) refl (has (settling id) refl).0 refl
   step_told who (AtSettle id) (AtRegistry c (Changed false)) now state has l then n = (
     (tt, tt, tt),
     rests refl (λ j e. subst (λ (i : Job). done (forgetting i.id) turns ≡ true) (some_is e) (gone (either _)))
@@ -313,19 +308,19 @@ module _ (registry_law : (generation : ℕ) (h : RegistryHistory) → IsLegalReg
           done (forgetting id) turns ≡ true
       gone (inl d) = d
       gone (inr d) =
-          let h = has (settling id) refl in
+          let h = (has (settling id) refl).0 in
           let row = row_made id (ordered turns f (installing id) h.0) d in
           absurd (l row.0
           (record { made = row.1.made; kept = row.1.kept; stage = sym (in_registry (settles id) turns) ∙ h.1 }))
   step_told who (AtSettle id) deed now state has l then n = absurd cc
   step_told who (AtForget id blocks) (AtRegistry c (Changed true)) now state has l then n =
-      own (forgetting id) _ state _ n (tt, tt, refl) refl (has (forgetting id) refl) refl
+      own (forgetting id) _ state _ n (tt, tt, refl) refl (has (forgetting id) refl).0 refl
   step_told who (AtForget id blocks) (AtRegistry c (Changed false)) now state has l then n =
-      let h = has (forgetting id) refl in
+      let h = (has (forgetting id) refl).0 in
       let row = row_made id (ordered turns f (installing id) (ordered turns f (removing id) h.0)) h.1 in
       absurd (l (row_of id row.0) row.1 refl)
   step_told who (AtForget id blocks) deed now state has l then n = absurd cc
-  step_told who (AtUnmake id) deed now state has l then n = absurd (has (record { task = ToUnmake; id = id }) refl).0
+  step_told who (AtUnmake id) deed now state has l then n = let bad = (has (making id) refl).1 in absurd cc
   step_told who (AtRemove by id) (AtSlot at c (Discarded messages)) now state has l then n =
       let u = f.lives (slot_of_id id) id l.0 in (
         (tt, tt, tt),
@@ -357,18 +352,13 @@ module _ (registry_law : (generation : ℕ) (h : RegistryHistory) → IsLegalReg
   life_goes jobs l place who phase now deed state there asked legal_now then goes =
       let s = subst (λ d. Goes_on who phase d state) (told_is (asks phase now) deed asked)
       (step_told who phase deed now state)
-      (λ j is. (l.holds place j (there ∙ ap (λ x. Some x) is)).0) legal_now then goes in
+      (λ j is. l.holds place j (there ∙ ap (λ x. Some x) is)) legal_now then goes in
       life_turn turns who deed jobs l place (job_at (Goes phase)) (job_at state) there (record {
         seemly = s.0;
-        legal = at_slot deed legal_now;
+        legal = legal_at_slot generation blocks turns deed legal_now;
         next = next_of (job_at (Goes phase)) (job_at state) s.1;
       }) s.1
     where
-      at_slot : (d : Deed) → IsLegalDeed generation blocks turns d → IsLegalAtSlot turns d
-      at_slot (AtSlot slot call reply) l = l
-      at_slot (AtRegistry call reply) l = tt
-      at_slot (AtPool call reply) l = tt
-
       next_of : (was to : Option Job) → Step turns deed was to → (j : Job) → does j deed ≡ true → IsNext j turns
       next_of was to (rests none gone nothing) j d = not_both (does j deed) d (no_job j deed none)
       next_of was to (acts i job is_next mine held then_is) j d =
@@ -426,19 +416,6 @@ lives_stand turns actors place was call state there none then l =
     (sym (slice_set-same (jobs_of actors) place None (jobs_get actors place was there ∙ ap (λ x. Some x) none))
     ∙ (ap (slice_set (jobs_of actors) place) (sym then) ∙ jobs_set actors place call state)) l
 
-pub resumed_none : (wait : Wait) (value : ℕ) → job_at (Goes (resume wait value)) ≡ None
-resumed_none (OnSettled goal get) value = refl
-resumed_none wait value = refl
-
-pub begun_none : (cred : Cred) (asked : SystemCall) (released : ℕ) → job_at (begin cred asked released) ≡ None
-begun_none cred asked released = by_value asked (is_refused asked)
-  where
-    by_value : (c : SystemCall) (b : Bool) →
-        job_at (cond b (Over (Refused EINVAL)) (Goes (first cred c released))) ≡ None
-    by_value c true = refl
-    by_value (Msgget key flags) false = refl
-    by_value c false = refl
-
 none_in : (n place : ℕ) (j : Job) → slice_get (jobs_of (replicate n None)) place ≡ Some (Some j) → ⊥
 none_in zero place j e = cc
 none_in (suc n) zero j e = cc
@@ -464,7 +441,6 @@ opening_lives n = record {
     nothing_ready ToInstall id o r = cc
     nothing_ready ToSettle id o r = cc
     nothing_ready ToForget id o r = cc
-    nothing_ready ToUnmake id o r = r
     nothing_ready ToMake id o r = cc
     nothing_ready ToRemove id o r = cc
 

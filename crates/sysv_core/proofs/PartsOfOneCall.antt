@@ -1,6 +1,6 @@
 -- What belongs to a call among all turns, endings and actors, and that one more item of another
 -- call leaves it as it was.
-use Rattle.std.proofs.Common.{◌≡◌, ◌≢◌, ℕ, zero, suc, ◌==◌, ◌&&◌, ◌⊎◌, inl, inr, Bool, true, false, cond, List, [], ◌∷◌}
+use Rattle.std.proofs.Common.{◌≡◌, ◌≢◌, ℕ, zero, suc, ◌==◌, inl, inr, Bool, true, false, cond, List, [], ◌∷◌}
 use Rattle.std.proofs.Common.{◌++◌, Option, None, Some, refl, sym, ap, subst, ◌∙◌, arith, map, slice_get, slice_set}
 use Rattle.std.specs.List.{filter}
 use Rattle.std.proofs.lemmas.List.{append-nil, map-append}
@@ -12,23 +12,16 @@ use Rattle.sysv_model.specs.Turn.{Turn, is_same, deeds_of}
 use Rattle.sysv_steps.specs.State.{State, Goes, Waits, Over}
 use Rattle.sysv_core.specs.World.{Started, Doing, Given, doing_in, given_in}
 use Rattle.sysv_core.specs.AnswerLaw.{endings_of, stands_in, standing_of, ended, standing}
+use Rattle.sysv_core.proofs.Life.{both_true}
 use Rattle.sysv_core.proofs.Lists.{get_set_same, get_set_other, same_place}
 
 -- ---- names
 
-two_true : (a b : Bool) → (a && b) ≡ true → (a ≡ true) × (b ≡ true)
-two_true true true e = (refl, refl)
-two_true true false e = absurd cc
-two_true false b e = absurd cc
-
-one_number : (a b : ℕ) → (a == b) ≡ true → a ≡ b
-one_number a b e = eqb-true a b e
-
 pub same_who : (c d : Who) → is_same c d ≡ true → c ≡ d
 same_who (Actor a s) (Actor b t) e =
-    let both = two_true (a == b) (s == t) e in
-    let actors : a ≡ b = one_number a b both.0 in
-    let starts : s ≡ t = one_number s t both.1 in
+    let both = both_true (a == b) (s == t) e in
+    let actors : a ≡ b = eqb-true a b both.0 in
+    let starts : s ≡ t = eqb-true s t both.1 in
     ap (λ n. Actor n s) actors ∙ ap (Actor b) starts
 same_who (Actor a s) (Seat m) e = absurd cc
 same_who (Seat n) d e = absurd cc
@@ -45,10 +38,6 @@ told_apart c d false e f = refl
 
 pub not_same : (c d : Who) → c ≢ d → is_same c d ≡ false
 not_same c d f = told_apart c d (is_same c d) refl f
-
-pub same_or_not : (c d : Who) (b : Bool) → is_same c d ≡ b → (is_same c d ≡ true) ⊎ (is_same c d ≡ false)
-same_or_not c d true e = inl e
-same_or_not c d false e = inr e
 
 -- ---- turns
 

@@ -78,9 +78,7 @@ state_led call b (Goes phase) (led.To doing) h = ap Some h
 state_led call b (Waits wait) (led.To doing) h = ap Some h
 state_led call b (Over ending) (led.To doing) h = absurd (never_over ending doing h)
 state_led call b (Over ending) (led.Over ended) h = refl
-state_led call b (Goes phase) (led.Over ended) h = absurd h
-state_led call b (Waits wait) (led.Over ended) h = absurd h
-state_led call b state (led.Stays doing) h = absurd h
+state_led call b state l h = absurd h
 
 -- The result of a start or a step is reported.
 tells_led : (w : World) (call : Started) (actor : ℕ) (state : State) (l : Led) → w.steps < WORN →
@@ -92,9 +90,7 @@ tells_led w call actor (Over ending) (led.To doing) young own h = absurd (never_
 tells_led w call actor (Over ending) (led.Over ended) young own h =
     let g : Given = record { call = call; ending = ending } in
     (young, (g, refl, record { caller = own; ending = h }))
-tells_led w call actor (Goes phase) (led.Over ended) young own h = absurd h
-tells_led w call actor (Waits wait) (led.Over ended) young own h = absurd h
-tells_led w call actor state (led.Stays doing) young own h = absurd h
+tells_led w call actor state l young own h = absurd h
 
 counts_led : (b : Bool) (state : State) (l : Led) (n : ℕ) → LeadsTo b state l → n + 1 ≡ n + counted_led l
 counts_led b state (led.To doing) n h = refl

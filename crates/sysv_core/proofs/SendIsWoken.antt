@@ -5,21 +5,21 @@ use Rattle.std.proofs.Common.{◌∷◌, ◌++◌, Option, None, Some, refl, sym
 use Rattle.std.proofs.Common.{slice_set, option_map}
 use Rattle.std.proofs.Math.Dec.{eqb}
 use Rattle.std.proofs.lemmas.Bool.{eqb-true}
+use Rattle.std.proofs.lemmas.Bool.Decides.{Decides-int_eq}
+use Rattle.std.specs.Ordering.{int_eq}
 use Rattle.std.proofs.lemmas.List.Elements.{All-contains, Contains-append_right}
-use Rattle.std.specs.List.{Contains}
+use Rattle.std.specs.List.{All}
 use Rattle.sysv_model.specs.declared.attributes.Attributes.{Attributes}
-use Rattle.sysv_model.specs.declared.attributes.SetTo.{SetTo}
 use Rattle.sysv_model.specs.declared.cred.Cred.{Cred}
 use Rattle.sysv_model.specs.declared.errno.Errno.{Errno}
 use Rattle.sysv_model.specs.declared.errno.Errno.TheVariants.{EINVAL}
 use Rattle.sysv_model.specs.declared.limits.TheConstants.{IPC_PRIVATE}
-use Rattle.sysv_model.specs.Message.{Message}
 use Rattle.sysv_model.specs.History.{Who, Call, Install, Look, Place, Take, Set, Remove, Reply, Installed, Full, Fits}
-use Rattle.sysv_model.specs.History.{Accepted, Taken, Done, Discarded, History}
+use Rattle.sysv_model.specs.History.{Accepted, Taken, Done, Discarded}
 use Rattle.sysv_model.specs.Live.{live, live_after, HasId}
 use Rattle.sysv_model.specs.Registry.{Changed}
-use Rattle.sysv_model.specs.Pool.{PoolCall, PoolReply, Released, Foreign, PoolEntry, PoolHistory, released}
-use Rattle.sysv_model.specs.Turn.{OfSlot, Deed, AtSlot, AtRegistry, AtPool, asked_by, Turn, pool_entry, slot_history}
+use Rattle.sysv_model.specs.Pool.{PoolCall, PoolReply, Released, Foreign, PoolEntry, released}
+use Rattle.sysv_model.specs.Turn.{Deed, AtSlot, AtRegistry, AtPool, asked_by, Turn, pool_entry, slot_history}
 use Rattle.sysv_model.specs.Turn.{pool_history}
 use Rattle.sysv_queue.specs.Granted.{MayWrite}
 use Rattle.sysv_queue.specs.Slot.{Slot, slot_of}
@@ -32,21 +32,24 @@ use Rattle.sysv_steps.specs.State.{AtSetGiveback, AtRemove, AtForget, AtRemoveGi
 use Rattle.sysv_steps.specs.State.{Refused}
 use Rattle.sysv_steps.specs.Begin.{is_refused, first}
 use Rattle.sysv_steps.specs.Asks.{asks}
-use Rattle.sysv_steps.specs.Next.{waits_or, goes_on, after_set, after_remove, next}
+use Rattle.sysv_steps.specs.Next.{waits_or, goes_on, next}
 use Rattle.sysv_steps.specs.Resume.{resume, awaited}
 use Rattle.sysv_steps.specs.HoldsAsked.{Holds}
 use Rattle.sysv_core.specs.World.{World, Opening, Started, Doing, Given, opening, doing_in, starting, begun, value_of}
-use Rattle.sysv_core.specs.World.{preset_who, preset_cred, preset_flags, preset_begin, with_preset_turns}
+use Rattle.sysv_core.specs.World.{preset_who, preset_cred, preset_flags, preset_begin, preset_install, preset_settle}
+use Rattle.sysv_core.specs.World.{with_preset_turns}
 use Rattle.sysv_core.specs.Sound.{IsSound}
 use Rattle.sysv_core.specs.Parked.{IsOpenTo, HasToGiveBack, IsToBeWoken}
 use Rattle.sysv_core.proofs.Lists.{get_set_same, get_set_other, same_place}
-use Rattle.sysv_core.proofs.Histories.{turn_of, pool_more, slot_stays, pool_stays, live_turn, begun_turns, preset_slot}
+use Rattle.sysv_core.proofs.Histories.{turn_of, pool_more, pool_stays, live_by, live_turn, begun_turns, installed_turns}
+use Rattle.sysv_core.proofs.Histories.{preset_slot}
 use Rattle.sysv_core.proofs.Histories.{preset_pool, released_more}
 use Rattle.sysv_core.proofs.SoundStays.{moved, other, does, none_busy}
 use Rattle.sysv_core.proofs.TurnInHistory.{slot_around}
-use Rattle.sysv_core.proofs.Life.{one_id}
-use Rattle.sysv_core.proofs.WaitsForBlocks.{read_by, IsRight, IsShort, AllRight, Comes, Follows, FollowsIn, followed}
-use Rattle.sysv_core.proofs.WaitsForBlocks.{told_too_few, move_right}
+use Rattle.sysv_core.proofs.Told.{told, told_is}
+use Rattle.sysv_core.proofs.Life.{either, not_both, one_id, IsLegalAtSlot, legal_at_slot}
+use Rattle.sysv_core.proofs.WaitsForBlocks.{read_by, IsRight, AreRight, IsShort, AllRight, Comes, followed}
+use Rattle.sysv_core.proofs.WaitsForBlocks.{move_right}
 use Rattle.sysv_core.proofs.Moves.{Move, stood, began, turned, awoke, preset_made}
 
 some_is : {X : Type 0} {x y : X} → Some x ≡ Some y → y ≡ x
@@ -60,57 +63,55 @@ keeps : (id : ℤ) (cred : Cred) (f : Attributes → Attributes) → ((a : Attri
 keeps id cred f same still None lives may = absurd lives
 keeps id cred f same still (Some a) lives may = (same a ∙ lives, still a may)
 
--- The turn set the queue or removed it.
-abbrev IsSetBy : ℤ → Call → Reply → Type 0
-IsSetBy id call reply =
-    (at : ℤ) × (cred : Cred) × (to : SetTo) × (now : ℕ) × (call ≡ Set at cred to now) × (reply ≡ Done) × (at ≡ id)
+-- The turn sets the queue or removes it.
+abbrev changes : ℤ → Call → Reply → Bool
+changes id (Set at cred to now) Done = int_eq at id
+changes id (Remove at cred) (Discarded messages) = int_eq at id
+changes id call reply = false
 
-abbrev IsRemovedBy : ℤ → Call → Reply → Type 0
-IsRemovedBy id call reply = (at : ℤ) × (cred : Cred) × (messages : List Message) × (call ≡ Remove at cred)
-    × (reply ≡ Discarded messages) × (at ≡ id)
-
-abbrev Changes : ℤ → Call → Reply → Type 0
-Changes id call reply = IsSetBy id call reply ⊎ IsRemovedBy id call reply
+abbrev changed : ℤ → Deed → Bool
+changed id (AtSlot slot call reply) = changes id call reply
+changed id deed = false
 
 abbrev Open : Option Attributes → ℤ → Cred → Type 0
 Open l id cred = HasId l id × MayWrite cred l
 
 open_on : (s : Slot) (id : ℤ) (by : Cred) (call : Call) (reply : Reply) → Legal s call reply → HasId s.live id →
-    MayWrite by s.live → Open (live_after s.live call reply) id by ⊎ Changes id call reply
-open_on s id by (Install at key cred mode now) (Installed true) l lives may = absurd (subst (λ a. HasId a id) l lives)
-open_on s id by (Place at cred mtype bytes now) (Accepted number) l lives may =
-    inl (keeps id by _ (λ a. refl) (λ a m. m) s.live lives may)
-open_on s id by (Take at cred selector size noerror now) (Taken m) l lives may =
-    inl (keeps id by _ (λ a. refl) (λ a q. q) s.live lives may)
-open_on s id by (Set at cred to now) Done l lives may =
-    inr (inl (at, cred, to, now, refl, refl, one_id s.live at id l.0 lives))
-open_on s id by (Remove at cred) (Discarded messages) l lives may =
-    inr (inr (at, cred, messages, refl, refl, one_id s.live at id l.0 lives))
-open_on s id by call reply l lives may = inl (lives, may)
+    MayWrite by s.live → changes id call reply ≡ false → Open (live_after s.live call reply) id by
+open_on s id by (Install at key cred mode now) (Installed true) l lives may kept =
+    absurd (subst (λ a. HasId a id) l lives)
+open_on s id by (Place at cred mtype bytes now) (Accepted number) l lives may kept =
+    keeps id by _ (λ a. refl) (λ a m. m) s.live lives may
+open_on s id by (Take at cred selector size noerror now) (Taken m) l lives may kept =
+    keeps id by _ (λ a. refl) (λ a q. q) s.live lives may
+open_on s id by (Set at cred to now) Done l lives may kept =
+    not_both (int_eq at id) ((Decides-int_eq at id).1 (one_id s.live at id l.0 lives)) kept
+open_on s id by (Remove at cred) (Discarded messages) l lives may kept =
+    not_both (int_eq at id) ((Decides-int_eq at id).1 (one_id s.live at id l.0 lives)) kept
+open_on s id by call reply l lives may kept = (lives, may)
 
-open_then : (turns : List Turn) (slot : ℕ) (c : Call) (reply : Reply) (id : ℤ) (by : Cred) (b : Bool) →
-    (b ≡ true → slot ≡ slot_of_id id) → Legal (slot_of (slot_history slot turns)) c reply →
-    IsOpenTo (slot_history (slot_of_id id) turns) id by →
-    Open (cond b (live_after (live (slot_history (slot_of_id id) turns)) c reply)
-    (live (slot_history (slot_of_id id) turns))) id by ⊎ Changes id c reply
-open_then turns slot c reply id by true here legal o =
-    open_on (slot_of (slot_history (slot_of_id id) turns)) id by c reply
-    (subst (λ n. Legal (slot_of (slot_history n turns)) c reply) (here refl) legal) o.lives o.may_write
-open_then turns slot c reply id by false here legal o = inl (o.lives, o.may_write)
+open_then : (turns : List Turn) (deed : Deed) (id : ℤ) (by : Cred) → IsLegalAtSlot turns deed →
+    changed id deed ≡ false → IsOpenTo (slot_history (slot_of_id id) turns) id by →
+    Open (live_by (slot_of_id id) deed (live (slot_history (slot_of_id id) turns))) id by
+open_then turns (AtSlot slot c reply) id by legal kept o =
+    by_slot (eqb slot (slot_of_id id)) (λ e. eqb-true slot (slot_of_id id) e)
+  where
+    by_slot : (b : Bool) → (b ≡ true → slot ≡ slot_of_id id) →
+        Open (cond b (live_after (live (slot_history (slot_of_id id) turns)) c reply)
+        (live (slot_history (slot_of_id id) turns))) id by
+    by_slot true here = open_on (slot_of (slot_history (slot_of_id id) turns)) id by c reply
+        (subst (λ n. Legal (slot_of (slot_history n turns)) c reply) (here refl) legal) o.lives o.may_write kept
+    by_slot false here = (o.lives, o.may_write)
+open_then turns (AtRegistry c reply) id by legal kept o = (o.lives, o.may_write)
+open_then turns (AtPool c reply) id by legal kept o = (o.lives, o.may_write)
 
-open_past : (turns : List Turn) (who : Who) (slot : ℕ) (c : Call) (reply : Reply) (id : ℤ) (by : Cred) →
-    Legal (slot_of (slot_history slot turns)) c reply → IsOpenTo (slot_history (slot_of_id id) turns) id by →
-    IsOpenTo (slot_history (slot_of_id id) (turns ++ turn_of who (AtSlot slot c reply) ∷ [])) id by ⊎ Changes id c reply
-open_past turns who slot c reply id by legal o =
-    let is = live_turn (slot_of_id id) turns who (AtSlot slot c reply) in
-    elim (open_then turns slot c reply id by (eqb slot (slot_of_id id)) (λ e. eqb-true slot (slot_of_id id) e) legal
-    o) [
-      | inl on ↦ inl record {
-        lives = subst (λ l. HasId l id) (sym is) on.0;
-        may_write = subst (λ l. MayWrite by l) (sym is) on.1;
-      }
-      | inr gone ↦ inr gone
-    ]
+open_past : (turns : List Turn) (who : Who) (deed : Deed) (id : ℤ) (by : Cred) → IsLegalAtSlot turns deed →
+    changed id deed ≡ false → IsOpenTo (slot_history (slot_of_id id) turns) id by →
+    IsOpenTo (slot_history (slot_of_id id) (turns ++ turn_of who deed ∷ [])) id by
+open_past turns who deed id by legal kept o =
+    let on = subst (λ l. Open l id by) (sym (live_turn (slot_of_id id) turns who deed))
+    (open_then turns deed id by legal kept o) in
+    record { lives = on.0; may_write = on.1 }
 
 -- ---- who has still to give back
 
@@ -127,27 +128,20 @@ is_asked cred asked (AtSet by at what) h = absurd h
 is_asked cred asked (AtRemove by at) h = absurd h
 is_asked cred asked phase h = tt
 
-set_goes : (id : ℤ) (asked : SystemCall) (phase : Phase) (now slot : ℕ) (c : Call) (reply : Reply) (state : State) →
-    OfSlot slot c ≡ asks phase now → next phase (AtSlot slot c reply) ≡ Some state → IsSetBy id c reply →
-    IsAsked asked phase →
-    HasToGiveBack asked state id
-set_goes id asked (AtSet by at to) now slot c reply state a n (x, cred, y, m, ce, re, xe) own =
-    let row : after_set Done ≡ Some state = ap after_set (sym re) ∙ n in
-    let same : at ≡ x = cc in
+change_goes : (id : ℤ) (asked : SystemCall) (phase : Phase) (now : ℕ) (deed : Deed) (state : State) →
+    IsAsked asked phase → next phase (told (asks phase now) deed) ≡ Some state →
+    changed id (told (asks phase now) deed) ≡ true → HasToGiveBack asked state id
+change_goes id asked (AtSet by at to) now (AtSlot slot c Done) state own n ch =
     subst (λ q. HasToGiveBack q state id) (sym own)
-    (subst (λ t. HasToGiveBack (MsgctlSet at to) t id) (sym (some_is row)) (same ∙ xe))
-set_goes id asked phase now slot c reply state a n (x, cred, y, m, ce, re, xe) own = absurd cc
-
-removal_goes : (id : ℤ) (asked : SystemCall) (phase : Phase) (now slot : ℕ) (c : Call) (reply : Reply) (state : State) →
-    OfSlot slot c ≡ asks phase now → next phase (AtSlot slot c reply) ≡ Some state → IsRemovedBy id c reply →
-    IsAsked asked phase →
-    HasToGiveBack asked state id
-removal_goes id asked (AtRemove by at) now slot c reply state a n (x, cred, messages, ce, re, xe) own =
-    let row : after_remove at (Discarded messages) ≡ Some state = ap (after_remove at) (sym re) ∙ n in
-    let same : at ≡ x = cc in
+    (subst (λ t. HasToGiveBack (MsgctlSet at to) t id) (sym (some_is n)) ((Decides-int_eq at id).0 ch))
+change_goes id asked (AtRemove by at) now (AtSlot slot c (Discarded messages)) state own n ch =
     subst (λ q. HasToGiveBack q state id) (sym own)
-    (subst (λ t. HasToGiveBack (MsgctlRmid at) t id) (sym (some_is row)) (same ∙ xe))
-removal_goes id asked phase now slot c reply state a n (x, cred, messages, ce, re, xe) own = absurd cc
+    (subst (λ t. HasToGiveBack (MsgctlRmid at) t id) (sym (some_is n)) ((Decides-int_eq at id).0 ch))
+change_goes id asked phase now (AtSlot slot c reply) state own n ch = absurd cc
+change_goes id asked (AtForget at blocks) now (AtRegistry c reply) state own n ch = absurd cc
+change_goes id asked phase now (AtRegistry c reply) state own n ch = absurd cc
+change_goes id asked AtSetGiveback now (AtPool c reply) state own n ch = absurd cc
+change_goes id asked phase now (AtPool c reply) state own n ch = absurd cc
 
 abbrev AtPoolWith : PoolReply → Deed → Type 0
 AtPoolWith reply deed = (call : PoolCall) × (deed ≡ AtPool call reply)
@@ -157,19 +151,13 @@ giver_goes : (asked : SystemCall) (phase : Phase) (deed : Deed) (state : State) 
     HasToGiveBack asked state id ⊎ AtPoolWith Released deed ⊎ AtPoolWith Foreign deed
 giver_goes (MsgctlSet at to) AtSetGiveback (AtPool c Released) state id p n = inr (inl (c, refl))
 giver_goes (MsgctlSet at to) AtSetGiveback (AtPool c Foreign) state id p n = inr (inr (c, refl))
-giver_goes (MsgctlSet at to) AtSetGiveback (AtPool c reply) state id p n = absurd cc
-giver_goes (MsgctlSet at to) AtSetGiveback (AtSlot slot c reply) state id p n = absurd cc
-giver_goes (MsgctlSet at to) AtSetGiveback (AtRegistry c reply) state id p n = absurd cc
+giver_goes (MsgctlSet at to) AtSetGiveback deed state id p n = absurd cc
 giver_goes (MsgctlRmid at) (AtForget removed blocks) (AtRegistry c (Changed done)) state id p n =
     inl (subst (λ t. HasToGiveBack (MsgctlRmid at) t id) (sym (some_is n)) p)
-giver_goes (MsgctlRmid at) (AtForget removed blocks) (AtRegistry c reply) state id p n = absurd cc
-giver_goes (MsgctlRmid at) (AtForget removed blocks) (AtSlot slot c reply) state id p n = absurd cc
-giver_goes (MsgctlRmid at) (AtForget removed blocks) (AtPool c reply) state id p n = absurd cc
+giver_goes (MsgctlRmid at) (AtForget removed blocks) deed state id p n = absurd cc
 giver_goes (MsgctlRmid at) (AtRemoveGiveback blocks) (AtPool c Released) state id p n = inr (inl (c, refl))
 giver_goes (MsgctlRmid at) (AtRemoveGiveback blocks) (AtPool c Foreign) state id p n = inr (inr (c, refl))
-giver_goes (MsgctlRmid at) (AtRemoveGiveback blocks) (AtPool c reply) state id p n = absurd cc
-giver_goes (MsgctlRmid at) (AtRemoveGiveback blocks) (AtSlot slot c reply) state id p n = absurd cc
-giver_goes (MsgctlRmid at) (AtRemoveGiveback blocks) (AtRegistry c reply) state id p n = absurd cc
+giver_goes (MsgctlRmid at) (AtRemoveGiveback blocks) deed state id p n = absurd cc
 giver_goes asked phase deed state id p n = absurd p
 
 -- Some actor's call still has to release a chain.
@@ -185,7 +173,7 @@ still_give : (id : ℤ) (actors : List (Option Doing)) (place : ℕ) (was new : 
 still_give id actors place was new there s = elim (same_place place s.place) [
   | inl same ↦
       let at : Some was ≡ Some (Some s.doing) = sym there ∙ (ap (slice_get actors) same ∙ s.there) in
-      inl (s.doing, inner was (Some s.doing) at, s.gives)
+      inl (s.doing, sym (some_is at), s.gives)
   | inr apart ↦ inr record {
     place = s.place;
     doing = s.doing;
@@ -193,9 +181,6 @@ still_give id actors place was new there s = elim (same_place place s.place) [
     gives = s.gives;
   }
 ]
-  where
-    inner : (x y : Option Doing) → Some x ≡ Some y → x ≡ y
-    inner x y e = cc
 
 gives_now : (id : ℤ) (actors : List (Option Doing)) (place : ℕ) (was : Option Doing) (call : Started) (state : State) →
     slice_get actors place ≡ Some was → HasToGiveBack call.asked state id →
@@ -259,15 +244,20 @@ pool_part turns who (AtPool c reply) n since =
     (omega (arith, since, released_more (pool_history turns) e))
 
 -- No chain is refused.
-never_foreign : (w after : World) (who : Who) (deed : Deed) → IsSound after →
-    after.turns ≡ w.turns ++ turn_of who deed ∷ [] → AtPoolWith Foreign deed → ⊥
-never_foreign w after who deed s turns_are (c, is) =
+never_foreign : (turns : List Turn) (who : Who) (deed : Deed) →
+    All (λ (e : PoolEntry). e.reply ≢ Foreign) (pool_history (turns ++ turn_of who deed ∷ [])) →
+    AtPoolWith Foreign deed → ⊥
+never_foreign turns who deed all (c, is) =
     let e : PoolEntry = record { who = who; call = c; reply = Foreign } in
-    let more : pool_history after.turns ≡ pool_history w.turns ++ e ∷ [] = ap pool_history turns_are
-    ∙ (pool_more w.turns (turn_of who deed) ∙ ap (λ d. pool_history w.turns ++ pool_entry who d) is) in
-    All-contains (λ (x : PoolEntry). x.reply ≢ Foreign) (pool_history after.turns) e s.blocks.taken_back
-    (subst (λ (h : PoolHistory). Contains h e) (sym more)
-    (Contains-append_right (pool_history w.turns) (e ∷ []) e (0, omega arith, refl))) refl
+    let more : pool_history (turns ++ turn_of who deed ∷ []) ≡ pool_history turns ++ e ∷ [] =
+    pool_more turns (turn_of who deed) ∙ ap (λ d. pool_history turns ++ pool_entry who d) is in
+    All-contains (λ (x : PoolEntry). x.reply ≢ Foreign) (pool_history turns ++ e ∷ []) e
+    (subst (All (λ (x : PoolEntry). x.reply ≢ Foreign)) more all)
+    (Contains-append_right (pool_history turns) (e ∷ []) e (0, omega arith, refl)) refl
+
+abbrev AreWoken : List Turn → List (Option Doing) → Type 0
+AreWoken turns actors =
+    (place : ℕ) (d : Doing) → slice_get actors place ≡ Some (Some d) → IsWoken turns actors d.state
 
 module _ (generation blocks : ℕ) (turns : List Turn) (actors : List (Option Doing)) (place : ℕ) (call : Started)
     (phase : Phase) (there : slice_get actors place ≡ Some (Some record { call = call; state = Goes phase })) (now : ℕ)
@@ -290,27 +280,19 @@ module _ (generation blocks : ℕ) (turns : List Turn) (actors : List (Option Do
       let same : d ≡ record { call = call; state = Goes phase } = some_is is in
       subst (λ (x : Doing). HasToGiveBack x.call.asked x.state id) same p
 
-  open_still : (d : Deed) → d ≡ deed → (id : ℤ) (by : Cred) → IsOpenTo (slot_history (slot_of_id id) turns) id by →
-      IsOpenTo (slot_history (slot_of_id id) (turns ++ turn_of call.who d ∷ [])) id by ⊎ SomeGive id moved_actors
-  open_still (AtSlot slot c reply) is id by o =
-      let asked_it : OfSlot slot c ≡ asks phase now = ap asked_by is ∙ asked in
-      let goes_so : next phase (AtSlot slot c reply) ≡ Some state = ap (next phase) is ∙ goes in
-      elim (open_past turns call.who slot c reply id by (subst (IsLegalDeed generation blocks turns) (sym is) legal)
-      o) [
-        | inl on ↦ inl on
-        | inr (inl set) ↦ inr (gives_now id actors place was call state there
-            (set_goes id call.asked phase now slot c reply state asked_it goes_so set own))
-        | inr (inr removed) ↦ inr (gives_now id actors place was call state there
-            (removal_goes id call.asked phase now slot c reply state asked_it goes_so removed own))
-      ]
-  open_still (AtRegistry c reply) is id by o = inl (subst (λ (h : History). IsOpenTo h id by)
-      (sym (slot_stays (slot_of_id id) turns call.who (AtRegistry c reply) refl)) o)
-  open_still (AtPool c reply) is id by o = inl (subst (λ (h : History). IsOpenTo h id by)
-      (sym (slot_stays (slot_of_id id) turns call.who (AtPool c reply) refl)) o)
+  open_still : (id : ℤ) (by : Cred) → IsOpenTo (slot_history (slot_of_id id) turns) id by →
+      IsOpenTo (slot_history (slot_of_id id) later) id by ⊎ SomeGive id moved_actors
+  open_still id by o = elim (either (changed id deed)) [
+    | inr kept ↦ inl (open_past turns call.who deed id by (legal_at_slot generation blocks turns deed legal) kept o)
+    | inl ch ↦
+        let is = told_is (asks phase now) deed asked in
+        inr (gives_now id actors place was call state there
+        (change_goes id call.asked phase now deed state own (ap (next phase) is ∙ goes) (ap (changed id) is ∙ ch)))
+  ]
 
   woken_on : (s : Sending) → s.released ≤ released (pool_history turns) → Woken turns actors s →
       Woken later moved_actors s
-  woken_on s read (inl o) = elim (open_still deed refl s.id s.cred o) [
+  woken_on s read (inl o) = elim (open_still s.id s.cred o) [
     | inl on ↦ inl on
     | inr g ↦ inr (inl g)
   ]
@@ -346,9 +328,7 @@ module _ (generation blocks : ℕ) (turns : List Turn) (actors : List (Option Do
           Some (goes_on (waits_or b wait why)) ≡ Some (Goes (AtReserve t)) → ⊥
       not_full true wait why e = cc
       not_full false wait why e = cc
-  looked s t (AtSlot slot c reply) is a l n = absurd cc
-  looked s t (AtRegistry c reply) is a l n = absurd cc
-  looked s t (AtPool c reply) is a l n = absurd cc
+  looked s t d is a l n = absurd cc
 
   own_woken : IsRight blocks (pool_history turns) (Goes phase) → IsWoken turns actors (Goes phase) → (st : State) →
       st ≡ state → Comes phase st → IsWoken later moved_actors st
@@ -363,75 +343,39 @@ module _ (generation blocks : ℕ) (turns : List Turn) (actors : List (Option Do
       woken_on t r_at.read (subst (λ p. IsWoken turns actors (Goes p)) at k)
   own_woken r k st is c = tt
 
+  turn_woken : AreRight blocks turns actors → AreWoken turns actors → AreWoken later moved_actors
+  turn_woken right woken = λ at e here.
+      let d : Doing = record { call = call; state = Goes phase } in
+      let r = right place d there in
+      let f = followed generation blocks turns phase now deed state r.short asked legal goes in
+      elim (does actors place was call state at e there here) [
+        | moved same c s ↦
+            subst (IsWoken later moved_actors) (sym s) (own_woken r (woken place d there) state refl f.comes)
+        | other old ↦ still_woken e.state (right at e old) (woken at e old)
+      ]
+
 -- ---- every actor
 
-pub record AllWoken (w : World) : Type 0 where
-  pub right : AllRight w
-  pub woken : (place : ℕ) (d : Doing) → slice_get w.actors place ≡ Some (Some d) → IsWoken w.turns w.actors d.state
-
-turn_woken : (w after : World) (place now : ℕ) (call : Started) (phase : Phase) (deed : Deed) (state : State) →
-    AllWoken w → AllRight after → IsSound after → IsAsked call.asked phase →
-    slice_get w.actors place ≡ Some (Some record { call = call; state = Goes phase }) →
-    asked_by deed ≡ asks phase now → IsLegalDeed w.generation w.blocks w.turns deed → next phase deed ≡ Some state →
-    after.turns ≡ w.turns ++ turn_of call.who deed ∷ [] →
-    after.actors ≡ slice_set w.actors place (doing_in call state) → AllWoken after
-turn_woken w after place now call phase deed state k right sound own there asked legal goes turns_are actors_are =
-    let d : Doing = record { call = call; state = Goes phase } in
-    let back = never_foreign w after call.who deed sound turns_are in
-    let r = k.right place d there in
-    let f : Follows w.blocks (pool_history w.turns) phase state =
-    subst (FollowsIn w.blocks (pool_history w.turns) phase) goes
-    (followed w.blocks (pool_history w.turns) phase deed r.short
-    (told_too_few w.generation w.blocks w.turns phase now deed asked legal)) in
-    record {
-      right = right;
-      woken = λ at e here.
-          subst (λ ts. IsWoken ts after.actors e.state) (sym turns_are)
-          (subst (λ xs. IsWoken (w.turns ++ turn_of call.who deed ∷ []) xs e.state) (sym actors_are)
-          (elim (does w.actors place (Some d) call state at e there
-          (subst (λ xs. slice_get xs at ≡ Some (Some e)) actors_are here)) [
-            | moved same c s ↦ subst (IsWoken (w.turns ++ turn_of call.who deed ∷ [])
-                (slice_set w.actors place (doing_in call state))) (sym s)
-                (own_woken w.generation w.blocks w.turns w.actors place call phase there now deed state asked legal goes
-                own back r (k.woken place d there) state refl f.comes)
-            | other old ↦ still_woken w.generation w.blocks w.turns w.actors place call phase there now deed state asked
-                legal goes own back e.state (k.right at e old) (k.woken at e old)
-          ]));
-    }
-
 -- A call that continues without a turn, or that starts.
-stays_woken : (turns : List Turn) (actors : List (Option Doing)) (place : ℕ) (was new : Option Doing) →
-    slice_get actors place ≡ Some was →
+stand_woken : (turns : List Turn) (actors : List (Option Doing)) (place : ℕ) (was : Option Doing) (call : Started)
+    (state : State) → slice_get actors place ≡ Some was →
     ((d : Doing) (id : ℤ) → was ≡ Some d → HasToGiveBack d.call.asked d.state id → ⊥) →
-    (st : State) → IsWoken turns actors st → IsWoken turns (slice_set actors place new) st
-stays_woken turns actors place was new there none st k =
-    each_woken turns turns actors (slice_set actors place new) st (λ s is. woken_still s) k
+    IsWoken turns (slice_set actors place (doing_in call state)) state → AreWoken turns actors →
+    AreWoken turns (slice_set actors place (doing_in call state))
+stand_woken turns actors place was call state there none own woken = λ at e here.
+    elim (does actors place was call state at e there here) [
+      | moved same c s ↦ subst (IsWoken turns (slice_set actors place (doing_in call state))) (sym s) own
+      | other old ↦ each_woken turns turns actors (slice_set actors place (doing_in call state)) e.state
+          (λ s is. still s) (woken at e old)
+    ]
   where
-    woken_still : (s : Sending) → Woken turns actors s → Woken turns (slice_set actors place new) s
-    woken_still s (inl o) = inl o
-    woken_still s (inr (inl g)) = elim (still_give s.id actors place was new there g) [
+    still : (s : Sending) → Woken turns actors s → Woken turns (slice_set actors place (doing_in call state)) s
+    still s (inl o) = inl o
+    still s (inr (inl g)) = elim (still_give s.id actors place was (doing_in call state) there g) [
       | inr on ↦ inr (inl on)
       | inl m ↦ absurd (none m.0 s.id m.1 m.2)
     ]
-    woken_still s (inr (inr p)) = inr (inr p)
-
-stand_woken : (w after : World) (place : ℕ) (was : Option Doing) (call : Started) (state : State) → AllWoken w →
-    AllRight after → slice_get w.actors place ≡ Some was →
-    ((d : Doing) (id : ℤ) → was ≡ Some d → HasToGiveBack d.call.asked d.state id → ⊥) →
-    ((turns : List Turn) (actors : List (Option Doing)) → IsWoken turns actors state) →
-    after.turns ≡ w.turns → after.actors ≡ slice_set w.actors place (doing_in call state) → AllWoken after
-stand_woken w after place was call state k right there none free turns_are actors_are = record {
-  right = right;
-  woken = λ at e here.
-      subst (λ ts. IsWoken ts after.actors e.state) (sym turns_are)
-      (subst (λ xs. IsWoken w.turns xs e.state) (sym actors_are)
-      (elim (does w.actors place was call state at e there
-      (subst (λ xs. slice_get xs at ≡ Some (Some e)) actors_are here)) [
-        | moved same c s ↦ subst (IsWoken w.turns (slice_set w.actors place (doing_in call state))) (sym s)
-            (free w.turns (slice_set w.actors place (doing_in call state)))
-        | other old ↦ stays_woken w.turns w.actors place was (doing_in call state) there none e.state (k.woken at e old)
-      ]));
-}
+    still s (inr (inr p)) = inr (inr p)
 
 waits_gives : (asked : SystemCall) (wait : Wait) (id : ℤ) → HasToGiveBack asked (Waits wait) id → ⊥
 waits_gives (MsgctlSet at to) wait id q = q
@@ -455,18 +399,11 @@ preset_open : (turns : List Turn) → IsLegalHistory (slot_history 0 (with_prese
     IsOpenTo (slot_history (slot_of_id id) turns) id by →
     IsOpenTo (slot_history (slot_of_id id) (with_preset_turns turns)) id by
 preset_open turns legal id by o =
-    subst (λ (h : History). IsOpenTo h id by) (sym (preset_slot (slot_of_id id) turns))
-    (elim (open_past (begun_turns turns) preset_who 0 (Install (pos 0) IPC_PRIVATE preset_cred preset_flags.0 0)
-    (Installed true) id by install_legal
-    (subst (λ (h : History). IsOpenTo h id by) (sym (slot_stays (slot_of_id id) turns preset_who preset_begin refl))
-    o)) [
-      | inl still ↦ still
-      | inr (inl set) ↦ let bad = set.4 in absurd cc
-      | inr (inr gone) ↦ let bad = gone.3 in absurd cc
-    ])
+    open_past (installed_turns turns) preset_who preset_settle id by tt refl
+    (open_past (begun_turns turns) preset_who preset_install id by install_legal refl
+    (open_past turns preset_who preset_begin id by tt refl o))
   where
-    install_legal : Legal (slot_of (slot_history 0 (begun_turns turns)))
-        (Install (pos 0) IPC_PRIVATE preset_cred preset_flags.0 0) (Installed true)
+    install_legal : IsLegalAtSlot (begun_turns turns) preset_install
     install_legal =
         legal (slot_history 0 (begun_turns turns)) (record {
           who = preset_who;
@@ -491,40 +428,41 @@ preset_still turns actors legal st k = each_woken turns (with_preset_turns turns
 abbrev pub AllHold : World → Type 0
 AllHold w = (place : ℕ) (d : Doing) → slice_get w.actors place ≡ Some (Some d) → Holds d.call.cred d.call.asked d.state
 
-move_woken : (w after : World) (given : List Given) → AllHold w → AllWoken w → AllRight after → IsSound after →
-    Move w given after → AllWoken after
-move_woken w after given holds k right sound (stood t) = subst AllWoken (sym t.1) k
-move_woken w after given holds k right sound (began place cred asked there t) =
-    let call = starting w (suc place) cred asked in
-    stand_woken w after place None call (begun call) k right there (λ d id e. absurd cc)
-    (begun_woken cred asked call.released (is_refused asked))
-    (ap (λ (x : World). x.turns) t.1) (ap (λ (x : World). x.actors) t.1)
-move_woken w after given holds k right sound (turned place now call phase there t) =
-    turn_woken w after place now call phase t.0 t.1 k right sound
-    (is_asked call.cred call.asked phase (holds place (record { call = call; state = Goes phase }) there)) there t.2 t.3
-    t.4 (ap (λ (x : World). x.turns) t.6)
-    (ap (λ (x : World). x.actors) t.6)
-move_woken w after given holds k right sound (awoke place call wait there reached gave is) =
-    let value = value_of w.turns (awaited wait) in
-    stand_woken w after place (Some record { call = call; state = Waits wait }) call (Goes (resume wait value)) k right
-    there
-    (λ d id is p.
-    let same : d ≡ record { call = call; state = Waits wait } = some_is is in
-    waits_gives call.asked wait id (subst (λ (x : Doing). HasToGiveBack x.call.asked x.state id) same p))
-    (resumed_woken wait value) (ap (λ (x : World). x.turns) is)
-    (ap (λ (x : World). x.actors) is)
-move_woken w after given holds k right sound (preset_made unused gave is) =
-    let legal : IsLegalHistory (slot_history 0 (with_preset_turns w.turns)) =
-    subst (λ (v : World). IsLegalHistory (slot_history 0 v.turns)) is (sound.legal.slots 0) in
-    subst AllWoken (sym is) record {
-      right = subst AllRight is right;
-      woken = λ at e here. preset_still w.turns w.actors legal e.state (k.woken at e here);
-    }
+pub record AllWoken (w : World) : Type 0 where
+  pub right : AllRight w
+  pub woken : AreWoken w.turns w.actors
 
-pub moves_woken : (w after : World) (given : List Given) → AllHold w → AllWoken w → IsSound after → Move w given after →
+pub move_woken : (w after : World) (given : List Given) → AllHold w → AllWoken w → IsSound after → Move w given after →
     AllWoken after
-moves_woken w after given holds k sound m =
-    move_woken w after given holds k (move_right w after given k.right m) sound m
+move_woken w after given holds k sound m =
+    record { right = move_right w after given k.right m; woken = then m }
+  where
+    then : Move w given after → AreWoken after.turns after.actors
+    then (stood t) = subst (λ (v : World). AreWoken v.turns v.actors) (sym t.1) k.woken
+    then (began place cred asked there t) =
+        let call = starting w (suc place) cred asked in
+        subst (λ (v : World). AreWoken v.turns v.actors) (sym t.1)
+        (stand_woken w.turns w.actors place None call (begun call) there (λ d id e. absurd cc)
+        (begun_woken cred asked call.released (is_refused asked) w.turns _) k.woken)
+    then (turned place now call phase there t) =
+        let hold = holds place (record { call = call; state = Goes phase }) there in
+        subst (λ (v : World). AreWoken v.turns v.actors) (sym t.6)
+        (turn_woken w.generation w.blocks w.turns w.actors place call phase there now t.0 t.1 t.2 t.3 t.4
+        (is_asked call.cred call.asked phase hold)
+        (never_foreign w.turns call.who t.0 (subst IsSound t.6 sound).blocks.taken_back) k.right k.woken)
+    then (awoke place call wait there reached gave is) =
+        let value = value_of w.turns (awaited wait) in
+        subst (λ (v : World). AreWoken v.turns v.actors) (sym is)
+        (stand_woken w.turns w.actors place (Some record { call = call; state = Waits wait }) call
+        (Goes (resume wait value)) there
+        (λ d id is p.
+        let same : d ≡ record { call = call; state = Waits wait } = some_is is in
+        waits_gives call.asked wait id (subst (λ (x : Doing). HasToGiveBack x.call.asked x.state id) same p))
+        (resumed_woken wait value w.turns _) k.woken)
+    then (preset_made unused gave is) =
+        subst (λ (v : World). AreWoken v.turns v.actors) (sym is)
+        (λ at e here.
+        preset_still w.turns w.actors ((subst IsSound is sound).legal.slots 0) e.state (k.woken at e here))
 
 pub opening_woken : (o : Opening) → AllWoken (opening o)
 opening_woken o = record {

@@ -11,8 +11,9 @@ use Rattle.sysv_model.specs.declared.cred.Cred.{Cred}
 use Rattle.sysv_model.specs.declared.flags.Flags.{Flags}
 use Rattle.sysv_model.specs.declared.limits.TheConstants.{IPC_PRIVATE}
 use Rattle.sysv_model.specs.History.{Who, Call, Install, Place, Take, Set, Remove, Reply, Accepted, Taken, Done}
-use Rattle.sysv_model.specs.History.{Discarded}
+use Rattle.sysv_model.specs.History.{Discarded, Installed, Full, NoMatch, Gone}
 use Rattle.sysv_model.specs.Live.{live, live_after}
+use Rattle.sysv_model.specs.Pool.{TooFew, Released, Foreign}
 use Rattle.sysv_model.specs.Registry.{RegistryEntry, Begin, Settle, Made, Changed}
 use Rattle.sysv_model.specs.Turn.{OfSlot, Deed, AtSlot, AtRegistry, AtPool, asked_by, Turn, registry_entry}
 use Rattle.sysv_model.specs.Turn.{slot_history, registry_history}
@@ -22,24 +23,25 @@ use Rattle.sysv_keys.specs.LegalReply.{IsLegalReply as IsLegalRegistryReply}
 use Rattle.sysv_keys.specs.Unused.{UnusedSlots}
 use Rattle.sysv_objects.specs.LegalDeed.{IsLegalDeed, AreLegal}
 use Rattle.sysv_steps.specs.Call.{SystemCall}
-use Rattle.sysv_steps.specs.State.{Getting, Phase, AtBegin, AtInstall, State, Goes, Waits, Over}
+use Rattle.sysv_steps.specs.State.{Getting, Afterwards, IsRefused, WaitsOn, Phase, AtBegin, AtInstall, AtLook}
+use Rattle.sysv_steps.specs.State.{AtReserve, AtTake, AtSendGiveback, State, Goes, Waits, Over}
 use Rattle.sysv_steps.specs.Asks.{asks}
-use Rattle.sysv_steps.specs.Next.{next}
+use Rattle.sysv_steps.specs.Next.{waits_or, goes_on, next}
 use Rattle.sysv_steps.specs.HeldBlocks.{held, HasItsBlocks}
 use Rattle.sysv_steps.specs.Resume.{resume, awaited}
-use Rattle.sysv_core.specs.Kinds.{Kind, kind_of, IsOf}
+use Rattle.sysv_core.specs.Kinds.{kind_of, IsOf}
 use Rattle.sysv_core.specs.World.{World, Opening, Started, Doing, Given, opening, doing_in, starting, begun, value_of}
 use Rattle.sysv_core.specs.World.{preset_who, preset_flags, preset_begin, preset_install, preset_settle}
 use Rattle.sysv_core.specs.World.{with_preset_turns, with_preset}
 use Rattle.sysv_core.specs.Sound.{IsToCaller, AreOwn, IsMadeIn, IsSound, StaysSound}
 use Rattle.sysv_core.proofs.Lists.{get_set_same, get_set_other, same_place}
 use Rattle.sysv_core.proofs.Histories.{turn_of, slot_more, registry_more, live_by, live_turn}
-use Rattle.sysv_core.proofs.Life.{or_left, or_right, same_int}
+use Rattle.sysv_core.proofs.Told.{told, told_is}
+use Rattle.sysv_core.proofs.Life.{installing, job_at, begun_none, resumed_none, or_left, or_right, same_int}
 use Rattle.sysv_core.proofs.BlocksConserved.{BlockLaws, turn_conserves, stands_conserves, resumed_holds, begun_holds}
 use Rattle.sysv_core.proofs.BlocksConserved.{preset_conserves, opening_conserves}
 use Rattle.sysv_core.proofs.Moves.{Move, stood, began, turned, awoke, preset_made, moves}
-use Rattle.sysv_core.proofs.StepKeepsKind.{IsLater, later_of, later, makes as newly, leads_on, of_next, blocks_later}
-use Rattle.sysv_core.proofs.StepKeepsKind.{blocks_next, gives_blocks, begun_later, resumed_later}
+use Rattle.sysv_core.proofs.StepKeepsKind.{IsLater, later_of, later_next, blocks_later, begun_later, resumed_later}
 
 -- ---- what was made stays made
 
@@ -71,14 +73,20 @@ made_now turns who key flags id = record { id = id; key = key; made = made_it tu
 
 -- ---- where a queue lives
 
-pub data IsInstall (call : Call) : Type 0 where
-  installs : (id key : ℤ) (cred : Cred) (mode now : ℕ) → call ≡ Install id key cred mode now → IsInstall call
+pub record IsInstall (call : Call) : Type 0 where
+  pub id : ℤ
+  pub key : ℤ
+  pub cred : Cred
+  pub mode : ℕ
+  pub now : ℕ
+  pub asks_it : call ≡ Install id key cred mode now
 
 -- A live queue was installed in this turn, or a queue was live before it.
 lived_before : (l : Option Attributes) (call : Call) (reply : Reply) (a : Attributes) →
     live_after l call reply ≡ Some a → IsInstall call ⊎ ((b : Attributes) × (l ≡ Some b))
 lived_before (Some b) call reply a e = inr (b, refl)
-lived_before None (Install id key cred mode now) reply a e = inl (installs id key cred mode now refl)
+lived_before None (Install id key cred mode now) reply a e =
+    inl record { id = id; key = key; cred = cred; mode = mode; now = now; asks_it = refl }
 lived_before None (Place id cred mtype bytes now) (Accepted number) a e = absurd cc
 lived_before None (Take id cred selector size noerror now) (Taken message) a e = absurd cc
 lived_before None (Set id cred to now) Done a e = absurd cc
@@ -109,12 +117,58 @@ pub lived : (turns : List Turn) (who : Who) (deed : Deed) (slot : ℕ) (a : Attr
     live (slot_history slot (turns ++ turn_of who deed ∷ [])) ≡ Some a → Lived turns slot deed
 lived turns who deed slot a e = lived_then turns slot deed a (sym (live_turn slot turns who deed) ∙ e)
 
+-- What is live in each slot after one more turn.
+abbrev pub AllMade : List Turn → Type 0
+AllMade turns = (slot : ℕ) (a : Attributes) → live (slot_history slot turns) ≡ Some a → IsMadeIn turns slot
+
+pub all_made : (turns : List Turn) (who : Who) (deed : Deed) → AllMade turns →
+    ((slot : ℕ) (call : Call) (reply : Reply) → deed ≡ AtSlot slot call reply → IsInstall call → IsMadeIn turns slot) →
+    AllMade (turns ++ turn_of who deed ∷ [])
+all_made turns who deed all its slot a e = elim (lived turns who deed slot a e) [
+  | before b old ↦ still_made turns (turn_of who deed) slot (all slot b old)
+  | installed c reply is i ↦ still_made turns (turn_of who deed) slot (its slot c reply is i)
+]
+
 -- The step that requests an install.
 installs_there : (phase : Phase) (now slot : ℕ) (id key : ℤ) (cred : Cred) (mode moment : ℕ) →
     OfSlot slot (Install id key cred mode moment) ≡ asks phase now →
     (get : Getting) × (made : ℤ) × (phase ≡ AtInstall get made) × (slot ≡ slot_of_id made)
 installs_there (AtInstall get made) now slot id key cred mode moment e = (get, made, refl, cc)
 installs_there phase now slot id key cred mode moment e = absurd cc
+
+-- A turn leads to an install if it made the identifier, and else not.
+not_on : {get : Getting} {id : ℤ} (a : Afterwards) → Some (goes_on a) ≡ Some (Goes (AtInstall get id)) → ⊥
+not_on (IsRefused why) e = cc
+not_on (WaitsOn wait) e = cc
+
+made_told : (turns : List Turn) (who : Who) (phase : Phase) (now : ℕ) (deed : Deed) (get : Getting) (id : ℤ) →
+    next phase (told (asks phase now) deed) ≡ Some (Goes (AtInstall get id)) →
+    IsMadeIn (turns ++ turn_of who (told (asks phase now) deed) ∷ []) (slot_of_id id)
+made_told turns who (AtBegin g) now (AtRegistry c (Made made)) get id n =
+    let same : made ≡ id = cc in
+    subst (λ i. IsMadeIn (turns ++ turn_of who (AtRegistry (Begin g.key g.flags) (Made made)) ∷ []) (slot_of_id i)) same
+    (made_now turns who g.key g.flags made)
+made_told turns who (AtLook send) now (AtSlot at c (Full freed)) get id n = absurd (not_on (waits_or send.nowait _ _) n)
+made_told turns who (AtReserve send) now (AtPool c TooFew) get id n = absurd (not_on (waits_or send.nowait _ _) n)
+made_told turns who (AtTake r) now (AtSlot at c (NoMatch arrived)) get id n =
+    absurd (not_on (waits_or r.nowait _ _) n)
+made_told turns who (AtSendGiveback blocks afterwards) now (AtPool c Released) get id n = absurd (not_on afterwards n)
+made_told turns who (AtSendGiveback blocks afterwards) now (AtPool c Foreign) get id n = absurd (not_on afterwards n)
+made_told turns who (AtInstall g made) now (AtSlot at c (Installed true)) get id n = absurd cc
+made_told turns who phase now (AtSlot at c Gone) get id n = absurd cc
+made_told turns who phase now (AtSlot at c reply) get id n = absurd cc
+made_told turns who phase now (AtRegistry c (Changed done)) get id n = absurd cc
+made_told turns who phase now (AtRegistry c reply) get id n = absurd cc
+made_told turns who phase now (AtPool c Released) get id n = absurd cc
+made_told turns who phase now (AtPool c reply) get id n = absurd cc
+
+made_next : (turns : List Turn) (who : Who) (phase : Phase) (now : ℕ) (deed : Deed) (get : Getting) (id : ℤ) →
+    asked_by deed ≡ asks phase now → next phase deed ≡ Some (Goes (AtInstall get id)) →
+    IsMadeIn (turns ++ turn_of who deed ∷ []) (slot_of_id id)
+made_next turns who phase now deed get id asked n =
+    let is = told_is (asks phase now) deed asked in
+    subst (λ d. IsMadeIn (turns ++ turn_of who d ∷ []) (slot_of_id id)) is
+    (made_told turns who phase now deed get id (ap (next phase) is ∙ n))
 
 -- ---- the actors
 
@@ -162,28 +216,29 @@ own_still actors place was call state there all kind own blocks = λ at d here.
       | other old ↦ all at d old
     ]
 
-not_install : (kind : Kind) (state : State) (get : Getting) (id : ℤ) → IsLater kind state →
-    state ≡ Goes (AtInstall get id) → ⊥
-not_install kind state get id l e =
-    let bad : IsLater kind (Goes (AtInstall get id)) = subst (IsLater kind) e l in let no_such = bad.1 in cc
-
 abbrev pub AreInstalled : List Turn → List (Option Doing) → Type 0
 AreInstalled turns actors = (place : ℕ) (d : Doing) (get : Getting) (id : ℤ) → slice_get actors place ≡ Some (Some d) →
     d.state ≡ Goes (AtInstall get id) → IsMadeIn turns (slot_of_id id)
 
--- An actor whose call is not before an install.
-pub later_installs : (turns more : List Turn) (actors : List (Option Doing)) (place : ℕ) (was : Option Doing)
-    (call : Started) (state : State) (kind : Kind) → slice_get actors place ≡ Some was →
-    ((slot : ℕ) → IsMadeIn turns slot → IsMadeIn more slot) → AreInstalled turns actors → IsLater kind state →
+-- The actors after the call of one moved.
+pub all_installed : (turns more : List Turn) (actors : List (Option Doing)) (place : ℕ) (was : Option Doing)
+    (call : Started) (state : State) → slice_get actors place ≡ Some was →
+    ((slot : ℕ) → IsMadeIn turns slot → IsMadeIn more slot) → AreInstalled turns actors →
+    ((get : Getting) (id : ℤ) → state ≡ Goes (AtInstall get id) → IsMadeIn more (slot_of_id id)) →
     AreInstalled more (slice_set actors place (doing_in call state))
-later_installs turns more actors place was call state kind there still all l = λ at d get id here e.
+all_installed turns more actors place was call state there still all own = λ at d get id here e.
     elim (does actors place was call state at d there here) [
-      | moved same c s ↦ absurd (not_install kind state get id l (sym s ∙ e))
+      | moved same c s ↦ own get id (sym s ∙ e)
       | other old ↦ still (slot_of_id id) (all at d get id old e)
     ]
 
-same_install : (g h : Getting) (i j : ℤ) → Goes (AtInstall g i) ≡ Goes (AtInstall h j) → i ≡ j
-same_install g h i j e = cc
+-- One whose call is not before an install.
+pub later_installs : (turns : List Turn) (actors : List (Option Doing)) (place : ℕ) (was : Option Doing)
+    (call : Started) (state : State) → slice_get actors place ≡ Some was → AreInstalled turns actors →
+    job_at state ≡ None → AreInstalled turns (slice_set actors place (doing_in call state))
+later_installs turns actors place was call state there all none =
+    all_installed turns turns actors place was call state there (λ slot m. m) all
+    (λ get id e. let bad : None ≡ Some (installing id) = sym none ∙ ap job_at e in absurd cc)
 
 module _
     (more : (generation blocks : ℕ) (turns : List Turn) (who : Who) (deed : Deed) → AreLegal generation blocks turns →
@@ -205,50 +260,31 @@ module _
         let kind = kind_of call.asked in
         let own = s.own place d there in
         let still = still_made w.turns (turn_of call.who deed) in
-        let gives = gives_blocks w.generation w.blocks w.turns phase now deed asked legal in
+        let l = later_next w.generation w.blocks w.turns kind phase now deed state own.0 asked legal goes in
         record {
           legal = more w.generation w.blocks w.turns call.who deed s.legal legal;
-          own =
-              own_still w.actors place (Some d) call state there s.own (of_next kind phase deed state gives own.0 goes)
-              own.1 (blocks_next kind phase deed state gives own.0 goes);
-          installs = elim (leads_on kind phase deed state gives own.0 goes) [
-            | later l ↦ later_installs w.turns _ w.actors place (Some d) call state kind there still s.installs l
-            | newly k n ↦ λ at e get id here is. elim (does w.actors place (Some d) call state at e there here) [
-              | moved same c st ↦
-                  let ids : n.id ≡ id = same_install n.get get n.id id (sym n.is ∙ (sym st ∙ is)) in
-                  let asked_begin : asked_by (AtRegistry n.call (Made n.id)) ≡ asks (AtBegin n.get) now =
-                  ap asked_by (sym n.made) ∙ (asked ∙ ap (λ p. asks p now) n.was) in
-                  let calls : n.call ≡ Begin n.get.key n.get.flags = cc in
-                  subst (λ x. IsMadeIn (w.turns ++ turn_of call.who x ∷ []) (slot_of_id id))
-                  (sym (n.made ∙ ap (λ x. AtRegistry x (Made n.id)) calls))
-                  (subst (λ x.
-                  IsMadeIn (w.turns ++ turn_of call.who (AtRegistry (Begin n.get.key n.get.flags) (Made n.id)) ∷ [])
-                  (slot_of_id x)) ids (made_now w.turns call.who n.get.key n.get.flags n.id))
-              | other old ↦ still (slot_of_id id) (s.installs at e get id old is)
-            ]
-          ];
+          own = own_still w.actors place (Some d) call state there s.own (later_of kind state l) own.1
+              (blocks_later kind state l);
+          installs = all_installed w.turns _ w.actors place (Some d) call state there still s.installs
+              (λ get id is. made_next w.turns call.who phase now deed get id asked (goes ∙ ap (λ x. Some x) is));
           blocks = turn_conserves b w.generation w.blocks w.turns w.actors s.legal s.blocks place call phase there own.2
               now state deed asked legal goes;
-          lives = λ slot a lives. elim (lived w.turns call.who deed slot a lives) [
-            | before b old ↦ still slot (s.lives slot b old)
-            | installed c reply is (installs id key cred mode moment asks_it) ↦
-                let at = installs_there phase now slot id key cred mode moment
-                (ap (OfSlot slot) (sym asks_it) ∙ (ap asked_by (sym is) ∙ asked)) in
-                still slot (subst (IsMadeIn w.turns) (sym at.3) (s.installs place d at.0 at.1 there (ap Goes at.2)))
-          ];
+          lives = all_made w.turns call.who deed s.lives (λ slot c reply is i.
+              let at = installs_there phase now slot i.id i.key i.cred i.mode i.now
+              (ap (OfSlot slot) (sym i.asks_it) ∙ (ap asked_by (sym is) ∙ asked)) in
+              subst (IsMadeIn w.turns) (sym at.3) (s.installs place d at.0 at.1 there (ap Goes at.2)));
         }
 
     -- The world after the call continues without a turn.
     pub look_sound : (d : Doing) (state : State) → d.call ≡ call → slice_get w.actors place ≡ Some (Some d) →
-        IsLater (kind_of call.asked) state → held state ≡ held d.state →
+        IsLater (kind_of call.asked) state → job_at state ≡ None → held state ≡ held d.state →
         IsSound (record w { actors = slice_set w.actors place (doing_in call state); steps = w.steps + 1 })
-    look_sound d state is there l held_same = record {
+    look_sound d state is there l none held_same = record {
       legal = s.legal;
       own = own_still w.actors place (Some d) call state there s.own (later_of (kind_of call.asked) state l)
           (subst (λ (c : Started). IsToCaller c.who (suc place)) is (s.own place d there).1)
           (blocks_later (kind_of call.asked) state l);
-      installs = later_installs w.turns w.turns w.actors place (Some d) call state (kind_of call.asked) there
-          (λ slot m. m) s.installs l;
+      installs = later_installs w.turns w.actors place (Some d) call state there s.installs none;
       lives = s.lives;
       blocks = stands_conserves w.blocks w.turns w.actors place (Some d) call state there held_same s.blocks;
     }
@@ -268,8 +304,8 @@ module _
         legal = s.legal;
         own = own_still w.actors place None call (begun call) there s.own (later_of (kind_of asked) (begun call) l) refl
             (blocks_later (kind_of asked) (begun call) l);
-        installs = later_installs w.turns w.turns w.actors place None call (begun call) (kind_of asked) there
-            (λ slot m. m) s.installs l;
+        installs = later_installs w.turns w.actors place None call (begun call) there s.installs
+            (begun_none cred asked call.released);
         lives = s.lives;
         blocks = stands_conserves w.blocks w.turns w.actors place None call (begun call) there
             (begun_holds cred asked call.released) s.blocks;
@@ -321,7 +357,12 @@ module _
     legal = preset_legal more unused w.generation w.blocks w.turns s.legal u (vacant_there more unused w s u);
     own = s.own;
     installs = λ place d get id here e. past (slot_of_id id) (s.installs place d get id here e);
-    lives = λ slot a lives. settle_lives slot a lives;
+    lives = all_made second preset_who preset_settle
+        (all_made first preset_who preset_install
+        (all_made w.turns preset_who preset_begin s.lives (λ slot c reply is i. absurd cc)) (λ slot c reply is i.
+        let here : 0 ≡ slot = cc in
+        subst (IsMadeIn first) here (made_now w.turns preset_who IPC_PRIVATE preset_flags (pos 0))))
+        (λ slot c reply is i. absurd cc);
     blocks = preset_conserves b w.generation w.blocks w.turns w.actors s.legal s.blocks
         (preset_legal more unused w.generation w.blocks w.turns s.legal u (vacant_there more unused w s u));
   }
@@ -331,28 +372,6 @@ module _
 
       second : List Turn
       second = first ++ turn_of preset_who preset_install ∷ []
-
-      begin_lives : (slot : ℕ) (a : Attributes) → live (slot_history slot first) ≡ Some a → IsMadeIn first slot
-      begin_lives slot a e = elim (lived w.turns preset_who preset_begin slot a e) [
-        | before b old ↦ still_made w.turns (turn_of preset_who preset_begin) slot (s.lives slot b old)
-        | installed c reply is i ↦ absurd cc
-      ]
-
-      install_lives : (slot : ℕ) (a : Attributes) → live (slot_history slot second) ≡ Some a → IsMadeIn second slot
-      install_lives slot a e = elim (lived first preset_who preset_install slot a e) [
-        | before b old ↦ still_made first (turn_of preset_who preset_install) slot (begin_lives slot b old)
-        | installed c reply is i ↦
-            let here : 0 ≡ slot = cc in
-            still_made first (turn_of preset_who preset_install) slot
-            (subst (IsMadeIn first) here (made_now w.turns preset_who IPC_PRIVATE preset_flags (pos 0)))
-      ]
-
-      settle_lives : (slot : ℕ) (a : Attributes) → live (slot_history slot (with_preset_turns w.turns)) ≡ Some a →
-          IsMadeIn (with_preset_turns w.turns) slot
-      settle_lives slot a e = elim (lived second preset_who preset_settle slot a e) [
-        | before b old ↦ still_made second (turn_of preset_who preset_settle) slot (install_lives slot b old)
-        | installed c reply is i ↦ absurd cc
-      ]
 
       past : (slot : ℕ) → IsMadeIn w.turns slot → IsMadeIn (with_preset_turns w.turns) slot
       past slot m = still_made _ (turn_of preset_who preset_settle) slot
@@ -370,7 +389,8 @@ module _
       let value = value_of w.turns (awaited wait) in
       subst IsSound (sym is)
       (look_sound more b w s place call d (Goes (resume wait value)) refl there
-      (resumed_later (kind_of call.asked) wait value (s.own place d there).0) (resumed_holds wait value))
+      (resumed_later (kind_of call.asked) wait value (s.own place d there).0) (resumed_none wait value)
+      (resumed_holds wait value))
   move_sound w after given s (preset_made u gave is) = subst IsSound (sym is) (preset_sound w s u)
 
   pub makes_sound : StaysSound

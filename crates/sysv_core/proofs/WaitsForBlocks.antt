@@ -2,7 +2,7 @@
 -- count before it was refused. So as long as the count is not above that value, no chain came back
 -- since the refusal, and reservations since then only took blocks.
 use Rattle.std.proofs.Common.{◌≡◌, ◌⊎◌, inl, inr, ℕ, suc, ◌+◌, ◌<◌, ◌≤◌, Bool, true, false, cond, List, [], ◌∷◌, ◌++◌}
-use Rattle.std.proofs.Common.{Option, None, Some, refl, sym, subst, arith, length, slice_get, slice_set}
+use Rattle.std.proofs.Common.{Option, None, Some, refl, sym, ap, subst, ◌∙◌, arith, length, slice_get, slice_set}
 use Rattle.std.proofs.lemmas.List.{append-nil}
 use Rattle.sysv_model.specs.declared.cred.Cred.{Cred}
 use Rattle.sysv_model.specs.declared.errno.Errno.{Errno}
@@ -11,9 +11,8 @@ use Rattle.sysv_model.specs.History.{Who, Gone, Full, Fits, NoMatch, Installed}
 use Rattle.sysv_model.specs.Registry.{Made, Changed}
 use Rattle.sysv_model.specs.Pool.{PoolCall, Reserve, Release, PoolReply, Reserved, TooFew, Released, Foreign, PoolEntry}
 use Rattle.sysv_model.specs.Pool.{PoolHistory, blocks_for, frees, released}
-use Rattle.sysv_model.specs.Turn.{OfPool, Deed, AtSlot, AtRegistry, AtPool, asked_by, Turn, pool_entry, pool_history}
+use Rattle.sysv_model.specs.Turn.{Deed, AtSlot, AtRegistry, AtPool, asked_by, Turn, pool_entry, pool_history}
 use Rattle.sysv_pool.specs.State.{returned_by, free_after}
-use Rattle.sysv_pool.specs.LegalReply.{IsLegalReply}
 use Rattle.sysv_objects.specs.LegalDeed.{IsLegalDeed}
 use Rattle.sysv_steps.specs.Call.{SystemCall, Msgsnd}
 use Rattle.sysv_steps.specs.State.{Sending, Wait, OnSettled, OnFreed, OnReleased, OnArrived, Afterwards, IsRefused}
@@ -26,6 +25,7 @@ use Rattle.sysv_steps.specs.Resume.{resume, awaited}
 use Rattle.sysv_core.specs.World.{World, Started, Doing, Given, doing_in, starting, begun, value_of}
 use Rattle.sysv_core.proofs.Histories.{turn_of, pool_more, preset_pool, one, released_more, returned_more}
 use Rattle.sysv_core.proofs.Histories.{reserved_more}
+use Rattle.sysv_core.proofs.Told.{told, told_is}
 use Rattle.sysv_core.proofs.SoundStays.{moved, other, does}
 use Rattle.sysv_core.proofs.Moves.{Move, stood, began, turned, awoke, preset_made}
 
@@ -93,9 +93,6 @@ right_more size h e state r =
 
 -- ---- where a turn leads
 
-some_is : {X : Type 0} {x y : X} → Some x ≡ Some y → y ≡ x
-some_is e = cc
-
 -- A send reserves after a look, and waits for blocks after a reserve.
 abbrev pub Comes : Phase → State → Type 0
 Comes phase (Goes (AtReserve send)) =
@@ -153,65 +150,53 @@ plain : (size : ℕ) (h : PoolHistory) (phase : Phase) (state : Option State) �
     IsShortIn size h state → ComesIn phase state → FollowsIn size h phase state
 plain size h phase state none s c = record { read = omega (arith, none); short = s; comes = c }
 
--- If the turn reported too few blocks to a send, too few were free.
-abbrev pub ToldTooFew : ℕ → PoolHistory → Phase → Deed → Type 0
-ToldTooFew size h (AtReserve send) (AtPool call TooFew) = free_after size h < blocks_for (length send.text)
-ToldTooFew size h phase deed = Unit {0}
-
 afterwards_follows : (size : ℕ) (h : PoolHistory) (blocks : ℕ) (afterwards : Afterwards) →
     IsShort size h (Goes (AtSendGiveback blocks afterwards)) →
     Follows size h (AtSendGiveback blocks afterwards) (goes_on afterwards)
 afterwards_follows size h blocks (IsRefused why) s = record { read = omega arith; short = tt; comes = tt }
 afterwards_follows size h blocks (WaitsOn (OnReleased goal send)) s = absurd s
-afterwards_follows size h blocks (WaitsOn (OnFreed goal send)) s = record { read = omega arith; short = tt; comes = tt }
-afterwards_follows size h blocks (WaitsOn (OnSettled goal get)) s =
-    record { read = omega arith; short = tt; comes = tt }
-afterwards_follows size h blocks (WaitsOn (OnArrived goal receive)) s =
-    record { read = omega arith; short = tt; comes = tt }
+afterwards_follows size h blocks (WaitsOn wait) s = record { read = omega arith; short = tt; comes = tt }
 
-pub followed : (size : ℕ) (h : PoolHistory) (phase : Phase) (deed : Deed) → IsShort size h (Goes phase) →
-    ToldTooFew size h phase deed → FollowsIn size h phase (next phase deed)
-followed size h (AtLook send) (AtSlot slot call (Full freed)) s few =
-    full_waits size h send (freed + 1) send.nowait EAGAIN (record send { seen = true }) refl
-followed size h (AtLook send) (AtSlot slot call Fits) s few =
+followed_told : (g size : ℕ) (turns : List Turn) (phase : Phase) (now : ℕ) (deed : Deed) →
+    IsShort size (pool_history turns) (Goes phase) → IsLegalDeed g size turns (told (asks phase now) deed) →
+    FollowsIn size (pool_history turns) phase (next phase (told (asks phase now) deed))
+followed_told g size turns (AtLook send) now (AtSlot slot c (Full freed)) s l =
+    full_waits size _ send (freed + 1) send.nowait EAGAIN (record send { seen = true }) refl
+followed_told g size turns (AtLook send) now (AtSlot slot c Fits) s l =
     record { read = omega arith; short = tt; comes = (send, refl, refl) }
-followed size h (AtReserve send) (AtPool call (Reserved blocks)) s few =
+followed_told g size turns (AtReserve send) now (AtPool c (Reserved blocks)) s l =
     record { read = omega arith; short = tt; comes = tt }
-followed size h (AtReserve send) (AtPool call TooFew) s few = too_few size h send send.nowait EAGAIN few
-followed size h (AtPlace send blocks) (AtSlot slot call (Full freed)) s few =
-    full_gives_back size h send blocks (freed + 1) blocks send.nowait EAGAIN (record send { seen = true }) refl
-followed size h (AtSendGiveback blocks afterwards) (AtPool call Released) s few =
-    afterwards_follows size h blocks afterwards s
-followed size h (AtSendGiveback blocks afterwards) (AtPool call Foreign) s few =
-    afterwards_follows size h blocks afterwards s
-followed size h (AtTake receive) (AtSlot slot call (NoMatch arrived)) s few =
-    none_named size h (AtTake receive) receive.nowait (OnArrived (arrived + 1) (record receive { seen = true })) ENOMSG
+followed_told g size turns (AtReserve send) now (AtPool c TooFew) s l =
+    too_few size (pool_history turns) send send.nowait EAGAIN l
+followed_told g size turns (AtReserve send) now deed s l = absurd l
+followed_told g size turns (AtPlace send blocks) now (AtSlot slot c (Full freed)) s l =
+    full_gives_back size _ send blocks (freed + 1) blocks send.nowait EAGAIN (record send { seen = true }) refl
+followed_told g size turns (AtSendGiveback blocks afterwards) now (AtPool c Released) s l =
+    afterwards_follows size (pool_history turns) blocks afterwards s
+followed_told g size turns (AtSendGiveback blocks afterwards) now (AtPool c Foreign) s l =
+    afterwards_follows size (pool_history turns) blocks afterwards s
+followed_told g size turns (AtTake receive) now (AtSlot slot c (NoMatch arrived)) s l =
+    none_named size _ (AtTake receive) receive.nowait (OnArrived (arrived + 1) (record receive { seen = true })) ENOMSG
     refl tt tt
-followed size h (AtInstall get id) (AtSlot slot call (Installed true)) s few =
-    plain size h (AtInstall get id) _ refl tt tt
-followed size h (AtBegin get) (AtRegistry call (Made id)) s few = plain size h (AtBegin get) _ refl tt tt
-followed size h phase (AtSlot slot call Gone) s few = plain size h phase _ refl tt tt
-followed size h phase (AtSlot slot call reply) s few = plain size h phase _ refl tt tt
-followed size h phase (AtRegistry call (Changed done)) s few = plain size h phase _ refl tt tt
-followed size h phase (AtRegistry call reply) s few = plain size h phase _ refl tt tt
-followed size h phase (AtPool call Released) s few = plain size h phase _ refl tt tt
-followed size h phase (AtPool call Foreign) s few = plain size h phase _ refl tt tt
-followed size h phase (AtPool call reply) s few = plain size h phase _ refl tt tt
+followed_told g size turns (AtInstall get id) now (AtSlot slot c (Installed true)) s l =
+    plain size _ (AtInstall get id) _ refl tt tt
+followed_told g size turns (AtBegin get) now (AtRegistry c (Made id)) s l = plain size _ (AtBegin get) _ refl tt tt
+followed_told g size turns phase now (AtSlot slot c Gone) s l = plain size _ phase _ refl tt tt
+followed_told g size turns phase now (AtSlot slot c reply) s l = plain size _ phase _ refl tt tt
+followed_told g size turns phase now (AtRegistry c (Changed done)) s l = plain size _ phase _ refl tt tt
+followed_told g size turns phase now (AtRegistry c reply) s l = plain size _ phase _ refl tt tt
+followed_told g size turns phase now (AtPool c Released) s l = plain size _ phase _ refl tt tt
+followed_told g size turns phase now (AtPool c Foreign) s l = plain size _ phase _ refl tt tt
+followed_told g size turns phase now (AtPool c reply) s l = plain size _ phase _ refl tt tt
 
--- The same of a legal turn of the call.
-was_told : (blocks : ℕ) (h : PoolHistory) (send : Sending) (call : PoolCall) →
-    OfPool call ≡ OfPool (Reserve (length send.text)) → IsLegalReply blocks h call TooFew →
-    free_after blocks h < blocks_for (length send.text)
-was_told blocks h send call asked legal =
-    let is : call ≡ Reserve (length send.text) = cc in
-    subst (λ (c : PoolCall). IsLegalReply blocks h c TooFew) is legal
-
-pub told_too_few : (generation blocks : ℕ) (turns : List Turn) (phase : Phase) (now : ℕ) (deed : Deed) →
-    asked_by deed ≡ asks phase now → IsLegalDeed generation blocks turns deed →
-    ToldTooFew blocks (pool_history turns) phase deed
-told_too_few generation blocks turns (AtReserve send) now (AtPool call TooFew) asked legal =
-    was_told blocks (pool_history turns) send call asked legal
-told_too_few generation blocks turns phase now deed asked legal = tt
+-- Where a legal turn leads.
+pub followed : (g size : ℕ) (turns : List Turn) (phase : Phase) (now : ℕ) (deed : Deed) (state : State) →
+    IsShort size (pool_history turns) (Goes phase) → asked_by deed ≡ asks phase now → IsLegalDeed g size turns deed →
+    next phase deed ≡ Some state → Follows size (pool_history turns) phase state
+followed g size turns phase now deed state short asked legal goes =
+    let is = told_is (asks phase now) deed asked in
+    subst (FollowsIn size (pool_history turns) phase) (ap (next phase) is ∙ goes)
+    (followed_told g size turns phase now deed short (subst (IsLegalDeed g size turns) (sym is) legal))
 
 -- ---- every actor
 
@@ -240,9 +225,7 @@ module _ (w : World) (all : AreRight w.blocks w.turns w.actors) (place : ℕ) (c
       elim (does w.actors place (Some record { call = call; state = Goes phase }) call state at d there here) [
         | moved same c s ↦
             let was = all place (record { call = call; state = Goes phase }) there in
-            let few = told_too_few w.generation w.blocks w.turns phase now deed asked legal in
-            let f : Follows w.blocks (pool_history w.turns) phase state = subst (FollowsIn w.blocks
-            (pool_history w.turns) phase) goes (followed w.blocks (pool_history w.turns) phase deed was.short few) in
+            let f = followed w.generation w.blocks w.turns phase now deed state was.short asked legal goes in
             still_right w.blocks w.turns call.who deed d.state
             (subst (IsRight w.blocks (pool_history w.turns)) (sym s)
             record { read = omega (arith, f.read, was.read); short = f.short })

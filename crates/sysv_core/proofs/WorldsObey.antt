@@ -42,16 +42,16 @@ use Rattle.sysv_core.specs.Sound.{IsSound, StaysSound}
 use Rattle.sysv_core.proofs.Histories.{turn_of, begun_turns, installed_turns}
 use Rattle.sysv_core.proofs.SoundStays.{none_busy, opening_sound}
 use Rattle.sysv_core.proofs.WaitsForBlocks.{are_short}
-use Rattle.sysv_core.proofs.SendIsWoken.{AllWoken, moves_woken, opening_woken, are_to_be_woken}
+use Rattle.sysv_core.proofs.SendIsWoken.{AllWoken, move_woken, opening_woken, are_to_be_woken}
 use Rattle.sysv_core.proofs.ParkedRightly.{parked_rightly}
 use Rattle.sysv_core.proofs.Moves.{Move, stood, began, turned, awoke, preset_made, moves}
-use Rattle.sysv_core.proofs.Life.{jobs_of}
-use Rattle.sysv_core.proofs.LifeGoesOn.{Lives, lives_turn, lives_stand, resumed_none, begun_none, opening_lives}
+use Rattle.sysv_core.proofs.Life.{either, jobs_of, resumed_none, begun_none}
+use Rattle.sysv_core.proofs.LifeGoesOn.{Lives, lives_turn, lives_stand, opening_lives}
 use Rattle.sysv_core.proofs.LifeGoesOn.{preset_lives}
 use Rattle.sysv_core.proofs.LifeLaws.{are_tended, good_of, settled_once_installed}
 use Rattle.sysv_core.proofs.ToldAfterRemoval.{told_so}
 use Rattle.sysv_core.proofs.Lists.{get_set_same, get_set_other, same_place}
-use Rattle.sysv_core.proofs.PartsOfOneCall.{same_who, same_itself, not_same, same_or_not, own_deed, other_deed}
+use Rattle.sysv_core.proofs.PartsOfOneCall.{same_who, same_itself, not_same, own_deed, other_deed}
 use Rattle.sysv_core.proofs.PartsOfOneCall.{own_endings, other_endings, IsIn, at_actor, own_standing, other_standing}
 
 -- The call was started by an actor before this step number.
@@ -172,9 +172,6 @@ sooner n c b = (b.0, b.1, b.2, omega (arith, b.3))
 -- If an actor is in a call, the call is in that state and has no ending.
 module _ {P : Turn → Type 0} (w : World) (given : List Given) (i : Inv P w given) (place : ℕ) (d : Doing)
     (there : slice_get w.actors place ≡ Some (Some d)) where
-  abbrev it : Started
-  it = d.call
-
   has_it : Contains w.calls d.call
   has_it = (i.doing place d there).0
 
@@ -210,7 +207,7 @@ module _ {P : Turn → Type 0} (w : World) (given : List Given) (i : Inv P w giv
   goes_on turns state sound life stay s made = record {
     sound = sound;
     life = life;
-    fates = λ c has. elim (same_or_not c.who d.call.who (is_same c.who d.call.who) refl) [
+    fates = λ c has. elim (either (is_same c.who d.call.who)) [
       | inl same ↦
           let one : d.call ≡ c = i.named d.call c has_it has (sym (same_who c.who d.call.who same)) in
           subst (Fate _ (given ++ given_in d.call state)) one
@@ -234,25 +231,10 @@ number_of p q s t e = cc
 not_new : (n place : ℕ) (c : Started) (name : Who) → name ≡ Actor (suc place) n → IsBefore n c → c.who ≢ name
 not_new n place c name is b = λ same. omega (arith, b.3, number_of b.0 place b.1 n (sym b.2 ∙ (same ∙ is)))
 
-no_deeds : (name : Who) (turns : List Turn) → ((t : Turn) → Contains turns t → is_same name t.who ≡ false) →
-    deeds_of name turns ≡ []
-no_deeds name [] f = refl
-no_deeds name (t ∷ turns) f =
-    ap (λ b.
-    map (λ (x : Turn). x.deed)
-    (cond b (t ∷ filter (λ (x : Turn). is_same name x.who) turns) (filter (λ (x : Turn). is_same name x.who) turns)))
-    (f t (0, omega arith, refl))
-    ∙ no_deeds name turns (λ x has. f x (suc has.0, omega (arith, has.1), has.2))
-
-no_endings : (name : Who) (given : List Given) → ((g : Given) → Contains given g → is_same name g.call.who ≡ false) →
-    endings_of name given ≡ []
-no_endings name [] f = refl
-no_endings name (g ∷ given) f =
-    ap (λ b.
-    map (λ (x : Given). x.ending)
-    (cond b (g ∷ filter (λ (x : Given). is_same name x.call.who) given)
-    (filter (λ (x : Given). is_same name x.call.who) given))) (f g (0, omega arith, refl))
-    ∙ no_endings name given (λ x has. f x (suc has.0, omega (arith, has.1), has.2))
+none_pass : {X : Type 0} (p : X → Bool) (xs : List X) → ((x : X) → Contains xs x → p x ≡ false) → filter p xs ≡ []
+none_pass p [] f = refl
+none_pass p (x ∷ xs) f = ap (λ b. cond b (x ∷ filter p xs) (filter p xs)) (f x (0, omega arith, refl))
+    ∙ none_pass p xs (λ y has. f y (suc has.0, omega (arith, has.1), has.2))
 
 module _ {P : Turn → Type 0} (nobody : (t : Turn) → P t → t.who ≡ preset_who) (w : World) (given : List Given)
     (i : Inv P w given) (place : ℕ) (there : slice_get w.actors place ≡ Some None) (call : Started)
@@ -271,10 +253,12 @@ module _ {P : Turn → Type 0} (nobody : (t : Turn) → P t → t.who ≡ preset
 
   stands_new : Stands w.turns given call (begun call)
   stands_new = record {
-    plays = subst (λ ds. Plays (begun call) ds (begun call)) (sym (no_deeds call.who w.turns new_turns)) begins;
-    quiet = no_endings call.who given (λ g has.
+    plays = subst (λ ds. Plays (begun call) ds (begun call))
+        (sym (ap (map (λ (x : Turn). x.deed)) (none_pass (λ (x : Turn). is_same call.who x.who) w.turns new_turns)))
+        begins;
+    quiet = ap (map (λ (x : Given). x.ending)) (none_pass (λ (x : Given). is_same call.who x.call.who) given (λ g has.
         not_same call.who g.call.who
-        (λ e. is_new g.call (All-contains (λ (x : Given). Contains w.calls x.call) given g i.known has) (sym e)));
+        (λ e. is_new g.call (All-contains (λ (x : Given). Contains w.calls x.call) given g i.known has) (sym e))));
   }
 
   pub starts : IsSound (went w w.turns (w.calls ++ call ∷ []) place call (begun call)) →
@@ -401,30 +385,38 @@ module _ {P : Turn → Type 0} (laws : Laws) (o : Opening) (w : World) (given : 
       let slots = i.sound.legal.slots in
       let good = good_of laws.for_good w.turns i.life.facts slots in
       record {
-        queues = λ slot. laws.queue (slot_history slot w.turns) (slots slot);
-        registry = registry_lawful;
-        pool = subst (λ n. PoolLaw n (pool_history w.turns)) blocks
-            (laws.pool w.blocks (pool_history w.turns) i.sound.legal.pool);
-        conserved = subst (λ n. AreConserved n w.turns w.actors) blocks i.sound.blocks;
-        calls = All-weaker (Contains w.calls) (Fate w given) i.fates w.calls (All-contains_itself w.calls);
-        apart = i.apart;
-        made = made;
-        asked = All-weaker (Contains w.calls) (AsksAsItWasAsked w) deeds_asked w.calls
-            (All-contains_itself w.calls);
-        known = i.known;
-        right = All-weaker (Contains given)
-            (λ (g : Given). IsRightAnswer g.call.asked (deeds_of g.call.who w.turns) g.ending)
-            (λ g has. right_now w given i laws.right g has) given (All-contains_itself given);
-        tended = are_tended w i.life;
-        vacant = i.life.facts.vacant;
-        forgets = i.life.facts.taken;
-        removed = good;
-        told = λ id before after t call whole removal has q.
-            let f = i.fates call has in
-            told_so w given call f laws.told (deeds_asked call has) good id before after t whole removal q;
-        once = All-weaker (Contains w.calls) (λ (c : Started). effects (deeds_of c.who w.turns) ≤ 1)
-            few_effects w.calls (All-contains_itself w.calls);
-        under_way = i.doing;
+        objects = record {
+          queues = λ slot. laws.queue (slot_history slot w.turns) (slots slot);
+          registry = registry_lawful;
+          pool = subst (λ n. PoolLaw n (pool_history w.turns)) blocks
+              (laws.pool w.blocks (pool_history w.turns) i.sound.legal.pool);
+          conserved = subst (λ n. AreConserved n w.turns w.actors) blocks i.sound.blocks;
+        };
+        calls = record {
+          fates = All-weaker (Contains w.calls) (Fate w given) i.fates w.calls (All-contains_itself w.calls);
+          apart = i.apart;
+          made = made;
+          asked = All-weaker (Contains w.calls) (AsksAsItWasAsked w) deeds_asked w.calls
+              (All-contains_itself w.calls);
+          once = All-weaker (Contains w.calls) (λ (c : Started). effects (deeds_of c.who w.turns) ≤ 1)
+              few_effects w.calls (All-contains_itself w.calls);
+          under_way = i.doing;
+        };
+        answers = record {
+          known = i.known;
+          right = All-weaker (Contains given)
+              (λ (g : Given). IsRightAnswer g.call.asked (deeds_of g.call.who w.turns) g.ending)
+              (λ g has. right_now w given i laws.right g has) given (All-contains_itself given);
+          told = λ id before after t call whole removal has q.
+              let f = i.fates call has in
+              told_so w given call f laws.told (deeds_asked call has) good id before after t whole removal q;
+        };
+        lives = record {
+          tended = are_tended w i.life;
+          vacant = i.life.facts.vacant;
+          forgets = i.life.facts.taken;
+          removed = good;
+        };
       }
 
 -- ---- what happens
@@ -560,7 +552,7 @@ module _ (law : (generation : ℕ) (h : RegistryHistory) → IsLegalRegistryHist
       subst (λ gs. Kept after (given ++ gs)) (sym l.5) (subst (Kept after) (append_assoc given l.1 l.2)
       (leads_keep sound holds l.0 after xs (given ++ l.1) l.2 (record {
         inv = move_keeps w l.0 given l.1 k.inv ok m;
-        woken = moves_woken w l.0 l.1 (λ place d there.
+        woken = move_woken w l.0 l.1 (λ place d there.
             holds d.call.cred d.call.asked d.call.released (deeds_of d.call.who w.turns) d.state
             (stands_there w given k.inv place d there).plays) k.woken ok m;
       }) l.4))
@@ -597,6 +589,6 @@ run_obeys sound none laws no_match full full_for_look counts refused holds o lis
     record {
       lawful = shared;
       parked = parked_rightly w i.sound.legal (λ place d there. (stands_there w given i place d there).plays)
-          no_match full full_for_look counts refused holds shared.tended shared.removed
+          no_match full full_for_look counts refused holds shared.lives.tended shared.lives.removed
           (settled_once_installed w.turns i.life.facts) (are_short w k.woken.right) (are_to_be_woken w k.woken);
     }

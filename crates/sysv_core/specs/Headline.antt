@@ -35,11 +35,8 @@ use Rattle.sysv_core.specs.LastWords.{AreToldOfRemovals}
 use Rattle.sysv_core.specs.Tending.{AreTended}
 use Rattle.sysv_core.specs.Seen.{Seen, StandsFor, happening_of, TellAll, Gives}
 
--- The laws of a world that was opened in this way, and of the endings on the way to it, without the
--- law of waits. Whose a turn may be differs between worlds with presets and worlds with threads, so
--- it is a parameter: `owned` holds of the turns of these calls, and of those that need no call.
-pub record IsLawful (owned : List Started → Turn → Type 0)
-    (o : Opening) (w : World) (given : List Given) : Type 0 where
+-- The laws of the objects.
+pub record ObjectsAreLawful (o : Opening) (w : World) : Type 0 where
   -- The history of each slot obeys the queue law.
   pub queues : (slot : ℕ) → QueueLaw (slot_history slot w.turns)
   -- The history of the registry obeys the registry law: no identifier is made twice.
@@ -50,19 +47,38 @@ pub record IsLawful (owned : List Started → Turn → Type 0)
   -- Each block is free, under a queued message, or held by a call, and the pool takes back every
   -- chain.
   pub conserved : AreConserved o.blocks w.turns w.actors
+
+-- The laws of the calls, and of the turns that they make. Whose a turn may be differs between
+-- worlds with presets and worlds with threads, so it is a parameter: `owned` holds of the turns of
+-- these calls, and of those that need no call.
+pub record CallsAreLawful (owned : List Started → Turn → Type 0) (w : World) (given : List Given) : Type 0 where
   -- Each call plays its own turns, and has one ending if it is over.
-  pub calls : All (Fate w given) w.calls
+  pub fates : All (Fate w given) w.calls
   -- No two calls have the same name.
   pub apart : AllPairs (λ (c d : Started). c.who ≢ d.who) w.calls
   -- Each turn is owned.
   pub made : All (owned w.calls) w.turns
   -- Each turn of a call requests what the call's arguments name, also if the call is under way.
   pub asked : All (AsksAsItWasAsked w) w.calls
+  -- Each call, also one under way, has had at most one effect: one identifier made, one message
+  -- accepted, one taken, one queue changed, or one removed.
+  pub once : All (λ (c : Started). effects (deeds_of c.who w.turns) ≤ 1) w.calls
+  -- Each actor that is in a call is in one that it started, and that is one of the calls.
+  pub under_way : AreInTheirCalls w
+
+-- The laws of the answers, which are the endings of the calls.
+pub record AnswersAreLawful (w : World) (given : List Given) : Type 0 where
   -- Each ending belongs to one of the calls.
   pub known : All (λ (g : Given). Contains w.calls g.call) given
   -- Each ending is right for the arguments of its call and for the turns of that call.
   pub right : All
       (λ (g : Given). IsRightAnswer g.call.asked (deeds_of g.call.who w.turns) g.ending) given
+  -- Sends and receives of a removed queue fail with EIDRM if they had reached it before, else with
+  -- EINVAL.
+  pub told : AreToldOfRemovals w given
+
+-- The laws of the life of an identifier, from its making to its forgetting.
+pub record LivesAreLawful (w : World) : Type 0 where
   -- A row that is not settled, or whose queue is not live, is to be settled or forgotten by some
   -- actor's call.
   pub tended : AreTended w
@@ -72,14 +88,15 @@ pub record IsLawful (owned : List Started → Turn → Type 0)
   pub forgets : AllTakeTheirRows w.turns
   -- A removal is for good.
   pub removed : AreRemovedForGood w.turns
-  -- Sends and receives of a removed queue fail with EIDRM if they had reached it before, else with
-  -- EINVAL.
-  pub told : AreToldOfRemovals w given
-  -- Each call, also one under way, has had at most one effect: one identifier made, one message
-  -- accepted, one taken, one queue changed, or one removed.
-  pub once : All (λ (c : Started). effects (deeds_of c.who w.turns) ≤ 1) w.calls
-  -- Each actor that is in a call is in one that it started, and that is one of the calls.
-  pub under_way : AreInTheirCalls w
+
+-- The laws of a world that was opened in this way, and of the endings on the way to it, without the
+-- law of waits.
+pub record IsLawful (owned : List Started → Turn → Type 0)
+    (o : Opening) (w : World) (given : List Given) : Type 0 where
+  pub objects : ObjectsAreLawful o w
+  pub calls : CallsAreLawful owned w given
+  pub answers : AnswersAreLawful w given
+  pub lives : LivesAreLawful w
 
 -- All laws of a world that was opened in this way, and of the endings on the way to it.
 pub record Obeys (o : Opening) (w : World) (given : List Given) : Type 0 where

@@ -137,7 +137,7 @@ orders_at_rest law generation blocks order calls legal all rest =
     subst (λ (x : Called). Rests x.state) (get_or_from_slice_get calls place c c there)
     (rest place c (slice_get_within calls place c there)) in
     record {
-      whole = all_back blocks (turns_of order) r.world calls same r.standing at_each r.obeys.conserved.whole;
+      whole = all_back blocks (turns_of order) r.world calls same r.standing at_each r.obeys.objects.conserved.whole;
       rows = λ row is. settled_row blocks (turns_of order) r.world calls same r.standing at_each row is
-          (λ open_row. r.obeys.tended row (rows_alike (turns_of order) r.world.turns (sym same) row is) open_row);
+          (λ open_row. r.obeys.lives.tended row (rows_alike (turns_of order) r.world.turns (sym same) row is) open_row);
     }

@@ -153,8 +153,8 @@ pub comes_to_rest : OpensSound → StaysSound → SomeStep → EveryRunObeys →
 comes_to_rest opens stays some law o list given w led zero d phase there is young times long = absurd cc
 comes_to_rest opens stays some law o list given w led (suc place) d phase there is young times long =
     let lawful = (law o list given w led).lawful in
-    let own = lawful.under_way place d there in
-    let fate : Fate w given d.call = All-contains (Fate w given) w.calls d.call lawful.calls own.0 in
+    let own = lawful.calls.under_way place d there in
+    let fate : Fate w given d.call = All-contains (Fate w given) w.calls d.call lawful.calls.fates own.0 in
     let play = plays_there w given place own.1.0 d fate own.1.1 there in
     let left : left_at phase ≤ most_turns d.call.asked =
     subst (λ st. left_in st ≤ most_turns d.call.asked) is

@@ -210,7 +210,7 @@ pub none_kept : (generation blocks first : ℕ) (gates : Gates) (last : Pass) (c
 none_kept generation blocks first gates last calls order lives served =
     let turns = served.run.turns in
     let taken =
-    subst (λ ts. All IsTaken (pool_history ts)) (sym turns.in_world) served.run.obeys.conserved.taken_back in
+    subst (λ ts. All IsTaken (pool_history ts)) (sym turns.in_world) served.run.obeys.objects.conserved.taken_back in
     let none : sum_by left_by_turn order ≡ 0 =
     subst (λ ts. sum_by left_by_turn ts ≡ 0) turns.in_order (none_refused turns.renamed taken) in
     let left =

@@ -183,7 +183,7 @@ module _ (stays : StaysRight) (o : Opening) (w : World) (given : List Given) (i 
   all_calm =
       parked_rightly (calmed w) i.sound.legal (λ place d there. played place d (was_there w place d there).0)
       stays.no_match stays.full stays.full_for_look stays.counts stays.refused stays.holds
-      (tended_calmly w lawful.tended) lawful.removed
+      (tended_calmly w lawful.lives.tended) lawful.lives.removed
       (settled_once_installed w.turns i.life.facts)
       (λ place d goal send there is below. absurd (none_for_blocks place goal d send there is))
       (λ place d goal send there is below. absurd (none_for_blocks place goal d send there is))

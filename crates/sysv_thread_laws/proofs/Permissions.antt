@@ -80,20 +80,20 @@ pub each_run : EveryRunObeys → EveryRunIsPermitted
 each_run law o list given w led =
     let lawful = (law o list given w led).lawful in
     record {
-      allowed = λ slot. are_allowed (slot_history slot w.turns) (lawful.queues slot).legal;
+      allowed = λ slot. are_allowed (slot_history slot w.turns) (lawful.objects.queues slot).legal;
       own = λ k d low.
           let c : Started = get_or w.calls k d in
-          all_under c.cred c.asked (deeds_of c.who w.turns) (lawful.asked k d low);
+          all_under c.cred c.asked (deeds_of c.who w.turns) (lawful.calls.asked k d low);
     }
 
 pub each_threaded_run : EveryThreadedRunObeys → EveryThreadedRunIsPermitted
 each_threaded_run law o list given w led =
     let lawful = law o list given w led in
     record {
-      allowed = λ slot. are_allowed (slot_history slot w.turns) (lawful.queues slot).legal;
+      allowed = λ slot. are_allowed (slot_history slot w.turns) (lawful.objects.queues slot).legal;
       own = λ k d low.
           let c : Started = get_or w.calls k d in
-          all_under c.cred c.asked (deeds_of c.who w.turns) (lawful.asked k d low);
+          all_under c.cred c.asked (deeds_of c.who w.turns) (lawful.calls.asked k d low);
     }
 
 pub each_order : EachDeedIsAskedFor → EveryOrderIsPermitted

@@ -24,7 +24,7 @@ use Rattle.sysv_core.specs.Conserved.{blocks_waiting, blocks_in_calls, AreConser
 use Rattle.sysv_core.specs.Sound.{IsSound, IsMadeIn}
 use Rattle.sysv_core.proofs.Histories.{turn_of, slot_more, registry_more, pool_stays}
 use Rattle.sysv_core.proofs.BlocksConserved.{waiting_at, is_sum, same_sum}
-use Rattle.sysv_core.proofs.SoundStays.{before, installed, lived, installs, still_made}
+use Rattle.sysv_core.proofs.SoundStays.{all_made, still_made}
 use Rattle.sysv_core.proofs.Life.{does, jobs_of, not_both, no_job}
 use Rattle.sysv_core.proofs.LifeGoesOn.{life_apart}
 use Rattle.sysv_core.proofs.WorldsObey.{HasMaker, Inv}
@@ -92,10 +92,8 @@ module _
     legal = more w.generation w.blocks w.turns nobody (AtSlot slot ReadRow reply) s.legal legal;
     own = s.own;
     installs = λ place d get id there is. still (slot_of_id id) (s.installs place d get id there is);
-    lives = λ at a lives. elim (lived w.turns nobody (AtSlot slot ReadRow reply) at a lives) [
-      | before b old ↦ still at (s.lives at b old)
-      | installed c r is (installs id key cred mode now asks_it) ↦ absurd cc
-    ];
+    lives =
+        all_made w.turns nobody (AtSlot slot ReadRow reply) s.lives (λ at c r is i. let asks = i.asks_it in absurd cc);
     blocks = row_conserves w.turns slot reply kept s.legal.slots legal w.blocks w.actors s.blocks;
   }
     where

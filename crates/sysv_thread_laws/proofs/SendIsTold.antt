@@ -544,7 +544,7 @@ module _ (o : Opening) (w : World) (given : List Given) (i : Inv IsRowRead w giv
       let entries : pool_history w.turns ≡ h ++ e ∷ pool_history rest =
       ap pool_history whole ∙ pool_both turns (turn_of who (AtPool (Release blocks) reply) ∷ rest) in
       let own = all_at (λ (x : PoolEntry). x.reply ≢ Foreign) h e (pool_history rest)
-      (subst (All (λ (x : PoolEntry). x.reply ≢ Foreign)) entries lawful.conserved.taken_back) in
+      (subst (All (λ (x : PoolEntry). x.reply ≢ Foreign)) entries lawful.objects.conserved.taken_back) in
       let told = is_released h blocks reply (i.sound.legal.pool h e (pool_history rest) entries) own in
       let count = released_more h e in
       let counts : one (frees reply) ≡ 1 = ap (λ (r : PoolReply). one (frees r)) told in
@@ -578,7 +578,7 @@ module _ (o : Opening) (w : World) (given : List Given) (i : Inv IsRowRead w giv
         let t = turn_of who deed in
         let by = change_owner w.calls who id deed
         (all_at (IsMadeOrRead w.calls) (turns ++ more) t rest
-        (subst (All (IsMadeOrRead w.calls)) whole lawful.made)) change in
+        (subst (All (IsMadeOrRead w.calls)) whole lawful.calls.made)) change in
         let call = by.0 in
         let name = i.before call by.1 in
         let same : is_same call.who who ≡ true =
@@ -588,7 +588,7 @@ module _ (o : Opening) (w : World) (given : List Given) (i : Inv IsRowRead w giv
         let deeds_are : deeds_of call.who w.turns ≡ front ++ deed ∷ back =
         ap (deeds_of call.who) whole ∙ deeds_around call.who (turns ++ more) t rest same in
         let asks_all : AllAskFor call.cred call.asked (deeds_of call.who w.turns) =
-        All-contains (AsksAsItWasAsked w) w.calls call lawful.asked by.1 in
+        All-contains (AsksAsItWasAsked w) w.calls call lawful.calls.asked by.1 in
         let asks_it = all_at (λ (d : Deed). AsksFor call.cred call.asked (asked_by d)) front deed back
         (subst (All (λ (d : Deed). AsksFor call.cred call.asked (asked_by d))) deeds_are asks_all) in
         let c = changing id call.cred call.asked deed change asks_it in

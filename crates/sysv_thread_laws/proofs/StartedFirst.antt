@@ -260,7 +260,7 @@ module _ (obeys : EveryThreadedRunObeys) (one : OneAnswer) (gen size : ℕ) (ord
         fate : Fate r.world (s.given ++ r.given) call
         fate =
             subst (Fate r.world (s.given ++ r.given)) (get_or_from_slice_get r.world.calls place call call call_at)
-            (it_obeys.calls place call (slice_get_within r.world.calls place call call_at))
+            (it_obeys.calls.fates place call (slice_get_within r.world.calls place call call_at))
 
         its_deeds : deeds_of (name_at place) r.world.turns ≡ c.deeds
         its_deeds = ap (deeds_of (name_at place)) turns_are

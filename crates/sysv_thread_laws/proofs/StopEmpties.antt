@@ -275,7 +275,7 @@ well_order : HasFacts → (generation blocks : ℕ) (order : List Numbered) (cal
 well_order facts generation blocks order calls served =
     let run = served.run in
     let known = facts (opening_for generation blocks calls) run.moments run.given run.world run.leads in
-    let all = all_well generation run.world.turns known run.obeys.registry in
+    let all = all_well generation run.world.turns known run.obeys.objects.registry in
     subst (All (λ (t : Numbered). IsWellInstalled t.deed)) run.turns.in_order
     (all_renamed run.turns.renamed (subst (All (λ (t : Turn). IsWellInstalled t.deed)) (sym run.turns.in_world) all))
 

@@ -18,7 +18,8 @@ use Rattle.sysv_core.proofs.Histories.{turn_of}
 use Rattle.sysv_core.proofs.BlocksConserved.{BlockLaws, stands_conserves, resumed_holds, begun_holds}
 use Rattle.sysv_core.proofs.StepKeepsKind.{later_of, blocks_later, begun_later, resumed_later}
 use Rattle.sysv_core.proofs.SoundStays.{own_still, later_installs, turn_sound, look_sound}
-use Rattle.sysv_core.proofs.LifeGoesOn.{lives_stand, resumed_none}
+use Rattle.sysv_core.proofs.Life.{begun_none, resumed_none}
+use Rattle.sysv_core.proofs.LifeGoesOn.{lives_stand}
 use Rattle.sysv_core.proofs.WorldsObey.{Inv, Laws, stands_there, goes_on, starts, turns_keep, opens, lawful}
 use Rattle.sysv_thread_laws.specs.FreeRun.{starting_with, Moment, Starts, TakesTurn, Wakes, Reads, StartsCall}
 use Rattle.sysv_thread_laws.specs.FreeRun.{TakesItsTurn, WakesUp, ReadsRow, Brings, LeadsOnThreads}
@@ -54,8 +55,8 @@ module _
           legal = s.legal;
           own = own_still w.actors place None new_call (begun new_call) there s.own
               (later_of (kind_of asked) (begun new_call) l) refl (blocks_later (kind_of asked) (begun new_call) l);
-          installs = later_installs w.turns w.turns w.actors place None new_call (begun new_call) (kind_of asked) there
-              (λ slot m. m) s.installs l;
+          installs = later_installs w.turns w.actors place None new_call (begun new_call) there s.installs
+              (begun_none cred asked released);
           lives = s.lives;
           blocks = stands_conserves w.blocks w.turns w.actors place None new_call (begun new_call) there
               (begun_holds cred asked released) s.blocks;
@@ -97,7 +98,7 @@ module _
         let here = stands_there w given i place d there in
         subst (IsHeld (in_state w (suc place) call on)) (append-nil given)
         (goes_on w given i place d there w.turns on
-        (look_sound more b w i.sound place call d on refl there l (resumed_holds wait value))
+        (look_sound more b w i.sound place call d on refl there l (resumed_none wait value) (resumed_holds wait value))
         (lives_stand w.turns w.actors place (Some d) call on there refl (resumed_none wait value) i.life)
         (λ other apart. refl) (record { plays = resumes value here.plays reached; quiet = here.quiet }) i.made)
 
