@@ -2,7 +2,7 @@
 -- accepting.
 use mathlib.Core.Bool.{true≢false}
 use Rattle.std.proofs.Common.{◌≡◌, ◌≢◌, inl, inr, Bool, ℕ, ◌+◌, ◌≤◌, ◌<◌, List, [], ◌∷◌, length, map, Option, Some}
-use Rattle.std.proofs.Common.{None, ◌++◌, refl, arith, sym, ap, subst, ◌∙◌, append_assoc}
+use Rattle.std.proofs.Common.{None, refl, arith, sym, ap, subst, ◌∙◌, append_assoc}
 use Rattle.std.specs.Prelude.{Result, Ok, Err, IfErr, IfOk, IsSomeAnd, ◌^◌, ◌-◌, true, false, is_some, min}
 use Rattle.std.specs.List.{FoldsTo, sum_by}
 use Rattle.std.specs.declared.io.Error.{Error}
@@ -11,7 +11,6 @@ use Rattle.std.proofs.lemmas.List.Sums.{sum_by-cons}
 use Rattle.std.specs.Prelude.{⊤}
 use Rattle.sysv_session.specs.declared.served.Served.{Served}
 use Rattle.sysv_workers.specs.Sources.{GivesAll, Gave, Returned}
-use Rattle.sysv_workers.specs.declared.workers.TheConstants.{MAX_WORKERS}
 use Rattle.sysv_server.specs.declared.accepting.Accepting.{Accepting}
 use Rattle.sysv_engine.specs.declared.fault.ServeFault.{ServeFault}
 use Rattle.sysv_server.specs.declared.host.Reason.{Reason}
@@ -19,7 +18,7 @@ use Rattle.sysv_server.specs.declared.host.Reason.TheVariants.{Full, InputOver, 
 use Rattle.sysv_engine.specs.declared.sums.Sums.{Sums}
 use Rattle.sysv_engine.specs.declared.terms.Ended.{Ended}
 use Rattle.sysv_server.specs.Accepts.{Accepts, HasEnded}
-use Rattle.sysv_server.specs.Listening.{IsOver, added}
+use Rattle.sysv_server.specs.Listening.{added}
 use Rattle.sysv_engine.specs.Added.{capped, one_session}
 use Rattle.sysv_seats.specs.declared.socket_stream.SocketStream.{SocketStream}
 use Rattle.sysv_service.specs.Seats.{Gates}
@@ -27,8 +26,8 @@ use Rattle.sysv_engine.specs.Handled.{Shift, told_in}
 use Rattle.sysv_engine.specs.Headline.{ServesConnections}
 use Rattle.sysv_engine.specs.declared.fault.ServeFault.TheVariants as faults
 use Rattle.sysv_engine.specs.Serving.{HasLived, LeavesConnections}
-use Rattle.sysv_server.specs.Serving.{EndsFrom, EndsOn, FailsFrom, FailsOn, HasCause, HasReason, LeavesListener}
-use Rattle.sysv_server.specs.Serving.{LeavesSockets, ServesOn}
+use Rattle.sysv_server.specs.Serving.{EndsFrom, FailsFrom, HasCause, HasReason}
+use Rattle.sysv_server.specs.Serving.{ServesOn}
 use Rattle.sysv_engine.specs.Talks.{tally_of}
 use Rattle.sysv_seats.specs.Untold.{leaves_nothing, untold}
 use Rattle.sysv_engine.proofs.SessionsPerConnection.{as_books, one_each}
@@ -359,10 +358,19 @@ pub err_so : {A E : Type 0} (P Q : E → Type 0) (result : Result A E) → ((e :
 err_so P Q (Ok x) so p = tt
 err_so P Q (Err e) so p = so e p
 
-pub has_reason : {I : Type 0} (reads : I → ℕ → Result ℕ Error → I → Type 0) (input : Bool) (m sessions : ℕ)
+has_reason : {I : Type 0} (reads : I → ℕ → Result ℕ Error → I → Type 0) (input : Bool) (m sessions : ℕ)
     (reason : Option Reason) → HasCause reads input m sessions reason → HasReason input m sessions reason
 has_reason reads input m sessions None cause = cause
 has_reason reads input m sessions (Some Full) cause = cause
 has_reason reads input m sessions (Some InputOver) cause = cause.0
 has_reason reads input m sessions (Some (NoSocket why)) cause = cause
 has_reason reads input m sessions (Some (Accept why)) cause = cause
+
+pub reason_so : {I : Type 0} (reads : I → ℕ → Result ℕ Error → I → Type 0) (input input' : Bool) (m : ℕ)
+    (reason : Option Reason) (result : Result Ended ServeFault) → input' ≡ input
+    → IfOk result (λ ended. HasCause reads input' m ended.sums.sessions reason)
+    → IfOk result (λ ended. HasReason input m ended.sums.sessions reason)
+reason_so reads input input' m reason (Ok ended) same cause =
+    subst (λ b. HasReason b m ended.sums.sessions reason) same
+    (has_reason reads input' m ended.sums.sessions reason cause)
+reason_so reads input input' m reason (Err why) same cause = tt

@@ -1,5 +1,5 @@
 //! A source of accepted connections.
-ghost use Rattle.std.specs.Prelude.{◌≡◌, ◌≢◌, ◌<◌, ◌≤◌, ◌-◌, ◌^◌, ◌∷◌, [], true, false, is_some, IfErr, IfOk, IsNone, OnErr, OnOk};
+ghost use Rattle.std.specs.Prelude.{◌≡◌, ◌≢◌, ◌<◌, ◌≤◌, ◌-◌, ◌^◌, ◌∷◌, [], true, false, is_some, None, IfErr, IfOk, OnErr, OnOk};
 ghost use Rattle.sysv_server.specs.Accepts.{EndsInput, HasEnded};
 ghost use Rattle.sysv_server.specs.Listening.{added, IsOver};
 
@@ -73,7 +73,7 @@ impl<'a, L: Listens, I: Input + Drop, H: Host> Accepting<'a, L, I, H> {
         common: &'a Common,
         host: &'a H,
     ) -> Accepting<'a, L, I, H>
-        ensures begun { (result.most ≡ most) × (result.accepted ≡ 0) × IsNone result.reason }
+        ensures begun { (result.most ≡ most) × (result.accepted ≡ 0) × (result.reason ≡ None) }
         ensures range { result.most ≤ 2 ^ 64 - 1 }
         ensures input { result.input ≡ input }
         ensures listener { result.listener.now ≡ listener.old }

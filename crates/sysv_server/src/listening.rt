@@ -200,7 +200,7 @@ impl<I: Read + AsRawFd + Drop> Input for Reading<I> {
 }
 
 /// Returns the input of a server, if there is one.
-pub(crate) fn reading<I: Drop>(input: Option<I>) -> Option<Reading<I>>
+pub(crate) fn input_of<I: Drop>(input: Option<I>) -> Option<Reading<I>>
     ensures { is_some result ≡ is_some input }
 {
     match input {

@@ -8,7 +8,7 @@ ghost use Rattle.sysv_server.specs.declared.serving.TheConstants.{MAX_CLIENTS};
 
 use crate::accepting::Accepting;
 use crate::host::{Host, Quiet, Reason};
-use crate::listening::{Hosted, Input, Lent, Listens, Reading, reading};
+use crate::listening::{Hosted, Input, Lent, Listens, Reading, input_of};
 use crate::terms::Terms;
 use std::alloc::Global;
 use std::io::Read;
@@ -126,7 +126,7 @@ pub fn serve_listener<I: Read + AsRawFd + Drop, H: Host + Drop, R: Threads + Wai
     ensures err { IfErr result (FailsOn terms.blocks terms.at_once terms.sessions) }
 {
     let mut socket = Hosted::new(&host);
-    let input = reading(input);
+    let input = input_of(input);
     run(rt, alloc, &mut socket, true, &host, input, terms, reason)
 }
 

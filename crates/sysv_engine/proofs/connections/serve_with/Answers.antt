@@ -2,7 +2,7 @@
 use mir.Syntax.{named as lifetime}
 use denote.Param.Send.{arg_send, param_send, param_sync}
 use Rattle.std.proofs.Common.{◌≡◌, ◌≤◌, ◌∙◌, ℕ, List, ◌++◌, map, reverse, length, ap, arith, inl, inr}
-use Rattle.std.proofs.Common.{subst, sym}
+use Rattle.std.proofs.Common.{subst, sym, vec_len}
 use Rattle.std.specs.List.{All}
 use Rattle.sysv_workers.specs.declared.workers.TheConstants.{MAX_WORKERS}
 use Rattle.sysv_engine.specs.declared.dealing.Dealing.{Dealing}
@@ -208,7 +208,7 @@ returns-in-Err-clause-err g c =
     let new : D = c.run_workers-outcome.new.source in
     let workers = c.staff.new.workers.items in
     let why = c.in-Err.refused.why in
-    let count : ℕ = length workers in
+    let count : ℕ = vec_len c.staff.new.workers in
     let few : count ≤ MAX_WORKERS =
     (let staffed = c.staff.ensures.count in
     let kits = c.in-Some-kits.ensures.count in
