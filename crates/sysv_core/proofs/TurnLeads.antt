@@ -53,7 +53,8 @@ module _ (old new : Objects) (p : Phase) (now before after : ℕ) (s : State) (l
   leads_so b kind (inr worn) leads = absurd worn.worn
 
   -- A step that does not use the time.
-  pub leads_ever : gives_back (phase_kind p) ≡ false → StepsOn MakesTurn (λ _ _ _. ⊥) no_moment p old before s new after →
+  pub leads_ever : gives_back (phase_kind p) ≡ false →
+      StepsOn MakesTurn (λ _ _ _. ⊥) no_moment p old before s new after →
       LeadsTo false s l → TurnLeads old p now l new
   leads_ever kind (inl step) leads = record {
     deed = step.deed;

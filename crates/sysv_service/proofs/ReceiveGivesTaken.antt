@@ -17,7 +17,8 @@ use Rattle.sysv_service.specs.Ran.{Pass, steps, turns_back, Comes}
 use Rattle.sysv_service.specs.Delivered.{HasGiven, StepsGiving, ComesGiving}
 
 module _ (may : ℕ → Type 0) (from : State) (old : Pass) where
-  pub comes_giving : (there : ReceiveStep) (text : List ℕ) (mid : Pass) (s kept : ReceiveKept) (out : List ℕ) (new : Pass) →
+  pub comes_giving : (there : ReceiveStep) (text : List ℕ) (mid : Pass) (s kept : ReceiveKept) (out : List ℕ)
+      (new : Pass) →
       s ≡ state.Goes there → ComesGiving may from old s text mid →
       StepsGiving may there text mid kept out new → ComesGiving may from old kept out new
   comes_giving there text mid s kept out new is came step =

@@ -57,7 +57,8 @@ module _ {P : Type 0} (takes : P → Deed → P → Type 0) (misses : P → Ask 
   gives_nothing none = gives_on (λ deeds more has. nothing_to_have stands out (deeds ++ more) none)
 
   -- The receive has just taken what it returns.
-  pub took : (step : Steps takes misses may (receive_phase there text) before kept (receive_state stands out) after keeps) →
+  pub took : (step : Steps takes misses may (receive_phase there text) before kept (receive_state stands out) after
+      keeps) →
       (given : Given) → ((deeds : List Deed) → HaveTaken given deeds → HasWhatItGives stands deeds) →
       TakesGiven given step.deed →
       StepsGiving takes misses may there text before kept stands out after keeps

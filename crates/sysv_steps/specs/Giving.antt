@@ -43,7 +43,8 @@ abbrev pub StepsGiving : {P : Type 0} → (P → Deed → P → Type 0) → (P �
 StepsGiving takes misses may there text before kept stands out after keeps =
     ((made : Steps takes misses may (receive_phase there text) before kept (receive_state stands out) after keeps)
     × ((deeds : List Deed) → HasWhatItGives (state.Goes there) deeds → HasWhatItGives stands (deeds ++ made.deed ∷ [])))
-    ⊎ ((made : FindsNoTurn takes misses may (receive_phase there text) before kept (receive_state stands out) after keeps)
+    ⊎ ((made : FindsNoTurn takes misses may (receive_phase there text) before kept (receive_state stands out) after
+    keeps)
     × ((deeds : List Deed) → HasWhatItGives (state.Goes there) deeds → HasWhatItGives stands (deeds ++ made.deeds)))
 
 -- ---- a receive that gives nothing

@@ -11,9 +11,7 @@ use crate::parts::{assert_is, open_body};
 use bitflags::Flags as _;
 use std::alloc::Global;
 use std::process::Abort;
-use sysv_core::{
-    Answer, Call, Doing, Event, OpenRefused, Outcome, Sent, Standing, Stepped, World,
-};
+use sysv_core::{Answer, Call, Doing, Event, OpenRefused, Outcome, Sent, Standing, Stepped, World};
 use sysv_model::{Body, Cred, Errno, Flags, NoMemory, Perm, SetTo, Stat};
 use sysv_queue::{Look, Tally};
 use sysv_steps::{GetStep, RemoveStep, SendStep};
@@ -86,10 +84,12 @@ fn gets_at(world: &World, actor: u32) -> Option<&GetStep> {
 /// Returns the step before which the send of an actor is, if it is before one.
 fn sends_at(world: &World, actor: u32) -> Option<&SendStep> {
     match world.doing(actor)? {
-        Doing::Send(Sent {
-            at: Standing::At(step),
-            ..
-        }) => Some(step),
+        Doing::Send(
+            Sent {
+                at: Standing::At(step),
+                ..
+            },
+        ) => Some(step),
         _ => None,
     }
 }
@@ -267,9 +267,7 @@ fn a_place_finds_that_the_room_is_gone(rt: HostRuntime) {
     assert_sends(&rt, alloc, &mut world, 2, &bytes);
     let full = Outcome::Refused(Errno::EAGAIN);
     assert_nothing(&rt, world.step(step(1)));
-    assert!(rt;
-        matches!(sends_at(&world, 1), Some(SendStep::Giveback { .. }))
-    );
+    assert!(rt; matches!(sends_at(&world, 1), Some(SendStep::Giveback { .. })));
     assert_answer(&rt, world.step(step(1)), (1, full, None));
     assert_sends(&rt, alloc, &mut world, 2, b"");
     assert_is(&rt, world.end(), 1024);

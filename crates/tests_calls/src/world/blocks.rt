@@ -79,9 +79,7 @@ fn a_send_refused_at_its_place_waits_for_room(rt: HostRuntime) {
     assert!(rt; matches!(sends_at(&world, 2), Some(SendStep::Place { .. })));
     assert_sends_type(&rt, alloc, &mut world, 1, 1, b"b");
     assert_nothing(&rt, world.step(step(2)));
-    assert!(rt;
-        matches!(sends_at(&world, 2), Some(SendStep::Giveback { .. }))
-    );
+    assert!(rt; matches!(sends_at(&world, 2), Some(SendStep::Giveback { .. })));
     assert_nothing(&rt, world.step(step(2)));
     assert!(rt; is_waiting(&world, 2));
     let got = Outcome::Got { mtype: 1, len: 1 };

@@ -64,7 +64,8 @@ returns-in-Ok-Slot-Taken-Err-clause-steps g c = λ kept.
     let goes = c.untaken.ensures out in
     gives_nothing g.T.Turns.takes g.T.Turns.misses may (step.Take r) out c.args.at.now kept c.untaken.result out
     c.make.new.at kept (untaken_gives_nothing (receiving r) c.in-Ok-Slot-Taken-Err.why _ goes)
-    (stepped g.T.Turns.takes g.T.Turns.misses may (AtTake (receiving r)) c.args.at.now (receive_state c.untaken.result out)
+    (stepped g.T.Turns.takes g.T.Turns.misses may (AtTake (receiving r)) c.args.at.now
+    (receive_state c.untaken.result out)
     c.make.new.at
     (AtSlot (slot_of_id r.id) (Take r.id r.cred r.selector r.size r.noerror c.now.result)
     (untaken_reply c.in-Ok-Slot-Taken-Err.why)) c.now.result (λ e. c.now.ensures) refl goes turn refl kept)

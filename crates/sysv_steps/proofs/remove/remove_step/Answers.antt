@@ -13,7 +13,8 @@ returns-in-Remove-clause-steps g c =
     let step = c.remove.ensures.steps kept in
     let on = simp to_z-of_z at step in
     subst (λ p.
-    StepsOn g.T.Turns.takes g.T.Turns.misses no_moment (remove_phase p) c.args.at.now kept (remove_state c.remove.result)
+    StepsOn g.T.Turns.takes g.T.Turns.misses no_moment (remove_phase p) c.args.at.now kept
+    (remove_state c.remove.result)
     c.remove.new.at kept) (sym c.in-Remove.is) on
 
 pub returns-in-Forget-clause-steps : goal.returns-in-Forget-clause-steps

@@ -14,7 +14,8 @@ returns-in-Above-clause-ended g c = λ out.
     let id : FitsSigned w32 c.args.wait.receive.id = search rules in
     let told = simp to_z-of_z at c.wait_above.ensures.waited in
     let waited =
-    subst (λ w. WaitsAbove (awaited wait) c.args.wait.above c.args.pass.now w c.wait_above.new.pass) c.in-Above.is told in
+    subst (λ w. WaitsAbove (awaited wait) c.args.wait.above c.args.pass.now w c.wait_above.new.pass) c.in-Above.is
+    told in
     ends_above wait (awaited wait) c.args.wait.above refl refl c.args.pass.now c.wait_above.new.pass _ _ waited
     (sym (ap Goes (c.resume.ensures c.in-Above._value out)))
 
@@ -24,7 +25,8 @@ returns-in-Still-clause-ended g c = λ out.
     let id : FitsSigned w32 c.args.wait.receive.id = search rules in
     let told = simp to_z-of_z at c.wait_above.ensures.waited in
     let waited =
-    subst (λ w. WaitsAbove (awaited wait) c.args.wait.above c.args.pass.now w c.wait_above.new.pass) c.in-Still.is told in
+    subst (λ w. WaitsAbove (awaited wait) c.args.wait.above c.args.pass.now w c.wait_above.new.pass) c.in-Still.is
+    told in
     ends_still wait (awaited wait) c.args.wait.above refl refl c.args.pass.now c.wait_above.new.pass _ waited refl
 
 pub returns-in-Worn-clause-ended : goal.returns-in-Worn-clause-ended
@@ -33,7 +35,8 @@ returns-in-Worn-clause-ended g c = λ out.
     let id : FitsSigned w32 c.args.wait.receive.id = search rules in
     let told = simp to_z-of_z at c.wait_above.ensures.waited in
     let waited =
-    subst (λ w. WaitsAbove (awaited wait) c.args.wait.above c.args.pass.now w c.wait_above.new.pass) c.in-Worn.is told in
+    subst (λ w. WaitsAbove (awaited wait) c.args.wait.above c.args.pass.now w c.wait_above.new.pass) c.in-Worn.is
+    told in
     ends_worn wait (awaited wait) c.args.wait.above refl refl c.args.pass.now c.wait_above.new.pass _ waited refl
 
 pub returns-in-Above-clause-nothing : goal.returns-in-Above-clause-nothing
