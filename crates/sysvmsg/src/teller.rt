@@ -115,9 +115,12 @@ impl Teller<'_> {
     }
 
     /// Tells a fault by a sentence on standard error: what was asked, and what the name in the line
-    /// of the fault means.
+    /// of the fault means. A fault without a line is not told.
     fn sentence(&self, rt: &impl Eprint, line: &str) {
         let name = name_in(line);
+        if name.is_empty() {
+            return;
+        }
         let words = words_of(name, has_id(self.task));
         self.begin(rt);
         let _ = if words.is_empty() {
