@@ -17,7 +17,9 @@ use clap::error::ErrorKind;
 use clap::{ArgMatches, Command as CommandLine, Error};
 use std::alloc::{AllocError, Global};
 use std::convert::AsStr;
-use sysv_clients::{Form, Format, MAX_AHEAD, Making, Receipt, Target, Task, id_of, key_of, type_of};
+use sysv_clients::{
+    Form, Format, MAX_AHEAD, Making, Receipt, Target, Task, id_of, key_of, type_of,
+};
 use sysv_model::{BODY_ROOM, MAX_BLOCKS, MIN_BLOCKS};
 use sysv_server::{MAX_CLIENTS, Patience, Terms};
 use sysv_words::{Reads, one_split, split_at_mark};

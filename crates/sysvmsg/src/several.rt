@@ -183,11 +183,8 @@ fn receive_over<R: Leave + Drop, W: Write + Drop, S: Write>(
 {
     let (mut leaver, mut outgoing) = (Leaver::new(reader, wait), Outgoing::new(writer));
     match receive_through(alloc, &mut leaver, &mut outgoing, receiving, screen) {
-        Err(Stop::Fault(ClientFault::NoReply))
-            if leaver.has_ended() || leaver.is_over(&outgoing) =>
-        {
-            Err(Failure::late(Stop::Fault(ClientFault::Refused(Errno::ENOMSG))))
-        }
+        Err(Stop::Fault(ClientFault::NoReply)) if leaver.has_ended() || leaver.is_over(&outgoing) =>
+            { Err(Failure::late(Stop::Fault(ClientFault::Refused(Errno::ENOMSG)))) }
         Err(stop) => Err(Failure::of(stop)),
         Ok(()) => Ok(()),
     }
