@@ -23,7 +23,7 @@ static const char help[] =
     "Runs `sysvmsg serve` with these options, --until-eof and, unless they are given,\n"
     "--drain 5 and --blocks 65536. SIGTERM and SIGINT end it in order: it refuses new\n"
     "clients, waits for its sessions, at most as long as --drain states, prints its\n"
-    "counts and removes the socket. A second signal ends it at once. It reports to\n"
+    "counts and removes its sockets. A second signal ends it at once. It reports to\n"
     "systemd (Type=notify) and can be process 1 of a container. The limit of open\n"
     "files of the server is the hard limit, so it serves more clients at once.\n"
     "\n"

@@ -6,9 +6,10 @@ use Rattle.sysv_service.specs.Opened.{AreOpen}
 use Rattle.sysv_service.specs.Seats.{Gates, AreOf}
 use Rattle.sysv_service.specs.declared.closing.Closed.{Closed}
 use Rattle.sysv_service.specs.Closing.{IsCounted}
-use Rattle.sysv_thread_laws.specs.Hiring.{first_pass, Hires}
+use Rattle.sysv_thread_laws.specs.Hiring.{first_pass}
 use Rattle.sysv_service.specs.Ran.{Pass}
-use Rattle.sysv_engine.specs.Handled.{Shift, first_passes, last_passes}
+use Rattle.sysv_engine.specs.Handled.{Shift}
+use Rattle.sysv_engine.specs.Looking.{HiresAll}
 use Rattle.sysv_engine.specs.OneRun.{EachLifeEndsEmpty, EachLifeIsOneRun, EachLifeLeavesThePoolWhole, Lived}
 use Rattle.sysv_engine.specs.OneRun.{NoLifeLeavesAGateHeld, Stopped}
 use Rattle.sysv_engine.specs.Serving.{HasLived, HiredFrom}
@@ -19,7 +20,7 @@ module _ (run : EachLifeIsOneRun) (whole : EachLifeLeavesThePoolWhole) (none_hel
     (counted : IsCounted stopped.after.seats stopped.after.held closed) (opened : AreOpen 0 blocks 0 gates)
     (fits : AreOf gates stopped.after.seats) where
   unfoldable pub lived : (shifts : List Shift) →
-      Hires (first_pass gates) (first_passes shifts) (last_passes shifts) stopped.before →
+      HiresAll (first_pass gates) shifts stopped.before →
       Lived blocks gates shifts told
   lived shifts hires = record {
     stopped = stopped;
@@ -36,8 +37,8 @@ module _ (run : EachLifeIsOneRun) (whole : EachLifeLeavesThePoolWhole) (none_hel
   pub have_lived : (first : Pass) → first ≡ first_pass gates → (own : Gates) (shifts : List Shift) →
       HiredFrom gates first stopped.before own shifts → HasLived blocks own shifts
   have_lived first is own shifts hired =
-      let hires : Hires (first_pass gates) (first_passes shifts) (last_passes shifts) stopped.before =
-      subst (λ (p : Pass). Hires p (first_passes shifts) (last_passes shifts) stopped.before) is hired.1 in
+      let hires : HiresAll (first_pass gates) shifts stopped.before =
+      subst (λ (p : Pass). HiresAll p shifts stopped.before) is hired.1 in
       let here : HasLived blocks gates shifts =
       record { opened = opened; removed = told; lived = lived shifts hires } in
       subst (λ (g : Gates). HasLived blocks g shifts) (sym hired.0) here

@@ -15,3 +15,5 @@ pub mod SharedOut
 pub mod Reversed
 pub mod Staffed
 pub mod Crossing
+pub mod Looking
+mod Unseen

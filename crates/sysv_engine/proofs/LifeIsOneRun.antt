@@ -1,5 +1,5 @@
 -- The life of a server's service is that of a service with workers whose sessions make its calls.
-use Rattle.std.proofs.Common.{◌∙◌, ℕ, List, [], ◌∷◌, ◌++◌, Option, Some, None, ap, sym, subst}
+use Rattle.std.proofs.Common.{◌≡◌, ◌∙◌, ℕ, List, [], ◌∷◌, ◌++◌, Option, Some, None, ap, refl, sym, subst}
 use Rattle.std.specs.Prelude.{⊤}
 use Rattle.std.specs.List.{All, AllByRecursion, FoldsTo}
 use Rattle.std.proofs.lemmas.List.{append-nil, append_assoc}
@@ -16,6 +16,9 @@ use Rattle.sysv_thread_laws.specs.Working as working
 use Rattle.sysv_thread_laws.specs.Working.{Works}
 use Rattle.sysv_engine.specs.Made.{trail, EachSessionMakesCalls}
 use Rattle.sysv_engine.specs.Handled.{Shift, first_passes, last_passes, AreMadeBy}
+use Rattle.sysv_engine.specs.Looking as looking
+use Rattle.sysv_engine.specs.Looking.{Looked}
+use Rattle.sysv_thread_laws.specs.Crew.{IsServed}
 use Rattle.sysv_engine.specs.Talks.{Talk, TalksAs, Talks, TalksAsIn, TalksIn}
 use Rattle.sysv_engine.specs.OneRun.{EachLifeEndsEmpty, EachLifeIsOneRun, EachLifeLeavesThePoolWhole}
 use Rattle.sysv_engine.specs.OneRun.{NoLifeLeavesAGateHeld}
@@ -32,6 +35,29 @@ both (x ∷ xs) ys one two = (one.0, both xs ys one.1 two)
 removals_rest : (calls : List Called) → AllByRecursion IsRemoval calls → AllByRecursion Resting calls
 removals_rest [] are = tt
 removals_rest (c ∷ calls) are = (subst Rests (sym are.0.2.1) tt, removals_rest calls are.1)
+
+-- One more of each at the end.
+each3_last : {A B C : Type 0} (R : A → B → C → Type 0) (xs : List A) (ys : List B) (zs : List C) (x : A) (y : B)
+    (z : C) → Each3 R xs ys zs → R x y z → Each3 R (xs ++ x ∷ []) (ys ++ y ∷ []) (zs ++ z ∷ [])
+each3_last R [] [] [] x y z all one = (one, all)
+each3_last R [] [] (c ∷ zs) x y z all one = absurd all
+each3_last R [] (b ∷ ys) [] x y z all one = absurd all
+each3_last R [] (b ∷ ys) (c ∷ zs) x y z all one = absurd all
+each3_last R (a ∷ xs) [] [] x y z all one = absurd all
+each3_last R (a ∷ xs) [] (c ∷ zs) x y z all one = absurd all
+each3_last R (a ∷ xs) (b ∷ ys) [] x y z all one = absurd all
+each3_last R (a ∷ xs) (b ∷ ys) (c ∷ zs) x y z all one = (all.0, each3_last R xs ys zs x y z all.1 one)
+
+-- One worker without calls adds none.
+none_more : (each : List (List Called)) → all_of (each ++ [] ∷ []) ≡ all_of each
+none_more [] = refl
+none_more (calls ∷ each) = ap (λ l. calls ++ l) (none_more each)
+
+-- Reads of rows are no calls.
+works_without : (before after : Pass) → Looked before after → Works before [] after
+works_without before after looking.begins = working.begins
+works_without before after (looking.reads slot result new looked told) =
+    working.asks_row slot result new (works_without before _ looked) told
 
 module _ (law : EachSessionMakesCalls zero_moment ⊤) where
   -- The calls that were made in a session with this report.
@@ -109,9 +135,26 @@ module _ (law : EachSessionMakesCalls zero_moment ⊤) where
         made = (one.folds, rest.made);
       }
 
+  -- The calls of all workers, and none of what read the rows.
+  record InAll (shifts : List Shift) (before after : Pass) : Type 0 where
+    done : InShifts shifts
+    works : Each3 Works (first_passes shifts ++ before ∷ []) (done.each ++ [] ∷ []) (last_passes shifts ++ after ∷ [])
+    same : all_of (done.each ++ [] ∷ []) ≡ all_of done.each
+
+  in_all : (shifts : List Shift) (before after : Pass) → Looked before after → InAll shifts before after
+  in_all shifts before after looked =
+      let done = in_shifts shifts in
+      record {
+        done = done;
+        works = each3_last Works (first_passes shifts) done.each (last_passes shifts) before [] after done.works
+            (works_without before after looked);
+        same = none_more done.each;
+      }
+
   pub each_life : EveryHiringObeys → EveryStopRemoves → EachLifeIsOneRun
   each_life obeys stops blocks gates shifts removed stopped closed counted opened fits hires turns_left =
-      let done = in_shifts shifts in
+      let all = in_all shifts hires.before hires.after hires.looked in
+      let done = all.done in
       let stop = stops _ stopped.removed stopped.worn stopped.before stopped.after stopped.stops in
       record {
         each = done.each;
@@ -119,29 +162,36 @@ module _ (law : EachSessionMakesCalls zero_moment ⊤) where
         removals = stop.0;
         are_removals = stop.2;
         counted = stop.3;
-        served = obeys 0 blocks 0 gates (first_passes shifts) (last_passes shifts) stopped.before stopped.after
-            done.each stop.0 closed opened hires done.works stop.1 fits counted turns_left;
+        served = subst (λ calls. IsServed 0 blocks counted.all.order (calls ++ stop.0)) all.same
+            (obeys 0 blocks 0 gates (first_passes shifts ++ hires.before ∷ []) (last_passes shifts ++ hires.after ∷ [])
+            stopped.before stopped.after (done.each ++ [] ∷ []) stop.0 closed opened hires.hires all.works stop.1 fits
+            counted turns_left);
       }
 
   pub each_whole : EveryHiringLeavesThePoolWhole → EveryStopRemoves → EachLifeLeavesThePoolWhole
   each_whole home stops blocks gates shifts removed stopped closed counted opened fits hires turns_left =
-      let done = in_shifts shifts in
+      let all = in_all shifts hires.before hires.after hires.looked in
+      let done = all.done in
       let stop = stops _ stopped.removed stopped.worn stopped.before stopped.after stopped.stops in
       let rest : All Resting (all_of done.each ++ stop.0) = All-from_recursion Resting (all_of done.each ++ stop.0)
       (both (all_of done.each) stop.0 done.rests (removals_rest stop.0 stop.2)) in
-      home 0 blocks 0 gates (first_passes shifts) (last_passes shifts) stopped.before stopped.after done.each stop.0
-      closed opened hires done.works stop.1 fits counted turns_left rest
+      home 0 blocks 0 gates (first_passes shifts ++ hires.before ∷ []) (last_passes shifts ++ hires.after ∷ [])
+      stopped.before stopped.after (done.each ++ [] ∷ []) stop.0 closed opened hires.hires all.works stop.1 fits counted
+      turns_left (subst (λ calls. All Resting (calls ++ stop.0)) (sym all.same) rest)
 
   pub each_none_held : NoHiringLeavesAGateHeld → EveryStopRemoves → NoLifeLeavesAGateHeld
   each_none_held none stops gates shifts removed stopped closed counted hires =
-      let done = in_shifts shifts in
+      let all = in_all shifts hires.before hires.after hires.looked in
+      let done = all.done in
       let stop = stops _ stopped.removed stopped.worn stopped.before stopped.after stopped.stops in
-      none gates (first_passes shifts) (last_passes shifts) stopped.before stopped.after done.each stop.0 closed hires
-      done.works stop.1 counted
+      none gates (first_passes shifts ++ hires.before ∷ []) (last_passes shifts ++ hires.after ∷ []) stopped.before
+      stopped.after (done.each ++ [] ∷ []) stop.0 closed hires.hires all.works stop.1 counted
 
   pub each_empty : EveryStopEmpties → EachLifeEndsEmpty
   each_empty empties blocks gates shifts removed stopped closed counted opened fits hires turns_left =
-      let done = in_shifts shifts in
-      (empties 0 blocks 0 gates (first_passes shifts) (last_passes shifts) stopped.before stopped.before stopped.after
-      done.each [] stopped.removed stopped.worn closed opened hires done.works working.begins stopped.stops fits
+      let all = in_all shifts hires.before hires.after hires.looked in
+      let done = all.done in
+      (empties 0 blocks 0 gates (first_passes shifts ++ hires.before ∷ []) (last_passes shifts ++ hires.after ∷ [])
+      stopped.before stopped.before stopped.after (done.each ++ [] ∷ []) [] stopped.removed stopped.worn closed opened
+      hires.hires all.works working.begins stopped.stops fits
       counted turns_left).0

@@ -21,6 +21,7 @@ use Rattle.sysv_engine.specs.Desks.{Desk, Crewed, Sat, AreServedInOrder, all_con
 use Rattle.sysv_engine.specs.Handled.{Handles, Shift, first_passes, last_passes, one_refused, refused_of, reports_of}
 use Rattle.sysv_engine.specs.Handled.{sums_of}
 use Rattle.sysv_engine.specs.Handled.{told_in}
+use Rattle.sysv_engine.specs.Looking.{HiresAll, LooksBetween}
 use Rattle.sysv_engine.specs.Serving.{FaultOf, HiredFrom, IsNew, LeavesBooks, LeavesConnections, LeavesUnused}
 use Rattle.sysv_engine.specs.Serving.{WorkedFrom}
 use Rattle.sysv_engine.specs.Talks.{Closes, IsOn, Talk, Talks, tally_of}
@@ -59,6 +60,22 @@ pub folds_last : {P A : Type 0} (R : P → A → P → Type 0) (p : P) (xs : Lis
     FoldsTo R p xs q → R q x r → FoldsTo R p (xs ++ x ∷ []) r
 folds_last R p [] q x r is step = (r, subst (λ s. R s x r) (sym is) step, refl)
 folds_last R p (y ∷ xs) q x r folds step = (folds.0, folds.1, folds_last R folds.0 xs q x r folds.2 step)
+
+-- The passes of places, and between them that of what read the rows.
+hired_all : (shifts : List Shift) (old kept back new : Pass) → LooksBetween kept back →
+    FoldsTo Gives old (first_passes shifts) kept → FoldsTo TakesIn back (reverse (last_passes shifts)) new →
+    HiresAll old shifts new
+hired_all shifts old kept back new looks given taken = record {
+  before = looks.before;
+  after = looks.after;
+  looked = looks.looked;
+  hires = record {
+    kept = looks.kept;
+    gives = folds_last Gives old (first_passes shifts) kept looks.before looks.kept given looks.gives;
+    takes = subst (λ passes. FoldsTo TakesIn looks.kept passes new)
+        (sym (reverse-append (last_passes shifts) (looks.after ∷ []))) (back, looks.takes, taken);
+  };
+}
 
 -- One step more at the start.
 pub unpopped : {X : Type 0} (books : List X) (book : X) (rest : List X) →
@@ -221,14 +238,14 @@ module _ {W T B : Type 0} (incoming outgoing : T → Option (List ℕ)) (closes 
 
   -- What a run of workers does, if their passes were split off before it and joined back after it.
   pub all_shifted : {S : Type 0} (gives : S → Option T → S → Type 0) (gates : Gates) (states after : List W)
-      (source source' : S) (books books' : List B) (total : Sums) (missed : ℕ) (old kept new : Pass)
+      (source source' : S) (books books' : List B) (total : Sums) (missed : ℕ) (old kept back new : Pass)
       → RunsAll Runs gives states source after source' → All (λ w. New gates w) states
       → books ≡ reverse (map book states) → books' ≡ reverse (map book after) → total ≡ all_added (map sums after)
       → missed ≡ capped (sum_by refused after) → FoldsTo Gives old (map pass states) kept
-      → FoldsTo TakesIn kept (reverse (map pass after)) new
+      → LooksBetween kept back → FoldsTo TakesIn back (reverse (map pass after)) new
       → WorkedFrom incoming outgoing closes gives gates old source books total missed new source' books'
-  all_shifted gives gates states after source source' books books' total missed old kept new ran new_ones books_are
-      books_are' adds counts given taken =
+  all_shifted gives gates states after source source' books books' total missed old kept back new ran new_ones books_are
+      books_are' adds counts given looks taken =
       let done = manned gates states ran.parts after ran.leads new_ones in
       let workers : length books ≡ length states =
       ap length books_are ∙ (length-reverse (map book states) ∙ length-map states book) in
@@ -245,11 +262,9 @@ module _ {W T B : Type 0} (incoming outgoing : T → Option (List ℕ)) (closes 
             (sym books_are') done.crewed);
         adds = adds ∙ done.adds;
         counts = counts ∙ done.counts;
-        hires = record {
-          kept = kept;
-          gives = subst (λ passes. FoldsTo Gives old passes kept) (sym done.begun) given;
-          takes = subst (λ passes. FoldsTo TakesIn kept (reverse passes) new) (sym done.left) taken;
-        };
+        hires = hired_all done.shifts old kept back new looks
+            (subst (λ passes. FoldsTo Gives old passes kept) (sym done.begun) given)
+            (subst (λ passes. FoldsTo TakesIn back (reverse passes) new) (sym done.left) taken);
       }
 
   -- ---- a refused run
@@ -289,10 +304,10 @@ module _ {W T B : Type 0} (incoming outgoing : T → Option (List ℕ)) (closes 
   }
 
   module _ {S : Type 0} (gives : S → Option T → S → Type 0) (gates : Gates) (states after : List W) (source source' : S)
-      (books books' : List B) (old kept new : Pass) (new_ones : All (λ w. New gates w) states)
+      (books books' : List B) (old kept back new : Pass) (new_ones : All (λ w. New gates w) states)
       (books_are : books ≡ reverse (map book states)) (books_are' : books' ≡ reverse (map book after))
-      (given : FoldsTo Gives old (map pass states) kept)
-      (taken : FoldsTo TakesIn kept (reverse (map pass after)) new) where
+      (given : FoldsTo Gives old (map pass states) kept) (looks : LooksBetween kept back)
+      (taken : FoldsTo TakesIn back (reverse (map pass after)) new) where
     -- The books to which the parts of a refused run led.
     record Led (parts : List (Part W T)) : Type 0 where
       left : LeavesBooks incoming outgoing closes (HiredFrom gates old new) books books'
@@ -312,11 +327,9 @@ module _ {W T B : Type 0} (incoming outgoing : T → Option (List ℕ)) (closes 
                 l) (sym books_are') done.crewed);
             ran = (
               refl,
-              record {
-                kept = kept;
-                gives = subst (λ passes. FoldsTo Gives old passes kept) (sym done.begun) given;
-                takes = subst (λ passes. FoldsTo TakesIn kept (reverse passes) new) (sym done.left) taken;
-              },
+              hired_all done.shifts old kept back new looks
+                  (subst (λ passes. FoldsTo Gives old passes kept) (sym done.begun) given)
+                  (subst (λ passes. FoldsTo TakesIn back (reverse passes) new) (sym done.left) taken),
             );
           };
           served = done.served;

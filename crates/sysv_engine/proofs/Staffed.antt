@@ -1,6 +1,7 @@
 -- What a server did whose workers shared out its places, from what their run led to.
 use Rattle.std.proofs.Common.{◌≡◌, ◌∙◌, ℕ, ◌≤◌, List, [], ◌∷◌, ◌++◌, map, reverse, length, Option, Some, None, ap, refl}
 use Rattle.std.proofs.Common.{sym, subst, arith, inl, inr}
+use Rattle.std.specs.Prelude.{Result, Ok, Err, IfOk, IfErr}
 use Rattle.std.specs.List.{All, FoldsTo, flat_map, sum_by}
 use Rattle.std.proofs.lemmas.List.{length-reverse, reverse-append, reverse-reverse}
 use Rattle.std.proofs.lemmas.List.Elements.{All-head, All-tail, All-cons}
@@ -19,6 +20,7 @@ use Rattle.sysv_engine.specs.declared.sums.Sums.{Sums}
 use Rattle.sysv_engine.specs.Added.{all_added, capped}
 use Rattle.sysv_engine.specs.Places.{Handled, IsOpened, IsPlace, IsStaffed, KeepsAll, Seated, Standing, Stands, View}
 use Rattle.sysv_engine.specs.Places.{SitsOn, view_of}
+use Rattle.sysv_engine.specs.Looking.{LooksBetween}
 use Rattle.sysv_engine.specs.Serving.{FaultOf, HiredFrom, IsNew, LeavesConnections, WorkedFrom}
 use Rattle.sysv_engine.proofs.PlacesRun as run
 use Rattle.sysv_engine.proofs.Reversed.{all_reverse, back_reverse, map_reverse, runs_reverse}
@@ -240,82 +242,88 @@ module _ {T B : Type 0} (incoming outgoing : T → Option (List ℕ)) (closes : 
           (run.given_back places view_of St (Handled incoming outgoing closes) why ws ws' (reverse ps) back all_fresh
           (vacated ws' ps keeps vacant))))
 
-      module _ (books books' : List B) (old kept new : Pass)
+      module _ (books books' : List B) (old kept back new : Pass)
           (first_books : books ≡ reverse (map (λ (p : Seated B T). p.book) opened))
           (last_books : books' ≡ reverse (map (λ (p : Seated B T). p.book) ps))
           (given : FoldsTo Gives old (map (λ (p : Seated B T). p.pass) opened) kept)
-          (taken : FoldsTo TakesIn kept (reverse (map (λ (p : Seated B T). p.pass) ps)) new) where
+          (looks : LooksBetween kept back)
+          (taken : FoldsTo TakesIn back (reverse (map (λ (p : Seated B T). p.pass) ps)) new) where
         pub all_worked : (total : Sums) (missed : ℕ) → total ≡ all_added (map (λ (p : Seated B T). p.sums) ps) →
             missed ≡ capped (sum_by (λ (p : Seated B T). p.refused) ps) → RunsAll Runs gives ws source ws' source' →
             WorkedFrom incoming outgoing closes gives gates old source books total missed new source' books'
         all_worked total missed adds counts ran =
             shifts.all_shifted incoming outgoing closes (λ (v : View B). v.pass) (λ (v : View B). v.sums)
             (λ (v : View B). v.refused) (λ (v : View B). v.book) gives gates (map view_of opened) (map view_of ps)
-            source source' books books' total missed old kept new (places_ran ran) (new_views opened all_opened)
+            source source' books books' total missed old kept back new (places_ran ran) (new_views opened all_opened)
             (first_books ∙ ap reverse (sym (map_both (λ (v : View B). v.book) view_of opened)))
             (last_books ∙ ap reverse (sym (map_both (λ (v : View B). v.book) view_of ps)))
             (adds ∙ ap all_added (sym (map_both (λ (v : View B). v.sums) view_of ps)))
             (counts ∙ ap capped (sym (sum_by_map (λ (v : View B). v.refused) view_of ps)))
             (subst (λ l. FoldsTo Gives old l kept) (sym (map_both (λ (v : View B). v.pass) view_of opened)) given)
-            (subst (λ l. FoldsTo TakesIn kept (reverse l) new) (sym (map_both (λ (v : View B). v.pass) view_of ps))
+            looks (subst (λ l. FoldsTo TakesIn back (reverse l) new)
+            (sym (map_both (λ (v : View B). v.pass) view_of ps))
             taken)
 
         pub all_left : (why : WorkersFault) (told : ServeFault) → FaultOf why told →
             LeavesSource gives source why source' → GivesBack Runs ws why ws' →
             LeavesConnections incoming outgoing closes gives (HiredFrom gates old new) source books told source' books'
-        all_left why told named leaves back =
+        all_left why told named leaves gave_back =
             shifts.all_left incoming outgoing closes (λ (v : View B). v.pass) (λ (v : View B). v.sums)
             (λ (v : View B). v.refused) (λ (v : View B). v.book) gives gates (map view_of opened) (map view_of ps)
-            source source' books books' old kept new (new_views opened all_opened)
+            source source' books books' old kept back new (new_views opened all_opened)
             (first_books ∙ ap reverse (sym (map_both (λ (v : View B). v.book) view_of opened)))
             (last_books ∙ ap reverse (sym (map_both (λ (v : View B). v.book) view_of ps)))
             (subst (λ l. FoldsTo Gives old l kept) (sym (map_both (λ (v : View B). v.pass) view_of opened)) given)
-            (subst (λ l. FoldsTo TakesIn kept (reverse l) new) (sym (map_both (λ (v : View B). v.pass) view_of ps))
-            taken) why told named leaves (places_back why back)
+            looks (subst (λ l. FoldsTo TakesIn back (reverse l) new)
+            (sym (map_both (λ (v : View B). v.pass) view_of ps))
+            taken) why told named leaves (places_back why gave_back)
 
 -- ---- a source behind another
 
--- The items of a source that holds another one and returns what that one returns. It keeps its hold.
-module _ {D S T : Type 0} (of : D → S) (name : D → ℕ) (gives : S → Option T → S → Type 0) where
+-- The items of a source that holds another one and returns what that one returns. Each call keeps
+-- something of it.
+module _ {D S T : Type 0} (of : D → S) (Keeps : D → D → Type 0) (stays : (d : D) → Keeps d d)
+    (on : (a b c : D) → Keeps a b → Keeps b c → Keeps a c) (gives : S → Option T → S → Type 0) where
   abbrev pub Behind : D → Option T → D → Type 0
-  Behind old item new = gives (of old) item (of new) × (name new ≡ name old)
+  Behind old item new = gives (of old) item (of new) × Keeps old new
 
   folds_behind : (items : List T) (old new : D) → FoldsTo (λ s x s'. Behind s (Some x) s') old items new →
       FoldsTo (λ s x s'. gives s (Some x) s') (of old) items (of new)
   folds_behind [] old new is = ap of is
   folds_behind (x ∷ items) old new all = (of all.0, all.1.0, folds_behind items all.0 new all.2)
 
-  folds_name : (items : List T) (old new : D) → FoldsTo (λ s x s'. Behind s (Some x) s') old items new →
-      name new ≡ name old
-  folds_name [] old new is = ap name (sym is)
-  folds_name (x ∷ items) old new all = folds_name items all.0 new all.2 ∙ all.1.1
+  folds_kept : (items : List T) (old new : D) → FoldsTo (λ s x s'. Behind s (Some x) s') old items new →
+      Keeps old new
+  folds_kept [] old new is = subst (Keeps old) is (stays old)
+  folds_kept (x ∷ items) old new all = on old all.0 new all.1.1 (folds_kept items all.0 new all.2)
 
-  all_behind : (items : List T) (old new : D) → GivesAll Behind old items new → GivesAll gives (of old) items (of new)
+  pub all_behind : (items : List T) (old new : D) → GivesAll Behind old items new →
+      GivesAll gives (of old) items (of new)
   all_behind items old new all = record {
     last = of all.last;
     gave = folds_behind items old all.last all.gave;
     ended = all.ended.0;
   }
 
-  all_name : (items : List T) (old new : D) → GivesAll Behind old items new → name new ≡ name old
-  all_name items old new all = all.ended.1 ∙ folds_name items old all.last all.gave
+  pub all_kept : (items : List T) (old new : D) → GivesAll Behind old items new → Keeps old new
+  all_kept items old new all = on old all.last new (folds_kept items old all.last all.gave) all.ended.1
 
-  returned_behind : (items : List T) (old new : D) → Returned Behind old items new →
+  pub returned_behind : (items : List T) (old new : D) → Returned Behind old items new →
       Returned gives (of old) items (of new)
   returned_behind items old new (inl some) = inl (folds_behind items old new some)
   returned_behind items old new (inr all) = inr (all_behind items old new all)
 
-  returned_name : (items : List T) (old new : D) → Returned Behind old items new → name new ≡ name old
-  returned_name items old new (inl some) = folds_name items old new some
-  returned_name items old new (inr all) = all_name items old new all
+  pub returned_kept : (items : List T) (old new : D) → Returned Behind old items new → Keeps old new
+  returned_kept items old new (inl some) = folds_kept items old new some
+  returned_kept items old new (inr all) = all_kept items old new all
 
-  gave_behind : (items : List T) (old new : D) → Gave Behind old items new → Gave gives (of old) items (of new)
+  pub gave_behind : (items : List T) (old new : D) → Gave Behind old items new → Gave gives (of old) items (of new)
   gave_behind items old new (inl all) = inl (all_behind items old new all)
   gave_behind items old new (inr none) = inr (none.0, ap of none.1)
 
-  gave_name : (items : List T) (old new : D) → Gave Behind old items new → name new ≡ name old
-  gave_name items old new (inl all) = all_name items old new all
-  gave_name items old new (inr none) = ap name none.1
+  pub gave_kept : (items : List T) (old new : D) → Gave Behind old items new → Keeps old new
+  gave_kept items old new (inl all) = all_kept items old new all
+  gave_kept items old new (inr none) = subst (Keeps old) (sym none.1) (stays old)
 
   -- What a refused run left of it.
   pub leaves_behind : (why : WorkersFault) (old new : D) → LeavesSource Behind old why new →
@@ -326,12 +334,12 @@ module _ {D S T : Type 0} (of : D → S) (name : D → ℕ) (gives : S → Optio
   leaves_behind Worn old new leaves = (leaves.0, returned_behind leaves.0 old new leaves.1)
   leaves_behind Missed old new leaves = (leaves.0, gave_behind leaves.0 old new leaves.1)
 
-  pub leaves_name : (why : WorkersFault) (old new : D) → LeavesSource Behind old why new → name new ≡ name old
-  leaves_name BadCount old new leaves = ap name leaves
-  leaves_name NoMemory old new leaves = ap name leaves
-  leaves_name Thread old new leaves = ap name leaves
-  leaves_name Worn old new leaves = returned_name leaves.0 old new leaves.1
-  leaves_name Missed old new leaves = gave_name leaves.0 old new leaves.1
+  pub leaves_kept : (why : WorkersFault) (old new : D) → LeavesSource Behind old why new → Keeps old new
+  leaves_kept BadCount old new leaves = subst (Keeps old) (sym leaves) (stays old)
+  leaves_kept NoMemory old new leaves = subst (Keeps old) (sym leaves) (stays old)
+  leaves_kept Thread old new leaves = subst (Keeps old) (sym leaves) (stays old)
+  leaves_kept Worn old new leaves = returned_kept leaves.0 old new leaves.1
+  leaves_kept Missed old new leaves = gave_kept leaves.0 old new leaves.1
 
   module _ {W : Type 0} (runs : W → T → W → Type 0) (ws ws' : List W) (old new : D)
       (ran : RunsAll runs Behind ws old ws' new) where
@@ -347,5 +355,12 @@ module _ {D S T : Type 0} (of : D → S) (name : D → ℕ) (gives : S → Optio
       alone = ran.alone;
     }
 
-    pub runs_name : name new ≡ name old
-    runs_name = all_name ran.given old new ran.gave
+    pub runs_kept : Keeps old new
+    runs_kept = all_kept ran.given old new ran.gave
+
+  -- What a run kept of it, however it ended.
+  pub ended_kept : {W A E : Type 0} (runs : W → T → W → Type 0) (ws : List W) (old new : D) (result : Result A E)
+      (items : A → List W) (why : E → WorkersFault) → IfOk result (λ a. RunsAll runs Behind ws old (items a) new) →
+      IfErr result (λ e. LeavesSource Behind old (why e) new) → Keeps old new
+  ended_kept runs ws old new (Ok a) items why ran left = runs_kept runs ws (items a) old new ran
+  ended_kept runs ws old new (Err e) items why ran left = leaves_kept (why e) old new left

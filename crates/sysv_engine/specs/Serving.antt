@@ -6,7 +6,6 @@ use Rattle.std.specs.List.Sorted.{IsPermutation}
 use Rattle.sysv_service.specs.Opened.{AreOpen}
 use Rattle.sysv_service.specs.Seats.{Gates, AreOf}
 use Rattle.sysv_model.specs.declared.errno.Errno.{Errno}
-use Rattle.sysv_thread_laws.specs.Hiring.{Hires}
 use Rattle.sysv_service.specs.Ran.{Pass}
 use Rattle.sysv_workers.specs.declared.refusals.WorkersFault.{WorkersFault}
 use Rattle.sysv_workers.specs.declared.refusals.WorkersFault.TheVariants as workers
@@ -16,7 +15,8 @@ use Rattle.sysv_engine.specs.declared.fault.ServeFault.TheVariants.{NoMemory, Th
 use Rattle.sysv_engine.specs.declared.sums.Sums.{Sums}
 use Rattle.sysv_engine.specs.Added.{nothing}
 use Rattle.sysv_engine.specs.Desks.{Desk, Crewed, AreServedInOrder, all_connections}
-use Rattle.sysv_engine.specs.Handled.{Shift, first_passes, last_passes, sums_of, refused_of, told_in}
+use Rattle.sysv_engine.specs.Handled.{Shift, sums_of, refused_of, told_in}
+use Rattle.sysv_engine.specs.Looking.{HiresAll}
 use Rattle.sysv_engine.specs.OneRun.{Lived}
 use Rattle.sysv_seats.specs.Untold.{Closing}
 
@@ -24,10 +24,10 @@ use Rattle.sysv_seats.specs.Untold.{Closing}
 abbrev pub IsNew : Gates → Pass → Sums → ℕ → Type 0
 IsNew gates pass sums refused = AreOf gates pass.seats × (pass.held ≡ 0) × (sums ≡ nothing) × (refused ≡ 0)
 
--- The places of these shifts had passes that were split off from the pass `old` of these gates, and
--- the passes that they left were joined back into it.
+-- The places of these shifts, and what read the rows, had passes that were split off from the pass
+-- `old` of these gates, and the passes that they left were joined back into it.
 abbrev pub HiredFrom : Gates → Pass → Pass → Gates → List Shift → Type 0
-HiredFrom own old new gates shifts = (gates ≡ own) × Hires old (first_passes shifts) (last_passes shifts) new
+HiredFrom own old new gates shifts = (gates ≡ own) × HiresAll old shifts new
 
 -- These gates were opened for a service with this number of blocks, these shifts were worked at them,
 -- and then they were stopped and closed. A fault does not return what the stop and the close told.
@@ -67,7 +67,7 @@ module _ {S T B : Type 0} (incoming outgoing : T → Option (List ℕ)) (closes 
     pub crewed : Crewed incoming outgoing closes gates books desks shifts books'
     pub adds : sums ≡ sums_of (told_in shifts)
     pub counts : refused ≡ refused_of (told_in shifts)
-    pub hires : Hires old (first_passes shifts) (last_passes shifts) new
+    pub hires : HiresAll old shifts new
 
   -- What a server leaves that ended by this fault, if `Ran` is so of its gates and its shifts.
   --

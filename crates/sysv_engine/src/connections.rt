@@ -7,12 +7,14 @@ ghost use Rattle.sysv_engine.specs.Added.{IsBalanced};
 ghost use Rattle.sysv_engine.specs.Headline.{ServesConnections};
 ghost use Rattle.sysv_engine.specs.Serving.{FaultOf, HasLived, HiredFrom, LeavesConnections, WorkedFrom};
 
+use crate::arrivals::{Arrivals, Unseeing};
 use crate::common::Common;
 use crate::crew::{dismiss, hire};
 use crate::dealing::{Dealing, shares};
 use crate::fault::ServeFault;
 use crate::laws::each_life_is_one_run;
 use crate::rounds::Serving;
+use crate::rows::Rows;
 use crate::staff::{discard, gather, kits, staff};
 use crate::sums::Sums;
 use crate::terms::{Ended, Patience};
@@ -74,7 +76,10 @@ where
     let Some(watches) = watches(alloc, count, places) else {
         return Err(ServeFault::NoMemory);
     };
-    serve_all(rt, alloc, source, books, blocks, watches, &common)
+    let mut unseeing = Unseeing::new(source);
+    let outcome = serve_all(rt, alloc, &mut unseeing, books, blocks, watches, &common);
+    given_back(unseeing.into_source());
+    outcome
 }
 
 /// Creates this number of watches, each of at most `places` places. Returns `None` if memory is
@@ -89,10 +94,11 @@ fn watches(alloc: Global, count: usize, places: usize) -> Option<Vec<Rounds>>
     Some(watches)
 }
 
-/// Serves the connections of a source like `serve_connections`, with a worker for each watch.
+/// Serves the connections of a source like `serve_connections`, with a worker for each watch. The
+/// source may look at the queues while it waits for a connection.
 pub fn serve_all<
     T: NonBlocking + Drop + Send,
-    S: Source<T>,
+    S: Arrivals<T>,
     W: Watch<T> + Drop + Send,
     R: Threads + Wait + Sync,
 >(
@@ -139,7 +145,7 @@ where
 /// all places. Returns the sums of the sessions, and the number of those whose memory was refused.
 fn serve_with<
     T: NonBlocking + Drop + Send,
-    S: Source<T>,
+    S: Arrivals<T>,
     W: Watch<T> + Drop + Send,
     R: Threads + Wait + Sync,
 >(
@@ -188,9 +194,12 @@ where
         service,
         common,
     };
-    let mut dealing = Dealing::new(source, common, shares);
+    let rows = Rows::open(rt, alloc, service, pass);
+    let mut dealing = Dealing::new(source, rows, common, shares);
     let outcome = run_workers(rt, alloc, workers, &mut dealing, &job);
-    given_back(dealing.into_source());
+    let (source, rows) = dealing.into_parts();
+    given_back(source);
+    service.join_pass(pass, rows.into_pass());
     match outcome {
         Ok(workers) => {
             gather(rt, workers, &mut places);

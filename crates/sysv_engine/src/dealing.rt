@@ -1,8 +1,12 @@
 //! A source whose connections are dealt out to workers.
 ghost use Rattle.std.specs.Prelude.{◌≡◌};
+ghost use Rattle.sysv_engine.specs.Looks.{Looks};
 
+use crate::arrivals::Arrivals;
 use crate::common::Common;
+use crate::rows::Rows;
 use std::alloc::Global;
+use std::sync::Wait;
 use sysv_workers::Source;
 
 /// What a worker has for clients, and what it was given.
@@ -37,8 +41,11 @@ pub(crate) fn shares(alloc: Global, workers: usize, places: usize) -> Option<Vec
 /// connections, one for each worker, need no telling: at first all workers wait for one. For each
 /// later connection the worker with the most vacant places is told, just before the connection is
 /// returned, so that the worker does not wait for it.
-pub(crate) struct Dealing<'s, 'c, S> {
+///
+/// While the other source waits for a connection, it may look at the rows of the service.
+pub(crate) struct Dealing<'s, 'c, 'p, S, R> {
     source: &'s mut S,
+    rows: Rows<'p, R>,
     common: &'c Common,
     /// The number of connections that were returned, up to the number of workers.
     dealt: usize,
@@ -48,18 +55,21 @@ pub(crate) struct Dealing<'s, 'c, S> {
     next: usize,
 }
 
-impl<'s, 'c, S> Dealing<'s, 'c, S> {
+impl<'s, 'c, 'p, S, R> Dealing<'s, 'c, 'p, S, R> {
     /// Creates a source that has returned no connection.
     pub(crate) fn new(
         source: &'s mut S,
+        rows: Rows<'p, R>,
         common: &'c Common,
         shares: Vec<Share>,
-    ) -> Dealing<'s, 'c, S>
+    ) -> Dealing<'s, 'c, 'p, S, R>
         ensures source { result.source.now ≡ source.old }
+        ensures rows { result.rows ≡ rows.entry }
         ensures same_reference { result.source.ghost_name ≡ source.entry.ghost_name }
     {
         Dealing {
             source,
+            rows,
             common,
             dealt: 0,
             shares,
@@ -67,24 +77,27 @@ impl<'s, 'c, S> Dealing<'s, 'c, S> {
         }
     }
 
-    /// Ends the dealing, and returns the other source.
-    pub(crate) fn into_source(self) -> &'s mut S
-        ensures source { result.now ≡ self.entry.source.now }
-        ensures same_reference { result.ghost_name ≡ self.entry.source.ghost_name }
+    /// Ends the dealing, and returns the other source and what read the rows.
+    pub(crate) fn into_parts(self) -> (&'s mut S, Rows<'p, R>)
+        ensures source { result.0.now ≡ self.entry.source.now }
+        ensures same_reference { result.0.ghost_name ≡ self.entry.source.ghost_name }
+        ensures rows { result.1 ≡ self.entry.rows }
     {
         let Dealing {
             source,
+            rows,
             common: _,
             dealt: _,
             shares: _,
             next: _,
         } = self;
-        source
+        (source, rows)
     }
 
     /// Tells the worker with the most vacant places to take one more connection.
     fn tell(&mut self)
-        ensures { self.new.source ≡ self.old.source }
+        ensures source { self.new.source ≡ self.old.source }
+        ensures rows { self.new.rows ≡ self.old.rows }
     {
         let worker = self.emptiest();
         self.next = self.after(worker);
@@ -128,12 +141,12 @@ impl<'s, 'c, S> Dealing<'s, 'c, S> {
     }
 }
 
-impl<T, S: Source<T>> Source<T> for Dealing<'_, '_, S> {
+impl<T, S: Arrivals<T>, R: Wait> Source<T> for Dealing<'_, '_, '_, S, R> {
     ghost gives = { λ old connection new. S.gives old.source.now connection new.source.now
-        × (new.source.ghost_name ≡ old.source.ghost_name) };
+        × ((new.source.ghost_name ≡ old.source.ghost_name) × Looks old.rows new.rows) };
 
     fn next(&mut self) -> Option<T> {
-        let Some(connection) = self.source.next() else {
+        let Some(connection) = self.source.next(&mut self.rows) else {
             self.common.finish();
             return None;
         };

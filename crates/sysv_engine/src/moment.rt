@@ -13,7 +13,7 @@ const NANOS_PER_MILLI: i64 = 1_000_000;
 /// A point in time: a number of milliseconds since some start. The time in which the system is
 /// suspended does not count.
 #[derive(Clone, Copy, PartialEq, Eq, PartialOrd, Ord)]
-pub(crate) struct Moment(u64);
+pub struct Moment(u64);
 
 impl Moment {
     /// Returns the present.
@@ -41,8 +41,13 @@ impl Moment {
         Some(Moment(Moment::now().0.saturating_add(millis)))
     }
 
+    /// Returns the moment this number of milliseconds from now.
+    pub fn after_millis(millis: u32) -> Moment {
+        Moment(Moment::now().0.saturating_add(u64::from(millis)))
+    }
+
     /// Returns the number of milliseconds until this moment, 0 if it has passed.
-    pub(crate) fn left(self) -> u64 {
+    pub fn left(self) -> u64 {
         self.0.saturating_sub(Moment::now().0)
     }
 }

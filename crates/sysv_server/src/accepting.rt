@@ -1,19 +1,23 @@
 //! A source of accepted connections.
 ghost use Rattle.std.specs.Prelude.{◌≡◌, ◌≢◌, ◌<◌, ◌≤◌, ◌-◌, ◌^◌, ◌⊎◌, true, false, is_some, IfErr, IfNone, IfOk};
+ghost use Rattle.sysv_engine.specs.Looks.{Looks};
 ghost use Rattle.sysv_server.specs.Accepts.{is_closed, is_unopened, EndsInput, HasEnded};
 
+use crate::desk::Desk;
 use crate::host::{Host, Notice, Reason};
-use crate::polling::{FOREVER, NO_DESCRIPTOR, asking, pause};
+use crate::polling::{NO_DESCRIPTOR, asking, pause};
+use crate::visitor::View;
 use libc::net::{POLLIN, poll};
 use libc::types::pollfd;
 use libc::{EAGAIN, ECONNABORTED, EMFILE, ENOMEM, EPERM};
+use std::alloc::Global;
 use std::io;
 use std::io::{ErrorKind, Read};
 use std::os::fd::AsRawFd;
 use std::os::unix::net::{UnixListener, UnixStream};
-use sysv_engine::Common;
+use std::sync::Wait;
+use sysv_engine::{Arrivals, Common, Rows};
 use sysv_seats::SocketStream;
-use sysv_workers::Source;
 
 /// The maximum number of bytes of the input that are read at once and dropped.
 const INPUT_BYTES: usize = 512;
@@ -112,6 +116,11 @@ pub(crate) struct Accepting<'a, I: Drop, H: Drop> {
     reason: Option<Reason>,
     /// Whether the host has learned that the memory of a session was refused.
     told: bool,
+    /// Where the state of the server is shown.
+    desk: Desk,
+    /// The number of blocks in the pool.
+    blocks: u32,
+    alloc: Global,
     common: &'a Common,
     host: H,
 }
@@ -119,9 +128,11 @@ pub(crate) struct Accepting<'a, I: Drop, H: Drop> {
 impl<'a, I: Read + AsRawFd + Drop, H: Host + Drop> Accepting<'a, I, H> {
     /// Creates a source that has accepted no connection.
     pub(crate) fn new(
+        alloc: Global,
         listening: Listening<'a>,
         input: Option<I>,
         most: u64,
+        blocks: u32,
         common: &'a Common,
         host: H,
     ) -> Accepting<'a, I, H>
@@ -136,6 +147,9 @@ impl<'a, I: Read + AsRawFd + Drop, H: Host + Drop> Accepting<'a, I, H> {
             accepted: 0,
             reason: None,
             told: false,
+            desk: Desk::closed(),
+            blocks,
+            alloc,
             common,
             host,
         }
@@ -148,7 +162,8 @@ impl<'a, I: Read + AsRawFd + Drop, H: Host + Drop> Accepting<'a, I, H> {
         self.reason
     }
 
-    /// Has the host open the server's own listener, if it is not open yet.
+    /// Has the host open the server's own listener, and the one for readers of the server's state,
+    /// if they are not open yet.
     fn open(&mut self) -> io::Result<()>
         ensures same { (self.new.most ≡ self.old.most) × (self.new.accepted ≡ self.old.accepted) }
         ensures input { is_some self.new.input ≡ is_some self.old.input }
@@ -157,13 +172,15 @@ impl<'a, I: Read + AsRawFd + Drop, H: Host + Drop> Accepting<'a, I, H> {
         ensures refused { IfErr result (λ _. is_unopened self.old.listening ≡ true) }
     {
         if self.listening.is_unopened() {
+            self.desk.open(self.host.listen_for_readers()?);
             self.listening = Listening::Own(self.host.listen()?);
         }
         Ok(())
     }
 
     /// Accepts the next connection. The error is why no more connections are to be accepted.
-    fn accept(&mut self) -> Result<SocketStream, Reason>
+    #[tactic(auto, using(sysv_engine::proofs::Looking::looks_stay))]
+    fn accept<R: Wait>(&mut self, rows: &mut Rows<'_, R>) -> Result<SocketStream, Reason>
         requires { is_closed self.old.listening ≡ false }
         ensures same { (self.new.most ≡ self.old.most) × (self.new.accepted ≡ self.old.accepted) }
         ensures input { is_some self.new.input ≡ is_some self.old.input }
@@ -172,6 +189,7 @@ impl<'a, I: Read + AsRawFd + Drop, H: Host + Drop> Accepting<'a, I, H> {
         ensures opened { IfOk result (λ _. (is_closed self.new.listening ≡ false)
             × (is_unopened self.new.listening ≡ false)) }
         ensures ended { IfErr result (λ why. HasEnded self.old why) }
+        ensures looks { Looks rows.old rows.new }
     {
         if self.most != 0 && self.accepted >= self.most {
             return Err(Reason::Full);
@@ -189,7 +207,15 @@ impl<'a, I: Read + AsRawFd + Drop, H: Host + Drop> Accepting<'a, I, H> {
             host: &self.host,
             accepted: self.accepted,
         };
-        let stream = door.accept_next(&mut self.told, &mut self.input, retries)?;
+        let view = View {
+            alloc: self.alloc,
+            common: self.common,
+            listener: listener.as_raw_fd(),
+            blocks: self.blocks,
+            accepted: self.accepted,
+        };
+        let (told, input, desk) = (&mut self.told, &mut self.input, &mut self.desk);
+        let stream = door.accept_next(told, input, desk, view, rows, retries)?;
         match SocketStream::new(stream) {
             Ok(socket) => Ok(socket),
             Err(why) => Err(Reason::Accept(why)),
@@ -197,16 +223,17 @@ impl<'a, I: Read + AsRawFd + Drop, H: Host + Drop> Accepting<'a, I, H> {
     }
 }
 
-impl<I: Read + AsRawFd + Drop, H: Host + Drop> Source<SocketStream> for Accepting<'_, I, H> {
+impl<I: Read + AsRawFd + Drop, H: Host + Drop> Arrivals<SocketStream> for Accepting<'_, I, H> {
     ghost use Rattle.sysv_server.specs.Accepts.{Accepts};
 
     ghost gives = { Accepts };
 
-    fn next(&mut self) -> Option<SocketStream> {
+    #[tactic(auto, using(sysv_engine::proofs::Looking::looks_stay))]
+    fn next<R: Wait>(&mut self, rows: &mut Rows<'_, R>) -> Option<SocketStream> {
         if self.listening.is_closed() {
             return None;
         }
-        match self.accept() {
+        match self.accept(rows) {
             Ok(socket) => {
                 self.accepted = self.accepted.saturating_add(1);
                 Some(socket)
@@ -214,6 +241,7 @@ impl<I: Read + AsRawFd + Drop, H: Host + Drop> Source<SocketStream> for Acceptin
             Err(why) => {
                 self.reason = Some(why);
                 self.listening = Listening::Closed;
+                self.desk = Desk::closed();
                 if self.common.drain(self.accepted) {
                     self.host.note(Notice::Cut);
                 }
@@ -240,23 +268,32 @@ struct Arrived {
     connection: bool,
     /// Whether the input can be read.
     input: bool,
+    /// Whether something has happened at the desk.
+    reader: bool,
 }
 
 impl<H: Host> Door<'_, '_, '_, H> {
-    /// Waits for a connection and accepts it. If the server `retries`, an accept that fails for
-    /// want of something is tried again; the host is told so, and when it succeeds.
-    fn accept_next<I: Read + AsRawFd>(
+    /// Waits for a connection and accepts it. Until it comes, serves the desk. If the server
+    /// `retries`, an accept that fails for want of something is tried again; the host is told so,
+    /// and when it succeeds.
+    #[tactic(auto, using(sysv_engine::proofs::Looking::looks_stay, sysv_engine::proofs::Looking::looks_on))]
+    fn accept_next<I: Read + AsRawFd, R: Wait>(
         &self,
         told: &mut bool,
         input: &mut Option<I>,
+        desk: &mut Desk,
+        view: View<'_>,
+        rows: &mut Rows<'_, R>,
         retries: bool,
     ) -> Result<UnixStream, Reason>
         ensures input { is_some input.new ≡ is_some input.old }
         ensures ended { IfErr result (EndsInput (is_some input.old)) }
+        ensures looks { Looks rows.old rows.new }
     {
         let mut held = false;
         for _ in 0..u64::MAX {
-            let arrived = self.wait(told, descriptor(input));
+            let arrived = self.wait(told, descriptor(input), desk);
+            desk.go_on(arrived.reader, view, rows);
             if arrived.input && has_ended(input) {
                 return Err(Reason::InputOver);
             }
@@ -288,32 +325,33 @@ impl<H: Host> Door<'_, '_, '_, H> {
         pause(HOLD_MILLIS);
     }
 
-    /// Waits until the input, whose descriptor is given, can be read, or until there is a connection
-    /// and room for one more client. It may return early. Tells the host of the first session whose
-    /// memory was refused.
-    fn wait(&self, told: &mut bool, input: i32) -> Arrived {
+    /// Waits until the input, whose descriptor is given, can be read, until something happens at the
+    /// desk, or until there is a connection and room for one more client. It may return early. Tells
+    /// the host of the first session whose memory was refused.
+    fn wait(&self, told: &mut bool, input: i32, desk: &Desk) -> Arrived {
         if self.common.is_starved() && !*told {
             self.host.note(Notice::NoMemory);
             *told = true;
         }
         if self.common.has_room(self.accepted) {
-            return self.arrived(input, self.listener.as_raw_fd(), FOREVER);
+            return self.arrived(input, self.listener.as_raw_fd(), desk, desk.limit());
         }
         self.common.await_turn(true);
         let limit = if self.common.has_room(self.accepted) {
             0
         } else {
-            FOREVER
+            desk.limit()
         };
-        let arrived = self.arrived(input, NO_DESCRIPTOR, limit);
+        let arrived = self.arrived(input, NO_DESCRIPTOR, desk, limit);
         self.common.await_turn(false);
         arrived
     }
 
-    /// Waits until the input, the listener or the bell can be read, for at most `limit`
-    /// milliseconds, and hushes the bell.
-    fn arrived(&self, input: i32, listener: i32, limit: i32) -> Arrived {
-        let mut asked = [input, listener, self.common.bell()].map(readable);
+    /// Waits until the input, the listener or the bell can be read, or something happens at the
+    /// desk, for at most `limit` milliseconds, and hushes the bell.
+    fn arrived(&self, input: i32, listener: i32, desk: &Desk, limit: i32) -> Arrived {
+        let [input, listener, bell] = [input, listener, self.common.bell()].map(readable);
+        let mut asked = [input, listener, bell, desk.asking()];
         let any = poll(&mut asked, limit) > 0;
         if any && asked[2].revents != 0 {
             self.common.hush();
@@ -321,6 +359,7 @@ impl<H: Host> Door<'_, '_, '_, H> {
         Arrived {
             connection: any && asked[1].revents != 0,
             input: any && asked[0].revents != 0,
+            reader: any && asked[3].revents != 0,
         }
     }
 }

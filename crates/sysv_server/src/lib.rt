@@ -3,10 +3,13 @@
 #![tactic(auto)]
 
 mod accepting;
+mod desk;
 mod host;
 mod polling;
+mod report;
 mod serving;
 mod terms;
+mod visitor;
 
 pub use host::{Host, Notice, Reason};
 pub use serving::{MAX_CLIENTS, serve_listener, serve_on};

@@ -77,7 +77,7 @@ pub fn serve_on<R: Threads + Wait + Net + Sync>(
     let Some(watches) = watches(rt, alloc, &common) else {
         return Err(ServeFault::NoMemory);
     };
-    let mut source = lent(listener, sessions, &common);
+    let mut source = lent(alloc, listener, sessions, blocks, &common);
     match serve_all(rt, alloc, &mut source, &mut books, blocks, watches, &common) {
         Ok(ended) => Ok(ended.sums),
         Err(why) => Err(why),
@@ -86,14 +86,24 @@ pub fn serve_on<R: Threads + Wait + Net + Sync>(
 
 /// Returns a source of connections from a listener that stays open.
 fn lent<'a>(
+    alloc: Global,
     listener: &'a UnixListener,
     sessions: u64,
+    blocks: u32,
     common: &'a Common,
 ) -> Accepting<'a, UnixStream, Quiet>
     ensures counts { (result.most ≡ sessions) × (result.accepted ≡ 0) }
     ensures open { (is_closed result.listening ≡ false) × IsNone result.input }
 {
-    Accepting::new(Listening::Lent(listener), None, sessions, common, Quiet)
+    Accepting::new(
+        alloc,
+        Listening::Lent(listener),
+        None,
+        sessions,
+        blocks,
+        common,
+        Quiet,
+    )
 }
 
 /// Serves the connections of the listener that `host` opens on a new service, like `serve_on`, but
@@ -153,7 +163,8 @@ pub fn serve_listener<I: Read + AsRawFd + Drop, H: Host + Drop, R: Threads + Wai
     let Some(watches) = watches(rt, alloc, &common) else {
         return Err(ServeFault::NoMemory);
     };
-    let mut source = Accepting::new(Listening::Unopened, input, sessions, &common, host);
+    let unopened = Listening::Unopened;
+    let mut source = Accepting::new(alloc, unopened, input, sessions, blocks, &common, host);
     let outcome = serve_all(rt, alloc, &mut source, &mut books, blocks, watches, &common);
     *reason = source.into_reason();
     outcome

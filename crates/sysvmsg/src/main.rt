@@ -15,6 +15,7 @@ mod scripts;
 mod serving;
 mod several;
 mod socket;
+mod stats;
 mod teller;
 mod who;
 
@@ -25,6 +26,7 @@ use connection::run_as;
 use place::Socket;
 use scripts::answer_script;
 use serving::serve_at;
+use stats::look_at;
 use std::fs::File;
 use std::io::Eprint;
 use std::os::fd::{AsRawFd, RawFd};
@@ -58,6 +60,11 @@ fn main(rt: HostRuntime) -> ExitCode {
     match read_words(rt.alloc(), words.as_slice()) {
         Ok(Asked::Script) => answer_script(&rt, &mut rt.stdin(), &mut rt.stdout()),
         Ok(Asked::Serve(serving)) => serve_at(&rt, rt.stdin(), &serving, &mut io::writer(&rt)),
+        Ok(Asked::Look(looking)) => {
+            let mut stream = None;
+            let place = Socket::new(&rt, looking.path, &mut stream);
+            look_at(&rt, place, &looking, &mut io::writer(&rt))
+        }
         Ok(
             Asked::Client {
                 path,

@@ -1,9 +1,9 @@
 -- The gates that were opened are those that were served, stopped and closed, also after a fault. The
 -- messages that were taken were written or lost.
 use Rattle.std.proofs.Common.{subst, refl}
-use Rattle.sysv_thread_laws.specs.Hiring.{Hires}
 use Rattle.sysv_service.specs.Ran.{Pass}
-use Rattle.sysv_engine.specs.Handled.{first_passes, last_passes, told_in}
+use Rattle.sysv_engine.specs.Handled.{told_in}
+use Rattle.sysv_engine.specs.Looking.{HiresAll}
 use Rattle.sysv_engine.specs.OneRun.{Stopped}
 use Rattle.sysv_engine.specs.Serving.{HasLived, HiredFrom}
 use Rattle.sysv_engine.proofs.FaultLeaves.{fault_says}
@@ -19,8 +19,7 @@ returns-in-Ok-outcome-clause-ok g c =
     let opened = c.in-Ok.ensures.open in
     let worked = c.in-Ok-outcome.ensures.ok in
     let shifts = worked.shifts in
-    let hires = subst (λ (p : Pass). Hires p (first_passes shifts) (last_passes shifts) c.serve_with-outcome.new.pass)
-    opened.1 worked.hires in
+    let hires = subst (λ (p : Pass). HiresAll p shifts c.serve_with-outcome.new.pass) opened.1 worked.hires in
     let stopped : Stopped c.in-Ok.service c.stop-removed.result = record {
       before = c.serve_with-outcome.new.pass;
       after = c.stop-removed.new.pass;
@@ -67,7 +66,7 @@ returns-in-Err-clause-err g c =
       tells = stop.3;
     } in
     let laws = c.each_life_is_one_run.ensures in
-    fault_says t.incoming t.outgoing t.closes g.S.Source.gives c.args.source.now c.serve_with-outcome.new.source
+    fault_says t.incoming t.outgoing t.closes g.S.Arrivals.gives c.args.source.now c.serve_with-outcome.new.source
     c.args.books.now.items c.serve_with-outcome.new.books.items
     (HiredFrom c.in-Ok.service first c.serve_with-outcome.new.pass) (HasLived c.args.blocks)
     (have_lived laws.run laws.whole laws.none_held laws.empty c.args.blocks c.in-Ok.service c.stop-removed.result

@@ -7,10 +7,17 @@ use Rattle.std.specs.List.{All}
 use Rattle.sysv_engine.specs.declared.dealing.Dealing.{Dealing}
 use Rattle.sysv_engine.specs.declared.worker.Worker.{Worker}
 use Rattle.sysv_engine.specs.Places.{IsOpened, Seated}
+use Rattle.sysv_engine.specs.declared.rows.Rows.{Rows}
+use Rattle.sysv_engine.specs.Looking.{LooksBetween}
+use Rattle.sysv_engine.specs.Looks.{Looks}
+use Rattle.sysv_service.specs.Ran.{Pass}
+use Rattle.sysv_service.specs.Seats.{AreOf}
+use Rattle.sysv_thread_laws.specs.Hiring.{Gives, TakesIn}
+use Rattle.sysv_engine.proofs.Looking.{Stays, goes_on, looks_between, stays}
 use Rattle.sysv_engine.specs.Serving.{HiredFrom, LeavesConnections, WorkedFrom}
 use Rattle.sysv_engine.proofs.SharedOut.{all_counted, some_each}
 use Rattle.sysv_engine.proofs.Staffed.{Behind, Runs, all_left, all_worked, back_as_many, gates_again, leaves_behind}
-use Rattle.sysv_engine.proofs.Staffed.{leaves_name, ran_as_many, runs_behind, runs_name, staffed}
+use Rattle.sysv_engine.proofs.Staffed.{ended_kept, leaves_kept, ran_as_many, runs_behind, runs_kept, staffed}
 use Rattle.sysv_engine.proofs.Reversed.{all_reverse}
 use Rattle.sysv_engine.proofs.Crossing.{serving_sync, worker_send}
 use Rattle.sysv_engine.proofs.connections.serve_with.Lts as lts
@@ -24,10 +31,11 @@ run_workers-outcome-requires-send-W g c κs within =
 pub run_workers-outcome-requires-sync-J : goal.run_workers-outcome-requires-sync-J
 run_workers-outcome-requires-sync-J g c κs within =
     let t = serving_sync (record { mir = lifetime 8; lft = κs.1.1.1.1.1.1.1.1.0 })
-    (record { mir = lifetime 11; lft = κs.1.1.1.1.1.1.1.1.1.1.1.0 }) _ c.type_bounds.sync-R in
-    param_sync 3 (lts.arg-13-3 g.row.T g.row.S g.row.W g.row.R g.row.T-Book g.T.laws g.S.laws g.W.laws g.R.laws
-    g.T.Book.laws g.T.NonBlocking g.T.NonBlocking-dict g.S.Source g.S.Source-dict g.W.Watch g.W.Watch-dict g.R.Threads
-    g.R.Threads-dict g.R.Wait g.R.Wait-dict g.T.Destruct-dict g.W.Destruct-dict κs) (record { shared = t.shared })
+    (record { mir = lifetime 12; lft = κs.1.1.1.1.1.1.1.1.1.1.1.1.0 }) _ c.type_bounds.sync-R in
+    param_sync 3 (lts.arg-15-3 g.row.T g.row.S g.row.W g.row.R g.row.T-Book g.T.laws g.S.laws g.W.laws g.R.laws
+    g.T.Book.laws g.T.NonBlocking g.T.NonBlocking-dict g.S.Arrivals g.S.Arrivals-dict g.W.Watch g.W.Watch-dict
+    g.R.Threads g.R.Threads-dict g.R.Wait g.R.Wait-dict g.T.Destruct-dict g.W.Destruct-dict κs)
+    (record { shared = t.shared })
 
 pub run_workers-outcome-requires-after_bounds : goal.run_workers-outcome-requires-after_bounds
 run_workers-outcome-requires-after_bounds g c κs within =
@@ -45,10 +53,10 @@ run_workers-outcome-requires-after_bounds g c κs within =
 pub gather-requires-clause-room : goal.gather-requires-clause-room
 gather-requires-clause-room g c =
     let W : Type 0 = Worker g.row.R.Denot g.row.T.Denot g.row.W.Denot g.row.T-Book.Denot in
-    let D : Type 0 = Dealing g.row.S.Denot in
+    let D : Type 0 = Dealing g.row.S.Denot g.row.R.Denot in
     let t = g.T.NonBlocking in
     let many = ran_as_many t.incoming t.outgoing t.closes c.args.service.now (λ (w : W). w.places.items)
-    (Behind (λ (d : D). d.source.now) (λ (d : D). d.source.ghost_name) g.S.Source.gives) c.new-dealing.result
+    (Behind (λ (d : D). d.source.now) Stays stays goes_on g.S.Arrivals.gives) c.new-dealing.result
     c.run_workers-outcome.new.source c.staff.new.workers.items c.in-Ok-outcome.workers.items c.hire.new.places.items
     c.hire.ensures.places c.staff.ensures.all
     (some_each (λ (w : W). w.places) c.staff.new.workers.items c.staff.ensures.each) c.in-Ok-outcome.ensures.ok in
@@ -70,10 +78,10 @@ dismiss-requires-clause-places g c =
 pub dismiss-requires-clause-room : goal.dismiss-requires-clause-room
 dismiss-requires-clause-room g c =
     let W : Type 0 = Worker g.row.R.Denot g.row.T.Denot g.row.W.Denot g.row.T-Book.Denot in
-    let D : Type 0 = Dealing g.row.S.Denot in
+    let D : Type 0 = Dealing g.row.S.Denot g.row.R.Denot in
     let t = g.T.NonBlocking in
     let many = ran_as_many t.incoming t.outgoing t.closes c.args.service.now (λ (w : W). w.places.items)
-    (Behind (λ (d : D). d.source.now) (λ (d : D). d.source.ghost_name) g.S.Source.gives) c.new-dealing.result
+    (Behind (λ (d : D). d.source.now) Stays stays goes_on g.S.Arrivals.gives) c.new-dealing.result
     c.run_workers-outcome.new.source c.staff.new.workers.items c.in-Ok-outcome.workers.items c.hire.new.places.items
     c.hire.ensures.places c.staff.ensures.all
     (some_each (λ (w : W). w.places) c.staff.new.workers.items c.staff.ensures.each) c.in-Ok-outcome.ensures.ok in
@@ -90,10 +98,10 @@ dismiss-requires-clause-room g c =
 pub gather-requires-in-Err-clause-room : goal.gather-requires-in-Err-clause-room
 gather-requires-in-Err-clause-room g c =
     let W : Type 0 = Worker g.row.R.Denot g.row.T.Denot g.row.W.Denot g.row.T-Book.Denot in
-    let D : Type 0 = Dealing g.row.S.Denot in
+    let D : Type 0 = Dealing g.row.S.Denot g.row.R.Denot in
     let t = g.T.NonBlocking in
     let many = back_as_many t.incoming t.outgoing t.closes c.args.service.now (λ (w : W). w.places.items)
-    (Behind (λ (d : D). d.source.now) (λ (d : D). d.source.ghost_name) g.S.Source.gives) c.new-dealing.result
+    (Behind (λ (d : D). d.source.now) Stays stays goes_on g.S.Arrivals.gives) c.new-dealing.result
     c.run_workers-outcome.new.source c.staff.new.workers.items c.in-Err.refused.states.items c.hire.new.places.items
     c.hire.ensures.places c.staff.ensures.all
     (some_each (λ (w : W). w.places) c.staff.new.workers.items c.staff.ensures.each) c.in-Err.refused.why
@@ -117,10 +125,10 @@ dismiss-requires-in-Err-clause-places g c =
 pub dismiss-requires-in-Err-clause-room : goal.dismiss-requires-in-Err-clause-room
 dismiss-requires-in-Err-clause-room g c =
     let W : Type 0 = Worker g.row.R.Denot g.row.T.Denot g.row.W.Denot g.row.T-Book.Denot in
-    let D : Type 0 = Dealing g.row.S.Denot in
+    let D : Type 0 = Dealing g.row.S.Denot g.row.R.Denot in
     let t = g.T.NonBlocking in
     let many = back_as_many t.incoming t.outgoing t.closes c.args.service.now (λ (w : W). w.places.items)
-    (Behind (λ (d : D). d.source.now) (λ (d : D). d.source.ghost_name) g.S.Source.gives) c.new-dealing.result
+    (Behind (λ (d : D). d.source.now) Stays stays goes_on g.S.Arrivals.gives) c.new-dealing.result
     c.run_workers-outcome.new.source c.staff.new.workers.items c.in-Err.refused.states.items c.hire.new.places.items
     c.hire.ensures.places c.staff.ensures.all
     (some_each (λ (w : W). w.places) c.staff.new.workers.items c.staff.ensures.each) c.in-Err.refused.why
@@ -135,6 +143,32 @@ dismiss-requires-in-Err-clause-room g c =
     let small = c.args.books.now.small in
     omega arith
 
+-- ---- what read the rows
+
+pub join_pass-requires-clause-other : goal.join_pass-requires-clause-other
+join_pass-requires-clause-other g c =
+    let W : Type 0 = Worker g.row.R.Denot g.row.T.Denot g.row.W.Denot g.row.T-Book.Denot in
+    let S : Type 0 = Seated g.row.T-Book.Denot g.row.T.Denot in
+    let D : Type 0 = Dealing g.row.S.Denot g.row.R.Denot in
+    let t = g.T.NonBlocking in
+    let places : W → List S = λ w. w.places.items in
+    let kept = ended_kept (λ (d : D). d.source.now) Stays stays goes_on g.S.Arrivals.gives
+    (Runs t.incoming t.outgoing t.closes c.args.service.now places) c.staff.new.workers.items c.new-dealing.result
+    c.run_workers-outcome.new.source c.run_workers-outcome.result (λ ws. ws.items) (λ e. e.why)
+    c.run_workers-outcome.ensures.ok c.run_workers-outcome.ensures.asked in
+    let at = ap (λ (r : Rows g.row.R.Denot). r.service.now) c.into_parts-source.ensures.rows
+    ∙ (kept.1.0 ∙ (ap (λ (r : Rows g.row.R.Denot). r.service.now) c.new-dealing.ensures.rows
+    ∙ c.open-rows.ensures.service)) in
+    subst (λ s. AreOf s c.into_pass.result.seats) at c.into_pass.ensures.fits
+
+-- What read the rows did so between the hiring of the places and their leave.
+between : {R : Type 0} (own kept home back : Pass) (first second third fourth : Rows R) → Gives own first.pass kept →
+    second ≡ first → Looks second third → fourth ≡ third → back ≡ fourth.pass → TakesIn kept back home →
+    LooksBetween own home
+between own kept home back first second third fourth gives begins looked ends left takes =
+    looks_between own kept home back first fourth gives
+    (subst (λ (r : Rows _). Looks first r) (sym ends) (subst (λ (r : Rows _). Looks r third) begins looked)) left takes
+
 -- ---- what was served
 
 -- The source that the workers left is the one that is given back.
@@ -142,46 +176,52 @@ source_is : (g : Over) (c : goal.After-dismiss g) → c.run_workers-outcome.new.
 source_is g c =
     let W : Type 0 = Worker g.row.R.Denot g.row.T.Denot g.row.W.Denot g.row.T-Book.Denot in
     let S : Type 0 = Seated g.row.T-Book.Denot g.row.T.Denot in
-    let D : Type 0 = Dealing g.row.S.Denot in
+    let D : Type 0 = Dealing g.row.S.Denot g.row.R.Denot in
     let t = g.T.NonBlocking in
     let places : W → List S = λ w. w.places.items in
-    let same = runs_name (λ (d : D). d.source.now) (λ (d : D). d.source.ghost_name) g.S.Source.gives
+    let same = runs_kept (λ (d : D). d.source.now) Stays stays goes_on g.S.Arrivals.gives
     (Runs t.incoming t.outgoing t.closes c.args.service.now places) c.staff.new.workers.items
     c.in-Ok-outcome.workers.items c.new-dealing.result c.run_workers-outcome.new.source
     c.in-Ok-outcome.ensures.ok in
-    let name_is = c.into_source.ensures.same_reference ∙ (same ∙ c.new-dealing.ensures.same_reference) in
-    let back = c.given_back.ensures ∙ c.into_source.ensures.source in
+    let name_is = c.into_parts-source.ensures.same_reference ∙ (same.0 ∙ c.new-dealing.ensures.same_reference) in
+    let back = c.given_back.ensures ∙ c.into_parts-source.ensures.source in
     grind arith
 
 pub returns-in-Ok-outcome-clause-ok : goal.returns-in-Ok-outcome-clause-ok
 returns-in-Ok-outcome-clause-ok g c =
     let W : Type 0 = Worker g.row.R.Denot g.row.T.Denot g.row.W.Denot g.row.T-Book.Denot in
     let S : Type 0 = Seated g.row.T-Book.Denot g.row.T.Denot in
-    let D : Type 0 = Dealing g.row.S.Denot in
+    let D : Type 0 = Dealing g.row.S.Denot g.row.R.Denot in
     let t = g.T.NonBlocking in
     let own = c.args.service.now in
     let places : W → List S = λ w. w.places.items in
     let book : S → g.row.T-Book.Denot = λ p. p.book in
     let of : D → g.row.S.Denot = λ d. d.source.now in
-    let name : D → ℕ = λ d. d.source.ghost_name in
     let old : D = c.new-dealing.result in
     let new : D = c.run_workers-outcome.new.source in
     let workers = c.staff.new.workers.items in
     let workers' = c.in-Ok-outcome.workers.items in
     let runs = Runs t.incoming t.outgoing t.closes own places in
-    let ran = runs_behind of name g.S.Source.gives runs workers workers' old new c.in-Ok-outcome.ensures.ok in
-    let worked = all_worked t.incoming t.outgoing t.closes own places g.S.Source.gives (of old) (of new) workers
+    let ran =
+    runs_behind of Stays stays goes_on g.S.Arrivals.gives runs workers workers' old new c.in-Ok-outcome.ensures.ok in
+    let kept =
+    runs_kept of Stays stays goes_on g.S.Arrivals.gives runs workers workers' old new c.in-Ok-outcome.ensures.ok in
+    let looks = between c.hire.new.pass c.open-rows.new.pass c.join_pass.new.pass c.into_pass.result c.open-rows.result
+    old.rows new.rows c.into_parts-source.result.1 c.open-rows.ensures.gives c.new-dealing.ensures.rows kept.1
+    c.into_parts-source.ensures.rows c.into_pass.ensures.pass (c.join_pass.ensures.joined, c.join_pass.ensures.held) in
+    let worked = all_worked t.incoming t.outgoing t.closes own places g.S.Arrivals.gives (of old) (of new) workers
     workers' c.hire.new.places.items c.gather.new.places.items c.hire.ensures.places c.staff.ensures.all
     (some_each (λ (w : W). w.places) workers c.staff.ensures.each) c.gather.ensures.keeps c.gather.ensures.vacant
-    c.args.books.now.items c.dismiss.new.books.items c.args.pass.now c.hire.new.pass c.dismiss.new.pass
-    c.hire.ensures.books
+    c.args.books.now.items c.dismiss.new.books.items c.args.pass.now c.hire.new.pass c.join_pass.new.pass
+    c.dismiss.new.pass c.hire.ensures.books
     (c.dismiss.ensures.books ∙ ap (λ l. l ++ reverse (map book c.gather.new.places.items)) c.hire.ensures.taken.0)
-    c.hire.ensures.gives c.dismiss.ensures.takes c.dismiss.result.0 c.dismiss.result.1 c.dismiss.ensures.sums
+    c.hire.ensures.gives looks c.dismiss.ensures.takes c.dismiss.result.0 c.dismiss.result.1
+    c.dismiss.ensures.sums
     c.dismiss.ensures.refused ran in
-    subst (λ s. WorkedFrom t.incoming t.outgoing t.closes g.S.Source.gives own c.args.pass.now c.args.source.now
+    subst (λ s. WorkedFrom t.incoming t.outgoing t.closes g.S.Arrivals.gives own c.args.pass.now c.args.source.now
     c.args.books.now.items c.dismiss.result.0 c.dismiss.result.1 c.dismiss.new.pass s c.dismiss.new.books.items)
     (source_is g c)
-    (subst (λ s. WorkedFrom t.incoming t.outgoing t.closes g.S.Source.gives own c.args.pass.now s
+    (subst (λ s. WorkedFrom t.incoming t.outgoing t.closes g.S.Arrivals.gives own c.args.pass.now s
     c.args.books.now.items c.dismiss.result.0 c.dismiss.result.1 c.dismiss.new.pass (of new) c.dismiss.new.books.items)
     c.new-dealing.ensures.source worked)
 
@@ -196,33 +236,35 @@ pub returns-in-Err-clause-err : goal.returns-in-Err-clause-err
 returns-in-Err-clause-err g c =
     let W : Type 0 = Worker g.row.R.Denot g.row.T.Denot g.row.W.Denot g.row.T-Book.Denot in
     let S : Type 0 = Seated g.row.T-Book.Denot g.row.T.Denot in
-    let D : Type 0 = Dealing g.row.S.Denot in
+    let D : Type 0 = Dealing g.row.S.Denot g.row.R.Denot in
     let t = g.T.NonBlocking in
     let own = c.args.service.now in
     let places : W → List S = λ w. w.places.items in
     let book : S → g.row.T-Book.Denot = λ p. p.book in
     let of : D → g.row.S.Denot = λ d. d.source.now in
-    let name : D → ℕ = λ d. d.source.ghost_name in
     let old : D = c.new-dealing.result in
     let new : D = c.run_workers-outcome.new.source in
     let workers = c.staff.new.workers.items in
     let why = c.in-Err.refused.why in
-    let leaves = leaves_behind of name g.S.Source.gives why old new c.in-Err.ensures.asked in
-    let same = leaves_name of name g.S.Source.gives why old new c.in-Err.ensures.asked in
-    let left = all_left t.incoming t.outgoing t.closes own places g.S.Source.gives (of old) (of new) workers
+    let leaves = leaves_behind of Stays stays goes_on g.S.Arrivals.gives why old new c.in-Err.ensures.asked in
+    let same = leaves_kept of Stays stays goes_on g.S.Arrivals.gives why old new c.in-Err.ensures.asked in
+    let looks = between c.hire.new.pass c.open-rows.new.pass c.join_pass.new.pass c.into_pass.result c.open-rows.result
+    old.rows new.rows c.into_parts-source.result.1 c.open-rows.ensures.gives c.new-dealing.ensures.rows same.1
+    c.into_parts-source.ensures.rows c.into_pass.ensures.pass (c.join_pass.ensures.joined, c.join_pass.ensures.held) in
+    let left = all_left t.incoming t.outgoing t.closes own places g.S.Arrivals.gives (of old) (of new) workers
     c.in-Err.refused.states.items c.hire.new.places.items c.gather-in-Err.new.places.items c.hire.ensures.places
     c.staff.ensures.all (some_each (λ (w : W). w.places) workers c.staff.ensures.each) c.gather-in-Err.ensures.keeps
     c.gather-in-Err.ensures.vacant c.args.books.now.items c.dismiss-in-Err.new.books.items c.args.pass.now
-    c.hire.new.pass c.dismiss-in-Err.new.pass c.hire.ensures.books
+    c.hire.new.pass c.join_pass.new.pass c.dismiss-in-Err.new.pass c.hire.ensures.books
     (c.dismiss-in-Err.ensures.books
     ∙ ap (λ l. l ++ reverse (map book c.gather-in-Err.new.places.items)) c.hire.ensures.taken.0)
-    c.hire.ensures.gives c.dismiss-in-Err.ensures.takes why c.fault.result c.fault.ensures leaves
+    c.hire.ensures.gives looks c.dismiss-in-Err.ensures.takes why c.fault.result c.fault.ensures leaves
     c.in-Err.ensures.err.0 in
-    let name_is = c.into_source.ensures.same_reference ∙ (same ∙ c.new-dealing.ensures.same_reference) in
-    let back = c.given_back.ensures ∙ c.into_source.ensures.source in
-    subst (λ s. LeavesConnections t.incoming t.outgoing t.closes g.S.Source.gives
+    let name_is = c.into_parts-source.ensures.same_reference ∙ (same.0 ∙ c.new-dealing.ensures.same_reference) in
+    let back = c.given_back.ensures ∙ c.into_parts-source.ensures.source in
+    subst (λ s. LeavesConnections t.incoming t.outgoing t.closes g.S.Arrivals.gives
     (HiredFrom own c.args.pass.now c.dismiss-in-Err.new.pass) c.args.source.now c.args.books.now.items c.fault.result s
     c.dismiss-in-Err.new.books.items) (grind arith)
-    (subst (λ s. LeavesConnections t.incoming t.outgoing t.closes g.S.Source.gives
+    (subst (λ s. LeavesConnections t.incoming t.outgoing t.closes g.S.Arrivals.gives
     (HiredFrom own c.args.pass.now c.dismiss-in-Err.new.pass) s c.args.books.now.items c.fault.result (of new)
     c.dismiss-in-Err.new.books.items) c.new-dealing.ensures.source left)

@@ -1,0 +1,54 @@
+-- What reads rows goes on from where it was.
+use Rattle.std.proofs.Common.{◌≡◌, ◌∙◌, ℕ, Option, refl, subst}
+use Rattle.std.specs.Prelude.{Result}
+use Rattle.sysv_model.specs.declared.attributes.Row.{Row}
+use Rattle.sysv_model.specs.declared.errno.Errno.{Errno}
+use Rattle.sysv_service.specs.Told.{TellsRow}
+use Rattle.sysv_service.specs.Ran.{Pass}
+use Rattle.sysv_thread_laws.specs.Hiring.{Gives, TakesIn}
+use Rattle.sysv_engine.specs.declared.rows.Rows.{Rows}
+use Rattle.sysv_engine.specs.declared.dealing.Dealing.{Dealing}
+use Rattle.sysv_engine.specs.Looking as looking
+use Rattle.sysv_engine.specs.Looking.{Looked, LooksBetween}
+use Rattle.sysv_engine.specs.Looks.{Looks}
+
+looked_on : (a b c : Pass) → Looked a b → Looked b c → Looked a c
+looked_on a b c one looking.begins = one
+looked_on a b c one (looking.reads slot result new two told) =
+    looking.reads slot result new (looked_on a b _ one two) told
+
+-- It has read one.
+pub looked_once : (slot : ℕ) (result : Result (Option Row) Errno) (old new : Pass) → TellsRow slot old result new →
+    Looked old new
+looked_once slot result old new told = looking.reads slot result new looking.begins told
+
+-- It has read none.
+pub looks_stay : {R : Type 0} (rows : Rows R) → Looks rows rows
+looks_stay rows = (refl, looking.begins)
+
+-- It has read some, and then more.
+pub looks_on : {R : Type 0} (a b c : Rows R) → Looks a b → Looks b c → Looks a c
+looks_on a b c one two = (two.0 ∙ one.0, looked_on a.pass b.pass c.pass one.1 two.1)
+
+-- Its pass was split off before it, and is joined back after it.
+pub looks_between : {R : Type 0} (own kept home back : Pass) (first last : Rows R) → Gives own first.pass kept →
+    Looks first last → back ≡ last.pass → TakesIn kept back home → LooksBetween own home
+looks_between own kept home back first last gives looks same takes = record {
+  before = first.pass;
+  after = last.pass;
+  kept = kept;
+  gives = gives;
+  looked = looks.1;
+  takes = subst (λ (p : Pass). TakesIn kept p home) same takes;
+}
+
+module _ {S R : Type 0} where
+  -- A dealing keeps its source, and what reads rows goes on.
+  abbrev pub Stays : Dealing S R → Dealing S R → Type 0
+  Stays old new = (new.source.ghost_name ≡ old.source.ghost_name) × Looks old.rows new.rows
+
+  pub stays : (d : Dealing S R) → Stays d d
+  stays d = (refl, looks_stay d.rows)
+
+  pub goes_on : (a b c : Dealing S R) → Stays a b → Stays b c → Stays a c
+  goes_on a b c one two = (two.0 ∙ one.0, looks_on a.rows b.rows c.rows one.1 two.1)
