@@ -10,7 +10,7 @@ _sysvmsg_commands="serve snd rcv ipcs ipcrm ipcmk stats script"
 _sysvmsg_words() {
     local credentials="--stderr --me --uid --gid --pid"
     case $1 in
-    stats) echo "--json --wait --help --version" ;;
+    stats) echo "--json --wait --stderr --help --version" ;;
     script) echo "--help --version" ;;
     serve) echo "$_sysvmsg_server --until-eof --help --version" ;;
     ipcs) echo "-i --json --wait $credentials --help --version" ;;

@@ -103,6 +103,7 @@ complete -c sysvmsg -n '__sysvmsg_is ipcmk' -l qbytes -x -d 'The maximum number 
 complete -c sysvmsg -n '__sysvmsg_is ipcmk' -l wait -x -d 'Wait for each reply at most this time'
 
 complete -c sysvmsg -n '__sysvmsg_is stats' -l json -d 'Print a JSON object'
+complete -c sysvmsg -n '__sysvmsg_is stats' -l stderr -d 'Print errors on standard error'
 complete -c sysvmsg -n '__sysvmsg_is stats' -l wait -x -d 'Wait for each reply at most this time'
 
 # The second word of sysvmsg-run is a program, and those after it are the program's own.

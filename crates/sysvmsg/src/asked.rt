@@ -65,6 +65,8 @@ pub(crate) struct Looking<'a> {
     pub(crate) json: bool,
     /// The number of milliseconds that each read waits at most.
     pub(crate) wait: Option<u64>,
+    /// Whether errors are told on standard error.
+    pub(crate) stderr: bool,
 }
 
 /// The socket files and the terms of a server.
@@ -220,6 +222,7 @@ fn looking<'a>(words: &ArgMatches<'a>) -> Result<Looking<'a>, Bad>
         path: path_of(words)?,
         json: has_flag(words, "json"),
         wait: time_if(words, "wait")?,
+        stderr: has_flag(words, "stderr"),
     })
 }
 

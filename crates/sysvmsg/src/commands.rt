@@ -458,6 +458,7 @@ Example:
         ),
         ("json", Form::Flag, "Prints a JSON object"),
         WAIT,
+        STDERR,
     ],
     groups: &[],
     usage: None,

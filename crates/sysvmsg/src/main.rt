@@ -19,7 +19,7 @@ mod stats;
 mod teller;
 mod who;
 
-use asked::{Asked, How, no_text, read_words};
+use asked::{Asked, How, Looking, no_text, read_words};
 use clap::Error;
 use clap::error::ErrorKind;
 use connection::run_as;
@@ -60,11 +60,7 @@ fn main(rt: HostRuntime) -> ExitCode {
     match read_words(rt.alloc(), words.as_slice()) {
         Ok(Asked::Script) => answer_script(&rt, &mut rt.stdin(), &mut rt.stdout()),
         Ok(Asked::Serve(serving)) => serve_at(&rt, rt.stdin(), &serving, &mut io::writer(&rt)),
-        Ok(Asked::Look(looking)) => {
-            let mut stream = None;
-            let place = Socket::new(&rt, looking.path, &mut stream);
-            look_at(&rt, place, &looking, &mut io::writer(&rt))
-        }
+        Ok(Asked::Look(looking)) => look(&rt, looking),
         Ok(
             Asked::Client {
                 path,
@@ -97,6 +93,17 @@ fn main(rt: HostRuntime) -> ExitCode {
             tell(&rt, &error, is_aside)
         }
     }
+}
+
+/// Prints the state of a server.
+fn look(rt: &HostRuntime, looking: Looking<'_>) -> ExitCode {
+    let looking = Looking {
+        stderr: looking.stderr || wants_stderr(rt),
+        ..looking
+    };
+    let mut stream = None;
+    let place = Socket::new(rt, looking.path, &mut stream);
+    look_at(rt, place, &looking, &mut io::writer(rt))
 }
 
 /// Opens a stand-in for a closed standard stream, so that no socket gets its descriptor. A read

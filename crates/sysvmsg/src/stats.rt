@@ -1,18 +1,19 @@
 //! The client that shows the state of a server.
 ghost use Rattle.std.specs.Prelude.{◌≡◌, IfOk};
 ghost use Rattle.std.specs.Io.KnownBytes.{Appends, Consumes, IsAtEnd};
-ghost use Rattle.sysvmsg.specs.Ends.{SucceedsOnlyIf};
+ghost use Rattle.sysvmsg.specs.Ends.{Succeeds, SucceedsOnlyIf};
 ghost use Rattle.sysvmsg.specs.Stats.{HasLooked, asked_with};
 
 use crate::asked::Looking;
 use crate::input::{Unread, read_some};
 use crate::leaver::bound;
 use crate::place::Place;
-use crate::plain::complain;
-use crate::{FAULT, say};
+use crate::teller::Teller;
+use crate::FAULT;
 use std::alloc::Global;
 use std::io::{Eprint, Read, Write};
 use std::process::ExitCode;
+use sysv_clients::ClientFault;
 
 /// The number of bytes of a state that are read at once at most.
 const PIECE: usize = 4_096;
@@ -28,23 +29,37 @@ pub(crate) fn look_at<P: Place, S: Write>(
     ensures { SucceedsOnlyIf (HasLooked (P.incoming place) (S.contents screen.old)
         (S.contents screen.new)) result }
 {
+    let teller = Teller {
+        path: looking.path,
+        task: None,
+        is_aside: looking.stderr,
+    };
     let (mut reader, mut writer) = match place.connect() {
         Ok(ends) => ends,
-        Err(why) => {
-            complain(rt, looking.path, &why, "");
-            return say(rt, "no server");
-        }
+        Err(why) => return teller.no_server(rt, &why),
     };
     bound(&reader, looking.wait);
     if writer.write_all(question(looking.json)).is_err() || writer.flush().is_err() {
-        return say(rt, "no reply");
+        return failed(rt, &teller, ClientFault::NoReply);
     }
     match read_state(rt.alloc(), &mut reader) {
-        Ok(state) if state.is_empty() => say(rt, "no reply"),
+        Ok(state) if state.is_empty() => failed(rt, &teller, ClientFault::NoReply),
         Ok(state) => show(&state, screen),
-        Err(Unread::NoMemory) => say(rt, "no memory"),
-        Err(Unread::Failed(_)) => say(rt, "no reply"),
+        Err(Unread::NoMemory) => failed(rt, &teller, ClientFault::NoMemory),
+        Err(Unread::Failed(_)) => failed(rt, &teller, ClientFault::NoReply),
     }
+}
+
+/// Tells a fault.
+fn failed(
+    rt: &(impl Print + Eprint + AllocGlobal),
+    teller: &Teller<'_>,
+    fault: ClientFault,
+) -> ExitCode
+    ensures { Succeeds result → ⊥ }
+{
+    teller.fault(rt, fault.line());
+    ExitCode::from(FAULT)
 }
 
 /// Returns what is asked for the state, as a JSON object if `json` is true.
