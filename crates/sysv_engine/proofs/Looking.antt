@@ -1,6 +1,6 @@
 -- What reads rows goes on from where it was.
 use Rattle.std.proofs.Common.{◌≡◌, ◌∙◌, ℕ, Option, refl, subst}
-use Rattle.std.specs.Prelude.{Result}
+use Rattle.std.specs.Prelude.{Result, Ok, Err, None}
 use Rattle.sysv_model.specs.declared.attributes.Row.{Row}
 use Rattle.sysv_model.specs.declared.errno.Errno.{Errno}
 use Rattle.sysv_service.specs.Told.{TellsRow}
@@ -9,7 +9,7 @@ use Rattle.sysv_thread_laws.specs.Hiring.{Gives, TakesIn}
 use Rattle.sysv_engine.specs.declared.rows.Rows.{Rows}
 use Rattle.sysv_engine.specs.declared.dealing.Dealing.{Dealing}
 use Rattle.sysv_engine.specs.Looking as looking
-use Rattle.sysv_engine.specs.Looking.{Looked, LooksBetween}
+use Rattle.sysv_engine.specs.Looking.{Looked, LooksBetween, ReadsRow}
 use Rattle.sysv_engine.specs.Looks.{Looks}
 
 looked_on : (a b c : Pass) → Looked a b → Looked b c → Looked a c
@@ -21,6 +21,15 @@ looked_on a b c one (looking.reads slot result new two told) =
 pub looked_once : (slot : ℕ) (result : Result (Option Row) Errno) (old new : Pass) → TellsRow slot old result new →
     Looked old new
 looked_once slot result old new told = looking.reads slot result new looking.begins told
+
+-- It has read this row, or none.
+pub row_read : (slot : ℕ) (row : Option Row) (old new : Pass) → TellsRow slot old (Ok row) new →
+    ReadsRow slot old row new
+row_read slot row old new told = (Ok row, told, refl)
+
+pub none_read : (slot : ℕ) (why : Errno) (old new : Pass) → TellsRow slot old (Err why) new →
+    ReadsRow slot old None new
+none_read slot why old new told = (Err why, told, refl)
 
 -- It has read none.
 pub looks_stay : {R : Type 0} (rows : Rows R) → Looks rows rows

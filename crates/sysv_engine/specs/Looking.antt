@@ -1,12 +1,22 @@
 -- How the rows of a running service are read (this project's profile): with a pass that is split off
 -- and joined back like those of the places.
-use Rattle.std.specs.Prelude.{◌≡◌, ℕ, List, [], ◌∷◌, ◌++◌, Option, Result}
+use Rattle.std.specs.Prelude.{◌≡◌, ℕ, List, [], ◌∷◌, ◌++◌, Option, None, Result, Ok, Err}
 use Rattle.sysv_model.specs.declared.attributes.Row.{Row}
 use Rattle.sysv_model.specs.declared.errno.Errno.{Errno}
 use Rattle.sysv_service.specs.Ran.{Pass}
 use Rattle.sysv_service.specs.Told.{TellsRow}
 use Rattle.sysv_thread_laws.specs.Hiring.{Gives, Hires, TakesIn}
 use Rattle.sysv_engine.specs.Handled.{Shift, first_passes, last_passes}
+
+-- The row that a read returned, if it was not refused.
+abbrev pub shown_by : Result (Option Row) Errno → Option Row
+shown_by (Ok row) = row
+shown_by (Err why) = None
+
+-- The pass read the row of this slot once: that of its live queue, if there is one. A read that is
+-- refused shows none.
+abbrev pub ReadsRow : ℕ → Pass → Option Row → Pass → Type 0
+ReadsRow slot old row new = (result : Result (Option Row) Errno) × TellsRow slot old result new × (row ≡ shown_by result)
 
 -- The pass read rows, and did nothing else.
 pub data Looked (old : Pass) : Pass → Type 0 where

@@ -7,8 +7,8 @@ use sysv_keys::SLOTS;
 use sysv_queue::Tally;
 use sysv_seats::News;
 
-/// What a worker counts for those who look at the server. The worker alone writes the numbers, each
-/// at most once per event unless messages move at several slots.
+/// What a worker counts for those who look at the server. The worker alone writes the numbers, once
+/// for all messages that moved one after another to or from one queue.
 #[derive(Drop)]
 pub(crate) struct Counts {
     /// The number of parked calls under each word.
@@ -51,53 +51,49 @@ pub struct Counted {
     pub lost: u64,
 }
 
-/// Messages that moved at one slot.
+/// Messages that moved, all of them to one queue or all of them from one queue.
 #[derive(Clone, Copy)]
 pub(crate) struct Moved {
-    slot: usize,
-    /// The number of messages that were placed on a queue.
-    arrived: u64,
-    /// The number of messages that receives took.
-    freed: u64,
+    /// The word of the receives or of the sends that such a message may end.
+    word: usize,
+    count: u64,
 }
 
 impl Moved {
     /// No messages.
-    pub(crate) const NONE: Moved = Moved {
-        slot: 0,
-        arrived: 0,
-        freed: 0,
-    };
+    pub(crate) const NONE: Moved = Moved { word: 0, count: 0 };
 
-    /// Adds the message of these news, if they are of one. Returns whether it moved where the others
+    /// Adds the message of these news, if they are of one. Returns whether it moved as the others
     /// did; else it is not added.
     #[inline(always)]
     pub(crate) fn add(&mut self, news: News) -> bool {
-        match news {
-            News::Arrived { slot, .. } if slot == self.slot => {
-                self.arrived = self.arrived.wrapping_add(1);
-                true
-            }
-            News::Freed { slot, .. } if slot == self.slot => {
-                self.freed = self.freed.wrapping_add(1);
-                true
-            }
-            News::Arrived { .. } | News::Freed { .. } => false,
-            News::Released | News::Changed { .. } => true,
+        let Some(word) = word_of(news) else {
+            return true;
+        };
+        if word != self.word {
+            return false;
         }
+        self.count = self.count.wrapping_add(1);
+        true
     }
 
     /// Returns the message of these news alone, if they are of one.
     pub(crate) fn first(news: News) -> Moved {
-        let mut moved = match news {
-            News::Arrived { slot, .. } | News::Freed { slot, .. } => Moved {
-                slot,
-                ..Moved::NONE
-            },
-            News::Released | News::Changed { .. } => Moved::NONE,
-        };
-        moved.add(news);
-        moved
+        match word_of(news) {
+            Some(word) => Moved { word, count: 1 },
+            None => Moved::NONE,
+        }
+    }
+}
+
+/// Returns the word of the receives that a message which was placed may end, or of the sends that
+/// one which was taken may end.
+#[inline(always)]
+fn word_of(news: News) -> Option<usize> {
+    match news {
+        News::Arrived { slot, .. } => Some(slot),
+        News::Freed { slot, .. } => Some(room_word(slot)),
+        News::Released | News::Changed { .. } => None,
     }
 }
 
@@ -121,8 +117,12 @@ impl Counts {
 
     /// Counts messages that moved.
     pub(crate) fn count(&self, moved: Moved) {
-        add(&self.moved, moved.slot, moved.arrived);
-        add(&self.moved, room_word(moved.slot), moved.freed);
+        if moved.count == 0 {
+            return;
+        }
+        if let Some(count) = self.moved.get(moved.word) {
+            count.fetch_add(moved.count, Ordering::SeqCst);
+        }
     }
 
     /// Counts the messages of a session that is over.
@@ -173,16 +173,6 @@ pub(crate) fn zeros(alloc: Global, count: usize) -> Option<Vec<AtomicU64>> {
         counts.push(AtomicU64::new(0)).ok()?;
     }
     Some(counts)
-}
-
-/// Adds to a count, if there is one of this number.
-fn add(counts: &[AtomicU64], at: usize, more: u64) {
-    if more == 0 {
-        return;
-    }
-    if let Some(count) = counts.get(at) {
-        count.fetch_add(more, Ordering::SeqCst);
-    }
 }
 
 /// Returns a count, or 0 if there is none of this number.

@@ -2,7 +2,7 @@
 ghost use Rattle.std.specs.Prelude.{◌≡◌};
 ghost use Rattle.sysv_service.specs.Seats.{AreOf};
 ghost use Rattle.sysv_thread_laws.specs.Hiring.{Gives};
-ghost use Rattle.sysv_engine.specs.Looking.{Looked};
+ghost use Rattle.sysv_engine.specs.Looking.{Looked, ReadsRow};
 
 use std::alloc::Global;
 use std::sync::Wait;
@@ -43,10 +43,12 @@ impl<'p, R: Wait> Rows<'p, R> {
     }
 
     /// Returns the row of the live queue in this slot, if there is one. It takes one turn at the
-    /// slot, and waits for nothing else.
-    #[tactic(auto, using(crate::proofs::Looking::looked_once))]
+    /// slot, and waits for nothing else. Returns `None` too if there is no such slot, or if its gate
+    /// is worn out.
+    #[tactic(auto, using(crate::proofs::Looking::looked_once, crate::proofs::Looking::row_read, crate::proofs::Looking::none_read))]
     pub fn row(&mut self, slot: u32) -> Option<Row>
         ensures service { self.new.service.now ≡ self.old.service.now }
+        ensures told { ReadsRow slot self.old.pass result self.new.pass }
         ensures looked { Looked self.old.pass self.new.pass }
     {
         match self.service.list_row(self.rt, &mut self.pass, slot) {
