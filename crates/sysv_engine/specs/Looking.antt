@@ -16,7 +16,8 @@ shown_by (Err why) = None
 -- The pass read the row of this slot once: that of its live queue, if there is one. A read that is
 -- refused shows none.
 abbrev pub ReadsRow : ℕ → Pass → Option Row → Pass → Type 0
-ReadsRow slot old row new = (result : Result (Option Row) Errno) × TellsRow slot old result new × (row ≡ shown_by result)
+ReadsRow slot old row new =
+    (result : Result (Option Row) Errno) × TellsRow slot old result new × (row ≡ shown_by result)
 
 -- The pass read rows, and did nothing else.
 pub data Looked (old : Pass) : Pass → Type 0 where

@@ -80,7 +80,7 @@ pub record AsksToLook (words : List Row) (looking : Looking) : Type 0 where
   pub path : HasPath words looking.path.now
   pub json : HasFlag words (codes "json") looking.json
   pub wait : HasMaybe IsTime (word_of words (codes "wait")) looking.wait
-  pub stderr : HasFlag words (codes "stderr") looking.stderr
+  pub is_aside : HasFlag words (codes "stderr") looking.is_aside
 
 -- A `serve` with these words is this one.
 pub record AsksToServe (words : List Row) (serving : Serving) : Type 0 where

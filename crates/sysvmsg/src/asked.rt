@@ -66,7 +66,7 @@ pub(crate) struct Looking<'a> {
     /// The number of milliseconds that each read waits at most.
     pub(crate) wait: Option<u64>,
     /// Whether errors are told on standard error.
-    pub(crate) stderr: bool,
+    pub(crate) is_aside: bool,
 }
 
 /// The socket files and the terms of a server.
@@ -222,7 +222,7 @@ fn looking<'a>(words: &ArgMatches<'a>) -> Result<Looking<'a>, Bad>
         path: path_of(words)?,
         json: has_flag(words, "json"),
         wait: time_if(words, "wait")?,
-        stderr: has_flag(words, "stderr"),
+        is_aside: has_flag(words, "stderr"),
     })
 }
 

@@ -98,7 +98,7 @@ fn main(rt: HostRuntime) -> ExitCode {
 /// Prints the state of a server.
 fn look(rt: &HostRuntime, looking: Looking<'_>) -> ExitCode {
     let looking = Looking {
-        stderr: looking.stderr || wants_stderr(rt),
+        is_aside: looking.is_aside || wants_stderr(rt),
         ..looking
     };
     let mut stream = None;

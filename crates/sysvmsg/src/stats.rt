@@ -32,7 +32,7 @@ pub(crate) fn look_at<P: Place, S: Write>(
     let teller = Teller {
         path: looking.path,
         task: None,
-        is_aside: looking.stderr,
+        is_aside: looking.is_aside,
     };
     let (mut reader, mut writer) = match place.connect() {
         Ok(ends) => ends,
