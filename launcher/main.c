@@ -1,5 +1,5 @@
-/* sysvmsg-serve: starts `sysvmsg serve`, ends it in order if this process is told to end, and ends
- * with it. With --with it runs a command on the server. */
+/* sysvmsg-serve: starts `sysvmsg serve`, shuts it down gracefully if this process is told to end,
+ * and ends with it. With --with it runs a command on the server. */
 #define _GNU_SOURCE
 #include <errno.h>
 #include <fcntl.h>
@@ -12,23 +12,23 @@
 #include "children.h"
 #include "run.h"
 
-enum { NOT_UNDERSTOOD = 2 };
-
 static const char usage[] =
     "usage: sysvmsg-serve PATH [OPTION ...]\n"
     "       sysvmsg-serve --with PATH [OPTION ...] -- COMMAND [ARGUMENT ...]\n";
 
 static const char help[] =
     "\n"
-    "Runs `sysvmsg serve` with these options, --until-eof and, unless they are given,\n"
-    "--drain 5 and --blocks 65536. SIGTERM and SIGINT end it in order: it refuses new\n"
-    "clients, waits for its sessions, at most as long as --drain states, prints its\n"
-    "counts and removes its sockets. A second signal ends it at once. It reports to\n"
-    "systemd (Type=notify) and can be process 1 of a container. The limit of open\n"
-    "files of the server is the hard limit, so it serves more clients at once.\n"
+    "Runs `sysvmsg serve` with these options (`sysvmsg serve --help` lists them),\n"
+    "--until-eof and, unless they are given, --drain 5 and --blocks 65536. SIGTERM or\n"
+    "SIGINT shuts it down gracefully: it refuses new clients, waits for its sessions,\n"
+    "at most as long as --drain states, prints its counts and removes its sockets. A\n"
+    "second signal ends it at once. It reports to systemd (Type=notify) and can be\n"
+    "process 1 of a container. The limit of open files of the server is the hard\n"
+    "limit, so it serves more clients at once.\n"
     "\n"
-    "With --with it runs COMMAND, with SYSVMSG_PATH set to the absolute path, once the\n"
-    "server serves, and ends the server after it. The exit status is that of COMMAND.\n"
+    "With --with it runs COMMAND once the server accepts connections, with SYSVMSG_PATH\n"
+    "set to the absolute path, and shuts the server down after it. The exit status is\n"
+    "that of COMMAND.\n"
     "\n"
     "Examples:\n"
     "  $ sysvmsg-serve ./q --mode 660\n"

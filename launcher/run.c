@@ -43,7 +43,7 @@ struct run {
     pid_t server, command; /* 0: it has ended, or was not started */
     int server_status;
     int status; /* of the command, once it has ended, and else -1 */
-    int input;  /* of the server, which ends in order once it is closed */
+    int input;  /* of the server, which shuts down once it is closed */
     struct made socket, stats;
     int stopped_by;  /* the signal that ended the run, or 0 */
     long ends_since; /* in milliseconds, once `input` is closed */
@@ -77,7 +77,7 @@ static void kill_server(struct run *run)
         kill(run->server, SIGKILL);
 }
 
-/* Has the server end in order. */
+/* Has the server shut down gracefully. */
 static void end_server(struct run *run)
 {
     if (run->input < 0)
@@ -88,8 +88,8 @@ static void end_server(struct run *run)
     run->ends_since = milliseconds();
 }
 
-/* Ends the server in order, or at once if that has begun. Some programs send one signal twice: to
- * this process, and to its group. */
+/* Shuts the server down, or ends it at once if that has begun. Some programs send one signal twice:
+ * to this process, and to its group. */
 static void stop(struct run *run, int number)
 {
     bool ends = run->input < 0;
@@ -113,7 +113,7 @@ static void take_end(struct run *run, const struct signalfd_siginfo *signal)
 }
 
 /* A thread of the parent has ended. If it was the last one, all ends at once. A server that does
- * not serve yet ends in order, because only its line reports which socket file it made. */
+ * not serve yet is shut down, because only its line reports which socket file it made. */
 static void take_parent_end(struct run *run)
 {
     if (run->parent == 0 || getppid() == run->parent)
@@ -195,7 +195,7 @@ static void take_serving(struct run *run)
     }
 }
 
-/* Beside a command only the faults of the server are shown. */
+/* With a command, only the errors of the server are shown. */
 static void take_lines(struct run *run)
 {
     enum line line;
@@ -377,7 +377,9 @@ static int ended(const struct run *run)
         return run->status;
     if (run->stopped_by != 0 && (run->is_killed || run->request->command))
         return BY_SIGNAL + run->stopped_by;
-    return run->request->command ? NOT_STARTED : exit_status(run->server_status);
+    /* (a server that has refused its options says why) */
+    int status = exit_status(run->server_status);
+    return run->request->command && status != NOT_UNDERSTOOD ? NOT_STARTED : status;
 }
 
 int run(const struct request *request)

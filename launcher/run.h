@@ -9,6 +9,9 @@ struct request {
     char **command; /* null: none */
 };
 
+/* The status if a command line was not understood: here, or by the server. */
+enum { NOT_UNDERSTOOD = 2 };
+
 /* Returns the status to exit with. It ends the process if it cannot begin. */
 int run(const struct request *request);
 

@@ -27,6 +27,7 @@ enum {
     REST_SECONDS = 10,         /* how long the rest of a reply may take that has begun */
     FIRST_MICROSECONDS = 2000, /* how long a single recv may wait for a reply */
     HELLO_MILLISECONDS = 250,  /* how long a call whose wait has ended still waits for its hello */
+    LEAVE_SECONDS = 60,        /* how long it waits for the end of its session */
 };
 
 /* Tells whether a descriptor still is the file that it was. */
@@ -58,6 +59,7 @@ struct call {
     int cancel_state; /* while it waits */
     long deadline;    /* of its wait; 0: there is none */
     int ended_by;     /* EINTR: a signal handler; ETIMEDOUT: the deadline; 0: nothing */
+    bool has_no_end;  /* the call was left, and its session did not end */
 };
 
 /* The connections of all threads, so that a child of fork can close its copies of them. */
@@ -73,7 +75,7 @@ static struct {
     bool has_standard_error;
 } settings;
 
-static pthread_once_t process_begun = PTHREAD_ONCE_INIT;
+static pthread_once_t process_start = PTHREAD_ONCE_INIT;
 static pthread_key_t thread_end;
 static pid_t process; /* the process whose connections these are */
 static struct peer server = {.address = {.sun_family = AF_UNIX}};
@@ -212,7 +214,7 @@ static void begin(void)
         return;
     peer_set_path(&server, word);
     settings.has_standard_error = note_file(STDERR_FILENO, &standard_error);
-    pthread_once(&process_begun, begin_process);
+    pthread_once(&process_start, begin_process);
     settings.has_server = true;
 }
 
@@ -416,6 +418,19 @@ static void leave(struct connection *connection, const struct call *call)
 /* Whether recv ended without anything: by its limit of time, or by a signal. */
 static bool is_early(ssize_t got) { return got < 0 && (errno == EAGAIN || errno == EINTR); }
 
+/* Waits for what a call that was left gets: a reply, or the end of its session. Returns what recv
+ * returns, or 0 if the server sends neither. */
+static ssize_t await_end(struct connection *connection, struct iovec pieces[2], struct call *call)
+{
+    long deadline = milliseconds() + LEAVE_SECONDS * 1000L;
+    ssize_t got;
+    do
+        got = await_rest(connection->fd, pieces, deadline);
+    while (is_early(got));
+    call->has_no_end = got == 0 && milliseconds() >= deadline;
+    return got;
+}
+
 /* Waits for the beginning of a reply as its call may wait. Returns what recv returns, or 0 if a
  * call whose wait has ended was not served yet. */
 static ssize_t await_reply(
@@ -432,11 +447,11 @@ static ssize_t await_reply(
             leave(connection, call);
         got = receive_pieces(connection->fd, pieces, 0);
     }
-    while (is_early(got)) {
+    while (is_early(got) && call->ended_by == 0) {
         await_input(connection->fd, -1);
         got = receive_pieces(connection->fd, pieces, MSG_DONTWAIT);
     }
-    return got;
+    return is_early(got) ? await_end(connection, pieces, call) : got;
 }
 
 /* Reads a reply. Returns what recv returned last: if that is above 0, no more is to come. */
@@ -492,11 +507,13 @@ static int unsent(struct connection *connection, const struct call *call, size_t
 static int unanswered(
     struct connection *connection, const struct frame *frame, const struct call *call, ssize_t got)
 {
-    bool has_left = got == 0 && frame->length == 0 && call->ended_by != 0;
+    bool has_left = got == 0 && frame->length == 0 && call->ended_by != 0 && !call->has_no_end;
     if (has_left || (got < 0 && errno == EFAULT)) {
         end_session(connection);
         return has_left ? call->ended_by : EFAULT;
     }
+    if (call->has_no_end)
+        return broken(connection, call, "the server does not reply");
     return broken(connection, call,
         frame->length == 0 ? "the server closed the connection"
                            : "the server did not complete a reply");
@@ -769,7 +786,7 @@ int ask(struct connection *opened, struct frame *frame, bool may_wait, int milli
 
 int connection_open(const struct peer *peer, int milliseconds_at_most, struct connection **opened)
 {
-    pthread_once(&process_begun, begin_process);
+    pthread_once(&process_start, begin_process);
     struct connection *connection = take_place(peer);
     if (!connection)
         return EMFILE;

@@ -24,11 +24,14 @@ import time
 from collections import deque
 from dataclasses import dataclass
 from types import TracebackType
-from typing import Callable, Deque, Dict, Generic, Iterator, List, NamedTuple, Optional, Tuple, Type, TypeVar, cast
+from typing import (
+    Callable, Deque, Dict, Generic, Iterator, List, NamedTuple, Optional, Tuple, Type, TypeVar, Union, cast,
+)  # fmt: skip
 
 __version__ = "0.2.0"
 
 T = TypeVar("T")
+Path = Union[str, "os.PathLike[str]"]
 
 PRIVATE = 0  # the key of a queue that no other call finds
 BODY_MAX = 8192  # the longest message
@@ -40,6 +43,8 @@ _REQUEST_BODY_MAX = 8256
 _REPLY_MIN, _REPLY_MAX = 3, 8203
 _MODE_MAX = 0o777
 _READ = 65536
+_LONGEST = 1_000_000.0  # how many seconds the system waits at once
+_LEAVE = 60.0  # how many seconds the server may take to end a session whose call was given up
 
 
 class QueueError(OSError):
@@ -133,7 +138,7 @@ class NotMade(ConnectionError):
 
 
 class ConnectionLost(ConnectionError):
-    """The session ended without a reply. It is not known whether the call took effect."""
+    """The session ended without a reply, or the server does not end it. It is not known whether the call took effect."""
 
 
 class ProtocolError(ConnectionError):
@@ -192,7 +197,7 @@ def _unpack(layout: str, fields: bytes) -> Tuple[int, ...]:
 
 def _time(seconds: float) -> bytes:
     """A time as the system has it. Zero would be no limit."""
-    micros = max(1, int(seconds * 1_000_000))
+    micros = max(1, int(min(seconds, _LONGEST) * 1_000_000))
     return struct.pack("@ll", micros // 1_000_000, micros % 1_000_000)
 
 
@@ -304,7 +309,7 @@ def _row(fields: bytes) -> Optional[Row]:
 
 
 def _wait_flag(wait: Optional[float]) -> int:
-    return NOWAIT if wait is not None and wait <= 0 else 0
+    return NOWAIT if wait is not None and not wait > 0 else 0
 
 
 def _get_request(key: int, create: bool, exclusive: bool, mode: int) -> Request[int]:
@@ -384,7 +389,8 @@ class _Session:
             self._step(None)
 
     def leave(self) -> None:
-        """Gives up the call that waits, if one does, and ends the session. Requests that were not sent are dropped."""
+        """Gives up the call that waits, if one does, and ends the session. Requests that were not sent are dropped. If
+        the server does not end the session, requests without a reply fail with `ConnectionLost`."""
         if self.is_over:
             return
         self.output.clear()
@@ -393,8 +399,10 @@ class _Session:
             self.peer.shutdown(socket.SHUT_WR)
         except OSError:
             pass
+        deadline = time.monotonic() + _LEAVE
         while not self.is_over:
-            self._step(None)
+            if not self._step(deadline):
+                self._end(ConnectionLost("the server does not reply"))
 
     def close(self) -> None:
         self.is_over = True
@@ -405,7 +413,7 @@ class _Session:
         left = None if deadline is None else max(0.0, deadline - time.monotonic())
         poll = select.poll()
         poll.register(self.peer, select.POLLIN | (select.POLLOUT if self.output else 0))
-        found = poll.poll(None if left is None else int(left * 1000) + 1)
+        found = poll.poll(None if left is None else int(min(left, _LONGEST) * 1000) + 1)
         if not found:
             return deadline is None or time.monotonic() < deadline
         events = found[0][1]
@@ -474,8 +482,8 @@ class _Session:
 class Connection:
     """A connection to a server. `connect` makes one."""
 
-    def __init__(self, path: str, identity: Tuple[int, int, int], version: int, wait: Optional[float]) -> None:
-        self.path = path
+    def __init__(self, path: Path, identity: Tuple[int, int, int], version: int, wait: Optional[float]) -> None:
+        self.path = os.fspath(path)
         self.version = version
         #: The number of queues that the server can have, or None in version 1.
         self.slots: Optional[int] = None
@@ -659,7 +667,7 @@ class Pipeline:
         return pending
 
 
-def connect(path: str, *, uid: Optional[int] = None, gid: Optional[int] = None, pid: Optional[int] = None,
+def connect(path: Path, *, uid: Optional[int] = None, gid: Optional[int] = None, pid: Optional[int] = None,
             version: int = 2, wait: Optional[float] = None) -> Connection:
     """Connects to the server at a path, as this process's effective user and group or as the given ones. The server
     does not check them.

@@ -41,7 +41,7 @@ complete -c sysvmsg -n '__sysvmsg_is help; and __sysvmsg_has_words 2' -a 'serve 
 
 set -l clients -c sysvmsg -n '__sysvmsg_is snd rcv ipcs ipcrm ipcmk'
 complete $clients -l stderr -d 'Print errors on standard error'
-complete $clients -l me -d 'By default your own IDs'
+complete $clients -l me -d 'Your own IDs by default'
 complete $clients -l uid -x -d "The caller's user ID"
 complete $clients -l gid -x -d "The caller's group ID"
 complete $clients -l pid -x -d "The caller's process ID"
@@ -77,6 +77,7 @@ complete $rcv -l type -x -d 'Take the first message of this type'
 complete $rcv -l upto -x -d 'Take the first of the lowest type up to this'
 complete $rcv -l except -x -d 'Take the first of any other type'
 complete $rcv -l count -x -d 'Receive this number of messages'
+complete $rcv -l ahead -x -d 'Request up to this number of messages before they come'
 complete $rcv -l follow -d 'Receive messages until it is ended'
 complete $rcv -l show-type -d 'Print the type before the body'
 complete $rcv -l raw -d 'Print no newline after the body'

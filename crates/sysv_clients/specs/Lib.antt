@@ -14,6 +14,7 @@ pub mod Course
 pub mod Blame
 pub mod Calls
 pub mod Stream
+pub mod Taking
 pub mod Feed
 pub mod Lines
 pub mod Sending

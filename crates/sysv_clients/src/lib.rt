@@ -27,5 +27,5 @@ pub use fault::ClientFault;
 pub use feed::Feed;
 pub use laws::numerals_of_commands;
 pub use sending::{Cut, Sending, Unsent, send_feed, send_lines};
-pub use stream::{MAX_MESSAGES, Receiving, Stop, receive_all, receive_watched};
+pub use stream::{MAX_AHEAD, MAX_MESSAGES, Receiving, Stop, receive_all, receive_watched};
 pub use words::{id_of, key_of, type_of};

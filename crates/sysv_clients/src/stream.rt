@@ -1,26 +1,32 @@
 //! A `rcv` of several messages: a session that shows each message as it comes.
 
-ghost use Rattle.std.specs.Prelude.{◌≡◌, ◌+◌, ◌<◌, ◌≤◌, [], length, slice_get, is_err, IfOk, IfSome, OnOk, OnErr};
+ghost use Rattle.std.specs.Prelude.{◌≡◌, ◌<◌, ◌≤◌, ℕ, List, Option, [], length, is_err, Err, IfOk, OnOk, OnErr};
 ghost use Rattle.std.specs.Io.KnownBytes.{Appends};
-ghost use Rattle.sysv_clients.specs.Stream.{TakesAll, calling_asks, is_of_screen, message_asks, received_text, receiving_asks, stop_line};
+ghost use Rattle.sysv_clients.specs.declared.stream.Receiving.{Receiving as AReceiving};
+ghost use Rattle.sysv_clients.specs.Stream.{TakesAll, ahead_of, count_of, is_of_screen, received_text, repeated_spelling, stop_line};
+ghost use Rattle.sysv_clients.specs.Style.{style_of_receipt};
+ghost use Rattle.sysv_clients.specs.Taking.{Finds, RequestsMore, Stops, TakesOne, first_fault, is_unshown};
 ghost use Rattle.sysv_model.specs.Watched.{KeepsStream, stream_name, stream_of};
 ghost use Rattle.sysv_model.specs.Writing.{AppendsPrefix};
 ghost use Rattle.sysv_model.specs.declared.limits.TheConstants.{MESSAGE_BYTES};
 
 use crate::client::found;
 use crate::command::Receipt;
-use crate::exchange::exchange;
+use crate::exchange::{exchange, hear, put};
 use crate::fault::ClientFault;
 use crate::page::Page;
 use crate::screen::print_watched;
 use crate::style::Style;
 use std::alloc::Global;
 use std::io::{Read, Write};
-use sysv_model::{Body, Cred, NoMemory, Watched, WriteFault};
+use sysv_model::{Body, Cred, Errno, NoMemory, Watched, WriteFault};
 use sysv_wire::{Ask, ReplyContent};
 
 /// The maximum number of messages that one session receives.
 pub const MAX_MESSAGES: u64 = 1 << 62;
+
+/// The maximum number of receives that are on their way: written, and without a reply.
+pub const MAX_AHEAD: u32 = 64;
 
 /// A `rcv` of several messages, with the credentials for it.
 #[derive(Clone, Copy, PartialEq, Eq, Debug)]
@@ -31,43 +37,27 @@ pub struct Receiving {
     pub receipt: Receipt,
     /// The number of messages to receive. No more than `MAX_MESSAGES` are received.
     pub count: u64,
+    /// The maximum number of receives that are on their way, at most `MAX_AHEAD`. It is 1 if this
+    /// is 0, or if a receive does not wait.
+    pub ahead: u32,
 }
 
 impl Receiving {
-    /// Returns the request at `place`, counted from 0, or `None` after the last. `id` is the
-    /// identifier that the `msgget` returned.
-    fn ask(&self, place: u64, id: i32) -> Option<Ask>
-        ensures ask { result ≡ slice_get (receiving_asks self.now id) place }
-        ensures few { IfSome result (λ _. place < MAX_MESSAGES + 2) }
+    /// Returns the number of messages to receive.
+    fn messages(&self) -> u64
+        ensures { result ≡ count_of self.now }
     {
-        match place {
-            0 => Some(Ask::Hello(self.cred)),
-            _ => self.call(place - 1, id),
-        }
+        self.count.min(MAX_MESSAGES)
     }
 
-    /// Returns the request at `place` after the hello, counted from 0, or `None` after the last.
-    fn call(&self, place: u64, id: i32) -> Option<Ask>
-        ensures ask { result ≡ slice_get (calling_asks self.now id) place }
-        ensures few { IfSome result (λ _. place < MAX_MESSAGES + 1) }
+    /// Returns the maximum number of receives that are on their way.
+    fn window(&self) -> u32
+        ensures { result ≡ ahead_of self.now }
     {
-        match place {
-            0 => Some(self.receipt.find()),
-            _ => self.receive(place - 1, id),
-        }
-    }
-
-    /// Returns the request for the message with this number, counted from 0, or `None` after the
-    /// last.
-    fn receive(&self, number: u64, id: i32) -> Option<Ask>
-        ensures ask { result ≡ slice_get (message_asks self.now id) number }
-        ensures few { IfSome result (λ _. number < MAX_MESSAGES) }
-    {
-        let count = self.count.min(MAX_MESSAGES);
-        if number < count {
-            Some(self.receipt.receive(id))
+        if self.receipt.nowait {
+            1
         } else {
-            None
+            self.ahead.min(MAX_AHEAD).max(1)
         }
     }
 }
@@ -116,16 +106,19 @@ impl From<WriteFault> for Stop {
 /// Receives messages over one session, and shows each on `screen` as it comes.
 ///
 /// The client writes a hello, the request that finds the queue, and a request for each message, all
-/// of version 2. Each request is flushed before its reply is read, and each message is written and
-/// flushed before the next one is requested. Only messages are written to the screen.
+/// of version 2. At most `receiving.ahead` receives are written and have no reply, and no more than
+/// there are messages to receive. Requests are flushed before a reply is read, and each message is
+/// written and flushed before the next reply is read. Only messages are written to the screen.
 ///
 /// # Errors
 ///
 /// - `Fault`: a request that the server refuses, that cannot be written or that has no reply ends
-///   the session; the messages before it were shown. Or memory was refused; it is allocated first,
-///   so nothing was written to the server or read.
-/// - `Screen`: the screen failed, and nothing more was requested. It has taken a prefix of the
-///   messages so far.
+///   the session. Nothing more is requested then. The replies to the receives on their way are read,
+///   unless one of them is missing, and their messages are shown. The fault is that of the first
+///   receive without a message. Or memory was refused; it is allocated first, so nothing was written
+///   to the server or read.
+/// - `Screen`: the screen failed, and nothing more was requested or read. It has taken a prefix of
+///   the messages so far.
 pub fn receive_all<R: Read, W: Write, S: Write>(
     alloc: Global,
     receiving: &Receiving,
@@ -174,6 +167,30 @@ pub fn receive_watched<R: Read, W: Write, S: Write>(
     }
 }
 
+/// The receives of a session.
+#[derive(Clone, Copy)]
+struct Taking {
+    /// The request of each receive.
+    ask: Ask,
+    /// The number of messages that were not received yet.
+    owed: u64,
+    /// The number of receives that were written and have no reply yet.
+    waiting: u32,
+}
+
+/// What was read as the reply to a receive.
+#[derive(Clone, Copy)]
+enum Took {
+    /// A message.
+    Message,
+    /// It was refused.
+    Refused(Errno),
+    /// There is no reply.
+    Lost,
+    /// A message, and the screen failed.
+    Unshown,
+}
+
 /// A client that receives several messages.
 #[derive(Drop)]
 struct Taker {
@@ -197,7 +214,7 @@ impl Taker {
         })
     }
 
-    /// Makes all requests, and shows each message.
+    /// Finds the queue, makes all receives, and shows each message.
     fn take_all<R: Read, W: Write, S: Write>(
         &mut self,
         receiving: &Receiving,
@@ -215,15 +232,145 @@ impl Taker {
         ensures same_writer { stream_name writer.new ≡ stream_name writer.old }
     {
         let style = Style::of_receipt(&receiving.receipt);
-        let mut place = 0;
-        let mut id = 0;
-        while let Some(ask) = receiving.ask(place, id) {
-            let answer = exchange(reader, writer, ask, &self.text, &mut self.given)?;
-            self.show(&style, &answer, screen)?;
-            id = found(id, &answer);
-            place += 1;
+        let mut taking = self.find(receiving, reader, writer)?;
+        while taking.owed > 0 {
+            match self.request(receiving, writer, &mut taking) {
+                Ok(()) => {}
+                Err(WriteFault) => {
+                    let why = ClientFault::NoReply;
+                    return Err(self.finish(&style, reader, screen, &taking, why));
+                }
+            }
+            match self.take(&style, taking.ask, reader, screen) {
+                Took::Message => {
+                    taking.owed -= 1;
+                    taking.waiting -= 1;
+                }
+                Took::Refused(error) => {
+                    taking.waiting -= 1;
+                    let why = ClientFault::Refused(error);
+                    return Err(self.finish(&style, reader, screen, &taking, why));
+                }
+                Took::Lost => return Err(Stop::Fault(ClientFault::NoReply)),
+                Took::Unshown => return Err(Stop::Screen),
+            }
         }
         Ok(())
+    }
+
+    /// Makes the requests before the first receive. Returns the receives of the session.
+    fn find<R: Read, W: Write>(
+        &mut self,
+        receiving: &Receiving,
+        reader: &mut Watched<'_, R>,
+        writer: &mut Watched<'_, W>,
+    ) -> Result<Taking, ClientFault>
+        requires { self.old.text ≡ [] }
+        ensures finds { Finds receiving.now result
+            (R.remaining (stream_of reader.old)) (R.remaining (stream_of reader.new))
+            (W.contents (stream_of writer.old)) (W.contents (stream_of writer.new)) }
+        ensures text { self.new.text ≡ self.old.text }
+        ensures same_reader { stream_name reader.new ≡ stream_name reader.old }
+        ensures same_writer { stream_name writer.new ≡ stream_name writer.old }
+    {
+        let hello = Ask::Hello(receiving.cred);
+        let welcome = exchange(reader, writer, hello, &self.text, &mut self.given)?;
+        let find = receiving.receipt.find();
+        let got = exchange(reader, writer, find, &self.text, &mut self.given)?;
+        let id = found(found(0, &welcome), &got);
+        Ok(Taking {
+            ask: receiving.receipt.receive(id),
+            owed: receiving.messages(),
+            waiting: 0,
+        })
+    }
+
+    /// Requests more messages once at most half of a window is on its way: as many as then fit in
+    /// the window and are owed.
+    fn request<W: Write>(
+        &self,
+        receiving: &Receiving,
+        writer: &mut Watched<'_, W>,
+        taking: &mut Taking,
+    ) -> Result<(), WriteFault>
+        requires text { self.now.text ≡ [] }
+        requires owed { 0 < taking.old.owed }
+        requires due { taking.old.waiting ≤ taking.old.owed }
+        requires few { taking.old.waiting ≤ ahead_of receiving.now }
+        ensures requests { RequestsMore taking.old.owed (ahead_of receiving.now) result
+            taking.old.waiting taking.new.waiting taking.old.ask
+            (W.contents (stream_of writer.old)) (W.contents (stream_of writer.new)) }
+        ensures owed { taking.new.owed ≡ taking.old.owed }
+        ensures ask { taking.new.ask ≡ taking.old.ask }
+        ensures same_writer { stream_name writer.new ≡ stream_name writer.old }
+    {
+        let window = receiving.window();
+        let most = taking.owed.min(u64::from(window)) as u32;
+        if taking.waiting > window / 2 || taking.waiting >= most {
+            return Ok(());
+        }
+        request_more(writer, taking.ask, &self.text, most - taking.waiting)?;
+        taking.waiting = most;
+        Ok(())
+    }
+
+    /// Reads the reply to a receive, and shows the message in it.
+    fn take<R: Read, S: Write>(
+        &mut self,
+        style: &Style,
+        ask: Ask,
+        reader: &mut Watched<'_, R>,
+        screen: &mut Watched<'_, S>,
+    ) -> Took
+        ensures takes { TakesOne style.now ask result
+            (R.remaining (stream_of reader.old)) (R.remaining (stream_of reader.new))
+            (S.contents (stream_of screen.old)) (S.contents (stream_of screen.new)) }
+        ensures text { self.new.text ≡ self.old.text }
+        ensures screen { KeepsStream screen.old screen.new (is_unshown result) }
+        ensures same_reader { stream_name reader.new ≡ stream_name reader.old }
+    {
+        match hear(reader, ask, &mut self.given) {
+            Ok(answer) => match self.show(style, &answer, screen) {
+                Ok(()) => Took::Message,
+                Err(WriteFault) => Took::Unshown,
+            },
+            Err(ClientFault::Refused(error)) => Took::Refused(error),
+            Err(ClientFault::NoReply) => Took::Lost,
+            Err(ClientFault::NoMemory) => Took::Lost,
+        }
+    }
+
+    /// Reads the replies to the receives on their way after a fault, and shows their messages.
+    /// Returns why the session ends.
+    fn finish<R: Read, S: Write>(
+        &mut self,
+        style: &Style,
+        reader: &mut Watched<'_, R>,
+        screen: &mut Watched<'_, S>,
+        taking: &Taking,
+        fault: ClientFault,
+    ) -> Stop
+        ensures stops { (receiving : AReceiving) (left taken more shown : Option (List ℕ)) →
+            style.now ≡ style_of_receipt receiving.receipt
+            → Stops receiving fault left (R.remaining (stream_of reader.old)) taken more shown
+            (S.contents (stream_of screen.old)) taking.now.ask taking.now.waiting
+            → TakesAll receiving (Err result) left (R.remaining (stream_of reader.new)) taken
+            more shown (S.contents (stream_of screen.new)) }
+        ensures screen { KeepsStream screen.old screen.new (is_of_screen (Err result)) }
+        ensures same_reader { stream_name reader.new ≡ stream_name reader.old }
+    {
+        let mut why = fault;
+        let mut waiting = taking.waiting;
+        while waiting > 0 {
+            match self.take(style, taking.ask, reader, screen) {
+                Took::Message => {}
+                Took::Refused(error) => why = first_of(why, error),
+                Took::Lost => return Stop::Fault(why),
+                Took::Unshown => return Stop::Screen,
+            }
+            waiting -= 1;
+        }
+        Stop::Fault(why)
     }
 
     /// Shows a message, if the result is one.
@@ -251,5 +398,41 @@ impl Taker {
             }
             _ => Ok(()),
         }
+    }
+}
+
+/// Returns the fault of the first of two receives without a message: of one that met this fault, and
+/// of one that was refused with this error. A receive that the writer did not take is the later one.
+fn first_of(fault: ClientFault, error: Errno) -> ClientFault
+    ensures { result ≡ first_fault fault error }
+{
+    match fault {
+        ClientFault::Refused(first) => ClientFault::Refused(first),
+        _ => ClientFault::Refused(error),
+    }
+}
+
+/// Writes this number of receives, and then flushes them.
+fn request_more<W: Write>(
+    writer: &mut Watched<'_, W>,
+    ask: Ask,
+    text: &Body,
+    count: u32,
+) -> Result<(), WriteFault>
+    requires { text.now ≡ [] }
+    ensures ok { OnOk result (Appends (W.contents (stream_of writer.old))
+        (W.contents (stream_of writer.new)) (repeated_spelling ask count)) }
+    ensures err { OnErr result (AppendsPrefix (W.contents (stream_of writer.old))
+        (W.contents (stream_of writer.new)) (repeated_spelling ask count)) }
+    ensures same_writer { stream_name writer.new ≡ stream_name writer.old }
+{
+    let mut written = 0;
+    while written < count {
+        put(writer, ask, text)?;
+        written += 1;
+    }
+    match writer.flush() {
+        Ok(()) => Ok(()),
+        Err(_) => Err(WriteFault),
     }
 }

@@ -14,7 +14,7 @@ use Rattle.sysv_core.specs.Kept.{blocks_at, blocks_held}
 use Rattle.sysv_core.specs.Seen.{Seen, state_in, IsSeenAs, StandsFor}
 use Rattle.sysv_core.specs.Conserved.{blocks_waiting, blocks_in_call, blocks_in_calls}
 use Rattle.sysv_core.proofs.BlocksConserved.{waiting_at, is_sum}
-use Rattle.sysv_core.proofs.WorldsObey.{leads_blocks}
+use Rattle.sysv_core.proofs.WorldsObey.{leads_opened}
 
 in_slots : (f : ℕ → ℕ) (slots : List Slot) (from : ℕ) →
     ((i : ℕ) (s : Slot) → slice_get slots i ≡ Some s → blocks_of s.messages ≡ f (from + i)) →
@@ -70,4 +70,4 @@ pub all_free : (o : Opening) (list : List Happening) (given : List Given) (seen 
     StandsFor o list given seen → blocks ≡ o.blocks
 all_free o list given seen blocks put s =
     let all = all_there s.world seen s.sight in
-    put (omega (arith, all, s.sight.blocks)) ∙ (all ∙ leads_blocks (opening o) s.world list given s.led)
+    put (omega (arith, all, s.sight.blocks)) ∙ (all ∙ (leads_opened (opening o) s.world list given s.led).1)

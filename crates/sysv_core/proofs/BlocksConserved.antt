@@ -30,9 +30,9 @@ use Rattle.sysv_queue.specs.LegalReply.{Legal, IsLegalHistory}
 use Rattle.sysv_keys.specs.declared.identifier.TheConstants.{SLOTS}
 use Rattle.sysv_keys.specs.Identifier.{slot_of_id}
 use Rattle.sysv_objects.specs.LegalDeed.{IsLegalDeed, AreLegal}
-use Rattle.sysv_steps.specs.Call.{SystemCall, Msgget, Msgsnd, Msgrcv, MsgctlStat, MsgctlSet, MsgctlRmid}
-use Rattle.sysv_steps.specs.State.{Wait, OnSettled, OnFreed, OnReleased, OnArrived, Phase, AtInstall, AtProbe, AtLook}
-use Rattle.sysv_steps.specs.State.{AtPlace, AtTake, AtStat, AtSet, AtRemove, State, Goes, Waits, Over, Refused}
+use Rattle.sysv_steps.specs.Call.{SystemCall, Msgget}
+use Rattle.sysv_steps.specs.State.{Wait, OnSettled, Phase, AtInstall, AtProbe, AtLook, AtPlace, AtTake, AtStat, AtSet}
+use Rattle.sysv_steps.specs.State.{AtRemove, State, Goes, Waits, Over, Refused}
 use Rattle.sysv_steps.specs.Begin.{is_refused, first, begin}
 use Rattle.sysv_steps.specs.Resume.{resume}
 use Rattle.sysv_steps.specs.Asks.{asks}
@@ -374,19 +374,13 @@ stands_conserves size turns actors place was call state there same all = record 
 
 pub resumed_holds : (wait : Wait) (value : ℕ) → held (Goes (resume wait value)) ≡ 0
 resumed_holds (OnSettled goal get) value = refl
-resumed_holds (OnFreed goal send) value = refl
-resumed_holds (OnReleased goal send) value = refl
-resumed_holds (OnArrived goal receive) value = refl
+resumed_holds wait value = refl
 
 begun_by : (cred : Cred) (asked : SystemCall) (released : ℕ) (b : Bool) →
     held (cond b (Over (Refused EINVAL)) (Goes (first cred asked released))) ≡ 0
 begun_by cred asked released true = refl
 begun_by cred (Msgget key flags) released false = refl
-begun_by cred (Msgsnd id mtype flags text) released false = refl
-begun_by cred (Msgrcv id size mtype flags) released false = refl
-begun_by cred (MsgctlStat id) released false = refl
-begun_by cred (MsgctlSet id to) released false = refl
-begun_by cred (MsgctlRmid id) released false = refl
+begun_by cred asked released false = refl
 
 pub begun_holds : (cred : Cred) (asked : SystemCall) (released : ℕ) → held (begin cred asked released) ≡ 0
 begun_holds cred asked released = begun_by cred asked released (is_refused asked)

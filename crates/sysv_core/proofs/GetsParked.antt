@@ -1,16 +1,13 @@
 -- A get that waits below its goal waits for a row of its key that another call still has to settle
 -- or forget.
-use Rattle.std.proofs.Common.{◌≡◌, ◌⊎◌, inl, inr, ℕ, ℤ, ◌+◌, ◌<◌, ◌≤◌, ◌||◌, Bool, true, false, cond, List, [], ◌∷◌}
-use Rattle.std.proofs.Common.{◌++◌, Option, None, Some, refl, sym, ap, subst, ◌∙◌, arith, append_assoc}
+use Rattle.std.proofs.Common.{◌≡◌, inl, inr, ℕ, ℤ, ◌+◌, ◌<◌, ◌≤◌, ◌||◌, Bool, true, false, cond, List, [], ◌∷◌, ◌++◌}
+use Rattle.std.proofs.Common.{refl, sym, ap, subst, ◌∙◌, arith, append_assoc}
 use Rattle.std.specs.List.{list_any}
-use Rattle.std.proofs.lemmas.Bool.Decides.{Decides-int_eq}
 use Rattle.std.proofs.lemmas.Grind.{flat_map-append}
 use Rattle.std.proofs.lemmas.List.{append-nil}
 use Rattle.std.proofs.lemmas.List.Sums.{sum_by-cons, sum_by-append}
-use Rattle.sysv_model.specs.declared.attributes.Attributes.{Attributes}
-use Rattle.sysv_model.specs.History.{Who, Call, Install, Probe, Place, Take, Set, Remove, Reply, Installed, Gone}
-use Rattle.sysv_model.specs.History.{Accepted, Taken, Done, Discarded, Entry, History}
-use Rattle.sysv_model.specs.Live.{live, live_after, HasId, IsLive}
+use Rattle.sysv_model.specs.History.{Who, Probe, Gone, Entry, History}
+use Rattle.sysv_model.specs.Live.{live, HasId, IsLive}
 use Rattle.sysv_model.specs.Registry.{RegistryCall, RegistryReply, RegistryEntry, RegistryHistory, Begin, Settle}
 use Rattle.sysv_model.specs.Registry.{Forget, Found, Busy, Changed, changes_row, settled}
 use Rattle.sysv_model.specs.Turn.{Deed, AtSlot, AtRegistry, Turn, slot_entry, slot_history, registry_history, deeds_of}
@@ -27,10 +24,10 @@ use Rattle.sysv_core.specs.World.{World}
 use Rattle.sysv_core.specs.Parked.{IsBeingChanged}
 use Rattle.sysv_core.specs.Removed.{AreRemovedForGood}
 use Rattle.sysv_core.specs.Tending.{AreTended}
-use Rattle.sysv_core.proofs.Histories.{turn_of}
+use Rattle.sysv_core.proofs.Histories.{turn_of, live_more}
 use Rattle.sysv_core.proofs.TurnInHistory.{Made, made_at, slot_around, registry_around}
-use Rattle.sysv_core.proofs.EachRowIsTended.{any_more, or_left, live_more}
-use Rattle.sysv_core.proofs.InstalledBeforeSettled.{SettledOnceInstalled}
+use Rattle.sysv_core.proofs.Life.{any_more, or_no, or_left, passing, lived}
+use Rattle.sysv_core.proofs.LifeLaws.{SettledOnceInstalled}
 
 -- ---- rows stay while the settled count does
 
@@ -41,10 +38,6 @@ no_forget id c reply e = refl
 no_settle : (id : ℤ) (c : RegistryCall) (reply : RegistryReply) → changes_row reply ≡ false → settles id c reply ≡ false
 no_settle id (Settle at) (Changed true) e = absurd cc
 no_settle id c reply e = refl
-
-or_no : (b : Bool) → (b || false) ≡ b
-or_no true = refl
-or_no false = refl
 
 row_still : (h : RegistryHistory) (e : RegistryEntry) (row : KeyRow) → changes_row e.reply ≡ false → IsRow h row →
     IsRow (h ++ e ∷ []) row
@@ -87,18 +80,6 @@ rows_stay (e ∷ more) h row le is =
 
 -- ---- a queue that does not live, and is not installed again
 
-lived_or_made : (l : Option Attributes) (id : ℤ) (c : Call) (reply : Reply) → HasId (live_after l c reply) id →
-    HasId l id ⊎ (installs id c reply ≡ true)
-lived_or_made l id (Install at key cred mode now) (Installed true) lives = inr ((Decides-int_eq at id).1 lives)
-lived_or_made None id (Place at cred mtype bytes now) (Accepted number) lives = absurd lives
-lived_or_made (Some a) id (Place at cred mtype bytes now) (Accepted number) lives = inl lives
-lived_or_made None id (Take at cred selector size noerror now) (Taken m) lives = absurd lives
-lived_or_made (Some a) id (Take at cred selector size noerror now) (Taken m) lives = inl lives
-lived_or_made None id (Set at cred to now) Done lives = absurd lives
-lived_or_made (Some a) id (Set at cred to now) Done lives = inl lives
-lived_or_made l id (Remove at cred) (Discarded messages) lives = absurd lives
-lived_or_made l id c reply lives = inl lives
-
 dead_still : (since h : History) (id : ℤ) →
     ((middle rest : History) (f : Entry) → since ≡ middle ++ f ∷ rest → installs id f.call f.reply ≡ false) →
     ¬ IsLive h id → ¬ IsLive (h ++ since) id
@@ -106,55 +87,29 @@ dead_still [] h id none dead = subst (λ (k : History). ¬ IsLive k id) (sym (ap
 dead_still (e ∷ since) h id none dead =
     subst (λ (k : History). ¬ IsLive k id) (append_assoc h (e ∷ []) since)
     (dead_still since (h ++ e ∷ []) id (λ middle rest f same. none (e ∷ middle) rest f (ap (λ k. e ∷ k) same))
-    (λ lives. elim (lived_or_made (live h) id e.call e.reply (subst (λ l. HasId l id) (live_more h e) lives)) [
-      | inl lived ↦ dead lived
-      | inr made ↦ let not_made = none [] since e refl in let bad : true ≡ false = sym made ∙ not_made in cc
+    (λ lives. elim (lived (live h) id e.call e.reply (subst (λ l. HasId l id) (live_more h e) lives)).1 [
+      | inr old ↦ dead old
+      | inl made ↦ let not_made = none [] since e refl in let bad : true ≡ false = sym made ∙ not_made in cc
     ]))
-
--- An install in a history.
-record InstallIn (id : ℤ) (h : History) : Type 0 where
-  front : History
-  turn : Entry
-  back : History
-  whole : h ≡ front ++ turn ∷ back
-  makes_it : installs id turn.call turn.reply ≡ true
-
-install_in : (id : ℤ) (h : History) → list_any (λ (x : Entry). installs id x.call x.reply) h ≡ true → InstallIn id h
-install_in id [] e = absurd cc
-install_in id (x ∷ h) e = by_first (installs id x.call x.reply) refl e (install_in id h)
-  where
-    by_first : (b : Bool) → installs id x.call x.reply ≡ b →
-        (b || list_any (λ (y : Entry). installs id y.call y.reply) h) ≡ true →
-        (list_any (λ (y : Entry). installs id y.call y.reply) h ≡ true → InstallIn id h) → InstallIn id (x ∷ h)
-    by_first true is any rest = record { front = []; turn = x; back = h; whole = refl; makes_it = is }
-    by_first false is any rest =
-        let r = rest any in
-        record {
-          front = x ∷ r.front;
-          turn = r.turn;
-          back = r.back;
-          whole = ap (λ k. x ∷ k) r.whole;
-          makes_it = r.makes_it;
-        }
 
 -- A queue that was installed before a turn that found it not live is not live.
 never_lives : (id : ℤ) (h before more after : History) (p : Entry) → IsInstalledOnce id h →
     h ≡ (before ++ more) ++ p ∷ after → list_any (λ (x : Entry). installs id x.call x.reply) before ≡ true →
     ¬ IsLive (before ++ more) id → ¬ IsLive h id
 never_lives id h before more after p once whole was dead =
-    let i = install_in id before was in
+    let i = passing (λ (x : Entry). installs id x.call x.reply) before was in
     subst (λ (k : History). ¬ IsLive k id) (sym whole)
     (dead_still (p ∷ after) (before ++ more) id
     (λ middle rest f same.
-    once i.front (i.back ++ (more ++ middle)) rest i.turn f
+    once i.front (i.back ++ (more ++ middle)) rest i.it f
     (whole
     ∙ (ap (λ k. (before ++ more) ++ k) same
     ∙ (append_assoc before more (middle ++ f ∷ rest)
     ∙ (ap (λ k. k ++ (more ++ (middle ++ f ∷ rest))) i.whole
-    ∙ (append_assoc i.front (i.turn ∷ i.back) (more ++ (middle ++ f ∷ rest))
-    ∙ ap (λ k. i.front ++ i.turn ∷ k)
+    ∙ (append_assoc i.front (i.it ∷ i.back) (more ++ (middle ++ f ∷ rest))
+    ∙ ap (λ k. i.front ++ i.it ∷ k)
     (ap (λ k. i.back ++ k) (sym (append_assoc more middle (f ∷ rest)))
-    ∙ sym (append_assoc i.back (more ++ middle) (f ∷ rest)))))))) i.makes_it)
+    ∙ sym (append_assoc i.back (more ++ middle) (f ∷ rest)))))))) i.passes)
     dead)
 
 -- ---- the two refusals

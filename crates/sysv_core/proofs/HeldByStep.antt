@@ -8,19 +8,17 @@ use Rattle.sysv_model.specs.declared.flags.Flags.{Flags}
 use Rattle.sysv_model.specs.declared.limits.TheConstants.{MESSAGE_BYTES}
 use Rattle.sysv_objects.specs.Objects.{Objects}
 use Rattle.sysv_objects.specs.StandsFor.{MakesTurn}
-use Rattle.sysv_steps.specs.Call.{SystemCall, Msgget, Msgsnd, Msgrcv, MsgctlStat, MsgctlSet, MsgctlRmid}
-use Rattle.sysv_steps.specs.State.{Wait, OnSettled, OnFreed, OnReleased, OnArrived, IsRefused, WaitsOn, Phase, AtBegin}
-use Rattle.sysv_steps.specs.State.{AtInstall, AtSettle, AtProbe, AtUnmake, AtLook, AtReserve, AtPlace, AtSendGiveback}
-use Rattle.sysv_steps.specs.State.{AtTake, AtReceiveGiveback, AtSet, State, Goes, Waits, Over, Refused}
+use Rattle.sysv_steps.specs.Call.{SystemCall, Msgsnd}
+use Rattle.sysv_steps.specs.State.{Wait, OnSettled, OnFreed, OnReleased, IsRefused, WaitsOn, Phase, AtBegin, AtInstall}
+use Rattle.sysv_steps.specs.State.{AtSettle, AtProbe, AtUnmake, AtLook, AtReserve, AtPlace, AtSendGiveback, AtTake}
+use Rattle.sysv_steps.specs.State.{AtReceiveGiveback, AtSet, State, Goes, Waits, Over, Refused}
 use Rattle.sysv_steps.specs.Begin.{is_refused, first, begin}
 use Rattle.sysv_steps.specs.Resume.{resume}
 use Rattle.sysv_steps.specs.Asks.{asks}
 use Rattle.sysv_steps.specs.Seen.{phase_of, state_of}
 use Rattle.sysv_steps.specs.declared.state.State.{State as StateKept}
 use Rattle.sysv_steps.specs.declared.state.Phase.{Phase as PhaseKept}
-use Rattle.sysv_steps.specs.Kinds.{Gets}
-use Rattle.sysv_steps.specs.Kinds.{Sends as IsOfSend}
-use Rattle.sysv_steps.specs.Kinds.{Receives as IsOfReceive}
+use Rattle.sysv_steps.specs.Kinds.{Gets, Sends as IsOfSend, Receives as IsOfReceive}
 use Rattle.sysv_steps.specs.Stepping.{is_stamped, StepsOn}
 use Rattle.sysv_steps.specs.Giving.{StepsGiving}
 use Rattle.sysv_core.specs.declared.doing.Led.{Led}
@@ -34,11 +32,7 @@ pub resumed_held : (wait : Wait) (value : ℕ) (phase : Phase) (body : Option (L
     IsHeldBy (Waits wait) body → IsHeldBy (Goes phase) body
 resumed_held (OnSettled goal get) value phase body e h = subst (λ p. IsHeldBy (Goes p) body) e
     (record { has = h.has; short = h.short; blocks = λ send n f. absurd cc; afterwards = λ n w f. absurd cc })
-resumed_held (OnFreed goal send) value phase body e h = subst (λ p. IsHeldBy (Goes p) body) e
-    (record { has = h.has; short = h.short; blocks = λ send n f. absurd cc; afterwards = λ n w f. absurd cc })
-resumed_held (OnArrived goal receive) value phase body e h = subst (λ p. IsHeldBy (Goes p) body) e
-    (record { has = h.has; short = h.short; blocks = λ send n f. absurd cc; afterwards = λ n w f. absurd cc })
-resumed_held (OnReleased goal send) value phase body e h = subst (λ p. IsHeldBy (Goes p) body) e
+resumed_held wait value phase body e h = subst (λ p. IsHeldBy (Goes p) body) e
     (record { has = h.has; short = h.short; blocks = λ send n f. absurd cc; afterwards = λ n w f. absurd cc })
 
 -- ---- the start
@@ -59,17 +53,9 @@ sent text low = record { has = refl; short = λ e. low }
 
 held_first : (cred : Cred) (asked : SystemCall) (released : ℕ) (body : Option (List ℕ)) →
     IsBrought (kind_of asked) body → IsHeldBy (Goes (first cred asked released)) body
-held_first cred (Msgget key flags) released body h =
-    record { has = h.has; short = λ e. absurd cc; blocks = λ send n e. absurd cc; afterwards = λ n w e. absurd cc }
 held_first cred (Msgsnd id mtype flags text) released body h =
     record { has = h.has; short = λ e. h.short refl; blocks = λ send n e. absurd cc; afterwards = λ n w e. absurd cc }
-held_first cred (Msgrcv id size mtype flags) released body h =
-    record { has = h.has; short = λ e. absurd cc; blocks = λ send n e. absurd cc; afterwards = λ n w e. absurd cc }
-held_first cred (MsgctlStat id) released body h =
-    record { has = h.has; short = λ e. absurd cc; blocks = λ send n e. absurd cc; afterwards = λ n w e. absurd cc }
-held_first cred (MsgctlSet id to) released body h =
-    record { has = h.has; short = λ e. absurd cc; blocks = λ send n e. absurd cc; afterwards = λ n w e. absurd cc }
-held_first cred (MsgctlRmid id) released body h =
+held_first cred asked released body h =
     record { has = h.has; short = λ e. absurd cc; blocks = λ send n e. absurd cc; afterwards = λ n w e. absurd cc }
 
 begun_held : (cred : Cred) (asked : SystemCall) (released : ℕ) (s : State) (body : Option (List ℕ)) (b : Bool) →

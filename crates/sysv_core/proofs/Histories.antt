@@ -1,12 +1,16 @@
 -- The history of each object after one more turn.
-use Rattle.std.proofs.Common.{◌≡◌, ℕ, ◌+◌, Bool, cond, List, [], ◌∷◌, ◌++◌, refl, ap, ◌∙◌, arith}
+use Rattle.std.proofs.Common.{◌≡◌, ℕ, ◌+◌, Bool, true, false, cond, List, [], ◌∷◌, ◌++◌, Option, None, refl, ap, ◌∙◌}
+use Rattle.std.proofs.Common.{arith}
+use Rattle.std.proofs.Math.Dec.{eqb}
 use Rattle.std.proofs.lemmas.Grind.{flat_map-append}
 use Rattle.std.proofs.lemmas.List.{append-nil}
-use Rattle.std.proofs.lemmas.List.Sums.{sum_by-cons, sum_by-append}
-use Rattle.sysv_model.specs.History.{Who}
+use Rattle.std.proofs.lemmas.List.Sums.{fold-append, sum_by-cons, sum_by-append}
+use Rattle.sysv_model.specs.declared.attributes.Attributes.{Attributes}
+use Rattle.sysv_model.specs.History.{Who, Entry, History}
+use Rattle.sysv_model.specs.Live.{live, live_after}
 use Rattle.sysv_model.specs.Pool.{PoolEntry, PoolHistory, frees, released}
-use Rattle.sysv_model.specs.Turn.{Deed, Turn, slot_entry, registry_entry, pool_entry, slot_history, registry_history}
-use Rattle.sysv_model.specs.Turn.{pool_history}
+use Rattle.sysv_model.specs.Turn.{Deed, AtSlot, AtRegistry, AtPool, Turn, slot_entry, registry_entry, pool_entry}
+use Rattle.sysv_model.specs.Turn.{slot_history, registry_history, pool_history}
 use Rattle.sysv_pool.specs.State.{reserved_by, returned_by, reserved, returned}
 use Rattle.sysv_core.specs.World.{preset_who, preset_begin, preset_install, preset_settle, with_preset_turns}
 
@@ -43,7 +47,34 @@ pub slot_stays : (slot : ℕ) (turns : List Turn) (who : Who) (deed : Deed) → 
 slot_stays slot turns who deed none = slot_more slot turns (turn_of who deed)
     ∙ (ap (λ es. slot_history slot turns ++ es) none ∙ append-nil (slot_history slot turns))
 
--- The three turns of a preset.
+-- ---- the live queue of a slot
+
+pub live_more : (h : History) (e : Entry) → live (h ++ e ∷ []) ≡ live_after (live h) e.call e.reply
+live_more h e = fold-append (λ (old : Option Attributes) (x : Entry). live_after old x.call x.reply) None h (e ∷ [])
+
+-- What a deed makes of it.
+abbrev pub live_by : ℕ → Deed → Option Attributes → Option Attributes
+live_by slot (AtSlot at call reply) l = cond (eqb at slot) (live_after l call reply) l
+live_by slot deed l = l
+
+live_entry : (slot : ℕ) (h : History) (who : Who) (deed : Deed) →
+    live (h ++ slot_entry slot who deed) ≡ live_by slot deed (live h)
+live_entry slot h who (AtSlot at call reply) = by_slot (eqb at slot)
+  where
+    by_slot : (b : Bool) → live (h ++ cond b (record { who = who; call = call; reply = reply } ∷ []) [])
+        ≡ cond b (live_after (live h) call reply) (live h)
+    by_slot true = live_more h (record { who = who; call = call; reply = reply })
+    by_slot false = ap live (append-nil h)
+live_entry slot h who (AtRegistry call reply) = ap live (append-nil h)
+live_entry slot h who (AtPool call reply) = ap live (append-nil h)
+
+pub live_turn : (slot : ℕ) (turns : List Turn) (who : Who) (deed : Deed) →
+    live (slot_history slot (turns ++ turn_of who deed ∷ [])) ≡ live_by slot deed (live (slot_history slot turns))
+live_turn slot turns who deed =
+    ap live (slot_more slot turns (turn_of who deed)) ∙ live_entry slot (slot_history slot turns) who deed
+
+-- ---- the three turns of a preset
+
 abbrev pub begun_turns : List Turn → List Turn
 begun_turns turns = turns ++ turn_of preset_who preset_begin ∷ []
 

@@ -4,11 +4,10 @@ use Rattle.std.proofs.Common.{subst, ◌∙◌, arith, length, slice_get, slice_
 use Rattle.std.specs.List.{slice_index_or}
 use Rattle.std.proofs.lemmas.List.{length-map}
 use Rattle.std.proofs.lemmas.Option.{slice_get-map, slice_get_read}
-use Rattle.sysv_objects.specs.Objects.{Objects, CountsUpTo, raises_by}
-use Rattle.sysv_model.specs.History.{Call, Install, Probe, Look, Place, Take, ReadStat, Set, Remove, ReadRow}
+use Rattle.sysv_objects.specs.Objects.{Objects, CountsUpTo, raises_by, raises}
+use Rattle.sysv_model.specs.History.{Call, Install}
 use Rattle.sysv_model.specs.Pool.{Reserve, Release}
 use Rattle.sysv_model.specs.Turn.{Deed, AtSlot, AtRegistry, AtPool}
-use Rattle.sysv_objects.specs.Objects.{raises}
 use Rattle.sysv_steps.specs.State.{State, Goes, Waits, Over}
 use Rattle.sysv_core.specs.declared.doing.Doing.{Doing}
 use Rattle.sysv_core.specs.declared.doing.Led.{Led}
@@ -115,14 +114,7 @@ weaker m n o le up =
 
 raises_one : (call : Call) → raises call ≤ 1
 raises_one (Install id key cred mode now) = omega arith
-raises_one (Probe id cred flags) = omega arith
-raises_one (Look id cred size) = omega arith
-raises_one (Place id cred mtype bytes now) = omega arith
-raises_one (Take id cred selector size noerror now) = omega arith
-raises_one (ReadStat id cred) = omega arith
-raises_one (Set id cred to now) = omega arith
-raises_one (Remove id cred) = omega arith
-raises_one ReadRow = omega arith
+raises_one call = omega arith
 
 raises_at_most : (deed : Deed) → raises_by deed ≤ 1
 raises_at_most (AtSlot slot call reply) = raises_one call

@@ -6,12 +6,12 @@ pub mod BlocksConserved
 pub mod SoundStays
 pub mod PartsOfOneCall
 pub mod TurnInHistory
-pub mod InstalledOnce
+pub mod Told
+pub mod Moves
+pub mod Life
+pub mod LifeGoesOn
+pub mod LifeLaws
 pub mod ToldAfterRemoval
-pub mod EachRowIsTended
-pub mod InstalledBeforeSettled
-pub mod InstallFindsVacant
-pub mod ForgetFindsRow
 pub mod GetsParked
 pub mod WaitsForBlocks
 pub mod SendIsWoken

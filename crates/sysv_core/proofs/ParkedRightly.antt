@@ -8,12 +8,12 @@ use Rattle.sysv_model.specs.declared.flags.Flags.{Flags}
 use Rattle.sysv_model.specs.declared.selector.Selector.{Selector}
 use Rattle.sysv_model.specs.Message.{Message}
 use Rattle.sysv_model.specs.Selector.{selector_for}
-use Rattle.sysv_model.specs.History.{Who, Call, Look, Place, Take, Reply, Full, NoMatch, History, arrived, freed}
+use Rattle.sysv_model.specs.History.{Who, Call, Look, Place, Take, Reply, Full, NoMatch, Entry, History, arrived, freed}
 use Rattle.sysv_model.specs.Live.{live, HasId}
 use Rattle.sysv_model.specs.Waiting.{waiting, waiting_on, held}
 use Rattle.sysv_model.specs.Registry.{settled}
 use Rattle.sysv_model.specs.Pool.{released}
-use Rattle.sysv_model.specs.Turn.{Deed, AtSlot, Turn, slot_history, registry_history, pool_history, deeds_of}
+use Rattle.sysv_model.specs.Turn.{AtSlot, Turn, slot_history, registry_history, pool_history, deeds_of}
 use Rattle.sysv_queue.specs.Fits.{Fits as FitsOn}
 use Rattle.sysv_queue.specs.Named.{IsNamed}
 use Rattle.sysv_queue.specs.LegalReply.{IsLegalReply, IsLegalHistory}
@@ -31,11 +31,11 @@ use Rattle.sysv_core.specs.Parked.{HasNothingToTake, HasNoRoom, HasTooFewBlocks,
 use Rattle.sysv_core.specs.Parked.{AreParkedRightly}
 use Rattle.sysv_core.specs.Removed.{AreRemovedForGood}
 use Rattle.sysv_core.specs.Tending.{AreTended}
-use Rattle.sysv_core.proofs.InstalledBeforeSettled.{SettledOnceInstalled}
+use Rattle.sysv_core.proofs.LifeLaws.{SettledOnceInstalled}
 use Rattle.sysv_core.proofs.WaitsForBlocks.{AreShort}
 use Rattle.sysv_core.proofs.SendIsWoken.{AreToBeWoken}
 use Rattle.sysv_core.proofs.GetsParked.{being_changed}
-use Rattle.sysv_core.proofs.TurnInHistory.{Made, made_at, slot_around}
+use Rattle.sysv_core.proofs.TurnInHistory.{made_at, slot_around}
 
 -- The messages of the live queue.
 held_is : (l : Option Attributes) (h : History) (id : ℤ) → HasId l id → waiting_on l h ≡ waiting id h
@@ -69,83 +69,72 @@ no_room h id cred size count l = record {
 
 -- ---- the refusal is right still
 
-module _ (w : World) (legal : AreLegal w.generation w.blocks w.turns) (who : Who) (slot : ℕ) (call : Call)
-    (reply : Reply) (front later : List Deed) (m : Made who w.turns front (AtSlot slot call reply) later) where
-  -- The history of the slot before that turn, and from that turn on.
-  abbrev earlier : History
-  earlier = slot_history slot m.before
-
-  abbrev since : History
-  since = record { who = m.by; call = call; reply = reply } ∷ slot_history slot m.after
-
-  whole : slot_history slot w.turns ≡ earlier ++ since
-  whole = ap (slot_history slot) m.whole ∙ slot_around slot m.before m.after m.by call reply
-
+-- The history of the slot before the last turn of a call at it, and from that turn on.
+record LastAt (w : World) (slot : ℕ) (call : Call) (reply : Reply) : Type 0 where
+  earlier : History
+  since : History
+  same : slot_history slot w.turns ≡ earlier ++ since
   was_legal : IsLegalReply earlier call reply
-  was_legal =
-      legal.slots slot earlier (record { who = m.by; call = call; reply = reply }) (slot_history slot m.after) whole
-
   all_legal : IsLegalHistory (earlier ++ since)
-  all_legal = subst IsLegalHistory whole (legal.slots slot)
+
+last_at : (w : World) → AreLegal w.generation w.blocks w.turns → (who : Who) (slot : ℕ) (call : Call) (reply : Reply) →
+    IsLastAtSlot (AtSlot slot call reply) (deeds_of who w.turns) → LastAt w slot call reply
+last_at w legal who slot call reply f =
+    let m = made_at who w.turns f.0 (AtSlot slot call reply) f.1 f.2 in
+    let entry : Entry = record { who = m.by; call = call; reply = reply } in
+    let whole = ap (slot_history slot) m.whole ∙ slot_around slot m.before m.after m.by call reply in
+    record {
+      earlier = slot_history slot m.before;
+      since = entry ∷ slot_history slot m.after;
+      same = whole;
+      was_legal = legal.slots slot (slot_history slot m.before) entry (slot_history slot m.after) whole;
+      all_legal = subst IsLegalHistory whole (legal.slots slot);
+    }
 
 receive_parked : (w : World) → AreLegal w.generation w.blocks w.turns → NoMatchStays → CountsNeverFall → (who : Who)
     (r : Receiving) (told : ℕ) → FoundNone r told (deeds_of who w.turns) →
     arrived (slot_history (slot_of_id r.id) w.turns) < told + 1 →
     HasNothingToTake (slot_history (slot_of_id r.id) w.turns) r.id r.cred r.selector
 receive_parked w legal stays counts who r told f below =
-    let slot = slot_of_id r.id in
-    let call = Take r.id r.cred r.selector r.size r.noerror f.0 in
-    let m = made_at who w.turns f.1.0 (AtSlot slot call (NoMatch told)) f.1.1 f.1.2 in
-    let h = earlier w legal who slot call (NoMatch told) f.1.0 f.1.1 m in
-    let more = since w legal who slot call (NoMatch told) f.1.0 f.1.1 m in
-    let same = whole w legal who slot call (NoMatch told) f.1.0 f.1.1 m in
-    let was = was_legal w legal who slot call (NoMatch told) f.1.0 f.1.1 m in
-    let low : arrived (h ++ more) < told + 1 = subst (λ (k : History). arrived k < told + 1) same below in
-    let is : told ≡ arrived h = was.3 in
-    let kept : arrived (h ++ more) ≡ arrived h = omega (arith, low, is, (counts h more).0) in
-    subst (λ (k : History). HasNothingToTake k r.id r.cred r.selector) (sym same)
-    (nothing_to_take (h ++ more) r.id r.cred r.selector r.size r.noerror f.0 told
-    (stays h more r.id r.cred r.selector r.size r.noerror f.0 f.0 told
-    (all_legal w legal who slot call (NoMatch told) f.1.0 f.1.1 m) kept was))
+    let l =
+    last_at w legal who (slot_of_id r.id) (Take r.id r.cred r.selector r.size r.noerror f.0) (NoMatch told) f.1 in
+    let h = l.earlier in
+    let low : arrived (h ++ l.since) < told + 1 = subst (λ (k : History). arrived k < told + 1) l.same below in
+    let is : told ≡ arrived h = l.was_legal.3 in
+    let kept : arrived (h ++ l.since) ≡ arrived h = omega (arith, low, is, (counts h l.since).0) in
+    subst (λ (k : History). HasNothingToTake k r.id r.cred r.selector) (sym l.same)
+    (nothing_to_take (h ++ l.since) r.id r.cred r.selector r.size r.noerror f.0 told
+    (stays h l.since r.id r.cred r.selector r.size r.noerror f.0 f.0 told l.all_legal kept l.was_legal))
 
-module _ (w : World) (legal : AreLegal w.generation w.blocks w.turns) (full : FullStays)
-    (full_for_look : FullStaysForLook) (counts : CountsNeverFall) (who : Who) (s : Sending) (told : ℕ)
-    (below : freed (slot_history (slot_of_id s.id) w.turns) < told + 1) where
-  looker_parked : IsLastAtSlot (AtSlot (slot_of_id s.id) (Look s.id s.cred (length s.text)) (Full told))
+module _ (w : World) (legal : AreLegal w.generation w.blocks w.turns) (counts : CountsNeverFall) (who : Who)
+    (s : Sending) (told : ℕ) (below : freed (slot_history (slot_of_id s.id) w.turns) < told + 1) where
+  sender_parked : (call : Call) (l : LastAt w (slot_of_id s.id) call (Full told)) → told ≡ freed l.earlier →
+      (freed (l.earlier ++ l.since) ≡ freed l.earlier →
+      IsLegalReply (l.earlier ++ l.since) (Look s.id s.cred (length s.text)) (Full told)) →
+      HasNoRoom (slot_history (slot_of_id s.id) w.turns) s.id s.cred (length s.text)
+  sender_parked call l is stays =
+      let low : freed (l.earlier ++ l.since) < told + 1 =
+      subst (λ (k : History). freed k < told + 1) l.same below in
+      subst (λ (k : History). HasNoRoom k s.id s.cred (length s.text)) (sym l.same)
+      (no_room (l.earlier ++ l.since) s.id s.cred (length s.text) told
+      (stays (omega (arith, low, is, (counts l.earlier l.since).1))))
+
+  looker_parked : FullStays → IsLastAtSlot (AtSlot (slot_of_id s.id) (Look s.id s.cred (length s.text)) (Full told))
       (deeds_of who w.turns) → HasNoRoom (slot_history (slot_of_id s.id) w.turns) s.id s.cred (length s.text)
-  looker_parked f =
-      let slot = slot_of_id s.id in
+  looker_parked full f =
       let call = Look s.id s.cred (length s.text) in
-      let m = made_at who w.turns f.0 (AtSlot slot call (Full told)) f.1 f.2 in
-      let h = earlier w legal who slot call (Full told) f.0 f.1 m in
-      let more = since w legal who slot call (Full told) f.0 f.1 m in
-      let same = whole w legal who slot call (Full told) f.0 f.1 m in
-      let was = was_legal w legal who slot call (Full told) f.0 f.1 m in
-      let low : freed (h ++ more) < told + 1 = subst (λ (k : History). freed k < told + 1) same below in
-      let is : told ≡ freed h = was.3 in
-      let kept : freed (h ++ more) ≡ freed h = omega (arith, low, is, (counts h more).1) in
-      subst (λ (k : History). HasNoRoom k s.id s.cred (length s.text)) (sym same)
-      (no_room (h ++ more) s.id s.cred (length s.text) told
-      (full h more s.id s.cred (length s.text) told (all_legal w legal who slot call (Full told) f.0 f.1 m) kept was))
+      let l = last_at w legal who (slot_of_id s.id) call (Full told) f in
+      sender_parked call l l.was_legal.3
+      (λ kept. full l.earlier l.since s.id s.cred (length s.text) told l.all_legal kept l.was_legal)
 
-  placer_parked : (now : ℕ) →
+  placer_parked : FullStaysForLook → (now : ℕ) →
       IsLastAtSlot (AtSlot (slot_of_id s.id) (Place s.id s.cred s.mtype s.text now) (Full told))
       (deeds_of who w.turns) → HasNoRoom (slot_history (slot_of_id s.id) w.turns) s.id s.cred (length s.text)
-  placer_parked now f =
-      let slot = slot_of_id s.id in
+  placer_parked full now f =
       let call = Place s.id s.cred s.mtype s.text now in
-      let m = made_at who w.turns f.0 (AtSlot slot call (Full told)) f.1 f.2 in
-      let h = earlier w legal who slot call (Full told) f.0 f.1 m in
-      let more = since w legal who slot call (Full told) f.0 f.1 m in
-      let same = whole w legal who slot call (Full told) f.0 f.1 m in
-      let was = was_legal w legal who slot call (Full told) f.0 f.1 m in
-      let low : freed (h ++ more) < told + 1 = subst (λ (k : History). freed k < told + 1) same below in
-      let is : told ≡ freed h = was.3 in
-      let kept : freed (h ++ more) ≡ freed h = omega (arith, low, is, (counts h more).1) in
-      subst (λ (k : History). HasNoRoom k s.id s.cred (length s.text)) (sym same)
-      (no_room (h ++ more) s.id s.cred (length s.text) told
-      (full_for_look h more s.id s.cred s.mtype s.text now told (all_legal w legal who slot call (Full told) f.0 f.1 m)
-      kept was))
+      let l = last_at w legal who (slot_of_id s.id) call (Full told) f in
+      sender_parked call l l.was_legal.3
+      (λ kept. full l.earlier l.since s.id s.cred s.mtype s.text now told l.all_legal kept l.was_legal)
 
 -- ---- in the words of what was asked
 
@@ -186,12 +175,12 @@ module _ (w : World) (legal : AreLegal w.generation w.blocks w.turns) (no_match 
       (subst (λ n. arrived (slot_history (slot_of_id r.id) w.turns) < n) is below))
   has_reason (Msgsnd id mtype flags text) (OnFreed goal s) holds short (told, is, inl f) below =
       a_send w.turns call.cred id mtype text s holds
-      (looker_parked w legal full full_for_look counts call.who s told
-      (subst (λ n. freed (slot_history (slot_of_id s.id) w.turns) < n) is below) f)
+      (looker_parked w legal counts call.who s told
+      (subst (λ n. freed (slot_history (slot_of_id s.id) w.turns) < n) is below) full f)
   has_reason (Msgsnd id mtype flags text) (OnFreed goal s) holds short (told, is, inr f) below =
       a_send w.turns call.cred id mtype text s holds
-      (placer_parked w legal full full_for_look counts call.who s told
-      (subst (λ n. freed (slot_history (slot_of_id s.id) w.turns) < n) is below) f.0 f.1)
+      (placer_parked w legal counts call.who s told
+      (subst (λ n. freed (slot_history (slot_of_id s.id) w.turns) < n) is below) full_for_look f.0 f.1)
   has_reason (Msgsnd id mtype flags text) (OnReleased goal s) holds short f below =
       let now = short below in (
         subst (λ (t : List ℕ). HasTooFewBlocks w (length t)) holds.text now.0,
@@ -221,6 +210,4 @@ parked_rightly w legal plays no_match full full_for_look counts refused holds te
     short_of : (x : Wait) → d.state ≡ Waits x → IsShortOf w x
     short_of (OnReleased goal send) is = λ below.
         (short place d goal send p.there is below, woken place d goal send p.there is below)
-    short_of (OnSettled goal get) is = tt
-    short_of (OnFreed goal send) is = tt
-    short_of (OnArrived goal receive) is = tt
+    short_of x is = tt

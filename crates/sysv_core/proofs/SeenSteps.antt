@@ -95,6 +95,15 @@ counts_led b state (led.To doing) n h = refl
 counts_led b state (led.Over ended) n h = refl
 counts_led b state (led.Stays doing) n h = absurd h
 
+-- What is seen after the call of a place was led on.
+abbrev led_on : Seen → ℕ → Led → Objects → Seen
+led_on seen place l objects = record {
+  objects = objects;
+  states = slice_set seen.states place (kept_led l);
+  steps = seen.steps + counted_led l;
+  tally = seen.tally;
+}
+
 -- Some world after the event is what the world of the code is seen as.
 abbrev pub Moves : World → Event → Stepped → Seen → Type 0
 Moves w event result new = (after : World) × Steps w event result after × IsSeenAs after new
@@ -139,65 +148,38 @@ module _ (w : World) (seen : Seen) (s : IsSeenAs w seen) (sound : StaysSound) wh
 
   -- ---- an event that is not possible
 
+  none_starts : (actor : ℕ) (cred : Cred) (call : Call (List ℕ) (List ℕ)) (o : Option (Option Doing)) →
+      seen.steps < WORN → actor_at w.actors actor ≡ o → StartsAt w actor cred (asked_of call) o [] w →
+      Moves w (Start actor cred call) stepped.Nothing seen
+  none_starts actor cred call o h is stays =
+      let young = young_too h in
+      (w, ([], inr (young, subst (λ x. StartsAt w actor cred (asked_of call) x [] w) (sym is) stays), (young, refl)), s)
+
+  none_steps : (actor now : ℕ) (o : Option (Option Doing)) → seen.steps < WORN → actor_at w.actors actor ≡ o →
+      StepsAt w actor now o [] w → Moves w (Step actor now) stepped.Nothing seen
+  none_steps actor now o h is stays =
+      let young = young_too h in
+      (w, ([], inr (young, subst (λ x. StepsAt w actor now x [] w) (sym is) stays), (young, refl)), s)
+
   pub start_absent : (actor : ℕ) (cred : Cred) (call : Call (List ℕ) (List ℕ)) → seen.steps < WORN →
       (actor ≡ 0) ⊎ (length seen.states < actor) → Moves w (Start actor cred call) stepped.Nothing seen
-  start_absent actor cred call h none =
-      let young = young_too h in (
-        w,
-        (
-          [],
-          inr (young, subst (λ o. StartsAt w actor cred (asked_of call) o [] w) (sym (absent actor none)) (refl, refl)),
-          (young, refl),
-        ),
-        s,
-      )
+  start_absent actor cred call h none = none_starts actor cred call None h (absent actor none) (refl, refl)
 
   pub start_busy : (actor place : ℕ) (cred : Cred) (call : Call (List ℕ) (List ℕ)) (p : State) → seen.steps < WORN →
       actor ≡ place + 1 → slice_get seen.states place ≡ Some (Some p) →
       Moves w (Start actor cred call) stepped.Nothing seen
   start_busy actor place cred call p h e there =
-      let young = young_too h in
-      let d = busy_at place p there in (
-        w,
-        (
-          [],
-          inr (
-            young,
-            subst (λ o. StartsAt w actor cred (asked_of call) o [] w) (sym (at actor place e ∙ d.1)) (refl, refl),
-          ),
-          (young, refl),
-        ),
-        s,
-      )
+      let d = busy_at place p there in
+      none_starts actor cred call (Some (Some d.0)) h (at actor place e ∙ d.1) (refl, refl)
 
   pub step_absent : (actor now : ℕ) → seen.steps < WORN → (actor ≡ 0) ⊎ (length seen.states < actor) →
       Moves w (Step actor now) stepped.Nothing seen
-  step_absent actor now h none =
-      let young = young_too h in (
-        w,
-        (
-          [],
-          inr (young, subst (λ o. StepsAt w actor now o [] w) (sym (absent actor none)) (refl, refl)),
-          (young, refl),
-        ),
-        s,
-      )
+  step_absent actor now h none = none_steps actor now None h (absent actor none) (refl, refl)
 
   pub step_idle : (actor place now : ℕ) → seen.steps < WORN → actor ≡ place + 1 →
       slice_get seen.states place ≡ Some None → Moves w (Step actor now) stepped.Nothing seen
   step_idle actor place now h e there =
-      let young = young_too h in (
-        w,
-        (
-          [],
-          inr (
-            young,
-            subst (λ o. StepsAt w actor now o [] w) (sym (at actor place e ∙ idle_at place there)) (refl, refl),
-          ),
-          (young, refl),
-        ),
-        s,
-      )
+      none_steps actor now (Some None) h (at actor place e ∙ idle_at place there) (refl, refl)
 
   -- ---- the start of a call
 
@@ -257,12 +239,7 @@ module _ (w : World) (seen : Seen) (s : IsSeenAs w seen) (sound : StaysSound) wh
       LeadsTo (gives_back (Some (kind_of d.call.asked))) state l →
       let after : World = in_state (record w { turns = turns }) (suc n) d.call state in
       Continues w (suc n) now d.call d.state (given_in d.call state) after →
-      Moves w (Step (suc n) now) (told_by (suc n) l) (record {
-        objects = objects;
-        states = slice_set seen.states place (kept_led l);
-        steps = seen.steps + counted_led l;
-        tally = seen.tally;
-      })
+      Moves w (Step (suc n) now) (told_by (suc n) l) (led_on seen place l objects)
   goes n place now l objects d turns state young same busy own stands size to continues =
       let after : World = in_state (record w { turns = turns }) (suc n) d.call state in
       let made =
@@ -282,12 +259,7 @@ module _ (w : World) (seen : Seen) (s : IsSeenAs w seen) (sound : StaysSound) wh
 
   turn_here : (n place now : ℕ) (p : Phase) (l : Led) (objects : Objects) (d : Doing) → w.steps < WORN → n ≡ place →
       slice_get w.actors n ≡ Some (Some d) → d.state ≡ Goes p → TurnLeads seen.objects p now l objects →
-      Moves w (Step (suc n) now) (told_by (suc n) l) (record {
-        objects = objects;
-        states = slice_set seen.states place (kept_led l);
-        steps = seen.steps + counted_led l;
-        tally = seen.tally;
-      })
+      Moves w (Step (suc n) now) (told_by (suc n) l) (led_on seen place l objects)
   turn_here n place now p l objects d young same busy is turn =
       let own = s.sound.own n d busy in
       let kind : phase_kind p ≡ Some (kind_of d.call.asked) = subst (IsOf (kind_of d.call.asked)) is own.0 in
@@ -307,12 +279,7 @@ module _ (w : World) (seen : Seen) (s : IsSeenAs w seen) (sound : StaysSound) wh
       slice_get w.actors n ≡ Some (Some d) → d.state ≡ Waits wait →
       slice_get seen.states place ≡ Some (Some (Waits wait)) →
       Continues w (suc n) now d.call d.state [] w → Stays (Waits wait) l →
-      Moves w (Step (suc n) now) (told_by (suc n) l) (record {
-        objects = seen.objects;
-        states = slice_set seen.states place (kept_led l);
-        steps = seen.steps + counted_led l;
-        tally = seen.tally;
-      })
+      Moves w (Step (suc n) now) (told_by (suc n) l) (led_on seen place l seen.objects)
   stays_here n place now wait (led.Stays doing) d young busy is there continues stays = (
     w,
     ([], inr (young, subst (λ o. StepsAt w (suc n) now o [] w) (sym busy) continues), (young, refl)),
@@ -332,12 +299,7 @@ module _ (w : World) (seen : Seen) (s : IsSeenAs w seen) (sound : StaysSound) wh
       slice_get w.actors n ≡ Some (Some d) → d.state ≡ Waits wait →
       slice_get seen.states place ≡ Some (Some (Waits wait)) →
       LookLeads seen.objects wait l →
-      Moves w (Step (suc n) now) (told_by (suc n) l) (record {
-        objects = seen.objects;
-        states = slice_set seen.states place (kept_led l);
-        steps = seen.steps + counted_led l;
-        tally = seen.tally;
-      })
+      Moves w (Step (suc n) now) (told_by (suc n) l) (led_on seen place l seen.objects)
   look_here n place now wait l d young same busy is there look = elim (look w.generation w.turns s.objects) [
     | inl reached ↦
         let own = s.sound.own n d busy in
@@ -354,36 +316,21 @@ module _ (w : World) (seen : Seen) (s : IsSeenAs w seen) (sound : StaysSound) wh
 
   step_here : (n place now : ℕ) (state : State) (l : Led) (objects : Objects) → seen.steps < WORN → n ≡ place →
       slice_get seen.states place ≡ Some (Some state) → StepLeads seen.objects state now l objects →
-      Moves w (Step (suc n) now) (told_by (suc n) l) (record {
-        objects = objects;
-        states = slice_set seen.states place (kept_led l);
-        steps = seen.steps + counted_led l;
-        tally = seen.tally;
-      })
+      Moves w (Step (suc n) now) (told_by (suc n) l) (led_on seen place l objects)
   step_here n place now (Goes p) l objects h same there step =
       let found = busy_at place (Goes p) there in
       turn_here n place now p l objects found.0 (young_too h) same (ap (slice_get w.actors) same ∙ found.1) found.2 step
   step_here n place now (Waits wait) l objects h same there step =
       let found = busy_at place (Waits wait) there in
       subst (λ o.
-      Moves w (Step (suc n) now) (told_by (suc n) l) (record {
-        objects = o;
-        states = slice_set seen.states place (kept_led l);
-        steps = seen.steps + counted_led l;
-        tally = seen.tally;
-      })) (sym step.1)
+      Moves w (Step (suc n) now) (told_by (suc n) l) (led_on seen place l o)) (sym step.1)
       (look_here n place now wait l found.0 (young_too h) same (ap (slice_get w.actors) same ∙ found.1) found.2 there
       step.0)
   step_here n place now (Over ending) l objects h same there step = absurd step
 
   pub step_busy : (actor place now : ℕ) (state : State) (l : Led) (objects : Objects) → seen.steps < WORN →
       actor ≡ place + 1 → slice_get seen.states place ≡ Some (Some state) → StepLeads seen.objects state now l objects →
-      Moves w (Step actor now) (told_by actor l) (record {
-        objects = objects;
-        states = slice_set seen.states place (kept_led l);
-        steps = seen.steps + counted_led l;
-        tally = seen.tally;
-      })
+      Moves w (Step actor now) (told_by actor l) (led_on seen place l objects)
   step_busy zero place now state l objects h e there step = absurd (omega arith)
   step_busy (suc n) place now state l objects h e there step =
       step_here n place now state l objects h (omega arith) there step

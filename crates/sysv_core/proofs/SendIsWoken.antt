@@ -1,11 +1,10 @@
 -- The queue of a send that waits for blocks is live and may be written to, or a set or a removal of
 -- it is still before its giveback, which ends the wait because the pool takes back every chain.
-use Rattle.std.proofs.Common.{◌≡◌, ◌≢◌, ◌⊎◌, inl, inr, ℕ, zero, suc, ℤ, pos, ◌+◌, ◌<◌, ◌≤◌, Bool, true, false, cond}
-use Rattle.std.proofs.Common.{List, [], ◌∷◌, ◌++◌, Option, None, Some, refl, sym, ap, subst, ◌∙◌, arith, length}
-use Rattle.std.proofs.Common.{slice_get, slice_set, option_map}
+use Rattle.std.proofs.Common.{◌≡◌, ◌≢◌, ◌⊎◌, inl, inr, ℕ, suc, ℤ, pos, ◌+◌, ◌<◌, ◌≤◌, Bool, true, false, cond, List, []}
+use Rattle.std.proofs.Common.{◌∷◌, ◌++◌, Option, None, Some, refl, sym, ap, subst, ◌∙◌, arith, length, slice_get}
+use Rattle.std.proofs.Common.{slice_set, option_map}
 use Rattle.std.proofs.Math.Dec.{eqb}
 use Rattle.std.proofs.lemmas.Bool.{eqb-true}
-use Rattle.std.proofs.lemmas.List.{append-nil}
 use Rattle.std.proofs.lemmas.List.Elements.{All-contains, Contains-append_right}
 use Rattle.std.specs.List.{Contains}
 use Rattle.sysv_model.specs.declared.attributes.Attributes.{Attributes}
@@ -17,7 +16,7 @@ use Rattle.sysv_model.specs.declared.limits.TheConstants.{IPC_PRIVATE}
 use Rattle.sysv_model.specs.Message.{Message}
 use Rattle.sysv_model.specs.History.{Who, Call, Install, Look, Place, Take, Set, Remove, Reply, Installed, Full, Fits}
 use Rattle.sysv_model.specs.History.{Accepted, Taken, Done, Discarded, History}
-use Rattle.sysv_model.specs.Live.{live_after, HasId}
+use Rattle.sysv_model.specs.Live.{live, live_after, HasId}
 use Rattle.sysv_model.specs.Registry.{Changed}
 use Rattle.sysv_model.specs.Pool.{PoolCall, PoolReply, Released, Foreign, PoolEntry, PoolHistory, released}
 use Rattle.sysv_model.specs.Turn.{OfSlot, Deed, AtSlot, AtRegistry, AtPool, asked_by, Turn, pool_entry, slot_history}
@@ -27,29 +26,28 @@ use Rattle.sysv_queue.specs.Slot.{Slot, slot_of}
 use Rattle.sysv_queue.specs.LegalReply.{Legal, IsLegalReply, IsLegalHistory}
 use Rattle.sysv_keys.specs.Identifier.{slot_of_id}
 use Rattle.sysv_objects.specs.LegalDeed.{IsLegalDeed}
-use Rattle.sysv_steps.specs.Call.{SystemCall, Msgget, Msgsnd, Msgrcv, MsgctlStat, MsgctlSet, MsgctlRmid}
-use Rattle.sysv_steps.specs.State.{Sending, Wait, OnSettled, OnFreed, OnReleased, OnArrived, Phase, AtLook, AtReserve}
-use Rattle.sysv_steps.specs.State.{AtSet, AtSetGiveback, AtRemove, AtForget, AtRemoveGiveback, State, Goes, Waits, Over}
+use Rattle.sysv_steps.specs.Call.{SystemCall, Msgget, MsgctlSet, MsgctlRmid}
+use Rattle.sysv_steps.specs.State.{Sending, Ending, Wait, OnSettled, OnReleased, Phase, AtLook, AtReserve, AtSet}
+use Rattle.sysv_steps.specs.State.{AtSetGiveback, AtRemove, AtForget, AtRemoveGiveback, State, Goes, Waits, Over}
 use Rattle.sysv_steps.specs.State.{Refused}
 use Rattle.sysv_steps.specs.Begin.{is_refused, first}
 use Rattle.sysv_steps.specs.Asks.{asks}
 use Rattle.sysv_steps.specs.Next.{waits_or, goes_on, after_set, after_remove, next}
 use Rattle.sysv_steps.specs.Resume.{resume, awaited}
-use Rattle.sysv_core.specs.World.{World, Opening, Started, Doing, Given, Happening, Preset, Start, Step, opening}
-use Rattle.sysv_core.specs.World.{doing_in, starting, begun, value_of, Continues, StartsAt, StepsAt, preset_who}
-use Rattle.sysv_core.specs.World.{preset_cred, preset_flags, preset_begin, with_preset_turns, Presets, Makes}
-use Rattle.sysv_core.specs.Run.{Leads}
-use Rattle.sysv_core.specs.Sound.{IsSound, StaysSound}
+use Rattle.sysv_steps.specs.HoldsAsked.{Holds}
+use Rattle.sysv_core.specs.World.{World, Opening, Started, Doing, Given, opening, doing_in, starting, begun, value_of}
+use Rattle.sysv_core.specs.World.{preset_who, preset_cred, preset_flags, preset_begin, with_preset_turns}
+use Rattle.sysv_core.specs.Sound.{IsSound}
 use Rattle.sysv_core.specs.Parked.{IsOpenTo, HasToGiveBack, IsToBeWoken}
 use Rattle.sysv_core.proofs.Lists.{get_set_same, get_set_other, same_place}
-use Rattle.sysv_core.proofs.Histories.{turn_of, slot_more, pool_more, slot_stays, pool_stays, begun_turns, preset_slot}
+use Rattle.sysv_core.proofs.Histories.{turn_of, pool_more, slot_stays, pool_stays, live_turn, begun_turns, preset_slot}
 use Rattle.sysv_core.proofs.Histories.{preset_pool, released_more}
 use Rattle.sysv_core.proofs.SoundStays.{moved, other, does, none_busy}
 use Rattle.sysv_core.proofs.TurnInHistory.{slot_around}
-use Rattle.sysv_core.proofs.EachRowIsTended.{live_more}
-use Rattle.sysv_core.proofs.WaitsForBlocks.{IsRight, IsShort, AllRight, Comes, Follows, FollowsIn, followed}
-use Rattle.sysv_core.proofs.WaitsForBlocks.{told_too_few}
-use Rattle.sysv_core.proofs.WaitsForBlocks.{makes_right}
+use Rattle.sysv_core.proofs.Life.{one_id}
+use Rattle.sysv_core.proofs.WaitsForBlocks.{read_by, IsRight, IsShort, AllRight, Comes, Follows, FollowsIn, followed}
+use Rattle.sysv_core.proofs.WaitsForBlocks.{told_too_few, move_right}
+use Rattle.sysv_core.proofs.Moves.{Move, stood, began, turned, awoke, preset_made}
 
 some_is : {X : Type 0} {x y : X} → Some x ≡ Some y → y ≡ x
 some_is e = cc
@@ -61,10 +59,6 @@ keeps : (id : ℤ) (cred : Cred) (f : Attributes → Attributes) → ((a : Attri
     HasId l id → MayWrite cred l → HasId (option_map f l) id × MayWrite cred (option_map f l)
 keeps id cred f same still None lives may = absurd lives
 keeps id cred f same still (Some a) lives may = (same a ∙ lives, still a may)
-
-one_id : (o : Option Attributes) (x y : ℤ) → HasId o x → HasId o y → x ≡ y
-one_id None x y p q = absurd p
-one_id (Some a) x y p q = sym p ∙ q
 
 -- The turn set the queue or removed it.
 abbrev IsSetBy : ℤ → Call → Reply → Type 0
@@ -94,45 +88,48 @@ open_on s id by (Remove at cred) (Discarded messages) l lives may =
     inr (inr (at, cred, messages, refl, refl, one_id s.live at id l.0 lives))
 open_on s id by call reply l lives may = inl (lives, may)
 
+open_then : (turns : List Turn) (slot : ℕ) (c : Call) (reply : Reply) (id : ℤ) (by : Cred) (b : Bool) →
+    (b ≡ true → slot ≡ slot_of_id id) → Legal (slot_of (slot_history slot turns)) c reply →
+    IsOpenTo (slot_history (slot_of_id id) turns) id by →
+    Open (cond b (live_after (live (slot_history (slot_of_id id) turns)) c reply)
+    (live (slot_history (slot_of_id id) turns))) id by ⊎ Changes id c reply
+open_then turns slot c reply id by true here legal o =
+    open_on (slot_of (slot_history (slot_of_id id) turns)) id by c reply
+    (subst (λ n. Legal (slot_of (slot_history n turns)) c reply) (here refl) legal) o.lives o.may_write
+open_then turns slot c reply id by false here legal o = inl (o.lives, o.may_write)
+
 open_past : (turns : List Turn) (who : Who) (slot : ℕ) (c : Call) (reply : Reply) (id : ℤ) (by : Cred) →
     Legal (slot_of (slot_history slot turns)) c reply → IsOpenTo (slot_history (slot_of_id id) turns) id by →
     IsOpenTo (slot_history (slot_of_id id) (turns ++ turn_of who (AtSlot slot c reply) ∷ [])) id by ⊎ Changes id c reply
-open_past turns who slot c reply id by legal open_ =
-    elim (by_slot (eqb slot (slot_of_id id)) (λ e. eqb-true slot (slot_of_id id) e)) [
-      | inl on ↦ inl (subst (λ (h : History). IsOpenTo h id by)
-          (sym (slot_more (slot_of_id id) turns (turn_of who (AtSlot slot c reply)))) on)
+open_past turns who slot c reply id by legal o =
+    let is = live_turn (slot_of_id id) turns who (AtSlot slot c reply) in
+    elim (open_then turns slot c reply id by (eqb slot (slot_of_id id)) (λ e. eqb-true slot (slot_of_id id) e) legal
+    o) [
+      | inl on ↦ inl record {
+        lives = subst (λ l. HasId l id) (sym is) on.0;
+        may_write = subst (λ l. MayWrite by l) (sym is) on.1;
+      }
       | inr gone ↦ inr gone
     ]
-  where
-    by_slot : (b : Bool) → (b ≡ true → slot ≡ slot_of_id id) →
-        IsOpenTo (slot_history (slot_of_id id) turns ++ cond b (record { who = who; call = c; reply = reply } ∷ []) [])
-        id by ⊎ Changes id c reply
-    by_slot true here =
-        elim (open_on (slot_of (slot_history (slot_of_id id) turns)) id by c reply
-        (subst (λ n. Legal (slot_of (slot_history n turns)) c reply) (here refl) legal) open_.lives open_.may_write) [
-          | inl on ↦
-              let more =
-              live_more (slot_history (slot_of_id id) turns) (record { who = who; call = c; reply = reply }) in
-              inl record {
-                lives = subst (λ l. HasId l id) (sym more) on.0;
-                may_write = subst (λ l. MayWrite by l) (sym more) on.1;
-              }
-          | inr gone ↦ inr gone
-        ]
-    by_slot false here =
-        inl (subst (λ (h : History). IsOpenTo h id by) (sym (append-nil (slot_history (slot_of_id id) turns))) open_)
 
 -- ---- who has still to give back
 
 -- A set and a removal are before a turn of their own, and no other call is.
-abbrev IsAsked : SystemCall → State → Type 0
-IsAsked asked (Goes (AtSet cred id to)) = asked ≡ MsgctlSet id to
-IsAsked asked (Goes (AtRemove cred id)) = asked ≡ MsgctlRmid id
-IsAsked asked state = Unit {0}
+abbrev IsAsked : SystemCall → Phase → Type 0
+IsAsked asked (AtSet cred id to) = asked ≡ MsgctlSet id to
+IsAsked asked (AtRemove cred id) = asked ≡ MsgctlRmid id
+IsAsked asked phase = Unit {0}
+
+is_asked : (cred : Cred) (asked : SystemCall) (phase : Phase) → Holds cred asked (Goes phase) → IsAsked asked phase
+is_asked cred (MsgctlSet id to) (AtSet by at what) h = ap (λ i. MsgctlSet i to) (sym h.1) ∙ ap (MsgctlSet at) (sym h.2)
+is_asked cred (MsgctlRmid id) (AtRemove by at) h = ap MsgctlRmid (sym h.1)
+is_asked cred asked (AtSet by at what) h = absurd h
+is_asked cred asked (AtRemove by at) h = absurd h
+is_asked cred asked phase h = tt
 
 set_goes : (id : ℤ) (asked : SystemCall) (phase : Phase) (now slot : ℕ) (c : Call) (reply : Reply) (state : State) →
     OfSlot slot c ≡ asks phase now → next phase (AtSlot slot c reply) ≡ Some state → IsSetBy id c reply →
-    IsAsked asked (Goes phase) →
+    IsAsked asked phase →
     HasToGiveBack asked state id
 set_goes id asked (AtSet by at to) now slot c reply state a n (x, cred, y, m, ce, re, xe) own =
     let row : after_set Done ≡ Some state = ap after_set (sym re) ∙ n in
@@ -143,7 +140,7 @@ set_goes id asked phase now slot c reply state a n (x, cred, y, m, ce, re, xe) o
 
 removal_goes : (id : ℤ) (asked : SystemCall) (phase : Phase) (now slot : ℕ) (c : Call) (reply : Reply) (state : State) →
     OfSlot slot c ≡ asks phase now → next phase (AtSlot slot c reply) ≡ Some state → IsRemovedBy id c reply →
-    IsAsked asked (Goes phase) →
+    IsAsked asked phase →
     HasToGiveBack asked state id
 removal_goes id asked (AtRemove by at) now slot c reply state a n (x, cred, messages, ce, re, xe) own =
     let row : after_remove at (Discarded messages) ≡ Some state = ap (after_remove at) (sym re) ∙ n in
@@ -176,11 +173,11 @@ giver_goes (MsgctlRmid at) (AtRemoveGiveback blocks) (AtRegistry c reply) state 
 giver_goes asked phase deed state id p n = absurd p
 
 -- Some actor's call still has to release a chain.
-record SomeGive (id : ℤ) (actors : List (Option Doing)) : Type 0 where
-  place : ℕ
-  doing : Doing
-  there : slice_get actors place ≡ Some (Some doing)
-  gives : HasToGiveBack doing.call.asked doing.state id
+pub record SomeGive (id : ℤ) (actors : List (Option Doing)) : Type 0 where
+  pub place : ℕ
+  pub doing : Doing
+  pub there : slice_get actors place ≡ Some (Some doing)
+  pub gives : HasToGiveBack doing.call.asked doing.state id
 
 still_give : (id : ℤ) (actors : List (Option Doing)) (place : ℕ) (was new : Option Doing) →
     slice_get actors place ≡ Some was → SomeGive id actors →
@@ -203,27 +200,22 @@ still_give id actors place was new there s = elim (same_place place s.place) [
 gives_now : (id : ℤ) (actors : List (Option Doing)) (place : ℕ) (was : Option Doing) (call : Started) (state : State) →
     slice_get actors place ≡ Some was → HasToGiveBack call.asked state id →
     SomeGive id (slice_set actors place (doing_in call state))
-gives_now id actors place was call (Goes phase) there p = record {
+gives_now id actors place was call state there p = record {
   place = place;
-  doing = record { call = call; state = Goes phase };
-  there = get_set_same actors place _ was there;
+  doing = record { call = call; state = state };
+  there = get_set_same actors place (doing_in call state) was there ∙ ap (λ x. Some x) (under_way state p);
   gives = p;
 }
-gives_now id actors place was call (Waits wait) there p = record {
-  place = place;
-  doing = record { call = call; state = Waits wait };
-  there = get_set_same actors place _ was there;
-  gives = p;
-}
-gives_now id actors place was call (Over ending) there p = absurd (never call.asked p)
   where
-    never : (asked : SystemCall) → HasToGiveBack asked (Over ending) id → ⊥
-    never (MsgctlSet at to) q = q
-    never (MsgctlRmid at) q = q
-    never (Msgget key flags) q = q
-    never (Msgsnd at mtype flags text) q = q
-    never (Msgrcv at size mtype flags) q = q
-    never (MsgctlStat at) q = q
+    never : (asked : SystemCall) (ending : Ending) → HasToGiveBack asked (Over ending) id → ⊥
+    never (MsgctlSet at to) ending q = q
+    never asked ending q = q
+
+    under_way : (st : State) → HasToGiveBack call.asked st id →
+        doing_in call st ≡ Some record { call = call; state = st }
+    under_way (Goes phase) q = refl
+    under_way (Waits wait) q = refl
+    under_way (Over ending) q = absurd (never call.asked ending q)
 
 -- ---- why a send that reserves may wait
 
@@ -236,6 +228,14 @@ abbrev IsWoken : List Turn → List (Option Doing) → State → Type 0
 IsWoken turns actors (Goes (AtReserve s)) = Woken turns actors s
 IsWoken turns actors (Waits (OnReleased goal s)) = Woken turns actors s
 IsWoken turns actors state = Unit {0}
+
+-- What holds of each send that reserves, or waits for blocks, holds of each call.
+each_woken : (turns more : List Turn) (actors then : List (Option Doing)) (st : State) →
+    ((s : Sending) → read_by st ≡ s.released → Woken turns actors s → Woken more then s) →
+    IsWoken turns actors st → IsWoken more then st
+each_woken turns more actors then (Goes (AtReserve s)) f k = f s refl k
+each_woken turns more actors then (Waits (OnReleased goal s)) f k = f s refl k
+each_woken turns more actors then st f k = tt
 
 -- A turn at the pool that takes back a chain ends each wait.
 after_giving : (turns : List Turn) (who : Who) (deed : Deed) (n : ℕ) → n ≤ released (pool_history turns) →
@@ -273,7 +273,7 @@ module _ (generation blocks : ℕ) (turns : List Turn) (actors : List (Option Do
     (phase : Phase) (there : slice_get actors place ≡ Some (Some record { call = call; state = Goes phase })) (now : ℕ)
     (deed : Deed) (state : State)
     (asked : asked_by deed ≡ asks phase now) (legal : IsLegalDeed generation blocks turns deed)
-    (goes : next phase deed ≡ Some state) (own : IsAsked call.asked (Goes phase))
+    (goes : next phase deed ≡ Some state) (own : IsAsked call.asked phase)
     (back : AtPoolWith Foreign deed → ⊥) where
   abbrev was : Option Doing
   was = Some record { call = call; state = Goes phase }
@@ -327,12 +327,8 @@ module _ (generation blocks : ℕ) (turns : List Turn) (actors : List (Option Do
   -- Another call.
   still_woken : (st : State) → IsRight blocks (pool_history turns) st → IsWoken turns actors st →
       IsWoken later moved_actors st
-  still_woken (Goes (AtReserve s)) r k = woken_on s r.read k
-  still_woken (Waits (OnReleased goal s)) r k = woken_on s r.read k
-  still_woken (Waits (OnSettled goal get)) r k = tt
-  still_woken (Waits (OnFreed goal s)) r k = tt
-  still_woken (Waits (OnArrived goal receive)) r k = tt
-  still_woken st r k = tt
+  still_woken st r k = each_woken turns later actors moved_actors st
+      (λ s is. woken_on s (subst (λ n. n ≤ released (pool_history turns)) is r.read)) k
 
   -- The call itself.
   looked : (s t : Sending) (d : Deed) → d ≡ deed → asked_by d ≡ asks (AtLook s) now →
@@ -365,35 +361,22 @@ module _ (generation blocks : ℕ) (turns : List Turn) (actors : List (Option Do
   own_woken r k (Waits (OnReleased goal t)) is at =
       let r_at = subst (λ p. IsRight blocks (pool_history turns) (Goes p)) at r in
       woken_on t r_at.read (subst (λ p. IsWoken turns actors (Goes p)) at k)
-  own_woken r k (Waits (OnSettled goal get)) is c = tt
-  own_woken r k (Waits (OnFreed goal s)) is c = tt
-  own_woken r k (Waits (OnArrived goal receive)) is c = tt
   own_woken r k st is c = tt
-
-  own_asked : (st : State) → Comes phase st → IsAsked call.asked st
-  own_asked (Goes (AtSet cred id to)) c = absurd c
-  own_asked (Goes (AtRemove cred id)) c = absurd c
-  own_asked st c = tt
 
 -- ---- every actor
 
-record AllWoken (w : World) : Type 0 where
-  right : AllRight w
-  woken : (place : ℕ) (d : Doing) → slice_get w.actors place ≡ Some (Some d) → IsWoken w.turns w.actors d.state
-  asked : (place : ℕ) (d : Doing) → slice_get w.actors place ≡ Some (Some d) → IsAsked d.call.asked d.state
-
-same_woken : (w after : World) → after ≡ w → AllWoken w → AllWoken after
-same_woken w after e k = subst AllWoken (sym e) k
+pub record AllWoken (w : World) : Type 0 where
+  pub right : AllRight w
+  pub woken : (place : ℕ) (d : Doing) → slice_get w.actors place ≡ Some (Some d) → IsWoken w.turns w.actors d.state
 
 turn_woken : (w after : World) (place now : ℕ) (call : Started) (phase : Phase) (deed : Deed) (state : State) →
-    AllWoken w → AllRight after → IsSound after →
+    AllWoken w → AllRight after → IsSound after → IsAsked call.asked phase →
     slice_get w.actors place ≡ Some (Some record { call = call; state = Goes phase }) →
     asked_by deed ≡ asks phase now → IsLegalDeed w.generation w.blocks w.turns deed → next phase deed ≡ Some state →
     after.turns ≡ w.turns ++ turn_of call.who deed ∷ [] →
     after.actors ≡ slice_set w.actors place (doing_in call state) → AllWoken after
-turn_woken w after place now call phase deed state k right sound there asked legal goes turns_are actors_are =
+turn_woken w after place now call phase deed state k right sound own there asked legal goes turns_are actors_are =
     let d : Doing = record { call = call; state = Goes phase } in
-    let own = k.asked place d there in
     let back = never_foreign w after call.who deed sound turns_are in
     let r = k.right place d there in
     let f : Follows w.blocks (pool_history w.turns) phase state =
@@ -414,15 +397,6 @@ turn_woken w after place now call phase deed state k right sound there asked leg
             | other old ↦ still_woken w.generation w.blocks w.turns w.actors place call phase there now deed state asked
                 legal goes own back e.state (k.right at e old) (k.woken at e old)
           ]));
-      asked = λ at e here.
-          elim (does w.actors place (Some d) call state at e there
-          (subst (λ xs. slice_get xs at ≡ Some (Some e)) actors_are here)) [
-            | moved same c s ↦
-                subst (λ (x : Started). IsAsked x.asked e.state) (sym c) (subst (IsAsked call.asked) (sym s)
-                (own_asked w.generation w.blocks w.turns w.actors place call phase there now deed state asked legal goes
-                own back state f.comes))
-            | other old ↦ k.asked at e old
-          ];
     }
 
 -- A call that continues without a turn, or that starts.
@@ -430,7 +404,8 @@ stays_woken : (turns : List Turn) (actors : List (Option Doing)) (place : ℕ) (
     slice_get actors place ≡ Some was →
     ((d : Doing) (id : ℤ) → was ≡ Some d → HasToGiveBack d.call.asked d.state id → ⊥) →
     (st : State) → IsWoken turns actors st → IsWoken turns (slice_set actors place new) st
-stays_woken turns actors place was new there none st k = by_state st k
+stays_woken turns actors place was new there none st k =
+    each_woken turns turns actors (slice_set actors place new) st (λ s is. woken_still s) k
   where
     woken_still : (s : Sending) → Woken turns actors s → Woken turns (slice_set actors place new) s
     woken_still s (inl o) = inl o
@@ -440,20 +415,12 @@ stays_woken turns actors place was new there none st k = by_state st k
     ]
     woken_still s (inr (inr p)) = inr (inr p)
 
-    by_state : (x : State) → IsWoken turns actors x → IsWoken turns (slice_set actors place new) x
-    by_state (Goes (AtReserve s)) q = woken_still s q
-    by_state (Waits (OnReleased goal s)) q = woken_still s q
-    by_state (Waits (OnSettled goal get)) q = tt
-    by_state (Waits (OnFreed goal s)) q = tt
-    by_state (Waits (OnArrived goal receive)) q = tt
-    by_state x q = tt
-
 stand_woken : (w after : World) (place : ℕ) (was : Option Doing) (call : Started) (state : State) → AllWoken w →
     AllRight after → slice_get w.actors place ≡ Some was →
     ((d : Doing) (id : ℤ) → was ≡ Some d → HasToGiveBack d.call.asked d.state id → ⊥) →
-    ((turns : List Turn) (actors : List (Option Doing)) → IsWoken turns actors state) → IsAsked call.asked state →
+    ((turns : List Turn) (actors : List (Option Doing)) → IsWoken turns actors state) →
     after.turns ≡ w.turns → after.actors ≡ slice_set w.actors place (doing_in call state) → AllWoken after
-stand_woken w after place was call state k right there none free own turns_are actors_are = record {
+stand_woken w after place was call state k right there none free turns_are actors_are = record {
   right = right;
   woken = λ at e here.
       subst (λ ts. IsWoken ts after.actors e.state) (sym turns_are)
@@ -464,94 +431,24 @@ stand_woken w after place was call state k right there none free own turns_are a
             (free w.turns (slice_set w.actors place (doing_in call state)))
         | other old ↦ stays_woken w.turns w.actors place was (doing_in call state) there none e.state (k.woken at e old)
       ]));
-  asked = λ at e here.
-      elim (does w.actors place was call state at e there
-      (subst (λ xs. slice_get xs at ≡ Some (Some e)) actors_are here)) [
-        | moved same c s ↦
-            subst (λ (x : Started). IsAsked x.asked e.state) (sym c) (subst (IsAsked call.asked) (sym s) own)
-        | other old ↦ k.asked at e old
-      ];
 }
 
 waits_gives : (asked : SystemCall) (wait : Wait) (id : ℤ) → HasToGiveBack asked (Waits wait) id → ⊥
 waits_gives (MsgctlSet at to) wait id q = q
-waits_gives (MsgctlRmid at) wait id q = q
-waits_gives (Msgget key flags) wait id q = q
-waits_gives (Msgsnd at mtype flags text) wait id q = q
-waits_gives (Msgrcv at size mtype flags) wait id q = q
-waits_gives (MsgctlStat at) wait id q = q
+waits_gives asked wait id q = q
 
 resumed_woken : (wait : Wait) (value : ℕ) (turns : List Turn) (actors : List (Option Doing)) →
     IsWoken turns actors (Goes (resume wait value))
 resumed_woken (OnSettled goal get) value turns actors = tt
-resumed_woken (OnFreed goal s) value turns actors = tt
-resumed_woken (OnReleased goal s) value turns actors = tt
-resumed_woken (OnArrived goal receive) value turns actors = tt
-
-resumed_asked : (asked : SystemCall) (wait : Wait) (value : ℕ) → IsAsked asked (Goes (resume wait value))
-resumed_asked asked (OnSettled goal get) value = tt
-resumed_asked asked (OnFreed goal s) value = tt
-resumed_asked asked (OnReleased goal s) value = tt
-resumed_asked asked (OnArrived goal receive) value = tt
+resumed_woken wait value turns actors = tt
 
 begun_woken : (cred : Cred) (asked : SystemCall) (n : ℕ) (b : Bool) (turns : List Turn) (actors : List (Option Doing)) →
     IsWoken turns actors (cond b (Over (Refused EINVAL)) (Goes (first cred asked n)))
 begun_woken cred asked n true turns actors = tt
 begun_woken cred (Msgget key flags) n false turns actors = tt
-begun_woken cred (Msgsnd id mtype flags text) n false turns actors = tt
-begun_woken cred (Msgrcv id size mtype flags) n false turns actors = tt
-begun_woken cred (MsgctlStat id) n false turns actors = tt
-begun_woken cred (MsgctlSet id to) n false turns actors = tt
-begun_woken cred (MsgctlRmid id) n false turns actors = tt
-
-begun_asked : (cred : Cred) (asked : SystemCall) (n : ℕ) (b : Bool) →
-    IsAsked asked (cond b (Over (Refused EINVAL)) (Goes (first cred asked n)))
-begun_asked cred asked n true = tt
-begun_asked cred (Msgget key flags) n false = tt
-begun_asked cred (Msgsnd id mtype flags text) n false = tt
-begun_asked cred (Msgrcv id size mtype flags) n false = tt
-begun_asked cred (MsgctlStat id) n false = tt
-begun_asked cred (MsgctlSet id to) n false = refl
-begun_asked cred (MsgctlRmid id) n false = refl
+begun_woken cred asked n false turns actors = tt
 
 -- ---- what happens
-
-continues_woken : (w after : World) (given : List Given) (place now : ℕ) (call : Started) (state : State) → AllWoken w →
-    AllRight after → IsSound after → slice_get w.actors place ≡ Some (Some record { call = call; state = state }) →
-    Continues w (suc place) now call state given after → AllWoken after
-continues_woken w after given place now call (Goes phase) k right sound there t =
-    turn_woken w after place now call phase t.0 t.1 k right sound there t.2 t.3 t.4 (ap (λ (x : World). x.turns) t.6)
-    (ap (λ (x : World). x.actors) t.6)
-continues_woken w after given place now call (Waits wait) k right sound there (inl t) =
-    let value = value_of w.turns (awaited wait) in
-    stand_woken w after place (Some record { call = call; state = Waits wait }) call (Goes (resume wait value)) k right
-    there
-    (λ d id is p.
-    let same : d ≡ record { call = call; state = Waits wait } = some_is is in
-    waits_gives call.asked wait id (subst (λ (x : Doing). HasToGiveBack x.call.asked x.state id) same p))
-    (resumed_woken wait value) (resumed_asked call.asked wait value) (ap (λ (x : World). x.turns) t.2)
-    (ap (λ (x : World). x.actors) t.2)
-continues_woken w after given place now call (Waits wait) k right sound there (inr t) = same_woken w after t.1.1 k
-continues_woken w after given place now call (Over ending) k right sound there t = same_woken w after t.1 k
-
-steps_woken : (w after : World) (given : List Given) (place now : ℕ) (o : Option (Option Doing)) → AllWoken w →
-    AllRight after → IsSound after → slice_get w.actors place ≡ o → StepsAt w (suc place) now o given after →
-    AllWoken after
-steps_woken w after given place now None k right sound there t = same_woken w after t.1 k
-steps_woken w after given place now (Some None) k right sound there t = same_woken w after t.1 k
-steps_woken w after given place now (Some (Some d)) k right sound there t =
-    continues_woken w after given place now d.call d.state k right sound there t
-
-starts_woken : (w after : World) (given : List Given) (place : ℕ) (cred : Cred) (asked : SystemCall)
-    (o : Option (Option Doing)) → AllWoken w → AllRight after → slice_get w.actors place ≡ o →
-    StartsAt w (suc place) cred asked o given after → AllWoken after
-starts_woken w after given place cred asked None k right there t = same_woken w after t.1 k
-starts_woken w after given place cred asked (Some (Some d)) k right there t = same_woken w after t.1 k
-starts_woken w after given place cred asked (Some None) k right there t =
-    let call = starting w (suc place) cred asked in
-    stand_woken w after place None call (begun call) k right there (λ d id e. absurd cc)
-    (begun_woken cred asked call.released (is_refused asked)) (begun_asked cred asked call.released (is_refused asked))
-    (ap (λ (x : World). x.turns) t.1) (ap (λ (x : World). x.actors) t.1)
 
 -- The three turns of a preset leave each queue open that was open.
 preset_open : (turns : List Turn) → IsLegalHistory (slot_history 0 (with_preset_turns turns)) → (id : ℤ) (by : Cred) →
@@ -583,57 +480,57 @@ preset_open turns legal id by o =
 preset_still : (turns : List Turn) (actors : List (Option Doing)) →
     IsLegalHistory (slot_history 0 (with_preset_turns turns)) → (st : State) → IsWoken turns actors st →
     IsWoken (with_preset_turns turns) actors st
-preset_still turns actors legal st k = by_state st k
+preset_still turns actors legal st k = each_woken turns (with_preset_turns turns) actors actors st (λ s is. still s) k
   where
     still : (s : Sending) → Woken turns actors s → Woken (with_preset_turns turns) actors s
     still s (inl o) = inl (preset_open turns legal s.id s.cred o)
     still s (inr (inl g)) = inr (inl g)
     still s (inr (inr p)) = inr (inr (subst (λ h. s.released < released h) (sym (preset_pool turns)) p))
 
-    by_state : (x : State) → IsWoken turns actors x → IsWoken (with_preset_turns turns) actors x
-    by_state (Goes (AtReserve s)) q = still s q
-    by_state (Waits (OnReleased goal s)) q = still s q
-    by_state (Waits (OnSettled goal get)) q = tt
-    by_state (Waits (OnFreed goal s)) q = tt
-    by_state (Waits (OnArrived goal receive)) q = tt
-    by_state x q = tt
+-- Each call holds what it was asked.
+abbrev pub AllHold : World → Type 0
+AllHold w = (place : ℕ) (d : Doing) → slice_get w.actors place ≡ Some (Some d) → Holds d.call.cred d.call.asked d.state
 
-preset_woken : (w after : World) (made : Bool) → AllWoken w → AllRight after → IsSound after → Presets w made after →
-    AllWoken after
-preset_woken w after made k right s (inr p) = same_woken w after p.2 k
-preset_woken w after made k right s (inl p) =
-    let turns_are : after.turns ≡ with_preset_turns w.turns = ap (λ (x : World). x.turns) p.2 in
-    let actors_are : after.actors ≡ w.actors = ap (λ (x : World). x.actors) p.2 in
+move_woken : (w after : World) (given : List Given) → AllHold w → AllWoken w → AllRight after → IsSound after →
+    Move w given after → AllWoken after
+move_woken w after given holds k right sound (stood t) = subst AllWoken (sym t.1) k
+move_woken w after given holds k right sound (began place cred asked there t) =
+    let call = starting w (suc place) cred asked in
+    stand_woken w after place None call (begun call) k right there (λ d id e. absurd cc)
+    (begun_woken cred asked call.released (is_refused asked))
+    (ap (λ (x : World). x.turns) t.1) (ap (λ (x : World). x.actors) t.1)
+move_woken w after given holds k right sound (turned place now call phase there t) =
+    turn_woken w after place now call phase t.0 t.1 k right sound
+    (is_asked call.cred call.asked phase (holds place (record { call = call; state = Goes phase }) there)) there t.2 t.3
+    t.4 (ap (λ (x : World). x.turns) t.6)
+    (ap (λ (x : World). x.actors) t.6)
+move_woken w after given holds k right sound (awoke place call wait there reached gave is) =
+    let value = value_of w.turns (awaited wait) in
+    stand_woken w after place (Some record { call = call; state = Waits wait }) call (Goes (resume wait value)) k right
+    there
+    (λ d id is p.
+    let same : d ≡ record { call = call; state = Waits wait } = some_is is in
+    waits_gives call.asked wait id (subst (λ (x : Doing). HasToGiveBack x.call.asked x.state id) same p))
+    (resumed_woken wait value) (ap (λ (x : World). x.turns) is)
+    (ap (λ (x : World). x.actors) is)
+move_woken w after given holds k right sound (preset_made unused gave is) =
     let legal : IsLegalHistory (slot_history 0 (with_preset_turns w.turns)) =
-    subst (λ ts. IsLegalHistory (slot_history 0 ts)) turns_are (s.legal.slots 0) in
-    record {
-      right = right;
-      woken = λ at e here.
-          subst (λ ts. IsWoken ts after.actors e.state) (sym turns_are)
-          (subst (λ xs. IsWoken (with_preset_turns w.turns) xs e.state) (sym actors_are)
-          (preset_still w.turns w.actors legal e.state
-          (k.woken at e (subst (λ xs. slice_get xs at ≡ Some (Some e)) actors_are here))));
-      asked = λ at e here. k.asked at e (subst (λ xs. slice_get xs at ≡ Some (Some e)) actors_are here);
+    subst (λ (v : World). IsLegalHistory (slot_history 0 v.turns)) is (sound.legal.slots 0) in
+    subst AllWoken (sym is) record {
+      right = subst AllRight is right;
+      woken = λ at e here. preset_still w.turns w.actors legal e.state (k.woken at e here);
     }
 
-makes_woken : (w after : World) (x : Happening) (given : List Given) → AllWoken w → AllRight after → IsSound after →
-    Makes w x given after → AllWoken after
-makes_woken w after Preset given k right s m = preset_woken w after m.1.0 k right s m.1.1
-makes_woken w after (Start actor cred asked) given k right s (inl worn) = same_woken w after worn.1.1 k
-makes_woken w after (Start zero cred asked) given k right s (inr young) = same_woken w after young.1.1 k
-makes_woken w after (Start (suc place) cred asked) given k right s (inr young) =
-    starts_woken w after given place cred asked (slice_get w.actors place) k right refl young.1
-makes_woken w after (Step actor now) given k right s (inl worn) = same_woken w after worn.1.1 k
-makes_woken w after (Step zero now) given k right s (inr young) = same_woken w after young.1.1 k
-makes_woken w after (Step (suc place) now) given k right s (inr young) =
-    steps_woken w after given place now (slice_get w.actors place) k right s refl young.1
+pub moves_woken : (w after : World) (given : List Given) → AllHold w → AllWoken w → IsSound after → Move w given after →
+    AllWoken after
+moves_woken w after given holds k sound m =
+    move_woken w after given holds k (move_right w after given k.right m) sound m
 
-leads_woken : StaysSound → (w after : World) (xs : List Happening) (given : List Given) → IsSound w → AllWoken w →
-    Leads w xs given after → AllWoken after
-leads_woken sound w after [] given s k l = same_woken w after l.1 k
-leads_woken sound w after (x ∷ xs) given s k l =
-    let mid = sound w l.0 x l.1 s l.3 in
-    leads_woken sound l.0 after xs l.2 mid (makes_woken w l.0 x l.1 k (makes_right w l.0 x l.1 k.right l.3) mid l.3) l.4
+pub opening_woken : (o : Opening) → AllWoken (opening o)
+opening_woken o = record {
+  right = λ at e here. absurd (none_busy o.actors at e here);
+  woken = λ at e here. absurd (none_busy o.actors at e here);
+}
 
 -- ---- who waits for blocks
 
@@ -649,13 +546,7 @@ to_be_woken w goal send below is (inr (inl g)) =
     inr (record { place = g.place; doing = g.doing; there = g.there; gives = g.gives })
 to_be_woken w goal send below is (inr (inr since)) = absurd (omega (arith, below, is, since))
 
-pub are_to_be_woken : StaysSound → (o : Opening) (w : World) (list : List Happening) (given : List Given) →
-    IsSound (opening o) → Leads (opening o) list given w → AreToBeWoken w
-are_to_be_woken sound o w list given s led = λ place d goal send there waits below.
-    let k = leads_woken sound (opening o) w list given s (record {
-      right = λ at e here. absurd (none_busy o.actors at e here);
-      woken = λ at e here. absurd (none_busy o.actors at e here);
-      asked = λ at e here. absurd (none_busy o.actors at e here);
-    }) led in
+pub are_to_be_woken : (w : World) → AllWoken w → AreToBeWoken w
+are_to_be_woken w k = λ place d goal send there waits below.
     let short = subst (IsShort w.blocks (pool_history w.turns)) waits (k.right place d there).short in
     to_be_woken w goal send below short.0 (subst (IsWoken w.turns w.actors) waits (k.woken place d there))

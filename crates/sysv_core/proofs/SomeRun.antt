@@ -1,32 +1,22 @@
 -- Each event, preset and list leads to some world.
-use Rattle.std.proofs.Common.{◌≡◌, ℕ, zero, suc, ℤ, ◌<◌, ◌≤◌, inl, inr, true, false, List, [], ◌∷◌, ◌++◌, Option, None}
-use Rattle.std.proofs.Common.{Some, refl, sym, subst, length, slice_get}
+use Rattle.std.proofs.Common.{◌≡◌, ℕ, zero, suc, ◌<◌, ◌≤◌, inl, inr, true, false, List, [], ◌∷◌, ◌++◌, Option, None}
+use Rattle.std.proofs.Common.{Some, refl, sym, subst, slice_get}
 use Rattle.sysv_model.specs.declared.cred.Cred.{Cred}
-use Rattle.sysv_model.specs.declared.attributes.SetTo.{SetTo}
 use Rattle.sysv_model.specs.declared.limits.TheConstants.{WORN}
-use Rattle.sysv_model.specs.History.{Call, Install, Probe, Look, Place, Take, ReadStat, Set, Remove, Reply, Installed}
-use Rattle.sysv_model.specs.History.{Gone, Denied, Granted, Full, Fits, Accepted, NoMatch, TooLong, Taken, Told, Done}
-use Rattle.sysv_model.specs.History.{Discarded, Refused}
-use Rattle.sysv_model.specs.Registry.{RegistryCall, Begin, Settle, Forget, RegistryReply, Found, Made, Busy, Unbound}
-use Rattle.sysv_model.specs.Registry.{Changed}
-use Rattle.sysv_model.specs.Pool.{PoolCall, Reserve, Release, PoolReply, Reserved, TooFew, Released, Foreign}
-use Rattle.sysv_model.specs.Turn.{OfSlot, OfRegistry, OfPool, Deed, AtSlot, AtRegistry, AtPool, asked_by, Turn}
-use Rattle.sysv_model.specs.Turn.{slot_history, registry_history, pool_history}
-use Rattle.sysv_pool.specs.LegalReply.{IsLegalReply as IsLegalPoolReply}
-use Rattle.sysv_queue.specs.LegalReply.{IsLegalReply}
-use Rattle.sysv_keys.specs.LegalReply.{IsLegalReply as IsLegalRegistryReply}
+use Rattle.sysv_model.specs.History.{Installed, Gone, Denied, Granted, Full, Fits, Accepted, NoMatch, TooLong, Taken}
+use Rattle.sysv_model.specs.History.{Told, Done, Discarded, Refused}
+use Rattle.sysv_model.specs.Registry.{Found, Made, Busy, Unbound, Changed}
+use Rattle.sysv_model.specs.Pool.{Reserved, TooFew, Released, Foreign}
+use Rattle.sysv_model.specs.Turn.{Deed, AtSlot, AtRegistry, AtPool, asked_by, Turn, registry_history}
 use Rattle.sysv_keys.specs.Unused.{UnusedSlots}
 use Rattle.sysv_objects.specs.LegalDeed.{IsLegalDeed, AreLegal}
 use Rattle.sysv_objects.specs.OneDeed.{SomeDeedIsLegal}
 use Rattle.sysv_steps.specs.Call.{SystemCall}
-use Rattle.sysv_steps.specs.State.{Getting, Sending, Receiving, Phase, AtBegin, AtInstall, AtSettle, AtProbe, AtUnmake}
-use Rattle.sysv_steps.specs.State.{AtLook, AtReserve, AtPlace, AtSendGiveback, AtTake, AtReceiveGiveback, AtStat, AtSet}
-use Rattle.sysv_steps.specs.State.{AtSetGiveback, AtRemove, AtForget, AtRemoveGiveback, Zero, Got, State, Goes, Waits}
-use Rattle.sysv_steps.specs.State.{Over}
+use Rattle.sysv_steps.specs.State.{Phase, AtBegin, AtInstall, AtSettle, AtProbe, AtUnmake, AtLook, AtReserve, AtPlace}
+use Rattle.sysv_steps.specs.State.{AtSendGiveback, AtTake, AtReceiveGiveback, AtStat, AtSet, AtSetGiveback, AtRemove}
+use Rattle.sysv_steps.specs.State.{AtForget, AtRemoveGiveback, State, Goes, Waits, Over}
 use Rattle.sysv_steps.specs.Asks.{asks}
-use Rattle.sysv_steps.specs.Next.{goes_on, after_begin, after_install, after_settle, after_unmake, after_probe}
-use Rattle.sysv_steps.specs.Next.{after_look, after_reserve, after_place, after_giveback, after_take, after_stat}
-use Rattle.sysv_steps.specs.Next.{after_set, after_remove, after_forget, next}
+use Rattle.sysv_steps.specs.Next.{next}
 use Rattle.sysv_steps.specs.Resume.{awaited, goal_of, resume}
 use Rattle.sysv_core.specs.declared.event.Event.{Event}
 use Rattle.sysv_core.specs.declared.event.Event.TheVariants as event
@@ -38,11 +28,12 @@ use Rattle.sysv_core.specs.World.{StartsAt, StepsAt, Presets, Makes}
 use Rattle.sysv_core.specs.Run.{Leads}
 use Rattle.sysv_core.specs.Answered.{outcome_of, text_given, body_with}
 use Rattle.sysv_steps.specs.Asked.{asked_of}
-use Rattle.sysv_core.specs.Kinds.{Kind, kind_of, phase_kind, gives_back}
+use Rattle.sysv_core.specs.Kinds.{kind_of, gives_back}
 use Rattle.sysv_core.specs.Sound.{IsToCaller, IsSound, StaysSound}
 use Rattle.sysv_core.specs.Seen.{Gives, happening_of}
 use Rattle.sysv_core.specs.SomeRun.{SomeStep, SomePreset, SomeRun}
 use Rattle.sysv_lists.proofs.Orders.{at_most}
+use Rattle.sysv_core.proofs.Told.{told, told_is}
 use Rattle.sysv_core.proofs.SoundStays.{opening_sound}
 
 -- ---- a legal reply has a row of the step table
@@ -50,160 +41,59 @@ use Rattle.sysv_core.proofs.SoundStays.{opening_sound}
 abbrev HasNext : Option State → Type 0
 HasNext o = (state : State) × (o ≡ Some state)
 
-begin_row : (g : ℕ) (turns : List Turn) (get : Getting) (reply : RegistryReply) →
-    IsLegalRegistryReply g (registry_history turns) (Begin get.key get.flags) reply → HasNext (after_begin get reply)
-begin_row g turns get (Found id told) l = (_, refl)
-begin_row g turns get (Made id) l = (_, refl)
-begin_row g turns get (Busy told) l = (_, refl)
-begin_row g turns get (Unbound why) l = (_, refl)
-begin_row g turns get (Changed done) l = absurd l
+row_told : (g blocks : ℕ) (turns : List Turn) (phase : Phase) (now : ℕ) (deed : Deed) →
+    IsLegalDeed g blocks turns (told (asks phase now) deed) → HasNext (next phase (told (asks phase now) deed))
+row_told g blocks turns (AtBegin get) now (AtRegistry c (Found id settled)) l = (_, refl)
+row_told g blocks turns (AtBegin get) now (AtRegistry c (Made id)) l = (_, refl)
+row_told g blocks turns (AtBegin get) now (AtRegistry c (Busy settled)) l = (_, refl)
+row_told g blocks turns (AtBegin get) now (AtRegistry c (Unbound why)) l = (_, refl)
+row_told g blocks turns (AtInstall get id) now (AtSlot at c (Installed true)) l = (_, refl)
+row_told g blocks turns (AtInstall get id) now (AtSlot at c (Installed false)) l = (_, refl)
+row_told g blocks turns (AtSettle id) now (AtRegistry c (Changed done)) l = (_, refl)
+row_told g blocks turns (AtProbe get id settled) now (AtSlot at c Gone) l = (_, refl)
+row_told g blocks turns (AtProbe get id settled) now (AtSlot at c Denied) l = (_, refl)
+row_told g blocks turns (AtProbe get id settled) now (AtSlot at c Granted) l = (_, refl)
+row_told g blocks turns (AtUnmake id) now (AtRegistry c (Changed done)) l = (_, refl)
+row_told g blocks turns (AtLook send) now (AtSlot at c Gone) l = (_, refl)
+row_told g blocks turns (AtLook send) now (AtSlot at c Denied) l = (_, refl)
+row_told g blocks turns (AtLook send) now (AtSlot at c (Full freed)) l = (_, refl)
+row_told g blocks turns (AtLook send) now (AtSlot at c Fits) l = (_, refl)
+row_told g blocks turns (AtReserve send) now (AtPool c (Reserved n)) l = (_, refl)
+row_told g blocks turns (AtReserve send) now (AtPool c TooFew) l = (_, refl)
+row_told g blocks turns (AtPlace send held) now (AtSlot at c Gone) l = (_, refl)
+row_told g blocks turns (AtPlace send held) now (AtSlot at c Denied) l = (_, refl)
+row_told g blocks turns (AtPlace send held) now (AtSlot at c (Full freed)) l = (_, refl)
+row_told g blocks turns (AtPlace send held) now (AtSlot at c (Accepted number)) l = (_, refl)
+row_told g blocks turns (AtSendGiveback held afterwards) now (AtPool c Released) l = (_, refl)
+row_told g blocks turns (AtSendGiveback held afterwards) now (AtPool c Foreign) l = (_, refl)
+row_told g blocks turns (AtTake receive) now (AtSlot at c Gone) l = (_, refl)
+row_told g blocks turns (AtTake receive) now (AtSlot at c Denied) l = (_, refl)
+row_told g blocks turns (AtTake receive) now (AtSlot at c (NoMatch arrived)) l = (_, refl)
+row_told g blocks turns (AtTake receive) now (AtSlot at c TooLong) l = (_, refl)
+row_told g blocks turns (AtTake receive) now (AtSlot at c (Taken message)) l = (_, refl)
+row_told g blocks turns (AtReceiveGiveback held mtype text) now (AtPool c Released) l = (_, refl)
+row_told g blocks turns (AtReceiveGiveback held mtype text) now (AtPool c Foreign) l = (_, refl)
+row_told g blocks turns (AtStat cred id) now (AtSlot at c (Told stat)) l = (_, refl)
+row_told g blocks turns (AtStat cred id) now (AtSlot at c (Refused why)) l = (_, refl)
+row_told g blocks turns (AtSet cred id to) now (AtSlot at c Done) l = (_, refl)
+row_told g blocks turns (AtSet cred id to) now (AtSlot at c (Refused why)) l = (_, refl)
+row_told g blocks turns AtSetGiveback now (AtPool c Released) l = (_, refl)
+row_told g blocks turns AtSetGiveback now (AtPool c Foreign) l = (_, refl)
+row_told g blocks turns (AtRemove cred id) now (AtSlot at c (Discarded messages)) l = (_, refl)
+row_told g blocks turns (AtRemove cred id) now (AtSlot at c (Refused why)) l = (_, refl)
+row_told g blocks turns (AtForget id held) now (AtRegistry c (Changed done)) l = (_, refl)
+row_told g blocks turns (AtRemoveGiveback held) now (AtPool c Released) l = (_, refl)
+row_told g blocks turns (AtRemoveGiveback held) now (AtPool c Foreign) l = (_, refl)
+row_told g blocks turns phase now (AtSlot at c reply) l = absurd l
+row_told g blocks turns phase now (AtRegistry c reply) l = absurd l
+row_told g blocks turns phase now (AtPool c reply) l = absurd l
 
-install_row : (slot : ℕ) (turns : List Turn) (made : ℤ) (id key : ℤ) (cred : Cred) (mode now : ℕ) (reply : Reply) →
-    IsLegalReply (slot_history slot turns) (Install id key cred mode now) reply → HasNext (after_install made reply)
-install_row slot turns made id key cred mode now (Installed true) l = (_, refl)
-install_row slot turns made id key cred mode now (Installed false) l = (_, refl)
-install_row slot turns made id key cred mode now reply l = absurd l
-
-settle_row : (g : ℕ) (turns : List Turn) (id : ℤ) (reply : RegistryReply) →
-    IsLegalRegistryReply g (registry_history turns) (Settle id) reply → HasNext (after_settle id reply)
-settle_row g turns id (Changed done) l = (_, refl)
-settle_row g turns id reply l = absurd l
-
-unmake_row : (g : ℕ) (turns : List Turn) (id : ℤ) (reply : RegistryReply) →
-    IsLegalRegistryReply g (registry_history turns) (Forget id) reply → HasNext (after_unmake reply)
-unmake_row g turns id (Changed done) l = (_, refl)
-unmake_row g turns id reply l = absurd l
-
-forget_row : (g : ℕ) (turns : List Turn) (id : ℤ) (blocks : ℕ) (reply : RegistryReply) →
-    IsLegalRegistryReply g (registry_history turns) (Forget id) reply → HasNext (after_forget blocks reply)
-forget_row g turns id blocks (Changed done) l = (_, refl)
-forget_row g turns id blocks reply l = absurd l
-
-probe_row : (slot : ℕ) (turns : List Turn) (get : Getting) (id : ℤ) (settled : ℕ) (reply : Reply) →
-    IsLegalReply (slot_history slot turns) (Probe id get.cred get.flags) reply →
-    HasNext (after_probe get id settled reply)
-probe_row slot turns get id settled Gone l = (_, refl)
-probe_row slot turns get id settled Denied l = (_, refl)
-probe_row slot turns get id settled Granted l = (_, refl)
-probe_row slot turns get id settled reply l = absurd l
-
-look_row : (slot : ℕ) (turns : List Turn) (send : Sending) (size : ℕ) (reply : Reply) →
-    IsLegalReply (slot_history slot turns) (Look send.id send.cred size) reply → HasNext (after_look send reply)
-look_row slot turns send size Gone l = (_, refl)
-look_row slot turns send size Denied l = (_, refl)
-look_row slot turns send size (Full freed) l = (_, refl)
-look_row slot turns send size Fits l = (_, refl)
-look_row slot turns send size reply l = absurd l
-
-place_row : (slot : ℕ) (turns : List Turn) (send : Sending) (blocks now : ℕ) (reply : Reply) →
-    IsLegalReply (slot_history slot turns) (Place send.id send.cred send.mtype send.text now) reply →
-    HasNext (after_place send blocks reply)
-place_row slot turns send blocks now Gone l = (_, refl)
-place_row slot turns send blocks now Denied l = (_, refl)
-place_row slot turns send blocks now (Full freed) l = (_, refl)
-place_row slot turns send blocks now (Accepted number) l = (_, refl)
-place_row slot turns send blocks now reply l = absurd l
-
-take_row : (slot : ℕ) (turns : List Turn) (r : Receiving) (now : ℕ) (reply : Reply) →
-    IsLegalReply (slot_history slot turns) (Take r.id r.cred r.selector r.size r.noerror now) reply →
-    HasNext (after_take r reply)
-take_row slot turns r now Gone l = (_, refl)
-take_row slot turns r now Denied l = (_, refl)
-take_row slot turns r now (NoMatch arrived) l = (_, refl)
-take_row slot turns r now TooLong l = (_, refl)
-take_row slot turns r now (Taken m) l = (_, refl)
-take_row slot turns r now reply l = absurd l
-
-stat_row : (slot : ℕ) (turns : List Turn) (id : ℤ) (cred : Cred) (reply : Reply) →
-    IsLegalReply (slot_history slot turns) (ReadStat id cred) reply → HasNext (after_stat reply)
-stat_row slot turns id cred (Told stat) l = (_, refl)
-stat_row slot turns id cred (Refused why) l = (_, refl)
-stat_row slot turns id cred reply l = absurd l
-
-set_row : (slot : ℕ) (turns : List Turn) (id : ℤ) (cred : Cred) (to : SetTo) (now : ℕ) (reply : Reply) →
-    IsLegalReply (slot_history slot turns) (Set id cred to now) reply → HasNext (after_set reply)
-set_row slot turns id cred to now Done l = (_, refl)
-set_row slot turns id cred to now (Refused why) l = (_, refl)
-set_row slot turns id cred to now reply l = absurd l
-
-remove_row : (slot : ℕ) (turns : List Turn) (id : ℤ) (cred : Cred) (reply : Reply) →
-    IsLegalReply (slot_history slot turns) (Remove id cred) reply → HasNext (after_remove id reply)
-remove_row slot turns id cred (Discarded messages) l = (_, refl)
-remove_row slot turns id cred (Refused why) l = (_, refl)
-remove_row slot turns id cred reply l = absurd l
-
-reserve_row : (blocks : ℕ) (turns : List Turn) (send : Sending) (reply : PoolReply) →
-    IsLegalPoolReply blocks (pool_history turns) (Reserve (length send.text)) reply → HasNext (after_reserve send reply)
-reserve_row blocks turns send (Reserved n) l = (_, refl)
-reserve_row blocks turns send TooFew l = (_, refl)
-reserve_row blocks turns send reply l = absurd l
-
-giveback_row : (blocks : ℕ) (turns : List Turn) (held : ℕ) (follow : State) (reply : PoolReply) →
-    IsLegalPoolReply blocks (pool_history turns) (Release held) reply → HasNext (after_giveback follow reply)
-giveback_row blocks turns held follow Released l = (_, refl)
-giveback_row blocks turns held follow Foreign l = (_, refl)
-giveback_row blocks turns held follow reply l = absurd l
-
-slot_call : {slot at : ℕ} {call other : Call} → OfSlot slot call ≡ OfSlot at other → call ≡ other
-slot_call e = cc
-
-registry_call : {call other : RegistryCall} → OfRegistry call ≡ OfRegistry other → call ≡ other
-registry_call e = cc
-
-pool_call : {call other : PoolCall} → OfPool call ≡ OfPool other → call ≡ other
-pool_call e = cc
-
-of_pool : (blocks : ℕ) (turns : List Turn) (call other : PoolCall) (reply : PoolReply) → call ≡ other →
-    IsLegalPoolReply blocks (pool_history turns) call reply → IsLegalPoolReply blocks (pool_history turns) other reply
-of_pool blocks turns call other reply e l = subst (λ c. IsLegalPoolReply blocks (pool_history turns) c reply) e l
-
-of_slot : (slot : ℕ) (turns : List Turn) (call other : Call) (reply : Reply) → call ≡ other →
-    IsLegalReply (slot_history slot turns) call reply → IsLegalReply (slot_history slot turns) other reply
-of_slot slot turns call other reply e l = subst (λ c. IsLegalReply (slot_history slot turns) c reply) e l
-
-of_registry : (g : ℕ) (turns : List Turn) (call other : RegistryCall) (reply : RegistryReply) → call ≡ other →
-    IsLegalRegistryReply g (registry_history turns) call reply →
-    IsLegalRegistryReply g (registry_history turns) other reply
-of_registry g turns call other reply e l = subst (λ c. IsLegalRegistryReply g (registry_history turns) c reply) e l
-
-row : (g blocks : ℕ) (turns : List Turn) (kind : Kind) (phase : Phase) (now : ℕ) (deed : Deed) →
-    phase_kind phase ≡ Some kind → asked_by deed ≡ asks phase now → IsLegalDeed g blocks turns deed →
-    HasNext (next phase deed)
-row g blocks turns kind (AtBegin get) now (AtRegistry call reply) k e l =
-    begin_row g turns get reply (of_registry g turns call _ reply (registry_call e) l)
-row g blocks turns kind (AtInstall get id) now (AtSlot slot call reply) k e l = install_row slot turns id id get.key
-    get.cred get.flags.0 now reply (of_slot slot turns call _ reply (slot_call e) l)
-row g blocks turns kind (AtSettle id) now (AtRegistry call reply) k e l =
-    settle_row g turns id reply (of_registry g turns call _ reply (registry_call e) l)
-row g blocks turns kind (AtProbe get id settled) now (AtSlot slot call reply) k e l =
-    probe_row slot turns get id settled reply (of_slot slot turns call _ reply (slot_call e) l)
-row g blocks turns kind (AtUnmake id) now (AtRegistry call reply) k e l =
-    unmake_row g turns id reply (of_registry g turns call _ reply (registry_call e) l)
-row g blocks turns kind (AtLook send) now (AtSlot slot call reply) k e l =
-    look_row slot turns send _ reply (of_slot slot turns call _ reply (slot_call e) l)
-row g blocks turns kind (AtPlace send held) now (AtSlot slot call reply) k e l =
-    place_row slot turns send held now reply (of_slot slot turns call _ reply (slot_call e) l)
-row g blocks turns kind (AtTake r) now (AtSlot slot call reply) k e l =
-    take_row slot turns r now reply (of_slot slot turns call _ reply (slot_call e) l)
-row g blocks turns kind (AtStat cred id) now (AtSlot slot call reply) k e l =
-    stat_row slot turns id cred reply (of_slot slot turns call _ reply (slot_call e) l)
-row g blocks turns kind (AtSet cred id to) now (AtSlot slot call reply) k e l =
-    set_row slot turns id cred to now reply (of_slot slot turns call _ reply (slot_call e) l)
-row g blocks turns kind (AtRemove cred id) now (AtSlot slot call reply) k e l =
-    remove_row slot turns id cred reply (of_slot slot turns call _ reply (slot_call e) l)
-row g blocks turns kind (AtForget id held) now (AtRegistry call reply) k e l =
-    forget_row g turns id held reply (of_registry g turns call _ reply (registry_call e) l)
-row g blocks turns kind (AtReserve send) now (AtPool call reply) k e l =
-    reserve_row blocks turns send reply (of_pool blocks turns call _ reply (pool_call e) l)
-row g blocks turns kind (AtSendGiveback held afterwards) now (AtPool call reply) k e l =
-    giveback_row blocks turns held (goes_on afterwards) reply (of_pool blocks turns call _ reply (pool_call e) l)
-row g blocks turns kind (AtReceiveGiveback held mtype text) now (AtPool call reply) k e l =
-    giveback_row blocks turns held (Over (Got mtype text)) reply (of_pool blocks turns call _ reply (pool_call e) l)
-row g blocks turns kind AtSetGiveback now (AtPool call reply) k e l =
-    giveback_row blocks turns 0 (Over Zero) reply (of_pool blocks turns call _ reply (pool_call e) l)
-row g blocks turns kind (AtRemoveGiveback held) now (AtPool call reply) k e l =
-    giveback_row blocks turns held (Over Zero) reply (of_pool blocks turns call _ reply (pool_call e) l)
-row g blocks turns kind phase now deed k e l = absurd cc
+row : (g blocks : ℕ) (turns : List Turn) (phase : Phase) (now : ℕ) (deed : Deed) → asked_by deed ≡ asks phase now →
+    IsLegalDeed g blocks turns deed → HasNext (next phase deed)
+row g blocks turns phase now deed asked l =
+    let is = told_is (asks phase now) deed asked in
+    subst (λ d. HasNext (next phase d)) is
+    (row_told g blocks turns phase now deed (subst (IsLegalDeed g blocks turns) (sym is) l))
 
 -- ---- what a happening makes, and that it can be told
 
@@ -254,7 +144,7 @@ module _ (some : SomeDeedIsLegal) (sound : StaysSound) (unused : UnusedSlots) wh
       let d : Doing = record { call = call; state = Goes phase } in
       let own = ok.own place d e in
       let deed = some w.generation w.blocks w.turns (asks phase now) ok.legal in
-      let state = row w.generation w.blocks w.turns (kind_of call.asked) phase now deed.0 own.0 deed.1 deed.2 in
+      let state = row w.generation w.blocks w.turns phase now deed.0 deed.1 deed.2 in
       let after : World = in_state (with_turn w call.who deed.0) (suc place) call state.0 in
       record {
         given = given_in call state.0;

@@ -1,20 +1,17 @@
 -- Each happening in a sound world leaves a sound world.
-use Rattle.std.proofs.Common.{◌≡◌, ◌⊎◌, inl, inr, ℕ, zero, suc, ℤ, pos, ◌||◌, ◌&&◌, Bool, true, false, cond, ◌+◌, List}
-use Rattle.std.proofs.Common.{[], ◌∷◌, ◌++◌, Option, None, Some, refl, sym, ap, subst, ◌∙◌, slice_get, slice_set}
-use Rattle.std.proofs.Common.{replicate}
+use Rattle.std.proofs.Common.{◌≡◌, ◌⊎◌, inl, inr, ℕ, zero, suc, ℤ, pos, ◌&&◌, Bool, true, false, cond, ◌+◌, List, []}
+use Rattle.std.proofs.Common.{◌∷◌, ◌++◌, Option, None, Some, refl, sym, ap, subst, ◌∙◌, slice_get, slice_set, replicate}
 use Rattle.std.proofs.Math.Dec.{eqb}
-use Rattle.std.proofs.lemmas.Bool.Decides.{Decides-int_eq}
 use Rattle.std.proofs.lemmas.Bool.{eqb-true}
 use Rattle.std.specs.Ordering.{int_eq}
 use Rattle.std.proofs.lemmas.List.{append-nil}
 use Rattle.std.proofs.lemmas.List.Folds.{list_any-append}
-use Rattle.std.proofs.lemmas.List.Sums.{fold-append}
 use Rattle.sysv_model.specs.declared.attributes.Attributes.{Attributes}
 use Rattle.sysv_model.specs.declared.cred.Cred.{Cred}
 use Rattle.sysv_model.specs.declared.flags.Flags.{Flags}
 use Rattle.sysv_model.specs.declared.limits.TheConstants.{IPC_PRIVATE}
 use Rattle.sysv_model.specs.History.{Who, Call, Install, Place, Take, Set, Remove, Reply, Accepted, Taken, Done}
-use Rattle.sysv_model.specs.History.{Discarded, Entry}
+use Rattle.sysv_model.specs.History.{Discarded}
 use Rattle.sysv_model.specs.Live.{live, live_after}
 use Rattle.sysv_model.specs.Registry.{RegistryEntry, Begin, Settle, Made, Changed}
 use Rattle.sysv_model.specs.Turn.{OfSlot, Deed, AtSlot, AtRegistry, AtPool, asked_by, Turn, registry_entry}
@@ -25,34 +22,26 @@ use Rattle.sysv_keys.specs.LegalReply.{IsLegalReply as IsLegalRegistryReply}
 use Rattle.sysv_keys.specs.Unused.{UnusedSlots}
 use Rattle.sysv_objects.specs.LegalDeed.{IsLegalDeed, AreLegal}
 use Rattle.sysv_steps.specs.Call.{SystemCall}
-use Rattle.sysv_steps.specs.State.{Getting, Phase, AtBegin, AtInstall, AtSettle, AtProbe, AtUnmake, AtLook, AtReserve}
-use Rattle.sysv_steps.specs.State.{AtPlace, AtSendGiveback, AtTake, AtReceiveGiveback, AtStat, AtSet, AtSetGiveback}
-use Rattle.sysv_steps.specs.State.{AtRemove, AtForget, AtRemoveGiveback, State, Goes, Waits, Over}
+use Rattle.sysv_steps.specs.State.{Getting, Phase, AtBegin, AtInstall, State, Goes, Waits, Over}
 use Rattle.sysv_steps.specs.Asks.{asks}
 use Rattle.sysv_steps.specs.Next.{next}
 use Rattle.sysv_steps.specs.HeldBlocks.{held, HasItsBlocks}
 use Rattle.sysv_steps.specs.Resume.{resume, awaited}
 use Rattle.sysv_core.specs.Kinds.{Kind, kind_of, IsOf}
-use Rattle.sysv_core.specs.World.{World, Opening, Started, Doing, Given, Preset, Start, Step, opening, doing_in}
-use Rattle.sysv_core.specs.World.{starting, begun, value_of, Continues, StartsAt, StepsAt, preset_who, preset_flags}
-use Rattle.sysv_core.specs.World.{preset_begin, preset_install, preset_settle, with_preset_turns, Presets}
+use Rattle.sysv_core.specs.World.{World, Opening, Started, Doing, Given, opening, doing_in, starting, begun, value_of}
+use Rattle.sysv_core.specs.World.{preset_who, preset_flags, preset_begin, preset_install, preset_settle}
+use Rattle.sysv_core.specs.World.{with_preset_turns, with_preset}
 use Rattle.sysv_core.specs.Sound.{IsToCaller, AreOwn, IsMadeIn, IsSound, StaysSound}
 use Rattle.sysv_core.proofs.Lists.{get_set_same, get_set_other, same_place}
-use Rattle.sysv_core.proofs.Histories.{turn_of, slot_more, registry_more}
+use Rattle.sysv_core.proofs.Histories.{turn_of, slot_more, registry_more, live_by, live_turn}
+use Rattle.sysv_core.proofs.Life.{or_left, or_right, same_int}
 use Rattle.sysv_core.proofs.BlocksConserved.{BlockLaws, turn_conserves, stands_conserves, resumed_holds, begun_holds}
 use Rattle.sysv_core.proofs.BlocksConserved.{preset_conserves, opening_conserves}
+use Rattle.sysv_core.proofs.Moves.{Move, stood, began, turned, awoke, preset_made, moves}
 use Rattle.sysv_core.proofs.StepKeepsKind.{IsLater, later_of, later, makes as newly, leads_on, of_next, blocks_later}
 use Rattle.sysv_core.proofs.StepKeepsKind.{blocks_next, gives_blocks, begun_later, resumed_later}
 
 -- ---- what was made stays made
-
-or_left : (a b : Bool) → a ≡ true → (a || b) ≡ true
-or_left true b e = refl
-or_left false b e = absurd cc
-
-or_right : (a b : Bool) → b ≡ true → (a || b) ≡ true
-or_right true b e = refl
-or_right false b e = e
 
 pub made_more : (id key : ℤ) (turns : List Turn) (t : Turn) → is_made id key (registry_history turns) ≡ true →
     is_made id key (registry_history (turns ++ t ∷ [])) ≡ true
@@ -64,9 +53,6 @@ made_more id key turns t e =
 
 pub still_made : (turns : List Turn) (t : Turn) (slot : ℕ) → IsMadeIn turns slot → IsMadeIn (turns ++ t ∷ []) slot
 still_made turns t slot m = record { id = m.id; key = m.key; made = made_more m.id m.key turns t m.made; here = m.here }
-
-same_int : (a : ℤ) → int_eq a a ≡ true
-same_int a = (Decides-int_eq a a).1 refl
 
 -- A begin that makes an identifier.
 pub made_it : (turns : List Turn) (who : Who) (key : ℤ) (flags : Flags) (id : ℤ) →
@@ -104,57 +90,31 @@ pub data Lived (turns : List Turn) (slot : ℕ) (deed : Deed) : Type 0 where
   before : (a : Attributes) → live (slot_history slot turns) ≡ Some a → Lived turns slot deed
   installed : (call : Call) (reply : Reply) → deed ≡ AtSlot slot call reply → IsInstall call → Lived turns slot deed
 
-lived_by : (turns : List Turn) (slot at : ℕ) (call : Call) (reply : Reply) (who : Who) (a : Attributes) (b : Bool) →
-    (b ≡ true → at ≡ slot) →
-    live (slot_history slot turns ++ cond b (record { who = who; call = call; reply = reply } ∷ []) []) ≡ Some a →
-    Lived turns slot (AtSlot at call reply)
-lived_by turns slot at call reply who a true here e =
-    elim (lived_before (live (slot_history slot turns)) call reply a
-    (sym (fold-append (λ (old : Option Attributes) (x : Entry). live_after old x.call x.reply) None
-    (slot_history slot turns) (record { who = who; call = call; reply = reply } ∷ [])) ∙ e)) [
+lived_then : (turns : List Turn) (slot : ℕ) (deed : Deed) (a : Attributes) →
+    live_by slot deed (live (slot_history slot turns)) ≡ Some a → Lived turns slot deed
+lived_then turns slot (AtSlot at call reply) a e = by_slot (eqb at slot) (λ same. eqb-true at slot same) e
+  where
+    by_slot : (b : Bool) → (b ≡ true → at ≡ slot) →
+        cond b (live_after (live (slot_history slot turns)) call reply) (live (slot_history slot turns)) ≡ Some a →
+        Lived turns slot (AtSlot at call reply)
+    by_slot true here is = elim (lived_before (live (slot_history slot turns)) call reply a is) [
       | inl i ↦ installed call reply (ap (λ n. AtSlot n call reply) (here refl)) i
       | inr b ↦ before b.0 b.1
     ]
-lived_by turns slot at call reply who a false here e =
-    before a (ap live (sym (append-nil (slot_history slot turns))) ∙ e)
-
-eqb_same : (a b : ℕ) → eqb a b ≡ true → a ≡ b
-eqb_same a b e = eqb-true a b e
+    by_slot false here is = before a is
+lived_then turns slot (AtRegistry call reply) a e = before a e
+lived_then turns slot (AtPool call reply) a e = before a e
 
 pub lived : (turns : List Turn) (who : Who) (deed : Deed) (slot : ℕ) (a : Attributes) →
     live (slot_history slot (turns ++ turn_of who deed ∷ [])) ≡ Some a → Lived turns slot deed
-lived turns who (AtSlot at call reply) slot a e =
-    lived_by turns slot at call reply who a (eqb at slot) (eqb_same at slot)
-    (ap live (sym (slot_more slot turns (turn_of who (AtSlot at call reply)))) ∙ e)
-lived turns who (AtRegistry call reply) slot a e =
-    before a
-    (ap live (sym (slot_more slot turns (turn_of who (AtRegistry call reply)) ∙ append-nil (slot_history slot turns)))
-    ∙ e)
-lived turns who (AtPool call reply) slot a e =
-    before a
-    (ap live (sym (slot_more slot turns (turn_of who (AtPool call reply)) ∙ append-nil (slot_history slot turns))) ∙ e)
+lived turns who deed slot a e = lived_then turns slot deed a (sym (live_turn slot turns who deed) ∙ e)
 
 -- The step that requests an install.
 installs_there : (phase : Phase) (now slot : ℕ) (id key : ℤ) (cred : Cred) (mode moment : ℕ) →
     OfSlot slot (Install id key cred mode moment) ≡ asks phase now →
     (get : Getting) × (made : ℤ) × (phase ≡ AtInstall get made) × (slot ≡ slot_of_id made)
 installs_there (AtInstall get made) now slot id key cred mode moment e = (get, made, refl, cc)
-installs_there (AtBegin get) now slot id key cred mode moment e = absurd cc
-installs_there (AtSettle made) now slot id key cred mode moment e = absurd cc
-installs_there (AtProbe get made settled) now slot id key cred mode moment e = absurd cc
-installs_there (AtUnmake made) now slot id key cred mode moment e = absurd cc
-installs_there (AtLook send) now slot id key cred mode moment e = absurd cc
-installs_there (AtReserve send) now slot id key cred mode moment e = absurd cc
-installs_there (AtPlace send blocks) now slot id key cred mode moment e = absurd cc
-installs_there (AtSendGiveback blocks afterwards) now slot id key cred mode moment e = absurd cc
-installs_there (AtTake receive) now slot id key cred mode moment e = absurd cc
-installs_there (AtReceiveGiveback blocks mtype text) now slot id key cred mode moment e = absurd cc
-installs_there (AtStat asker at) now slot id key cred mode moment e = absurd cc
-installs_there (AtSet asker at to) now slot id key cred mode moment e = absurd cc
-installs_there AtSetGiveback now slot id key cred mode moment e = absurd cc
-installs_there (AtRemove asker at) now slot id key cred mode moment e = absurd cc
-installs_there (AtForget at blocks) now slot id key cred mode moment e = absurd cc
-installs_there (AtRemoveGiveback blocks) now slot id key cred mode moment e = absurd cc
+installs_there phase now slot id key cred mode moment e = absurd cc
 
 -- ---- the actors
 
@@ -229,9 +189,6 @@ module _
     (more : (generation blocks : ℕ) (turns : List Turn) (who : Who) (deed : Deed) → AreLegal generation blocks turns →
     IsLegalDeed generation blocks turns deed → AreLegal generation blocks (turns ++ turn_of who deed ∷ []))
     (b : BlockLaws) where
-  stays_sound : (w after : World) → after ≡ w → IsSound w → IsSound after
-  stays_sound w after e s = subst IsSound (sym e) s
-
   module _ (w : World) (s : IsSound w) (place : ℕ) (call : Started) where
     -- The world after a turn of the call.
     pub turn_sound : (phase : Phase) (now : ℕ) (deed : Deed) (state : State) →
@@ -318,35 +275,6 @@ module _
             (begun_holds cred asked call.released) s.blocks;
       }
 
-  continues_sound : (w after : World) (given : List Given) (place now : ℕ) (call : Started) (state : State) →
-      IsSound w → slice_get w.actors place ≡ Some (Some record { call = call; state = state }) →
-      Continues w (suc place) now call state given after → IsSound after
-  continues_sound w after given place now call (Goes phase) s there t =
-      stays_sound _ after t.6 (turn_sound w s place call phase now t.0 t.1 there t.2 t.3 t.4)
-  continues_sound w after given place now call (Waits wait) s there (inl t) =
-      let d : Doing = record { call = call; state = Waits wait } in
-      stays_sound _ after t.2
-      (look_sound w s place call d (Goes (resume wait (value_of w.turns (awaited wait)))) refl there
-      (resumed_later (kind_of call.asked) wait (value_of w.turns (awaited wait)) (s.own place d there).0)
-      (resumed_holds wait (value_of w.turns (awaited wait))))
-  continues_sound w after given place now call (Waits wait) s there (inr t) = stays_sound w after t.1.1 s
-  continues_sound w after given place now call (Over ending) s there t = stays_sound w after t.1 s
-
-  steps_sound : (w after : World) (given : List Given) (place now : ℕ) (o : Option (Option Doing)) → IsSound w →
-      slice_get w.actors place ≡ o → StepsAt w (suc place) now o given after → IsSound after
-  steps_sound w after given place now None s there t = stays_sound w after t.1 s
-  steps_sound w after given place now (Some None) s there t = stays_sound w after t.1 s
-  steps_sound w after given place now (Some (Some d)) s there t =
-      continues_sound w after given place now d.call d.state s there t
-
-  starts_sound : (w after : World) (given : List Given) (place : ℕ) (cred : Cred) (asked : SystemCall)
-      (o : Option (Option Doing)) → IsSound w → slice_get w.actors place ≡ o →
-      StartsAt w (suc place) cred asked o given after → IsSound after
-  starts_sound w after given place cred asked None s there t = stays_sound w after t.1 s
-  starts_sound w after given place cred asked (Some (Some d)) s there t = stays_sound w after t.1 s
-  starts_sound w after given place cred asked (Some None) s there t =
-      stays_sound _ after t.1 (start_sound w place cred asked s there)
-
 -- ---- the preset
 
 module _
@@ -388,15 +316,14 @@ module _
     (more : (generation blocks : ℕ) (turns : List Turn) (who : Who) (deed : Deed) → AreLegal generation blocks turns →
     IsLegalDeed generation blocks turns deed → AreLegal generation blocks (turns ++ turn_of who deed ∷ []))
     (b : BlockLaws) (unused : UnusedSlots) where
-  preset_sound : (w after : World) (made : Bool) → IsSound w → Presets w made after → IsSound after
-  preset_sound w after made s (inr p) = stays_sound more b w after p.2 s
-  preset_sound w after made s (inl p) = stays_sound more b _ after p.2 record {
-    legal = preset_legal more unused w.generation w.blocks w.turns s.legal p.0 (vacant_there more unused w s p.0);
+  preset_sound : (w : World) → IsSound w → IsUnused w.generation (registry_history w.turns) 0 → IsSound (with_preset w)
+  preset_sound w s u = record {
+    legal = preset_legal more unused w.generation w.blocks w.turns s.legal u (vacant_there more unused w s u);
     own = s.own;
     installs = λ place d get id here e. past (slot_of_id id) (s.installs place d get id here e);
     lives = λ slot a lives. settle_lives slot a lives;
     blocks = preset_conserves b w.generation w.blocks w.turns w.actors s.legal s.blocks
-        (preset_legal more unused w.generation w.blocks w.turns s.legal p.0 (vacant_there more unused w s p.0));
+        (preset_legal more unused w.generation w.blocks w.turns s.legal u (vacant_there more unused w s u));
   }
     where
       first : List Turn
@@ -432,16 +359,22 @@ module _
           (still_made _ (turn_of preset_who preset_install) slot
           (still_made w.turns (turn_of preset_who preset_begin) slot m))
 
+  move_sound : (w after : World) (given : List Given) → IsSound w → Move w given after → IsSound after
+  move_sound w after given s (stood t) = subst IsSound (sym t.1) s
+  move_sound w after given s (began place cred asked there t) =
+      subst IsSound (sym t.1) (start_sound more b w place cred asked s there)
+  move_sound w after given s (turned place now call phase there t) =
+      subst IsSound (sym t.6) (turn_sound more b w s place call phase now t.0 t.1 there t.2 t.3 t.4)
+  move_sound w after given s (awoke place call wait there reached gave is) =
+      let d : Doing = record { call = call; state = Waits wait } in
+      let value = value_of w.turns (awaited wait) in
+      subst IsSound (sym is)
+      (look_sound more b w s place call d (Goes (resume wait value)) refl there
+      (resumed_later (kind_of call.asked) wait value (s.own place d there).0) (resumed_holds wait value))
+  move_sound w after given s (preset_made u gave is) = subst IsSound (sym is) (preset_sound w s u)
+
   pub makes_sound : StaysSound
-  makes_sound w after Preset given s m = preset_sound w after m.1.0 s m.1.1
-  makes_sound w after (Start actor cred asked) given s (inl worn) = stays_sound more b w after worn.1.1 s
-  makes_sound w after (Start zero cred asked) given s (inr young) = stays_sound more b w after young.1.1 s
-  makes_sound w after (Start (suc place) cred asked) given s (inr young) =
-      starts_sound more b w after given place cred asked (slice_get w.actors place) s refl young.1
-  makes_sound w after (Step actor now) given s (inl worn) = stays_sound more b w after worn.1.1 s
-  makes_sound w after (Step zero now) given s (inr young) = stays_sound more b w after young.1.1 s
-  makes_sound w after (Step (suc place) now) given s (inr young) =
-      steps_sound more b w after given place now (slice_get w.actors place) s refl young.1
+  makes_sound w after x given s m = move_sound w after given s (moves w after x given m)
 
 pub none_busy : (n place : ℕ) (d : Doing) → slice_get (replicate n None) place ≡ Some (Some d) → ⊥
 none_busy zero place d e = cc

@@ -19,7 +19,7 @@ use Rattle.sysv_model.specs.Turn.{OfSlot, Deed, AtSlot, AtRegistry, AtPool, aske
 use Rattle.sysv_model.specs.Turn.{deeds_of}
 use Rattle.sysv_queue.specs.ForGood.{NamesId, not_live_reply}
 use Rattle.sysv_keys.specs.Identifier.{slot_of_id}
-use Rattle.sysv_steps.specs.Call.{SystemCall, Msgget, Msgsnd, Msgrcv, MsgctlStat, MsgctlSet, MsgctlRmid}
+use Rattle.sysv_steps.specs.Call.{SystemCall, Msgsnd, Msgrcv}
 use Rattle.sysv_steps.specs.State.{Ending, Refused, State, Goes, Waits, Over}
 use Rattle.sysv_steps.specs.Played.{Plays}
 use Rattle.sysv_steps.specs.AsksFor.{AsksFor, AllAskFor}
@@ -30,6 +30,7 @@ use Rattle.sysv_core.specs.AnswerLaw.{endings_of, ended, Fate}
 use Rattle.sysv_core.specs.Removed.{AreRemovedForGood}
 use Rattle.sysv_core.specs.LastWords.{IsOfQueue, IsRemoval, IsToldSo}
 use Rattle.sysv_core.proofs.Histories.{turn_of}
+use Rattle.sysv_core.proofs.Life.{Passes, passing, or_left}
 use Rattle.sysv_core.proofs.TurnInHistory.{made_at, slot_around}
 
 -- ---- lists
@@ -43,42 +44,10 @@ contained_at (y ∷ xs) x (suc k, low, is) =
     let r = contained_at xs x (k, omega (arith, low), is) in
     (y ∷ r.0, r.1, ap (λ zs. y ∷ zs) r.2)
 
--- The first deed that passes a test.
-record First (p : Deed → Bool) (deeds : List Deed) : Type 0 where
-  front : List Deed
-  deed : Deed
-  back : List Deed
-  whole : deeds ≡ front ++ deed ∷ back
-  passes : p deed ≡ true
-  none_before : list_any p front ≡ false
-
-first_here : (p : Deed → Bool) (d : Deed) (deeds : List Deed) (b : Bool) → p d ≡ b →
-    (list_any p deeds ≡ true → First p deeds) → (b || list_any p deeds) ≡ true → First p (d ∷ deeds)
-first_here p d deeds true is rest e =
-    record { front = []; deed = d; back = deeds; whole = refl; passes = is; none_before = refl }
-first_here p d deeds false is rest e =
-    let f = rest e in
-    record {
-      front = d ∷ f.front;
-      deed = f.deed;
-      back = f.back;
-      whole = ap (λ ds. d ∷ ds) f.whole;
-      passes = f.passes;
-      none_before = ap (λ b. b || list_any p f.front) is ∙ f.none_before;
-    }
-
-first_of : (p : Deed → Bool) (deeds : List Deed) → list_any p deeds ≡ true → First p deeds
-first_of p [] e = absurd cc
-first_of p (d ∷ deeds) e = first_here p d deeds (p d) refl (first_of p deeds) e
-
-either_passes : (a b : Bool) → a ≡ true → (a || b) ≡ true
-either_passes true b e = refl
-either_passes false b e = absurd cc
-
-neither_passes : (a b : Bool) → a ≡ false → b ≡ false → (a || b) ≡ false
-neither_passes false false e f = refl
-neither_passes false true e f = absurd cc
-neither_passes true b e f = absurd cc
+nor_left : (a b : Bool) → a ≡ false → b ≡ false → (a || b) ≡ false
+nor_left false false e f = refl
+nor_left false true e f = absurd cc
+nor_left true b e f = absurd cc
 
 -- ---- the deeds of a call around a turn
 
@@ -101,10 +70,7 @@ not_removal id at slot cred by (Msgsnd i mtype flags text) q (inr (inr (inl (now
 not_removal id at slot cred by (Msgsnd i mtype flags text) q (inr (inr (inr (blocks, e)))) = cc
 not_removal id at slot cred by (Msgrcv i size mtype flags) q (inl (now, e)) = cc
 not_removal id at slot cred by (Msgrcv i size mtype flags) q (inr (blocks, e)) = cc
-not_removal id at slot cred by (Msgget key flags) q e = q
-not_removal id at slot cred by (MsgctlStat i) q e = q
-not_removal id at slot cred by (MsgctlSet i to) q e = q
-not_removal id at slot cred by (MsgctlRmid i) q e = q
+not_removal id at slot cred by asked q e = q
 
 -- What such a call requests of a slot has the identifier, and the reply is Gone if that is not
 -- live.
@@ -130,10 +96,7 @@ is_about id slot call cred (Msgrcv i size mtype flags) q (inl (now, e)) =
     let s : slot ≡ slot_of_id i = cc in
     record { there = s ∙ ap slot_of_id q; names = subst (NamesId id) (sym c) q; gone = ap not_live_reply c }
 is_about id slot call cred (Msgrcv i size mtype flags) q (inr (blocks, e)) = absurd cc
-is_about id slot call cred (Msgget key flags) q e = absurd q
-is_about id slot call cred (MsgctlStat i) q e = absurd q
-is_about id slot call cred (MsgctlSet i to) q e = absurd q
-is_about id slot call cred (MsgctlRmid i) q e = absurd q
+is_about id slot call cred asked q e = absurd q
 
 -- ---- a removal, and one call
 
@@ -143,10 +106,7 @@ all_empty P k d low = absurd (omega (arith, low))
 is_one : (asked : SystemCall) (id : ℤ) → IsOfQueue id asked → SendsOrReceives asked
 is_one (Msgsnd i mtype flags text) id q = tt
 is_one (Msgrcv i size mtype flags) id q = tt
-is_one (Msgget key flags) id q = absurd q
-is_one (MsgctlStat i) id q = absurd q
-is_one (MsgctlSet i to) id q = absurd q
-is_one (MsgctlRmid i) id q = absurd q
+is_one asked id q = absurd q
 
 is_gone : (deed : Deed) → found_gone deed ≡ true → (slot : ℕ) × (call : Call) × (deed ≡ AtSlot slot call Gone)
 is_gone (AtSlot slot call Gone) e = (slot, call, refl)
@@ -225,18 +185,18 @@ module _ (w : World) (given : List Given) (call : Started) (fate : Fate w given 
 
   -- The first of these turns decides the result.
   module _ (come : some is_at_slot since) where
-    came : First is_at_slot since
-    came = first_of is_at_slot since come
+    came : Passes is_at_slot since
+    came = passing is_at_slot since come
 
-    found : found_gone came.deed ≡ true
-    found = finds_gone came.deed
-        (subst (λ (ds : List Deed). Contains ds came.deed) (sym came.whole)
-        (Contains-append_right came.front (came.deed ∷ came.back) came.deed (0, omega arith, refl))) came.passes
+    found : found_gone came.it ≡ true
+    found = finds_gone came.it
+        (subst (λ (ds : List Deed). Contains ds came.it) (sym came.whole)
+        (Contains-append_right came.front (came.it ∷ came.back) came.it (0, omega arith, refl))) came.passes
 
     answer : (ending : Ending) → Plays (begun call) (deeds_of call.who w.turns) (Over ending) →
         IsToldOfRemoval (earlier ++ came.front) came.back ending
     answer ending plays =
-        let g = is_gone came.deed found in
+        let g = is_gone came.it found in
         let split : deeds_of call.who w.turns ≡ (earlier ++ came.front) ++ AtSlot g.0 g.1 Gone ∷ came.back =
         deeds_are
         ∙ (ap (λ (ds : List Deed). earlier ++ ds) (came.whole ∙ ap (λ d. came.front ++ d ∷ came.back) g.2)
@@ -263,14 +223,14 @@ module _ (w : World) (given : List Given) (call : Started) (fate : Fate w given 
     was_there there = all_endings EIDRM (λ ending plays.
         (answer ending plays).removed
         (list_any-append is_at_slot earlier came.front
-        ∙ either_passes (list_any is_at_slot earlier) (list_any is_at_slot came.front) there))
+        ∙ or_left (list_any is_at_slot earlier) (list_any is_at_slot came.front) there))
 
     was_not : list_any is_at_slot earlier ≡ false →
         All (λ (ending : Ending). ending ≡ Refused EINVAL) (endings_of call.who given)
     was_not none = all_endings EINVAL (λ ending plays.
         (answer ending plays).absent
         (list_any-append is_at_slot earlier came.front
-        ∙ neither_passes (list_any is_at_slot earlier) (list_any is_at_slot came.front) none came.none_before))
+        ∙ nor_left (list_any is_at_slot earlier) (list_any is_at_slot came.front) none came.none_before))
 
   pub told_so : IsToldSo earlier since (endings_of call.who given)
   told_so = record {

@@ -72,7 +72,7 @@ made_at who [] (f ∷ front) deed later e = absurd cc
 made_at who (t ∷ ts) front deed later e =
     made_here who t ts (is_same who t.who) refl (made_at who ts) front deed later e
 
-itself : (n : ℕ) → eqb n n ≡ true
+pub itself : (n : ℕ) → eqb n n ≡ true
 itself n = grind (arith, nat_tests)
 
 -- The history of a slot around one of its turns.

@@ -1,40 +1,33 @@
 -- A send that waits for blocks below its goal waits while too few are free. It read the released
 -- count before it was refused. So as long as the count is not above that value, no chain came back
 -- since the refusal, and reservations since then only took blocks.
-use Rattle.std.proofs.Common.{◌≡◌, ◌⊎◌, inl, inr, ℕ, zero, suc, ◌+◌, ◌<◌, ◌≤◌, Bool, true, false, cond, List, [], ◌∷◌}
-use Rattle.std.proofs.Common.{◌++◌, Option, None, Some, refl, sym, subst, arith, length, slice_get, slice_set}
+use Rattle.std.proofs.Common.{◌≡◌, ◌⊎◌, inl, inr, ℕ, suc, ◌+◌, ◌<◌, ◌≤◌, Bool, true, false, cond, List, [], ◌∷◌, ◌++◌}
+use Rattle.std.proofs.Common.{Option, None, Some, refl, sym, subst, arith, length, slice_get, slice_set}
 use Rattle.std.proofs.lemmas.List.{append-nil}
-use Rattle.std.specs.Prelude.{ℤ}
 use Rattle.sysv_model.specs.declared.cred.Cred.{Cred}
 use Rattle.sysv_model.specs.declared.errno.Errno.{Errno}
 use Rattle.sysv_model.specs.declared.errno.Errno.TheVariants.{EAGAIN, EINVAL, ENOMSG}
-use Rattle.sysv_model.specs.History.{Who, Reply, Gone, Denied, Granted, Full, Fits, Accepted, NoMatch, TooLong, Taken}
-use Rattle.sysv_model.specs.History.{Installed, Done, Discarded, Told as TellsStat, Refused as IsRefusedFor}
-use Rattle.sysv_model.specs.Registry.{RegistryReply, Made, Found, Busy, Unbound, Changed}
+use Rattle.sysv_model.specs.History.{Who, Gone, Full, Fits, NoMatch, Installed}
+use Rattle.sysv_model.specs.Registry.{Made, Changed}
 use Rattle.sysv_model.specs.Pool.{PoolCall, Reserve, Release, PoolReply, Reserved, TooFew, Released, Foreign, PoolEntry}
 use Rattle.sysv_model.specs.Pool.{PoolHistory, blocks_for, frees, released}
 use Rattle.sysv_model.specs.Turn.{OfPool, Deed, AtSlot, AtRegistry, AtPool, asked_by, Turn, pool_entry, pool_history}
 use Rattle.sysv_pool.specs.State.{returned_by, free_after}
 use Rattle.sysv_pool.specs.LegalReply.{IsLegalReply}
 use Rattle.sysv_objects.specs.LegalDeed.{IsLegalDeed}
-use Rattle.sysv_steps.specs.Call.{SystemCall, Msgget, Msgsnd, Msgrcv, MsgctlStat, MsgctlSet, MsgctlRmid}
-use Rattle.sysv_steps.specs.State.{Getting, Sending, Receiving, Wait, OnSettled, OnFreed, OnReleased, OnArrived}
-use Rattle.sysv_steps.specs.State.{Afterwards, IsRefused, WaitsOn, Phase, AtBegin, AtInstall, AtSettle, AtProbe}
-use Rattle.sysv_steps.specs.State.{AtUnmake, AtLook, AtReserve, AtPlace, AtSendGiveback, AtTake, AtReceiveGiveback}
-use Rattle.sysv_steps.specs.State.{AtStat, AtSet, AtSetGiveback, AtRemove, AtForget, AtRemoveGiveback, State, Goes}
-use Rattle.sysv_steps.specs.State.{Waits, Over, Refused}
+use Rattle.sysv_steps.specs.Call.{SystemCall, Msgsnd}
+use Rattle.sysv_steps.specs.State.{Sending, Wait, OnSettled, OnFreed, OnReleased, OnArrived, Afterwards, IsRefused}
+use Rattle.sysv_steps.specs.State.{WaitsOn, Phase, AtBegin, AtInstall, AtLook, AtReserve, AtPlace, AtSendGiveback}
+use Rattle.sysv_steps.specs.State.{AtTake, State, Goes, Waits, Over, Refused}
 use Rattle.sysv_steps.specs.Begin.{is_refused, first}
 use Rattle.sysv_steps.specs.Asks.{asks}
-use Rattle.sysv_steps.specs.Next.{after_begin, after_install, after_settle, after_unmake, after_probe, waits_or}
-use Rattle.sysv_steps.specs.Next.{goes_on, after_look, after_reserve, after_place, after_take, after_stat, after_set}
-use Rattle.sysv_steps.specs.Next.{after_remove, after_forget, after_giveback, next}
+use Rattle.sysv_steps.specs.Next.{waits_or, goes_on, next}
 use Rattle.sysv_steps.specs.Resume.{resume, awaited}
-use Rattle.sysv_core.specs.World.{World, Opening, Started, Doing, Given, Happening, Preset, Start, Step, opening}
-use Rattle.sysv_core.specs.World.{doing_in, starting, begun, value_of, Continues, StartsAt, StepsAt, preset_who}
-use Rattle.sysv_core.specs.World.{preset_begin, preset_install, preset_settle, Presets, Makes}
-use Rattle.sysv_core.specs.Run.{Leads}
-use Rattle.sysv_core.proofs.Histories.{turn_of, pool_more, one, released_more, returned_more, reserved_more}
-use Rattle.sysv_core.proofs.SoundStays.{moved, other, does, none_busy}
+use Rattle.sysv_core.specs.World.{World, Started, Doing, Given, doing_in, starting, begun, value_of}
+use Rattle.sysv_core.proofs.Histories.{turn_of, pool_more, preset_pool, one, released_more, returned_more}
+use Rattle.sysv_core.proofs.Histories.{reserved_more}
+use Rattle.sysv_core.proofs.SoundStays.{moved, other, does}
+use Rattle.sysv_core.proofs.Moves.{Move, stood, began, turned, awoke, preset_made}
 
 -- ---- what a call keeps
 
@@ -90,9 +83,6 @@ short_more size h e send read (inr few) = elim (counts_or_not e.call e.reply) [
 still_short : (size : ℕ) (h : PoolHistory) (e : PoolEntry) (state : State) → read_by state ≤ released h →
     IsShort size h state → IsShort size (h ++ e ∷ []) state
 still_short size h e (Waits (OnReleased goal send)) read s = (s.0, short_more size h e send read s.1)
-still_short size h e (Waits (OnSettled goal get)) read s = tt
-still_short size h e (Waits (OnFreed goal send)) read s = tt
-still_short size h e (Waits (OnArrived goal receive)) read s = tt
 still_short size h e (Goes (AtSendGiveback blocks (WaitsOn (OnReleased goal send)))) read s = s
 still_short size h e state read s = tt
 
@@ -106,25 +96,33 @@ right_more size h e state r =
 some_is : {X : Type 0} {x y : X} → Some x ≡ Some y → y ≡ x
 some_is e = cc
 
--- A send reserves after a look, and waits for blocks after a reserve. No turn leads to a set or to
--- a removal.
+-- A send reserves after a look, and waits for blocks after a reserve.
 abbrev pub Comes : Phase → State → Type 0
 Comes phase (Goes (AtReserve send)) =
     (before : Sending) × (phase ≡ AtLook before) × (send ≡ record before { seen = true })
 Comes phase (Waits (OnReleased goal send)) = phase ≡ AtReserve send
-Comes phase (Goes (AtSet cred id to)) = ⊥
-Comes phase (Goes (AtRemove cred id)) = ⊥
 Comes phase state = Unit {0}
 
--- What the turn leads to, by the released count that the call had read.
-pub record Follows (size : ℕ) (h : PoolHistory) (phase : Phase) (state : State) : Type 0 where
-  pub read : read_by state ≤ read_by (Goes phase)
-  pub short : IsShort size h state
-  pub comes : Comes phase state
+abbrev read_in : Option State → ℕ
+read_in None = 0
+read_in (Some state) = read_by state
 
-abbrev pub FollowsIn : ℕ → PoolHistory → Phase → Option State → Type 0
-FollowsIn size h phase None = Unit {0}
-FollowsIn size h phase (Some state) = Follows size h phase state
+abbrev IsShortIn : ℕ → PoolHistory → Option State → Type 0
+IsShortIn size h None = Unit {0}
+IsShortIn size h (Some state) = IsShort size h state
+
+abbrev ComesIn : Phase → Option State → Type 0
+ComesIn phase None = Unit {0}
+ComesIn phase (Some state) = Comes phase state
+
+-- What the turn leads to, by the released count that the call had read.
+pub record FollowsIn (size : ℕ) (h : PoolHistory) (phase : Phase) (state : Option State) : Type 0 where
+  pub read : read_in state ≤ read_by (Goes phase)
+  pub short : IsShortIn size h state
+  pub comes : ComesIn phase state
+
+abbrev pub Follows : ℕ → PoolHistory → Phase → State → Type 0
+Follows size h phase state = FollowsIn size h phase (Some state)
 
 -- A call that is refused, or waits for something other than blocks.
 full_waits : (size : ℕ) (h : PoolHistory) (send : Sending) (freed : ℕ) (nowait : Bool) (why : Errno) (same : Sending) →
@@ -151,113 +149,19 @@ too_few : (size : ℕ) (h : PoolHistory) (send : Sending) (nowait : Bool) (why :
 too_few size h send true why few = record { read = omega arith; short = tt; comes = tt }
 too_few size h send false why few = record { read = omega arith; short = (refl, inr few); comes = refl }
 
-plain : (size : ℕ) (h : PoolHistory) (phase : Phase) (state : State) → read_by state ≡ 0 → IsShort size h state →
-    Comes phase state → Follows size h phase state
+plain : (size : ℕ) (h : PoolHistory) (phase : Phase) (state : Option State) → read_in state ≡ 0 →
+    IsShortIn size h state → ComesIn phase state → FollowsIn size h phase state
 plain size h phase state none s c = record { read = omega (arith, none); short = s; comes = c }
-
-begin_follows : (size : ℕ) (h : PoolHistory) (phase : Phase) (get : Getting) (reply : RegistryReply) →
-    FollowsIn size h phase (after_begin get reply)
-begin_follows size h phase get (Found id settled) = plain size h phase _ refl tt tt
-begin_follows size h phase get (Made id) = plain size h phase _ refl tt tt
-begin_follows size h phase get (Busy settled) = plain size h phase _ refl tt tt
-begin_follows size h phase get (Unbound why) = plain size h phase _ refl tt tt
-begin_follows size h phase get (Changed done) = tt
-
-install_follows : (size : ℕ) (h : PoolHistory) (phase : Phase) (id : ℤ) (reply : Reply) →
-    FollowsIn size h phase (after_install id reply)
-install_follows size h phase id (Installed true) = plain size h phase _ refl tt tt
-install_follows size h phase id (Installed false) = plain size h phase _ refl tt tt
-install_follows size h phase id reply = tt
-
-settle_follows : (size : ℕ) (h : PoolHistory) (phase : Phase) (id : ℤ) (reply : RegistryReply) →
-    FollowsIn size h phase (after_settle id reply)
-settle_follows size h phase id (Changed done) = plain size h phase _ refl tt tt
-settle_follows size h phase id reply = tt
-
-unmake_follows : (size : ℕ) (h : PoolHistory) (phase : Phase) (reply : RegistryReply) →
-    FollowsIn size h phase (after_unmake reply)
-unmake_follows size h phase (Changed done) = plain size h phase _ refl tt tt
-unmake_follows size h phase reply = tt
-
-probe_follows : (size : ℕ) (h : PoolHistory) (phase : Phase) (get : Getting) (id : ℤ) (settled : ℕ) (reply : Reply) →
-    FollowsIn size h phase (after_probe get id settled reply)
-probe_follows size h phase get id settled Gone = plain size h phase _ refl tt tt
-probe_follows size h phase get id settled Denied = plain size h phase _ refl tt tt
-probe_follows size h phase get id settled Granted = plain size h phase _ refl tt tt
-probe_follows size h phase get id settled reply = tt
-
-look_follows : (size : ℕ) (h : PoolHistory) (send : Sending) (reply : Reply) →
-    FollowsIn size h (AtLook send) (after_look send reply)
-look_follows size h send Gone = plain size h (AtLook send) _ refl tt tt
-look_follows size h send Denied = plain size h (AtLook send) _ refl tt tt
-look_follows size h send (Full freed) =
-    full_waits size h send (freed + 1) send.nowait EAGAIN (record send { seen = true }) refl
-look_follows size h send Fits = record { read = omega arith; short = tt; comes = (send, refl, refl) }
-look_follows size h send reply = tt
 
 -- If the turn reported too few blocks to a send, too few were free.
 abbrev pub ToldTooFew : ℕ → PoolHistory → Phase → Deed → Type 0
 ToldTooFew size h (AtReserve send) (AtPool call TooFew) = free_after size h < blocks_for (length send.text)
 ToldTooFew size h phase deed = Unit {0}
 
-reserve_follows : (size : ℕ) (h : PoolHistory) (send : Sending) (call : PoolCall) (reply : PoolReply) →
-    ToldTooFew size h (AtReserve send) (AtPool call reply) →
-    FollowsIn size h (AtReserve send) (after_reserve send reply)
-reserve_follows size h send call (Reserved blocks) few = record { read = omega arith; short = tt; comes = tt }
-reserve_follows size h send call TooFew few = too_few size h send send.nowait EAGAIN few
-reserve_follows size h send call Released few = tt
-reserve_follows size h send call Foreign few = tt
-
-place_follows : (size : ℕ) (h : PoolHistory) (send : Sending) (blocks : ℕ) (reply : Reply) →
-    FollowsIn size h (AtPlace send blocks) (after_place send blocks reply)
-place_follows size h send blocks Gone = plain size h (AtPlace send blocks) _ refl tt tt
-place_follows size h send blocks Denied = plain size h (AtPlace send blocks) _ refl tt tt
-place_follows size h send blocks (Full freed) =
-    full_gives_back size h send blocks (freed + 1) blocks send.nowait EAGAIN (record send { seen = true }) refl
-place_follows size h send blocks (Accepted number) = plain size h (AtPlace send blocks) _ refl tt tt
-place_follows size h send blocks reply = tt
-
-take_follows : (size : ℕ) (h : PoolHistory) (phase : Phase) (receive : Receiving) (reply : Reply) →
-    FollowsIn size h phase (after_take receive reply)
-take_follows size h phase receive Gone = plain size h phase _ refl tt tt
-take_follows size h phase receive Denied = plain size h phase _ refl tt tt
-take_follows size h phase receive (NoMatch arrived) =
-    none_named size h phase receive.nowait (OnArrived (arrived + 1) (record receive { seen = true })) ENOMSG refl tt tt
-take_follows size h phase receive TooLong = plain size h phase _ refl tt tt
-take_follows size h phase receive (Taken message) = plain size h phase _ refl tt tt
-take_follows size h phase receive reply = tt
-
-stat_follows : (size : ℕ) (h : PoolHistory) (phase : Phase) (reply : Reply) → FollowsIn size h phase (after_stat reply)
-stat_follows size h phase (TellsStat stat) = plain size h phase _ refl tt tt
-stat_follows size h phase (IsRefusedFor why) = plain size h phase _ refl tt tt
-stat_follows size h phase reply = tt
-
-set_follows : (size : ℕ) (h : PoolHistory) (phase : Phase) (reply : Reply) → FollowsIn size h phase (after_set reply)
-set_follows size h phase Done = plain size h phase _ refl tt tt
-set_follows size h phase (IsRefusedFor why) = plain size h phase _ refl tt tt
-set_follows size h phase reply = tt
-
-remove_follows : (size : ℕ) (h : PoolHistory) (phase : Phase) (id : ℤ) (reply : Reply) →
-    FollowsIn size h phase (after_remove id reply)
-remove_follows size h phase id (Discarded messages) = plain size h phase _ refl tt tt
-remove_follows size h phase id (IsRefusedFor why) = plain size h phase _ refl tt tt
-remove_follows size h phase id reply = tt
-
-forget_follows : (size : ℕ) (h : PoolHistory) (phase : Phase) (blocks : ℕ) (reply : RegistryReply) →
-    FollowsIn size h phase (after_forget blocks reply)
-forget_follows size h phase blocks (Changed done) = plain size h phase _ refl tt tt
-forget_follows size h phase blocks reply = tt
-
-giveback_follows : (size : ℕ) (h : PoolHistory) (phase : Phase) (follow : State) (reply : PoolReply) →
-    Follows size h phase follow → FollowsIn size h phase (after_giveback follow reply)
-giveback_follows size h phase follow Released f = f
-giveback_follows size h phase follow Foreign f = f
-giveback_follows size h phase follow reply f = tt
-
 afterwards_follows : (size : ℕ) (h : PoolHistory) (blocks : ℕ) (afterwards : Afterwards) →
     IsShort size h (Goes (AtSendGiveback blocks afterwards)) →
     Follows size h (AtSendGiveback blocks afterwards) (goes_on afterwards)
-afterwards_follows size h blocks (IsRefused why) s = plain size h (AtSendGiveback blocks (IsRefused why)) _ refl tt tt
+afterwards_follows size h blocks (IsRefused why) s = record { read = omega arith; short = tt; comes = tt }
 afterwards_follows size h blocks (WaitsOn (OnReleased goal send)) s = absurd s
 afterwards_follows size h blocks (WaitsOn (OnFreed goal send)) s = record { read = omega arith; short = tt; comes = tt }
 afterwards_follows size h blocks (WaitsOn (OnSettled goal get)) s =
@@ -267,30 +171,32 @@ afterwards_follows size h blocks (WaitsOn (OnArrived goal receive)) s =
 
 pub followed : (size : ℕ) (h : PoolHistory) (phase : Phase) (deed : Deed) → IsShort size h (Goes phase) →
     ToldTooFew size h phase deed → FollowsIn size h phase (next phase deed)
-followed size h (AtBegin get) (AtRegistry call reply) s few = begin_follows size h (AtBegin get) get reply
-followed size h (AtInstall get id) (AtSlot slot call reply) s few = install_follows size h (AtInstall get id) id reply
-followed size h (AtSettle id) (AtRegistry call reply) s few = settle_follows size h (AtSettle id) id reply
-followed size h (AtUnmake id) (AtRegistry call reply) s few = unmake_follows size h (AtUnmake id) reply
-followed size h (AtProbe get id settled) (AtSlot slot call reply) s few =
-    probe_follows size h (AtProbe get id settled) get id settled reply
-followed size h (AtLook send) (AtSlot slot call reply) s few = look_follows size h send reply
-followed size h (AtReserve send) (AtPool call reply) s few = reserve_follows size h send call reply few
-followed size h (AtPlace send blocks) (AtSlot slot call reply) s few = place_follows size h send blocks reply
-followed size h (AtSendGiveback blocks afterwards) (AtPool call reply) s few = giveback_follows size h
-    (AtSendGiveback blocks afterwards) (goes_on afterwards) reply (afterwards_follows size h blocks afterwards s)
-followed size h (AtTake receive) (AtSlot slot call reply) s few = take_follows size h (AtTake receive) receive reply
-followed size h (AtReceiveGiveback blocks mtype text) (AtPool call reply) s few =
-    giveback_follows size h (AtReceiveGiveback blocks mtype text) _ reply (plain size h _ _ refl tt tt)
-followed size h (AtStat cred id) (AtSlot slot call reply) s few = stat_follows size h (AtStat cred id) reply
-followed size h (AtSet cred id to) (AtSlot slot call reply) s few = set_follows size h (AtSet cred id to) reply
-followed size h AtSetGiveback (AtPool call reply) s few =
-    giveback_follows size h AtSetGiveback _ reply (plain size h _ _ refl tt tt)
-followed size h (AtRemove cred id) (AtSlot slot call reply) s few = remove_follows size h (AtRemove cred id) id reply
-followed size h (AtForget id blocks) (AtRegistry call reply) s few =
-    forget_follows size h (AtForget id blocks) blocks reply
-followed size h (AtRemoveGiveback blocks) (AtPool call reply) s few =
-    giveback_follows size h (AtRemoveGiveback blocks) _ reply (plain size h _ _ refl tt tt)
-followed size h phase deed s few = tt
+followed size h (AtLook send) (AtSlot slot call (Full freed)) s few =
+    full_waits size h send (freed + 1) send.nowait EAGAIN (record send { seen = true }) refl
+followed size h (AtLook send) (AtSlot slot call Fits) s few =
+    record { read = omega arith; short = tt; comes = (send, refl, refl) }
+followed size h (AtReserve send) (AtPool call (Reserved blocks)) s few =
+    record { read = omega arith; short = tt; comes = tt }
+followed size h (AtReserve send) (AtPool call TooFew) s few = too_few size h send send.nowait EAGAIN few
+followed size h (AtPlace send blocks) (AtSlot slot call (Full freed)) s few =
+    full_gives_back size h send blocks (freed + 1) blocks send.nowait EAGAIN (record send { seen = true }) refl
+followed size h (AtSendGiveback blocks afterwards) (AtPool call Released) s few =
+    afterwards_follows size h blocks afterwards s
+followed size h (AtSendGiveback blocks afterwards) (AtPool call Foreign) s few =
+    afterwards_follows size h blocks afterwards s
+followed size h (AtTake receive) (AtSlot slot call (NoMatch arrived)) s few =
+    none_named size h (AtTake receive) receive.nowait (OnArrived (arrived + 1) (record receive { seen = true })) ENOMSG
+    refl tt tt
+followed size h (AtInstall get id) (AtSlot slot call (Installed true)) s few =
+    plain size h (AtInstall get id) _ refl tt tt
+followed size h (AtBegin get) (AtRegistry call (Made id)) s few = plain size h (AtBegin get) _ refl tt tt
+followed size h phase (AtSlot slot call Gone) s few = plain size h phase _ refl tt tt
+followed size h phase (AtSlot slot call reply) s few = plain size h phase _ refl tt tt
+followed size h phase (AtRegistry call (Changed done)) s few = plain size h phase _ refl tt tt
+followed size h phase (AtRegistry call reply) s few = plain size h phase _ refl tt tt
+followed size h phase (AtPool call Released) s few = plain size h phase _ refl tt tt
+followed size h phase (AtPool call Foreign) s few = plain size h phase _ refl tt tt
+followed size h phase (AtPool call reply) s few = plain size h phase _ refl tt tt
 
 -- The same of a legal turn of the call.
 was_told : (blocks : ℕ) (h : PoolHistory) (send : Sending) (call : PoolCall) →
@@ -362,80 +268,32 @@ resumed_right blocks turns (OnArrived goal receive) r = record { read = omega ar
 begun_right : (blocks : ℕ) (h : PoolHistory) (cred : Cred) (asked : SystemCall) (b : Bool) →
     IsRight blocks h (cond b (Over (Refused EINVAL)) (Goes (first cred asked (released h))))
 begun_right blocks h cred asked true = record { read = omega arith; short = tt }
-begun_right blocks h cred (Msgget key flags) false = record { read = omega arith; short = tt }
 begun_right blocks h cred (Msgsnd id mtype flags text) false = record { read = omega arith; short = tt }
-begun_right blocks h cred (Msgrcv id size mtype flags) false = record { read = omega arith; short = tt }
-begun_right blocks h cred (MsgctlStat id) false = record { read = omega arith; short = tt }
-begun_right blocks h cred (MsgctlSet id to) false = record { read = omega arith; short = tt }
-begun_right blocks h cred (MsgctlRmid id) false = record { read = omega arith; short = tt }
+begun_right blocks h cred asked false = record { read = omega arith; short = tt }
 
 -- ---- what happens
 
 abbrev pub AllRight : World → Type 0
 AllRight w = AreRight w.blocks w.turns w.actors
 
-same_right : (w after : World) → after ≡ w → AllRight w → AllRight after
-same_right w after e r = subst AllRight (sym e) r
-
-continues_right : (w after : World) (given : List Given) (place now : ℕ) (call : Started) (state : State) → AllRight w →
-    slice_get w.actors place ≡ Some (Some record { call = call; state = state }) →
-    Continues w (suc place) now call state given after → AllRight after
-continues_right w after given place now call (Goes phase) all there t =
-    subst AllRight (sym t.6) (turn_right w all place call phase now t.0 t.1 there t.2 t.3 t.4)
-continues_right w after given place now call (Waits wait) all there (inl t) =
-    let d : Doing = record { call = call; state = Waits wait } in
-    subst AllRight (sym t.2)
-    (stand_right w all place call (Some d) (Goes (resume wait (value_of w.turns (awaited wait)))) there
-    (resumed_right w.blocks w.turns wait (all place d there)))
-continues_right w after given place now call (Waits wait) all there (inr t) = same_right w after t.1.1 all
-continues_right w after given place now call (Over ending) all there t = same_right w after t.1 all
-
-steps_right : (w after : World) (given : List Given) (place now : ℕ) (o : Option (Option Doing)) → AllRight w →
-    slice_get w.actors place ≡ o → StepsAt w (suc place) now o given after → AllRight after
-steps_right w after given place now None all there t = same_right w after t.1 all
-steps_right w after given place now (Some None) all there t = same_right w after t.1 all
-steps_right w after given place now (Some (Some d)) all there t =
-    continues_right w after given place now d.call d.state all there t
-
-starts_right : (w after : World) (given : List Given) (place : ℕ) (cred : Cred) (asked : SystemCall)
-    (o : Option (Option Doing)) → AllRight w → slice_get w.actors place ≡ o →
-    StartsAt w (suc place) cred asked o given after → AllRight after
-starts_right w after given place cred asked None all there t = same_right w after t.1 all
-starts_right w after given place cred asked (Some (Some d)) all there t = same_right w after t.1 all
-starts_right w after given place cred asked (Some None) all there t =
+pub move_right : (w after : World) (given : List Given) → AllRight w → Move w given after → AllRight after
+move_right w after given all (stood t) = subst AllRight (sym t.1) all
+move_right w after given all (began place cred asked there t) =
     let call = starting w (suc place) cred asked in
     subst AllRight (sym t.1)
     (stand_right w all place call None (begun call) there
     (begun_right w.blocks (pool_history w.turns) cred asked (is_refused asked)))
-
+move_right w after given all (turned place now call phase there t) =
+    subst AllRight (sym t.6) (turn_right w all place call phase now t.0 t.1 there t.2 t.3 t.4)
+move_right w after given all (awoke place call wait there reached gave is) =
+    let d : Doing = record { call = call; state = Waits wait } in
+    subst AllRight (sym is)
+    (stand_right w all place call (Some d) (Goes (resume wait (value_of w.turns (awaited wait)))) there
+    (resumed_right w.blocks w.turns wait (all place d there)))
 -- A preset makes no turn at the pool.
-preset_right : (w after : World) (made : Bool) → AllRight w → Presets w made after → AllRight after
-preset_right w after made all (inr p) = same_right w after p.2 all
-preset_right w after made all (inl p) =
-    let begun_turns = w.turns ++ turn_of preset_who preset_begin ∷ [] in
-    let installed_turns = begun_turns ++ turn_of preset_who preset_install ∷ [] in
-    subst AllRight (sym p.2)
-    (λ place d there.
-    still_right w.blocks installed_turns preset_who preset_settle d.state
-    (still_right w.blocks begun_turns preset_who preset_install d.state
-    (still_right w.blocks w.turns preset_who preset_begin d.state (all place d there))))
-
-pub makes_right : (w after : World) (x : Happening) (given : List Given) → AllRight w → Makes w x given after →
-    AllRight after
-makes_right w after Preset given all m = preset_right w after m.1.0 all m.1.1
-makes_right w after (Start actor cred asked) given all (inl worn) = same_right w after worn.1.1 all
-makes_right w after (Start zero cred asked) given all (inr young) = same_right w after young.1.1 all
-makes_right w after (Start (suc place) cred asked) given all (inr young) =
-    starts_right w after given place cred asked (slice_get w.actors place) all refl young.1
-makes_right w after (Step actor now) given all (inl worn) = same_right w after worn.1.1 all
-makes_right w after (Step zero now) given all (inr young) = same_right w after young.1.1 all
-makes_right w after (Step (suc place) now) given all (inr young) =
-    steps_right w after given place now (slice_get w.actors place) all refl young.1
-
-pub leads_right : (w after : World) (xs : List Happening) (given : List Given) → AllRight w → Leads w xs given after →
-    AllRight after
-leads_right w after [] given all l = same_right w after l.1 all
-leads_right w after (x ∷ xs) given all l = leads_right l.0 after xs l.2 (makes_right w l.0 x l.1 all l.3) l.4
+move_right w after given all (preset_made unused gave is) =
+    subst AllRight (sym is)
+    (λ place d there. subst (λ h. IsRight w.blocks h d.state) (sym (preset_pool w.turns)) (all place d there))
 
 -- ---- who waits for blocks
 
@@ -450,10 +308,7 @@ is_short : (size : ℕ) (h : PoolHistory) (goal : ℕ) (send : Sending) → rele
 is_short size h goal send below (is, inl since) = absurd (omega (arith, below, is, since))
 is_short size h goal send below (is, inr few) = few
 
-pub are_short : (o : Opening) (w : World) (list : List Happening) (given : List Given) →
-    Leads (opening o) list given w → AreShort w
-are_short o w list given led = λ place d goal send there waits below.
-    let r =
-    leads_right (opening o) w list given (λ at e here. absurd (none_busy o.actors at e here)) led place d there in
+pub are_short : (w : World) → AllRight w → AreShort w
+are_short w all = λ place d goal send there waits below.
     is_short w.blocks (pool_history w.turns) goal send below
-    (subst (IsShort w.blocks (pool_history w.turns)) waits r.short)
+    (subst (IsShort w.blocks (pool_history w.turns)) waits (all place d there).short)

@@ -26,7 +26,6 @@ pub mod RemovalAlone
 pub mod WellInstalled
 pub mod StopEmpties
 pub mod PlayPrefix
-pub mod SettledOnThreads
 pub mod ParkedOnThreads
 pub mod PoolLater
 pub mod SendIsTold

@@ -24,16 +24,16 @@ use Rattle.sysv_core.proofs.Histories.{turn_of}
 use Rattle.sysv_core.proofs.ParkedRightly.{parked_rightly}
 use Rattle.sysv_core.proofs.PartsOfOneCall.{same_who}
 use Rattle.sysv_core.proofs.TurnInHistory.{made_at}
+use Rattle.sysv_core.proofs.LifeLaws.{settled_once_installed}
 use Rattle.sysv_core.proofs.WorldsObey.{Inv, stands_there}
 use Rattle.sysv_thread_laws.specs.FreeRun.{Moment, LeadsOnThreads}
-use Rattle.sysv_thread_laws.specs.OnThreads.{ObeysOnThreads, EveryThreadedRunObeys}
+use Rattle.sysv_thread_laws.specs.OnThreads.{IsRowRead, ObeysOnThreads, EveryThreadedRunObeys}
 use Rattle.sysv_thread_laws.specs.ParkedOnThreads.{HadReleased, HasReasonOnThreads, EveryThreadedRunParksRightly}
 use Rattle.sysv_thread_laws.specs.ParkedOnThreads.{EveryOrderParksRightly}
 use Rattle.sysv_thread_laws.specs.OrderIsRun.{opening_for, started_at}
 use Rattle.sysv_thread_laws.proofs.StartedFirst.{standing_at}
 use Rattle.sysv_thread_laws.proofs.PoolLater.{short_at}
 use Rattle.sysv_thread_laws.proofs.SendIsTold.{told_so}
-use Rattle.sysv_thread_laws.proofs.SettledOnThreads.{settled_on_threads}
 
 -- ---- without the sends that wait for blocks
 
@@ -169,7 +169,7 @@ pub record StaysRight : Type 0 where
   pub refused : EachWaitsForItsRefusal
   pub holds : EachHoldsWhatItWasAsked
 
-module _ (stays : StaysRight) (o : Opening) (w : World) (given : List Given) (i : Inv w given)
+module _ (stays : StaysRight) (o : Opening) (w : World) (given : List Given) (i : Inv IsRowRead w given)
     (lawful : ObeysOnThreads o w given) where
   played : (place : ℕ) (d : Doing) → slice_get w.actors place ≡ Some (Some d) →
       Plays (begun d.call) (deeds_of d.call.who w.turns) d.state
@@ -184,7 +184,7 @@ module _ (stays : StaysRight) (o : Opening) (w : World) (given : List Given) (i 
       parked_rightly (calmed w) i.sound.legal (λ place d there. played place d (was_there w place d there).0)
       stays.no_match stays.full stays.full_for_look stays.counts stays.refused stays.holds
       (tended_calmly w lawful.tended) lawful.removed
-      (settled_on_threads w given i lawful.made lawful.removed.at_home)
+      (settled_once_installed w.turns i.life.facts)
       (λ place d goal send there is below. absurd (none_for_blocks place goal d send there is))
       (λ place d goal send there is below. absurd (none_for_blocks place goal d send there is))
 
@@ -214,7 +214,7 @@ module _ (stays : StaysRight) (o : Opening) (w : World) (given : List Given) (i 
 
 pub parked_on_threads : StaysRight → EveryThreadedRunObeys →
     ((o : Opening) (list : List Moment) (given : List Given) (w : World) → LeadsOnThreads (opening o) list given w →
-    Inv w given) →
+    Inv IsRowRead w given) →
     EveryThreadedRunParksRightly
 parked_on_threads stays law keeps o list given w led place d wait p =
     reason stays o w given (keeps o list given w led) (law o list given w led) place d wait p

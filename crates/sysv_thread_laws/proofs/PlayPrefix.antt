@@ -9,7 +9,7 @@ use Rattle.sysv_model.specs.Turn.{Deed, asked_by, Turn, is_same, deeds_of}
 use Rattle.sysv_steps.specs.State.{Phase, State, Goes, Waits}
 use Rattle.sysv_steps.specs.Asks.{asks}
 use Rattle.sysv_steps.specs.Played.{Plays, begins, steps, resumes}
-use Rattle.sysv_core.proofs.EachRowIsTended.{one_of}
+use Rattle.sysv_core.proofs.Life.{one_of}
 
 -- ---- lists
 

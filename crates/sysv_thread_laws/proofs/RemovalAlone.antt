@@ -27,9 +27,8 @@ use Rattle.sysv_steps.specs.Begin.{begin}
 use Rattle.sysv_steps.specs.AsksFor.{AsksFor, EachDeedIsAskedFor}
 use Rattle.sysv_steps.specs.Answers.{is_at_slot, was_removed, refused_by, EachAnswerIsRight}
 use Rattle.sysv_steps.specs.Played.{Plays}
-use Rattle.sysv_core.proofs.Histories.{slot_more}
+use Rattle.sysv_core.proofs.Histories.{slot_more, live_more}
 use Rattle.sysv_core.proofs.TurnInHistory.{slot_around}
-use Rattle.sysv_core.proofs.EachRowIsTended.{live_more}
 use Rattle.sysv_service.specs.Stopped.{superuser}
 
 -- The history of a slot in an order.

@@ -1,5 +1,5 @@
--- The turn that reads a row moves no block, installs and removes nothing, and belongs to no call.
-use Rattle.std.proofs.Common.{◌≡◌, ◌≢◌, inl, inr, ℕ, suc, ℤ, ◌+◌, Bool, true, false, cond, List, [], ◌∷◌, ◌++◌, Option}
+-- The turn that reads a row moves no block, does no job of an identifier, and belongs to no call.
+use Rattle.std.proofs.Common.{◌≡◌, ◌≢◌, inl, ℕ, suc, ◌+◌, Bool, true, false, cond, List, [], ◌∷◌, ◌++◌, Option}
 use Rattle.std.proofs.Common.{refl, sym, ap, subst, ◌∙◌, arith}
 use Rattle.std.specs.List.{All, Contains}
 use Rattle.std.proofs.Math.Dec.{eqb}
@@ -17,22 +17,20 @@ use Rattle.sysv_queue.specs.BlocksKept.{TurnKeepsBlocks}
 use Rattle.sysv_queue.specs.LegalReply.{Legal, IsLegalHistory}
 use Rattle.sysv_keys.specs.declared.identifier.TheConstants.{SLOTS}
 use Rattle.sysv_keys.specs.Identifier.{slot_of_id}
-use Rattle.sysv_keys.specs.Rows.{is_made, is_settled, is_forgotten}
 use Rattle.sysv_objects.specs.LegalDeed.{IsLegalDeed, AreLegal}
 use Rattle.sysv_steps.specs.Played.{Plays}
 use Rattle.sysv_core.specs.World.{World, Started, Doing, Given, begun}
 use Rattle.sysv_core.specs.Conserved.{blocks_waiting, blocks_in_calls, AreConserved}
 use Rattle.sysv_core.specs.Sound.{IsSound, IsMadeIn}
-use Rattle.sysv_core.specs.Removed.{IsInItsSlot}
 use Rattle.sysv_core.proofs.Histories.{turn_of, slot_more, registry_more, pool_stays}
 use Rattle.sysv_core.proofs.BlocksConserved.{waiting_at, is_sum, same_sum}
 use Rattle.sysv_core.proofs.SoundStays.{before, installed, lived, installs, still_made}
-use Rattle.sysv_core.proofs.InstalledOnce.{one, makes_id, installs_id, sum_more, Counted}
-use Rattle.sysv_core.proofs.EachRowIsTended.{AllTended, Lives, Settled, IsRemovedBy, live_past}
-use Rattle.sysv_core.proofs.InstallFindsVacant.{Facts, facts_more, AllFit, fits_still}
-use Rattle.sysv_core.proofs.WorldsObey.{HasName, Inv}
+use Rattle.sysv_core.proofs.Life.{does, jobs_of, not_both, no_job}
+use Rattle.sysv_core.proofs.LifeGoesOn.{life_apart}
+use Rattle.sysv_core.proofs.WorldsObey.{HasMaker, Inv}
 use Rattle.sysv_core.proofs.PartsOfOneCall.{not_same, other_deed}
 use Rattle.sysv_thread_laws.specs.FreeRun.{nobody}
+use Rattle.sysv_thread_laws.specs.OnThreads.{IsRowRead}
 
 module _ (turns : List Turn) (slot : ℕ) (reply : Reply) where
   abbrev pub row_deed : Deed
@@ -81,50 +79,6 @@ module _ (turns : List Turn) (slot : ℕ) (reply : Reply) where
       taken_back = subst (All (λ (e : PoolEntry). e.reply ≢ Foreign)) (sym same_pool) all.taken_back;
     }
 
-  -- The turn is no install.
-  pub row_counts : (actors : List (Option Doing)) → Counted turns actors → Counted with_row actors
-  row_counts actors c = record {
-    count = λ id.
-        omega (
-          arith,
-          c.count id,
-          sum_more (λ (t : Turn). one (makes_id id t.deed)) turns (turn_of nobody row_deed),
-          sum_more (λ (t : Turn). one (installs_id id t.deed)) turns (turn_of nobody row_deed),
-        );
-    home = All-push (λ (t : Turn). IsInItsSlot t.deed) turns (turn_of nobody row_deed) c.home tt;
-  }
-
-  -- The turn is no removal.
-  no_removal : {A : Type 0} (id : ℤ) → IsRemovedBy id ReadRow reply → A
-  no_removal id gone = let bad = gone.3 in absurd cc
-
-  pub row_tends : (actors : List (Option Doing)) → Legal (slot_of (slot_history slot turns)) ReadRow reply →
-      AllTended turns actors → AllTended with_row actors
-  row_tends actors legal all = λ id key made kept.
-      elim (all id key (ap (is_made id key) (sym same_registry) ∙ made)
-      (ap (is_forgotten id) (sym same_registry) ∙ kept)) [
-        | inl s ↦ inl s
-        | inr both ↦ inr (lives_still id both.0, settled_still id both.1)
-      ]
-    where
-      lives_still : (id : ℤ) → Lives id turns actors → Lives id with_row actors
-      lives_still id (inl lives) = elim (live_past turns nobody slot ReadRow reply id legal lives) [
-        | inl on ↦ inl on
-        | inr gone ↦ no_removal id gone
-      ]
-      lives_still id (inr s) = inr s
-
-      settled_still : (id : ℤ) → Settled id turns actors → Settled id with_row actors
-      settled_still id (inl e) = inl (ap (is_settled id) same_registry ∙ e)
-      settled_still id (inr s) = inr s
-
-  pub row_facts : Legal (slot_of (slot_history slot turns)) ReadRow reply → Facts turns → Facts with_row
-  row_facts legal f =
-      facts_more turns f nobody row_deed (record { legal = legal; finds = tt; installs_made = λ id e. absurd cc })
-
-  pub row_fits : (actors : List (Option Doing)) → AllFit turns actors → AllFit with_row actors
-  row_fits actors fit = λ place d there. fits_still turns (turn_of nobody row_deed) d.state (fit place d there)
-
 module _
     (more : (generation blocks : ℕ) (turns : List Turn) (who : Who) (deed : Deed) → AreLegal generation blocks turns →
     IsLegalDeed generation blocks turns deed → AreLegal generation blocks (turns ++ turn_of who deed ∷ []))
@@ -149,9 +103,15 @@ module _
       still at m = still_made w.turns (turn_of nobody (AtSlot slot ReadRow reply)) at m
 
   -- The calls remain in their states.
-  pub row_keeps : (given : List Given) → Inv w given → Inv read given
+  pub row_keeps : (given : List Given) → Inv IsRowRead w given → Inv IsRowRead read given
   row_keeps given i = record {
     sound = row_sound i.sound;
+    life = life_apart w.turns nobody (AtSlot slot ReadRow reply) (jobs_of w.actors) i.life (record {
+      seemly = (tt, tt, tt);
+      legal = legal;
+      next = λ j does_it.
+          not_both (does j (AtSlot slot ReadRow reply)) does_it (no_job j (AtSlot slot ReadRow reply) refl);
+    }) refl;
     fates = λ c has.
         let f = i.fates c has in
         record {
@@ -163,7 +123,8 @@ module _
     before = i.before;
     apart = i.apart;
     named = i.named;
-    made = All-push (HasName w.calls) w.turns (turn_of nobody (AtSlot slot ReadRow reply)) i.made (inl refl);
+    made = All-push (HasMaker IsRowRead w.calls) w.turns (turn_of nobody (AtSlot slot ReadRow reply)) i.made
+        (inl (refl, (slot, reply, refl)));
     known = i.known;
     doing = i.doing;
   }

@@ -46,13 +46,13 @@ use Rattle.sysv_steps.specs.WaitsFor.{WaitsFor}
 use Rattle.sysv_core.specs.World.{World, Opening, Started, Doing, Given, begun}
 use Rattle.sysv_core.specs.AnswerLaw.{Fate, stands_in, standing, standing_of, AsksAsItWasAsked}
 use Rattle.sysv_core.specs.Parked.{HasTooFewBlocks, HasChangeToTell, IsToBeWoken, HasToGiveBack}
-use Rattle.sysv_core.proofs.EachRowIsTended.{live_more, or_left, or_right}
-use Rattle.sysv_core.proofs.Histories.{turn_of, slot_more, one, released_more}
+use Rattle.sysv_core.proofs.Life.{or_left, or_right}
+use Rattle.sysv_core.proofs.Histories.{turn_of, slot_more, live_more, one, released_more}
 use Rattle.sysv_core.proofs.Lists.{same_place}
 use Rattle.sysv_core.proofs.PartsOfOneCall.{same_who, same_itself, at_actor}
 use Rattle.sysv_core.proofs.TurnInHistory.{made_at, slot_around}
 use Rattle.sysv_core.proofs.WorldsObey.{Inv}
-use Rattle.sysv_thread_laws.specs.OnThreads.{IsMadeOrRead, ObeysOnThreads}
+use Rattle.sysv_thread_laws.specs.OnThreads.{IsRowRead, IsMadeOrRead, ObeysOnThreads}
 use Rattle.sysv_thread_laws.specs.ParkedOnThreads.{HadReleasedAtSlot}
 use Rattle.sysv_thread_laws.proofs.PlayPrefix.{no_nil, last_or_before, all_at, deeds_around, has_turn}
 use Rattle.sysv_thread_laws.proofs.PoolLater.{later, short_at}
@@ -504,7 +504,8 @@ stands_so who (Some (Some d)) state e =
 
 -- ---- the law
 
-module _ (o : Opening) (w : World) (given : List Given) (i : Inv w given) (lawful : ObeysOnThreads o w given) where
+module _ (o : Opening) (w : World) (given : List Given) (i : Inv IsRowRead w given)
+    (lawful : ObeysOnThreads o w given) where
   in_call : (call : Started) → Contains w.calls call → (state : State) →
       standing_of call.who w.actors ≡ Some state → IsInCall w call state
   in_call call has state e =

@@ -52,7 +52,7 @@ use Rattle.sysv_service.proofs.DoneByPass.{turn_is_made, worn_is_seen, does}
 use Rattle.sysv_service.proofs.MarkStays.{finds_turns, no_mark_by_row, not_worn}
 use Rattle.sysv_service.proofs.PlaysOwnTurns.{plays}
 use Rattle.sysv_core.specs.World.{World, Opening, Given, opening}
-use Rattle.sysv_core.proofs.InstalledOnce.{Counted}
+use Rattle.sysv_core.proofs.Life.{Facts}
 use Rattle.sysv_core.proofs.Lists.{same_place}
 use Rattle.sysv_core.proofs.TurnInHistory.{slot_around}
 use Rattle.sysv_thread_laws.specs.FreeRun.{Moment, LeadsOnThreads}
@@ -265,23 +265,23 @@ works_more old made mid _ _ first (working.asks_row {made = more} {mid = last} s
 
 -- ---- the law
 
--- What is counted of every free run.
-abbrev EachIsCounted : Type 0
-EachIsCounted = (o : Opening) (list : List Moment) (given : List Given) (w : World) →
-    LeadsOnThreads (opening o) list given w → Counted w.turns w.actors
+-- What the turns of every free run say of the identifiers.
+abbrev HasFacts : Type 0
+HasFacts = (o : Opening) (list : List Moment) (given : List Given) (w : World) →
+    LeadsOnThreads (opening o) list given w → Facts w.turns
 
-well_order : EachIsCounted → (generation blocks : ℕ) (order : List Numbered) (calls : List Called) →
+well_order : HasFacts → (generation blocks : ℕ) (order : List Numbered) (calls : List Called) →
     IsServed generation blocks order calls → All (λ (t : Numbered). IsWellInstalled t.deed) order
-well_order counts generation blocks order calls served =
+well_order facts generation blocks order calls served =
     let run = served.run in
-    let counted = counts (opening_for generation blocks calls) run.moments run.given run.world run.leads in
-    let all = all_well generation run.world.turns run.world.actors counted run.obeys.registry in
+    let known = facts (opening_for generation blocks calls) run.moments run.given run.world run.leads in
+    let all = all_well generation run.world.turns known run.obeys.registry in
     subst (All (λ (t : Numbered). IsWellInstalled t.deed)) run.turns.in_order
     (all_renamed run.turns.renamed (subst (All (λ (t : Turn). IsWellInstalled t.deed)) (sym run.turns.in_world) all))
 
 pub stop_empties : SeenHistories → EveryHiringObeys → EveryStopRemoves → NoMarkWithTurnsLeft → EachAnswerIsRight →
-    EachDeedIsAskedFor → EachIsCounted → EveryStopEmpties
-stop_empties histories hiring stopping no_mark right asked counts generation blocks first gates theirs left home before
+    EachDeedIsAskedFor → HasFacts → EveryStopEmpties
+stop_empties histories hiring stopping no_mark right asked facts generation blocks first gates theirs left home before
     last each calls removed worn closed opened hires works more stops fits end turns_left =
     let removals = stopping SLOTS removed worn before last stops in
     let all_calls = calls ++ removals.0 in
@@ -296,7 +296,7 @@ stop_empties histories hiring stopping no_mark right asked counts generation blo
     let known : IsFine (member last).numbers order = record {
       own = at_close.1;
       legal = legal.slots;
-      well = well_order counts generation blocks order (all_of each ++ all_calls) served;
+      well = well_order facts generation blocks order (all_of each ++ all_calls) served;
     } in
     let emptied = stops_all right asked before SLOTS removed worn last stops none
     (subst (IsFine (member last).numbers) at_close.0 known) in

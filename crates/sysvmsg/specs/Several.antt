@@ -1,5 +1,6 @@
 -- Commands that make several calls over one connection (this project's programs), by their options.
-use Rattle.std.specs.Prelude.{ℕ, ◌-◌, ◌^◌, Bool, true, false, Option, None, Some, is_some, ◌||◌, if◌then◌else◌}
+use Rattle.std.specs.Prelude.{ℕ, ◌-◌, ◌^◌, Bool, true, false, Option, None, Some, is_some, unwrap_or, ◌||◌}
+use Rattle.std.specs.Prelude.{if◌then◌else◌}
 use Rattle.sysv_clients.specs.declared.command.Form.{Form}
 use Rattle.sysv_clients.specs.declared.command.Form.TheVariants.{Line, Raw, Zero, Object}
 use Rattle.sysv_clients.specs.declared.command.Receipt.{Receipt}
@@ -21,7 +22,12 @@ count_by None false = 1
 -- The receives of a rcv with these options.
 abbrev pub receiving_of : Cred → Receipt → How → Receiving
 receiving_of cred receipt how =
-    record { cred = cred; receipt = receipt; count = count_by how.count how.follow }
+    record {
+      cred = cred;
+      receipt = receipt;
+      count = count_by how.count how.follow;
+      ahead = unwrap_or how.ahead 1;
+    }
 
 -- A message in this form is not its body and an LF.
 abbrev pub is_of_options : Form → Bool

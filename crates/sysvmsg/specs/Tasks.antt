@@ -12,6 +12,7 @@ use Rattle.sysv_clients.specs.declared.command.Target.{Target}
 use Rattle.sysv_clients.specs.declared.command.Target.TheVariants.{Id, Key, All}
 use Rattle.sysv_clients.specs.declared.command.Task.{Task}
 use Rattle.sysv_clients.specs.declared.command.Task.TheVariants.{List as Table, Show, Remove, Make, Send, Receive}
+use Rattle.sysv_clients.specs.declared.stream.TheConstants.{MAX_AHEAD}
 use Rattle.sysv_clients.specs.Words.{IsId, IsKey, IsType}
 use Rattle.sysv_model.specs.declared.limits.TheConstants.{BODY_ROOM}
 use Rattle.sysv_words.specs.Words.{IsNat32}
@@ -26,12 +27,17 @@ pub record StatesWho (words : List Row) (who : Who) : Type 0 where
   pub gid : HasMaybe IsNat32 (word_of words (codes "gid")) who.gid
   pub pid : HasMaybe IsNat32 (word_of words (codes "pid")) who.pid
 
+-- The word is this number of receives that may be on their way.
+abbrev pub IsAhead : List ℕ → ℕ → Type 0
+IsAhead word ahead = IsNat32 word ahead × (1 ≤ ahead) × (ahead ≤ MAX_AHEAD)
+
 -- A task of a command with these words is run like this.
 pub record HasHow (words : List Row) (how : How) : Type 0 where
   pub from_input : HasFlag words (codes "stdin") how.from_input
   pub lines : HasFlag words (codes "lines") how.lines
   pub follow : HasFlag words (codes "follow") how.follow
   pub count : HasMaybe IsNat32 (word_of words (codes "count")) how.count
+  pub ahead : HasMaybe IsAhead (word_of words (codes "ahead")) how.ahead
   pub wait : HasMaybe IsTime (word_of words (codes "wait")) how.wait
   pub stderr : HasFlag words (codes "stderr") how.stderr
 

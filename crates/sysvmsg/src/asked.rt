@@ -5,7 +5,7 @@ ghost use Rattle.clap.specs.Words.{app_of, subcommand_rows_of};
 ghost use Rattle.sysvmsg.specs.Asked.{AreAtOnce, AreBlocks, AreTerms, AreWorkers, HasLimits, IsWithinLimits};
 ghost use Rattle.sysvmsg.specs.Requests.{AsksFor, ClientAsks, IsAskedBy, IsMeant};
 ghost use Rattle.sysvmsg.specs.Servers.{AsksForAtOnce, AsksForBlocks, AsksForFile, AsksForFileAt, AsksForTerms, AsksForWorkers, AsksToLook, AsksToServe, HasPath, MayAskForStats};
-ghost use Rattle.sysvmsg.specs.Tasks.{AsksToList, AsksToMake, AsksToReceive, AsksToRemove, AsksToSend, HasTask, HasHow, NamesTarget, Receives, ShowsIn, StatesWho, is_json};
+ghost use Rattle.sysvmsg.specs.Tasks.{AsksToList, AsksToMake, AsksToReceive, AsksToRemove, AsksToSend, HasTask, HasHow, NamesTarget, IsAhead, Receives, ShowsIn, StatesWho, is_json};
 ghost use Rattle.sysvmsg.specs.Words.{ArePartsOf, AreSeconds, Has, HasFlag, HasMaybe, HasOr, IsMode, IsOctalMode, IsOn, IsRead, IsThousandths, IsTime, IsUnsigned, WantsType, word_of, words_in};
 ghost use Rattle.sysv_words.specs.Words.{IsNat32, IsNat64};
 ghost use Rattle.sysv_clients.specs.Run.{HasShortText};
@@ -17,7 +17,7 @@ use clap::error::ErrorKind;
 use clap::{ArgMatches, Command as CommandLine, Error};
 use std::alloc::{AllocError, Global};
 use std::convert::AsStr;
-use sysv_clients::{Form, Format, Making, Receipt, Target, Task, id_of, key_of, type_of};
+use sysv_clients::{Form, Format, MAX_AHEAD, Making, Receipt, Target, Task, id_of, key_of, type_of};
 use sysv_model::{BODY_ROOM, MAX_BLOCKS, MIN_BLOCKS};
 use sysv_server::{MAX_CLIENTS, Patience, Terms};
 use sysv_words::{Reads, one_split, split_at_mark};
@@ -51,6 +51,8 @@ pub(crate) struct How {
     pub(crate) follow: bool,
     /// The number of messages that a `rcv` receives.
     pub(crate) count: Option<u32>,
+    /// The number of receives that a `rcv` has on their way.
+    pub(crate) ahead: Option<u32>,
     /// The number of milliseconds that each send or receive waits at most.
     pub(crate) wait: Option<u64>,
     /// Whether each fault is a sentence on standard error.
@@ -142,6 +144,8 @@ const BAD_TIME: Bad =
     "a time is 0 to 4294967295 seconds, with or without a point and one to three more digits";
 
 const BAD_FORM: Bad = "--raw, --zero and --json exclude one another";
+
+const BAD_AHEAD: Bad = "the number of receives ahead is 1 to 64";
 
 const BAD_NUMBER: Bad = "a size, user ID, group ID or process ID is 0 to 4294967295";
 
@@ -252,9 +256,23 @@ fn how_of(words: &ArgMatches<'_>) -> Result<How, Bad>
         lines: has_flag(words, "lines"),
         follow: has_flag(words, "follow"),
         count: number_if(words, "count")?,
+        ahead: ahead_of(words)?,
         wait: time_if(words, "wait")?,
         stderr: has_flag(words, "stderr"),
     })
+}
+
+/// Returns the number of receives that may be on their way, if the command has it.
+fn ahead_of(words: &ArgMatches<'_>) -> Result<Option<u32>, Bad>
+    ensures { IsRead result (HasMaybe IsAhead (word_of (words_in words.now) (codes "ahead"))) }
+{
+    match word_in(words, "ahead") {
+        Some(word) => match u32::read(word.as_bytes()) {
+            Some(ahead) if (1..=MAX_AHEAD).contains(&ahead) => Ok(Some(ahead)),
+            _ => Err(BAD_AHEAD),
+        },
+        None => Ok(None),
+    }
 }
 
 /// Returns the task of a client's command.

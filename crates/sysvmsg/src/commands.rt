@@ -271,6 +271,11 @@ Example:
             Form::Value("N"),
             "Receives N messages over one connection",
         ),
+        (
+            "ahead",
+            Form::ValueWith("A", "count"),
+            "Requests up to A messages ahead, 1 to 64 [default: 1]",
+        ),
         ("follow", Form::Flag, "Receives messages until it is ended"),
         (
             "show-type",
@@ -331,6 +336,10 @@ Example:
         },
         Group {
             of: &["count", "follow"],
+            required: false,
+        },
+        Group {
+            of: &["ahead", "follow"],
             required: false,
         },
         Group {
@@ -505,13 +514,13 @@ pub(crate) fn command_named<'a>(alloc: Global, name: &str) -> Result<Command<'a>
 fn command_of<'a>(alloc: Global, known: Known) -> Result<Command<'a>, AllocError> {
     let mut command = with_arguments(alloc, known)?;
     for (place, group) in known.groups.iter().enumerate() {
-        command = command.group(group_of(alloc, NAMES[place.min(3)], *group)?)?;
+        command = command.group(group_of(alloc, NAMES[place.min(4)], *group)?)?;
     }
     Ok(command)
 }
 
-/// The names of the groups of a command, which has at most four.
-const NAMES: [&str; 4] = ["one", "two", "three", "four"];
+/// The names of the groups of a command, which has at most five.
+const NAMES: [&str; 5] = ["one", "two", "three", "four", "five"];
 
 fn with_arguments<'a>(alloc: Global, known: Known) -> Result<Command<'a>, AllocError> {
     let mut command = Command::new(alloc, known.name)

@@ -23,6 +23,8 @@ pub(crate) struct Leaver<R> {
     is_leaving: bool,
     /// Whether the session ended after that.
     has_left: bool,
+    /// Whether the session ended after that, perhaps after further replies.
+    has_ended: bool,
 }
 
 impl<R: Leave> Leaver<R> {
@@ -38,6 +40,7 @@ impl<R: Leave> Leaver<R> {
             may_leave: true,
             is_leaving: false,
             has_left: false,
+            has_ended: false,
         }
     }
 
@@ -52,6 +55,12 @@ impl<R: Leave> Leaver<R> {
     /// Returns whether the call was left and the session then ended without a reply.
     pub(crate) fn has_left(&self) -> bool {
         self.has_left
+    }
+
+    /// Returns whether the call was left, and the session then ended, perhaps after further replies.
+    /// No call without a reply had an effect then.
+    pub(crate) fn has_ended(&self) -> bool {
+        self.has_ended
     }
 
     /// Returns whether the time was over and the last call had no effect: it was left and the
@@ -88,6 +97,7 @@ impl<R: Leave> Read for Leaver<R> {
                 why,
             outcome => {
                 self.is_served |= outcome.is_ok();
+                self.has_ended |= self.is_leaving && matches!(outcome, Ok(0));
                 return outcome;
             }
         };
@@ -99,6 +109,7 @@ impl<R: Leave> Read for Leaver<R> {
         }
         let outcome = self.reader.read(buf);
         self.has_left = matches!(outcome, Ok(0));
+        self.has_ended = self.has_left;
         outcome
     }
 }

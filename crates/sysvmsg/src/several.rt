@@ -120,6 +120,7 @@ fn receiving(cred: Cred, receipt: Receipt, how: &How) -> Receiving
         cred,
         receipt,
         count,
+        ahead: how.ahead.unwrap_or(1),
     }
 }
 
@@ -182,7 +183,9 @@ fn receive_over<R: Leave + Drop, W: Write + Drop, S: Write>(
 {
     let (mut leaver, mut outgoing) = (Leaver::new(reader, wait), Outgoing::new(writer));
     match receive_through(alloc, &mut leaver, &mut outgoing, receiving, screen) {
-        Err(Stop::Fault(ClientFault::NoReply)) if leaver.is_over(&outgoing) => {
+        Err(Stop::Fault(ClientFault::NoReply))
+            if leaver.has_ended() || leaver.is_over(&outgoing) =>
+        {
             Err(Failure::late(Stop::Fault(ClientFault::Refused(Errno::ENOMSG))))
         }
         Err(stop) => Err(Failure::of(stop)),

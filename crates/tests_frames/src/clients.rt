@@ -1,4 +1,5 @@
 //! Clients over bytes that were worked out by hand.
+mod ahead;
 mod growths;
 mod options;
 mod several;

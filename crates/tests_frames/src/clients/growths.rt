@@ -36,6 +36,7 @@ fn receives_of_client(rt: HostRuntime) {
         cred: WHO,
         receipt: ANY,
         count: 2,
+        ahead: 1,
     };
     let _marked = mark(rt.alloc());
     let outcome = receive_all(

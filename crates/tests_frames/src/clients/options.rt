@@ -209,6 +209,7 @@ impl Talk {
             cred: WHO,
             receipt: ANY,
             count,
+            ahead: 1,
         };
         receive_all(
             alloc,
@@ -289,6 +290,7 @@ fn a_watched_screen_has_failed_if_it_ended_the_receives(rt: HostRuntime) {
             cred: WHO,
             receipt: ANY,
             count: 2,
+            ahead: 1,
         };
         let mut screen = Watched::new(&mut talk.screen);
         let outcome = receive_watched(

@@ -1,6 +1,6 @@
 use Rattle.sysv_core.proofs.BlocksConserved.{BlockLaws}
 use Rattle.sysv_core.proofs.WorldsObey.{Laws}
-use Rattle.sysv_thread_laws.proofs.ThreadsObey.{run_is_counted}
+use Rattle.sysv_thread_laws.proofs.ThreadsObey.{run_keeps}
 use Rattle.sysv_thread_laws.proofs.StopEmpties.{stop_empties}
 use Rattle.sysv_thread_laws.proofs.laws.every_stop_empties.Goals as goal
 
@@ -25,5 +25,5 @@ returns c =
     c.every_hiring_obeys.ensures.unmarked
     c.each_answer_is_right.ensures
     c.each_deed_is_asked_for.ensures
-    (run_is_counted c.each_world_is_sound.ensures.stays c.legal_turns.ensures.more blocks laws
-    c.legal_turns.ensures.none)
+    (λ o list given w led.
+    (run_keeps c.legal_turns.ensures.more blocks laws c.legal_turns.ensures.none o list given w led).life.facts)

@@ -20,4 +20,4 @@ returns c =
       one_effect = c.each_has_one_effect.ensures;
       told = c.after_removal.ensures;
     } in
-    run_obeys c.each_world_is_sound.ensures.stays c.legal_turns.ensures.more blocks laws c.legal_turns.ensures.none
+    run_obeys c.legal_turns.ensures.more blocks laws c.legal_turns.ensures.none

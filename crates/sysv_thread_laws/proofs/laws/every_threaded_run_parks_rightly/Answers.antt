@@ -30,4 +30,4 @@ returns c =
       holds = c.each_holds_what_it_was_asked.ensures;
     } in
     parked_on_threads stays c.every_threaded_run_obeys.ensures
-    (run_keeps c.each_world_is_sound.ensures.stays c.legal_turns.ensures.more blocks laws c.legal_turns.ensures.none)
+    (run_keeps c.legal_turns.ensures.more blocks laws c.legal_turns.ensures.none)

@@ -1,63 +1,80 @@
-use Rattle.std.proofs.Common.{arith, refl, subst, ◌∙◌}
-use Rattle.std.specs.Int.{w32}
-use Rattle.std.specs.Io.KnownBytes.{Appends}
-use Rattle.std.proofs.lemmas.Int.{to_z-of_z}
+use Rattle.std.proofs.Common.{arith, refl, ◌∙◌, ◌-◌}
 use Rattle.std.proofs.lemmas.Result.{err_from_is_err_and}
-use Rattle.sysv_model.specs.Watched.{stream_of}
-use Rattle.sysv_model.specs.Writing.{AppendsPrefix}
-use Rattle.sysv_clients.specs.declared.style.Style.{Style}
-use Rattle.sysv_clients.specs.Stream.{received_text}
-use Rattle.sysv_clients.proofs.StreamLemmas.{breaks_off, goes_on, screen_fails, starts}
+use Rattle.sysv_clients.proofs.StreamLemmas.{as_prefix, as_shown, asks_more, begins, finishes, loses, stops_at}
+use Rattle.sysv_clients.proofs.StreamLemmas.{stops_writing, takes_more, unfound, unshown}
 use Rattle.sysv_clients.proofs.stream.Taker.take_all.Goals as goal
 
-pub loop-ask-init : goal.loop-ask-init
-loop-ask-init g c = record {
-  streaming = starts c.args.receiving.now _ _ _;
-  text = c.requires;
-  screen = record { same = refl; failed = refl };
-  few = omega arith;
-  same_reader = refl;
-  same_writer = refl;
-}
-
-pub loop-ask-preserved : goal.loop-ask-preserved
-loop-ask-preserved g c =
-    let given = c.exchange.new.given in
-    let shown = subst (λ (s : Style).
-    Appends (g.S.Write.contents (stream_of c.loop-ask.screen)) (g.S.Write.contents (stream_of c.show.new.screen))
-    (received_text s c.in_ok-answer.answer given)) c.of_receipt-style.ensures c.in_ok-show.ensures.ok in
-    record {
-      streaming = rw (to_z-of_z w32 c.found-id.result (record { sfits = c.found-id.type_inv }), c.found-id.ensures)
-          (goes_on c.args.receiving.now c.in-Some.ask c.in_ok-answer.answer given _ _ _ _ _ _ _ _
-          _
-          c.loop-ask.self.text c.loop-ask.place _ c.loop-ask.invariant.streaming c.in-Some.ensures.ask
-          c.in_ok-answer.ensures.exchanges shown);
-      text = c.show.ensures.text ∙ c.loop-ask.invariant.text;
-      screen = record {
-        same = c.in_ok-show.ensures.kept.same ∙ c.loop-ask.invariant.screen.same;
-        failed = c.in_ok-show.ensures.kept.failed ∙ c.loop-ask.invariant.screen.failed;
-      };
-      few = omega (arith, c.in-Some.ensures.few);
-      same_reader = c.exchange.ensures.same_reader ∙ c.loop-ask.invariant.same_reader;
-      same_writer = c.exchange.ensures.same_writer ∙ c.loop-ask.invariant.same_writer;
-    }
-
-pub returns-in_err-answer-clause-takes : goal.returns-in_err-answer-clause-takes
-returns-in_err-answer-clause-takes g c =
+pub returns-in_err-taking-clause-takes : goal.returns-in_err-taking-clause-takes
+returns-in_err-taking-clause-takes g c =
     let p = err_from_is_err_and c.from_residual.result c.from_residual.ensures.1 in
     rw (p.1, p.2)
-    (breaks_off c.args.receiving.now c.in_err-answer.field-0.0 c.in-Some.ask c.exchange.new.given _ _ _ _ _ _ _ _
-    c.loop-ask.self.text c.loop-ask.place _ c.loop-ask.invariant.streaming c.in-Some.ensures.ask
-    c.loop-ask.invariant.text c.in_err-answer.ensures.exchanges)
+    (unfound c.args.receiving.now c.in_err-taking.field-0.0 _ _ _ _ _ c.in_err-taking.ensures.finds)
 
-pub returns-in_err-show-clause-takes : goal.returns-in_err-show-clause-takes
-returns-in_err-show-clause-takes g c =
-    let p = err_from_is_err_and c.from_residual-in_err-show.result c.from_residual-in_err-show.ensures.1 in
-    let given = c.exchange.new.given in
-    let shown = subst (λ (s : Style).
-    AppendsPrefix (g.S.Write.contents (stream_of c.loop-ask.screen)) (g.S.Write.contents (stream_of c.show.new.screen))
-    (received_text s c.in_ok-answer.answer given)) c.of_receipt-style.ensures c.in_err-show.ensures.err in
-    rw (p.1, p.2)
-    (screen_fails c.args.receiving.now c.in-Some.ask c.in_ok-answer.answer given _ _ _ _ _ _ _ _ _
-    c.loop-ask.self.text c.loop-ask.place _ c.loop-ask.invariant.streaming c.in-Some.ensures.ask
-    c.in_ok-answer.ensures.exchanges shown)
+pub loop-taking-init : goal.loop-taking-init
+loop-taking-init g c = record {
+  takes = begins c.args.receiving.now c.in_ok-taking.taking _ _ _ _ _ c.in_ok-taking.ensures.finds;
+  text = c.find.ensures.text ∙ c.requires;
+  screen = record { same = refl; failed = refl };
+  same_reader = c.find.ensures.same_reader;
+  same_writer = c.find.ensures.same_writer;
+}
+
+pub returns-in-Err-clause-takes : goal.returns-in-Err-clause-takes
+returns-in-Err-clause-takes g c =
+    let r = c.in-Err.ensures.requests in
+    c.finish.ensures.stops c.args.receiving.now _ _ _ _ c.of_receipt-style.ensures
+    (rw (r.0, c.request.ensures.ask)
+    (stops_writing c.args.receiving.now _ _ _ _ _ _ _ c.loop-taking.taking r.1 c.loop-taking.invariant.takes r.2 r.3
+    r.4 r.5))
+
+pub returns-in-Refused-clause-takes : goal.returns-in-Refused-clause-takes
+returns-in-Refused-clause-takes g c =
+    let r = c.in-Ok.ensures.requests in
+    let asked = asks_more c.args.receiving.now _ _ _ _ _ _ _ c.loop-taking.taking c.request.new.taking r.0
+    c.loop-taking.invariant.takes c.request.ensures.ask c.request.ensures.owed r.1 r.3 r.4 r.5 in
+    let h = c.in-Refused.ensures.takes in
+    c.finish-in-Refused.ensures.stops c.args.receiving.now _ _ _ _ c.of_receipt-style.ensures
+    (stops_at c.args.receiving.now c.in-Refused.error _ _ _ _ _ _ _ _ _ (c.request.new.taking.waiting - 1) asked
+    (omega (arith, r.2)) h.1 h.0)
+
+pub returns-in-Lost-clause-takes : goal.returns-in-Lost-clause-takes
+returns-in-Lost-clause-takes g c =
+    let r = c.in-Ok.ensures.requests in
+    let asked = asks_more c.args.receiving.now _ _ _ _ _ _ _ c.loop-taking.taking c.request.new.taking r.0
+    c.loop-taking.invariant.takes c.request.ensures.ask c.request.ensures.owed r.1 r.3 r.4 r.5 in
+    let h = c.in-Lost.ensures.takes in
+    loses c.args.receiving.now _ _ _ _ _ _ _ _ _ asked r.2 h.1 h.0
+
+pub returns-in-Unshown-clause-takes : goal.returns-in-Unshown-clause-takes
+returns-in-Unshown-clause-takes g c =
+    let r = c.in-Ok.ensures.requests in
+    let h = c.in-Unshown.ensures.takes in
+    let asked = asks_more c.args.receiving.now _ _ _ _ _ _ _ c.loop-taking.taking c.request.new.taking r.0
+    c.loop-taking.invariant.takes c.request.ensures.ask c.request.ensures.owed r.1 r.3 r.4 r.5 in
+    unshown c.args.receiving.now h.0 h.1 _ _ _ _ _ _ _ _ _ (c.request.new.taking.waiting - 1) asked
+    (omega (arith, r.2)) h.2 h.3 (as_prefix _ _ h.0 h.1 _ _ c.of_receipt-style.ensures h.4)
+
+pub loop-taking-preserved : goal.loop-taking-preserved
+loop-taking-preserved g c =
+    let r = c.in-Ok.ensures.requests in
+    let h = c.in-Message.ensures.takes in
+    let asked = asks_more c.args.receiving.now _ _ _ _ _ _ _ c.loop-taking.taking c.request.new.taking r.0
+    c.loop-taking.invariant.takes c.request.ensures.ask c.request.ensures.owed r.1 r.3 r.4 r.5 in
+    record {
+      takes = takes_more c.args.receiving.now h.0 h.1 _ _ _ _ _ _ _ _ c.request.new.taking
+          (c.request.new.taking.owed - 1) (c.request.new.taking.waiting - 1) asked (omega (arith, r.2))
+          (omega (arith, c.loop-taking-test.true, c.request.ensures.owed)) h.2 h.3
+          (as_shown _ _ h.0 h.1 _ _ c.of_receipt-style.ensures h.4);
+      text = c.take.ensures.text ∙ c.loop-taking.invariant.text;
+      screen = record {
+        same = c.take.ensures.screen.same ∙ c.loop-taking.invariant.screen.same;
+        failed = c.in-Message.ensures.screen.failed ∙ c.loop-taking.invariant.screen.failed;
+      };
+      same_reader = c.take.ensures.same_reader ∙ c.loop-taking.invariant.same_reader;
+      same_writer = c.request.ensures.same_writer ∙ c.loop-taking.invariant.same_writer;
+    }
+
+pub returns-clause-takes : goal.returns-clause-takes
+returns-clause-takes g c =
+    finishes c.args.receiving.now _ _ _ _ _ _ c.loop-taking.taking _ c.loop-taking.invariant.takes
+    (omega (arith, c.loop-taking-test.false))

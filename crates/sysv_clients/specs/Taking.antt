@@ -1,0 +1,119 @@
+-- A session of several messages in progress: the queue was found, and some receives are on their way.
+use Rattle.std.specs.Prelude.{◌≡◌, ◌+◌, ◌≤◌, ◌<◌, ⊤, ℕ, Bool, true, false, List, [], ◌++◌, length, Option, None, Result}
+use Rattle.std.specs.Prelude.{Ok, Err}
+use Rattle.std.specs.Io.KnownBytes.{Appends, Consumes}
+use Rattle.sysv_clients.specs.declared.fault.ClientFault.{ClientFault}
+use Rattle.sysv_clients.specs.declared.fault.ClientFault.TheVariants as fault
+use Rattle.sysv_clients.specs.declared.stream.Receiving.{Receiving}
+use Rattle.sysv_clients.specs.declared.stream.Taking.{Taking}
+use Rattle.sysv_clients.specs.declared.stream.Took.{Took}
+use Rattle.sysv_clients.specs.declared.stream.Took.TheVariants.{Message, Refused, Lost, Unshown}
+use Rattle.sysv_clients.specs.declared.style.Style.{Style}
+use Rattle.sysv_clients.specs.Calls.{BreaksPlan, Call, Each, FollowsPlan, IsCallDone, Made, read_by, written_by}
+use Rattle.sysv_clients.specs.Stream.{IsReplied, ahead_of, count_of, finding_plan, received_text, repeated_spelling}
+use Rattle.sysv_clients.specs.Stream.{IsRefusedIn, shown_by, taking_ask}
+use Rattle.sysv_clients.specs.Style.{style_of_receipt}
+use Rattle.sysv_clients.specs.Talk.{HasNoReply, IsDone, reply_to}
+use Rattle.sysv_model.specs.declared.errno.Errno.{Errno}
+use Rattle.sysv_model.specs.declared.watched.WriteFault.{WriteFault}
+use Rattle.sysv_model.specs.Writing.{AppendsPrefix}
+use Rattle.sysv_wire.specs.declared.reply.ReplyContent.{ReplyContent}
+use Rattle.sysv_wire.specs.declared.reply.ReplyContent.TheVariants as content
+use Rattle.sysv_wire.specs.declared.request.Ask.{Ask}
+use Rattle.sysv_wire.specs.Replies.{reply_spelling}
+
+-- The requests before the first receive were made, or one of them ends the session.
+abbrev pub Finds : Receiving → Result Taking ClientFault → (left rest taken more : Option (List ℕ)) → Type 0
+Finds receiving (Ok taking) left rest taken more =
+    (opened : List Call) × Made IsCallDone (finding_plan receiving) opened left rest taken more
+    × (finding_plan receiving opened ≡ None) × (taking.ask ≡ taking_ask receiving opened)
+    × (taking.owed ≡ count_of receiving) × (taking.waiting ≡ 0)
+Finds receiving (Err why) left rest taken more =
+    (opened : List Call) × (unread written : Option (List ℕ))
+    × Made IsCallDone (finding_plan receiving) opened left unread taken written
+    × BreaksPlan (finding_plan receiving) opened [] why unread rest written more
+
+-- The call is this request, sends no body and was done.
+abbrev pub IsTaken : Ask → Call → Type 0
+IsTaken ask call = (call.ask ≡ ask) × (call.text ≡ []) × IsCallDone call
+
+-- The queue was found, and messages were received. Each of them was shown.
+pub record Takes (receiving : Receiving) (left rest taken more shown after : Option (List ℕ)) (taking : Taking) :
+    Type 0 where
+  pub opened : List Call
+  pub takes : List Call
+  pub follows : FollowsPlan IsCallDone (finding_plan receiving) [] opened
+  pub found : finding_plan receiving opened ≡ None
+  pub ask : taking.ask ≡ taking_ask receiving opened
+  pub took : Each (IsTaken (taking_ask receiving opened)) takes
+  pub reads : Consumes left rest (read_by (opened ++ takes))
+  pub writes : Appends taken more
+      (written_by (opened ++ takes) ++ repeated_spelling (taking_ask receiving opened) taking.waiting)
+  pub shows : Appends shown after (shown_by (style_of_receipt receiving.receipt) takes)
+  pub owes : length takes + taking.owed ≡ count_of receiving
+  pub due : taking.waiting ≤ taking.owed
+  pub few : taking.waiting ≤ ahead_of receiving
+
+-- More receives were written, so that some are on their way. Or the writer failed in some of them.
+abbrev pub RequestsMore : (owed ahead : ℕ) → Result ⊤ WriteFault → (waiting now : ℕ) → Ask →
+    (taken more : Option (List ℕ)) → Type 0
+RequestsMore owed ahead (Ok done) waiting now ask taken more =
+    (added : ℕ) × (now ≡ waiting + added) × (0 < now) × (now ≤ owed) × (now ≤ ahead)
+    × Appends taken more (repeated_spelling ask added)
+RequestsMore owed ahead (Err fault) waiting now ask taken more =
+    (now ≡ waiting) × (added : ℕ) × (0 < added) × (waiting + added ≤ owed) × (waiting + added ≤ ahead)
+    × AppendsPrefix taken more (repeated_spelling ask added)
+
+-- What was read as the reply to this receive, and what was shown of it. If the screen failed, it is
+-- a message.
+abbrev pub TakesOne : Style → Ask → Took → (left rest shown after : Option (List ℕ)) → Type 0
+TakesOne style ask Message left rest shown after =
+    (answer : ReplyContent) × (given : List ℕ) × Consumes left rest (reply_spelling (reply_to ask answer) given)
+    × IsDone ask answer given × Appends shown after (received_text style answer given)
+TakesOne style ask (Refused error) left rest shown after =
+    Consumes left rest (reply_spelling (reply_to ask (content.Refused error)) []) × (after ≡ shown)
+TakesOne style ask Lost left rest shown after = HasNoReply ask left rest × (after ≡ shown)
+TakesOne style ask Unshown left rest shown after =
+    (answer : ReplyContent) × (given : List ℕ) × Consumes left rest (reply_spelling (reply_to ask answer) given)
+    × IsDone ask answer given × AppendsPrefix shown after (received_text style answer given)
+
+-- The screen failed.
+abbrev pub is_unshown : Took → Bool
+is_unshown Message = false
+is_unshown (Refused error) = false
+is_unshown Lost = false
+is_unshown Unshown = true
+
+-- The receives with a reply by a fault that was met: one was refused, or all were done and the
+-- writer failed in this number of later ones.
+abbrev pub MeetsFault : ClientFault → (ahead waiting unwritten : ℕ) → List Call → Type 0
+MeetsFault (fault.Refused error) ahead waiting unwritten takes = IsRefusedIn error ahead (waiting + unwritten) takes
+MeetsFault fault.NoReply ahead waiting unwritten takes = Each IsCallDone takes × (1 ≤ unwritten)
+MeetsFault fault.NoMemory ahead waiting unwritten takes = ⊥
+
+-- The fault of the first of two receives without a message: of one that met this fault, and of one
+-- that was refused with this error. A receive that the writer did not take is the later one.
+abbrev pub first_fault : ClientFault → Errno → ClientFault
+first_fault (fault.Refused first) error = fault.Refused first
+first_fault fault.NoReply error = fault.Refused error
+first_fault fault.NoMemory error = fault.Refused error
+
+-- The session met this fault, and this number of receives is on its way. Nothing more is requested.
+pub record Stops (receiving : Receiving) (why : ClientFault) (left rest taken more shown after : Option (List ℕ))
+    (ask : Ask) (waiting : ℕ) : Type 0 where
+  pub opened : List Call
+  pub takes : List Call
+  pub unwritten : ℕ  -- the number of receives in which the writer failed
+  pub written : Option (List ℕ)  -- what the writer had taken of the others
+  pub follows : FollowsPlan IsCallDone (finding_plan receiving) [] opened
+  pub found : finding_plan receiving opened ≡ None
+  pub asks : ask ≡ taking_ask receiving opened
+  pub replied : Each (IsReplied (taking_ask receiving opened)) takes
+  pub meets : MeetsFault why (ahead_of receiving) waiting unwritten takes
+  pub reads : Consumes left rest (read_by (opened ++ takes))
+  pub writes : Appends taken written
+      (written_by (opened ++ takes) ++ repeated_spelling (taking_ask receiving opened) waiting)
+  pub breaks : AppendsPrefix written more (repeated_spelling (taking_ask receiving opened) unwritten)
+  pub shows : Appends shown after (shown_by (style_of_receipt receiving.receipt) takes)
+  pub owed : length takes + (waiting + unwritten) ≤ count_of receiving
+  pub few : waiting + unwritten ≤ ahead_of receiving

@@ -1,0 +1,222 @@
+//! Receives that are on their way together.
+use super::*;
+use sysv_clients::{ClientFault, MAX_AHEAD, Receiving, Stop, receive_all};
+use sysv_model::Errno;
+
+/// The reply that a receive is refused with E2BIG. `UNTAKEN` is the one with ENOMSG.
+const TOO_BIG: &[u8] = b"\0\0\0\x03\x02\x03\x07";
+
+const UNTAKEN: &[u8] = b"\0\0\0\x03\x02\x03\x2a";
+
+/// Receives up to this number of messages, of which so many may be requested before they come.
+fn receive(talk: &mut Talk, alloc: Global, count: u64, ahead: u32) -> Result<(), Stop> {
+    receive_as(talk, alloc, count, ahead, ANY)
+}
+
+fn receive_as(
+    talk: &mut Talk,
+    alloc: Global,
+    count: u64,
+    ahead: u32,
+    receipt: Receipt,
+) -> Result<(), Stop> {
+    let receiving = Receiving {
+        cred: WHO,
+        receipt,
+        count,
+        ahead,
+    };
+    receive_all(
+        alloc,
+        &receiving,
+        &mut talk.replies,
+        &mut talk.requests,
+        &mut talk.screen,
+    )
+}
+
+const NO_MEMORY: Result<(), Stop> = Err(Stop::Fault(ClientFault::NoMemory));
+
+/// Returns a talk with this number of messages.
+fn talk_of(rt: &impl Abort, alloc: Global, messages: u64) -> Talk {
+    let mut talk = Talk::new(rt, alloc, &[WELCOME, GOT]);
+    for _ in 0..messages {
+        talk.replies.put(MESSAGE);
+    }
+    talk
+}
+
+/// Returns the requests of a session with this number of receives.
+fn requested(rt: &impl Abort, alloc: Global, receives: u64) -> Tape {
+    let mut tape = joined(rt, alloc, &[HELLO, GET]);
+    for _ in 0..receives {
+        tape.put(RECEIVE);
+    }
+    tape
+}
+
+/// Returns what a screen shows of this number of messages.
+fn shown(rt: &impl Abort, alloc: Global, messages: u64) -> Tape {
+    let mut tape = Tape::new(rt, alloc);
+    for _ in 0..messages {
+        tape.put(b"abc\n");
+    }
+    tape
+}
+
+#[test]
+fn receives_are_requested_in_a_window(rt: HostRuntime) {
+    // (the receives that are flushed together: all, or a window and then half of one each time)
+    let table: [(u64, u32, usize); 9] = [
+        (0, 64, 0),
+        (1, 64, 1),
+        (3, 64, 1),
+        (64, 64, 1),
+        (65, 64, 2),
+        (200, 64, 6),
+        (5, 2, 4),
+        (5, 1, 5),
+        (5, 0, 5),
+    ];
+    for (count, ahead, flushes) in table {
+        let mut talk = talk_of(&rt, rt.alloc(), count);
+        let outcome = receive(&mut talk, rt.alloc(), count, ahead);
+        if outcome == NO_MEMORY {
+            return;
+        }
+        assert!(rt; outcome.is_ok(), "{count}, {ahead}");
+        assert!(rt; talk.requests.text() == requested(&rt, rt.alloc(), count).text(), "{count}");
+        assert_eq!(rt; talk.requests.flushed, flushes.min(9) + 2, "{count}, {ahead}");
+        assert!(rt; talk.screen.text() == shown(&rt, rt.alloc(), count).text(), "{count}");
+        assert_eq!(rt; talk.screen.flushed as u64, count, "{count}");
+        assert_is(&rt, talk.replies.read, talk.replies.len());
+    }
+}
+
+#[test]
+fn no_more_than_a_window_is_requested(rt: HostRuntime) {
+    let table: [(u64, u32, u64); 6] = [
+        (99, 64, 64),
+        (99, 65, 64),
+        (99, u32::MAX, 64),
+        (7, 64, 7),
+        (99, 3, 3),
+        (u64::MAX, MAX_AHEAD, 64),
+    ];
+    for (count, ahead, requests) in table {
+        // (there is no reply to a receive)
+        let mut talk = talk_of(&rt, rt.alloc(), 0);
+        let outcome = receive(&mut talk, rt.alloc(), count, ahead);
+        if outcome == NO_MEMORY {
+            return;
+        }
+        assert!(rt; outcome == Err(Stop::Fault(ClientFault::NoReply)));
+        let wanted = requested(&rt, rt.alloc(), requests);
+        assert!(rt; talk.requests.text() == wanted.text(), "{count}, {ahead}");
+    }
+}
+
+#[test]
+fn a_receive_that_does_not_wait_is_alone(rt: HostRuntime) {
+    let mut talk = Talk::new(&rt, rt.alloc(), &[WELCOME, GOT, MESSAGE, UNTAKEN, MESSAGE]);
+    let receipt = Receipt {
+        nowait: true,
+        ..ANY
+    };
+    let outcome = receive_as(&mut talk, rt.alloc(), 9, 64, receipt);
+    if outcome == NO_MEMORY {
+        return;
+    }
+    assert!(rt; outcome == Err(Stop::Fault(ClientFault::Refused(Errno::ENOMSG))));
+    assert_is(&rt, talk.requests.flushed, 4);
+    assert!(rt; talk.screen.text() == b"abc\n".as_slice());
+    assert_is(&rt, talk.replies.read, talk.replies.len() - MESSAGE.len());
+}
+
+#[test]
+fn messages_that_come_after_a_refusal_are_shown(rt: HostRuntime) {
+    let table: [(&[&[u8]], Errno, u64); 4] = [
+        (&[TOO_BIG, MESSAGE, MESSAGE, MESSAGE], Errno::E2BIG, 3),
+        (&[MESSAGE, UNTAKEN, TOO_BIG, MESSAGE], Errno::ENOMSG, 2),
+        (&[MESSAGE, TOO_BIG, MESSAGE, UNTAKEN], Errno::E2BIG, 2),
+        // (there is no reply to the others)
+        (&[MESSAGE, TOO_BIG, MESSAGE], Errno::E2BIG, 2),
+    ];
+    for (replies, error, messages) in table {
+        let mut talk = talk_of(&rt, rt.alloc(), 0);
+        for reply in replies {
+            talk.replies.put(reply);
+        }
+        let outcome = receive(&mut talk, rt.alloc(), 99, 4);
+        if outcome == NO_MEMORY {
+            return;
+        }
+        assert!(rt; outcome == Err(Stop::Fault(ClientFault::Refused(error))));
+        assert!(rt; talk.requests.text() == requested(&rt, rt.alloc(), 4).text());
+        assert!(rt; talk.screen.text() == shown(&rt, rt.alloc(), messages).text());
+        assert_is(&rt, talk.replies.read, talk.replies.len());
+    }
+}
+
+#[test]
+fn messages_on_their_way_are_shown_if_the_writer_fails(rt: HostRuntime) {
+    let sent = HELLO.len() + GET.len() + 4 * RECEIVE.len();
+    let last: [(&[u8], ClientFault, u64); 3] = [
+        (MESSAGE, ClientFault::NoReply, 4),
+        (TOO_BIG, ClientFault::Refused(Errno::E2BIG), 3),
+        (b"", ClientFault::NoReply, 3),
+    ];
+    for (reply, fault, messages) in last {
+        for room in sent..sent + 2 * RECEIVE.len() {
+            let mut talk = talk_of(&rt, rt.alloc(), 3);
+            talk.replies.put(reply);
+            talk.requests.good = room;
+            let outcome = receive(&mut talk, rt.alloc(), 99, 4);
+            if outcome == NO_MEMORY {
+                return;
+            }
+            assert!(rt; outcome == Err(Stop::Fault(fault)), "{room}");
+            let all = requested(&rt, rt.alloc(), 6);
+            assert!(rt; Some(talk.requests.text()) == all.text().get(..room), "{room}");
+            assert!(rt; talk.screen.text() == shown(&rt, rt.alloc(), messages).text(), "{room}");
+        }
+    }
+}
+
+#[test]
+fn the_writer_fails_before_a_receive_is_on_its_way(rt: HostRuntime) {
+    let begun = HELLO.len() + GET.len();
+    for room in begun..begun + 4 * RECEIVE.len() {
+        let mut talk = talk_of(&rt, rt.alloc(), 4);
+        talk.requests.good = room;
+        let outcome = receive(&mut talk, rt.alloc(), 99, 4);
+        if outcome == NO_MEMORY {
+            return;
+        }
+        assert!(rt; outcome == Err(Stop::Fault(ClientFault::NoReply)), "{room}");
+        let all = requested(&rt, rt.alloc(), 4);
+        assert!(rt; Some(talk.requests.text()) == all.text().get(..room), "{room}");
+        assert_eq!(rt; talk.replies.read, WELCOME.len() + GOT.len(), "{room}");
+    }
+}
+
+#[test]
+fn a_screen_that_fails_ends_the_receives_on_their_way(rt: HostRuntime) {
+    for room in 4..8 {
+        let mut talk = talk_of(&rt, rt.alloc(), 9);
+        talk.screen.good = room;
+        let outcome = receive(&mut talk, rt.alloc(), 9, 4);
+        if outcome == NO_MEMORY {
+            return;
+        }
+        assert!(rt; outcome == Err(Stop::Screen), "{room}");
+        assert!(rt; talk.requests.text() == requested(&rt, rt.alloc(), 4).text(), "{room}");
+        assert!(rt; talk.screen.text() == &b"abc\nabc\n"[..room], "{room}");
+    }
+    // (also at a message after a refusal)
+    let mut talk = Talk::new(&rt, rt.alloc(), &[WELCOME, GOT, TOO_BIG, MESSAGE, MESSAGE]);
+    talk.screen.good = 6;
+    let outcome = receive(&mut talk, rt.alloc(), 9, 4);
+    assert!(rt; outcome == NO_MEMORY || outcome == Err(Stop::Screen));
+    assert!(rt; outcome == NO_MEMORY || talk.screen.text() == b"abc\nab".as_slice());
+}
