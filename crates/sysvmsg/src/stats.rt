@@ -4,12 +4,12 @@ ghost use Rattle.std.specs.Io.KnownBytes.{Appends, Consumes, IsAtEnd};
 ghost use Rattle.sysvmsg.specs.Ends.{Succeeds, SucceedsOnlyIf};
 ghost use Rattle.sysvmsg.specs.Stats.{HasLooked, asked_with};
 
+use crate::FAULT;
 use crate::asked::Looking;
 use crate::input::{Unread, read_some};
 use crate::leaver::bound;
 use crate::place::Place;
 use crate::teller::Teller;
-use crate::FAULT;
 use std::alloc::Global;
 use std::io::{Eprint, Read, Write};
 use std::process::ExitCode;
