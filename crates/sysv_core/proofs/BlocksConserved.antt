@@ -1,6 +1,6 @@
 -- A turn moves blocks between the pool, the queues and the call that makes it. It makes or loses
 -- none.
-use Rattle.std.proofs.Common.{◌≡◌, ◌≢◌, inl, inr, ℕ, zero, suc, ℤ, pos, ◌+◌, ◌<◌, ◌≤◌, Bool, true, false, cond, List}
+use Rattle.std.proofs.Common.{◌≡◌, ◌≢◌, inl, inr, ℕ, zero, suc, ℤ, ◌+◌, ◌<◌, ◌≤◌, Bool, true, false, cond, List}
 use Rattle.std.proofs.Common.{[], ◌∷◌, ◌++◌, Option, None, Some, refl, sym, ap, subst, ◌∙◌, arith, slice_get, slice_set}
 use Rattle.std.proofs.Common.{replicate, unsigned_abs}
 use Rattle.std.specs.List.{All, Contains, sum_by, range_with_len}
@@ -12,8 +12,7 @@ use Rattle.std.proofs.lemmas.List.Elements.{All-push}
 use Rattle.std.proofs.lemmas.List.Sums.{sum_by-cons}
 use Rattle.sysv_model.specs.declared.cred.Cred.{Cred}
 use Rattle.sysv_model.specs.declared.errno.Errno.TheVariants.{EINVAL}
-use Rattle.sysv_model.specs.declared.limits.TheConstants.{IPC_PRIVATE}
-use Rattle.sysv_model.specs.History.{Who, Call, Install, Place, Take, Remove, Reply, Installed, Accepted, Taken}
+use Rattle.sysv_model.specs.History.{Who, Call, Place, Take, Remove, Reply, Accepted, Taken}
 use Rattle.sysv_model.specs.History.{Discarded}
 use Rattle.sysv_model.specs.Pool.{PoolCall, Reserve, Release, PoolReply, Reserved, TooFew, Released, Foreign, PoolEntry}
 use Rattle.sysv_model.specs.Pool.{PoolHistory}
@@ -37,13 +36,12 @@ use Rattle.sysv_steps.specs.Resume.{resume}
 use Rattle.sysv_steps.specs.Asks.{asks}
 use Rattle.sysv_steps.specs.Next.{next}
 use Rattle.sysv_steps.specs.HeldBlocks.{held, given_by, left_by, HasItsBlocks, GivesWhatIsAsked, EachStepKeepsItsBlocks}
-use Rattle.sysv_core.specs.World.{Started, Doing, doing_in, preset_who, preset_cred, preset_flags, preset_begin}
-use Rattle.sysv_core.specs.World.{preset_settle, with_preset_turns}
+use Rattle.sysv_core.specs.World.{Started, Doing, doing_in}
 use Rattle.sysv_core.specs.Conserved.{blocks_waiting, blocks_in_call, blocks_in_calls, AreConserved}
 use Rattle.sysv_lists.proofs.Orders.{at_most}
 use Rattle.sysv_core.proofs.Lists.{same_place, sum_set}
-use Rattle.sysv_core.proofs.Histories.{turn_of, slot_more, pool_more, pool_stays, slot_stays, begun_turns}
-use Rattle.sysv_core.proofs.Histories.{installed_turns, preset_slot, preset_pool, returned_more, reserved_more}
+use Rattle.sysv_core.proofs.Histories.{turn_of, slot_more, pool_more, pool_stays, slot_stays}
+use Rattle.sysv_core.proofs.Histories.{returned_more, reserved_more}
 use Rattle.sysv_core.proofs.TurnInHistory.{slot_around}
 
 -- ---- sums over the slots
@@ -213,6 +211,12 @@ pub record BlockLaws : Type 0 where
   pub law : (size : ℕ) (h : PoolHistory) → IsLegalPoolHistory size h → PoolLaw size h
   pub step : EachStepKeepsItsBlocks
 
+-- The deed moves no block.
+abbrev pub MovesNone : Deed → Type 0
+MovesNone (AtSlot slot call reply) = (blocks_off call reply ≡ 0) × (blocks_put call reply ≡ 0)
+MovesNone (AtRegistry call reply) = Unit {0}
+MovesNone (AtPool call reply) = ⊥
+
 module _ (b : BlockLaws) (generation size : ℕ) (turns : List Turn) (actors : List (Option Doing))
     (legal : AreLegal generation size turns) (all : AreConserved size turns actors) where
   module _ (place : ℕ) (call : Started) (phase : Phase)
@@ -310,32 +314,45 @@ module _ (b : BlockLaws) (generation size : ℕ) (turns : List Turn) (actors : L
         let m = moves deed asked l balance in
         record { whole = omega (arith, m.0, balance, calls_move, all.whole); taken_back = m.1 }
 
-  -- The three turns of a preset move no block.
-  pub preset_conserves : AreLegal generation size (with_preset_turns turns) →
-      AreConserved size (with_preset_turns turns) actors
-  preset_conserves after =
-      let first = begun_turns turns in
-      let one =
-      waiting_stays turns preset_who preset_begin (λ slot. slot_stays slot turns preset_who preset_begin refl) in
-      let install : Call = Install (pos 0) IPC_PRIVATE preset_cred preset_flags.0 0 in
-      let first_slot : slot_history 0 first ≡ slot_history 0 turns = slot_stays 0 turns preset_who preset_begin refl in
-      let two = waiting_moves b.kept first preset_who 0 install (Installed true)
-      (subst IsLegalHistory (sym first_slot) (legal.slots 0))
-      (after.slots 0 (slot_history 0 first) (record { who = preset_who; call = install; reply = Installed true }) []
-      (preset_slot 0 turns ∙ slot_around 0 first [] preset_who install (Installed true))) (omega arith) in
-      let three = waiting_stays (installed_turns turns) preset_who preset_settle
-      (λ slot. slot_stays slot (installed_turns turns) preset_who preset_settle refl) in
-      record {
-        whole = ap (λ (h : PoolHistory).
-            free_after size h + (blocks_waiting (with_preset_turns turns) + blocks_in_calls actors)) (preset_pool turns)
-            ∙ all_same (free_after size (pool_history turns)) (blocks_waiting turns) (blocks_waiting first)
-            (blocks_waiting (installed_turns turns)) (blocks_waiting (with_preset_turns turns)) (blocks_in_calls actors)
-            one two three all.whole;
-        taken_back = subst (All (λ (e : PoolEntry). e.reply ≢ Foreign)) (sym (preset_pool turns)) all.taken_back;
-      }
-    where
-      all_same : (free v w x y c : ℕ) → w ≡ v → x + 0 ≡ w + 0 → y ≡ x → free + (v + c) ≡ size → free + (y + c) ≡ size
-      all_same free v w x y c d e f whole = omega (arith, d, e, f, whole)
+  -- A turn of nobody that moves no block.
+  module _ (who : Who) where
+    still_there : (deed : Deed) → IsLegalDeed generation size turns deed → MovesNone deed → (slot : ℕ) →
+        waiting_at (turns ++ turn_of who deed ∷ []) slot ≡ waiting_at turns slot
+    still_there (AtSlot at c reply) l none slot =
+        ap (λ h. blocks_of (waiting_in h)) (slot_more slot turns (turn_of who (AtSlot at c reply)))
+        ∙ by_slot (eqb at slot) (λ e. eqb-true at slot e)
+      where
+        by_slot : (x : Bool) → (x ≡ true → at ≡ slot) →
+            blocks_of (waiting_in (slot_history slot turns
+            ++ cond x (record { who = who; call = c; reply = reply } ∷ []) []))
+            ≡ blocks_of (waiting_in (slot_history slot turns))
+        by_slot true here =
+            let now = subst (λ n. Legal (slot_of (slot_history n turns)) c reply) (here refl) l in
+            omega (arith, none.0, none.1, b.kept (slot_history slot turns) who c reply (legal.slots slot) now)
+        by_slot false here = ap (λ h. blocks_of (waiting_in h)) (append-nil (slot_history slot turns))
+    still_there (AtRegistry c reply) l none slot =
+        ap (λ h. blocks_of (waiting_in h)) (slot_stays slot turns who (AtRegistry c reply) refl)
+    still_there (AtPool c reply) l none slot = absurd none
+
+    same_pool : (deed : Deed) → MovesNone deed → pool_history (turns ++ turn_of who deed ∷ []) ≡ pool_history turns
+    same_pool (AtSlot at c reply) none = pool_stays turns who (AtSlot at c reply) refl
+    same_pool (AtRegistry c reply) none = pool_stays turns who (AtRegistry c reply) refl
+    same_pool (AtPool c reply) none = absurd none
+
+    pub apart_conserves : (deed : Deed) → IsLegalDeed generation size turns deed → MovesNone deed →
+        AreConserved size (turns ++ turn_of who deed ∷ []) actors
+    apart_conserves deed l none =
+        let more = turns ++ turn_of who deed ∷ [] in
+        let waiting : blocks_waiting more ≡ blocks_waiting turns =
+        is_sum more
+        ∙ (same_sum (waiting_at more) (waiting_at turns) 0 SLOTS (λ slot low. still_there deed l none slot)
+        ∙ sym (is_sum turns)) in
+        record {
+          whole = ap (λ (h : PoolHistory). free_after size h + (blocks_waiting more + blocks_in_calls actors))
+              (same_pool deed none)
+              ∙ (ap (λ n. free_after size (pool_history turns) + (n + blocks_in_calls actors)) waiting ∙ all.whole);
+          taken_back = subst (All (λ (e : PoolEntry). e.reply ≢ Foreign)) (sym (same_pool deed none)) all.taken_back;
+        }
 
 -- ---- no turn
 

@@ -39,46 +39,33 @@ told_apart c d false e f = refl
 pub not_same : (c d : Who) → c ≢ d → is_same c d ≡ false
 not_same c d f = told_apart c d (is_same c d) refl f
 
--- ---- turns
+-- ---- turns and endings
 
-deeds_more : (who : Who) (turns : List Turn) (t : Turn) →
-    deeds_of who (turns ++ t ∷ [])
-    ≡ deeds_of who turns ++ map (λ (x : Turn). x.deed) (cond (is_same who t.who) (t ∷ []) [])
-deeds_more who turns t =
-    ap (map (λ (x : Turn). x.deed)) (filter-append (λ (x : Turn). is_same who x.who) turns (t ∷ []))
-    ∙ map-append (λ (x : Turn). x.deed) (filter (λ (x : Turn). is_same who x.who) turns)
-    (cond (is_same who t.who) (t ∷ []) [])
+own_more : {X Y : Type 0} (p : X → Bool) (f : X → Y) (xs : List X) (x : X) → p x ≡ true →
+    map f (filter p (xs ++ x ∷ [])) ≡ map f (filter p xs) ++ f x ∷ []
+own_more p f xs x e = ap (map f) (filter-append p xs (x ∷ []) ∙ ap (λ b. filter p xs ++ cond b (x ∷ []) []) e)
+    ∙ map-append f (filter p xs) (x ∷ [])
+
+other_more : {X Y : Type 0} (p : X → Bool) (f : X → Y) (xs : List X) (x : X) → p x ≡ false →
+    map f (filter p (xs ++ x ∷ [])) ≡ map f (filter p xs)
+other_more p f xs x e = ap (map f)
+    (filter-append p xs (x ∷ []) ∙ (ap (λ b. filter p xs ++ cond b (x ∷ []) []) e ∙ append-nil (filter p xs)))
 
 pub own_deed : (who : Who) (turns : List Turn) (t : Turn) → is_same who t.who ≡ true →
     deeds_of who (turns ++ t ∷ []) ≡ deeds_of who turns ++ t.deed ∷ []
-own_deed who turns t e =
-    deeds_more who turns t ∙ ap (λ b. deeds_of who turns ++ map (λ (x : Turn). x.deed) (cond b (t ∷ []) [])) e
+own_deed who turns t e = own_more (λ (x : Turn). is_same who x.who) (λ (x : Turn). x.deed) turns t e
 
 pub other_deed : (who : Who) (turns : List Turn) (t : Turn) → is_same who t.who ≡ false →
     deeds_of who (turns ++ t ∷ []) ≡ deeds_of who turns
-other_deed who turns t e = deeds_more who turns t
-    ∙ (ap (λ b. deeds_of who turns ++ map (λ (x : Turn). x.deed) (cond b (t ∷ []) [])) e
-    ∙ append-nil (deeds_of who turns))
-
--- ---- endings
-
-endings_more : (who : Who) (given : List Given) (g : Given) →
-    endings_of who (given ++ g ∷ [])
-    ≡ endings_of who given ++ map (λ (x : Given). x.ending) (cond (is_same who g.call.who) (g ∷ []) [])
-endings_more who given g =
-    ap (map (λ (x : Given). x.ending)) (filter-append (λ (x : Given). is_same who x.call.who) given (g ∷ []))
-    ∙ map-append (λ (x : Given). x.ending) (filter (λ (x : Given). is_same who x.call.who) given)
-    (cond (is_same who g.call.who) (g ∷ []) [])
+other_deed who turns t e = other_more (λ (x : Turn). is_same who x.who) (λ (x : Turn). x.deed) turns t e
 
 pub other_endings : (who : Who) (given : List Given) (call : Started) (state : State) → is_same who call.who ≡ false →
     endings_of who (given ++ given_in call state) ≡ endings_of who given
 other_endings who given call (Goes phase) e = ap (endings_of who) (append-nil given)
 other_endings who given call (Waits wait) e = ap (endings_of who) (append-nil given)
 other_endings who given call (Over ending) e =
-    let g : Given = record { call = call; ending = ending } in
-    endings_more who given g
-    ∙ (ap (λ b. endings_of who given ++ map (λ (x : Given). x.ending) (cond b (g ∷ []) [])) e
-    ∙ append-nil (endings_of who given))
+    other_more (λ (x : Given). is_same who x.call.who) (λ (x : Given). x.ending) given
+    (record { call = call; ending = ending }) e
 
 -- A call without an ending has that of its state afterwards.
 pub own_endings : (given : List Given) (call : Started) (state : State) → is_same call.who call.who ≡ true →
@@ -86,10 +73,9 @@ pub own_endings : (given : List Given) (call : Started) (state : State) → is_s
 own_endings given call (Goes phase) same none = ap (endings_of call.who) (append-nil given) ∙ none
 own_endings given call (Waits wait) same none = ap (endings_of call.who) (append-nil given) ∙ none
 own_endings given call (Over ending) same none =
-    let g : Given = record { call = call; ending = ending } in
-    endings_more call.who given g
-    ∙ (ap (λ b. endings_of call.who given ++ map (λ (x : Given). x.ending) (cond b (g ∷ []) [])) same
-    ∙ ap (λ es. es ++ ending ∷ []) none)
+    own_more (λ (x : Given). is_same call.who x.call.who) (λ (x : Given). x.ending) given
+    (record { call = call; ending = ending }) same
+    ∙ ap (λ es. es ++ ending ∷ []) none
 
 -- ---- actors
 

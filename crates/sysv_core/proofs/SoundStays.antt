@@ -1,20 +1,17 @@
 -- Each happening in a sound world leaves a sound world.
-use Rattle.std.proofs.Common.{◌≡◌, ◌⊎◌, inl, inr, ℕ, zero, suc, ℤ, pos, ◌&&◌, Bool, true, false, cond, ◌+◌, List, []}
+use Rattle.std.proofs.Common.{◌≡◌, ◌⊎◌, inl, inr, ℕ, zero, suc, ℤ, pos, Bool, true, false, cond, ◌+◌, List, []}
 use Rattle.std.proofs.Common.{◌∷◌, ◌++◌, Option, None, Some, refl, sym, ap, subst, ◌∙◌, slice_get, slice_set, replicate}
 use Rattle.std.proofs.Math.Dec.{eqb}
 use Rattle.std.proofs.lemmas.Bool.{eqb-true}
-use Rattle.std.specs.Ordering.{int_eq}
 use Rattle.std.proofs.lemmas.List.{append-nil}
 use Rattle.std.proofs.lemmas.List.Folds.{list_any-append}
 use Rattle.sysv_model.specs.declared.attributes.Attributes.{Attributes}
 use Rattle.sysv_model.specs.declared.cred.Cred.{Cred}
-use Rattle.sysv_model.specs.declared.flags.Flags.{Flags}
 use Rattle.sysv_model.specs.declared.limits.TheConstants.{IPC_PRIVATE}
 use Rattle.sysv_model.specs.History.{Who, Call, Install, Place, Take, Set, Remove, Reply, Accepted, Taken, Done}
-use Rattle.sysv_model.specs.History.{Discarded, Installed, Full, NoMatch, Gone}
+use Rattle.sysv_model.specs.History.{Discarded}
 use Rattle.sysv_model.specs.Live.{live, live_after}
-use Rattle.sysv_model.specs.Pool.{TooFew, Released, Foreign}
-use Rattle.sysv_model.specs.Registry.{RegistryEntry, Begin, Settle, Made, Changed}
+use Rattle.sysv_model.specs.Registry.{RegistryEntry, Settle, Changed}
 use Rattle.sysv_model.specs.Turn.{OfSlot, Deed, AtSlot, AtRegistry, AtPool, asked_by, Turn, registry_entry}
 use Rattle.sysv_model.specs.Turn.{slot_history, registry_history}
 use Rattle.sysv_keys.specs.Identifier.{slot_of_id}
@@ -22,26 +19,29 @@ use Rattle.sysv_keys.specs.Rows.{makes, is_made, IsUnused}
 use Rattle.sysv_keys.specs.LegalReply.{IsLegalReply as IsLegalRegistryReply}
 use Rattle.sysv_keys.specs.Unused.{UnusedSlots}
 use Rattle.sysv_objects.specs.LegalDeed.{IsLegalDeed, AreLegal}
-use Rattle.sysv_steps.specs.Call.{SystemCall}
-use Rattle.sysv_steps.specs.State.{Getting, Afterwards, IsRefused, WaitsOn, Phase, AtBegin, AtInstall, AtLook}
-use Rattle.sysv_steps.specs.State.{AtReserve, AtTake, AtSendGiveback, State, Goes, Waits, Over}
+use Rattle.sysv_steps.specs.State.{Getting, Phase, AtInstall}
+use Rattle.sysv_steps.specs.State.{State, Goes, Waits, Over}
 use Rattle.sysv_steps.specs.Asks.{asks}
-use Rattle.sysv_steps.specs.Next.{waits_or, goes_on, next}
+use Rattle.sysv_steps.specs.Next.{next}
 use Rattle.sysv_steps.specs.HeldBlocks.{held, HasItsBlocks}
 use Rattle.sysv_steps.specs.Resume.{resume, awaited}
+use Rattle.sysv_core.specs.Conserved.{blocks_in_call}
 use Rattle.sysv_core.specs.Kinds.{kind_of, IsOf}
 use Rattle.sysv_core.specs.World.{World, Opening, Started, Doing, Given, opening, doing_in, starting, begun, value_of}
 use Rattle.sysv_core.specs.World.{preset_who, preset_flags, preset_begin, preset_install, preset_settle}
-use Rattle.sysv_core.specs.World.{with_preset_turns, with_preset}
+use Rattle.sysv_core.specs.World.{with_turn, with_preset}
 use Rattle.sysv_core.specs.Sound.{IsToCaller, AreOwn, IsMadeIn, IsSound, StaysSound}
 use Rattle.sysv_core.proofs.Lists.{get_set_same, get_set_other, same_place}
-use Rattle.sysv_core.proofs.Histories.{turn_of, slot_more, registry_more, live_by, live_turn}
-use Rattle.sysv_core.proofs.Told.{told, told_is}
-use Rattle.sysv_core.proofs.Life.{installing, job_at, begun_none, resumed_none, or_left, or_right, same_int}
-use Rattle.sysv_core.proofs.BlocksConserved.{BlockLaws, turn_conserves, stands_conserves, resumed_holds, begun_holds}
-use Rattle.sysv_core.proofs.BlocksConserved.{preset_conserves, opening_conserves}
+use Rattle.sysv_core.proofs.Histories.{turn_of, slot_stays, begun_turns, installed_turns, registry_more, live_by}
+use Rattle.sysv_core.proofs.Histories.{live_turn}
+use Rattle.sysv_core.proofs.Life.{making, installing, does as does_job, done_now, made_for, job_at, begun_none}
+use Rattle.sysv_core.proofs.Life.{resumed_none, or_left}
+use Rattle.sysv_core.proofs.BlocksConserved.{BlockLaws, MovesNone, apart_conserves, turn_conserves, stands_conserves}
+use Rattle.sysv_core.proofs.BlocksConserved.{resumed_holds, begun_holds}
+use Rattle.sysv_core.proofs.BlocksConserved.{opening_conserves}
 use Rattle.sysv_core.proofs.Moves.{Move, stood, began, turned, awoke, preset_made, moves}
-use Rattle.sysv_core.proofs.StepKeepsKind.{IsLater, later_of, later_next, blocks_later, begun_later, resumed_later}
+use Rattle.sysv_core.proofs.StepKeepsKind.{IsLater, IsNewIn, later_of, later_next, blocks_later, begun_later}
+use Rattle.sysv_core.proofs.StepKeepsKind.{resumed_later}
 
 -- ---- what was made stays made
 
@@ -56,20 +56,12 @@ made_more id key turns t e =
 pub still_made : (turns : List Turn) (t : Turn) (slot : ℕ) → IsMadeIn turns slot → IsMadeIn (turns ++ t ∷ []) slot
 still_made turns t slot m = record { id = m.id; key = m.key; made = made_more m.id m.key turns t m.made; here = m.here }
 
--- A begin that makes an identifier.
-pub made_it : (turns : List Turn) (who : Who) (key : ℤ) (flags : Flags) (id : ℤ) →
-    is_made id key (registry_history (turns ++ turn_of who (AtRegistry (Begin key flags) (Made id)) ∷ [])) ≡ true
-made_it turns who key flags id =
-    ap (is_made id key) (registry_more turns (turn_of who (AtRegistry (Begin key flags) (Made id))))
-    ∙ (list_any-append (λ (x : RegistryEntry). makes id key x.call x.reply) (registry_history turns)
-    (registry_entry who (AtRegistry (Begin key flags) (Made id)))
-    ∙ or_right (is_made id key (registry_history turns)) _
-    (or_left (makes id key (Begin key flags) (Made id)) false
-    (ap (λ b. b && int_eq key key) (same_int id) ∙ same_int key)))
-
-pub made_now : (turns : List Turn) (who : Who) (key : ℤ) (flags : Flags) (id : ℤ) →
-    IsMadeIn (turns ++ turn_of who (AtRegistry (Begin key flags) (Made id)) ∷ []) (slot_of_id id)
-made_now turns who key flags id = record { id = id; key = key; made = made_it turns who key flags id; here = refl }
+-- A deed that makes an identifier.
+pub made_by : (turns : List Turn) (who : Who) (deed : Deed) (id : ℤ) → does_job (making id) deed ≡ true →
+    IsMadeIn (turns ++ turn_of who deed ∷ []) (slot_of_id id)
+made_by turns who deed id e =
+    let m = made_for id (turns ++ turn_of who deed ∷ []) (done_now turns who deed (making id) e) in
+    record { id = id; key = m.0; made = m.1; here = refl }
 
 -- ---- where a queue lives
 
@@ -135,40 +127,6 @@ installs_there : (phase : Phase) (now slot : ℕ) (id key : ℤ) (cred : Cred) (
     (get : Getting) × (made : ℤ) × (phase ≡ AtInstall get made) × (slot ≡ slot_of_id made)
 installs_there (AtInstall get made) now slot id key cred mode moment e = (get, made, refl, cc)
 installs_there phase now slot id key cred mode moment e = absurd cc
-
--- A turn leads to an install if it made the identifier, and else not.
-not_on : {get : Getting} {id : ℤ} (a : Afterwards) → Some (goes_on a) ≡ Some (Goes (AtInstall get id)) → ⊥
-not_on (IsRefused why) e = cc
-not_on (WaitsOn wait) e = cc
-
-made_told : (turns : List Turn) (who : Who) (phase : Phase) (now : ℕ) (deed : Deed) (get : Getting) (id : ℤ) →
-    next phase (told (asks phase now) deed) ≡ Some (Goes (AtInstall get id)) →
-    IsMadeIn (turns ++ turn_of who (told (asks phase now) deed) ∷ []) (slot_of_id id)
-made_told turns who (AtBegin g) now (AtRegistry c (Made made)) get id n =
-    let same : made ≡ id = cc in
-    subst (λ i. IsMadeIn (turns ++ turn_of who (AtRegistry (Begin g.key g.flags) (Made made)) ∷ []) (slot_of_id i)) same
-    (made_now turns who g.key g.flags made)
-made_told turns who (AtLook send) now (AtSlot at c (Full freed)) get id n = absurd (not_on (waits_or send.nowait _ _) n)
-made_told turns who (AtReserve send) now (AtPool c TooFew) get id n = absurd (not_on (waits_or send.nowait _ _) n)
-made_told turns who (AtTake r) now (AtSlot at c (NoMatch arrived)) get id n =
-    absurd (not_on (waits_or r.nowait _ _) n)
-made_told turns who (AtSendGiveback blocks afterwards) now (AtPool c Released) get id n = absurd (not_on afterwards n)
-made_told turns who (AtSendGiveback blocks afterwards) now (AtPool c Foreign) get id n = absurd (not_on afterwards n)
-made_told turns who (AtInstall g made) now (AtSlot at c (Installed true)) get id n = absurd cc
-made_told turns who phase now (AtSlot at c Gone) get id n = absurd cc
-made_told turns who phase now (AtSlot at c reply) get id n = absurd cc
-made_told turns who phase now (AtRegistry c (Changed done)) get id n = absurd cc
-made_told turns who phase now (AtRegistry c reply) get id n = absurd cc
-made_told turns who phase now (AtPool c Released) get id n = absurd cc
-made_told turns who phase now (AtPool c reply) get id n = absurd cc
-
-made_next : (turns : List Turn) (who : Who) (phase : Phase) (now : ℕ) (deed : Deed) (get : Getting) (id : ℤ) →
-    asked_by deed ≡ asks phase now → next phase deed ≡ Some (Goes (AtInstall get id)) →
-    IsMadeIn (turns ++ turn_of who deed ∷ []) (slot_of_id id)
-made_next turns who phase now deed get id asked n =
-    let is = told_is (asks phase now) deed asked in
-    subst (λ d. IsMadeIn (turns ++ turn_of who d ∷ []) (slot_of_id id)) is
-    (made_told turns who phase now deed get id (ap (next phase) is ∙ n))
 
 -- ---- the actors
 
@@ -240,6 +198,24 @@ later_installs turns actors place was call state there all none =
     all_installed turns turns actors place was call state there (λ slot m. m) all
     (λ get id e. let bad : None ≡ Some (installing id) = sym none ∙ ap job_at e in absurd cc)
 
+-- The world after a call starts, or continues without a turn.
+pub stand_sound : (w : World) (calls : List Started) (place : ℕ) (was : Option Doing) (call : Started)
+    (state : State) → IsSound w → slice_get w.actors place ≡ Some was → IsToCaller call.who (suc place) →
+    IsLater (kind_of call.asked) state → job_at state ≡ None → held state ≡ blocks_in_call was →
+    IsSound (record w {
+      calls = calls;
+      actors = slice_set w.actors place (doing_in call state);
+      steps = w.steps + 1;
+    })
+stand_sound w calls place was call state s there own l none same = record {
+  legal = s.legal;
+  own = own_still w.actors place was call state there s.own (later_of (kind_of call.asked) state l) own
+      (blocks_later (kind_of call.asked) state l);
+  installs = later_installs w.turns w.actors place was call state there s.installs none;
+  lives = s.lives;
+  blocks = stands_conserves w.blocks w.turns w.actors place was call state there same s.blocks;
+}
+
 module _
     (more : (generation blocks : ℕ) (turns : List Turn) (who : Who) (deed : Deed) → AreLegal generation blocks turns →
     IsLegalDeed generation blocks turns deed → AreLegal generation blocks (turns ++ turn_of who deed ∷ []))
@@ -263,10 +239,10 @@ module _
         let l = later_next w.generation w.blocks w.turns kind phase now deed state own.0 asked legal goes in
         record {
           legal = more w.generation w.blocks w.turns call.who deed s.legal legal;
-          own = own_still w.actors place (Some d) call state there s.own (later_of kind state l) own.1
-              (blocks_later kind state l);
+          own = own_still w.actors place (Some d) call state there s.own (later_of kind state l.0) own.1
+              (blocks_later kind state l.0);
           installs = all_installed w.turns _ w.actors place (Some d) call state there still s.installs
-              (λ get id is. made_next w.turns call.who phase now deed get id asked (goes ∙ ap (λ x. Some x) is));
+              (λ get id is. made_by w.turns call.who deed id (subst (IsNewIn deed) is l.1));
           blocks = turn_conserves b w.generation w.blocks w.turns w.actors s.legal s.blocks place call phase there own.2
               now state deed asked legal goes;
           lives = all_made w.turns call.who deed s.lives (λ slot c reply is i.
@@ -275,41 +251,19 @@ module _
               subst (IsMadeIn w.turns) (sym at.3) (s.installs place d at.0 at.1 there (ap Goes at.2)));
         }
 
-    -- The world after the call continues without a turn.
-    pub look_sound : (d : Doing) (state : State) → d.call ≡ call → slice_get w.actors place ≡ Some (Some d) →
-        IsLater (kind_of call.asked) state → job_at state ≡ None → held state ≡ held d.state →
-        IsSound (record w { actors = slice_set w.actors place (doing_in call state); steps = w.steps + 1 })
-    look_sound d state is there l none held_same = record {
-      legal = s.legal;
-      own = own_still w.actors place (Some d) call state there s.own (later_of (kind_of call.asked) state l)
-          (subst (λ (c : Started). IsToCaller c.who (suc place)) is (s.own place d there).1)
-          (blocks_later (kind_of call.asked) state l);
-      installs = later_installs w.turns w.actors place (Some d) call state there s.installs none;
-      lives = s.lives;
-      blocks = stands_conserves w.blocks w.turns w.actors place (Some d) call state there held_same s.blocks;
-    }
-
-  start_sound : (w : World) (place : ℕ) (cred : Cred) (asked : SystemCall) → IsSound w →
-      slice_get w.actors place ≡ Some None →
-      let call = starting w (suc place) cred asked in
-      IsSound (record w {
-        calls = w.calls ++ call ∷ [];
-        actors = slice_set w.actors place (doing_in call (begun call));
-        steps = w.steps + 1;
-      })
-  start_sound w place cred asked s there =
-      let call = starting w (suc place) cred asked in
-      let l = begun_later cred asked call.released in
-      record {
-        legal = s.legal;
-        own = own_still w.actors place None call (begun call) there s.own (later_of (kind_of asked) (begun call) l) refl
-            (blocks_later (kind_of asked) (begun call) l);
-        installs = later_installs w.turns w.actors place None call (begun call) there s.installs
-            (begun_none cred asked call.released);
-        lives = s.lives;
-        blocks = stands_conserves w.blocks w.turns w.actors place None call (begun call) there
-            (begun_holds cred asked call.released) s.blocks;
-      }
+  -- The world after a turn of nobody that moves no block and installs what was made.
+  pub apart_sound : (w : World) (who : Who) (deed : Deed) → IsSound w →
+      IsLegalDeed w.generation w.blocks w.turns deed → MovesNone deed →
+      ((slot : ℕ) (call : Call) (reply : Reply) → deed ≡ AtSlot slot call reply → IsInstall call →
+      IsMadeIn w.turns slot) → IsSound (with_turn w who deed)
+  apart_sound w who deed s legal none its = record {
+    legal = more w.generation w.blocks w.turns who deed s.legal legal;
+    own = s.own;
+    installs = λ place d get id here is.
+        still_made w.turns (turn_of who deed) (slot_of_id id) (s.installs place d get id here is);
+    lives = all_made w.turns who deed s.lives its;
+    blocks = apart_conserves b w.generation w.blocks w.turns w.actors s.legal s.blocks who deed legal none;
+  }
 
 -- ---- the preset
 
@@ -328,67 +282,45 @@ module _
           let m = s.lives 0 a e in
           absurd (unused.never w.generation 0 (registry_history w.turns) u m.id m.key m.made m.here)
 
-  -- The three turns are legal.
-  pub preset_legal : (generation blocks : ℕ) (turns : List Turn) → AreLegal generation blocks turns →
-      IsUnused generation (registry_history turns) 0 → live (slot_history 0 turns) ≡ None →
-      (AreLegal generation blocks (with_preset_turns turns))
-  preset_legal generation blocks turns legal u vacant =
-      let one = more generation blocks turns preset_who preset_begin legal
-      (unused.zero generation (registry_history turns) preset_flags u) in
-      let first = turns ++ turn_of preset_who preset_begin ∷ [] in
-      let same : slot_history 0 first ≡ slot_history 0 turns =
-      slot_more 0 turns (turn_of preset_who preset_begin) ∙ append-nil (slot_history 0 turns) in
-      let two = more generation blocks first preset_who preset_install one (ap live same ∙ vacant) in
-      let second = first ++ turn_of preset_who preset_install ∷ [] in
-      let registry : registry_history second ≡ registry_history turns ++ registry_entry preset_who preset_begin =
-      registry_more first (turn_of preset_who preset_install)
-      ∙ (append-nil (registry_history first) ∙ registry_more turns (turn_of preset_who preset_begin)) in
-      more generation blocks second preset_who preset_settle two
-      (subst (λ h. IsLegalRegistryReply generation h (Settle (pos 0)) (Changed true)) (sym registry)
-      (unused.settles generation (registry_history turns) preset_who IPC_PRIVATE preset_flags (pos 0) legal.registry
-      (unused.zero generation (registry_history turns) preset_flags u)))
-
 module _
     (more : (generation blocks : ℕ) (turns : List Turn) (who : Who) (deed : Deed) → AreLegal generation blocks turns →
     IsLegalDeed generation blocks turns deed → AreLegal generation blocks (turns ++ turn_of who deed ∷ []))
     (b : BlockLaws) (unused : UnusedSlots) where
   preset_sound : (w : World) → IsSound w → IsUnused w.generation (registry_history w.turns) 0 → IsSound (with_preset w)
-  preset_sound w s u = record {
-    legal = preset_legal more unused w.generation w.blocks w.turns s.legal u (vacant_there more unused w s u);
-    own = s.own;
-    installs = λ place d get id here e. past (slot_of_id id) (s.installs place d get id here e);
-    lives = all_made second preset_who preset_settle
-        (all_made first preset_who preset_install
-        (all_made w.turns preset_who preset_begin s.lives (λ slot c reply is i. absurd cc)) (λ slot c reply is i.
-        let here : 0 ≡ slot = cc in
-        subst (IsMadeIn first) here (made_now w.turns preset_who IPC_PRIVATE preset_flags (pos 0))))
-        (λ slot c reply is i. absurd cc);
-    blocks = preset_conserves b w.generation w.blocks w.turns w.actors s.legal s.blocks
-        (preset_legal more unused w.generation w.blocks w.turns s.legal u (vacant_there more unused w s u));
-  }
-    where
-      first : List Turn
-      first = w.turns ++ turn_of preset_who preset_begin ∷ []
-
-      second : List Turn
-      second = first ++ turn_of preset_who preset_install ∷ []
-
-      past : (slot : ℕ) → IsMadeIn w.turns slot → IsMadeIn (with_preset_turns w.turns) slot
-      past slot m = still_made _ (turn_of preset_who preset_settle) slot
-          (still_made _ (turn_of preset_who preset_install) slot
-          (still_made w.turns (turn_of preset_who preset_begin) slot m))
+  preset_sound w s u =
+      let zero_is = unused.zero w.generation (registry_history w.turns) preset_flags u in
+      let one = apart_sound more b w preset_who preset_begin s zero_is tt (λ slot c reply is i. absurd cc) in
+      let vacant = ap live (slot_stays 0 w.turns preset_who preset_begin refl) ∙ vacant_there more unused w s u in
+      let two = apart_sound more b (with_turn w preset_who preset_begin) preset_who preset_install one vacant
+      (refl, refl) (λ slot c reply is i.
+      let here : 0 ≡ slot = cc in
+      subst (IsMadeIn (begun_turns w.turns)) here (made_by w.turns preset_who preset_begin (pos 0) refl)) in
+      let registry : registry_history (installed_turns w.turns)
+      ≡ registry_history w.turns ++ registry_entry preset_who preset_begin =
+      registry_more (begun_turns w.turns) (turn_of preset_who preset_install)
+      ∙ (append-nil (registry_history (begun_turns w.turns))
+      ∙ registry_more w.turns (turn_of preset_who preset_begin)) in
+      apart_sound more b (with_turn (with_turn w preset_who preset_begin) preset_who preset_install) preset_who
+      preset_settle two
+      (subst (λ h. IsLegalRegistryReply w.generation h (Settle (pos 0)) (Changed true)) (sym registry)
+      (unused.settles w.generation (registry_history w.turns) preset_who IPC_PRIVATE preset_flags (pos 0)
+      s.legal.registry zero_is)) tt (λ slot c reply is i. absurd cc)
 
   move_sound : (w after : World) (given : List Given) → IsSound w → Move w given after → IsSound after
   move_sound w after given s (stood t) = subst IsSound (sym t.1) s
   move_sound w after given s (began place cred asked there t) =
-      subst IsSound (sym t.1) (start_sound more b w place cred asked s there)
+      let call = starting w (suc place) cred asked in
+      subst IsSound (sym t.1)
+      (stand_sound w (w.calls ++ call ∷ []) place None call (begun call) s there refl
+      (begun_later cred asked call.released) (begun_none cred asked call.released)
+      (begun_holds cred asked call.released))
   move_sound w after given s (turned place now call phase there t) =
       subst IsSound (sym t.6) (turn_sound more b w s place call phase now t.0 t.1 there t.2 t.3 t.4)
   move_sound w after given s (awoke place call wait there reached gave is) =
       let d : Doing = record { call = call; state = Waits wait } in
       let value = value_of w.turns (awaited wait) in
       subst IsSound (sym is)
-      (look_sound more b w s place call d (Goes (resume wait value)) refl there
+      (stand_sound w w.calls place (Some d) call (Goes (resume wait value)) s there (s.own place d there).1
       (resumed_later (kind_of call.asked) wait value (s.own place d there).0) (resumed_none wait value)
       (resumed_holds wait value))
   move_sound w after given s (preset_made u gave is) = subst IsSound (sym is) (preset_sound w s u)

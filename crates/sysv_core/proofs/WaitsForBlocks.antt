@@ -121,12 +121,6 @@ pub record FollowsIn (size : ℕ) (h : PoolHistory) (phase : Phase) (state : Opt
 abbrev pub Follows : ℕ → PoolHistory → Phase → State → Type 0
 Follows size h phase state = FollowsIn size h phase (Some state)
 
--- A call that is refused, or waits for something other than blocks.
-full_waits : (size : ℕ) (h : PoolHistory) (send : Sending) (freed : ℕ) (nowait : Bool) (why : Errno) (same : Sending) →
-    same.released ≡ send.released → Follows size h (AtLook send) (goes_on (waits_or nowait (OnFreed freed same) why))
-full_waits size h send freed true why same is = record { read = omega arith; short = tt; comes = tt }
-full_waits size h send freed false why same is = record { read = omega (arith, is); short = tt; comes = tt }
-
 full_gives_back : (size : ℕ) (h : PoolHistory) (send : Sending) (blocks freed many : ℕ) (nowait : Bool) (why : Errno)
     (same : Sending) → same.released ≡ send.released →
     Follows size h (AtPlace send blocks) (Goes (AtSendGiveback many (waits_or nowait (OnFreed freed same) why)))
@@ -134,17 +128,12 @@ full_gives_back size h send blocks freed many true why same is = record { read =
 full_gives_back size h send blocks freed many false why same is =
     record { read = omega (arith, is); short = tt; comes = tt }
 
-none_named : (size : ℕ) (h : PoolHistory) (phase : Phase) (nowait : Bool) (wait : Wait) (why : Errno) →
-    read_by_wait wait ≡ 0 → IsShort size h (Waits wait) → Comes phase (Waits wait) →
+-- A call that is refused, or waits.
+held_up : (size : ℕ) (h : PoolHistory) (phase : Phase) (nowait : Bool) (wait : Wait) (why : Errno) →
+    read_by_wait wait ≤ read_by (Goes phase) → IsShort size h (Waits wait) → Comes phase (Waits wait) →
     Follows size h phase (goes_on (waits_or nowait wait why))
-none_named size h phase true wait why none s c = record { read = omega arith; short = tt; comes = tt }
-none_named size h phase false wait why none s c = record { read = omega (arith, none); short = s; comes = c }
-
-too_few : (size : ℕ) (h : PoolHistory) (send : Sending) (nowait : Bool) (why : Errno) →
-    free_after size h < blocks_for (length send.text) →
-    Follows size h (AtReserve send) (goes_on (waits_or nowait (OnReleased (send.released + 1) send) why))
-too_few size h send true why few = record { read = omega arith; short = tt; comes = tt }
-too_few size h send false why few = record { read = omega arith; short = (refl, inr few); comes = refl }
+held_up size h phase true wait why read s c = record { read = omega arith; short = tt; comes = tt }
+held_up size h phase false wait why read s c = record { read = read; short = s; comes = c }
 
 plain : (size : ℕ) (h : PoolHistory) (phase : Phase) (state : Option State) → read_in state ≡ 0 →
     IsShortIn size h state → ComesIn phase state → FollowsIn size h phase state
@@ -161,13 +150,15 @@ followed_told : (g size : ℕ) (turns : List Turn) (phase : Phase) (now : ℕ) (
     IsShort size (pool_history turns) (Goes phase) → IsLegalDeed g size turns (told (asks phase now) deed) →
     FollowsIn size (pool_history turns) phase (next phase (told (asks phase now) deed))
 followed_told g size turns (AtLook send) now (AtSlot slot c (Full freed)) s l =
-    full_waits size _ send (freed + 1) send.nowait EAGAIN (record send { seen = true }) refl
+    held_up size _ (AtLook send) send.nowait (OnFreed (freed + 1) (record send { seen = true })) EAGAIN (omega arith) tt
+    tt
 followed_told g size turns (AtLook send) now (AtSlot slot c Fits) s l =
     record { read = omega arith; short = tt; comes = (send, refl, refl) }
 followed_told g size turns (AtReserve send) now (AtPool c (Reserved blocks)) s l =
     record { read = omega arith; short = tt; comes = tt }
 followed_told g size turns (AtReserve send) now (AtPool c TooFew) s l =
-    too_few size (pool_history turns) send send.nowait EAGAIN l
+    held_up size _ (AtReserve send) send.nowait (OnReleased (send.released + 1) send) EAGAIN (omega arith)
+    (refl, inr l) refl
 followed_told g size turns (AtReserve send) now deed s l = absurd l
 followed_told g size turns (AtPlace send blocks) now (AtSlot slot c (Full freed)) s l =
     full_gives_back size _ send blocks (freed + 1) blocks send.nowait EAGAIN (record send { seen = true }) refl
@@ -176,8 +167,8 @@ followed_told g size turns (AtSendGiveback blocks afterwards) now (AtPool c Rele
 followed_told g size turns (AtSendGiveback blocks afterwards) now (AtPool c Foreign) s l =
     afterwards_follows size (pool_history turns) blocks afterwards s
 followed_told g size turns (AtTake receive) now (AtSlot slot c (NoMatch arrived)) s l =
-    none_named size _ (AtTake receive) receive.nowait (OnArrived (arrived + 1) (record receive { seen = true })) ENOMSG
-    refl tt tt
+    held_up size _ (AtTake receive) receive.nowait (OnArrived (arrived + 1) (record receive { seen = true })) ENOMSG
+    (omega arith) tt tt
 followed_told g size turns (AtInstall get id) now (AtSlot slot c (Installed true)) s l =
     plain size _ (AtInstall get id) _ refl tt tt
 followed_told g size turns (AtBegin get) now (AtRegistry c (Made id)) s l = plain size _ (AtBegin get) _ refl tt tt

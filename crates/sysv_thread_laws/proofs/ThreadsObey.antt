@@ -15,9 +15,9 @@ use Rattle.sysv_core.specs.World.{World, Opening, Started, Doing, Given, opening
 use Rattle.sysv_core.specs.World.{with_call}
 use Rattle.sysv_core.specs.Sound.{IsSound}
 use Rattle.sysv_core.proofs.Histories.{turn_of}
-use Rattle.sysv_core.proofs.BlocksConserved.{BlockLaws, stands_conserves, resumed_holds, begun_holds}
-use Rattle.sysv_core.proofs.StepKeepsKind.{later_of, blocks_later, begun_later, resumed_later}
-use Rattle.sysv_core.proofs.SoundStays.{own_still, later_installs, turn_sound, look_sound}
+use Rattle.sysv_core.proofs.BlocksConserved.{BlockLaws, resumed_holds, begun_holds}
+use Rattle.sysv_core.proofs.StepKeepsKind.{begun_later, resumed_later}
+use Rattle.sysv_core.proofs.SoundStays.{turn_sound, stand_sound}
 use Rattle.sysv_core.proofs.Life.{begun_none, resumed_none}
 use Rattle.sysv_core.proofs.LifeGoesOn.{lives_stand}
 use Rattle.sysv_core.proofs.WorldsObey.{Inv, Laws, stands_there, goes_on, starts, turns_keep, opens, lawful}
@@ -49,18 +49,8 @@ module _
     started = in_state (with_call w new_call) (suc place) new_call (begun new_call)
 
     start_sound : IsSound w → IsSound started
-    start_sound s =
-        let l = begun_later cred asked released in
-        record {
-          legal = s.legal;
-          own = own_still w.actors place None new_call (begun new_call) there s.own
-              (later_of (kind_of asked) (begun new_call) l) refl (blocks_later (kind_of asked) (begun new_call) l);
-          installs = later_installs w.turns w.actors place None new_call (begun new_call) there s.installs
-              (begun_none cred asked released);
-          lives = s.lives;
-          blocks = stands_conserves w.blocks w.turns w.actors place None new_call (begun new_call) there
-              (begun_holds cred asked released) s.blocks;
-        }
+    start_sound s = stand_sound w (w.calls ++ new_call ∷ []) place None new_call (begun new_call) s there refl
+        (begun_later cred asked released) (begun_none cred asked released) (begun_holds cred asked released)
 
     start_held : (given : List Given) → IsHeld w given → IsHeld started (given ++ given_in new_call (begun new_call))
     start_held given i = starts (λ t read. read.0) w given i place there new_call refl (start_sound i.sound)
@@ -98,7 +88,8 @@ module _
         let here = stands_there w given i place d there in
         subst (IsHeld (in_state w (suc place) call on)) (append-nil given)
         (goes_on w given i place d there w.turns on
-        (look_sound more b w i.sound place call d on refl there l (resumed_none wait value) (resumed_holds wait value))
+        (stand_sound w w.calls place (Some d) call on i.sound there (i.sound.own place d there).1 l
+        (resumed_none wait value) (resumed_holds wait value))
         (lives_stand w.turns w.actors place (Some d) call on there refl (resumed_none wait value) i.life)
         (λ other apart. refl) (record { plays = resumes value here.plays reached; quiet = here.quiet }) i.made)
 
@@ -119,7 +110,7 @@ module _
       IsHeld after (given ++ one)
   reads_held w after given one slot h (reply, legal, gave, is) =
       nothing_given after given one gave
-      (same_held _ after given is (row_keeps more b.kept w slot reply legal given h))
+      (same_held _ after given is (row_keeps more b w slot reply legal given h))
 
   -- ---- a list of moments
 
