@@ -41,15 +41,13 @@ use Rattle.sysv_core.specs.World.{with_preset_turns}
 use Rattle.sysv_core.specs.Sound.{IsSound}
 use Rattle.sysv_core.specs.Parked.{IsOpenTo, HasToGiveBack, IsToBeWoken}
 use Rattle.sysv_core.proofs.Lists.{get_set_same, get_set_other, same_place}
-use Rattle.sysv_core.proofs.Histories.{turn_of, pool_more, pool_stays, live_by, live_turn, begun_turns, installed_turns}
-use Rattle.sysv_core.proofs.Histories.{preset_slot}
-use Rattle.sysv_core.proofs.Histories.{preset_pool, released_more}
+use Rattle.sysv_core.proofs.Histories.{turn_of, pool_more, pool_on, live_by, live_turn, begun_turns, installed_turns}
+use Rattle.sysv_core.proofs.Histories.{preset_slot, preset_pool, released_more}
 use Rattle.sysv_core.proofs.SoundStays.{moved, other, does, none_busy}
 use Rattle.sysv_core.proofs.TurnInHistory.{slot_around}
 use Rattle.sysv_core.proofs.Told.{told, told_is}
 use Rattle.sysv_core.proofs.Life.{either, not_both, one_id, IsLegalAtSlot, legal_at_slot}
-use Rattle.sysv_core.proofs.WaitsForBlocks.{read_by, IsRight, AreRight, IsShort, AllRight, Comes, followed}
-use Rattle.sysv_core.proofs.WaitsForBlocks.{move_right}
+use Rattle.sysv_core.proofs.WaitsForBlocks.{read_by, IsRight, AreRight, IsShort, AllRight, Comes, followed, move_right}
 use Rattle.sysv_core.proofs.Moves.{Move, stood, began, turned, awoke, preset_made}
 
 some_is : {X : Type 0} {x y : X} → Some x ≡ Some y → y ≡ x
@@ -234,14 +232,8 @@ after_giving turns who deed n read (c, is) =
 -- No turn undoes that.
 pool_part : (turns : List Turn) (who : Who) (deed : Deed) (n : ℕ) → n < released (pool_history turns) →
     n < released (pool_history (turns ++ turn_of who deed ∷ []))
-pool_part turns who (AtSlot slot c reply) n since =
-    subst (λ h. n < released h) (sym (pool_stays turns who (AtSlot slot c reply) refl)) since
-pool_part turns who (AtRegistry c reply) n since =
-    subst (λ h. n < released h) (sym (pool_stays turns who (AtRegistry c reply) refl)) since
-pool_part turns who (AtPool c reply) n since =
-    let e : PoolEntry = record { who = who; call = c; reply = reply } in
-    subst (λ h. n < released h) (sym (pool_more turns (turn_of who (AtPool c reply))))
-    (omega (arith, since, released_more (pool_history turns) e))
+pool_part turns who deed n since = pool_on (λ h. n < released h) turns who deed since
+    (λ e. omega (arith, since, released_more (pool_history turns) e))
 
 -- No chain is refused.
 never_foreign : (turns : List Turn) (who : Who) (deed : Deed) →

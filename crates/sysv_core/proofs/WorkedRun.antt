@@ -1,7 +1,8 @@
 -- The worked run, with one lemma for each of its happenings, and the replies that are not legal at
 -- its turns.
 use Rattle.std.proofs.Common.{◌≡◌, ℕ, ℤ, pos, zero, suc, ◌+◌, ◌<◌, ◌≤◌, ◌||◌, inl, inr, true, false, List, [], ◌∷◌}
-use Rattle.std.proofs.Common.{◌++◌, length, None, Some, refl, sym, ap, ◌∙◌, arith, slice_get, take, replicate, nat_lt}
+use Rattle.std.proofs.Common.{◌++◌, length, None, Some, refl, sym, ap, subst, ◌∙◌, arith, slice_get, take, replicate}
+use Rattle.std.proofs.Common.{nat_lt}
 use Rattle.sysv_model.specs.declared.cred.Cred.{Cred}
 use Rattle.sysv_model.specs.declared.errno.Errno.TheVariants.{EINVAL, ENOMSG}
 use Rattle.sysv_model.specs.declared.selector.Selector.TheVariants.{Any}
@@ -9,14 +10,19 @@ use Rattle.sysv_model.specs.Message.{Message}
 use Rattle.sysv_model.specs.History.{Fits, Accepted, NoMatch, Taken}
 use Rattle.sysv_model.specs.Live.{live}
 use Rattle.sysv_model.specs.Pool.{Reserve, Release, Reserved, Released}
-use Rattle.sysv_model.specs.Turn.{AtSlot, AtPool}
+use Rattle.sysv_model.specs.declared.limits.TheConstants.{WORN}
+use Rattle.sysv_model.specs.Turn.{Deed, AtSlot, AtPool, asked_by}
+use Rattle.sysv_objects.specs.LegalDeed.{IsLegalDeed}
 use Rattle.sysv_queue.specs.Granted.{MayRead, MayWrite}
 use Rattle.sysv_queue.specs.Named.{IsNamed}
 use Rattle.sysv_queue.specs.LegalReply.{IsLegalReply}
 use Rattle.sysv_steps.specs.State.{Phase, AtLook, AtReserve, AtPlace, AtTake, AtReceiveGiveback, Zero, Got, Refused}
-use Rattle.sysv_steps.specs.State.{Goes, Over}
+use Rattle.sysv_steps.specs.State.{State, Goes, Over}
 use Rattle.sysv_steps.specs.Begin.{is_refused}
-use Rattle.sysv_core.specs.World.{World, Started, Given, Happening, Preset, opening, with_actor, Makes}
+use Rattle.sysv_steps.specs.Asks.{asks}
+use Rattle.sysv_steps.specs.Next.{next}
+use Rattle.sysv_core.specs.World.{World, Started, Given, Happening, Preset, Step, opening, actor_at, with_actor}
+use Rattle.sysv_core.specs.World.{given_in, in_state, with_turn, StepsAt, Makes}
 use Rattle.sysv_core.specs.Run.{Leads}
 use Rattle.sysv_core.specs.WorkedRun.{sender, receiver, hello, receive_up_to_100, send_hello, send_nothing, one_starts}
 use Rattle.sysv_core.specs.WorkedRun.{two_starts, steps, the_happenings, send_typeless, one_calls, two_calls, the_calls}
@@ -114,6 +120,19 @@ take_of cred =
 record Went (w : World) (x : Happening) (one : List Given) (mid : World) : Type 0 where
   pub goes : Makes w x one mid
 
+-- A turn of the actor's call.
+goes_by : {w mid : World} {one : List Given} {actor now : ℕ} {call : Started} {phase : Phase} →
+    actor_at w.actors actor ≡ Some (Some record { call = call; state = Goes phase }) → w.steps < WORN →
+    (deed : Deed) (state : State) → asked_by deed ≡ asks phase now → IsLegalDeed w.generation w.blocks w.turns deed →
+    next phase deed ≡ Some state → one ≡ given_in call state →
+    mid ≡ in_state (with_turn w call.who deed) actor call state → Went w (Step actor now) one mid
+goes_by {w} {mid} {one} {actor} {now} there young deed state asked legal goes gave is = record {
+  goes = inr (
+    young,
+    subst (λ o. StepsAt w actor now o one mid) (sym there) (deed, state, asked, legal, goes, gave, is),
+  );
+}
+
 record Led (w : World) (xs : List Happening) (given : List Given) (after : World) : Type 0 where
   pub leads : Leads w xs given after
 
@@ -128,12 +147,9 @@ begins_none = record { goes = inr (omega arith, (refl, refl)) }
 
 goes_none : Went (calling_at 1 1 1 1 (one_calls 0 receive_up_to_100) (take_of sender)) (steps 1)
     (one_ends 0 receive_up_to_100 (Refused ENOMSG) ∷ []) (idle_at 2 1 2)
-goes_none = record {
-  goes = inr (
-    omega arith,
-    (AtSlot 0 (take_by sender) (NoMatch 0), Over (Refused ENOMSG), refl, legal_none, refl, refl, refl),
-  );
-}
+goes_none =
+    goes_by refl (omega arith) (AtSlot 0 (take_by sender) (NoMatch 0)) (Over (Refused ENOMSG)) refl legal_none refl refl
+    refl
 
 begins_hello : Went (idle_at 2 1 2) (one_starts send_hello) []
     (calling_at 2 2 3 1 (one_calls 2 send_hello) (look_of hello (pos 5)))
@@ -141,27 +157,20 @@ begins_hello = record { goes = inr (omega arith, (refl, refl)) }
 
 goes_look : Went (calling_at 2 2 3 1 (one_calls 2 send_hello) (look_of hello (pos 5))) (steps 1) []
     (calling_at 3 2 4 1 (one_calls 2 send_hello) (reserve_of hello (pos 5)))
-goes_look = record {
-  goes = inr (
-    omega arith,
-    (AtSlot 0 (look_for 5) Fits, Goes (reserve_of hello (pos 5)), refl, legal_look, refl, refl, refl),
-  );
-}
+goes_look =
+    goes_by refl (omega arith) (AtSlot 0 (look_for 5) Fits) (Goes (reserve_of hello (pos 5))) refl legal_look refl refl
+    refl
 
 goes_reserve : Went (calling_at 3 2 4 1 (one_calls 2 send_hello) (reserve_of hello (pos 5))) (steps 1) []
     (calling_at 4 2 5 1 (one_calls 2 send_hello) (place_of hello (pos 5) 1))
-goes_reserve = record {
-  goes = inr (
-    omega arith,
-    (AtPool (Reserve 5) (Reserved 1), Goes (place_of hello (pos 5) 1), refl, (omega arith, refl), refl, refl, refl),
-  );
-}
+goes_reserve =
+    goes_by refl (omega arith) (AtPool (Reserve 5) (Reserved 1)) (Goes (place_of hello (pos 5) 1)) refl
+    (omega arith, refl) refl refl refl
 
 goes_place : Went (calling_at 4 2 5 1 (one_calls 2 send_hello) (place_of hello (pos 5) 1)) (steps 1)
     (one_ends 2 send_hello Zero ∷ []) (idle_at 5 2 6)
-goes_place = record {
-  goes = inr (omega arith, (AtSlot 0 place_hello (Accepted 0), Over Zero, refl, legal_place, refl, refl, refl));
-}
+goes_place =
+    goes_by refl (omega arith) (AtSlot 0 place_hello (Accepted 0)) (Over Zero) refl legal_place refl refl refl
 
 begins_nothing : Went (idle_at 5 2 6) (one_starts send_nothing) []
     (calling_at 5 3 7 1 (one_calls 6 send_nothing) (look_of [] (pos 2)))
@@ -169,28 +178,20 @@ begins_nothing = record { goes = inr (omega arith, (refl, refl)) }
 
 goes_second_look : Went (calling_at 5 3 7 1 (one_calls 6 send_nothing) (look_of [] (pos 2))) (steps 1) []
     (calling_at 6 3 8 1 (one_calls 6 send_nothing) (reserve_of [] (pos 2)))
-goes_second_look = record {
-  goes = inr (
-    omega arith,
-    (AtSlot 0 (look_for 0) Fits, Goes (reserve_of [] (pos 2)), refl, legal_second_look, refl, refl, refl),
-  );
-}
+goes_second_look =
+    goes_by refl (omega arith) (AtSlot 0 (look_for 0) Fits) (Goes (reserve_of [] (pos 2))) refl legal_second_look refl
+    refl refl
 
 goes_second_reserve : Went (calling_at 6 3 8 1 (one_calls 6 send_nothing) (reserve_of [] (pos 2))) (steps 1) []
     (calling_at 7 3 9 1 (one_calls 6 send_nothing) (place_of [] (pos 2) 0))
-goes_second_reserve = record {
-  goes = inr (
-    omega arith,
-    (AtPool (Reserve 0) (Reserved 0), Goes (place_of [] (pos 2) 0), refl, (omega arith, refl), refl, refl, refl),
-  );
-}
+goes_second_reserve =
+    goes_by refl (omega arith) (AtPool (Reserve 0) (Reserved 0)) (Goes (place_of [] (pos 2) 0)) refl (omega arith, refl)
+    refl refl refl
 
 goes_second_place : Went (calling_at 7 3 9 1 (one_calls 6 send_nothing) (place_of [] (pos 2) 0)) (steps 1)
     (one_ends 6 send_nothing Zero ∷ []) (idle_at 8 3 10)
-goes_second_place = record {
-  goes =
-      inr (omega arith, (AtSlot 0 place_nothing (Accepted 1), Over Zero, refl, legal_second_place, refl, refl, refl));
-}
+goes_second_place =
+    goes_by refl (omega arith) (AtSlot 0 place_nothing (Accepted 1)) (Over Zero) refl legal_second_place refl refl refl
 
 begins_take : Went (idle_at 8 3 10) (two_starts receive_up_to_100) []
     (calling_at 8 4 11 2 (two_calls 10 0 receive_up_to_100) (take_of receiver))
@@ -198,27 +199,15 @@ begins_take = record { goes = inr (omega arith, (refl, refl)) }
 
 goes_take : Went (calling_at 8 4 11 2 (two_calls 10 0 receive_up_to_100) (take_of receiver)) (steps 2) []
     (calling_at 9 4 12 2 (two_calls 10 0 receive_up_to_100) (AtReceiveGiveback 1 (pos 5) hello))
-goes_take = record {
-  goes = inr (
-    omega arith,
-    (
-      AtSlot 0 (take_by receiver) (Taken hello_message),
-      Goes (AtReceiveGiveback 1 (pos 5) hello),
-      refl,
-      legal_take,
-      refl,
-      refl,
-      refl,
-    ),
-  );
-}
+goes_take =
+    goes_by refl (omega arith) (AtSlot 0 (take_by receiver) (Taken hello_message))
+    (Goes (AtReceiveGiveback 1 (pos 5) hello)) refl legal_take refl refl refl
 
 goes_giveback : Went (calling_at 9 4 12 2 (two_calls 10 0 receive_up_to_100) (AtReceiveGiveback 1 (pos 5) hello))
     (steps 2) (two_ends 10 0 receive_up_to_100 (Got (pos 5) hello) ∷ []) (idle_at 10 4 13)
-goes_giveback = record {
-  goes =
-      inr (omega arith, (AtPool (Release 1) Released, Over (Got (pos 5) hello), refl, omega arith, refl, refl, refl));
-}
+goes_giveback =
+    goes_by refl (omega arith) (AtPool (Release 1) Released) (Over (Got (pos 5) hello)) refl (omega arith) refl refl
+    refl
 
 begins_second_take : Went (idle_at 10 4 13) (two_starts receive_up_to_100) []
     (calling_at 10 5 14 2 (two_calls 13 1 receive_up_to_100) (take_of receiver))
@@ -226,26 +215,14 @@ begins_second_take = record { goes = inr (omega arith, (refl, refl)) }
 
 goes_second_take : Went (calling_at 10 5 14 2 (two_calls 13 1 receive_up_to_100) (take_of receiver)) (steps 2) []
     (calling_at 11 5 15 2 (two_calls 13 1 receive_up_to_100) (AtReceiveGiveback 0 (pos 2) []))
-goes_second_take = record {
-  goes = inr (
-    omega arith,
-    (
-      AtSlot 0 (take_by receiver) (Taken empty_message),
-      Goes (AtReceiveGiveback 0 (pos 2) []),
-      refl,
-      legal_second_take,
-      refl,
-      refl,
-      refl,
-    ),
-  );
-}
+goes_second_take =
+    goes_by refl (omega arith) (AtSlot 0 (take_by receiver) (Taken empty_message))
+    (Goes (AtReceiveGiveback 0 (pos 2) [])) refl legal_second_take refl refl refl
 
 goes_second_giveback : Went (calling_at 11 5 15 2 (two_calls 13 1 receive_up_to_100) (AtReceiveGiveback 0 (pos 2) []))
     (steps 2) (two_ends 13 1 receive_up_to_100 (Got (pos 2) []) ∷ []) (idle_at 12 5 16)
-goes_second_giveback = record {
-  goes = inr (omega arith, (AtPool (Release 0) Released, Over (Got (pos 2) []), refl, omega arith, refl, refl, refl));
-}
+goes_second_giveback =
+    goes_by refl (omega arith) (AtPool (Release 0) Released) (Over (Got (pos 2) [])) refl (omega arith) refl refl refl
 
 begins_third_take : Went (idle_at 12 5 16) (two_starts receive_up_to_100) []
     (calling_at 12 6 17 2 (two_calls 16 2 receive_up_to_100) (take_of receiver))
@@ -253,12 +230,9 @@ begins_third_take = record { goes = inr (omega arith, (refl, refl)) }
 
 goes_third_take : Went (calling_at 12 6 17 2 (two_calls 16 2 receive_up_to_100) (take_of receiver)) (steps 2)
     (two_ends 16 2 receive_up_to_100 (Refused ENOMSG) ∷ []) (idle_at 13 6 18)
-goes_third_take = record {
-  goes = inr (
-    omega arith,
-    (AtSlot 0 (take_by receiver) (NoMatch 2), Over (Refused ENOMSG), refl, legal_third_take, refl, refl, refl),
-  );
-}
+goes_third_take =
+    goes_by refl (omega arith) (AtSlot 0 (take_by receiver) (NoMatch 2)) (Over (Refused ENOMSG)) refl legal_third_take
+    refl refl refl
 
 -- A send of type 0 is refused.
 goes_typeless : Went (idle_at 13 6 18) (one_starts send_typeless) (last_ends (Refused EINVAL) ∷ []) (idle_at 13 7 19)
