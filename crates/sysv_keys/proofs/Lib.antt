@@ -7,3 +7,4 @@ pub mod Law
 pub mod OneLegalReply
 pub mod Unused
 pub mod Kept
+pub mod Turns

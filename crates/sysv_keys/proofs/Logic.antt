@@ -1,10 +1,11 @@
 -- Tests of identifiers and keys, and of the elements of a list.
-use Rattle.std.proofs.Common.{◌≡◌, ℕ, ℤ, ◌||◌, ◌&&◌, Bool, true, false, w32, to_z, of_z, FitsSigned, List, [], ◌∷◌, ◌++◌}
+use Rattle.std.proofs.Common.{◌≡◌, ◌≢◌, ℕ, ℤ, ◌||◌, ◌&&◌, Bool, true, false, not, w32, to_z, of_z, FitsSigned, List, [], ◌∷◌, ◌++◌}
 use Rattle.std.proofs.Common.{refl, sym, ap, ◌∙◌, ◌⊎◌, inl, inr, ⊎_elim}
 use Rattle.std.specs.List.{list_any}
 use Rattle.std.specs.Ordering.{int_eq}
 use Rattle.std.proofs.lemmas.Int.{to_z-of_z}
 use Rattle.std.proofs.lemmas.Bool.Decides.{Decides-int_eq, eqb_tells}
+use Rattle.sysv_model.specs.declared.limits.TheConstants.{IPC_PRIVATE}
 use Rattle.std.proofs.lemmas.List.Folds.{list_any-append}
 
 pub same_id : (a b : ℤ) → a ≡ b → int_eq a b ≡ true
@@ -75,6 +76,17 @@ module _ {X : Type 0} (p : X → Bool) where
     | inr there ↦ let s = any_split xs there in (x ∷ s.0, s.1, s.2, ap (λ ys. x ∷ ys) s.3, s.4)
   ]
 
--- Numbers that the code compares by their bits.
-pub same_bits : (a b : ℤ) → FitsSigned w32 a → FitsSigned w32 b → of_z w32 a ≡ of_z w32 b → a ≡ b
-same_bits a b fits fits_too e = sym (to_z-of_z w32 a fits) ∙ (ap (to_z w32) e ∙ to_z-of_z w32 b fits_too)
+-- A key that the code compares with the private key by its bits.
+pub key_shared : (key : ℤ) → FitsSigned w32 key → (of_z w32 key ≡ 0 → ⊥) → key ≢ IPC_PRIVATE
+key_shared key fits not_zero same = not_zero (ap (of_z w32) same)
+
+pub key_private : (key : ℤ) → FitsSigned w32 key → of_z w32 key ≡ 0 → key ≡ IPC_PRIVATE
+key_private key fits zeroed = sym (to_z-of_z w32 key fits) ∙ ap (to_z w32) zeroed
+
+pub not_then : (t : Bool) → not t ≡ true → t ≡ false
+not_then true e = cc
+not_then false e = refl
+
+pub not_else : (t : Bool) → not t ≡ false → t ≡ true
+not_else true e = refl
+not_else false e = cc
