@@ -1,9 +1,8 @@
 -- The invariant of the registry, and the turns that its code makes.
-use Rattle.std.proofs.Common.{◌≡◌, ◌≢◌, ◌↔◌, ℕ, zero, suc, ℤ, ◌+◌, ◌*◌, ◌^◌, ◌<◌, ◌≤◌, Bool, true, false, cond, List, []}
+use Rattle.std.proofs.Common.{◌≡◌, ◌≢◌, ◌↔◌, ℕ, suc, ℤ, ◌+◌, ◌*◌, ◌^◌, ◌<◌, ◌≤◌, Bool, true, false, cond, List, []}
 use Rattle.std.proofs.Common.{◌∷◌, Option, None, Some, is_some, set, take, length, get_or, replicate, nat_lt, pos, refl}
 use Rattle.std.proofs.Common.{sym, ap, subst, ◌∙◌, ◌⊎◌, inl, inr, arith}
-use Rattle.std.specs.List.{count_by, sum_by, slice_get}
-use Rattle.std.specs.Ordering.{int_eq}
+use Rattle.std.specs.List.{count_by, sum_by}
 use Rattle.std.specs.Option.{unwrap_or}
 use Rattle.std.proofs.Math.ListN.{length-set, length-replicate, get_or-replicate}
 use Rattle.std.proofs.lemmas.Bool.{cases_lt}
@@ -19,7 +18,7 @@ use Rattle.sysv_keys.specs.declared.registry.Place.{Place}
 use Rattle.sysv_keys.specs.State.{empty, write, opened, places_in}
 use Rattle.sysv_keys.specs.Kept.{age_after, counted_by, key_in, is_keyed, HasKey, IsIndexOf, IsIndex}
 use Rattle.sysv_keys.specs.Kept.{IsEntered, KeysDiffer, IsKept}
-use Rattle.sysv_keys.proofs.Logic.{same_id, one_id, true_or_false, not_true, decided, nat_decided}
+use Rattle.sysv_keys.proofs.Logic.{same_id, one_id, not_true, decided, nat_decided}
 use Rattle.sysv_keys.proofs.States.{by_slot}
 use Rattle.sysv_keys.proofs.Rows.{kept}
 
@@ -304,8 +303,11 @@ module _ (places : List Place) (f : ℤ → Option ℕ) (bound room i : ℕ) (x 
               (sym none ∙ subst (λ (p : Place). key_in p.row ≡ Some key) (ap (places_in places) here ∙ is) h.1))
         ]),
       ))
-      (omega (arith, count_by_more_no is_keyed places i (empty 0) within
-      (ap is_keyed is ∙ ap (λ (o : Option ℤ). is_some o) none)))
+      (omega (
+        arith,
+        count_by_more_no is_keyed places i (empty 0) within
+            (ap is_keyed is ∙ ap (λ (o : Option ℤ). is_some o) none),
+      ))
 
   -- After a place whose key is entered into the index.
   pub filled_more : (key : ℤ) → key_in place.row ≡ Some key → KeysDiffer places →
@@ -332,8 +334,11 @@ module _ (places : List Place) (f : ℤ → Option ℕ) (bound room i : ℕ) (x 
               inr (sym (same_Some key k (sym here ∙ subst (λ s. HasKey places k s) at h.1)), at)
         ]),
       ))
-      (omega (arith, count_by_more_yes is_keyed places i (empty 0) within
-      (ap is_keyed is ∙ ap (λ (o : Option ℤ). is_some o) now)))
+      (omega (
+        arith,
+        count_by_more_yes is_keyed places i (empty 0) within
+            (ap is_keyed is ∙ ap (λ (o : Option ℤ). is_some o) now),
+      ))
 
 -- ---- the invariant
 
@@ -409,21 +414,21 @@ pub kept_fresh : (generation : ℕ) (f : ℤ → Option ℕ) (bound room : ℕ) 
     ((key : ℤ) → f key ≡ None) → bound ≡ 0 → SLOTS ≤ room →
     IsKept (replicate SLOTS (empty generation)) f bound room 0
 kept_fresh generation f bound room usable none start roomy = record {
-      wide = length-replicate SLOTS (empty generation);
-      young = λ slot.
-          subst (λ (p : Place). age_after p.generation p.row ≤ GENERATION_LAST + 1) (sym (fresh_at generation slot))
-          (young_at (nat_lt slot SLOTS));
-      index = record {
-        finds = λ key slot. (
-          (λ e. absurd (none-some slot (sym (none key) ∙ e))),
-          (λ h. absurd (none_at (nat_lt slot SLOTS) key
+  wide = length-replicate SLOTS (empty generation);
+  young = λ slot.
+      subst (λ (p : Place). age_after p.generation p.row ≤ GENERATION_LAST + 1) (sym (fresh_at generation slot))
+      (young_at (nat_lt slot SLOTS));
+  index = record {
+    finds = λ key slot. (
+      (λ e. absurd (none-some slot (sym (none key) ∙ e))),
+      (λ h. absurd (none_at (nat_lt slot SLOTS) key
           (subst (λ (p : Place). key_in p.row ≡ Some key) (fresh_at generation slot) h))),
-        );
-        few = omega arith;
-        roomy = omega arith;
-      };
-      counted = omega arith;
-    }
+    );
+    few = omega arith;
+    roomy = omega arith;
+  };
+  counted = omega arith;
+}
   where
     young_at : (b : Bool) →
         age_after (cond b (empty generation) (empty 0)).generation (cond b (empty generation) (empty 0)).row

@@ -1,8 +1,7 @@
 -- What is known of each identifier after a legal history: it was made and has a row, or was made
 -- and is of an earlier generation, or was never made.
-use Rattle.std.proofs.Common.{◌≡◌, ℕ, ℤ, ◌+◌, Bool, true, false, cond, [], ◌∷◌, ◌++◌, refl, sym, ap, subst, ◌∙◌, ◌⊎◌}
-use Rattle.std.proofs.Common.{inl, inr, arith}
-use Rattle.sysv_model.specs.declared.flags.Flags.{Flags}
+use Rattle.std.proofs.Common.{◌≡◌, ℕ, ℤ, Bool, true, false, [], ◌∷◌, ◌++◌, refl, sym, ap, subst, ◌∙◌, ◌⊎◌}
+use Rattle.std.proofs.Common.{inl, inr}
 use Rattle.sysv_model.specs.Registry.{RegistryCall, RegistryReply, RegistryEntry, RegistryHistory, Begin, Settle}
 use Rattle.sysv_model.specs.Registry.{Forget, Made, Changed}
 use Rattle.sysv_keys.specs.State.{State, state_after, state_of}
@@ -129,10 +128,10 @@ module _ (h : RegistryHistory) (r : State) (k : Known h r) where
     stage = elim (true_or_false row.live) [
       | inl live ↦ (k.row row here).1 live ∙ sym live
       | inr making ↦ not_true _ (λ t. elim (k.settled row.id t) [
-            | inl other ↦ never_both row.live
-                (ap (λ (x : Row). x.live) (one_in_slot r row (a_row row.id other.0 true) here other.1 refl)) making
-            | inr past ↦ present r row here past
-          ]) ∙ sym making
+        | inl other ↦ never_both row.live
+            (ap (λ (x : Row). x.live) (one_in_slot r row (a_row row.id other.0 true) here other.1 refl)) making
+        | inr past ↦ present r row here past
+      ]) ∙ sym making
     ];
   }
 

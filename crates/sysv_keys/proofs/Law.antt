@@ -1,5 +1,5 @@
 -- Every legal history obeys the registry law.
-use Rattle.std.proofs.Common.{◌≡◌, ◌≢◌, ℕ, ℤ, ◌+◌, ◌*◌, ◌<◌, ◌≤◌, Bool, true, false, [], ◌∷◌, ◌++◌, cond, nat_lt, refl}
+use Rattle.std.proofs.Common.{◌≡◌, ◌≢◌, ℕ, ℤ, ◌+◌, ◌*◌, ◌<◌, Bool, true, false, ◌∷◌, ◌++◌, cond, nat_lt, refl}
 use Rattle.std.proofs.Common.{sym, ap, subst, ◌∙◌, append_assoc, ◌⊎◌, inl, inr, arith}
 use Rattle.std.proofs.lemmas.Bool.Decides.{Decides-eqb, nat_tests}
 use Rattle.std.proofs.lemmas.List.Sums.{sum_by_push}
@@ -10,18 +10,18 @@ use Rattle.sysv_model.specs.Registry.{Forget, Found, Made, Changed, changes_row,
 use Rattle.sysv_model.proofs.Snoc.{from_end, from_front}
 use Rattle.sysv_keys.specs.declared.identifier.TheConstants.{SLOTS, GENERATION_LAST}
 use Rattle.sysv_keys.specs.declared.registry.Place.{Place}
-use Rattle.sysv_keys.specs.Identifier.{id_of, slot_of_id}
-use Rattle.sysv_keys.specs.State.{State, empty, places_after, state_after, opened, places_of, state_of}
-use Rattle.sysv_keys.specs.Rows.{Row, HasRow, IsVacant, makes, settles, forgets, frees, is_made, is_forgotten}
+use Rattle.sysv_keys.specs.Identifier.{slot_of_id}
+use Rattle.sysv_keys.specs.State.{State, empty, places_after, state_after, places_of, state_of}
+use Rattle.sysv_keys.specs.Rows.{Row, HasRow, IsVacant, makes, settles, forgets, frees, is_made}
 use Rattle.sysv_keys.specs.LegalReply.{Legal, IsLegalReply, IsLegalHistory}
 use Rattle.sysv_keys.specs.RegistryLaw.{RegistryLaw, IsIdentifier, is_settle, is_forget}
-use Rattle.sysv_keys.proofs.Logic.{same_id, one_id, and_both, and_true, any_left, any_here, any_split, never_both}
-use Rattle.sysv_keys.proofs.Logic.{not_true, decided}
+use Rattle.sysv_keys.proofs.Logic.{same_id, one_id, and_both, and_true, any_left, any_here, any_split}
+use Rattle.sysv_keys.proofs.Logic.{not_true}
 use Rattle.sysv_keys.proofs.Legality.{legal_front}
-use Rattle.sysv_keys.proofs.States.{by_slot, settled-more, state_of-more, over_legal}
+use Rattle.sysv_keys.proofs.States.{by_slot, state_of-more, over_legal}
 use Rattle.sysv_keys.proofs.Rows.{a_row, IsNext, IsPast, one_in_slot, present, made_next, next_absent, next_not_past}
 use Rattle.sysv_keys.proofs.Rows.{ages, row_comes, none_opened}
-use Rattle.sysv_keys.proofs.Known.{Known, known, leaves, is_left}
+use Rattle.sysv_keys.proofs.Known.{known, leaves, is_left}
 
 -- What legal replies say of identifiers.
 module _ (r : State) (id : ℤ) where

@@ -1,5 +1,5 @@
 -- Each call has exactly one legal reply after each legal history.
-use Rattle.std.proofs.Common.{◌≡◌, ◌≢◌, ℕ, zero, suc, ℤ, ◌+◌, ◌<◌, ◌≤◌, Bool, true, false, Option, Some, None, refl, sym}
+use Rattle.std.proofs.Common.{◌≡◌, ◌≢◌, ℕ, zero, suc, ℤ, ◌<◌, Bool, true, false, Option, Some, None, refl, sym}
 use Rattle.std.proofs.Common.{ap, subst, ◌∙◌, ◌⊎◌, inl, inr, arith}
 use Rattle.std.proofs.lemmas.Bool.{cases_lt}
 use Rattle.std.proofs.lemmas.Option.{same_Some, none-some}
@@ -136,12 +136,20 @@ module _ (r : State) where
   some_reply_to_settle id = elim (its_or_none id) [
     | inr none ↦ (Changed false, λ key h. none (a_row id key false, h, refl))
     | inl w ↦ elim (true_or_false w.0.live) [
-      | inr making ↦
-          (Changed true, (w.0.key, subst (λ i. HasRow r (a_row i w.0.key false)) w.2
-          (subst (λ t. HasRow r (a_row w.0.id w.0.key t)) making w.1)))
-      | inl live ↦ (Changed false, λ key h.
-          never_both w.0.live live
-          (ap (λ (x : Row). x.live) (one_in_slot r w.0 (a_row id key false) w.1 h (ap slot_of_id w.2))))
+      | inr making ↦ (
+        Changed true,
+        (
+          w.0.key,
+          subst (λ i. HasRow r (a_row i w.0.key false)) w.2
+              (subst (λ t. HasRow r (a_row w.0.id w.0.key t)) making w.1),
+        ),
+      )
+      | inl live ↦ (
+        Changed false,
+        λ key h.
+            never_both w.0.live live
+            (ap (λ (x : Row). x.live) (one_in_slot r w.0 (a_row id key false) w.1 h (ap slot_of_id w.2))),
+      )
     ]
   ]
 

@@ -11,7 +11,7 @@ use Rattle.sysv_keys.specs.declared.registry.Place.{Place}
 use Rattle.sysv_keys.specs.Identifier.{id_of, slot_of_id}
 use Rattle.sysv_keys.specs.State.{State, empty, made_in, settled_in, forgotten_in, write, places_after, state_after}
 use Rattle.sysv_keys.specs.State.{state_of}
-use Rattle.sysv_keys.specs.Rows.{Row, row_at, HasRow, IsVacant, IsLeastVacant, makes, settles, forgets}
+use Rattle.sysv_keys.specs.Rows.{Row, row_at, HasRow, IsLeastVacant, makes, settles, forgets}
 use Rattle.sysv_keys.specs.LegalReply.{Legal}
 use Rattle.sysv_keys.proofs.Logic.{same_id, and_true, nat_decided, true_or_false}
 use Rattle.sysv_keys.proofs.States.{by_slot}

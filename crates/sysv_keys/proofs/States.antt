@@ -1,15 +1,14 @@
 -- The state of a registry after one more turn, and induction over legal histories.
-use Rattle.std.proofs.Common.{◌≡◌, ◌≢◌, ℕ, ◌+◌, ◌==◌, Bool, true, false, cond, [], ◌∷◌, ◌++◌, sym, ap, subst, ◌∙◌}
+use Rattle.std.proofs.Common.{◌≡◌, ◌≢◌, ℕ, ◌+◌, Bool, true, false, cond, [], ◌∷◌, ◌++◌, sym, ap, subst, ◌∙◌}
 use Rattle.std.proofs.Common.{⊎_elim, arith}
 use Rattle.std.proofs.lemmas.Bool.Decides.{eqb_tells}
 use Rattle.std.proofs.lemmas.List.Sums.{fold-append, sum_by_push}
-use Rattle.sysv_model.specs.History.{Who}
 use Rattle.sysv_model.specs.Registry.{RegistryCall, RegistryReply, RegistryEntry, RegistryHistory, changes_row, settled}
 use Rattle.sysv_model.proofs.Snoc.{from_end}
 use Rattle.sysv_keys.specs.declared.registry.Place.{Place}
-use Rattle.sysv_keys.specs.State.{State, Registry, write, places_after, state_after, opened, places_of, state_of, state_in}
-use Rattle.sysv_keys.specs.LegalReply.{Legal, IsLegalReply, IsLegalHistory}
-use Rattle.sysv_keys.specs.StandsFor.{StandsFor, MakesTurn}
+use Rattle.sysv_keys.specs.State.{State, Registry, write, places_after, state_after, opened, state_of, state_in}
+use Rattle.sysv_keys.specs.LegalReply.{Legal, IsLegalHistory}
+use Rattle.sysv_keys.specs.StandsFor.{MakesTurn}
 use Rattle.sysv_keys.proofs.Legality.{legal_more, legal_front, legal_last}
 
 -- A place after a write is the new one or is unchanged.

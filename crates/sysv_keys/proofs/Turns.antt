@@ -104,10 +104,11 @@ module _ (places : List Place) (count : ℕ) where
   no_key key wide none slot h =
       let w = keyed_row (places_in places slot).row key h in
       let within = within_if_row places slot w.0 w.1 in
-      none
-      (a_row (id_of slot (places_in places slot).generation) w.0.key w.0.live,
-      row_there slot (places_in places slot) w.0 (omega arith) refl w.1,
-      w.2)
+      none (
+        a_row (id_of slot (places_in places slot).generation) w.0.key w.0.live,
+        row_there slot (places_in places slot) w.0 (omega arith) refl w.1,
+        w.2,
+      )
 
 module _ (places : List Place) (f : ℤ → Option ℕ) (bound room count : ℕ) (k : IsKept places f bound room count)
     (slot : ℕ) (place : Place) (within : slot < SLOTS) (is : places_in places slot ≡ place) where

@@ -12,7 +12,7 @@ use Rattle.sysv_keys.specs.declared.registry.KeyRow.{KeyRow}
 use Rattle.sysv_keys.specs.declared.registry.Place.{Place}
 use Rattle.sysv_keys.specs.State.{Registry, places_in, state_in}
 use Rattle.sysv_keys.specs.Rows.{Row, HasRow}
-use Rattle.sysv_keys.specs.LegalReply.{IsBound, Creates}
+use Rattle.sysv_keys.specs.LegalReply.{Creates}
 use Rattle.sysv_keys.specs.StandsFor.{MakesTurn}
 use Rattle.sysv_keys.specs.Replies.{begun_reply, ChangesOnlyIfMade}
 

@@ -4,14 +4,14 @@
 -- for. It exists from the turn that made the identifier to the turn that forgot it. It is Making
 -- until a turn has settled it, and Live from then on. A slot's generation rises by one with each
 -- identifier of the slot that is forgotten.
-use Rattle.std.specs.Prelude.{ℕ, ℤ, ◌+◌, ◌==◌, Bool, true, false, List, Option, None, Some, option_map}
+use Rattle.std.specs.Prelude.{ℕ, ℤ, ◌+◌, ◌==◌, true, false, List, None, Some, option_map}
 use Rattle.std.specs.Prelude.{fold, nat_lt, get_or, if◌then◌else◌}
 use Rattle.sysv_model.specs.Registry.{RegistryCall, RegistryReply, RegistryEntry, RegistryHistory, Begin, Settle}
 use Rattle.sysv_model.specs.Registry.{Forget, Made, Changed, changes_row, settled}
 use Rattle.sysv_keys.specs.declared.identifier.TheConstants.{SLOTS}
 use Rattle.sysv_keys.specs.declared.registry.KeyRow.{KeyRow}
 use Rattle.sysv_keys.specs.declared.registry.Place.{Place}
-use Rattle.sysv_keys.specs.Identifier.{id_of, slot_of_id}
+use Rattle.sysv_keys.specs.Identifier.{slot_of_id}
 
 -- The state of the registry: the place of each slot, and the settled count.
 pub record State : Type 0 where

@@ -1,5 +1,4 @@
 use Rattle.sysv_keys.proofs.Law as law
-use Rattle.sysv_keys.proofs.Kept.{fresh, kept_fresh}
 use Rattle.sysv_keys.proofs.laws.registry_law.Goals as goal
 
 pub returns : goal.returns

@@ -1,11 +1,11 @@
-use Rattle.std.proofs.Common.{◌≡◌, ◌+◌, ◌<◌, ℕ, ℤ, HashMap, None, Some, get_or, length, sym, ap, subst, ◌∙◌, arith, rules}
+use Rattle.std.proofs.Common.{◌+◌, ℕ, ℤ, HashMap, BuildHasherDefault, FoldHasher, get_or, sym, ap, subst, ◌∙◌, rules}
 use Rattle.std.proofs.Common.{refl, inl, inr, w32, FitsSigned}
 use Rattle.std.specs.Ordering.{int_eq}
 use Rattle.std.proofs.lemmas.Int.{to_z-of_z}
 use Rattle.indexmap.specs.IndexMap.{get, index_map_len, spare}
 use Rattle.sysv_model.specs.declared.limits.TheConstants.{IPC_PRIVATE}
 use Rattle.sysv_keys.specs.declared.registry.Place.{Place}
-use Rattle.sysv_keys.specs.State.{empty, places_in}
+use Rattle.sysv_keys.specs.State.{empty}
 use Rattle.sysv_keys.specs.Kept.{key_in, IsEntered}
 use Rattle.sysv_keys.proofs.Logic.{decided}
 use Rattle.sysv_keys.proofs.Kept.{IsFilled, filled_past, filled_more, private_key, shared_key}
@@ -18,7 +18,7 @@ loop-slot-preserved c =
     let i = c.loop-slot.slot in
     let place : Place = get_or places i (empty 0) in
     let within = c.loop-slot-test.true in
-    let filled : HashMap ℤ ℕ _ → Type 0 = λ m.
+    let filled : HashMap ℤ ℕ (BuildHasherDefault FoldHasher) → Type 0 = λ m.
     IsFilled places (i + 1) (λ key. get int_eq m key) (index_map_len m) (spare m) in
     elim c.match-place.branch [
       | in-Some w ↦

@@ -1,6 +1,5 @@
-use Rattle.std.proofs.Common.{◌≡◌, true, sym, subst, ◌∙◌, ◌⊎◌, inl, inr, rules, w32, FitsSigned}
+use Rattle.std.proofs.Common.{sym, subst, inl, inr, rules, w32, FitsSigned}
 use Rattle.std.proofs.lemmas.Int.{to_z-of_z}
-use Rattle.sysv_model.specs.declared.limits.TheConstants.{IPC_PRIVATE}
 use Rattle.sysv_keys.specs.State.{state_in}
 use Rattle.sysv_keys.specs.LegalReply.{IsBound, Creates}
 use Rattle.sysv_keys.specs.Kept.{Finds, Makes}
@@ -11,7 +10,10 @@ use Rattle.sysv_keys.proofs.registry.Registry.begin.Goals.{then-key-ne-IPC_PRIVA
 use Rattle.sysv_keys.proofs.registry.Registry.begin.Goals.{else-key-ne-IPC_PRIVATE}
 
 pub returns-in-Some-clause-turn : goal.returns-in-Some-clause-turn
-returns-in-Some-clause-turn c = ?
+returns-in-Some-clause-turn c =
+    let finds : Finds c.args.self.now c.args.key c.in-Some.found = subst (λ k.
+    Finds c.args.self.now k c.in-Some.found) (to_z-of_z w32 c.args.key c.ranges.key) c.in-Some.ensures in
+    (finds c.args.flags).0
 
 pub returns-then-not-contains-clause-turn : goal.returns-then-not-contains-clause-turn
 returns-then-not-contains-clause-turn c =

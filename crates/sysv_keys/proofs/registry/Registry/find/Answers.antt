@@ -1,4 +1,4 @@
-use Rattle.std.proofs.Common.{◌≡◌, ◌<◌, Some, sym, subst, ◌∙◌, w32, rules, FitsSigned, refl}
+use Rattle.std.proofs.Common.{◌≡◌, ◌<◌, Some, sym, subst, w32, rules, FitsSigned, refl}
 use Rattle.std.specs.HashMap.{get_by}
 use Rattle.std.specs.Ordering.{int_eq}
 use Rattle.std.proofs.lemmas.Int.{to_z-of_z}
@@ -42,10 +42,12 @@ returns-then-row c =
     (to_z-of_z w32 c.args.key c.ranges.key) c.in_ok-slot.ensures.value) in
     let at = indexed r.places.items _ _ _ _ c.self.invariant c.args.key slot some in
     let fits : FitsSigned w32 c.id_of-id.result = search rules in
-    λ flags.
-        (rw (to_z-of_z w32 c.id_of-id.result fits, c.id_of-id.ensures, ← c.self.view_is)
-        (turn_found r.places.items r.settled c.args.key slot at c.index-place.result.now c.index-place.ensures
-        c.in_ok-row.row c.in_ok-row.was flags c.if-row.true), refl)
+    λ flags. (
+      rw (to_z-of_z w32 c.id_of-id.result fits, c.id_of-id.ensures, ← c.self.view_is)
+          (turn_found r.places.items r.settled c.args.key slot at c.index-place.result.now c.index-place.ensures
+          c.in_ok-row.row c.in_ok-row.was flags c.if-row.true),
+      refl,
+    )
 
 pub returns-else-row : goal.returns-else-row
 returns-else-row c =
@@ -54,7 +56,9 @@ returns-else-row c =
     let some : get int_eq r.by_key c.args.key ≡ Some slot = sym (subst (λ k. Some slot ≡ get_by (int_eq k) r.by_key)
     (to_z-of_z w32 c.args.key c.ranges.key) c.in_ok-slot.ensures.value) in
     let at = indexed r.places.items _ _ _ _ c.self.invariant c.args.key slot some in
-    λ flags.
-        (rw (← c.self.view_is)
-        (turn_busy r.places.items r.settled c.args.key slot at c.index-place.result.now c.index-place.ensures
-        c.in_ok-row.row c.in_ok-row.was flags c.if-row.false), refl)
+    λ flags. (
+      rw (← c.self.view_is)
+          (turn_busy r.places.items r.settled c.args.key slot at c.index-place.result.now c.index-place.ensures
+          c.in_ok-row.row c.in_ok-row.was flags c.if-row.false),
+      refl,
+    )

@@ -1,9 +1,8 @@
-use Rattle.std.proofs.Common.{◌≡◌, ◌≢◌, ◌<◌, ◌≤◌, None, length, refl, sym, ap, subst, ◌∙◌, arith, rules, w32, FitsSigned}
+use Rattle.std.proofs.Common.{◌≡◌, ◌<◌, ◌≤◌, length, sym, ap, subst, ◌∙◌, arith, rules, w32, FitsSigned}
 use Rattle.std.specs.Ordering.{int_eq}
 use Rattle.std.proofs.lemmas.Int.{to_z-of_z}
 use Rattle.indexmap.specs.IndexMap.{get, index_map_len, spare}
-use Rattle.sysv_model.specs.declared.limits.TheConstants.{IPC_PRIVATE}
-use Rattle.sysv_keys.specs.declared.identifier.TheConstants.{SLOTS, GENERATION_LAST}
+use Rattle.sysv_keys.specs.declared.identifier.TheConstants.{GENERATION_LAST}
 use Rattle.sysv_keys.specs.declared.registry.Place.{Place}
 use Rattle.sysv_keys.specs.Rows.{IsLeastVacant}
 use Rattle.sysv_keys.specs.LegalReply.{IsBound, Creates}
@@ -46,16 +45,16 @@ invariant_of-self c =
 
 pub returns : goal.returns
 returns c = λ flags creates.
-        let items = c.self.inside.places.items in
-        let slot = c.args.slot in
-        let key = c.args.key in
-        let place = c.index.result.now in
-        let least : IsLeastVacant (state_in (registry items c.self.inside.settled)) slot =
-        subst (λ r. IsLeastVacant (state_in r) c.args.slot) (sym c.self.view_is) c.requires.vacant in
-        let there = least.0.there in
-        let long : slot < length items = omega (arith, c.self.invariant.wide) in
-        let is : places_in items slot ≡ place = read items slot place long c.index.ensures in
-        let exact = to_z-of_z w32 key c.ranges.key in
-        let fits : FitsSigned w32 c.id_of.result = search rules in
-        rw (to_z-of_z w32 c.id_of.result fits, c.id_of.ensures, exact, ← c.self.view_is)
-        (turn_made items c.self.inside.settled slot place key flags long is least (subst (λ r. Creates (state_in r) key flags) (sym c.self.view_is) creates))
+    let items = c.self.inside.places.items in
+    let slot = c.args.slot in
+    let key = c.args.key in
+    let place = c.index.result.now in
+    let least : IsLeastVacant (state_in (registry items c.self.inside.settled)) slot =
+    subst (λ r. IsLeastVacant (state_in r) c.args.slot) (sym c.self.view_is) c.requires.vacant in
+    let there = least.0.there in
+    let long : slot < length items = omega (arith, c.self.invariant.wide) in
+    let is : places_in items slot ≡ place = read items slot place long c.index.ensures in
+    let exact = to_z-of_z w32 key c.ranges.key in
+    let fits : FitsSigned w32 c.id_of.result = search rules in
+    rw (to_z-of_z w32 c.id_of.result fits, c.id_of.ensures, exact, ← c.self.view_is)
+    (turn_made items c.self.inside.settled slot place key flags long is least (subst (λ r. Creates (state_in r) key flags) (sym c.self.view_is) creates))

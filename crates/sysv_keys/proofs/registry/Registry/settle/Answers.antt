@@ -1,7 +1,7 @@
-use Rattle.std.proofs.Common.{◌≡◌, ◌<◌, Some, length, sym, ap, subst, ◌∙◌, arith, rules, w32, FitsSigned}
+use Rattle.std.proofs.Common.{◌≡◌, ◌<◌, length, sym, ap, subst, ◌∙◌, arith, rules, w32, FitsSigned}
 use Rattle.std.proofs.lemmas.Int.{to_z-of_z}
 use Rattle.sysv_keys.specs.Identifier.{slot_of_id}
-use Rattle.sysv_keys.specs.State.{Registry, places_in}
+use Rattle.sysv_keys.specs.State.{places_in}
 use Rattle.sysv_keys.specs.Kept.{HasRowOf, HasNoRow}
 use Rattle.sysv_keys.proofs.Logic.{not_then, not_else}
 use Rattle.sysv_keys.proofs.Kept.{read, settled_small}
