@@ -8,7 +8,8 @@ use Rattle.sysv_model.specs.Registry.{RegistryCall, RegistryReply, RegistryEntry
 use Rattle.sysv_model.specs.Pool.{PoolCall, PoolReply, PoolEntry, frees, released}
 use Rattle.sysv_queue.specs.Slot.{Slot}
 use Rattle.sysv_queue.specs.StandsFor.{MakesTurn as SlotMakesTurn}
-use Rattle.sysv_keys.specs.StandsFor.{Registry, MakesTurn as RegistryMakesTurn}
+use Rattle.sysv_keys.specs.State.{Registry}
+use Rattle.sysv_keys.specs.StandsFor.{MakesTurn as RegistryMakesTurn}
 use Rattle.sysv_pool.specs.State.{State}
 use Rattle.sysv_pool.specs.StandsFor.{MakesTurn as PoolMakesTurn}
 use Rattle.sysv_gate.specs.History.{RiseByOneAtMost}
