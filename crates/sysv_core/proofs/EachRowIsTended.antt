@@ -25,10 +25,12 @@ use Rattle.sysv_model.specs.Pool.{PoolCall, PoolReply}
 use Rattle.sysv_model.specs.Turn.{OfSlot, OfRegistry, AtSlot, AtRegistry, AtPool, Turn, slot_history, registry_history}
 use Rattle.sysv_queue.specs.Slot.{Slot, slot_of}
 use Rattle.sysv_queue.specs.LegalReply.{Legal, IsLegalHistory}
-use Rattle.sysv_keys.specs.declared.registry.KeyRow.{KeyRow}
 use Rattle.sysv_keys.specs.Identifier.{slot_of_id}
-use Rattle.sysv_keys.specs.Rows.{makes, settles, forgets, is_made, is_settled, is_forgotten, IsRow}
+use Rattle.sysv_keys.specs.State.{state_of}
+use Rattle.sysv_keys.specs.Rows.{Row, makes, settles, forgets, is_made, is_settled, is_forgotten}
 use Rattle.sysv_keys.specs.LegalReply.{LegalForget, LegalSettle, IsLegalReply as IsLegalRegistryReply}
+use Rattle.sysv_keys.specs.LegalReply.{IsLegalHistory as IsLegalRegistryHistory}
+use Rattle.sysv_keys.specs.RegistryLaw.{RegistryLaw, LeavesRow}
 use Rattle.sysv_steps.specs.Call.{SystemCall}
 use Rattle.sysv_steps.specs.State.{Getting, Wait, Phase, AtBegin, AtInstall, AtSettle, AtUnmake, AtRemove, AtForget}
 use Rattle.sysv_steps.specs.State.{State, Goes, Waits, Over}
@@ -377,29 +379,35 @@ settle_asks id (AtSettle at) now c a p = let is : c ≡ Settle at = cc in is ∙
 settle_asks id phase now c a p = absurd p
 
 -- A legal forget of an identifier that has a row forgets it.
-forgets_it : (h : RegistryHistory) (id key : ℤ) (reply : RegistryReply) → is_made id key h ≡ true →
-    is_forgotten id h ≡ false → LegalForget h id reply → forgets id (Forget id) reply ≡ true
-forgets_it h id key (Changed true) made kept l = same_int id
-forgets_it h id key (Changed false) made kept l = absurd (l (record { id = id; key = key; live = is_settled id h })
-    (record { made = made; kept = kept; stage = refl }) refl)
-forgets_it h id key reply made kept l = absurd l
+forgets_it : (generation : ℕ) (h : RegistryHistory) → RegistryLaw generation h → (id key : ℤ) (reply : RegistryReply) →
+    is_made id key h ≡ true →
+    is_forgotten id h ≡ false → LegalForget (state_of generation h) id reply → forgets id (Forget id) reply ≡ true
+forgets_it generation h law id key (Changed true) made kept l = same_int id
+forgets_it generation h law id key (Changed false) made kept l =
+    let row : Row = record { id = id; key = key; live = is_settled id h } in
+    absurd (l row ((law.rows row).1 (record { made = made; kept = kept; stage = refl })) refl)
+forgets_it generation h law id key reply made kept l = absurd l
 
 -- A legal settle of such an identifier finds it settled, or settles it.
-settles_it : (h : RegistryHistory) (id key : ℤ) (reply : RegistryReply) → is_made id key h ≡ true →
-    is_forgotten id h ≡ false → LegalSettle h id reply →
+settles_it : (generation : ℕ) (h : RegistryHistory) → RegistryLaw generation h → (id key : ℤ) (reply : RegistryReply) →
+    is_made id key h ≡ true →
+    is_forgotten id h ≡ false → LegalSettle (state_of generation h) id reply →
     (is_settled id h ≡ true) ⊎ (settles id (Settle id) reply ≡ true)
-settles_it h id key (Changed true) made kept l = inr (same_int id)
-settles_it h id key (Changed false) made kept l = elim (either (is_settled id h)) [
+settles_it generation h law id key (Changed true) made kept l = inr (same_int id)
+settles_it generation h law id key (Changed false) made kept l = elim (either (is_settled id h)) [
   | inl before ↦ inl before
-  | inr never ↦ absurd (l key (record { made = made; kept = kept; stage = never }))
+  | inr never ↦
+      let row : Row = record { id = id; key = key; live = false } in
+      absurd (l key ((law.rows row).1 (record { made = made; kept = kept; stage = never })))
 ]
-settles_it h id key reply made kept l = absurd l
+settles_it generation h law id key reply made kept l = absurd l
 
 module _ (generation : ℕ) (turns : List Turn) (actors : List (Option Doing)) (place : ℕ) (call : Started)
     (phase : Phase) (there : slice_get actors place ≡ Some (Some record { call = call; state = Goes phase }))
     (all : AllTended turns actors) (now : ℕ) (state : State)
     (c : RegistryCall) (reply : RegistryReply) (asked : OfRegistry c ≡ asks phase now)
     (legal : IsLegalRegistryReply generation (registry_history turns) c reply)
+    (law : RegistryLaw generation (registry_history turns))
     (goes : next phase (AtRegistry c reply) ≡ Some state) where
   abbrev stood : Option Doing
   stood = Some record { call = call; state = Goes phase }
@@ -427,10 +435,10 @@ module _ (generation : ℕ) (turns : List Turn) (actors : List (Option Doing)) (
   not_forgotten : (id key : ℤ) → is_made id key (registry_history turns) ≡ true →
       is_forgotten id (registry_history turns) ≡ false → forgets id c reply ≡ false → c ≡ Forget id → ⊥
   not_forgotten id key made kept none is =
-      let l : LegalForget (registry_history turns) id reply =
+      let l : LegalForget (state_of generation (registry_history turns)) id reply =
       subst (λ x. IsLegalRegistryReply generation (registry_history turns) x reply) is legal in
       not_both (forgets id c reply)
-      (ap (λ x. forgets id x reply) is ∙ forgets_it (registry_history turns) id key reply made kept l) none
+      (ap (λ x. forgets id x reply) is ∙ forgets_it generation (registry_history turns) law id key reply made kept l) none
 
   settled_past : (id key : ℤ) → is_made id key (registry_history turns) ≡ true →
       is_forgotten id (registry_history turns) ≡ false → Settled id turns actors → Settled id then_turns on
@@ -441,10 +449,10 @@ module _ (generation : ℕ) (turns : List Turn) (actors : List (Option Doing)) (
         | inr t ↦ inr t
         | inl m ↦
             let is = settle_asks id phase now c asked (mine (BeforeSettle id) call phase m) in
-            let l : LegalSettle (registry_history turns) id reply =
+            let l : LegalSettle (state_of generation (registry_history turns)) id reply =
             subst (λ x. IsLegalRegistryReply generation (registry_history turns) x reply) is legal in
             inl (any_then (λ (x : RegistryEntry). settles id x.call x.reply)
-            ∙ elim (settles_it (registry_history turns) id key reply made kept l) [
+            ∙ elim (settles_it generation (registry_history turns) law id key reply made kept l) [
               | inl before ↦ or_left (is_settled id (registry_history turns)) (settles id c reply) before
               | inr here ↦ or_right (is_settled id (registry_history turns)) (settles id c reply)
                   (ap (λ x. settles id x reply) is ∙ here)
@@ -682,40 +690,43 @@ Tends w = AllTended w.turns w.actors
 same_tends : (w after : World) → after ≡ w → Tends w → Tends after
 same_tends w after e t = subst Tends (sym e) t
 
-pub turns_tend : (w after : World) (given : List Given) (place now : ℕ) (call : Started) (phase : Phase) → Tends w →
+pub turns_tend : (w after : World) (given : List Given) (place now : ℕ) (call : Started) (phase : Phase) →
+    RegistryLaw w.generation (registry_history w.turns) → Tends w →
     slice_get w.actors place ≡ Some (Some record { call = call; state = Goes phase }) →
     Turns w (suc place) call phase now given after → Tends after
-turns_tend w after given place now call phase all there (AtSlot slot c reply, state, asked, legal, goes, gave, is) =
+turns_tend w after given place now call phase law all there (AtSlot slot c reply, state, asked, legal, goes, gave, is) =
     subst Tends (sym is) (slot_turn w.turns w.actors place call phase there all now state slot c reply asked legal goes)
-turns_tend w after given place now call phase all there (AtRegistry c reply, state, asked, legal, goes, gave, is) =
+turns_tend w after given place now call phase law all there (AtRegistry c reply, state, asked, legal, goes, gave, is) =
     subst Tends (sym is)
-    (registry_turn w.generation w.turns w.actors place call phase there all now state c reply asked legal goes)
-turns_tend w after given place now call phase all there (AtPool c reply, state, asked, legal, goes, gave, is) =
+    (registry_turn w.generation w.turns w.actors place call phase there all now state c reply asked legal law goes)
+turns_tend w after given place now call phase law all there (AtPool c reply, state, asked, legal, goes, gave, is) =
     subst Tends (sym is) (pool_turn w.turns w.actors place call phase there all state c reply goes)
 
 pub waiting_state : (call : Started) (wait : Wait) (d : Doing) →
     Some record { call = call; state = Waits wait } ≡ Some d → (w : Wait) × (d.state ≡ Waits w)
 waiting_state call wait d e = (wait, ap (λ (x : Doing). x.state) (some_is e))
 
-continues_tend : (w after : World) (given : List Given) (place now : ℕ) (call : Started) (state : State) → Tends w →
+continues_tend : (w after : World) (given : List Given) (place now : ℕ) (call : Started) (state : State) →
+    RegistryLaw w.generation (registry_history w.turns) → Tends w →
     slice_get w.actors place ≡ Some (Some record { call = call; state = state }) →
     Continues w (suc place) now call state given after → Tends after
-continues_tend w after given place now call (Goes phase) all there t =
-    turns_tend w after given place now call phase all there t
-continues_tend w after given place now call (Waits wait) all there (inl t) =
+continues_tend w after given place now call (Goes phase) law all there t =
+    turns_tend w after given place now call phase law all there t
+continues_tend w after given place now call (Waits wait) law all there (inl t) =
     let d : Doing = record { call = call; state = Waits wait } in
     subst Tends (sym t.2)
     (idle_move w.turns w.actors place (Some d) (doing_in call (Goes (resume wait (value_of w.turns (awaited wait)))))
     there (waiting_state call wait) all)
-continues_tend w after given place now call (Waits wait) all there (inr t) = same_tends w after t.1.1 all
-continues_tend w after given place now call (Over ending) all there t = same_tends w after t.1 all
+continues_tend w after given place now call (Waits wait) law all there (inr t) = same_tends w after t.1.1 all
+continues_tend w after given place now call (Over ending) law all there t = same_tends w after t.1 all
 
-steps_tend : (w after : World) (given : List Given) (place now : ℕ) (o : Option (Option Doing)) → Tends w →
+steps_tend : (w after : World) (given : List Given) (place now : ℕ) (o : Option (Option Doing)) →
+    RegistryLaw w.generation (registry_history w.turns) → Tends w →
     slice_get w.actors place ≡ o → StepsAt w (suc place) now o given after → Tends after
-steps_tend w after given place now None all there t = same_tends w after t.1 all
-steps_tend w after given place now (Some None) all there t = same_tends w after t.1 all
-steps_tend w after given place now (Some (Some d)) all there t =
-    continues_tend w after given place now d.call d.state all there t
+steps_tend w after given place now None law all there t = same_tends w after t.1 all
+steps_tend w after given place now (Some None) law all there t = same_tends w after t.1 all
+steps_tend w after given place now (Some (Some d)) law all there t =
+    continues_tend w after given place now d.call d.state law all there t
 
 starts_tend : (w after : World) (given : List Given) (place : ℕ) (cred : Cred) (asked : SystemCall)
     (o : Option (Option Doing)) → Tends w → slice_get w.actors place ≡ o →
@@ -734,24 +745,30 @@ preset_tends w after made all s (inl p) =
     (preset_tended w.turns w.actors all
     (subst (λ (v : World). IsLegalHistory (slot_history 0 v.turns)) p.2 (s.legal.slots 0)))
 
-makes_tend : (w after : World) (x : Happening) (given : List Given) → Tends w → IsSound after → Makes w x given after →
+makes_tend : (w after : World) (x : Happening) (given : List Given) →
+    RegistryLaw w.generation (registry_history w.turns) → Tends w → IsSound after → Makes w x given after →
     Tends after
-makes_tend w after Preset given all s m = preset_tends w after m.1.0 all s m.1.1
-makes_tend w after (Start actor cred asked) given all s (inl worn) = same_tends w after worn.1.1 all
-makes_tend w after (Start zero cred asked) given all s (inr young) = same_tends w after young.1.1 all
-makes_tend w after (Start (suc place) cred asked) given all s (inr young) =
+makes_tend w after Preset given law all s m = preset_tends w after m.1.0 all s m.1.1
+makes_tend w after (Start actor cred asked) given law all s (inl worn) = same_tends w after worn.1.1 all
+makes_tend w after (Start zero cred asked) given law all s (inr young) = same_tends w after young.1.1 all
+makes_tend w after (Start (suc place) cred asked) given law all s (inr young) =
     starts_tend w after given place cred asked (slice_get w.actors place) all refl young.1
-makes_tend w after (Step actor now) given all s (inl worn) = same_tends w after worn.1.1 all
-makes_tend w after (Step zero now) given all s (inr young) = same_tends w after young.1.1 all
-makes_tend w after (Step (suc place) now) given all s (inr young) =
-    steps_tend w after given place now (slice_get w.actors place) all refl young.1
+makes_tend w after (Step actor now) given law all s (inl worn) = same_tends w after worn.1.1 all
+makes_tend w after (Step zero now) given law all s (inr young) = same_tends w after young.1.1 all
+makes_tend w after (Step (suc place) now) given law all s (inr young) =
+    steps_tend w after given place now (slice_get w.actors place) law all refl young.1
 
-leads_tend : StaysSound → (w after : World) (xs : List Happening) (given : List Given) → IsSound w → Tends w →
+-- Each legal history of the registry obeys its law.
+abbrev pub EachObeys : Type 0
+EachObeys = (generation : ℕ) (h : RegistryHistory) → IsLegalRegistryHistory generation h → RegistryLaw generation h
+
+leads_tend : EachObeys → StaysSound → (w after : World) (xs : List Happening) (given : List Given) → IsSound w → Tends w →
     Leads w xs given after → Tends after
-leads_tend sound w after [] given s all l = same_tends w after l.1 all
-leads_tend sound w after (x ∷ xs) given s all l =
+leads_tend laws sound w after [] given s all l = same_tends w after l.1 all
+leads_tend laws sound w after (x ∷ xs) given s all l =
     let mid = sound w l.0 x l.1 s l.3 in
-    leads_tend sound l.0 after xs l.2 mid (makes_tend w l.0 x l.1 all mid l.3) l.4
+    leads_tend laws sound l.0 after xs l.2 mid
+    (makes_tend w l.0 x l.1 (laws w.generation (registry_history w.turns) s.legal.registry) all mid l.3) l.4
 
 -- ---- each row
 
@@ -766,8 +783,9 @@ forgetter : (id : ℤ) (state : State) → BeforeForget id state → HasToForget
 forgetter id (Goes (AtForget at blocks)) p = p
 forgetter id state p = absurd p
 
-pub each_row : (w : World) → Tends w → AreTended w
-each_row w all = λ row is idle.
+pub each_row : (w : World) → RegistryLaw w.generation (registry_history w.turns) → Tends w → AreTended w
+each_row w law all = λ row there idle.
+    let is = (law.rows row).0 there in
     elim (all row.id row.key is.made is.kept) [
       | inl t ↦ record {
         place = t.place;
@@ -778,7 +796,7 @@ each_row w all = λ row is idle.
       | inr both ↦ by_row row is both.0 both.1 idle
     ]
   where
-    by_row : (row : KeyRow) → IsRow (registry_history w.turns) row → Lives row.id w.turns w.actors →
+    by_row : (row : Row) → LeavesRow (registry_history w.turns) row → Lives row.id w.turns w.actors →
         Settled row.id w.turns w.actors →
         (row.live ≡ false) ⊎ ¬ IsLive (slot_history (slot_of_id row.id) w.turns) row.id → IsTended w row.id
     by_row row is lives (inr t) idle = record {
@@ -797,7 +815,8 @@ each_row w all = λ row is idle.
       tends = inr (forgetter row.id t.doing.state t.stands);
     }
 
-pub are_tended : StaysSound → (o : Opening) (w : World) (list : List Happening) (given : List Given) →
-    IsSound (opening o) → Leads (opening o) list given w → AreTended w
-are_tended sound o w list given s led =
-    each_row w (leads_tend sound (opening o) w list given s (λ id key made kept. absurd cc) led)
+pub are_tended : EachObeys → StaysSound → (o : Opening) (w : World) (list : List Happening) (given : List Given) →
+    IsSound (opening o) → IsSound w → Leads (opening o) list given w → AreTended w
+are_tended laws sound o w list given s last led =
+    each_row w (laws w.generation (registry_history w.turns) last.legal.registry) 
+    (leads_tend laws sound (opening o) w list given s (λ id key made kept. absurd cc) led)

@@ -16,7 +16,7 @@ use Rattle.sysv_model.specs.Turn.{OfSlot, OfRegistry, Deed, AtSlot, AtRegistry, 
 use Rattle.sysv_model.specs.Turn.{registry_entry, registry_history}
 use Rattle.sysv_queue.specs.ForGood.{RemovedForGood}
 use Rattle.sysv_keys.specs.Identifier.{slot_of_id}
-use Rattle.sysv_keys.specs.Rows.{forgets, is_settled, is_forgotten}
+use Rattle.sysv_keys.specs.Rows.{Row, forgets, is_settled, is_forgotten}
 use Rattle.sysv_keys.specs.LegalReply.{IsLegalHistory as IsLegalRegistryHistory}
 use Rattle.sysv_keys.specs.RegistryLaw.{RegistryLaw}
 use Rattle.sysv_objects.specs.LegalDeed.{IsLegalDeed}
@@ -225,8 +225,8 @@ module _ (for_good : RemovedForGood) (w : World) (s : IsSound w)
     takes (AtRegistry (Forget at) (Changed true)) asked legal = refl
     takes (AtRegistry (Forget at) (Changed false)) asked legal =
         let has = o.rows place d at there (forget_asked w.turns phase now at asked (fit place d there)) in
-        absurd (legal (record { id = at; key = has.0.0; live = is_settled at (registry_history w.turns) })
-        (record { made = has.0.1; kept = has.1; stage = refl }) refl)
+        let row : Row = record { id = at; key = has.0.0; live = is_settled at (registry_history w.turns) } in
+        absurd (legal row ((law.rows row).1 (record { made = has.0.1; kept = has.1; stage = refl })) refl)
     takes (AtRegistry (Forget at) reply) asked legal = absurd legal
     takes deed asked legal = tt
 

@@ -31,9 +31,8 @@ use Rattle.sysv_queue.specs.LegalReply.{Legal}
 use Rattle.sysv_queue.specs.Blocks.{blocks_of}
 use Rattle.sysv_queue.specs.QueueLaw.{removes, installs}
 use Rattle.sysv_queue.specs.ForGood.{RemovedForGood}
-use Rattle.sysv_keys.specs.declared.registry.KeyRow.{KeyRow}
 use Rattle.sysv_keys.specs.Identifier.{slot_of_id}
-use Rattle.sysv_keys.specs.Rows.{forgets, is_made, is_settled, is_forgotten, IsRow}
+use Rattle.sysv_keys.specs.Rows.{Row, forgets, is_made, is_settled, is_forgotten, IsRow}
 use Rattle.sysv_keys.specs.LegalReply.{IsLegalHistory as IsLegalRegistryHistory}
 use Rattle.sysv_keys.specs.RegistryLaw.{RegistryLaw}
 use Rattle.sysv_objects.specs.LegalDeed.{IsLegalDeed}
@@ -292,7 +291,7 @@ module _ (for_good : RemovedForGood) (w : World) (s : IsSound w)
     (law : RegistryLaw w.generation (registry_history w.turns)) (c : Counted w.turns w.actors) (f : Facts w.turns)
     (fit : AllFit w.turns w.actors) where
   -- The row of an identifier that was made and not forgotten.
-  abbrev row_of : (id key : ℤ) → KeyRow
+  abbrev row_of : (id key : ℤ) → Row
   row_of id key = record { id = id; key = key; live = is_settled id (registry_history w.turns) }
 
   -- The queue of an identifier that was removed is not live.
@@ -339,14 +338,14 @@ module _ (for_good : RemovedForGood) (w : World) (s : IsSound w)
       let k = f.lives (slot_of_id id) a lives in
       let alive : IsLive (slot_history (slot_of_id a.id) w.turns) a.id =
       subst (λ n. IsLive (slot_history n w.turns) a.id) (sym k.here) (subst (λ l. HasId l a.id) (sym lives) refl) in
-      let its_row : IsRow (registry_history w.turns) (row_of a.id k.made.0) =
-      record { made = k.made.1; kept = kept a.id (λ e. not_live a.id e alive); stage = refl } in
+      let its_row : IsRow w.generation (registry_history w.turns) (row_of a.id k.made.0) =
+      (law.rows _).1 (record { made = k.made.1; kept = kept a.id (λ e. not_live a.id e alive); stage = refl }) in
       let made = fits_at place d (AtInstall get id) there stands in
       let new = not_yet place d get id there stands in
-      let row : IsRow (registry_history w.turns) (row_of id made.0) =
-      record { made = made.1; kept = kept id (λ e. new (f.removed id e)); stage = refl } in
+      let row : IsRow w.generation (registry_history w.turns) (row_of id made.0) =
+      (law.rows _).1 (record { made = made.1; kept = kept id (λ e. new (f.removed id e)); stage = refl }) in
       let same = law.one_in_slot (row_of a.id k.made.0) (row_of id made.0) its_row row k.here in
-      new (subst (λ i. was_installed i w.turns ≡ true) (ap (λ (r : KeyRow). r.id) same) k.installed)
+      new (subst (λ i. was_installed i w.turns ≡ true) (ap (λ (r : Row). r.id) same) k.installed)
 
   install_found : (place : ℕ) (d : Doing) (get : Getting) (id : ℤ) (slot : ℕ) →
       slice_get w.actors place ≡ Some (Some d) → d.state ≡ Goes (AtInstall get id) → slot ≡ slot_of_id id →
