@@ -54,6 +54,30 @@ made_so calls t (inr by) reads = inr by
 same_held : (w after : World) (given : List Given) → after ≡ w → IsHeld w given → IsHeld after given
 same_held w after given e h = subst (λ (v : World). IsHeld v given) (sym e) h
 
+-- ---- what a world was opened with
+
+abbrev IsOpenedAs : World → World → Type 0
+IsOpenedAs w after = (after.generation ≡ w.generation) × (after.blocks ≡ w.blocks)
+
+opened_so : (w after then_w : World) → after ≡ then_w → IsOpenedAs w then_w → IsOpenedAs w after
+opened_so w after then_w e o = subst (IsOpenedAs w) (sym e) o
+
+brings_opened : (w after : World) (x : Moment) (given : List Given) → Brings w x given after → IsOpenedAs w after
+brings_opened w after (Starts actor cred asked released) given (idle, (gave, is)) =
+    opened_so w after _ is (refl, refl)
+brings_opened w after (TakesTurn actor now) given (call, phase, there, t) = opened_so w after _ t.6 (refl, refl)
+brings_opened w after (Wakes actor value) given (call, wait, there, reached, gave, is) =
+    opened_so w after _ is (refl, refl)
+brings_opened w after (Reads slot) given (reply, legal, gave, is) = opened_so w after _ is (refl, refl)
+
+pub leads_opened : (w after : World) (xs : List Moment) (given : List Given) → LeadsOnThreads w xs given after →
+    IsOpenedAs w after
+leads_opened w after [] given l = opened_so w after w l.1 (refl, refl)
+leads_opened w after (x ∷ xs) given l =
+    let first = brings_opened w l.0 x l.1 l.3 in
+    let rest = leads_opened l.0 after xs l.2 l.4 in
+    (rest.0 ∙ first.0, rest.1 ∙ first.1)
+
 module _ (sound : StaysSound)
     (more : (generation blocks : ℕ) (turns : List Turn) (who : Who) (deed : Deed) → AreLegal generation blocks turns →
     IsLegalDeed generation blocks turns deed → AreLegal generation blocks (turns ++ turn_of who deed ∷ []))
@@ -127,7 +151,8 @@ module _ (sound : StaysSound)
         continues_holds laws.for_good laws.registry w after one place now call (Goes phase) s h.kept there t in
         record {
           inv = turns_keep sound w after given one place call phase now h.inv there t ok;
-          tends = turns_tend w after one place now call phase h.tends there t;
+          tends = turns_tend w after one place now call phase
+              (laws.registry w.generation (registry_history w.turns) s.legal.registry) h.tends there t;
           kept = record {
             counts = continues_counts w after one place now call (Goes phase) s h.kept.counts there t;
             facts = holds.facts;
@@ -234,30 +259,6 @@ module _ (sound : StaysSound)
     owed = opening_owed o;
   }
 
-  -- ---- what a world was opened with
-
-  abbrev IsOpenedAs : World → World → Type 0
-  IsOpenedAs w after = (after.generation ≡ w.generation) × (after.blocks ≡ w.blocks)
-
-  opened_so : (w after then_w : World) → after ≡ then_w → IsOpenedAs w then_w → IsOpenedAs w after
-  opened_so w after then_w e o = subst (IsOpenedAs w) (sym e) o
-
-  brings_opened : (w after : World) (x : Moment) (given : List Given) → Brings w x given after → IsOpenedAs w after
-  brings_opened w after (Starts actor cred asked released) given (idle, (gave, is)) =
-      opened_so w after _ is (refl, refl)
-  brings_opened w after (TakesTurn actor now) given (call, phase, there, t) = opened_so w after _ t.6 (refl, refl)
-  brings_opened w after (Wakes actor value) given (call, wait, there, reached, gave, is) =
-      opened_so w after _ is (refl, refl)
-  brings_opened w after (Reads slot) given (reply, legal, gave, is) = opened_so w after _ is (refl, refl)
-
-  leads_opened : (w after : World) (xs : List Moment) (given : List Given) → LeadsOnThreads w xs given after →
-      IsOpenedAs w after
-  leads_opened w after [] given l = opened_so w after w l.1 (refl, refl)
-  leads_opened w after (x ∷ xs) given l =
-      let first = brings_opened w l.0 x l.1 l.3 in
-      let rest = leads_opened l.0 after xs l.2 l.4 in
-      (rest.0 ∙ first.0, rest.1 ∙ first.1)
-
   -- ---- the laws
 
   run_held : ((generation blocks : ℕ) → AreLegal generation blocks []) →
@@ -286,4 +287,4 @@ module _ (sound : StaysSound)
       let opened = leads_opened (opening o) w list given led in
       lawful laws o w given h.inv opened.0 opened.1 IsMadeOrRead
       (λ k d low. made_so w.calls (get_or w.turns k d) (h.inv.made k d low) (h.reads k d low))
-      h.kept.counts (each_row w h.tends) h.kept.facts.vacant h.owed.taken
+      h.kept.counts (each_row w (laws.registry w.generation (registry_history w.turns) h.inv.sound.legal.registry) h.tends) h.kept.facts.vacant h.owed.taken
