@@ -25,24 +25,15 @@ use Rattle.sysv_keys.proofs.Known.{known, leaves, is_left}
 
 -- What legal replies say of identifiers.
 module _ (r : State) (id : ℤ) where
-  made_least : (call : RegistryCall) (reply : RegistryReply) → Legal r call reply → reply ≡ Made id → IsNext r id
-  made_least (Begin key flags) (Made new) l e =
-      let is : new ≡ id = cc in subst (IsNext r) is (made_next r key flags new l)
-  made_least (Begin key flags) reply l e = cc
-  made_least (Settle at) (Made new) l e = absurd l
-  made_least (Settle at) reply l e = cc
-  made_least (Forget at) (Made new) l e = absurd l
-  made_least (Forget at) reply l e = cc
+  made_least : (call : RegistryCall) → Legal r call (Made id) → IsNext r id
+  made_least (Begin key flags) l = made_next r key flags id l
+  made_least (Settle at) l = absurd l
+  made_least (Forget at) l = absurd l
 
-  made_for : (call : RegistryCall) (reply : RegistryReply) → Legal r call reply → reply ≡ Made id →
-      (key : ℤ) × (makes id key call reply ≡ true)
-  made_for (Begin key flags) (Made new) l e =
-      let is : new ≡ id = cc in (key, and_true _ _ (same_id new id is) (same_id key key refl))
-  made_for (Begin key flags) reply l e = cc
-  made_for (Settle at) (Made new) l e = absurd l
-  made_for (Settle at) reply l e = cc
-  made_for (Forget at) (Made new) l e = absurd l
-  made_for (Forget at) reply l e = cc
+  made_for : (call : RegistryCall) → Legal r call (Made id) → (key : ℤ) × (makes id key call (Made id) ≡ true)
+  made_for (Begin key flags) l = (key, and_true _ _ (same_id id id refl) (same_id key key refl))
+  made_for (Settle at) l = absurd l
+  made_for (Forget at) l = absurd l
 
   makes_made : (key : ℤ) (call : RegistryCall) (reply : RegistryReply) → makes id key call reply ≡ true →
       reply ≡ Made id
@@ -62,14 +53,10 @@ module _ (r : State) (id : ℤ) where
   forgotten_row (Forget at) (Changed true) l e = (l.0, l.1, l.2 ∙ one_id at id e)
   forgotten_row call reply l e = absurd cc
 
-  found_row : (told : ℕ) (call : RegistryCall) (reply : RegistryReply) → Legal r call reply → reply ≡ Found id told →
-      HasIts
-  found_row told (Begin key flags) (Found at n) l e = (a_row at key true, l.1, cc)
-  found_row told (Begin key flags) reply l e = cc
-  found_row told (Settle at) (Found other n) l e = absurd l
-  found_row told (Settle at) reply l e = cc
-  found_row told (Forget at) (Found other n) l e = absurd l
-  found_row told (Forget at) reply l e = cc
+  found_row : (told : ℕ) (call : RegistryCall) → Legal r call (Found id told) → HasIts
+  found_row told (Begin key flags) l = (a_row id key true, l.1, refl)
+  found_row told (Settle at) l = absurd l
+  found_row told (Forget at) l = absurd l
 
 -- A key that is not private has at most one row.
 abbrev pub OneOfKey : State → Type 0
@@ -208,8 +195,8 @@ module _ (opening : ℕ) (h : RegistryHistory) (legal : IsLegalHistory opening h
   whole id key made =
       let s = any_split (λ (e : RegistryEntry). makes id key e.call e.reply) h made in
       let r = state_of opening s.0 in
-      let next = made_least r id s.1.call s.1.reply (legal s.0 s.1 s.2 s.3)
-      (makes_made r id key s.1.call s.1.reply s.4) in
+      let next = made_least r id s.1.call
+      (subst (Legal r s.1.call) (makes_made r id key s.1.call s.1.reply s.4) (legal s.0 s.1 s.2 s.3)) in
       let usable = next.0.0.usable in
       let there = next.0.0.there in
       record {
@@ -223,7 +210,7 @@ module _ (opening : ℕ) (h : RegistryHistory) (legal : IsLegalHistory opening h
       (call : RegistryCall) (reply : RegistryReply) → IsLegalReply opening k call reply → reply ≢ Made id
   not_again k so id key made call reply l e =
       let r = state_of opening k in
-      let next = made_least r id call reply l e in
+      let next = made_least r id call (subst (Legal r call) e l) in
       let all = known opening k so in
       elim (all.made id key made) [
         | inl row ↦ next_absent r id next (a_row id key row.0) row.1 refl
@@ -234,9 +221,12 @@ module _ (opening : ℕ) (h : RegistryHistory) (legal : IsLegalHistory opening h
       h ≡ before ++ e ∷ (middle ++ f ∷ after) → e.reply ≡ Made id → f.reply ≢ Made id
   once before middle after e f id same made =
       let part = up_to before middle after e f same in
-      let for = made_for (state_of opening before) id e.call e.reply (legal before e (middle ++ f ∷ after) same) made in
+      let r = state_of opening before in
+      let l = legal before e (middle ++ f ∷ after) same in
+      let for = made_for r id e.call (subst (Legal r e.call) made l) in
       not_again (before ++ e ∷ middle) part.0 id for.0
-      (any_here (λ (t : RegistryEntry). makes id for.0 t.call t.reply) before e middle for.1) f.call f.reply part.1
+      (any_here (λ (t : RegistryEntry). makes id for.0 t.call t.reply) before e middle
+      (subst (λ p. makes id for.0 e.call p ≡ true) (sym made) for.1)) f.call f.reply part.1
 
   known_before : (before after : RegistryHistory) (e : RegistryEntry) (id : ℤ) → h ≡ before ++ e ∷ after →
       (settles id e.call e.reply ≡ true) ⊎ (forgets id e.call e.reply ≡ true) →
@@ -268,7 +258,7 @@ module _ (opening : ℕ) (h : RegistryHistory) (legal : IsLegalHistory opening h
         not_again k part.0 id made.0
             (any_left (λ (t : RegistryEntry). makes id made.0 t.call t.reply) before (e ∷ middle) made.1) f.call f.reply
             part.1,
-        (λ told t. none (found_row r id told f.call f.reply part.1 t)),
+        (λ told t. none (found_row r id told f.call (subst (Legal r f.call) t part.1))),
         not_true _ (λ t. none (settled_row r id f.call f.reply part.1 t)),
         not_true _ (λ t. none (forgotten_row r id f.call f.reply part.1 t)),
       )
@@ -283,7 +273,8 @@ module _ (opening : ℕ) (h : RegistryHistory) (legal : IsLegalHistory opening h
         aged = λ slot within. aged opening slot within h;
         whole = whole;
         least = λ before after e id same made.
-            made_least (state_of opening before) id e.call e.reply (legal before e after same) made;
+            made_least (state_of opening before) id e.call
+            (subst (Legal (state_of opening before) e.call) made (legal before e after same));
         once = once;
         one_in_slot = one_in_slot r;
         one_of_key = λ row twin a b public same.

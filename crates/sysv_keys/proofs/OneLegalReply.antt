@@ -17,7 +17,7 @@ use Rattle.sysv_keys.specs.State.{State, state_of}
 use Rattle.sysv_keys.specs.Rows.{Row, row_at, HasRow, IsVacant, IsLeastVacant}
 use Rattle.sysv_keys.specs.LegalReply.{Legal, IsBound, Creates}
 use Rattle.sysv_keys.specs.OneReply.{SomeReplyIsLegal, NoTwoRepliesAreLegal}
-use Rattle.sysv_keys.proofs.Logic.{decided, true_or_false, never_both}
+use Rattle.sysv_keys.proofs.Logic.{decided, true_or_false, never_both, none_or_some}
 use Rattle.sysv_keys.proofs.Rows.{a_row, slot-id, row_parts, one_in_slot}
 use Rattle.sysv_keys.proofs.Law.{OneOfKey, one_of_key}
 
@@ -42,18 +42,10 @@ module _ (r : State) where
   abbrev HasKey : ℤ → ℕ → Type 0
   HasKey key slot = (row : Row) × (row_at slot (r.places slot) ≡ Some row) × (row.key ≡ key)
 
-  row_or_none : (slot : ℕ) → ((row : Row) × (row_at slot (r.places slot) ≡ Some row))
-      ⊎ ((row : Row) → row_at slot (r.places slot) ≢ Some row)
-  row_or_none slot = go (row_at slot (r.places slot))
-    where
-      go : (o : Option Row) → ((row : Row) × (o ≡ Some row)) ⊎ ((row : Row) → o ≢ Some row)
-      go None = inr (λ row e. none-some row e)
-      go (Some row) = inl (row, refl)
-
   key_or_not : (key : ℤ) (slot : ℕ) → HasKey key slot ⊎ ¬ HasKey key slot
-  key_or_not key slot = elim (row_or_none slot) [
-    | inr none ↦ inr (λ w. none w.0 w.1)
-    | inl some ↦ elim (decided some.0.key key) [
+  key_or_not key slot = elim (none_or_some (row_at slot (r.places slot))) [
+    | inl none ↦ inr (λ w. none-some w.0 (sym none ∙ w.1))
+    | inr some ↦ elim (decided some.0.key key) [
       | inl same ↦ inl (some.0, some.1, same)
       | inr apart ↦
           inr (λ w. apart (ap (λ (x : Row). x.key) (same_Some some.0 w.0 (sym some.1 ∙ w.1)) ∙ w.2))
@@ -67,24 +59,16 @@ module _ (r : State) where
       subst (λ n. row_at n (r.places n) ≡ Some row) (sym here) at
 
   vacant_or_not : (slot : ℕ) → IsVacant r slot ⊎ ¬ IsVacant r slot
-  vacant_or_not slot = elim (row_or_none slot) [
-    | inl some ↦ inr (λ v. none-some _ (sym v.empty ∙ (row_parts slot (r.places slot) some.0 some.1).1))
-    | inr none ↦ elim (cases_lt slot SLOTS) [
+  vacant_or_not slot = elim (none_or_some (r.places slot).row) [
+    | inr some ↦ inr (λ v. none-some some.0 (sym v.empty ∙ some.1))
+    | inl none ↦ elim (cases_lt slot SLOTS) [
       | inr past ↦ inr (λ v. let within = v.there in absurd (omega arith))
       | inl within ↦ elim (cases_lt GENERATION_LAST (r.places slot).generation) [
         | inl old ↦ inr (λ v. let usable = v.usable in absurd (omega arith))
-        | inr usable ↦ inl (record { there = within; empty = no_row (r.places slot) none; usable = usable })
+        | inr usable ↦ inl (record { there = within; empty = none; usable = usable })
       ]
     ]
   ]
-    where
-      no_row : (place : Place) → ((row : Row) → row_at slot place ≢ Some row) → place.row ≡ None
-      no_row place none = go place.row (λ row. none row)
-        where
-          go : (o : Option KeyRow) → ((row : Row) → row_at slot (record { generation = place.generation; row = o }) ≢ Some row)
-              → o ≡ None
-          go None each = refl
-          go (Some x) each = absurd (each (a_row (id_of slot place.generation) x.key x.live) refl)
 
   reply_creating : (key : ℤ) (flags : Flags) → Creates r key flags →
       (reply : RegistryReply) × Legal r (Begin key flags) reply
@@ -122,9 +106,9 @@ module _ (r : State) where
   Its id = (row : Row) × HasRow r row × (row.id ≡ id)
 
   its_or_none : (id : ℤ) → Its id ⊎ ¬ Its id
-  its_or_none id = elim (row_or_none (slot_of_id id)) [
-    | inr none ↦ inr (λ w. none w.0 (subst (λ i. row_at (slot_of_id i) (r.places (slot_of_id i)) ≡ Some w.0) w.2 w.1))
-    | inl some ↦ elim (decided some.0.id id) [
+  its_or_none id = elim (none_or_some (row_at (slot_of_id id) (r.places (slot_of_id id)))) [
+    | inl none ↦ inr (λ w. none-some w.0 (sym none ∙ subst (λ i. row_at (slot_of_id i) (r.places (slot_of_id i)) ≡ Some w.0) w.2 w.1))
+    | inr some ↦ elim (decided some.0.id id) [
       | inl same ↦ inl (some.0, row_of_slot (slot_of_id id) some.0 (omega arith) some.1, same)
       | inr apart ↦ inr (λ w.
           let at = subst (λ i. row_at (slot_of_id i) (r.places (slot_of_id i)) ≡ Some w.0) w.2 w.1 in
