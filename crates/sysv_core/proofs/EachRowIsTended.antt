@@ -438,7 +438,8 @@ module _ (generation : ℕ) (turns : List Turn) (actors : List (Option Doing)) (
       let l : LegalForget (state_of generation (registry_history turns)) id reply =
       subst (λ x. IsLegalRegistryReply generation (registry_history turns) x reply) is legal in
       not_both (forgets id c reply)
-      (ap (λ x. forgets id x reply) is ∙ forgets_it generation (registry_history turns) law id key reply made kept l) none
+      (ap (λ x. forgets id x reply) is ∙ forgets_it generation (registry_history turns) law id key reply made kept l)
+      none
 
   settled_past : (id key : ℤ) → is_made id key (registry_history turns) ≡ true →
       is_forgotten id (registry_history turns) ≡ false → Settled id turns actors → Settled id then_turns on
@@ -762,7 +763,8 @@ makes_tend w after (Step (suc place) now) given law all s (inr young) =
 abbrev pub EachObeys : Type 0
 EachObeys = (generation : ℕ) (h : RegistryHistory) → IsLegalRegistryHistory generation h → RegistryLaw generation h
 
-leads_tend : EachObeys → StaysSound → (w after : World) (xs : List Happening) (given : List Given) → IsSound w → Tends w →
+leads_tend : EachObeys → StaysSound → (w after : World) (xs : List Happening) (given : List Given) → IsSound w →
+    Tends w →
     Leads w xs given after → Tends after
 leads_tend laws sound w after [] given s all l = same_tends w after l.1 all
 leads_tend laws sound w after (x ∷ xs) given s all l =
@@ -818,5 +820,5 @@ each_row w law all = λ row there idle.
 pub are_tended : EachObeys → StaysSound → (o : Opening) (w : World) (list : List Happening) (given : List Given) →
     IsSound (opening o) → IsSound w → Leads (opening o) list given w → AreTended w
 are_tended laws sound o w list given s last led =
-    each_row w (laws w.generation (registry_history w.turns) last.legal.registry) 
+    each_row w (laws w.generation (registry_history w.turns) last.legal.registry)
     (leads_tend laws sound (opening o) w list given s (λ id key made kept. absurd cc) led)

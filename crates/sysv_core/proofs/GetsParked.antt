@@ -232,7 +232,8 @@ module _ (laws : EachObeys) (w : World) (legal : AreLegal w.generation w.blocks 
       let dead : ¬ IsLive (slot_history slot (m.before ++ since)) id =
       legal.slots slot (slot_history slot (m.before ++ since)) x (slot_history slot p.after) around in
       let left = ((laws w.generation (registry_history m.before) (legal_before m.before _
-      (ap registry_history m.whole ∙ registry_around m.before m.after m.by (Begin get.key get.flags) (Found id told)))).rows
+      (ap registry_history m.whole
+      ∙ registry_around m.before m.after m.by (Begin get.key get.flags) (Found id told)))).rows
       row).0 l.1 in
       let was = order id m.before (turn_of m.by begin_deed ∷ m.after) m.whole left.stage in
       let not_live = never_lives id (slot_history slot w.turns) (slot_history slot m.before) (slot_history slot since)

@@ -211,7 +211,8 @@ pub parked_rightly : EachObeys → (w : World) → AreLegal w.generation w.block
     NoMatchStays → FullStays → FullStaysForLook → CountsNeverFall → EachWaitsForItsRefusal → EachHoldsWhatItWasAsked →
     AreTended w → AreRemovedForGood w.turns → SettledOnceInstalled w.turns → AreShort w → AreToBeWoken w →
     AreParkedRightly w
-parked_rightly laws w legal plays no_match full full_for_look counts refused holds tended good order short woken place d wait
+parked_rightly laws w legal plays no_match full full_for_look counts refused holds tended good order short woken place d
+    wait
     p =
     let played : Plays (begun d.call) (deeds_of d.call.who w.turns) (Waits wait) =
     subst (Plays (begun d.call) (deeds_of d.call.who w.turns)) p.waits (plays place d p.there) in

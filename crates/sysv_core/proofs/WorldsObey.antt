@@ -755,7 +755,8 @@ module _ (sound : StaysSound) where
       (all_take_their_rows laws.for_good laws.registry sound o w list given first led) in
       record {
         lawful = shared;
-        parked = parked_rightly laws.registry w i.sound.legal (λ place d there. (stands_there w given i place d there).plays)
+        parked =
+            parked_rightly laws.registry w i.sound.legal (λ place d there. (stands_there w given i place d there).plays)
             no_match full full_for_look counts refused holds shared.tended shared.removed
             (settled_once_installed o w list given led) (are_short o w list given led)
             (are_to_be_woken sound o w list given first led);

@@ -8,7 +8,8 @@ use Rattle.std.proofs.Math.ListN.{length-set, length-replicate, get_or-replicate
 use Rattle.std.proofs.lemmas.Bool.{cases_lt}
 use Rattle.std.proofs.lemmas.Bool.Decides.{nat_tests}
 use Rattle.std.proofs.lemmas.List.{get_or-set_same, get_or-set_other, length-take-le, take_all}
-use Rattle.std.proofs.lemmas.List.Sums.{sum_by-cons, sum_by-set, count_by-le-length, count_by_more_yes, count_by_more_no}
+use Rattle.std.proofs.lemmas.List.Sums.{sum_by-cons, sum_by-set, count_by-le-length, count_by_more_yes}
+use Rattle.std.proofs.lemmas.List.Sums.{count_by_more_no}
 use Rattle.std.proofs.lemmas.Option.{same_Some, none-some, slice_get_read, slice_get_past, get_or_from_slice_get}
 use Rattle.std.proofs.lemmas.Option.{unwrap_or-slice_get}
 use Rattle.sysv_model.specs.declared.limits.TheConstants.{IPC_PRIVATE}
@@ -94,7 +95,8 @@ keyed_row (Some row) key e = elim (decided row.key IPC_PRIVATE) [
 
 -- ---- the index
 
-module _ (Has : ℤ → ℕ → Type 0) (most : ℕ) (f : ℤ → Option ℕ) (bound room : ℕ) (x : IsIndexOf Has most f bound room) where
+module _ (Has : ℤ → ℕ → Type 0) (most : ℕ) (f : ℤ → Option ℕ) (bound room : ℕ)
+    (x : IsIndexOf Has most f bound room) where
   -- The same keys by another description.
   pub alike : (Now : ℤ → ℕ → Type 0) (count : ℕ) → ((key : ℤ) (slot : ℕ) → Has key slot ↔ Now key slot) → most ≤ count →
       IsIndexOf Now count f bound room
@@ -149,7 +151,8 @@ module _ (places : List Place) (slot : ℕ) (old new : Place) (within : slot < l
     (is : places_in places slot ≡ old) where
   pub sum_written : (weight : Place → ℕ) →
       sum_by weight (set places slot new) + weight old ≡ sum_by weight places + weight new
-  sum_written weight = subst (λ p. sum_by weight (set places slot new) + weight p ≡ sum_by weight places + weight new) is
+  sum_written weight =
+      subst (λ p. sum_by weight (set places slot new) + weight p ≡ sum_by weight places + weight new) is
       (sum_by-set weight places slot new (empty 0) within)
 
   -- The keys after the write: that of the new place, and those of the other places.
@@ -174,7 +177,8 @@ module _ (places : List Place) (slot : ℕ) (old new : Place) (within : slot < l
       subst (λ (p : Place). key_in p.row ≡ Some key) (ap (places_in places) same ∙ is) h
 
   -- The index stays right if the key of the place stays.
-  pub index_stays : (f : ℤ → Option ℕ) (bound room : ℕ) → IsIndex places f bound room → key_in new.row ≡ key_in old.row →
+  pub index_stays : (f : ℤ → Option ℕ) (bound room : ℕ) → IsIndex places f bound room →
+      key_in new.row ≡ key_in old.row →
       IsIndex (set places slot new) f bound room
   index_stays f bound room x same =
       alike (HasKey places) (count_by is_keyed places) f bound room x (HasKey (set places slot new))
@@ -265,7 +269,8 @@ filled_none places f bound room none start roomy = record {
 pub filled_whole : (places : List Place) (f : ℤ → Option ℕ) (bound room i : ℕ) → i ≡ length places →
     IsFilled places i f bound room → IsIndex places f bound room
 filled_whole places f bound room i end x =
-    alike (HasAmong places i) (count_by is_keyed (take i places)) f bound room x (HasKey places) (count_by is_keyed places)
+    alike (HasAmong places i) (count_by is_keyed (take i places)) f bound room x (HasKey places)
+    (count_by is_keyed places)
     (λ key slot. (
       (λ h. h.1),
       (λ h.
@@ -273,7 +278,10 @@ filled_whole places f bound room i end x =
           let within = within_if_row places slot w.0 w.1 in
           (omega arith, h)),
     ))
-    (omega (arith, ap (count_by is_keyed) (ap (λ n. take n places) end ∙ take_all (length places) places (omega arith))))
+    (omega (
+      arith,
+      ap (count_by is_keyed) (ap (λ n. take n places) end ∙ take_all (length places) places (omega arith)),
+    ))
 
 -- There is space for one more key.
 pub room_left : (places : List Place) (f : ℤ → Option ℕ) (bound room i : ℕ) → IsFilled places i f bound room →

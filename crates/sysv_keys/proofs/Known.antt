@@ -28,7 +28,8 @@ module _ (r : State) (id : ℤ) where
   new_row key (Begin asked flags) (Made made) l e =
       let both = and_both _ _ e in
       subst (λ i. HasRow (state_after r (Begin asked flags) (Made made)) (a_row i key false)) (one_id made id both.0)
-      (subst (λ k. HasRow (state_after r (Begin asked flags) (Made made)) (a_row made k false)) (one_id asked key both.1)
+      (subst (λ k. HasRow (state_after r (Begin asked flags) (Made made)) (a_row made k false))
+      (one_id asked key both.1)
       (made_row r asked flags made l))
   new_row key call reply l e = absurd cc
 
@@ -138,7 +139,8 @@ module _ (h : RegistryHistory) (r : State) (k : Known h r) where
   pub is_left : (row : Row) → LeavesRow h row → HasRow r row
   is_left row w = elim (k.made row.id row.key w.made) [
     | inl here ↦
-        subst (λ t. HasRow r (a_row row.id row.key t)) (sym (leaves (a_row row.id row.key here.0) here.1).stage ∙ w.stage)
+        subst (λ t. HasRow r (a_row row.id row.key t))
+        (sym (leaves (a_row row.id row.key here.0) here.1).stage ∙ w.stage)
         here.1
     | inr gone ↦ absurd (never_both _ gone w.kept)
   ]

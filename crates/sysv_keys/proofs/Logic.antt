@@ -1,5 +1,6 @@
 -- Tests of identifiers and keys, and of the elements of a list.
-use Rattle.std.proofs.Common.{◌≡◌, ◌≢◌, ℕ, ℤ, ◌||◌, ◌&&◌, Bool, true, false, not, w32, to_z, of_z, FitsSigned, Option, None, Some, List, [], ◌∷◌, ◌++◌}
+use Rattle.std.proofs.Common.{◌≡◌, ◌≢◌, ℕ, ℤ, ◌||◌, ◌&&◌, Bool, true, false, not, w32, to_z, of_z, FitsSigned, Option}
+use Rattle.std.proofs.Common.{None, Some, List, [], ◌∷◌, ◌++◌}
 use Rattle.std.proofs.Common.{refl, sym, ap, ◌∙◌, ◌⊎◌, inl, inr, ⊎_elim}
 use Rattle.std.specs.List.{list_any}
 use Rattle.std.specs.Ordering.{int_eq}

@@ -107,7 +107,8 @@ module _ (r : State) where
 
   its_or_none : (id : ℤ) → Its id ⊎ ¬ Its id
   its_or_none id = elim (none_or_some (row_at (slot_of_id id) (r.places (slot_of_id id)))) [
-    | inl none ↦ inr (λ w. none-some w.0 (sym none ∙ subst (λ i. row_at (slot_of_id i) (r.places (slot_of_id i)) ≡ Some w.0) w.2 w.1))
+    | inl none ↦ inr (λ w.
+        none-some w.0 (sym none ∙ subst (λ i. row_at (slot_of_id i) (r.places (slot_of_id i)) ≡ Some w.0) w.2 w.1))
     | inr some ↦ elim (decided some.0.id id) [
       | inl same ↦ inl (some.0, row_of_slot (slot_of_id id) some.0 (omega arith) some.1, same)
       | inr apart ↦ inr (λ w.

@@ -91,7 +91,8 @@ module _ (r : State) where
   next_absent id n row h same =
       none-some (kept row.key row.live)
       (sym n.0.0.empty
-      ∙ (ap (λ s. (r.places s).row) (sym same) ∙ (row_parts (slot_of_id row.id) (r.places (slot_of_id row.id)) row h).1))
+      ∙ (ap (λ s. (r.places s).row) (sym same)
+      ∙ (row_parts (slot_of_id row.id) (r.places (slot_of_id row.id)) row h).1))
 
   pub next_not_past : (id : ℤ) → IsNext r id → IsPast r id → ⊥
   next_not_past id n past =

@@ -54,7 +54,8 @@ pub over_legal : (opening : ℕ) (P : RegistryHistory → State → Type 0) → 
     ((h : RegistryHistory) (r : State) (e : RegistryEntry) → Legal r e.call e.reply → P h r →
     P (h ++ e ∷ []) (state_after r e.call e.reply)) →
     (h : RegistryHistory) → IsLegalHistory opening h → P h (state_of opening h)
-over_legal opening P empty more = from_end (λ (h : RegistryHistory). IsLegalHistory opening h → P h (state_of opening h))
+over_legal opening P empty more =
+    from_end (λ (h : RegistryHistory). IsLegalHistory opening h → P h (state_of opening h))
     (λ l. empty)
     (λ h e before l. subst (P (h ++ e ∷ [])) (sym (state_of-more opening h e))
     (more h (state_of opening h) e (legal_last opening h e l) (before (legal_front opening h (e ∷ []) l))))

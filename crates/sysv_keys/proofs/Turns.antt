@@ -1,5 +1,6 @@
 -- The turns that the registry's code makes, by its list of places.
-use Rattle.std.proofs.Common.{◌≡◌, ◌≢◌, ℕ, ℤ, ◌+◌, ◌*◌, ◌<◌, ◌≤◌, true, false, List, Option, None, Some, set, length, refl}
+use Rattle.std.proofs.Common.{◌≡◌, ◌≢◌, ℕ, ℤ, ◌+◌, ◌*◌, ◌<◌, ◌≤◌, true, false, List, Option, None, Some, set, length}
+use Rattle.std.proofs.Common.{refl}
 use Rattle.std.proofs.Common.{sym, ap, subst, ◌∙◌, inl, inr, Bool, cond, replicate, get_or, [], arith}
 use Rattle.std.specs.Option.{option_map}
 use Rattle.std.proofs.lemmas.Option.{same_Some}
@@ -22,7 +23,8 @@ use Rattle.sysv_keys.proofs.Logic.{decided, never_both}
 use Rattle.sysv_keys.proofs.Legality.{legal_empty}
 use Rattle.sysv_keys.proofs.States.{makes_turn}
 use Rattle.sysv_keys.proofs.Rows.{a_row, kept, slot-id, row_parts, has_row, one_in_slot}
-use Rattle.sysv_keys.proofs.Kept.{read as read_place, fresh, written, private_key, shared_key, keyed_row, within_if_row, index_stays}
+use Rattle.sysv_keys.proofs.Kept.{read as read_place, fresh, written, private_key, shared_key, keyed_row, within_if_row}
+use Rattle.sysv_keys.proofs.Kept.{index_stays}
 use Rattle.sysv_keys.proofs.Kept.{index_gains, differ, differ_without, kept_written, young_row}
 
 abbrev pub registry : List Place → ℕ → Registry
@@ -55,7 +57,8 @@ module _ (places : List Place) (count : ℕ) where
   pub turn_settled : (slot : ℕ) (place : Place) (id : ℤ) (row : KeyRow) → slot < length places → slot ≡ slot_of_id id →
       places_in places slot ≡ place → HasRowOf (registry places count) id row → row.live ≡ false →
       MakesTurn (registry places count) (Settle id) (Changed true)
-      (registry (set places slot (record { generation = place.generation; row = Some (kept row.key true) })) (count + 1))
+      (registry (set places slot (record { generation = place.generation; row = Some (kept row.key true) }))
+      (count + 1))
   turn_settled slot place id row within here is has making =
       let old = sym is ∙ ap (places_in places) here in
       let held = (row_parts (slot_of_id id) (places_in places (slot_of_id id)) (a_row id row.key row.live) has).1 in
@@ -136,7 +139,8 @@ module _ (places : List Place) (f : ℤ → Option ℕ) (bound room count : ℕ)
       let most : counted_by place.generation place.row ≤ 2 * place.generation + 1 =
       subst (λ o. counted_by place.generation o ≤ 2 * place.generation + 1) (sym held)
       (counted_row place.generation row.live) in
-      kept_written places f bound room count k slot place (empty (place.generation + 1)) within is g more left (count + 1)
+      kept_written places f bound room count k slot place (empty (place.generation + 1)) within is g more left
+      (count + 1)
       (omega arith) index (omega arith)
     where
       counted_row : (generation : ℕ) (live : Bool) → 2 * generation + cond live 1 0 ≤ 2 * generation + 1

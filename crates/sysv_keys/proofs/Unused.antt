@@ -1,6 +1,6 @@
 -- Unused slots.
 use Rattle.std.proofs.Common.{◌≡◌, ◌≢◌, ℕ, ℤ, pos, ◌≤◌, true, false, [], ◌∷◌, ◌++◌}
-use Rattle.std.proofs.Common.{Option, None, Some, ◌⊎◌, inl, inr, refl, sym, ap, ◌∙◌, subst, arith}
+use Rattle.std.proofs.Common.{Option, None, Some, ◌⊎◌, inl, inr, refl, sym, ap, subst, arith}
 use Rattle.std.specs.Option.{option_map}
 use Rattle.std.proofs.lemmas.Option.{none-some}
 use Rattle.sysv_model.specs.declared.flags.Flags.{Flags}
@@ -16,7 +16,7 @@ use Rattle.sysv_keys.specs.State.{State, places_after, places_of, state_of}
 use Rattle.sysv_keys.specs.Rows.{IsUnused, IsVacant, makes, is_made}
 use Rattle.sysv_keys.specs.LegalReply.{IsLegalReply, IsLegalHistory, Legal}
 use Rattle.sysv_keys.specs.Unused.{UnusedSlots}
-use Rattle.sysv_keys.proofs.Logic.{one_id, and_both, any_last, nat_decided, none_or_some}
+use Rattle.sysv_keys.proofs.Logic.{one_id, and_both, any_last, nat_decided}
 use Rattle.sysv_keys.proofs.States.{by_slot, state_of-more}
 use Rattle.sysv_keys.proofs.Rows.{kept, made_row}
 
@@ -83,9 +83,13 @@ settles_made opening h who key flags id legal made =
     (sym (state_of-more opening h (record { who = who; call = Begin key flags; reply = Made id })))
     (key, made_row (state_of opening h) key flags id made)
 
+none_or_some : (o : Option KeyRow) → (o ≡ None) ⊎ ¬ (o ≡ None)
+none_or_some None = inl refl
+none_or_some (Some row) = inr (λ e. none-some row (sym e))
+
 unused_or_not : (opening slot : ℕ) (h : RegistryHistory) → IsUnused opening h slot ⊎ ¬ IsUnused opening h slot
 unused_or_not opening slot h = elim (none_or_some (places_of opening h slot).row) [
-  | inr row ↦ inr (λ u. none-some row.0 (sym u.empty ∙ row.1))
+  | inr row ↦ inr (λ u. row u.empty)
   | inl none ↦ elim (nat_decided (places_of opening h slot).generation 0) [
     | inl young ↦ inl (record { empty = none; first = young })
     | inr old ↦ inr (λ u. old u.first)

@@ -70,7 +70,8 @@ KeysDiffer places = (key : ℤ) (one other : ℕ) → HasKey places key one → 
 -- the last once its row is forgotten, the index is right, and the settled count is bounded.
 pub record IsKept (places : List Place) (slot_of : ℤ → Option ℕ) (bound room settled : ℕ) : Type 0 where
   pub wide : length places ≡ SLOTS
-  pub young : (slot : ℕ) → age_after (places_in places slot).generation (places_in places slot).row ≤ GENERATION_LAST + 1
+  pub young : (slot : ℕ) →
+      age_after (places_in places slot).generation (places_in places slot).row ≤ GENERATION_LAST + 1
   pub index : IsIndex places slot_of bound room
   pub counted : settled ≤ sum_by (λ (p : Place). counted_by p.generation p.row) places
 
@@ -89,4 +90,5 @@ Finds r key found =
 
 -- A begin that is to make an identifier of this key makes this one.
 abbrev pub Makes : Registry → ℤ → ℤ → Registry → Type 0
-Makes old key id new = (flags : Flags) → Creates (state_in old) key flags → MakesTurn old (Begin key flags) (Made id) new
+Makes old key id new =
+    (flags : Flags) → Creates (state_in old) key flags → MakesTurn old (Begin key flags) (Made id) new

@@ -22,7 +22,8 @@ use Rattle.sysv_core.specs.Conserved.{blocks_waiting, blocks_in_call, blocks_in_
 use Rattle.sysv_core.specs.Tending.{IsTended}
 use Rattle.sysv_model.specs.Turns.{turns_of}
 use Rattle.sysv_thread_laws.specs.Order.{Called}
-use Rattle.sysv_thread_laws.specs.OrderIsRun.{opening_for, started_at, all_standing, Renamed, renamed_turn, EveryOrderIsARun}
+use Rattle.sysv_thread_laws.specs.OrderIsRun.{opening_for, started_at, all_standing, Renamed, renamed_turn}
+use Rattle.sysv_thread_laws.specs.OrderIsRun.{EveryOrderIsARun}
 use Rattle.sysv_thread_laws.specs.AtRest.{Rests, OrdersAtRest}
 use Rattle.sysv_thread_laws.proofs.Places.{sums_alike}
 use Rattle.sysv_thread_laws.proofs.ThreadsObey.{leads_opened}

@@ -287,4 +287,5 @@ module _ (sound : StaysSound)
       let opened = leads_opened (opening o) w list given led in
       lawful laws o w given h.inv opened.0 opened.1 IsMadeOrRead
       (λ k d low. made_so w.calls (get_or w.turns k d) (h.inv.made k d low) (h.reads k d low))
-      h.kept.counts (each_row w (laws.registry w.generation (registry_history w.turns) h.inv.sound.legal.registry) h.tends) h.kept.facts.vacant h.owed.taken
+      h.kept.counts (each_row w (laws.registry w.generation (registry_history w.turns) h.inv.sound.legal.registry)
+      h.tends) h.kept.facts.vacant h.owed.taken

@@ -57,4 +57,5 @@ returns c = λ flags creates.
     let exact = to_z-of_z w32 key c.ranges.key in
     let fits : FitsSigned w32 c.id_of.result = search rules in
     rw (to_z-of_z w32 c.id_of.result fits, c.id_of.ensures, exact, ← c.self.view_is)
-    (turn_made items c.self.inside.settled slot place key flags long is least (subst (λ r. Creates (state_in r) key flags) (sym c.self.view_is) creates))
+    (turn_made items c.self.inside.settled slot place key flags long is least
+    (subst (λ r. Creates (state_in r) key flags) (sym c.self.view_is) creates))
