@@ -1,8 +1,6 @@
-//! The registry: one place for each slot, and an index from keys to slots.
+//! The registry: one place for each slot, and for keys a hint of the slot.
 
 ghost use Rattle.std.specs.Prelude.{◌≡◌, ◌≢◌, ℕ, ℤ, ◌+◌, ◌<◌, ◌≤◌, ◌↔◌, false, [], IsTrue, IsSome, None, Some, MatchOption, IfErr, IfOk, OnOk, MatchResult, length};
-ghost use Rattle.std.specs.Ordering.{int_eq};
-ghost use Rattle.indexmap.specs.IndexMap.{get, index_map_len, spare};
 ghost use Rattle.sysv_model.specs.declared.limits.TheConstants.{IPC_PRIVATE};
 ghost use Rattle.sysv_model.specs.Registry.{RegistryHistory, Begin, Settle, Forget, Changed};
 ghost use Rattle.sysv_keys.specs.declared.identifier.TheConstants.{SLOTS, GENERATION_LAST};
@@ -11,11 +9,10 @@ ghost use Rattle.sysv_keys.specs.Rows.{IsUnused, IsVacant, IsLeastVacant};
 ghost use Rattle.sysv_keys.specs.LegalReply.{IsBound};
 ghost use Rattle.sysv_keys.specs.StandsFor.{StandsFor, MakesTurn};
 ghost use Rattle.sysv_keys.specs.Replies.{begun_reply, ChangesOnlyIfMade};
-ghost use Rattle.sysv_keys.specs.Kept.{IsOpen, Finds, HasNoRow, HasRowOf, Makes, IsIndex, IsEntered, KeysDiffer};
+ghost use Rattle.sysv_keys.specs.Kept.{IsOpen, IsOfKey, HasKeyAt, HasNoKey, Finds, IsHeld, HasNoRow, Makes};
 
 use crate::identifier::{GENERATION_LAST, SLOTS, id_of, slot_of_id};
 use bitflags::Flags as Set;
-use indexmap::IndexMap;
 use std::alloc::{AllocError, Global};
 use std::marker::Model;
 use sysv_model::{Errno, Flags, IPC_PRIVATE};
@@ -81,6 +78,16 @@ impl Place {
     {
         self.row.is_none() && self.generation <= GENERATION_LAST
     }
+
+    /// Returns whether the row of the slot, if there is one, has this key.
+    fn has_key(&self, key: i32) -> bool
+        ensures { IsTrue result ↔ IsOfKey key self.now }
+    {
+        match self.row {
+            Some(row) => row.key == key,
+            None => false,
+        }
+    }
 }
 
 /// The rows of the keys, and the generation of each slot.
@@ -89,14 +96,13 @@ impl Place {
 #[derive(Drop)]
 pub struct Registry {
     places: Vec<Place>,
-    /// The slot of the row of each key that is not private.
-    by_key: IndexMap<i32, usize>,
+    /// For the keys with the same remainder by `SLOTS`, the slot of the last one that was given an
+    /// identifier. Its row may be gone, or be another key's, so `find` compares the key.
+    hints: Vec<usize>,
     settled: u64,
 }
 
 impl Model for Registry {
-    ghost use Rattle.std.specs.Ordering.{int_eq};
-    ghost use Rattle.indexmap.specs.IndexMap.{get, index_map_len, spare};
     ghost use Rattle.sysv_keys.specs.State.{Registry as Seen};
     ghost use Rattle.sysv_keys.specs.Kept.{IsKept};
 
@@ -104,8 +110,7 @@ impl Model for Registry {
 
     ghost view = { λ r. record { places = r.places.items; settled = r.settled } };
 
-    ghost invariant = { λ r. IsKept r.places.items (λ key. get int_eq r.by_key key)
-        (index_map_len r.by_key) (spare r.by_key) r.settled };
+    ghost invariant = { λ r. IsKept r.places.items r.hints.items r.settled };
 }
 
 impl Registry {
@@ -143,10 +148,10 @@ impl Registry {
             row: None,
         };
         let places = vec![in alloc; vacant; SLOTS]?;
-        let by_key = IndexMap::with_capacity(alloc, SLOTS)?;
+        let hints = vec![in alloc; 0; SLOTS]?;
         Ok(Registry {
             places,
-            by_key,
+            hints,
             settled: 0,
         })
     }
@@ -188,7 +193,7 @@ impl Registry {
         requires { key ≢ IPC_PRIVATE }
         ensures { MatchOption result (¬ IsBound (state_in self.now) key) (Finds self.now key) }
     {
-        let slot = *self.by_key.get(&key)?;
+        let slot = self.slot_of_key(key)?;
         let place = self.places[slot];
         let row = place.row?;
         let settled = self.settled;
@@ -197,6 +202,17 @@ impl Registry {
             Some(Begun::Found { id, settled })
         } else {
             Some(Begun::Busy { settled })
+        }
+    }
+
+    /// Returns a slot whose row has this key, if there is one.
+    fn slot_of_key(&self, key: i32) -> Option<usize>
+        ensures { MatchOption result (HasNoKey self.now key) (HasKeyAt self.now key) }
+    {
+        let hinted = self.hints[hint_for(key)];
+        match self.places.get(hinted) {
+            Some(place) if place.has_key(key) => Some(hinted),
+            _ => self.places.iter().position(|place| place.has_key(key)),
         }
     }
 
@@ -210,26 +226,25 @@ impl Registry {
 
     /// Makes the identifier of the least vacant slot for a key.
     fn make(&mut self, slot: usize, key: i32) -> i32
-        requires vacant { IsLeastVacant (state_in self.old) slot }
-        requires new { key ≢ IPC_PRIVATE → ¬ IsBound (state_in self.old) key }
+        requires { IsLeastVacant (state_in self.old) slot }
         ensures { Makes self.old key result self.new }
     {
         let generation = self.places[slot].generation;
         let row = Some(KeyRow { key, live: false });
         self.places[slot] = Place { generation, row };
-        bind(&mut self.by_key, key, slot);
+        self.hints[hint_for(key)] = slot;
         id_of(slot, generation)
     }
 
-    /// Returns the row of an identifier, if it has one.
-    fn row(&self, id: i32) -> Option<KeyRow>
-        ensures { MatchOption result (HasNoRow self.now id) (HasRowOf self.now id) }
+    /// Returns the row of an identifier with its place, if it has one.
+    fn row(&self, id: i32) -> Option<(Place, KeyRow)>
+        ensures { MatchOption result (HasNoRow self.now id) (IsHeld self.now id) }
     {
         let slot = slot_of_id(id);
         let place = self.places[slot];
         let row = place.row?;
         if id_of(slot, place.generation) == id {
-            Some(row)
+            Some((place, row))
         } else {
             None
         }
@@ -244,11 +259,9 @@ impl Registry {
         ensures refused { result ≡ false → self.new ≡ self.old }
     {
         match self.row(id) {
-            Some(row) if !row.live => {
-                let slot = slot_of_id(id);
-                let generation = self.places[slot].generation;
+            Some((place, row)) if !row.live => {
                 let row = Some(KeyRow { live: true, ..row });
-                self.places[slot] = Place { generation, row };
+                self.places[slot_of_id(id)] = Place { row, ..place };
                 self.settled += 1;
                 true
             }
@@ -264,20 +277,18 @@ impl Registry {
         ensures turn { MakesTurn self.old (Forget id) (Changed result) self.new }
         ensures refused { result ≡ false → self.new ≡ self.old }
     {
-        let Some(row) = self.row(id) else {
-            return false;
-        };
-        let slot = slot_of_id(id);
-        let generation = self.places[slot].generation + 1;
-        self.places[slot] = Place {
-            generation,
-            row: None,
-        };
-        self.settled += 1;
-        if row.key != IPC_PRIVATE {
-            index_keys(&self.places, &mut self.by_key);
+        match self.row(id) {
+            Some((place, _)) => {
+                let generation = place.generation + 1;
+                self.places[slot_of_id(id)] = Place {
+                    generation,
+                    row: None,
+                };
+                self.settled += 1;
+                true
+            }
+            None => false,
         }
-        true
     }
 
     /// Returns whether the slot has no row and generation 0. If so, no identifier of it was ever
@@ -305,32 +316,9 @@ impl Registry {
     }
 }
 
-/// Builds the index again. An index that was cleared keeps its memory; an index from which a key
-/// was removed may not.
-fn index_keys(places: &[Place], by_key: &mut IndexMap<i32, usize>)
-    requires wide { length places.now ≡ SLOTS }
-    requires differ { KeysDiffer places.now }
-    requires roomy { SLOTS ≤ index_map_len by_key.old + spare by_key.old }
-    ensures { IsIndex places.now (λ key. get int_eq by_key.new key)
-        (index_map_len by_key.new) (spare by_key.new) }
+/// Returns the place of the hint for a key. Keys with the same remainder share it.
+fn hint_for(key: i32) -> usize
+    ensures { result < SLOTS }
 {
-    by_key.clear();
-    for (slot, place) in places.iter().enumerate() {
-        if let Some(row) = place.row {
-            bind(by_key, row.key, slot);
-        }
-    }
-}
-
-/// Enters a key with its slot into the index, unless the key is private.
-fn bind(by_key: &mut IndexMap<i32, usize>, key: i32, slot: usize)
-    requires { 0 < spare by_key.old }
-    ensures private { key ≡ IPC_PRIVATE → by_key.new ≡ by_key.old }
-    ensures entered { key ≢ IPC_PRIVATE → IsEntered key slot (λ asked. get int_eq by_key.old asked)
-        (index_map_len by_key.old) (spare by_key.old) (λ asked. get int_eq by_key.new asked)
-        (index_map_len by_key.new) (spare by_key.new) }
-{
-    if key != IPC_PRIVATE {
-        by_key.insert(key, slot).unwrap();
-    }
+    key.unsigned_abs() as usize % SLOTS
 }
