@@ -13,10 +13,10 @@ use Rattle.sysv_model.specs.Registry.{Forget, Found, Busy, Changed, changes_row,
 use Rattle.sysv_model.specs.Turn.{Deed, AtSlot, AtRegistry, Turn, slot_entry, slot_history, registry_history, deeds_of}
 use Rattle.sysv_queue.specs.QueueLaw.{installs}
 use Rattle.sysv_queue.specs.ForGood.{IsInstalledOnce}
-use Rattle.sysv_keys.specs.declared.registry.KeyRow.{KeyRow}
 use Rattle.sysv_keys.specs.Identifier.{slot_of_id}
-use Rattle.sysv_keys.specs.Rows.{makes, settles, forgets, is_made, is_settled, is_forgotten, IsRow}
-use Rattle.sysv_keys.specs.LegalReply.{IsLegalReply}
+use Rattle.sysv_keys.specs.Rows.{Row, makes, settles, forgets, is_made, is_settled, is_forgotten, IsRow}
+use Rattle.sysv_keys.specs.LegalReply.{IsLegalReply, IsLegalHistory as IsLegalRegistryHistory}
+use Rattle.sysv_keys.specs.RegistryLaw.{LeavesRow}
 use Rattle.sysv_objects.specs.LegalDeed.{AreLegal}
 use Rattle.sysv_steps.specs.State.{Getting}
 use Rattle.sysv_steps.specs.WaitsFor.{WasUnsettled}
@@ -26,7 +26,7 @@ use Rattle.sysv_core.specs.Removed.{AreRemovedForGood}
 use Rattle.sysv_core.specs.Tending.{AreTended}
 use Rattle.sysv_core.proofs.Histories.{turn_of, live_more, one}
 use Rattle.sysv_core.proofs.TurnInHistory.{Made, made_at, slot_around, registry_around}
-use Rattle.sysv_core.proofs.Life.{any_more, or_no, or_left, passing, lived}
+use Rattle.sysv_core.proofs.Life.{EachObeys, any_more, or_no, or_left, passing, lived}
 use Rattle.sysv_core.proofs.LifeLaws.{SettledOnceInstalled}
 
 -- ---- rows stay while the settled count does
@@ -39,8 +39,8 @@ no_settle : (id : ℤ) (c : RegistryCall) (reply : RegistryReply) → changes_ro
 no_settle id (Settle at) (Changed true) e = absurd cc
 no_settle id c reply e = refl
 
-row_still : (h : RegistryHistory) (e : RegistryEntry) (row : KeyRow) → changes_row e.reply ≡ false → IsRow h row →
-    IsRow (h ++ e ∷ []) row
+row_still : (h : RegistryHistory) (e : RegistryEntry) (row : Row) → changes_row e.reply ≡ false → LeavesRow h row →
+    LeavesRow (h ++ e ∷ []) row
 row_still h e row quiet is = record {
   made = any_more (λ (x : RegistryEntry). makes row.id row.key x.call x.reply) h e
       ∙ or_left (is_made row.id row.key h) (makes row.id row.key e.call e.reply) is.made;
@@ -58,9 +58,9 @@ count_around h more e =
     let f = λ (x : RegistryEntry). one (changes_row x.reply) in
     omega (arith, sum_by-append f h (e ∷ more), sum_by-cons f e more)
 
-rows_stay : (more h : RegistryHistory) (row : KeyRow) → settled (h ++ more) ≤ settled h → IsRow h row →
-    IsRow (h ++ more) row
-rows_stay [] h row le is = subst (λ k. IsRow k row) (sym (append-nil h)) is
+rows_stay : (more h : RegistryHistory) (row : Row) → settled (h ++ more) ≤ settled h → LeavesRow h row →
+    LeavesRow (h ++ more) row
+rows_stay [] h row le is = subst (λ k. LeavesRow k row) (sym (append-nil h)) is
 rows_stay (e ∷ more) h row le is =
     let path = append_assoc h (e ∷ []) more in
     let around = count_around h more e in
@@ -68,7 +68,7 @@ rows_stay (e ∷ more) h row le is =
     let quiet = changes (changes_row e.reply) refl (omega (arith, le, around)) in
     let none : one (changes_row e.reply) ≡ 0 = ap one quiet in
     let same : settled ((h ++ e ∷ []) ++ more) ≡ settled (h ++ e ∷ more) = ap settled path in
-    subst (λ k. IsRow k row) path
+    subst (λ k. LeavesRow k row) path
     (rows_stay more (h ++ e ∷ []) row (omega (arith, le, around, first, none, same)) (row_still h e row quiet is))
   where
     changes : (b : Bool) → changes_row e.reply ≡ b → one (changes_row e.reply) ≤ 0 → changes_row e.reply ≡ false
@@ -114,24 +114,32 @@ never_lives id h before more after p once whole was dead =
 slot_both : (slot : ℕ) (xs ys : List Turn) → slot_history slot (xs ++ ys) ≡ slot_history slot xs ++ slot_history slot ys
 slot_both slot xs ys = flat_map-append (λ (x : Turn). slot_entry slot x.who x.deed) xs ys
 
-module _ (w : World) (legal : AreLegal w.generation w.blocks w.turns) (tended : AreTended w)
+module _ (laws : EachObeys) (w : World) (legal : AreLegal w.generation w.blocks w.turns) (tended : AreTended w)
     (good : AreRemovedForGood w.turns) (order : SettledOnceInstalled w.turns) (who : Who) (get : Getting) (told : ℕ)
     (below : settled (registry_history w.turns) < told + 1) where
   abbrev all_rows : RegistryHistory
   all_rows = registry_history w.turns
 
+  -- The turns of the registry before others are legal.
+  legal_before : (before : List Turn) (more : RegistryHistory) → all_rows ≡ registry_history before ++ more →
+      IsLegalRegistryHistory w.generation (registry_history before)
+  legal_before before more whole front e back same =
+      legal.registry front e (back ++ more) (whole ∙ (ap (λ h. h ++ more) same ∙ append_assoc front (e ∷ back) more))
+
   -- The row that the registry reported still exists.
-  row_now : (front later : List Deed) (reply : RegistryReply) (row : KeyRow)
+  row_now : (front later : List Deed) (reply : RegistryReply) (row : Row)
       (m : Made who w.turns front (AtRegistry (Begin get.key get.flags) reply) later) →
-      IsRow (registry_history m.before) row → told ≡ settled (registry_history m.before) → IsRow all_rows row
+      IsRow w.generation (registry_history m.before) row → told ≡ settled (registry_history m.before) →
+      IsRow w.generation all_rows row
   row_now front later reply row m is count =
       let e : RegistryEntry = record { who = m.by; call = Begin get.key get.flags; reply = reply } in
       let whole : all_rows ≡ registry_history m.before ++ e ∷ registry_history m.after =
       ap registry_history m.whole ∙ registry_around m.before m.after m.by (Begin get.key get.flags) reply in
       let low : settled (registry_history m.before ++ e ∷ registry_history m.after) < told + 1 =
       subst (λ h. settled h < told + 1) whole below in
-      subst (λ h. IsRow h row) (sym whole)
-      (rows_stay (e ∷ registry_history m.after) (registry_history m.before) row (omega (arith, low, count)) is)
+      ((laws w.generation all_rows legal.registry).rows row).1 (subst (λ h. LeavesRow h row) (sym whole)
+      (rows_stay (e ∷ registry_history m.after) (registry_history m.before) row (omega (arith, low, count))
+      (((laws w.generation (registry_history m.before) (legal_before m.before _ whole)).rows row).0 is)))
 
   registry_legal : (front later : List Deed) (reply : RegistryReply)
       (m : Made who w.turns front (AtRegistry (Begin get.key get.flags) reply) later) →
@@ -146,7 +154,7 @@ module _ (w : World) (legal : AreLegal w.generation w.blocks w.turns) (tended : 
   was_busy front e =
       let m = made_at who w.turns front (AtRegistry (Begin get.key get.flags) (Busy told)) [] e in
       let l = registry_legal front [] (Busy told) m in
-      let row : KeyRow = record { id = l.1.0; key = get.key; live = false } in
+      let row : Row = record { id = l.1.0; key = get.key; live = false } in
       let is = row_now front [] (Busy told) row m l.1.1 l.2 in
       record { row = row; bound = is; of_key = refl; tended = tended row is (inl refl) }
 
@@ -161,7 +169,7 @@ module _ (w : World) (legal : AreLegal w.generation w.blocks w.turns) (tended : 
       let m = made_at who w.turns front begin_deed (AtSlot slot probe Gone ∷ []) e in
       let p = made_at who m.after [] (AtSlot slot probe Gone) [] m.later_is in
       let l = registry_legal front (AtSlot slot probe Gone ∷ []) (Found id told) m in
-      let row : KeyRow = record { id = id; key = get.key; live = true } in
+      let row : Row = record { id = id; key = get.key; live = true } in
       let is = row_now front (AtSlot slot probe Gone ∷ []) (Found id told) row m l.1 l.2 in
       let x : Entry = record { who = p.by; call = probe; reply = Gone } in
       let since = turn_of m.by begin_deed ∷ p.before in
@@ -175,7 +183,11 @@ module _ (w : World) (legal : AreLegal w.generation w.blocks w.turns) (tended : 
       ap (slot_history slot) turns_are ∙ slot_around slot (m.before ++ since) p.after p.by probe Gone in
       let dead : ¬ IsLive (slot_history slot (m.before ++ since)) id =
       legal.slots slot (slot_history slot (m.before ++ since)) x (slot_history slot p.after) around in
-      let was = order id m.before (turn_of m.by begin_deed ∷ m.after) m.whole l.1.stage in
+      let left = ((laws w.generation (registry_history m.before) (legal_before m.before _
+      (ap registry_history m.whole
+      ∙ registry_around m.before m.after m.by (Begin get.key get.flags) (Found id told)))).rows
+      row).0 l.1 in
+      let was = order id m.before (turn_of m.by begin_deed ∷ m.after) m.whole left.stage in
       let not_live = never_lives id (slot_history slot w.turns) (slot_history slot m.before) (slot_history slot since)
       (slot_history slot p.after) x (good.once slot id)
       (around ∙ ap (λ k. k ++ x ∷ slot_history slot p.after) parts) was

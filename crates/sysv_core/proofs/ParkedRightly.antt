@@ -34,6 +34,7 @@ use Rattle.sysv_core.specs.Tending.{AreTended}
 use Rattle.sysv_core.proofs.LifeLaws.{SettledOnceInstalled}
 use Rattle.sysv_core.proofs.WaitsForBlocks.{AreShort}
 use Rattle.sysv_core.proofs.SendIsWoken.{AreToBeWoken}
+use Rattle.sysv_core.proofs.Life.{EachObeys}
 use Rattle.sysv_core.proofs.GetsParked.{being_changed}
 use Rattle.sysv_core.proofs.TurnInHistory.{made_at, slot_around}
 
@@ -163,7 +164,8 @@ IsShortOf w (OnReleased goal s) =
     released (pool_history w.turns) < goal → HasTooFewBlocks w (length s.text) × IsToBeWoken w s.id s.cred
 IsShortOf w wait = Unit {0}
 
-module _ (w : World) (legal : AreLegal w.generation w.blocks w.turns) (no_match : NoMatchStays) (full : FullStays)
+module _ (laws : EachObeys) (w : World) (legal : AreLegal w.generation w.blocks w.turns) (no_match : NoMatchStays)
+    (full : FullStays)
     (full_for_look : FullStaysForLook) (counts : CountsNeverFall) (tended : AreTended w)
     (good : AreRemovedForGood w.turns) (order : SettledOnceInstalled w.turns) (call : Started) where
   has_reason : (asked : SystemCall) (wait : Wait) → WaitHolds call.cred asked wait → IsShortOf w wait →
@@ -188,21 +190,22 @@ module _ (w : World) (legal : AreLegal w.generation w.blocks w.turns) (no_match 
       )
   has_reason (Msgget key flags) (OnSettled goal get) holds short (told, is, f) below =
       subst (IsBeingChanged w) (ap (λ (g : Getting). g.key) holds.is)
-      (being_changed w legal tended good order call.who get told
+      (being_changed laws w legal tended good order call.who get told
       (subst (λ n. settled (registry_history w.turns) < n) is below) f)
   has_reason asked wait holds short f below = absurd holds
 
-pub parked_rightly : (w : World) → AreLegal w.generation w.blocks w.turns →
+pub parked_rightly : EachObeys → (w : World) → AreLegal w.generation w.blocks w.turns →
     ((place : ℕ) (d : Doing) → slice_get w.actors place ≡ Some (Some d) →
     Plays (begun d.call) (deeds_of d.call.who w.turns) d.state) →
     NoMatchStays → FullStays → FullStaysForLook → CountsNeverFall → EachWaitsForItsRefusal → EachHoldsWhatItWasAsked →
     AreTended w → AreRemovedForGood w.turns → SettledOnceInstalled w.turns → AreShort w → AreToBeWoken w →
     AreParkedRightly w
-parked_rightly w legal plays no_match full full_for_look counts refused holds tended good order short woken place d wait
+parked_rightly laws w legal plays no_match full full_for_look counts refused holds tended good order short woken place d
+    wait
     p =
     let played : Plays (begun d.call) (deeds_of d.call.who w.turns) (Waits wait) =
     subst (Plays (begun d.call) (deeds_of d.call.who w.turns)) p.waits (plays place d p.there) in
-    has_reason w legal no_match full full_for_look counts tended good order d.call d.call.asked wait
+    has_reason laws w legal no_match full full_for_look counts tended good order d.call d.call.asked wait
     (holds d.call.cred d.call.asked d.call.released (deeds_of d.call.who w.turns) (Waits wait) played)
     (short_of wait p.waits)
     (refused d.call.cred d.call.asked d.call.released (deeds_of d.call.who w.turns) wait played) p.below

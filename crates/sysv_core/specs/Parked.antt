@@ -22,9 +22,8 @@ use Rattle.sysv_pool.specs.State.{free_after}
 use Rattle.sysv_queue.specs.Fits.{Fits}
 use Rattle.sysv_queue.specs.Granted.{MayRead, MayWrite}
 use Rattle.sysv_queue.specs.Named.{IsNamed}
-use Rattle.sysv_keys.specs.declared.registry.KeyRow.{KeyRow}
 use Rattle.sysv_keys.specs.Identifier.{slot_of_id}
-use Rattle.sysv_keys.specs.Rows.{IsRow}
+use Rattle.sysv_keys.specs.Rows.{Row, IsRow}
 use Rattle.sysv_steps.specs.Call.{SystemCall, Msgget, Msgsnd, Msgrcv, MsgctlSet, MsgctlRmid}
 use Rattle.sysv_steps.specs.State.{Wait, OnSettled, OnFreed, OnReleased, OnArrived, AtSetGiveback, AtForget}
 use Rattle.sysv_steps.specs.State.{AtRemoveGiveback, State, Goes, Waits}
@@ -47,8 +46,8 @@ pub record HasNoRoom (h : History) (id : ℤ) (cred : Cred) (size : ℕ) : Type 
 
 -- A row has the key, and some actor's call still has to settle or to forget it.
 pub record IsBeingChanged (w : World) (key : ℤ) : Type 0 where
-  pub row : KeyRow
-  pub bound : IsRow (registry_history w.turns) row
+  pub row : Row
+  pub bound : IsRow w.generation (registry_history w.turns) row
   pub of_key : row.key ≡ key
   pub tended : IsTended w row.id
 

@@ -5,9 +5,8 @@
 use Rattle.std.specs.Prelude.{◌≡◌, ◌⊎◌, ℕ, ℤ, false, Some, slice_get}
 use Rattle.sysv_model.specs.Live.{IsLive}
 use Rattle.sysv_model.specs.Turn.{slot_history, registry_history}
-use Rattle.sysv_keys.specs.declared.registry.KeyRow.{KeyRow}
 use Rattle.sysv_keys.specs.Identifier.{slot_of_id}
-use Rattle.sysv_keys.specs.Rows.{IsRow}
+use Rattle.sysv_keys.specs.Rows.{Row, IsRow}
 use Rattle.sysv_steps.specs.Tended.{HasToSettle, HasToForget}
 use Rattle.sysv_core.specs.World.{World, Doing}
 
@@ -20,5 +19,5 @@ pub record IsTended (w : World) (id : ℤ) : Type 0 where
 
 -- This holds of each row that is not settled or whose queue is not live.
 abbrev pub AreTended : World → Type 0
-AreTended w = (row : KeyRow) → IsRow (registry_history w.turns) row →
+AreTended w = (row : Row) → IsRow w.generation (registry_history w.turns) row →
     (row.live ≡ false) ⊎ ¬ IsLive (slot_history (slot_of_id row.id) w.turns) row.id → IsTended w row.id

@@ -1,6 +1,7 @@
 pub use Rattle.sysv_model.specs.Registry
 pub use Rattle.sysv_model.specs.HasFlag
 pub mod Identifier
+pub mod State
 pub mod Rows
 pub mod LegalReply
 pub mod StandsFor

@@ -3,7 +3,7 @@ use Rattle.std.specs.Prelude.{◌≡◌, ⊤}
 use Rattle.sysv_model.specs.Registry.{RegistryReply, Found, Made, Busy, Unbound}
 use Rattle.sysv_keys.specs.declared.registry.Begun.{Begun}
 use Rattle.sysv_keys.specs.declared.registry.Begun.TheVariants as begun
-use Rattle.sysv_keys.specs.StandsFor.{Registry}
+use Rattle.sysv_keys.specs.State.{Registry}
 
 -- The result of begin.
 abbrev pub begun_reply : Begun → RegistryReply

@@ -1,8 +1,8 @@
 //! Identifiers, which consist of a slot and a generation.
 
-ghost use Rattle.std.specs.Prelude.{◌≡◌, ◌<◌};
-ghost use Rattle.sysv_keys.specs.Identifier.{slot_of_id};
-ghost use Rattle.sysv_keys.specs.declared.identifier.TheConstants.{SLOTS};
+ghost use Rattle.std.specs.Prelude.{◌≡◌, ◌<◌, ◌≤◌};
+ghost use Rattle.sysv_keys.specs.Identifier.{id_of, slot_of_id};
+ghost use Rattle.sysv_keys.specs.declared.identifier.TheConstants.{SLOTS, GENERATION_LAST};
 
 /// The number of slots. A slot holds one queue, so this is also the maximum number of queues.
 pub const SLOTS: usize = 256;
@@ -20,4 +20,13 @@ pub fn slot_of_id(id: i32) -> usize
     ensures within { result < SLOTS }
 {
     id.unsigned_abs() as usize % SLOTS
+}
+
+/// Returns the identifier of a slot in a generation.
+pub(crate) fn id_of(slot: usize, generation: u32) -> i32
+    requires there { slot < SLOTS }
+    requires usable { generation ≤ GENERATION_LAST }
+    ensures { result ≡ id_of slot generation }
+{
+    (slot + SLOTS * generation as usize) as i32
 }

@@ -1,17 +1,19 @@
 //! The registry: one place for each slot, and an index from keys to slots.
 
-ghost use Rattle.std.specs.Prelude.{◌≡◌, ◌≢◌, ℕ, ℤ, ◌+◌, ◌<◌, ◌≤◌, ◌↔◌, false, [], IsTrue, IsSome, None, Some, MatchOption, IfErr, IfOk, OnOk, MatchResult, length, slice_get};
+ghost use Rattle.std.specs.Prelude.{◌≡◌, ◌≢◌, ℕ, ℤ, ◌+◌, ◌<◌, ◌≤◌, ◌↔◌, false, [], IsTrue, IsSome, None, Some, MatchOption, IfErr, IfOk, OnOk, MatchResult, length};
 ghost use Rattle.std.specs.Ordering.{int_eq};
 ghost use Rattle.indexmap.specs.IndexMap.{get, index_map_len, spare};
 ghost use Rattle.sysv_model.specs.declared.limits.TheConstants.{IPC_PRIVATE};
 ghost use Rattle.sysv_model.specs.Registry.{RegistryHistory, Begin, Settle, Forget, Changed};
 ghost use Rattle.sysv_keys.specs.declared.identifier.TheConstants.{SLOTS, GENERATION_LAST};
-ghost use Rattle.sysv_keys.specs.Rows.{IsUnused};
+ghost use Rattle.sysv_keys.specs.State.{state_in};
+ghost use Rattle.sysv_keys.specs.Rows.{IsUnused, IsVacant, IsLeastVacant};
+ghost use Rattle.sysv_keys.specs.LegalReply.{IsBound};
 ghost use Rattle.sysv_keys.specs.StandsFor.{StandsFor, MakesTurn};
 ghost use Rattle.sysv_keys.specs.Replies.{begun_reply, ChangesOnlyIfMade};
-ghost use Rattle.sysv_keys.specs.Kept.{IsOpen, NoneIsOpen, IsLeastOpen, NoRowOf, IsRowOf, Makes, IsIndex, KeysDiffer};
+ghost use Rattle.sysv_keys.specs.Kept.{IsOpen, Finds, HasNoRow, HasRowOf, Makes, IsIndex, IsEntered, KeysDiffer};
 
-use crate::identifier::{GENERATION_LAST, SLOTS, slot_of_id};
+use crate::identifier::{GENERATION_LAST, SLOTS, id_of, slot_of_id};
 use bitflags::Flags as Set;
 use indexmap::IndexMap;
 use std::alloc::{AllocError, Global};
@@ -56,10 +58,9 @@ impl From<AllocError> for RegistryRefused {
     }
 }
 
-/// A row: the identifier that was made for a key.
+/// A row: the key that the identifier of a slot and its generation was made for.
 #[derive(Clone, Copy, PartialEq, Eq, Debug)]
 struct KeyRow {
-    id: i32,
     key: i32,
     /// Whether the queue was installed. The row is Making before that and Live afterwards.
     live: bool,
@@ -96,7 +97,7 @@ pub struct Registry {
 impl Model for Registry {
     ghost use Rattle.std.specs.Ordering.{int_eq};
     ghost use Rattle.indexmap.specs.IndexMap.{get, index_map_len, spare};
-    ghost use Rattle.sysv_keys.specs.StandsFor.{Registry as Seen};
+    ghost use Rattle.sysv_keys.specs.State.{Registry as Seen};
     ghost use Rattle.sysv_keys.specs.Kept.{IsKept};
 
     ghost Value = { Seen };
@@ -167,16 +168,8 @@ impl Registry {
         ensures unless_made { ChangesOnlyIfMade result self.old self.new }
     {
         if key != IPC_PRIVATE {
-            if let Some(row) = self.row_of(key) {
-                let settled = self.settled;
-                return if row.live {
-                    Begun::Found {
-                        id: row.id,
-                        settled,
-                    }
-                } else {
-                    Begun::Busy { settled }
-                };
+            if let Some(found) = self.find(key) {
+                return found;
             }
             if !flags.contains(Flags::IPC_CREAT) {
                 return Begun::Refused(Errno::ENOENT);
@@ -190,40 +183,56 @@ impl Registry {
         }
     }
 
-    /// Returns the row of a key, if it has one.
-    fn row_of(&self, key: i32) -> Option<KeyRow>
+    /// Returns the result of a `begin` of this key, if the key has a row.
+    fn find(&self, key: i32) -> Option<Begun>
         requires { key ≢ IPC_PRIVATE }
-        ensures { MatchOption result (NoRowOf self.now key) (IsRowOf self.now key) }
+        ensures { MatchOption result (¬ IsBound (state_in self.now) key) (Finds self.now key) }
     {
         let slot = *self.by_key.get(&key)?;
-        self.places[slot].row
+        let place = self.places[slot];
+        let row = place.row?;
+        let settled = self.settled;
+        if row.live {
+            let id = id_of(slot, place.generation);
+            Some(Begun::Found { id, settled })
+        } else {
+            Some(Begun::Busy { settled })
+        }
     }
 
     /// Returns the least slot in which an identifier can be made, if there is one.
     fn least_vacant(&self) -> Option<usize>
-        ensures { MatchOption result (NoneIsOpen self.now) (IsLeastOpen self.now) }
+        ensures { MatchOption result ((slot : ℕ) → ¬ IsVacant (state_in self.now) slot)
+            (IsLeastVacant (state_in self.now)) }
     {
         self.places.iter().position(|place| place.is_open())
     }
 
-    /// Makes the identifier of a slot for a key.
+    /// Makes the identifier of the least vacant slot for a key.
     fn make(&mut self, slot: usize, key: i32) -> i32
-        requires open { IsLeastOpen self.old slot }
-        requires new { key ≢ IPC_PRIVATE → NoRowOf self.old key }
-        ensures { Makes self.old slot key result self.new }
+        requires vacant { IsLeastVacant (state_in self.old) slot }
+        requires new { key ≢ IPC_PRIVATE → ¬ IsBound (state_in self.old) key }
+        ensures { Makes self.old key result self.new }
     {
         let generation = self.places[slot].generation;
-        let id = (slot + SLOTS * generation as usize) as i32;
-        let row = Some(KeyRow {
-            id,
-            key,
-            live: false,
-        });
+        let row = Some(KeyRow { key, live: false });
         self.places[slot] = Place { generation, row };
-        if key != IPC_PRIVATE {
-            self.by_key.insert(key, slot).unwrap();
+        bind(&mut self.by_key, key, slot);
+        id_of(slot, generation)
+    }
+
+    /// Returns the row of an identifier, if it has one.
+    fn row(&self, id: i32) -> Option<KeyRow>
+        ensures { MatchOption result (HasNoRow self.now id) (HasRowOf self.now id) }
+    {
+        let slot = slot_of_id(id);
+        let place = self.places[slot];
+        let row = place.row?;
+        if id_of(slot, place.generation) == id {
+            Some(row)
+        } else {
+            None
         }
-        id
     }
 
     /// Records that the queue of a new identifier was installed.
@@ -234,12 +243,12 @@ impl Registry {
         ensures turn { MakesTurn self.old (Settle id) (Changed result) self.new }
         ensures refused { result ≡ false → self.new ≡ self.old }
     {
-        let slot = slot_of_id(id);
-        let place = self.places[slot];
-        match place.row {
-            Some(row) if row.id == id && !row.live => {
+        match self.row(id) {
+            Some(row) if !row.live => {
+                let slot = slot_of_id(id);
+                let generation = self.places[slot].generation;
                 let row = Some(KeyRow { live: true, ..row });
-                self.places[slot] = Place { row, ..place };
+                self.places[slot] = Place { generation, row };
                 self.settled += 1;
                 true
             }
@@ -255,23 +264,20 @@ impl Registry {
         ensures turn { MakesTurn self.old (Forget id) (Changed result) self.new }
         ensures refused { result ≡ false → self.new ≡ self.old }
     {
+        let Some(row) = self.row(id) else {
+            return false;
+        };
         let slot = slot_of_id(id);
-        let place = self.places[slot];
-        match place.row {
-            Some(row) if row.id == id => {
-                let generation = place.generation + 1;
-                self.places[slot] = Place {
-                    generation,
-                    row: None,
-                };
-                self.settled += 1;
-                if row.key != IPC_PRIVATE {
-                    index_keys(&self.places, &mut self.by_key);
-                }
-                true
-            }
-            _ => false,
+        let generation = self.places[slot].generation + 1;
+        self.places[slot] = Place {
+            generation,
+            row: None,
+        };
+        self.settled += 1;
+        if row.key != IPC_PRIVATE {
+            index_keys(&self.places, &mut self.by_key);
         }
+        true
     }
 
     /// Returns whether the slot has no row and generation 0. If so, no identifier of it was ever
@@ -305,15 +311,26 @@ fn index_keys(places: &[Place], by_key: &mut IndexMap<i32, usize>)
     requires wide { length places.now ≡ SLOTS }
     requires differ { KeysDiffer places.now }
     requires roomy { SLOTS ≤ index_map_len by_key.old + spare by_key.old }
-    ensures { IsIndex places.now (λ key. get int_eq by_key.new key) (index_map_len by_key.new)
-        (spare by_key.new) }
+    ensures { IsIndex places.now (λ key. get int_eq by_key.new key)
+        (index_map_len by_key.new) (spare by_key.new) }
 {
     by_key.clear();
     for (slot, place) in places.iter().enumerate() {
         if let Some(row) = place.row {
-            if row.key != IPC_PRIVATE {
-                by_key.insert(row.key, slot).unwrap();
-            }
+            bind(by_key, row.key, slot);
         }
+    }
+}
+
+/// Enters a key with its slot into the index, unless the key is private.
+fn bind(by_key: &mut IndexMap<i32, usize>, key: i32, slot: usize)
+    requires { 0 < spare by_key.old }
+    ensures private { key ≡ IPC_PRIVATE → by_key.new ≡ by_key.old }
+    ensures entered { key ≢ IPC_PRIVATE → IsEntered key slot (λ asked. get int_eq by_key.old asked)
+        (index_map_len by_key.old) (spare by_key.old) (λ asked. get int_eq by_key.new asked)
+        (index_map_len by_key.new) (spare by_key.new) }
+{
+    if key != IPC_PRIVATE {
+        by_key.insert(key, slot).unwrap();
     }
 }

@@ -11,7 +11,9 @@ use Rattle.sysv_queue.specs.StandsFor.{StandsFor as SlotStandsFor, MakesTurn as 
 use Rattle.sysv_pool.specs.State.{State as Pool}
 use Rattle.sysv_pool.specs.StandsFor.{StandsFor as PoolStandsFor}
 use Rattle.sysv_pool.specs.LegalReply.{Legal as LegalAtPool}
-use Rattle.sysv_keys.specs.StandsFor.{Registry, StandsFor as RegistryStandsFor, MakesTurn as RegistryMakesTurn}
+use Rattle.sysv_keys.specs.LegalReply.{Legal as LegalAtRegistry}
+use Rattle.sysv_keys.specs.State.{Registry}
+use Rattle.sysv_keys.specs.StandsFor.{StandsFor as RegistryStandsFor, MakesTurn as RegistryMakesTurn}
 use Rattle.std.proofs.lemmas.List.Sums.{sum_by-append}
 use Rattle.sysv_objects.specs.declared.pool.PoolCall.{PoolCall as Asked}
 use Rattle.sysv_objects.specs.declared.pool.PoolCall.TheVariants as asked
@@ -103,7 +105,7 @@ pub at_registry : (old : Objects) (new : Registry) (call : RegistryCall) (reply 
     RegistryMakesTurn old.registry call reply new →
     MakesTurn old (AtRegistry call reply) (with_registry old new)
 at_registry old new call reply turn = record {
-  legal = λ generation turns st. turn.legal generation (registry_history turns) st.registry;
+  legal = λ generation turns st. subst (λ r. LegalAtRegistry r call reply) (sym st.registry.seen) turn.legal;
   stands = λ generation turns who st. record {
     many = st.many;
     slots = λ at slot here.

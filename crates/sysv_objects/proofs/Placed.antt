@@ -10,7 +10,8 @@ use Rattle.sysv_model.specs.Registry.{RegistryCall, RegistryReply}
 use Rattle.sysv_model.specs.Turn.{AtSlot, AtRegistry, AtPool, Turn, slot_history}
 use Rattle.sysv_keys.specs.declared.identifier.TheConstants.{SLOTS}
 use Rattle.sysv_keys.specs.Identifier.{slot_of_id}
-use Rattle.sysv_keys.specs.StandsFor.{Registry, StandsFor as RegistryStandsFor, MakesTurn as RegistryMakesTurn}
+use Rattle.sysv_keys.specs.State.{Registry}
+use Rattle.sysv_keys.specs.StandsFor.{StandsFor as RegistryStandsFor, MakesTurn as RegistryMakesTurn}
 use Rattle.sysv_pool.specs.State.{State as Pool}
 use Rattle.sysv_pool.specs.StandsFor.{StandsFor as PoolStandsFor}
 use Rattle.sysv_queue.specs.Slot.{Slot}

@@ -6,7 +6,7 @@ use Rattle.sysv_model.specs.Pool.{PoolCall, Reserve, Release}
 use Rattle.sysv_model.specs.Turn.{Deed, AtSlot, AtRegistry, AtPool}
 use Rattle.sysv_queue.specs.Slot.{Slot}
 use Rattle.sysv_queue.specs.Blocks.{blocks_of}
-use Rattle.sysv_keys.specs.StandsFor.{Registry}
+use Rattle.sysv_keys.specs.State.{Registry}
 use Rattle.sysv_pool.specs.State.{State as Pool}
 use Rattle.sysv_objects.specs.declared.object.ObjectCall.{ObjectCall}
 use Rattle.sysv_objects.specs.declared.object.ObjectCall.TheVariants as asked

@@ -7,7 +7,7 @@ use Rattle.sysv_model.specs.Members.{SeesMore}
 use Rattle.sysv_keys.specs.Identifier.{slot_of_id}
 use Rattle.sysv_steps.specs.Resume.{ArrivedOf, FreedOf, Settled, Released}
 use Rattle.sysv_queue.specs.Slot.{Slot}
-use Rattle.sysv_keys.specs.StandsFor.{Registry}
+use Rattle.sysv_keys.specs.State.{Registry}
 use Rattle.sysv_pool.specs.State.{State}
 use Rattle.sysv_gate.specs.declared.count.Count.{Count}
 use Rattle.sysv_gate.specs.declared.count.Count.TheVariants.{Arrived, Freed}

@@ -5,6 +5,7 @@ use Rattle.std.specs.List.{All}
 use Rattle.std.proofs.lemmas.List.{length-map, length-append}
 use Rattle.sysv_model.specs.Members.{first_with}
 use Rattle.sysv_keys.specs.declared.identifier.TheConstants.{SLOTS}
+use Rattle.sysv_keys.specs.State.{State as RegistryState}
 use Rattle.sysv_keys.specs.StandsFor.{StandsFor as RegistryStandsFor}
 use Rattle.sysv_pool.specs.StandsFor.{StandsFor as PoolStandsFor}
 use Rattle.sysv_queue.specs.Slot.{Slot}
@@ -47,7 +48,8 @@ slot_low (gated.Pool s) is stands = absurd is
 registry_low : (generation : ℕ) (o : Gated) → IsRegistry o → RegistryStandsFor generation [] (registry_in o) →
     AreUpTo (2 ^ 61) (gated_counts o)
 registry_low generation (gated.Registry s) is stands =
-    let none = stands.counted in (subst (λ n. n ≤ 2 ^ 61) (sym none) (omega arith), omega arith)
+    let none = ap (λ (s : RegistryState). s.settled) stands.seen in
+    (subst (λ n. n ≤ 2 ^ 61) none (omega arith), omega arith)
 registry_low generation (gated.Slot s) is stands = absurd is
 registry_low generation (gated.Pool s) is stands = absurd is
 

@@ -5,7 +5,8 @@ use Rattle.sysv_model.specs.History.{Seat, History}
 use Rattle.sysv_model.specs.Registry.{RegistryHistory}
 use Rattle.sysv_model.specs.Pool.{PoolHistory}
 use Rattle.sysv_queue.specs.Slot.{Slot}
-use Rattle.sysv_keys.specs.StandsFor.{Registry, StandsFor as RegistryStandsFor}
+use Rattle.sysv_keys.specs.State.{Registry}
+use Rattle.sysv_keys.specs.StandsFor.{StandsFor as RegistryStandsFor}
 use Rattle.sysv_pool.specs.State.{State}
 use Rattle.sysv_pool.specs.StandsFor.{StandsFor as PoolStandsFor}
 use Rattle.sysv_queue.specs.StandsFor.{StandsFor as SlotStandsFor}

@@ -35,7 +35,7 @@ use Rattle.sysv_service.specs.Reading.{Reads}
 use Rattle.sysv_service.specs.Seats.{SlotSeat, RegistrySeat, Seats, TakesTurn, MakesTurnAt, FindsWorn, slot_entry}
 use Rattle.sysv_service.specs.Seats.{registry_entry, registry_seen}
 use Rattle.sysv_service.specs.SeenHistories.{SeenHistories, OwnTurnsAreLast}
-use Rattle.sysv_keys.specs.StandsFor.{Registry}
+use Rattle.sysv_keys.specs.State.{Registry}
 use Rattle.sysv_objects.specs.RegistryTurns.{RegistryMoves}
 use Rattle.sysv_objects.specs.SlotTurns.{SlotMoves, slot_call, slot_reply}
 use Rattle.sysv_service.specs.Overflows.{FindsWornAt, IsOpenFor, EachOverflowIsAtAWornGate, FindsItWorn, FindsASlotWorn}

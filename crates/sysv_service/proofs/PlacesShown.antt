@@ -21,7 +21,7 @@ use Rattle.sysv_objects.specs.declared.registry.RegistryReply.{RegistryReply}
 use Rattle.sysv_objects.specs.declared.pool.PoolCall.{PoolCall}
 use Rattle.sysv_objects.specs.declared.pool.PoolReply.{PoolReply}
 use Rattle.sysv_queue.specs.Slot.{Slot}
-use Rattle.sysv_keys.specs.StandsFor.{Registry}
+use Rattle.sysv_keys.specs.State.{Registry}
 use Rattle.sysv_pool.specs.State.{State}
 use Rattle.sysv_objects.specs.SlotTurns.{slot_asked, SlotMoves}
 use Rattle.sysv_service.specs.Counts.{slot_counts}

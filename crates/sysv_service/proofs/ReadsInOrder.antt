@@ -11,6 +11,7 @@ use Rattle.sysv_model.specs.Turn.{slot_history, registry_history, pool_history}
 use Rattle.sysv_model.specs.Turns.{turns_of}
 use Rattle.sysv_queue.specs.Slot.{Slot}
 use Rattle.sysv_queue.specs.StandsFor.{StandsFor as SlotStandsFor}
+use Rattle.sysv_keys.specs.State.{State as RegistryState}
 use Rattle.sysv_keys.specs.StandsFor.{StandsFor as RegistryStandsFor}
 use Rattle.sysv_pool.specs.State.{State}
 use Rattle.sysv_pool.specs.StandsFor.{StandsFor as PoolStandsFor}
@@ -81,8 +82,8 @@ module _ (order : List GatedPlaced) (gates : List (Gateway Gated)) where
       (Moves RegistryMoves registry_counts) registry_counts keeps_registry o ts kind known.0 in
       let counts = counted_as as_registry IsRegistry (Moves GatedMoves gated_counts) gated_counts
       (Moves RegistryMoves registry_counts) registry_counts keeps_registry o ts kind known.0 in
-      let now =
-      (registry_on generation [] (as_registry.object o) (map (turn_as as_registry) ts) stands legal).counted in
+      let now = ap (λ (s : RegistryState). s.settled)
+      (registry_on generation [] (as_registry.object o) (map (turn_as as_registry) ts) stands legal).seen in
       let part = registry_history_of gates order
       ∙ ap (λ g. entries registry_entry (as_registry.object g) (map (turn_as as_registry) ts)) opens in
       let first = ap (λ (n : ℕ × ℕ). n.0) counts in

@@ -8,7 +8,8 @@ use Rattle.sysv_model.specs.Registry.{RegistryCall, RegistryReply, RegistryEntry
 use Rattle.sysv_model.specs.Pool.{PoolCall, PoolReply, PoolEntry, frees, released}
 use Rattle.sysv_queue.specs.Slot.{Slot}
 use Rattle.sysv_queue.specs.StandsFor.{MakesTurn as SlotMakesTurn}
-use Rattle.sysv_keys.specs.StandsFor.{Registry, MakesTurn as RegistryMakesTurn}
+use Rattle.sysv_keys.specs.State.{Registry, State as RegistryState}
+use Rattle.sysv_keys.specs.StandsFor.{MakesTurn as RegistryMakesTurn}
 use Rattle.sysv_pool.specs.State.{State}
 use Rattle.sysv_pool.specs.StandsFor.{MakesTurn as PoolMakesTurn}
 use Rattle.sysv_gate.specs.History.{RiseByOneAtMost}
@@ -65,8 +66,9 @@ module _ (before after : Registry) (call : RegistryCall) (reply : RegistryReply)
   settles : (before.settled ≤ after.settled) × (after.settled ≤ before.settled + 1)
   settles =
       let e : RegistryEntry = record { who = Actor 0 0; call = call; reply = reply } in
-      let was : before.settled ≡ settled stands.1 = stands.2.counted in
-      let is : after.settled ≡ settled (stands.1 ++ e ∷ []) = registry_stands.2.counted in
+      let was : settled stands.1 ≡ before.settled = ap (λ (s : RegistryState). s.settled) stands.2.seen in
+      let is : settled (stands.1 ++ e ∷ []) ≡ after.settled =
+      ap (λ (s : RegistryState). s.settled) registry_stands.2.seen in
       let more = sum_by-append (λ (t : RegistryEntry). cond (changes_row t.reply) 1 0) stands.1 (e ∷ []) in
       let one = at_most_one (changes_row reply) in
       (omega (arith, was, is, more), omega (arith, was, is, more, one))

@@ -6,7 +6,8 @@ use Rattle.sysv_model.specs.Registry.{RegistryHistory}
 use Rattle.sysv_model.specs.Pool.{PoolHistory}
 use Rattle.sysv_queue.specs.Slot.{Slot}
 use Rattle.sysv_queue.specs.StandsFor.{StandsFor as SlotStandsFor}
-use Rattle.sysv_keys.specs.StandsFor.{Registry, StandsFor as RegistryStandsFor}
+use Rattle.sysv_keys.specs.State.{Registry}
+use Rattle.sysv_keys.specs.StandsFor.{StandsFor as RegistryStandsFor}
 use Rattle.sysv_pool.specs.State.{State}
 use Rattle.sysv_pool.specs.StandsFor.{StandsFor as PoolStandsFor}
 

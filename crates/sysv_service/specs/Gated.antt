@@ -2,7 +2,7 @@
 -- contracts see each kind by itself. This project's profile.
 use Rattle.std.specs.Prelude.{ℕ, ◌+◌, pos, true, None, [], ⊤}
 use Rattle.sysv_queue.specs.Slot.{Slot}
-use Rattle.sysv_keys.specs.StandsFor.{Registry}
+use Rattle.sysv_keys.specs.State.{Registry}
 use Rattle.sysv_pool.specs.State.{State}
 use Rattle.sysv_objects.specs.declared.slot.SlotCall.{SlotCall}
 use Rattle.sysv_objects.specs.declared.slot.SlotCall.TheVariants.{Row}

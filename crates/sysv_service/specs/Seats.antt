@@ -12,7 +12,8 @@ use Rattle.sysv_model.specs.Turns.{turns_of}
 use Rattle.sysv_model.specs.Members.{Member, SeesMore, MakesTurn}
 use Rattle.sysv_queue.specs.Slot.{Slot}
 use Rattle.sysv_queue.specs.StandsFor.{StandsFor as SlotStandsFor}
-use Rattle.sysv_keys.specs.StandsFor.{Registry, StandsFor as RegistryStandsFor}
+use Rattle.sysv_keys.specs.State.{Registry}
+use Rattle.sysv_keys.specs.StandsFor.{StandsFor as RegistryStandsFor}
 use Rattle.sysv_pool.specs.State.{State}
 use Rattle.sysv_pool.specs.StandsFor.{StandsFor as PoolStandsFor}
 use Rattle.sysv_gate.specs.declared.view.Turn.{Turn}

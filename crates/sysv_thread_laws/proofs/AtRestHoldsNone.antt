@@ -13,19 +13,20 @@ use Rattle.sysv_model.specs.Turn.{Turn, slot_history, registry_history, pool_his
 use Rattle.sysv_pool.specs.State.{free_after}
 use Rattle.sysv_queue.specs.Blocks.{blocks_of}
 use Rattle.sysv_keys.specs.declared.identifier.TheConstants.{SLOTS}
-use Rattle.sysv_keys.specs.declared.registry.KeyRow.{KeyRow}
 use Rattle.sysv_keys.specs.Identifier.{slot_of_id}
-use Rattle.sysv_keys.specs.Rows.{IsRow}
+use Rattle.sysv_keys.specs.Rows.{Row, IsRow}
 use Rattle.sysv_steps.specs.State.{State, Goes, Waits, Over}
 use Rattle.sysv_steps.specs.Tended.{HasToSettle, HasToForget}
-use Rattle.sysv_core.specs.World.{World, Started, Doing, doing_in}
+use Rattle.sysv_core.specs.World.{World, Started, Doing, doing_in, opening}
 use Rattle.sysv_core.specs.Conserved.{blocks_waiting, blocks_in_call, blocks_in_calls}
 use Rattle.sysv_core.specs.Tending.{IsTended}
 use Rattle.sysv_model.specs.Turns.{turns_of}
 use Rattle.sysv_thread_laws.specs.Order.{Called}
-use Rattle.sysv_thread_laws.specs.OrderIsRun.{started_at, all_standing, Renamed, renamed_turn, EveryOrderIsARun}
+use Rattle.sysv_thread_laws.specs.OrderIsRun.{opening_for, started_at, all_standing, Renamed, renamed_turn}
+use Rattle.sysv_thread_laws.specs.OrderIsRun.{EveryOrderIsARun}
 use Rattle.sysv_thread_laws.specs.AtRest.{Rests, OrdersAtRest}
 use Rattle.sysv_thread_laws.proofs.Places.{sums_alike}
+use Rattle.sysv_thread_laws.proofs.ThreadsObey.{leads_opened}
 use Rattle.sysv_thread_laws.proofs.LegalWhoever.{Acts, held_alike, free_alike, rows_alike, lives_alike}
 
 -- ---- the turns of the world are those of the order
@@ -108,10 +109,10 @@ module _ (blocks : ℕ) (turns : List Turn) (w : World) (calls : List Called) (s
   untended id t =
       none_tends 0 calls t.place t.doing id rest (ap (λ ds. slice_get ds t.place) (sym standing) ∙ t.there) t.tends
 
-  settled_row : (row : KeyRow) → IsRow (registry_history turns) row →
+  settled_row : (row : Row) →
       ((row.live ≡ false) ⊎ ¬ IsLive (slot_history (slot_of_id row.id) w.turns) row.id → IsTended w row.id) →
       (row.live ≡ true) × IsLive (slot_history (slot_of_id row.id) turns) row.id
-  settled_row row r tends =
+  settled_row row tends =
       (by_stage row.live refl, by_life (has_id_or_not (live (slot_history (slot_of_id row.id) turns)) row.id))
     where
       by_stage : (b : Bool) → row.live ≡ b → b ≡ true
@@ -136,8 +137,10 @@ orders_at_rest law generation blocks order calls legal all rest =
     λ place c there.
     subst (λ (x : Called). Rests x.state) (get_or_from_slice_get calls place c c there)
     (rest place c (slice_get_within calls place c there)) in
+    let opened = (leads_opened (opening (opening_for generation blocks calls)) r.world r.moments r.given r.leads).0 in
     record {
       whole = all_back blocks (turns_of order) r.world calls same r.standing at_each r.obeys.objects.conserved.whole;
-      rows = λ row is. settled_row blocks (turns_of order) r.world calls same r.standing at_each row is
-          (λ open_row. r.obeys.lives.tended row (rows_alike (turns_of order) r.world.turns (sym same) row is) open_row);
+      rows = λ row is. settled_row blocks (turns_of order) r.world calls same r.standing at_each row
+          (λ open_row. r.obeys.lives.tended row (subst (λ n. IsRow n (registry_history r.world.turns) row) (sym opened)
+          (rows_alike generation (turns_of order) r.world.turns (sym same) row is)) open_row);
     }

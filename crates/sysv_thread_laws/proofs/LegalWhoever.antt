@@ -23,13 +23,10 @@ use Rattle.sysv_pool.specs.State.{State, free_after, state_of, reserved_by, retu
 use Rattle.sysv_pool.specs.LegalReply.{Legal as LegalInPool}
 use Rattle.sysv_queue.specs.Slot.{Slot, slot_of}
 use Rattle.sysv_queue.specs.LegalReply.{Legal}
-use Rattle.sysv_keys.specs.declared.registry.KeyRow.{KeyRow}
-use Rattle.sysv_keys.specs.declared.identifier.TheConstants.{GENERATION_LAST}
-use Rattle.sysv_keys.specs.Identifier.{id_of}
-use Rattle.sysv_keys.specs.Rows.{makes, settles, forgets, frees, is_made, is_settled, is_forgotten, IsRow, IsVacant}
-use Rattle.sysv_keys.specs.Rows.{IsLeastVacant, generation}
-use Rattle.sysv_keys.specs.LegalReply.{IsBound, Creates, LegalBegin, LegalSettle, LegalForget}
-use Rattle.sysv_keys.specs.LegalReply.{IsLegalReply as IsLegalRegistryReply}
+use Rattle.sysv_keys.specs.declared.registry.Place.{Place}
+use Rattle.sysv_keys.specs.State.{State as Registry, places_after, opened, state_of as registry_of}
+use Rattle.sysv_keys.specs.Rows.{Row, HasRow, IsRow}
+use Rattle.sysv_keys.specs.LegalReply.{Legal as LegalAtRegistry}
 use Rattle.sysv_objects.specs.LegalDeed.{IsLegalDeed}
 
 -- ---- what reads no more than a part of each element
@@ -183,87 +180,13 @@ module _ (h k : PoolHistory) (same : map in_pool h ≡ map in_pool k) where
 
 -- ---- the registry
 
-module _ (h k : RegistryHistory) (same : map in_registry h ≡ map in_registry k) where
-  made_alike : (id key : ℤ) → is_made id key h ≡ is_made id key k
-  made_alike id key = any_alike in_registry (λ (a : RegistryCall × RegistryReply). makes id key a.0 a.1) h k same
-
-  settled_alike : (id : ℤ) → is_settled id h ≡ is_settled id k
-  settled_alike id = any_alike in_registry (λ (a : RegistryCall × RegistryReply). settles id a.0 a.1) h k same
-
-  forgotten_alike : (id : ℤ) → is_forgotten id h ≡ is_forgotten id k
-  forgotten_alike id = any_alike in_registry (λ (a : RegistryCall × RegistryReply). forgets id a.0 a.1) h k same
-
-  count_alike : settled h ≡ settled k
-  count_alike = sum_alike in_registry (λ (a : RegistryCall × RegistryReply). cond (changes_row a.1) 1 0) h k same
-
-  generation_alike : (opening slot : ℕ) → generation opening slot h ≡ generation opening slot k
-  generation_alike opening slot = ap (λ n. opening + n)
-      (sum_alike in_registry (λ (a : RegistryCall × RegistryReply). cond (frees slot a.0 a.1) 1 0) h k same)
-
-  row_alike : (row : KeyRow) → IsRow h row → IsRow k row
-  row_alike row r = record {
-    made = sym (made_alike row.id row.key) ∙ r.made;
-    kept = sym (forgotten_alike row.id) ∙ r.kept;
-    stage = sym (settled_alike row.id) ∙ r.stage;
-  }
-
-module _ (h k : RegistryHistory) (same : map in_registry h ≡ map in_registry k) where
-  there : (row : KeyRow) → IsRow h row → IsRow k row
-  there row r = row_alike h k same row r
-
-  back : (row : KeyRow) → IsRow k row → IsRow h row
-  back row r = row_alike k h (sym same) row r
-
-  unbound_alike : (key : ℤ) → ¬ IsBound h key → ¬ IsBound k key
-  unbound_alike key none = λ b. none (b.0, back b.0 b.1, b.2)
-
-  creates_alike : (key : ℤ) (flags : Flags) → Creates h key flags → Creates k key flags
-  creates_alike key flags (inl private) = inl private
-  creates_alike key flags (inr both) = inr (unbound_alike key both.0, both.1)
-
-module _ (h k : RegistryHistory) (same : map in_registry h ≡ map in_registry k) (opening : ℕ) where
-  vacant_alike : (slot : ℕ) → IsVacant opening h slot → IsVacant opening k slot
-  vacant_alike slot v = record {
-    there = v.there;
-    empty = λ row r. v.empty row (back h k same row r);
-    usable = subst (λ n. n ≤ GENERATION_LAST) (generation_alike h k same opening slot) v.usable;
-  }
-
-module _ (h k : RegistryHistory) (same : map in_registry h ≡ map in_registry k) (opening : ℕ) where
-  least_alike : (slot : ℕ) → IsLeastVacant opening h slot → IsLeastVacant opening k slot
-  least_alike slot l = (
-    vacant_alike h k same opening slot l.0,
-    λ lower below v. l.1 lower below (vacant_alike k h (sym same) opening lower v),
-  )
-
-  begin_alike : (key : ℤ) (flags : Flags) (reply : RegistryReply) → LegalBegin opening h key flags reply →
-      LegalBegin opening k key flags reply
-  begin_alike key flags (Found id told) l = (l.0, there h k same _ l.1, l.2 ∙ count_alike h k same)
-  begin_alike key flags (Busy told) l = (l.0, (l.1.0, there h k same _ l.1.1), l.2 ∙ count_alike h k same)
-  begin_alike key flags (Unbound ENOENT) l = (l.0, unbound_alike h k same key l.1, l.2)
-  begin_alike key flags (Unbound ENOSPC) l =
-      (creates_alike h k same key flags l.0, λ slot v. l.1 slot (vacant_alike k h (sym same) opening slot v))
-  begin_alike key flags (Made id) l = (
-    creates_alike h k same key flags l.0,
-    (l.1.0, least_alike l.1.0 l.1.1, l.1.2 ∙ ap (λ n. id_of l.1.0 n) (generation_alike h k same opening l.1.0)),
-  )
-  begin_alike key flags reply l = absurd l
-
-  settle_alike : (id : ℤ) (reply : RegistryReply) → LegalSettle h id reply → LegalSettle k id reply
-  settle_alike id (Changed true) l = (l.0, there h k same _ l.1)
-  settle_alike id (Changed false) l = λ key r. l key (back h k same _ r)
-  settle_alike id reply l = absurd l
-
-  forget_alike : (id : ℤ) (reply : RegistryReply) → LegalForget h id reply → LegalForget k id reply
-  forget_alike id (Changed true) l = (l.0, there h k same l.0 l.1, l.2)
-  forget_alike id (Changed false) l = λ row r. l row (back h k same row r)
-  forget_alike id reply l = absurd l
-
-  registry_alike : (call : RegistryCall) (reply : RegistryReply) → IsLegalRegistryReply opening h call reply →
-      IsLegalRegistryReply opening k call reply
-  registry_alike (Begin key flags) reply l = begin_alike key flags reply l
-  registry_alike (Settle id) reply l = settle_alike id reply l
-  registry_alike (Forget id) reply l = forget_alike id reply l
+registry_alike : (h k : RegistryHistory) → map in_registry h ≡ map in_registry k → (opening : ℕ) →
+    registry_of opening h ≡ registry_of opening k
+registry_alike h k same opening = λ j. record {
+  places = fold_alike in_registry (λ (old : ℕ → Place) (a : RegistryCall × RegistryReply). places_after old a.0 a.1)
+      (opened opening) h k same j;
+  settled = sum_alike in_registry (λ (a : RegistryCall × RegistryReply). cond (changes_row a.1) 1 0) h k same j;
+}
 
 -- ---- any object
 
@@ -274,8 +197,9 @@ legal_alike gen blocks turns others (AtSlot slot call reply) same l =
     (slot_alike (slot_history slot turns) (slot_history slot others)
     (entries_alike in_slot (slot_entry slot) (slot_entry_alike slot) turns others same)) l
 legal_alike gen blocks turns others (AtRegistry call reply) same l =
-    registry_alike (registry_history turns) (registry_history others)
-    (entries_alike in_registry registry_entry registry_entry_alike turns others same) gen call reply l
+    subst (λ (r : Registry). LegalAtRegistry r call reply)
+    (registry_alike (registry_history turns) (registry_history others)
+    (entries_alike in_registry registry_entry registry_entry_alike turns others same) gen) l
 legal_alike gen blocks turns others (AtPool call reply) same l =
     subst (λ (s : State). LegalInPool s call reply)
     (pool_alike (pool_history turns) (pool_history others)
@@ -303,7 +227,9 @@ free_alike size turns others same =
     (pool_alike (pool_history turns) (pool_history others)
     (entries_alike in_pool pool_entry pool_entry_alike turns others same) size)
 
-pub rows_alike : (turns others : List Turn) → Acts turns others → (row : KeyRow) → IsRow (registry_history turns) row →
-    IsRow (registry_history others) row
-rows_alike turns others same = row_alike (registry_history turns) (registry_history others)
-    (entries_alike in_registry registry_entry registry_entry_alike turns others same)
+pub rows_alike : (gen : ℕ) (turns others : List Turn) → Acts turns others → (row : Row) →
+    IsRow gen (registry_history turns) row → IsRow gen (registry_history others) row
+rows_alike gen turns others same row is =
+    subst (λ (r : Registry). HasRow r row)
+    (registry_alike (registry_history turns) (registry_history others)
+    (entries_alike in_registry registry_entry registry_entry_alike turns others same) gen) is

@@ -20,6 +20,7 @@ use Rattle.sysv_steps.specs.WaitsFor.{WaitsFor, EachWaitsForItsRefusal}
 use Rattle.sysv_core.specs.World.{World, Opening, Started, Doing, Given, opening, doing_in, begun}
 use Rattle.sysv_core.specs.Parked.{IsToBeWoken, HasTooFewBlocks, IsBeingChanged, HasReason, IsParked, AreParkedRightly}
 use Rattle.sysv_core.specs.Tending.{AreTended}
+use Rattle.sysv_core.proofs.Life.{EachObeys}
 use Rattle.sysv_core.proofs.Histories.{turn_of}
 use Rattle.sysv_core.proofs.ParkedRightly.{parked_rightly}
 use Rattle.sysv_core.proofs.PartsOfOneCall.{same_who}
@@ -160,8 +161,9 @@ as_asked w cred asked goal send holds r = absurd holds
 
 -- ---- the law
 
--- Refusals stay right as long as their counts have not risen.
+-- The registry obeys its law, and refusals stay right as long as their counts have not risen.
 pub record StaysRight : Type 0 where
+  pub laws : EachObeys
   pub no_match : NoMatchStays
   pub full : FullStays
   pub full_for_look : FullStaysForLook
@@ -181,7 +183,7 @@ module _ (stays : StaysRight) (o : Opening) (w : World) (given : List Given) (i 
 
   all_calm : AreParkedRightly (calmed w)
   all_calm =
-      parked_rightly (calmed w) i.sound.legal (λ place d there. played place d (was_there w place d there).0)
+      parked_rightly stays.laws (calmed w) i.sound.legal (λ place d there. played place d (was_there w place d there).0)
       stays.no_match stays.full stays.full_for_look stays.counts stays.refused stays.holds
       (tended_calmly w lawful.lives.tended) lawful.lives.removed
       (settled_once_installed w.turns i.life.facts)

@@ -5,9 +5,8 @@ use Rattle.std.specs.Prelude.{◌≡◌, ℕ, ◌+◌, true, List, All}
 use Rattle.sysv_model.specs.Live.{IsLive}
 use Rattle.sysv_model.specs.Turn.{Turn, slot_history, registry_history, pool_history}
 use Rattle.sysv_pool.specs.State.{free_after}
-use Rattle.sysv_keys.specs.declared.registry.KeyRow.{KeyRow}
 use Rattle.sysv_keys.specs.Identifier.{slot_of_id}
-use Rattle.sysv_keys.specs.Rows.{IsRow}
+use Rattle.sysv_keys.specs.Rows.{Row, IsRow}
 use Rattle.sysv_objects.specs.LegalDeed.{AreLegal}
 use Rattle.sysv_steps.specs.State.{State, Goes, Waits, Over}
 use Rattle.sysv_core.specs.Conserved.{blocks_waiting}
@@ -21,15 +20,15 @@ Rests (Waits wait) = Unit {0}
 Rests (Over ending) = Unit {0}
 
 -- No block is held by a call, and no row is without a live queue.
-pub record AreAtRest (blocks : ℕ) (turns : List Turn) : Type 0 where
+pub record AreAtRest (generation blocks : ℕ) (turns : List Turn) : Type 0 where
   -- Each block is free or under a queued message.
   pub whole : free_after blocks (pool_history turns) + blocks_waiting turns ≡ blocks
   -- Each row is settled, and its queue is live.
-  pub rows : (row : KeyRow) → IsRow (registry_history turns) row →
+  pub rows : (row : Row) → IsRow generation (registry_history turns) row →
       (row.live ≡ true) × IsLive (slot_history (slot_of_id row.id) turns) row.id
 
 -- This holds of each legal order whose calls are all over or in a wait.
 abbrev pub OrdersAtRest : Type 0
 OrdersAtRest = (generation blocks : ℕ) (order : List Numbered) (calls : List Called) →
     AreLegal generation blocks (turns_of order) → AreAll order calls → All (λ (c : Called). Rests c.state) calls →
-    AreAtRest blocks (turns_of order)
+    AreAtRest generation blocks (turns_of order)

@@ -47,7 +47,7 @@ pub data IsCrew : List Member → List Called → Type 0 where
 pub record IsServed (generation blocks : ℕ) (order : List Numbered) (calls : List Called) : Type 0 where
   pub all : AreAll order calls
   pub run : IsRunWith generation blocks order calls
-  pub at_rest : All (λ (c : Called). Rests c.state) calls → AreAtRest blocks (turns_of order)
+  pub at_rest : All (λ (c : Called). Rests c.state) calls → AreAtRest generation blocks (turns_of order)
 
 -- After all passes have come home to one, the order that its close finds is a run with all calls
 -- that were made, if the replies of the order are legal.

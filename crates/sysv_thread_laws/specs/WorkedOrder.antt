@@ -193,7 +193,7 @@ pub record WorkedOrder : Type 0 where
   pub all : AreAll the_order the_calls
   pub run : IsRunWith 0 128 the_order the_calls
   -- At the end no call holds a block, and each row is settled and its queue is live.
-  pub at_rest : AreAtRest 128 (turns_of the_order)
+  pub at_rest : AreAtRest 0 128 (turns_of the_order)
   -- The receive has no other result.
   pub answered_otherwise : ¬ AreAll the_order (calls_with (Over (Refused ENOMSG)))
   -- No call is left out, and no call precedes one that its pass made earlier.

@@ -22,6 +22,7 @@ returns c =
       told = c.after_removal.ensures;
     } in
     let stays : StaysRight = record {
+      laws = c.registry_law.ensures;
       no_match = c.stays_right.ensures.no_match;
       full = c.stays_right.ensures.full;
       full_for_look = c.stays_right.ensures.full_for_look;
