@@ -1,5 +1,5 @@
 -- The state of a registry after one more turn, and induction over legal histories.
-use Rattle.std.proofs.Common.{◌≡◌, ◌≢◌, ℕ, ◌+◌, Bool, true, false, cond, [], ◌∷◌, ◌++◌, sym, ap, subst, ◌∙◌}
+use Rattle.std.proofs.Common.{◌≡◌, ◌≢◌, ℕ, ◌+◌, Bool, true, false, cond, [], ◌∷◌, ◌++◌, length, sym, ap, subst, ◌∙◌}
 use Rattle.std.proofs.Common.{⊎_elim, arith}
 use Rattle.std.proofs.lemmas.Bool.Decides.{eqb_tells}
 use Rattle.std.proofs.lemmas.List.Sums.{fold-append, sum_by_push}
@@ -35,16 +35,18 @@ state_of-more opening h e = λ k. record {
   settled = settled-more h e k;
 }
 
--- A call makes a turn if its reply is legal and the registry changes as the state does.
+-- A call makes a turn if its reply is legal and the registry has as many places as before and
+-- changes as the state does.
 pub makes_turn : (old : Registry) (call : RegistryCall) (reply : RegistryReply) (new : Registry) →
-    Legal (state_in old) call reply → state_in new ≡ state_after (state_in old) call reply →
-    MakesTurn old call reply new
-makes_turn old call reply new legal same = record {
+    Legal (state_in old) call reply → length new.places ≡ length old.places →
+    state_in new ≡ state_after (state_in old) call reply → MakesTurn old call reply new
+makes_turn old call reply new legal long same = record {
   legal = legal;
   stands = λ opening h who st.
       let e : RegistryEntry = record { who = who; call = call; reply = reply } in
       record {
         legal = legal_more opening h e st.legal (subst (λ r. Legal r call reply) (sym st.seen) legal);
+        wide = long ∙ st.wide;
         seen = state_of-more opening h e ∙ (ap (λ r. state_after r call reply) st.seen ∙ sym same);
       };
 }

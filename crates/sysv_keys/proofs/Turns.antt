@@ -3,6 +3,7 @@ use Rattle.std.proofs.Common.{◌≡◌, ◌≢◌, ℕ, ℤ, ◌+◌, ◌*◌, 
 use Rattle.std.proofs.Common.{refl}
 use Rattle.std.proofs.Common.{sym, ap, subst, ◌∙◌, inl, inr, Bool, cond, replicate, get_or, [], arith}
 use Rattle.std.specs.Option.{option_map}
+use Rattle.std.proofs.Math.ListN.{length-set, length-replicate}
 use Rattle.std.proofs.lemmas.Option.{same_Some}
 use Rattle.sysv_model.specs.declared.flags.Flags.{Flags}
 use Rattle.sysv_model.specs.declared.flags.TheConstants.Flags.{IPC_CREAT}
@@ -64,6 +65,7 @@ module _ (places : List Place) (count : ℕ) where
       let held = (row_parts (slot_of_id id) (places_in places (slot_of_id id)) (a_row id row.key row.live) has).1 in
       makes_turn _ _ _ _
       (row.key, subst (λ t. HasRow (state_in (registry places count)) (a_row id row.key t)) making has)
+      (length-set places slot _)
       (λ k. record {
         places = wrote slot (slot_of_id id) _ _ within here (λ j. record {
           generation = ap (λ (p : Place). p.generation) old j;
@@ -78,7 +80,7 @@ module _ (places : List Place) (count : ℕ) where
       (registry (set places slot (empty (place.generation + 1))) (count + 1))
   turn_forgotten slot place id row within here is has =
       let old = sym is ∙ ap (places_in places) here in
-      makes_turn _ _ _ _ (a_row id row.key row.live, has, refl)
+      makes_turn _ _ _ _ (a_row id row.key row.live, has, refl) (length-set places slot _)
       (λ k. record {
         places = wrote slot (slot_of_id id) _ _ within here (ap (λ (p : Place). empty (p.generation + 1)) old) k;
         settled = count + 1;
@@ -93,6 +95,7 @@ module _ (places : List Place) (count : ℕ) where
       let here = sym (slot-id slot place.generation least.0.there) in
       makes_turn _ _ _ _
       (creates, (slot, least, ap (λ (p : Place). id_of slot p.generation) (sym is)))
+      (length-set places slot _)
       (λ k. record {
         places = wrote slot (slot_of_id (id_of slot place.generation)) _ _ within here (λ j. record {
           generation = ap (λ (p : Place). p.generation) (sym is ∙ ap (places_in places) here) j;
@@ -180,6 +183,7 @@ module _ (places : List Place) (f : ℤ → Option ℕ) (bound room count : ℕ)
 pub stands_fresh : (generation : ℕ) → StandsFor generation [] (registry (replicate SLOTS (empty generation)) 0)
 stands_fresh generation = record {
   legal = legal_empty generation;
+  wide = length-replicate SLOTS (empty generation);
   seen = λ k. record { places = sym (fresh generation) k; settled = 0 };
 }
 
@@ -229,12 +233,12 @@ module _ (places : List Place) (count : ℕ) (key : ℤ) (slot : ℕ) (at : Inde
   pub turn_found : (flags : Flags) → row.live ≡ true →
       MakesTurn (registry places count) (Begin key flags) (Found (id_of slot place.generation) count)
       (registry places count)
-  turn_found flags live = makes_turn _ _ _ _ (at.shared, there true live, refl) refl
+  turn_found flags live = makes_turn _ _ _ _ (at.shared, there true live, refl) refl refl
 
   pub turn_busy : (flags : Flags) → row.live ≡ false →
       MakesTurn (registry places count) (Begin key flags) (Busy count) (registry places count)
   turn_busy flags making =
-      makes_turn _ _ _ _ (at.shared, (id_of slot place.generation, there false making), refl) refl
+      makes_turn _ _ _ _ (at.shared, (id_of slot place.generation, there false making), refl) refl refl
 
 -- The turns that change no row.
 pub turn_not_settled : (r : Registry) (id : ℤ) (row : KeyRow) → HasRowOf r id row → row.live ≡ true →
@@ -243,19 +247,19 @@ turn_not_settled r id row has live = makes_turn r (Settle id) (Changed false) r
     (λ key h.
     never_both row.live live
     (ap (λ (x : Row). x.live) (one_in_slot (state_in r) (a_row id row.key row.live) (a_row id key false) has h refl)))
-    refl
+    refl refl
 
 pub turn_no_settle : (r : Registry) (id : ℤ) → HasNoRow r id → MakesTurn r (Settle id) (Changed false) r
-turn_no_settle r id none = makes_turn r (Settle id) (Changed false) r (λ key h. none (a_row id key false) h refl) refl
+turn_no_settle r id none = makes_turn r (Settle id) (Changed false) r (λ key h. none (a_row id key false) h refl) refl refl
 
 pub turn_no_forget : (r : Registry) (id : ℤ) → HasNoRow r id → MakesTurn r (Forget id) (Changed false) r
-turn_no_forget r id none = makes_turn r (Forget id) (Changed false) r none refl
+turn_no_forget r id none = makes_turn r (Forget id) (Changed false) r none refl refl
 
 pub turn_unbound : (r : Registry) (key : ℤ) (flags : Flags) → key ≢ IPC_PRIVATE → ¬ IsBound (state_in r) key →
     has_flag IPC_CREAT flags ≡ false → MakesTurn r (Begin key flags) (Unbound ENOENT) r
 turn_unbound r key flags shared none unset =
-    makes_turn r (Begin key flags) (Unbound ENOENT) r (shared, none, unset) refl
+    makes_turn r (Begin key flags) (Unbound ENOENT) r (shared, none, unset) refl refl
 
 pub turn_full : (r : Registry) (key : ℤ) (flags : Flags) → Creates (state_in r) key flags →
     ((slot : ℕ) → ¬ IsVacant (state_in r) slot) → MakesTurn r (Begin key flags) (Unbound ENOSPC) r
-turn_full r key flags creates none = makes_turn r (Begin key flags) (Unbound ENOSPC) r (creates, none) refl
+turn_full r key flags creates none = makes_turn r (Begin key flags) (Unbound ENOSPC) r (creates, none) refl refl

@@ -1,14 +1,17 @@
 -- How a registry relates to a history, and what a call does to it (this profile's).
-use Rattle.std.specs.Prelude.{◌≡◌, ℕ, [], ◌∷◌, ◌++◌}
+use Rattle.std.specs.Prelude.{◌≡◌, ℕ, [], ◌∷◌, ◌++◌, length}
 use Rattle.sysv_model.specs.History.{Who}
 use Rattle.sysv_model.specs.Registry.{RegistryCall, RegistryReply, RegistryHistory}
+use Rattle.sysv_keys.specs.declared.identifier.TheConstants.{SLOTS}
 use Rattle.sysv_keys.specs.State.{Registry, state_of, state_in}
 use Rattle.sysv_keys.specs.LegalReply.{Legal, IsLegalHistory}
 
--- A registry stands for a history if each reply of the history is legal and the registry's state is
--- what the history leaves. All slots had the generation `opening` when the registry was opened.
+-- A registry stands for a history if each reply of the history is legal, and the registry has a
+-- place for each slot and its state is what the history leaves. All slots had the generation
+-- `opening` when the registry was opened.
 pub record StandsFor (opening : ℕ) (h : RegistryHistory) (r : Registry) : Type 0 where
   pub legal : IsLegalHistory opening h
+  pub wide : length r.places ≡ SLOTS
   pub seen : state_of opening h ≡ state_in r
 
 -- The history h with one more turn at its end.
