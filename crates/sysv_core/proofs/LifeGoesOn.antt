@@ -13,11 +13,10 @@ use Rattle.sysv_model.specs.Registry.{Begin, Made, Changed, RegistryEntry, Regis
 use Rattle.sysv_model.specs.Pool.{TooFew, Released, Foreign}
 use Rattle.sysv_model.specs.Turn.{Deed, AtSlot, AtRegistry, AtPool, asked_by, Turn, slot_entry, registry_entry}
 use Rattle.sysv_model.specs.Turn.{pool_entry, slot_history, registry_history, pool_history}
-use Rattle.sysv_keys.specs.declared.registry.KeyRow.{KeyRow}
 use Rattle.sysv_keys.specs.Identifier.{slot_of_id}
-use Rattle.sysv_keys.specs.Rows.{makes, forgets, settles, is_settled, IsRow}
+use Rattle.sysv_keys.specs.Rows.{Row, makes, forgets, settles, is_settled, IsRow}
 use Rattle.sysv_keys.specs.LegalReply.{IsLegalHistory as IsLegalRegistryHistory}
-use Rattle.sysv_keys.specs.RegistryLaw.{RegistryLaw}
+use Rattle.sysv_keys.specs.RegistryLaw.{RegistryLaw, LeavesRow}
 use Rattle.sysv_objects.specs.LegalDeed.{IsLegalDeed, AreLegal}
 use Rattle.sysv_steps.specs.State.{Afterwards, IsRefused, WaitsOn, Phase, AtBegin, AtInstall, AtSettle, AtUnmake}
 use Rattle.sysv_steps.specs.State.{AtLook, Getting, Id, AtReserve, AtSendGiveback, AtTake}
@@ -215,15 +214,21 @@ rested : (a : Afterwards) → job_at (goes_on a) ≡ None
 rested (IsRefused why) = refl
 rested (WaitsOn wait) = refl
 
-module _ (registry_law : (generation : ℕ) (h : RegistryHistory) → IsLegalRegistryHistory generation h →
-    RegistryLaw generation h) (generation blocks : ℕ) (turns : List Turn) (f : Facts turns)
+-- Each legal history of the registry obeys its law.
+abbrev pub EachObeys : Type 0
+EachObeys = (generation : ℕ) (h : RegistryHistory) → IsLegalRegistryHistory generation h → RegistryLaw generation h
+
+module _ (registry_law : EachObeys) (generation blocks : ℕ) (turns : List Turn) (f : Facts turns)
     (legal : AreLegal generation blocks turns) where
+  is_row : (row : Row) → LeavesRow (registry_history turns) row → IsRow generation (registry_history turns) row
+  is_row row = ((registry_law generation (registry_history turns) legal.registry).rows row).1
+
   -- The row of an identifier that was made and not forgotten.
-  abbrev row_of : ℤ → ℤ → KeyRow
+  abbrev row_of : ℤ → ℤ → Row
   row_of id key = record { id = id; key = key; live = is_settled id (registry_history turns) }
 
   row_made : (id : ℤ) → done (making id) turns ≡ true → done (forgetting id) turns ≡ false →
-      (k : ℤ) × IsRow (registry_history turns) (row_of id k)
+      (k : ℤ) × LeavesRow (registry_history turns) (row_of id k)
   row_made id m e =
       let made = made_for id turns m in
       (made.0, record { made = made.1; kept = sym (in_registry (forgets id) turns) ∙ e; stage = refl })
@@ -244,9 +249,10 @@ module _ (registry_law : (generation : ℕ) (h : RegistryHistory) → IsLegalReg
           (falls (done (forgetting id) turns) (done (installing id) turns)
           (λ d. ordered turns f (removing id) (of id d)) n.1) in
           let same = (registry_law generation (registry_history turns) legal.registry).one_in_slot
-          (row_of a.id its.0) (row_of id new.0) its.1 new.1 u.here in
+          (row_of a.id its.0) (row_of id new.0) (is_row (row_of a.id its.0) its.1) (is_row (row_of id new.0) new.1)
+          u.here in
           not_both (done (installing id) turns)
-          (subst (λ i. done (installing i) turns ≡ true) (ap (λ (r : KeyRow). r.id) same) u.installed) n.1
+          (subst (λ i. done (installing i) turns ≡ true) (ap (λ (r : Row). r.id) same) u.installed) n.1
 
   legal_made : (who : Who) (key : ℤ) (flags : Flags) (id : ℤ) →
       IsLegalRegistryHistory generation
@@ -309,16 +315,17 @@ module _ (registry_law : (generation : ℕ) (h : RegistryHistory) → IsLegalReg
       gone (inl d) = d
       gone (inr d) =
           let h = (has (settling id) refl).0 in
-          let row = row_made id (ordered turns f (installing id) h.0) d in
-          absurd (l row.0
-          (record { made = row.1.made; kept = row.1.kept; stage = sym (in_registry (settles id) turns) ∙ h.1 }))
+          let its = row_made id (ordered turns f (installing id) h.0) d in
+          let row : Row = record { id = id; key = its.0; live = false } in
+          absurd (l its.0 (is_row row
+          (record { made = its.1.made; kept = its.1.kept; stage = sym (in_registry (settles id) turns) ∙ h.1 })))
   step_told who (AtSettle id) deed now state has l then n = absurd cc
   step_told who (AtForget id blocks) (AtRegistry c (Changed true)) now state has l then n =
       own (forgetting id) _ state _ n (tt, tt, refl) refl (has (forgetting id) refl).0 refl
   step_told who (AtForget id blocks) (AtRegistry c (Changed false)) now state has l then n =
       let h = (has (forgetting id) refl).0 in
       let row = row_made id (ordered turns f (installing id) (ordered turns f (removing id) h.0)) h.1 in
-      absurd (l (row_of id row.0) row.1 refl)
+      absurd (l (row_of id row.0) (is_row (row_of id row.0) row.1) refl)
   step_told who (AtForget id blocks) deed now state has l then n = absurd cc
   step_told who (AtUnmake id) deed now state has l then n = let bad = (has (making id) refl).1 in absurd cc
   step_told who (AtRemove by id) (AtSlot at c (Discarded messages)) now state has l then n =
@@ -395,8 +402,7 @@ job_there actors place j at = by_value (slice_get actors place) refl (sym (slice
 abbrev pub Lives : List Turn → List (Option Doing) → Type 0
 Lives turns actors = Life turns (jobs_of actors)
 
-pub lives_turn : ((generation : ℕ) (h : RegistryHistory) → IsLegalRegistryHistory generation h →
-    RegistryLaw generation h) → (generation blocks : ℕ) (turns : List Turn) (actors : List (Option Doing)) (place : ℕ)
+pub lives_turn : EachObeys → (generation blocks : ℕ) (turns : List Turn) (actors : List (Option Doing)) (place : ℕ)
     (call : Started) (phase : Phase) (now : ℕ) (deed : Deed) (state : State) →
     slice_get actors place ≡ Some (Some record { call = call; state = Goes phase }) → asked_by deed ≡ asks phase now →
     AreLegal generation blocks turns → IsLegalDeed generation blocks turns deed →
@@ -511,8 +517,7 @@ deed_legal generation blocks turns who (AtPool call reply) l =
     l.pool (pool_history turns) (record { who = who; call = call; reply = reply }) []
     (pool_more turns (turn_of who (AtPool call reply)))
 
-module _ (law : (generation : ℕ) (h : RegistryHistory) → IsLegalRegistryHistory generation h →
-    RegistryLaw generation h) (generation blocks : ℕ) where
+module _ (law : EachObeys) (generation blocks : ℕ) where
   preset_turn : (turns : List Turn) (was : Option Job) (jobs : List (Option Job)) (phase : Phase) (deed : Deed)
       (state : State) → AreLegal generation blocks (turns ++ turn_of preset_who deed ∷ []) →
       was ≡ job_at (Goes phase) → asked_by deed ≡ asks phase 0 → next phase deed ≡ Some state →

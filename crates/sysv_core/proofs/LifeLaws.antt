@@ -14,6 +14,7 @@ use Rattle.sysv_queue.specs.LegalReply.{IsLegalHistory}
 use Rattle.sysv_queue.specs.ForGood.{RemovedForGood}
 use Rattle.sysv_keys.specs.Identifier.{slot_of_id}
 use Rattle.sysv_keys.specs.Rows.{forgets, settles, is_settled}
+use Rattle.sysv_keys.specs.RegistryLaw.{RegistryLaw, LeavesRow}
 use Rattle.sysv_steps.specs.State.{AtInstall, AtSettle, AtUnmake, AtForget, State, Goes}
 use Rattle.sysv_steps.specs.Tended.{HasToSettle, HasToForget}
 use Rattle.sysv_core.specs.World.{World}
@@ -35,9 +36,13 @@ tends j (Goes (AtUnmake id)) e = inl cc
 tends j (Goes (AtForget id blocks)) e = inr cc
 tends j state e = absurd cc
 
-pub are_tended : (w : World) → Lives w.turns w.actors → AreTended w
-are_tended w l row is idle = by_install (either (done (installing row.id) w.turns))
+pub are_tended : (w : World) → RegistryLaw w.generation (registry_history w.turns) → Lives w.turns w.actors →
+    AreTended w
+are_tended w law l row has idle = by_install (either (done (installing row.id) w.turns))
   where
+    is : LeavesRow (registry_history w.turns) row
+    is = (law.rows row).0 has
+
     -- The job was begun and not done.
     held : (j : Job) → j.id ≡ row.id → is_owned j.task ≡ true → IsNext j w.turns → IsTended w row.id
     held j same own next = elim (l.owed j own next) [

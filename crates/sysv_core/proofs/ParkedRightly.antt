@@ -34,7 +34,7 @@ use Rattle.sysv_core.specs.Tending.{AreTended}
 use Rattle.sysv_core.proofs.LifeLaws.{SettledOnceInstalled}
 use Rattle.sysv_core.proofs.WaitsForBlocks.{AreShort}
 use Rattle.sysv_core.proofs.SendIsWoken.{AreToBeWoken}
-use Rattle.sysv_core.proofs.Life.{EachObeys}
+use Rattle.sysv_core.proofs.LifeGoesOn.{EachObeys}
 use Rattle.sysv_core.proofs.GetsParked.{being_changed}
 use Rattle.sysv_core.proofs.TurnInHistory.{made_at, slot_around}
 

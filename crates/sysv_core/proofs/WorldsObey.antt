@@ -46,7 +46,7 @@ use Rattle.sysv_core.proofs.SendIsWoken.{AllWoken, move_woken, opening_woken, ar
 use Rattle.sysv_core.proofs.ParkedRightly.{parked_rightly}
 use Rattle.sysv_core.proofs.Moves.{Move, stood, began, turned, awoke, preset_made, moves}
 use Rattle.sysv_core.proofs.Life.{either, jobs_of, resumed_none, begun_none}
-use Rattle.sysv_core.proofs.LifeGoesOn.{Lives, lives_turn, lives_stand, opening_lives}
+use Rattle.sysv_core.proofs.LifeGoesOn.{EachObeys, Lives, lives_turn, lives_stand, opening_lives}
 use Rattle.sysv_core.proofs.LifeGoesOn.{preset_lives}
 use Rattle.sysv_core.proofs.LifeLaws.{are_tended, good_of, settled_once_installed}
 use Rattle.sysv_core.proofs.ToldAfterRemoval.{told_so}
@@ -354,8 +354,7 @@ right_now w given i right g has =
 -- The laws of the objects and of the calls, from which those of a world follow.
 pub record Laws : Type 0 where
   pub queue : (h : History) → IsLegalHistory h → QueueLaw h
-  pub registry : (generation : ℕ) (h : RegistryHistory) → IsLegalRegistryHistory generation h →
-      RegistryLaw generation h
+  pub registry : EachObeys
   pub pool : (size : ℕ) (h : PoolHistory) → IsLegalPoolHistory size h → PoolLaw size h
   pub for_good : RemovedForGood
   pub asked : EachDeedIsAskedFor
@@ -412,7 +411,7 @@ module _ {P : Turn → Type 0} (laws : Laws) (o : Opening) (w : World) (given : 
               told_so w given call f laws.told (deeds_asked call has) good id before after t whole removal q;
         };
         lives = record {
-          tended = are_tended w i.life;
+          tended = are_tended w (laws.registry w.generation (registry_history w.turns) i.sound.legal.registry) i.life;
           vacant = i.life.facts.vacant;
           forgets = i.life.facts.taken;
           removed = good;
@@ -450,8 +449,7 @@ leads_opened w after (x ∷ xs) given l =
     let rest = leads_opened l.0 after xs l.2 l.4 in
     (rest.0 ∙ first.0, rest.1 ∙ first.1)
 
-module _ (law : (generation : ℕ) (h : RegistryHistory) → IsLegalRegistryHistory generation h →
-    RegistryLaw generation h) where
+module _ (law : EachObeys) where
   pub turns_keep : {P : Turn → Type 0} (w after : World) (given one : List Given) (place : ℕ) (call : Started)
       (phase : Phase) (now : ℕ) → Inv P w given →
       slice_get w.actors place ≡ Some (Some record { call = call; state = Goes phase }) →
@@ -588,7 +586,9 @@ run_obeys sound none laws no_match full full_for_look counts refused holds o lis
     let shared = lawful laws o w given i opened.0 opened.1 IsMade i.made in
     record {
       lawful = shared;
-      parked = parked_rightly w i.sound.legal (λ place d there. (stands_there w given i place d there).plays)
-          no_match full full_for_look counts refused holds shared.lives.tended shared.lives.removed
+      parked = parked_rightly laws.registry w i.sound.legal
+          (λ place d there. (stands_there w given i place d there).plays) no_match full full_for_look counts refused
+          holds
+          shared.lives.tended shared.lives.removed
           (settled_once_installed w.turns i.life.facts) (are_short w k.woken.right) (are_to_be_woken w k.woken);
     }

@@ -250,7 +250,8 @@ turn_not_settled r id row has live = makes_turn r (Settle id) (Changed false) r
     refl refl
 
 pub turn_no_settle : (r : Registry) (id : ℤ) → HasNoRow r id → MakesTurn r (Settle id) (Changed false) r
-turn_no_settle r id none = makes_turn r (Settle id) (Changed false) r (λ key h. none (a_row id key false) h refl) refl refl
+turn_no_settle r id none =
+    makes_turn r (Settle id) (Changed false) r (λ key h. none (a_row id key false) h refl) refl refl
 
 pub turn_no_forget : (r : Registry) (id : ℤ) → HasNoRow r id → MakesTurn r (Forget id) (Changed false) r
 turn_no_forget r id none = makes_turn r (Forget id) (Changed false) r none refl refl

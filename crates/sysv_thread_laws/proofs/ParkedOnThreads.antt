@@ -20,7 +20,7 @@ use Rattle.sysv_steps.specs.WaitsFor.{WaitsFor, EachWaitsForItsRefusal}
 use Rattle.sysv_core.specs.World.{World, Opening, Started, Doing, Given, opening, doing_in, begun}
 use Rattle.sysv_core.specs.Parked.{IsToBeWoken, HasTooFewBlocks, IsBeingChanged, HasReason, IsParked, AreParkedRightly}
 use Rattle.sysv_core.specs.Tending.{AreTended}
-use Rattle.sysv_core.proofs.Life.{EachObeys}
+use Rattle.sysv_core.proofs.LifeGoesOn.{EachObeys}
 use Rattle.sysv_core.proofs.Histories.{turn_of}
 use Rattle.sysv_core.proofs.ParkedRightly.{parked_rightly}
 use Rattle.sysv_core.proofs.PartsOfOneCall.{same_who}

@@ -34,6 +34,30 @@ IsHeld w given = Inv IsRowRead w given
 same_held : (w after : World) (given : List Given) → after ≡ w → IsHeld w given → IsHeld after given
 same_held w after given e h = subst (λ (v : World). IsHeld v given) (sym e) h
 
+-- ---- what a world was opened with
+
+abbrev IsOpenedAs : World → World → Type 0
+IsOpenedAs w after = (after.generation ≡ w.generation) × (after.blocks ≡ w.blocks)
+
+opened_so : (w after then_w : World) → after ≡ then_w → IsOpenedAs w then_w → IsOpenedAs w after
+opened_so w after then_w e o = subst (IsOpenedAs w) (sym e) o
+
+brings_opened : (w after : World) (x : Moment) (given : List Given) → Brings w x given after → IsOpenedAs w after
+brings_opened w after (Starts actor cred asked released) given (idle, (gave, is)) =
+    opened_so w after _ is (refl, refl)
+brings_opened w after (TakesTurn actor now) given (call, phase, there, t) = opened_so w after _ t.6 (refl, refl)
+brings_opened w after (Wakes actor value) given (call, wait, there, reached, gave, is) =
+    opened_so w after _ is (refl, refl)
+brings_opened w after (Reads slot) given (reply, legal, gave, is) = opened_so w after _ is (refl, refl)
+
+pub leads_opened : (w after : World) (xs : List Moment) (given : List Given) → LeadsOnThreads w xs given after →
+    IsOpenedAs w after
+leads_opened w after [] given l = opened_so w after w l.1 (refl, refl)
+leads_opened w after (x ∷ xs) given l =
+    let first = brings_opened w l.0 x l.1 l.3 in
+    let rest = leads_opened l.0 after xs l.2 l.4 in
+    (rest.0 ∙ first.0, rest.1 ∙ first.1)
+
 module _
     (more : (generation blocks : ℕ) (turns : List Turn) (who : Who) (deed : Deed) → AreLegal generation blocks turns →
     IsLegalDeed generation blocks turns deed → AreLegal generation blocks (turns ++ turn_of who deed ∷ []))
@@ -137,30 +161,6 @@ module _
   leads_held w after (x ∷ xs) given all h l =
       subst (λ gs. IsHeld after (given ++ gs)) (sym l.5) (subst (IsHeld after) (append_assoc given l.1 l.2)
       (leads_held l.0 after xs (given ++ l.1) l.2 (brings_held w l.0 x given l.1 h l.3) l.4))
-
-  -- ---- what a world was opened with
-
-  abbrev IsOpenedAs : World → World → Type 0
-  IsOpenedAs w after = (after.generation ≡ w.generation) × (after.blocks ≡ w.blocks)
-
-  opened_so : (w after then_w : World) → after ≡ then_w → IsOpenedAs w then_w → IsOpenedAs w after
-  opened_so w after then_w e o = subst (IsOpenedAs w) (sym e) o
-
-  brings_opened : (w after : World) (x : Moment) (given : List Given) → Brings w x given after → IsOpenedAs w after
-  brings_opened w after (Starts actor cred asked released) given (idle, (gave, is)) =
-      opened_so w after _ is (refl, refl)
-  brings_opened w after (TakesTurn actor now) given (call, phase, there, t) = opened_so w after _ t.6 (refl, refl)
-  brings_opened w after (Wakes actor value) given (call, wait, there, reached, gave, is) =
-      opened_so w after _ is (refl, refl)
-  brings_opened w after (Reads slot) given (reply, legal, gave, is) = opened_so w after _ is (refl, refl)
-
-  leads_opened : (w after : World) (xs : List Moment) (given : List Given) → LeadsOnThreads w xs given after →
-      IsOpenedAs w after
-  leads_opened w after [] given l = opened_so w after w l.1 (refl, refl)
-  leads_opened w after (x ∷ xs) given l =
-      let first = brings_opened w l.0 x l.1 l.3 in
-      let rest = leads_opened l.0 after xs l.2 l.4 in
-      (rest.0 ∙ first.0, rest.1 ∙ first.1)
 
   -- ---- the laws
 
