@@ -118,9 +118,7 @@ record Led (w : World) (xs : List Happening) (given : List Given) (after : World
   pub leads : Leads w xs given after
 
 goes_preset : Went (opening of_16) Preset [] (idle_at 1 0 0)
-goes_preset = record {
-  goes = (refl, (true, inl (record { empty = λ row w here. let none = w.made in cc; first = refl }, refl, refl)));
-}
+goes_preset = record { goes = (refl, (true, inl (record { empty = refl; first = refl }, refl, refl))) }
 
 begins_none : Went (idle_at 1 0 0) (one_starts receive_up_to_100) []
     (calling_at 1 1 1 1 (one_calls 0 receive_up_to_100) (take_of sender))

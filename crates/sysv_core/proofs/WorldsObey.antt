@@ -9,7 +9,6 @@ use Rattle.std.proofs.lemmas.List.Elements.{All-weaker, All-push, All-contains_i
 use Rattle.std.proofs.lemmas.List.Elements.{Contains-append_left, Contains-push, Contains-push_cases}
 use Rattle.std.proofs.lemmas.List.Quantifiers.{all_pairs_push}
 use Rattle.sysv_model.specs.History.{Who, Actor, History}
-use Rattle.sysv_model.specs.Registry.{RegistryHistory}
 use Rattle.sysv_model.specs.Pool.{PoolHistory}
 use Rattle.sysv_model.specs.Turn.{Deed, Turn, slot_history, registry_history, pool_history, is_same, deeds_of}
 use Rattle.sysv_pool.specs.LegalReply.{IsLegalHistory as IsLegalPoolHistory}
@@ -18,7 +17,6 @@ use Rattle.sysv_queue.specs.LegalReply.{IsLegalHistory}
 use Rattle.sysv_queue.specs.QueueLaw.{QueueLaw}
 use Rattle.sysv_queue.specs.StaysRight.{NoMatchStays, FullStays, FullStaysForLook, CountsNeverFall}
 use Rattle.sysv_queue.specs.ForGood.{RemovedForGood}
-use Rattle.sysv_keys.specs.LegalReply.{IsLegalHistory as IsLegalRegistryHistory}
 use Rattle.sysv_keys.specs.RegistryLaw.{RegistryLaw}
 use Rattle.sysv_objects.specs.LegalDeed.{AreLegal}
 use Rattle.sysv_steps.specs.State.{Phase, Ending, State, Goes, Waits, Over}
