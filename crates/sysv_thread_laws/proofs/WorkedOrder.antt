@@ -37,7 +37,7 @@ legal_makes = (
   (
     0,
     (
-      record { there = omega arith; empty = λ row r. let bad = r.made in absurd cc; usable = omega arith },
+      record { there = omega arith; empty = refl; usable = omega arith },
       λ lower below. absurd (omega arith),
     ),
     refl,
@@ -48,7 +48,7 @@ legal_installs : IsLegalDeed 0 128 (after 1) installs
 legal_installs = refl
 
 legal_settles : IsLegalDeed 0 128 (after 2) settles
-legal_settles = (pos 0, record { made = refl; kept = refl; stage = refl })
+legal_settles = (pos 0, refl)
 
 first_is_named : (m : Message) (ms : List Message) → IsNamed Any (m ∷ ms) 0
 first_is_named m ms = ((omega arith, tt), λ earlier below q. omega arith)
@@ -87,8 +87,7 @@ legal_discards : IsLegalDeed 0 128 (after 12) discards
 legal_discards = (refl, inl refl, refl)
 
 legal_forgets : IsLegalDeed 0 128 (after 13) forgets
-legal_forgets =
-    (record { id = pos 0; key = pos 0; live = true }, record { made = refl; kept = refl; stage = refl }, refl)
+legal_forgets = (record { id = pos 0; key = pos 0; live = true }, refl, refl)
 
 legal_back_none : IsLegalDeed 0 128 (after 14) gives_back_none
 legal_back_none = omega arith
