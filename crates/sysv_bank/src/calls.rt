@@ -26,6 +26,7 @@ impl<O: Object> Bank<O> {
     ///
     /// - `seat` is a seat of this bank, and `place` is below the number of its objects.
     /// - Every object to which legal turns lead from the first one at the place accepts the call.
+    #[inline(always)]
     pub fn call(
         &self,
         rt: &impl Wait,

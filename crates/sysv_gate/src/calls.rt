@@ -25,6 +25,7 @@ impl<O: Object> Door<O> {
     ///
     /// - The door belongs to the table, and so does the pass, which is at rest at the place.
     /// - Every object to which legal turns lead from the first one at the place accepts the call.
+    #[inline(always)]
     pub fn call(
         &self,
         rt: &impl Wait,

@@ -32,6 +32,7 @@ impl<O: Object> Door<O> {
     /// Draws a ticket. It draws none while another is out, but looks a number of times and then
     /// sleeps; only after a number of sleeps it draws one in any case. Returns `None` only if the
     /// tickets have reached 2^62.
+    #[inline(always)]
     pub(crate) fn come(
         &self,
         rt: &impl Wait,

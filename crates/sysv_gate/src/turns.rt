@@ -39,6 +39,7 @@ pub(crate) struct Rose {
 }
 
 /// Makes the call, and records beside the object which call was served.
+#[inline(always)]
 pub(crate) fn apply<O: Object>(
     place: &mut Place<O, O::Call, O::Reply>,
     call: O::Call,
@@ -64,6 +65,7 @@ pub(crate) fn apply<O: Object>(
 }
 
 /// Makes the call at the object in the slot.
+#[inline(always)]
 pub(crate) fn apply_in<O: Object>(spot: &mut Spot<O>, call: O::Call) -> (O::Reply, Rose)
     requires full { (object : O) × (last : Option (Served O.Call O.Reply))
         × (spot.old ≡ put object last) × AreBelow (2 ^ 63) (O.counted object)
@@ -131,6 +133,7 @@ impl<O: Object> Door<O> {
     }
 
     /// Waits until the ticket is served.
+    #[inline(always)]
     pub(crate) fn reach(
         &self,
         rt: &impl Wait,
@@ -158,6 +161,7 @@ impl<O: Object> Door<O> {
 
     /// Sleeps until the ticket may be served, unless it is served already. Returns the ticket that
     /// it found served.
+    #[inline(never)]
     fn doze_until(
         &self,
         rt: &impl Wait,
@@ -188,6 +192,7 @@ impl<O: Object> Door<O> {
     }
 
     /// Looks a number of times whether the ticket is served, and returns the ticket that is.
+    #[inline(always)]
     fn spin(&self, hall: &Hall<O>, token: &mut HallToken<O>, ticket: u64) -> u64
         requires door { IsDoorIn hall.now.shared self.now }
         requires at { IsPassAt hall.now.shared self.now token.old }
@@ -212,6 +217,7 @@ impl<O: Object> Door<O> {
 
     /// Makes the turn: calls the object in its slot, announces its counts, and enters the turn into
     /// the history.
+    #[inline(always)]
     pub(crate) fn serve(
         &self,
         hall: &Hall<O>,
@@ -246,6 +252,7 @@ impl<O: Object> Door<O> {
 
     /// Wakes the threads for which the end of the turn with this ticket is of use. If no thread
     /// sleeps, this is one load.
+    #[inline(always)]
     pub(crate) fn wake_after(&self, ticket: u64, rose: Rose)
         requires { ticket < 2 ^ 62 }
     {

@@ -64,6 +64,7 @@ impl PoolCall {
     /// # Conditions
     ///
     /// - For a release, the pool's released count is below 2^63.
+    #[inline(always)]
     pub fn make(self, pool: &mut Pool) -> PoolReply
         requires { MayRelease self → pool.old.released < 2 ^ 63 }
         ensures { PoolMoves pool.old self result pool.new }

@@ -58,6 +58,7 @@ impl Object for SharedObject {
 
     ghost accepts = { Accepts };
 
+    #[inline(always)]
     fn apply(&mut self, call: ObjectCall) -> ObjectReply {
         match &mut self.object {
             Gated::Slot(slot) => {
