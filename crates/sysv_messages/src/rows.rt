@@ -1,8 +1,8 @@
 //! Entries in an order. Other modules read the entries that stay in a row only through `probe`,
 //! which counts.
 
-ghost use Rattle.std.specs.Prelude.{◌≡◌, ◌≢◌, ◌+◌, ◌<◌, ◌≤◌, ◌↔◌, ◌==◌, not, [], ◌∷◌, ◌++◌, IsTrue, IfOk, Some, MatchOption, filter, slice_get, length};
-ghost use Rattle.std.specs.List.{All, AllPairs, Contains};
+ghost use Rattle.std.specs.Prelude.{◌≡◌, ◌≢◌, ◌+◌, ◌<◌, ◌≤◌, ◌↔◌, ◌==◌, not, [], ◌∷◌, ◌++◌, IsTrue, IfOk, IfSome, OnSome, IfNone, IsSome, Some, MatchOption, filter, slice_get, length};
+ghost use Rattle.std.specs.List.{All, AllPairs, Contains, remove};
 ghost use Rattle.std.specs.VecDeque.{deque_capacity};
 ghost use Rattle.sysv_model.specs.declared.limits.TheConstants.{QUEUE_MESSAGES};
 ghost use Rattle.sysv_messages.specs.declared.entry.Entry.{Entry};
@@ -94,7 +94,7 @@ impl Row {
     {
         let at = self.entries.partition_point(|other| other.number < number);
         match self.entries.get(at) {
-            Some(found) if found.number == number => self.entries.remove(at),
+            Some(found) if found.number == number => self.take_at(at),
             _ => None,
         }
     }
@@ -111,7 +111,25 @@ impl Row {
         let at = self
             .entries
             .partition_point(|other| other.is_before(&entry));
-        let _removed = self.entries.remove(at);
+        let _removed = self.take_at(at);
+    }
+
+    /// Removes the entry at a place and returns it, or returns `None` if no entry is there. No entry
+    /// moves if it is the first one.
+    #[inline(always)]
+    fn take_at(&mut self, at: usize) -> Option<Entry>
+        ensures value { IfSome result (λ e. slice_get self.old.entries.items at ≡ Some e) }
+        ensures items { OnSome result
+            (self.new.entries.items ≡ remove self.old.entries.items at) }
+        ensures there { IsSome result ↔ (at < length self.old.entries.items) }
+        ensures same { IfNone result (self.new.entries.items ≡ self.old.entries.items) }
+        ensures roomy { deque_capacity self.new.entries ≡ deque_capacity self.old.entries }
+    {
+        if at == 0 {
+            self.entries.pop_front()
+        } else {
+            self.entries.remove(at)
+        }
     }
 
     /// Removes all entries.

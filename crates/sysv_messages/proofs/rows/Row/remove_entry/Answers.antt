@@ -15,7 +15,7 @@ returns-clause-others c =
     let point = IsPartitionPoint-from_clause (before e) xs at c.partition_point-at.ensures.partitioned
     (parted_by_type xs e c.requires.sorted) (λ a r q k. (before_as_told e a.0.now r (search rules), search rules)) in
     let same = one_place_by_type xs e at w.0 c.requires.sorted w.1 point in
-    let out : c.remove-removed.new.self.items ≡ remove xs at = search rules in
+    let out : c.take_at-removed.new.self.entries.items ≡ remove xs at = search rules in
     out
     ∙ (ap (λ p. remove xs p) same
     ∙ sym (others_present (λ (o : Entry). o.number) e.number xs w.0 e w.1 refl c.requires.differ))

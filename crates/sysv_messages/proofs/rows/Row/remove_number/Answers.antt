@@ -15,7 +15,7 @@ returns-in-Some-clause-others c =
     let there : slice_get xs at ≡ Some c.in-Some.found.now =
     slice_get-get_or xs at c.in-Some.found.now within ∙ ap Some (sym c.in-Some.ensures.lookup) in
     let is : c.in-Some.found.now.number ≡ c.args.number = search rules in
-    let out : c.remove.new.self.items ≡ remove xs at = search rules in
+    let out : c.take_at.new.self.entries.items ≡ remove xs at = search rules in
     out
     ∙ sym (others_present (λ (o : Entry). o.number) c.args.number xs at c.in-Some.found.now there is
     (rising_differ xs c.requires.rising))
