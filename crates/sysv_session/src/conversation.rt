@@ -160,7 +160,7 @@ impl Conversation {
     }
 
     /// Removes the first `n` bytes, which the connection has taken, and counts as written each
-    /// message whose frame ends in them.
+    /// message whose frame ends before the last of them.
     ///
     /// # Conditions
     ///
@@ -175,7 +175,8 @@ impl Conversation {
     }
 
     /// Ends the session for this reason, and returns what it did. Messages that the connection has
-    /// not taken whole count as lost. If it has not taken all bytes, the session ends with `Write`.
+    /// not taken whole count as lost; after a reset, also the one whose frame ends with the last byte
+    /// that it took, if there is one. If it has not taken all bytes, the session ends with `Write`.
     ///
     /// # Conditions
     ///
@@ -188,12 +189,13 @@ impl Conversation {
             mut session,
             outbox,
         } = self;
+        let is_reset = why == End::Reset;
         let why = if outbox.unsent().is_empty() {
             why
         } else {
             End::Write
         };
-        outbox.end(&mut session.tally);
+        outbox.end(is_reset, &mut session.tally);
         session.end(why)
     }
 }

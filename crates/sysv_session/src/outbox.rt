@@ -4,7 +4,7 @@ ghost use Rattle.sysv_model.specs.declared.limits.TheConstants.{MESSAGE_BYTES};
 ghost use Rattle.sysv_queue.specs.Tally.{taken_in};
 ghost use Rattle.sysv_session.specs.Answers.{message_reply as the_reply};
 ghost use Rattle.sysv_session.specs.Layout.{IsAscending, begins_within as is_begun, unspent};
-ghost use Rattle.sysv_session.specs.Outbox.{more_lost, more_written, nearer, with_frame, with_message, within, without};
+ghost use Rattle.sysv_session.specs.Outbox.{at_end, more_written, nearer, passed, with_frame, with_message, within, without};
 ghost use Rattle.sysv_wire.specs.Replies.{IsAnswer, reply_spelling};
 
 use crate::turn::message_reply;
@@ -19,7 +19,7 @@ use sysv_wire::{Reply, Version, WriteFault, write_reply};
 ///
 /// Put replies into it with `put` and `put_message`, give `unsent` to the connection, and report
 /// with `sent` how many bytes it took. Each delivery is spent once: as written as soon as the
-/// connection has taken its frame whole, or as lost by `end`.
+/// connection has taken a byte after its frame; or by `end`, as written or as lost.
 ///
 /// An outbox can be neither dropped nor copied. Spend it with `end`.
 pub struct Outbox {
@@ -139,7 +139,8 @@ impl Outbox {
     }
 
     /// Removes the first `n` bytes, which the connection has taken, and spends as written each
-    /// delivery whose frame ends in them.
+    /// delivery whose frame ends before the last of them. If a frame ends with the last of them, its
+    /// delivery is kept: a reset of the connection would show that the client has not read it.
     ///
     /// # Conditions
     ///
@@ -149,13 +150,15 @@ impl Outbox {
         requires some { n ≤ length self.old.bytes }
         requires room { taken_in tally.old + length self.old.marks < 2 ^ 64 }
         ensures after { self.new ≡ without n self.old }
-        ensures tally { tally.new ≡ more_written (within n self.old.marks) tally.old }
+        ensures tally { tally.new ≡ more_written (passed n self.old.marks) tally.old }
         // Each delivery is in the outbox, or was counted once.
         ensures each { taken_in tally.new + length self.new.marks
             ≡ taken_in tally.old + length self.old.marks }
     {
         self.taken += n;
-        spend_written(&mut self.marks, self.taken, tally);
+        if self.taken > 0 {
+            spend_written(&mut self.marks, self.taken - 1, tally);
+        }
         self.remove_taken();
     }
 
@@ -187,20 +190,25 @@ impl Outbox {
         }
     }
 
-    /// Ends the outbox, and spends as lost each delivery in it.
+    /// Ends the outbox, and spends each delivery in it: as written if the connection has taken its
+    /// frame whole, and else as lost. After a reset of the connection all are lost, since the client
+    /// has not read the last byte that the connection took.
     ///
     /// # Conditions
     ///
     /// - The tally can count one more message for each delivery in the outbox.
-    pub fn end(self, tally: &mut Tally)
+    pub fn end(self, is_reset: bool, tally: &mut Tally)
         requires room { taken_in tally.old + length self.marks < 2 ^ 64 }
-        ensures tally { tally.new ≡ more_lost (length self.marks) tally.old }
+        ensures tally { tally.new ≡ at_end is_reset self.marks tally.old }
     {
         let Outbox {
             bytes: _,
-            taken: _,
+            taken,
             mut marks,
         } = self;
+        if !is_reset {
+            spend_written(&mut marks, taken, tally);
+        }
         while let Some(Mark { ends: _, delivery }) = marks.pop_front() {
             delivery.lost(tally);
         }
