@@ -5,7 +5,7 @@ ghost use Rattle.sysv_model.specs.declared.limits.TheConstants.{MESSAGE_BYTES};
 ghost use Rattle.sysv_queue.specs.Tally.{taken_in};
 ghost use Rattle.sysv_session.specs.Answers.{HasAnswer};
 ghost use Rattle.sysv_session.specs.Conversation.{HasRoom, Puts, gathered, report, sent_on};
-ghost use Rattle.sysv_session.specs.Failing.{ends_by_read, ends_by_write};
+ghost use Rattle.sysv_session.specs.Failing.{ends_by_read, ends_by_write, is_reset as reset};
 ghost use Rattle.sysv_session.specs.Outbox.{with_frame};
 ghost use Rattle.sysv_session.specs.Output.{hello_frame};
 ghost use Rattle.sysv_session.specs.TakenUp.{TakesUp};
@@ -189,7 +189,7 @@ impl Conversation {
             mut session,
             outbox,
         } = self;
-        let is_reset = why == End::Reset;
+        let is_reset = is_reset(why);
         let why = if outbox.unsent().is_empty() {
             why
         } else {
@@ -197,5 +197,15 @@ impl Conversation {
         };
         outbox.end(is_reset, &mut session.tally);
         session.end(why)
+    }
+}
+
+/// Returns whether the session ends because the client reset the connection.
+fn is_reset(why: End) -> bool
+    ensures { result ≡ reset why }
+{
+    match why {
+        End::Reset => true,
+        _ => false,
     }
 }
