@@ -3,7 +3,8 @@ use Rattle.std.specs.Prelude.{◌≡◌, ◌+◌, ℕ, Bool, true, false, List, 
 use Rattle.std.specs.List.{FoldsTo, sum_by}
 use Rattle.sysv_session.specs.declared.served.Served.{Served}
 use Rattle.sysv_session.specs.declared.served.End.{End}
-use Rattle.sysv_session.specs.declared.served.End.TheVariants.{Ended, NoMemory, NoHello, Fault, Write, Bound, Left, Reset}
+use Rattle.sysv_session.specs.declared.served.End.TheVariants.{Ended, NoMemory, NoHello, Fault, Write, Bound, Left}
+use Rattle.sysv_session.specs.declared.served.End.TheVariants.{Reset}
 use Rattle.sysv_service.specs.Ran.{Pass}
 use Rattle.sysv_thread_laws.specs.Order.{Called}
 use Rattle.sysv_engine.specs.Made.{trail}

@@ -1,5 +1,6 @@
 -- How a conversation goes on, from its start to its end.
-use Rattle.std.proofs.Common.{◌≡◌, ℕ, ◌+◌, ◌-◌, ◌^◌, ◌<◌, ◌≤◌, Bool, true, false, cond, List, [], ◌∷◌, ◌++◌, length, take, Option, None}
+use Rattle.std.proofs.Common.{◌≡◌, ℕ, ◌+◌, ◌-◌, ◌^◌, ◌<◌, ◌≤◌, Bool, true, false, cond, List, [], ◌∷◌, ◌++◌, length}
+use Rattle.std.proofs.Common.{take, Option, None}
 use Rattle.std.proofs.Common.{Some, Ok, Err, refl, sym, ap, ap₂, subst, subst₂, ◌∙◌, arith, inl, inr}
 use Rattle.std.proofs.Common.{add-zero, append-nil, length-append}
 use Rattle.std.specs.Io.KnownBytes.{Appends, Consumes}
@@ -9,7 +10,8 @@ use Rattle.sysv_queue.specs.Tally.{Tallied, taken_in}
 use Rattle.sysv_session.specs.declared.kernel.RequestOutcome.{RequestOutcome}
 use Rattle.sysv_session.specs.declared.kernel.RequestOutcome.TheVariants.{Reply, Got, Left as WasLeft}
 use Rattle.sysv_session.specs.declared.served.End.{End}
-use Rattle.sysv_session.specs.declared.served.End.TheVariants.{Ended, NoMemory, NoHello, Fault, Write, Bound, Left, Reset}
+use Rattle.sysv_session.specs.declared.served.End.TheVariants.{Ended, NoMemory, NoHello, Fault, Write, Bound, Left}
+use Rattle.sysv_session.specs.declared.served.End.TheVariants.{Reset}
 use Rattle.sysv_session.specs.declared.served.TheConstants.{SESSION_REQUESTS}
 use Rattle.sysv_session.specs.declared.session.Session.{Session}
 use Rattle.sysv_session.specs.declared.session.TakenUp.TheVariants.{Hello, Request as Asked}

@@ -11,7 +11,8 @@ use Rattle.std.specs.Prelude.{OnOk, OnErr, is_err}
 use Rattle.sysv_queue.specs.Delivery.{Given}
 use Rattle.sysv_queue.specs.Tally.{Tallied, taken_in}
 use Rattle.sysv_session.specs.Layout.{InOrder, IsAscending, begins_passed, unspent}
-use Rattle.sysv_session.specs.Outbox.{Mark, Unsent, at_end, beyond, mark_at, more_lost, more_written, nearer, with_frame}
+use Rattle.sysv_session.specs.Outbox.{Mark, Unsent, at_end, beyond, mark_at, more_lost, more_written, nearer}
+use Rattle.sysv_session.specs.Outbox.{with_frame}
 use Rattle.sysv_session.specs.Outbox.{passed, with_message, within, without}
 use Rattle.sysv_session.proofs.OutboxLemmas.{first_passed, first_within}
 
@@ -293,7 +294,7 @@ unspent_length n (x ∷ xs) = unspent_length_at (nat_le (1 + x.ends) n) n x xs r
 module _ (taken : ℕ) (bytes : List ℕ) (marks marks' : List Mark) (before mid after : Tallied) (box : Unsent)
     (view : view_of taken bytes marks ≡ box) where
   marks_seen : length box.marks ≡ length marks
-  marks_seen = ap (λ (b : Unsent). length b.marks) (sym view) ∙ length-map (nearer taken) marks
+  marks_seen = ap (λ (b : Unsent). length b.marks) (sym view) ∙ length-map marks (nearer taken)
 
   ended_at : (is_reset : Bool) → marks' ≡ unspent (cond is_reset 0 (taken + 1)) marks →
       mid ≡ more_written (passed (cond is_reset 0 (taken + 1)) marks) before → after ≡ more_lost (length marks') mid →

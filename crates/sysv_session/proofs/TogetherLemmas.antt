@@ -1,7 +1,8 @@
 -- Replies as they are gathered, and a session whose writer took one after another.
 use Rattle.std.proofs.Common.{◌≡◌, ◌≢◌, ℕ, ◌+◌, ◌-◌, ◌<◌, ◌≤◌, List, [], ◌∷◌, ◌++◌, length, take, map, Option, None}
 use Rattle.std.proofs.Common.{Some}
-use Rattle.std.proofs.Common.{Bool, true, false, nat_le, cond, refl, sym, ap, ap₂, subst, ◌∙◌, arith, inl, inr, ◌⊎◌, append-nil, length-append}
+use Rattle.std.proofs.Common.{Bool, true, false, nat_le, cond, refl, sym, ap, ap₂, subst, ◌∙◌, arith, inl, inr, ◌⊎◌}
+use Rattle.std.proofs.Common.{append-nil, length-append}
 use Rattle.std.proofs.lemmas.Bool.{cases_order}
 use Rattle.std.proofs.lemmas.Bool.Decides.{nat_tests}
 use Rattle.std.proofs.lemmas.List.{map-append, take_at}
@@ -14,7 +15,8 @@ use Rattle.sysv_queue.specs.Tally.{Tallied}
 use Rattle.sysv_session.specs.declared.kernel.RequestOutcome.{RequestOutcome}
 use Rattle.sysv_session.specs.declared.kernel.RequestOutcome.TheVariants.{Reply, Got, Left as WasLeft}
 use Rattle.sysv_session.specs.declared.served.End.{End}
-use Rattle.sysv_session.specs.declared.served.End.TheVariants.{Ended, NoMemory, NoHello, Fault, Write, Bound, Left, Reset}
+use Rattle.sysv_session.specs.declared.served.End.TheVariants.{Ended, NoMemory, NoHello, Fault, Write, Bound, Left}
+use Rattle.sysv_session.specs.declared.served.End.TheVariants.{Reset}
 use Rattle.sysv_session.specs.Answers.{IsReplied, is_message, message_reply, messages_in, outcome_spelling}
 use Rattle.sysv_session.specs.Calls.{Call, Meaning, messages_of}
 use Rattle.sysv_session.specs.Gathered.{Gathered, all_bytes, ends_message, has_end, marks_at, marks_from}
@@ -155,7 +157,66 @@ record NoneWithin (n : ℕ) (marks : List Mark) : Type 0 where
   passed : passed n marks ≡ 0
   ends : has_end n marks ≡ false
 
-none_at : (n place : ℕ) (given : Given) (rest : List Mark) → (place ≡ n) ⊎ ((place < n) ⊎ (n < place)) →
+none_at : (n place : ℕ) (message : Option Given) (rest : List Mark) → n < place → NoneWithin n rest →
+    NoneWithin n (marks_at place message ++ rest)
+none_at n place None rest lt none = none
+none_at n place (Some given) rest lt none =
+    let out : nat_le place n ≡ false = grind (arith, nat_tests) in
+    let behind : nat_le (1 + place) n ≡ false = grind (arith, nat_tests) in
+    record {
+      whole = omega (arith, first_within false n (mark_at place given) rest out, none.whole);
+      passed = omega (arith, first_passed false n (mark_at place given) rest behind, none.passed);
+      ends = grind (arith, nat_tests, none.ends);
+    }
+
+-- All frames end after their beginning.
+none_from : (n start : ℕ) (replies : List Gathered) → n ≤ start → HaveBytes replies →
+    NoneWithin n (marks_from start replies)
+none_from n start [] le have = record { whole = refl; passed = refl; ends = refl }
+none_from n start (reply ∷ more) le have =
+    let place = start + length reply.frame in
+    let behind : n < place = omega (arith, le, have.0) in
+    none_at n place reply.message (marks_from place more) behind
+    (none_from n place more (omega (arith, behind)) have.1)
+
+-- At most one frame ends with the n-th byte.
+abbrev OneEnds : ℕ → List Mark → Type 0
+OneEnds n marks = within n marks ≡ passed n marks + cond (has_end n marks) 1 0
+
+one_before : (n place : ℕ) (given : Given) (rest : List Mark) → place < n → OneEnds n rest →
+    OneEnds n (mark_at place given ∷ rest)
+one_before n place given rest lt one =
+    let inside : nat_le place n ≡ true = grind (arith, nat_tests) in
+    let behind : nat_le (1 + place) n ≡ true = grind (arith, nat_tests) in
+    let same : has_end n (mark_at place given ∷ rest) ≡ has_end n rest = grind (arith, nat_tests) in
+    omega (
+      arith,
+      first_within true n (mark_at place given) rest inside,
+      first_passed true n (mark_at place given) rest behind,
+      ap (λ (b : Bool). let m : ℕ = cond b 1 0 in m) same,
+      one,
+    )
+
+one_here : (n place : ℕ) (given : Given) (rest : List Mark) → place ≡ n → NoneWithin n rest →
+    OneEnds n (mark_at place given ∷ rest)
+one_here n place given rest is none =
+    let inside : nat_le place n ≡ true = grind (arith, nat_tests) in
+    let behind : nat_le (1 + place) n ≡ false = grind (arith, nat_tests) in
+    let same : has_end n (mark_at place given ∷ rest) ≡ true = grind (arith, nat_tests) in
+    omega (
+      arith,
+      first_within true n (mark_at place given) rest inside,
+      first_passed false n (mark_at place given) rest behind,
+      ap (λ (b : Bool). let m : ℕ = cond b 1 0 in m) same,
+      none.whole,
+      none.passed,
+    )
+
+none_ends : (n : ℕ) (marks : List Mark) → NoneWithin n marks → OneEnds n marks
+none_ends n marks none =
+    omega (arith, none.whole, none.passed, ap (λ (b : Bool). let m : ℕ = cond b 1 0 in m) none.ends)
+
+one_at : (n place : ℕ) (given : Given) (rest : List Mark) → (place ≡ n) ⊎ ((place < n) ⊎ (n < place)) →
     (n ≤ place → NoneWithin n rest) → OneEnds n rest → OneEnds n (mark_at place given ∷ rest)
 one_at n place given rest (inl is) none one = one_here n place given rest is (none (omega (arith, is)))
 one_at n place given rest (inr (inl lt)) none one = one_before n place given rest lt one

@@ -10,7 +10,8 @@ use Rattle.sysv_model.specs.declared.cred.Cred.{Cred}
 use Rattle.sysv_queue.specs.Tally.{Tallied, taken_in}
 use Rattle.sysv_session.specs.declared.kernel.RequestOutcome.TheVariants as outcomes
 use Rattle.sysv_session.specs.declared.served.End.{End}
-use Rattle.sysv_session.specs.declared.served.End.TheVariants.{Ended, NoMemory, NoHello, Fault, Write, Bound, Left, Reset}
+use Rattle.sysv_session.specs.declared.served.End.TheVariants.{Ended, NoMemory, NoHello, Fault, Write, Bound, Left}
+use Rattle.sysv_session.specs.declared.served.End.TheVariants.{Reset}
 use Rattle.sysv_session.specs.declared.served.Served.{Served}
 use Rattle.sysv_session.specs.Calls.{Call, IsCall, Leads, Meaning, messages_of}
 use Rattle.sysv_session.specs.Gathered.{Gathered, all_bytes, ends_message, messages_within}

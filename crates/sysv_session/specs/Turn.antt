@@ -6,7 +6,8 @@ use Rattle.sysv_queue.specs.Tally.{Tallied}
 use Rattle.sysv_session.specs.declared.kernel.RequestOutcome.{RequestOutcome}
 use Rattle.sysv_session.specs.declared.kernel.RequestOutcome.TheVariants as outcomes
 use Rattle.sysv_session.specs.declared.served.End.{End}
-use Rattle.sysv_session.specs.declared.served.End.TheVariants.{Ended, NoMemory, NoHello, Fault, Write, Bound, Left, Reset}
+use Rattle.sysv_session.specs.declared.served.End.TheVariants.{Ended, NoMemory, NoHello, Fault, Write, Bound, Left}
+use Rattle.sysv_session.specs.declared.served.End.TheVariants.{Reset}
 use Rattle.sysv_session.specs.Answers.{IsReplied, messages_in, outcome_spelling}
 use Rattle.sysv_wire.specs.declared.frame.Version.{Version}
 use Rattle.sysv_model.specs.Writing.{AppendsPrefix}
