@@ -1,4 +1,5 @@
--- A session loses a message only if it ended because its connection failed or its memory was refused.
+-- A session loses a message only if it ended because its connection failed or was reset, or its memory was
+-- refused.
 use Rattle.std.proofs.Common.{◌≡◌, ◌∙◌, ℕ, ◌+◌, ◌≤◌, List, [], ◌∷◌, ◌++◌, map, length, cond, Option, Some, None, Bool}
 use Rattle.std.proofs.Common.{ap, refl, sym, subst, arith, inl, inr}
 use Rattle.std.specs.Prelude.{⊤, true, false}
@@ -11,11 +12,12 @@ use Rattle.sysv_seats.specs.Sits.{zero_moment}
 use Rattle.sysv_session.specs.declared.kernel.RequestOutcome.TheVariants as outcomes
 use Rattle.sysv_session.specs.declared.served.End.{End}
 use Rattle.sysv_session.specs.declared.served.End.TheVariants.{Ended, NoMemory, NoHello, Fault, Write, Bound, Left}
+use Rattle.sysv_session.specs.declared.served.End.TheVariants.{Reset}
 use Rattle.sysv_session.specs.declared.served.Served.{Served}
 use Rattle.sysv_session.specs.Answers.{messages_in}
 use Rattle.sysv_session.specs.Calls.{Call, Meaning, messages_of}
 use Rattle.sysv_session.specs.Gathered.{Gathered, all_bytes, messages_among, messages_within}
-use Rattle.sysv_session.specs.Together.{Replied, Reports, ServesTogether}
+use Rattle.sysv_session.specs.Together.{Replied, Reports, ServesTogether, unread_at}
 use Rattle.sysv_session.specs.UnderWay.{replies_to}
 use Rattle.sysv_session.proofs.ListLemmas.{messages_more}
 use Rattle.sysv_session.proofs.TogetherLemmas.{all_within, replies_messages}
@@ -28,8 +30,8 @@ use Rattle.sysv_engine.specs.Talks.{Talk, Talks, TalksAs, tally_of}
 
 -- ---- one session
 
-none_lost : (w l m n : ℕ) → w + l ≡ m → w ≡ n → n ≡ m → l ≡ 0
-none_lost w l m n all some same = omega arith
+none_lost : (w l u m n : ℕ) → w + l ≡ m → w + u ≡ n → u ≡ 0 → n ≡ m → l ≡ 0
+none_lost w l u m n all some read same = omega arith
 
 no_more : (n m : ℕ) → m ≡ 0 → n ≡ n + m
 no_more n m none = omega arith
@@ -59,6 +61,7 @@ all_replied Left safe version slots calls replies sent replied all =
     whole version slots replied.0 replies sent replied.4.1 all
     ∙ (no_more (messages_of replied.0) (messages_in replied.1.outcome) (ap messages_in replied.3)
     ∙ (sym (messages_more replied.0 replied.1) ∙ ap messages_of (sym replied.2)))
+all_replied Reset safe version slots calls replies sent replied all = absurd (grind arith)
 
 reports_all : (why stopped : End) → may_lose why ≡ false → (version : Version) (slots : ℕ) (calls : List Call)
     (replies : List Gathered) (sent : List ℕ) → Replied stopped version slots calls replies →
@@ -69,13 +72,32 @@ reports_all why stopped safe version slots calls replies sent replied (inl all) 
 reports_all why stopped safe version slots calls replies sent replied (inr failed) =
     let lost : true ≡ false = subst (λ (e : End). may_lose e ≡ false) failed.0 safe in absurd (grind arith)
 
+-- After an end at which no reply is lost, the client is not known to have left a message unread.
+none_unread : (why : End) → may_lose why ≡ false → (n : ℕ) (replies : List Gathered) → unread_at why n replies ≡ 0
+none_unread Ended safe n replies = refl
+none_unread NoMemory safe n replies = refl
+none_unread NoHello safe n replies = refl
+none_unread (Fault fault) safe n replies = refl
+none_unread Write safe n replies = refl
+none_unread Bound safe n replies = refl
+none_unread Left safe n replies = refl
+none_unread Reset safe n replies = absurd (grind arith)
+
+safe_stop : (why stopped : End) (sent all : List ℕ) → may_lose why ≡ false → Reports why stopped sent all →
+    may_lose stopped ≡ false
+safe_stop why stopped sent all safe (inl whole) = subst (λ (e : End). may_lose e ≡ false) whole.0 safe
+safe_stop why stopped sent all safe (inr failed) =
+    let lost : true ≡ false = subst (λ (e : End). may_lose e ≡ false) failed.0 safe in absurd (grind arith)
+
 serves_all : {K : Type 0} (Means : Meaning K) (slots : ℕ) (served : Served) (old new : K)
     (left rest taken more : Option (List ℕ)) → ServesTogether Means slots served old new left rest taken more →
     may_lose served.«end» ≡ false → served.tally.lost ≡ 0
 serves_all Means slots served old new left rest taken more (inl stays) safe =
     ap (λ (t : Tallied). t.lost) stays.tallies
 serves_all Means slots served old new left rest taken more (inr talks) safe =
-    none_lost served.tally.written served.tally.lost _ _ talks.all talks.written
+    none_lost served.tally.written served.tally.lost _ _ _ talks.all talks.written
+    (none_unread talks.stopped (safe_stop served.«end» talks.stopped talks.sent _ safe talks.reports)
+    (length talks.sent) talks.replies)
     (reports_all served.«end» talks.stopped safe talks.version slots talks.calls talks.replies talks.sent talks.replied
     talks.reports)
 

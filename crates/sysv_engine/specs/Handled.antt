@@ -4,6 +4,7 @@ use Rattle.std.specs.List.{FoldsTo, sum_by}
 use Rattle.sysv_session.specs.declared.served.Served.{Served}
 use Rattle.sysv_session.specs.declared.served.End.{End}
 use Rattle.sysv_session.specs.declared.served.End.TheVariants.{Ended, NoMemory, NoHello, Fault, Write, Bound, Left}
+use Rattle.sysv_session.specs.declared.served.End.TheVariants.{Reset}
 use Rattle.sysv_service.specs.Ran.{Pass}
 use Rattle.sysv_thread_laws.specs.Order.{Called}
 use Rattle.sysv_engine.specs.Made.{trail}
@@ -21,8 +22,9 @@ is_starved (Fault fault) = false
 is_starved Write = false
 is_starved Bound = false
 is_starved Left = false
+is_starved Reset = false
 
--- Replies may be lost at this end: the connection failed, or memory was refused.
+-- Replies may be lost at this end: the connection failed or was reset, or memory was refused.
 abbrev pub may_lose : End → Bool
 may_lose Ended = false
 may_lose NoMemory = true
@@ -31,6 +33,7 @@ may_lose (Fault fault) = false
 may_lose Write = true
 may_lose Bound = false
 may_lose Left = false
+may_lose Reset = true
 
 -- 1 for a session whose memory was refused, at its start or later, and 0 for any other.
 abbrev pub one_refused : Option Served → ℕ

@@ -39,8 +39,9 @@ pub record ServesConnections {S T B : Type 0} (incoming outgoing : T → Option 
   pub gates : Gates
   pub opened : AreOpen 0 blocks 0 gates
   -- Each place had one session on each of its connections, in order: the session began with what the
-  -- connection had to be read and with what was written to it. It ended with `Fault(Read)`, `Write` or
-  -- `Left` only if that may break off reading from the connection or writing to it. The connection was
+  -- connection had to be read and with what was written to it. It ended with `Fault(Read)`, `Reset`,
+  -- `Write` or `Left` only if reading from the connection may break off, its client may reset it, or
+  -- writing to it may break off. The connection was
   -- closed with what it had taken of the replies then, and with what the session left to be read, except
   -- for what was read ahead.
   pub shifts : List Shift
@@ -48,7 +49,8 @@ pub record ServesConnections {S T B : Type 0} (incoming outgoing : T → Option 
   -- The sums are those of all sessions, and so is the number of sessions whose memory was refused.
   pub sums : ended.sums ≡ sums_of (told_in shifts)
   pub refused : ended.refused ≡ refused_of (told_in shifts)
-  -- No message was lost if no session ended because its connection failed or its memory was refused.
+  -- No message was lost if no session ended because its connection failed or was reset, or because its
+  -- memory was refused.
   pub lost : cut_off_of (told_in shifts) ≡ 0 → ended.sums.lost ≡ 0
   -- The calls of these very sessions and the removals of the stop are one run, which obeys, and the
   -- gates were closed after it.

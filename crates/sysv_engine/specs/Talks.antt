@@ -51,7 +51,8 @@ TalksIn before talk after = TalksAsIn before talk.told talk.left talk.rest talk.
 
 -- The session was one over this very connection: it began with the bytes that the connection had, and
 -- ended for a reason that there is. So it did not end with `Fault(Read)` unless reading from the
--- connection may break off, nor with `Write` or `Left` unless writing to it may.
+-- connection may break off, nor with `Reset` unless its client may reset it, nor with `Write` or `Left`
+-- unless writing to it may break off.
 abbrev pub IsOn : {T B : Type 0} → (incoming outgoing : T → Option (List ℕ)) → Closing T B → T → Talk → Type 0
 IsOn incoming outgoing closes connection talk = (talk.left ≡ incoming connection)
     × (talk.taken ≡ outgoing connection) × MayTell (closes.breaks connection) talk.told

@@ -10,6 +10,7 @@ use Rattle.sysv_keys.specs.declared.identifier.TheConstants.{SLOTS}
 use Rattle.sysv_model.specs.declared.cred.Cred.{Cred}
 use Rattle.sysv_session.specs.declared.served.End.{End}
 use Rattle.sysv_session.specs.declared.served.End.TheVariants.{Ended, NoMemory, NoHello, Fault, Write, Bound, Left}
+use Rattle.sysv_session.specs.declared.served.End.TheVariants.{Reset}
 use Rattle.sysv_session.specs.declared.served.Served.{Served}
 use Rattle.sysv_session.specs.declared.kernel.RequestOutcome.{RequestOutcome}
 use Rattle.sysv_session.specs.declared.kernel.RequestOutcome.TheVariants.{Left as WasLeft}
@@ -20,7 +21,7 @@ use Rattle.sysv_session.specs.Conversation.{HasRoom, Puts, Talk, report, reporte
 use Rattle.sysv_session.specs.Stands.{Stands, StandsAsking}
 use Rattle.sysv_session.specs.TakenUp.{EndsHere, TakesUp}
 use Rattle.sysv_session.proofs.GoesOn.{ends, leaves, opens, sends, sends_asking, sends_stopped}
-use Rattle.sysv_session.proofs.GoesOn.{stops_memory, stops_read}
+use Rattle.sysv_session.proofs.GoesOn.{stops_memory, stops_read, stops_reset}
 use Rattle.sysv_session.proofs.GoesOn.{stops_write}
 use Rattle.sysv_session.proofs.OutboxLemmas.{each_once}
 use Rattle.sysv_service.specs.Ran.{Pass}
@@ -98,6 +99,7 @@ put_cause breaks version outcome given old new NoHello replied put = absurd put
 put_cause breaks version outcome given old new (Fault fault) replied put = absurd put
 put_cause breaks version outcome given old new Write replied put = absurd put
 put_cause breaks version outcome given old new Bound replied put = absurd put
+put_cause breaks version outcome given old new Reset replied put = absurd put
 
 -- What is read of the input stops the client for a reason in the input.
 ends_cause : (breaks : Breaks) (caller : Option (Version × Cred)) (requests : ℕ) (why : End)
@@ -120,6 +122,10 @@ ends_cause breaks None requests Left left rest text is_end late here = absurd he
 ends_cause breaks (Some caller) requests Left left rest text is_end late (inl bound) =
     absurd (let other : Left ≡ Bound = bound.1 in cc other)
 ends_cause breaks (Some caller) requests Left left rest text is_end late (inr read) = absurd read.1
+ends_cause breaks None requests Reset left rest text is_end late here = absurd here.0
+ends_cause breaks (Some caller) requests Reset left rest text is_end late (inl bound) =
+    absurd (let other : Reset ≡ Bound = bound.1 in cc other)
+ends_cause breaks (Some caller) requests Reset left rest text is_end late (inr read) = absurd read.1
 
 pub taken_cause : (breaks : Breaks) (old new : Session) (result : Result TakenUp End) (why : End)
     (left rest : Option (List ℕ)) (text : List ℕ) (is_end : Bool) → result ≡ Err why → is_early why is_end ≡ false →
@@ -298,6 +304,26 @@ module _ {T : Type 0} (incoming outgoing : T → Option (List ℕ)) where
     wrote = sits.wrote;
     at = is_stopped start origin (stopped_for (Fault Read) client) now sits.sent (Fault Read) free.0
         (read_at start origin client now sits.sent (is_ready start origin client now sits.sent free sits.at));
+  }
+
+  -- The client has reset the connection.
+  reset_at : (start : Pass) (origin : T) (client : Sitting T) (now : Pass) (sent : List ℕ) →
+      IsReady incoming outgoing start origin client now sent →
+      HasStopped incoming outgoing start origin client now sent Reset
+  reset_at start origin client now sent ready = (
+    prepend_known client.input (incoming client.connection),
+    behind client.input (incoming client.connection),
+    stops_reset (asks_with zero_moment ⊤) SLOTS client.talk start now (incoming origin)
+        (prepend_known client.input (incoming client.connection)) sent ready,
+  )
+
+  pub stops_resetting : (client : Sitting T) → IsFree client →
+      Keeps incoming outgoing client (stopped_for Reset client)
+  stops_resetting client free = λ now start origin sits. record {
+    sent = sits.sent;
+    wrote = sits.wrote;
+    at = is_stopped start origin (stopped_for Reset client) now sits.sent Reset free.0
+        (reset_at start origin client now sits.sent (is_ready start origin client now sits.sent free sits.at));
   }
 
   -- The connection takes no more.
@@ -530,17 +556,18 @@ module _ {T : Type 0} (incoming outgoing : T → Option (List ℕ)) where
       keeps_with_from old client now (on connection client) now view
       (unread_still client connection kept none same now)
 
-  pub filled_not : (old client new : Sitting T) (connection : T) (now : Pass) → client ≡ old → IsFree old →
+  pub filled_not : (why : End) → ((c : Sitting T) → IsFree c → Keeps incoming outgoing c (stopped_for why c)) →
+      (old client new : Sitting T) (connection : T) (now : Pass) → client ≡ old → IsFree old →
       KeepsBytes (incoming client.connection) (incoming connection) →
       (incoming client.connection ≡ None → incoming connection ≡ None) →
-      outgoing connection ≡ outgoing client.connection → new ≡ stopped_for (Fault Read) (on connection client) →
+      outgoing connection ≡ outgoing client.connection → new ≡ stopped_for why (on connection client) →
       KeepsWith incoming outgoing old now new now
-  filled_not old client new connection now view free kept none same is =
+  filled_not why stops old client new connection now view free kept none same is =
       keeps_with_from old client now new now view
-      (keeps_to client (stopped_for (Fault Read) (on connection client)) new is
-      (keeps_then client (on connection client) (stopped_for (Fault Read) (on connection client))
+      (keeps_to client (stopped_for why (on connection client)) new is
+      (keeps_then client (on connection client) (stopped_for why (on connection client))
       (unread_still client connection kept none same)
-      (stops_reading (on connection client) (free_as old client view free))) now)
+      (stops (on connection client) (free_as old client view free))) now)
 
   -- A turn: what is taken up, then the leave of a peer, then what changes nothing.
   pub turns : (old : Sitting T) (before : Pass) (mid left new : Sitting T) (after : Pass) →

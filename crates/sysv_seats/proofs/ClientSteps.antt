@@ -16,6 +16,7 @@ use Rattle.sysv_session.specs.declared.kernel.RequestOutcome.{RequestOutcome}
 use Rattle.sysv_session.specs.declared.kernel.RequestOutcome.TheVariants.{Reply, Got, Left as WasLeft}
 use Rattle.sysv_session.specs.declared.served.End.{End}
 use Rattle.sysv_session.specs.declared.served.End.TheVariants.{Ended, NoMemory, NoHello, Fault, Write, Bound, Left}
+use Rattle.sysv_session.specs.declared.served.End.TheVariants.{Reset}
 use Rattle.sysv_session.specs.declared.session.Session.{Session}
 use Rattle.sysv_session.specs.declared.session.TakenUp.{TakenUp}
 use Rattle.sysv_session.specs.declared.session.TakenUp.TheVariants.{Hello, Request as Asked}
@@ -160,6 +161,7 @@ settled_late (Fault Read) more is_end late last = tt
 settled_late Write more is_end late last = tt
 settled_late Bound more is_end late last = tt
 settled_late Left more is_end late last = tt
+settled_late Reset more is_end late last = tt
 
 -- ---- calls that are over have a reply
 

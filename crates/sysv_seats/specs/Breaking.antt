@@ -3,23 +3,26 @@
 use Rattle.std.specs.Prelude.{◌≡◌, ⊤, Bool, true, Option, None, Some, IfSome, is_some}
 use Rattle.sysv_session.specs.declared.served.End.{End}
 use Rattle.sysv_session.specs.declared.served.End.TheVariants.{Ended, NoMemory, NoHello, Fault, Write, Bound, Left}
+use Rattle.sysv_session.specs.declared.served.End.TheVariants.{Reset}
 use Rattle.sysv_session.specs.declared.served.Served.{Served}
 use Rattle.sysv_wire.specs.declared.fault.Fault.TheVariants.{Truncated, TooLong, BadOp, BadField, Read}
 
--- What may happen to a connection: a read of it may fail, a write to it may fail, and its client may
--- leave a call that waits or be cut off by the server. A cut ends reading and writing too.
+-- What may happen to a connection: a read of it may fail, a read may find that its client has reset it, a
+-- write to it may fail, and its client may leave a call that waits or be cut off by the server. A cut
+-- ends reading and writing too.
 pub record Breaks : Type 0 where
   pub reading : Bool
+  pub resetting : Bool
   pub writing : Bool
   pub cutting : Bool
 
 -- Everything may happen to the connection.
 abbrev pub all_breaks : Breaks
-all_breaks = record { reading = true; writing = true; cutting = true }
+all_breaks = record { reading = true; resetting = true; writing = true; cutting = true }
 
 -- A session on such a connection may end for this reason. It ends with a read that failed only if
--- reading may break off, and with replies that were not taken or a call that was left only if
--- writing may.
+-- reading may break off, with a reset only if a client may reset the connection, and with replies that
+-- were not taken or a call that was left only if writing may break off.
 abbrev pub MayEnd : Breaks → End → Type 0
 MayEnd breaks Ended = ⊤
 MayEnd breaks NoMemory = ⊤
@@ -32,6 +35,7 @@ MayEnd breaks (Fault Read) = breaks.reading ≡ true
 MayEnd breaks Write = breaks.writing ≡ true
 MayEnd breaks Bound = ⊤
 MayEnd breaks Left = breaks.writing ≡ true
+MayEnd breaks Reset = breaks.resetting ≡ true
 
 -- It may report this, if it reports anything.
 abbrev pub MayTell : Breaks → Option Served → Type 0

@@ -114,15 +114,37 @@ is_failing (step.AtMost most) = false
 is_failing step.Reset = true
 is_failing step.Fail = true
 
+-- A read fails at the step, or finds that the client has reset the connection.
+abbrev pub is_failed_read : Step → Bool
+is_failed_read (step.AtMost most) = false
+is_failed_read step.Reset = false
+is_failed_read step.Fail = true
+
+abbrev pub is_reset : Step → Bool
+is_reset (step.AtMost most) = false
+is_reset step.Reset = true
+is_reset step.Fail = false
+
 -- One of the steps fails.
 abbrev pub has_failing : List Step → Bool
 has_failing [] = false
 has_failing (next ∷ later) = is_failing next || has_failing later
 
--- A read or a write may fail only at a step that does, or if the client is cut off.
+-- A read fails at one of the steps, or finds a reset.
+abbrev pub has_failed_read : List Step → Bool
+has_failed_read [] = false
+has_failed_read (next ∷ later) = is_failed_read next || has_failed_read later
+
+abbrev pub has_reset : List Step → Bool
+has_reset [] = false
+has_reset (next ∷ later) = is_reset next || has_reset later
+
+-- A read or a write may fail only at a step that does, or if the client is cut off. A read may find a
+-- reset only at such a step.
 abbrev pub breaks_of : PacedStream → Breaks
 breaks_of stream = record {
-  reading = has_failing stream.reads || stream.cut;
+  reading = has_failed_read stream.reads || stream.cut;
+  resetting = has_reset stream.reads;
   writing = has_failing stream.writes || stream.cut;
   cutting = stream.cut;
 }

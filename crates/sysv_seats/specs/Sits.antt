@@ -13,6 +13,7 @@ use Rattle.sysv_queue.specs.Tally.{taken_in}
 use Rattle.sysv_session.specs.declared.served.End.{End}
 use Rattle.sysv_session.specs.declared.served.Served.{Served}
 use Rattle.sysv_session.specs.declared.served.End.TheVariants.{Ended, NoMemory, NoHello, Fault, Write, Bound, Left}
+use Rattle.sysv_session.specs.declared.served.End.TheVariants.{Reset}
 use Rattle.sysv_session.specs.declared.session.TakenUp.{TakenUp}
 use Rattle.sysv_session.specs.Conversation.{Talk, gathered}
 use Rattle.sysv_session.specs.Outbox.{with_frame}
@@ -237,6 +238,7 @@ is_early (Fault Read) is_end = true
 is_early Write is_end = false
 is_early Bound is_end = false
 is_early Left is_end = false
+is_early Reset is_end = false
 
 -- Why the session of a client ends that is closed: why it has stopped; or its call is left; or
 -- nothing more is read.

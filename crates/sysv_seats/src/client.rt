@@ -434,7 +434,8 @@ impl<T: NonBlocking> Client<T> {
             }
             Filled::NothingNow => self.is_ready = false,
             Filled::Over(Over::End) => self.take_up(true, kernel, tools),
-            Filled::Over(Over::Reset | Over::Failed) => self.stop(End::Fault(Fault::Read)),
+            Filled::Over(Over::Reset) => self.stop(End::Reset),
+            Filled::Over(Over::Failed) => self.stop(End::Fault(Fault::Read)),
         }
     }
 

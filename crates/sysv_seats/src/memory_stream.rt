@@ -158,7 +158,7 @@ impl<'a> NonBlocking for MemoryStream<'a> {
         ensures refuses { FailsAt (next_step self.old.writes)
             → FailsAt (next_step self.new.writes) }
         ensures breaks { breaks_of self.new ≡ breaks_of self.old }
-        ensures reset { result ≡ Filled.Over Over.Reset → (breaks_of self.new).reading ≡ true }
+        ensures reset { result ≡ Filled.Over Over.Reset → (breaks_of self.new).resetting ≡ true }
         ensures failed { result ≡ Filled.Over Over.Failed → (breaks_of self.new).reading ≡ true }
     {
         if let Some(why) = self.over() {

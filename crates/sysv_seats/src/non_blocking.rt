@@ -43,7 +43,7 @@ pub trait NonBlocking {
         ensures refuses { refuses self.old → refuses self.new }
         ensures breaks { closes.breaks self.new ≡ closes.breaks self.old }
         ensures reset { result ≡ Filled.Over Over.Reset
-            → (closes.breaks self.new).reading ≡ true }
+            → (closes.breaks self.new).resetting ≡ true }
         ensures failed { result ≡ Filled.Over Over.Failed
             → (closes.breaks self.new).reading ≡ true };
 

@@ -27,7 +27,7 @@ use Rattle.sysv_server.specs.declared.host.Reason.TheVariants.{Full, InputOver, 
 
 -- This number of places had these shifts at the gates. Each began with a pass of the gates that holds
 -- no chain, and these are the sums of all their sessions. No message was lost if no session ended
--- because its connection failed or its memory was refused.
+-- because its connection failed or was reset, or because its memory was refused.
 pub record Worked (gates : Gates) (count : ℕ) (shifts : List Shift) (all : Sums) : Type 0 where
   pub places : length shifts ≡ count
   pub passes : AllByRecursion (λ (shift : Shift). AreOf gates shift.before.seats × (shift.before.held ≡ 0)) shifts

@@ -8,6 +8,7 @@ use Rattle.std.specs.Io.KnownBytes.{Consumes, IsAtEnd, prepend_known}
 use Rattle.sysv_model.specs.declared.cred.Cred.{Cred}
 use Rattle.sysv_session.specs.declared.served.End.{End}
 use Rattle.sysv_session.specs.declared.served.End.TheVariants.{Ended, NoMemory, NoHello, Fault, Write, Bound, Left}
+use Rattle.sysv_session.specs.declared.served.End.TheVariants.{Reset}
 use Rattle.sysv_session.specs.declared.session.Session.{Session}
 use Rattle.sysv_session.specs.declared.session.TakenUp.{TakenUp}
 use Rattle.sysv_session.specs.declared.session.TakenUp.TheVariants.{Hello, Request as Asked}
@@ -39,6 +40,7 @@ IsSettledEnd (Fault fault) more = IsSettledFault fault more
 IsSettledEnd Write more = ⊤
 IsSettledEnd Bound more = ⊤
 IsSettledEnd Left more = ⊤
+IsSettledEnd Reset more = ⊤
 
 -- What was taken up does not depend on what follows, or nothing follows.
 abbrev pub IsSettled : Result TakenUp End → Option (List ℕ) → Type 0
@@ -80,6 +82,7 @@ before_more (Fault fault) bytes rest more last here = faults_more RequestFault f
 before_more Write bytes rest more last here = absurd here
 before_more Bound bytes rest more last here = absurd here
 before_more Left bytes rest more last here = absurd here
+before_more Reset bytes rest more last here = absurd here
 
 request_more : (version : Version) (why : End) (bytes rest text : List ℕ) (more : Option (List ℕ)) →
     IsSettledEnd why more → TakesRequest version (Err why) (Some bytes) (Some rest) text →
@@ -93,6 +96,7 @@ request_more version (Fault fault) bytes rest text more last here =
 request_more version Write bytes rest text more last here = absurd here
 request_more version Bound bytes rest text more last here = absurd here
 request_more version Left bytes rest text more last here = absurd here
+request_more version Reset bytes rest text more last here = absurd here
 
 here_more : (caller : Option (Version × Cred)) (requests : ℕ) (why : End) (bytes rest text : List ℕ)
     (more : Option (List ℕ)) → IsSettledEnd why more → EndsHere caller requests why (Some bytes) (Some rest) text →
@@ -128,6 +132,7 @@ settled_at_end (Err (Fault Read)) more last = tt
 settled_at_end (Err Write) more last = tt
 settled_at_end (Err Bound) more last = tt
 settled_at_end (Err Left) more last = tt
+settled_at_end (Err Reset) more last = tt
 
 -- The bytes are no request, or end within one: what ends a session only at the end of the input.
 abbrev IsUnfinished : List ℕ → Type 0
@@ -187,6 +192,7 @@ settled_before (Fault Read) bytes rest more never here = tt
 settled_before Write bytes rest more never here = tt
 settled_before Bound bytes rest more never here = tt
 settled_before Left bytes rest more never here = tt
+settled_before Reset bytes rest more never here = tt
 
 settled_request : (version : Version) (why : End) (bytes rest text : List ℕ) (more : Option (List ℕ)) →
     (IsUnfinished bytes → ⊥) → TakesRequest version (Err why) (Some bytes) (Some rest) text → IsSettledEnd why more
@@ -202,6 +208,7 @@ settled_request version (Fault Read) bytes rest text more never here = tt
 settled_request version Write bytes rest text more never here = tt
 settled_request version Bound bytes rest text more never here = tt
 settled_request version Left bytes rest text more never here = tt
+settled_request version Reset bytes rest text more never here = tt
 
 settled_here : (caller : Option (Version × Cred)) (requests : ℕ) (why : End) (bytes rest text : List ℕ)
     (more : Option (List ℕ)) → (IsUnfinished bytes → ⊥) →

@@ -244,6 +244,7 @@ before oneA («end».Fault fault) input rest requests none ends course takes =
 before oneA «end».Write input rest requests none ends course takes = absurd ends
 before oneA «end».Bound input rest requests none ends course takes = absurd ends
 before oneA «end».Left input rest requests none ends course takes = absurd ends
+before oneA «end».Reset input rest requests none ends course takes = absurd ends
 
 -- All requests of the course were made if nothing more is read.
 told_none : (version : Version) (cred : Cred) (asked more : List Asked) (stop : Option Fault) (n requests : ℕ)
@@ -290,6 +291,7 @@ finishes oneA version cred asked more stop («end».Fault fault) n requests left
 finishes oneA version cred asked more stop «end».Write n requests left rest asks len counts ends = inr tt
 finishes oneA version cred asked more stop «end».Bound n requests left rest asks len counts ends = inr tt
 finishes oneA version cred asked more stop «end».Left n requests left rest asks len counts ends = inr tt
+finishes oneA version cred asked more stop «end».Reset n requests left rest asks len counts ends = absurd ends
 
 -- A session with a hello.
 after : OneAnswerToRequests → OneRequest

@@ -1,5 +1,5 @@
 -- What an outbox stands for, after each of its calls.
-use Rattle.std.proofs.Common.{◌≡◌, ℕ, ◌+◌, ◌-◌, ◌<◌, ◌≤◌, false, not, nat_le, List, [], ◌∷◌, ◌++◌}
+use Rattle.std.proofs.Common.{◌≡◌, ℕ, ◌+◌, ◌-◌, ◌<◌, ◌≤◌, true, false, not, nat_le, List, [], ◌∷◌, ◌++◌}
 use Rattle.std.proofs.Common.{Option, length, take, drop, map, refl, sym, ap, ap₂, ◌∙◌, arith, append_assoc, append-nil}
 use Rattle.std.proofs.Common.{length-append, length-take-le, take-append-drop, zero-add}
 use Rattle.std.proofs.KnownBytes.{Appends-trans}
@@ -12,11 +12,11 @@ use Rattle.sysv_queue.specs.Delivery.{Given}
 use Rattle.sysv_session.specs.Gathered.{BreaksOffWithin, ClosesAll, Gathered, GathersMessage, GathersNone}
 use Rattle.sysv_session.specs.Gathered.{GathersOn, GathersReply, all_bytes, marks_at, marks_from, message_frame}
 use Rattle.sysv_session.specs.Gathered.{message_of, plain}
-use Rattle.sysv_session.specs.Outbox.{Mark, beyond, is_within, mark_at, nearer}
+use Rattle.sysv_session.specs.Outbox.{Mark, beyond, is_passed, is_within, mark_at, nearer, passed}
 use Rattle.sysv_session.specs.Outbox.{within}
 use Rattle.sysv_session.specs.Output.{BreaksOff}
 use Rattle.sysv_session.proofs.ListLemmas.{concat_more}
-use Rattle.sysv_session.proofs.OutboxLemmas.{beyond-add, each_once, within-add}
+use Rattle.sysv_session.proofs.OutboxLemmas.{beyond-add, each_once, few_within, passed-add, within-beyond}
 use Rattle.sysv_wire.specs.declared.frame.Version.{Version}
 use Rattle.sysv_wire.specs.Frames.{frame}
 use Rattle.sysv_wire.specs.Numbers.{u32_bytes}
@@ -50,22 +50,27 @@ marks_more start (first ∷ more) reply =
 
 pub beyond-append : (n : ℕ) (xs ys : List Mark) → beyond n (xs ++ ys) ≡ beyond n xs ++ beyond n ys
 beyond-append n xs ys =
-    ap (map (nearer n)) (filter-append (λ (mark : Mark). not (is_within n mark)) xs ys)
-    ∙ map-append (nearer n) (filter (λ (mark : Mark). not (is_within n mark)) xs)
-    (filter (λ (mark : Mark). not (is_within n mark)) ys)
+    ap (map (nearer n)) (filter-append (λ (mark : Mark). not (is_passed n mark)) xs ys)
+    ∙ map-append (nearer n) (filter (λ (mark : Mark). not (is_passed n mark)) xs)
+    (filter (λ (mark : Mark). not (is_passed n mark)) ys)
 
 pub within-append : (n : ℕ) (xs ys : List Mark) → within n (xs ++ ys) ≡ within n xs + within n ys
 within-append n xs ys =
     ap (length {A = Mark}) (filter-append (is_within n) xs ys)
     ∙ length-append (filter (is_within n) xs) (filter (is_within n) ys)
 
+pub passed-append : (n : ℕ) (xs ys : List Mark) → passed n (xs ++ ys) ≡ passed n xs + passed n ys
+passed-append n xs ys =
+    ap (length {A = Mark}) (filter-append (is_passed n) xs ys)
+    ∙ length-append (filter (is_passed n) xs) (filter (is_passed n) ys)
+
 -- A mark that ends behind the first n bytes.
 one_beyond : (n place : ℕ) (given : Given) → n < place →
     beyond n (mark_at place given ∷ []) ≡ mark_at (place - n) given ∷ []
-one_beyond n place given lt = let is : nat_le place n ≡ false = grind (arith, nat_tests) in rw is
+one_beyond n place given lt = let is : nat_le (1 + place) n ≡ false = grind (arith, nat_tests) in rw is
 
-none_within : (n place : ℕ) (given : Given) → n < place → within n (mark_at place given ∷ []) ≡ 0
-none_within n place given lt = let is : nat_le place n ≡ false = grind (arith, nat_tests) in rw is
+none_passed : (n place : ℕ) (given : Given) → n < place → passed n (mark_at place given ∷ []) ≡ 0
+none_passed n place given lt = let is : nat_le (1 + place) n ≡ false = grind (arith, nat_tests) in rw is
 
 -- Where the frames end, once one more was put in.
 ends_at : (replies : List Gathered) (reply : Gathered) (taken bytes : List ℕ) → all_bytes replies ≡ taken ++ bytes →
@@ -80,7 +85,7 @@ gathers_reply start replies taken box tally frame old =
     record {
       bytes = ends_at replies (plain frame) taken box.bytes old.bytes;
       marks = old.marks ∙ ap (beyond (length taken)) (sym same);
-      written = old.written ∙ ap (λ (ms : List Mark). start.written + within (length taken) ms) (sym same);
+      written = old.written ∙ ap (λ (ms : List Mark). start.written + passed (length taken) ms) (sym same);
       lost = old.lost;
     }
 
@@ -109,9 +114,9 @@ gathers_message start replies taken box tally version given text old =
       written = omega (
         arith,
         old.written,
-        ap (within k) more,
-        within-append k (marks_from 0 replies) (mark_at place given ∷ []),
-        none_within k place given behind,
+        ap (passed k) more,
+        passed-append k (marks_from 0 replies) (mark_at place given ∷ []),
+        none_passed k place given behind,
       );
       lost = old.lost;
     }
@@ -128,15 +133,15 @@ gathers_on start replies taken box tally n fits old =
       written = omega (
         arith,
         old.written,
-        ap (within n) old.marks,
-        within-add (length taken) n (marks_from 0 replies),
-        ap (λ (k : ℕ). within k (marks_from 0 replies)) len,
+        ap (passed n) old.marks,
+        passed-add (length taken) n (marks_from 0 replies),
+        ap (λ (k : ℕ). passed k (marks_from 0 replies)) len,
       );
       lost = old.lost;
     }
 
 pub closes : ClosesAll
-closes start replies taken box tally old = record {
+closes true start replies taken box tally old = record {
   rest = box.bytes;
   prefix = old.bytes;
   written = old.written;
@@ -144,6 +149,24 @@ closes start replies taken box tally old = record {
     arith,
     old.written,
     old.lost,
+    ap (length {A = Mark}) old.marks,
+    each_once (length taken) (marks_from 0 replies),
+  );
+}
+closes false start replies taken box tally old = record {
+  rest = box.bytes;
+  prefix = old.bytes;
+  written = omega (
+    arith,
+    old.written,
+    ap (within 0) old.marks,
+    within-beyond (length taken) (marks_from 0 replies),
+  );
+  all = omega (
+    arith,
+    old.written,
+    old.lost,
+    few_within 0 box.marks,
     ap (length {A = Mark}) old.marks,
     each_once (length taken) (marks_from 0 replies),
   );

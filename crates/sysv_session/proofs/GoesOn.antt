@@ -1,5 +1,6 @@
 -- How a conversation goes on, from its start to its end.
-use Rattle.std.proofs.Common.{◌≡◌, ℕ, ◌+◌, ◌-◌, ◌^◌, ◌<◌, ◌≤◌, List, [], ◌∷◌, ◌++◌, length, take, Option, None}
+use Rattle.std.proofs.Common.{◌≡◌, ℕ, ◌+◌, ◌-◌, ◌^◌, ◌<◌, ◌≤◌, Bool, true, false, cond, List, [], ◌∷◌, ◌++◌, length}
+use Rattle.std.proofs.Common.{take, Option, None}
 use Rattle.std.proofs.Common.{Some, Ok, Err, refl, sym, ap, ap₂, subst, subst₂, ◌∙◌, arith, inl, inr}
 use Rattle.std.proofs.Common.{add-zero, append-nil, length-append}
 use Rattle.std.specs.Io.KnownBytes.{Appends, Consumes}
@@ -10,25 +11,29 @@ use Rattle.sysv_session.specs.declared.kernel.RequestOutcome.{RequestOutcome}
 use Rattle.sysv_session.specs.declared.kernel.RequestOutcome.TheVariants.{Reply, Got, Left as WasLeft}
 use Rattle.sysv_session.specs.declared.served.End.{End}
 use Rattle.sysv_session.specs.declared.served.End.TheVariants.{Ended, NoMemory, NoHello, Fault, Write, Bound, Left}
+use Rattle.sysv_session.specs.declared.served.End.TheVariants.{Reset}
 use Rattle.sysv_session.specs.declared.served.TheConstants.{SESSION_REQUESTS}
 use Rattle.sysv_session.specs.declared.session.Session.{Session}
 use Rattle.sysv_session.specs.declared.session.TakenUp.TheVariants.{Hello, Request as Asked}
 use Rattle.sysv_session.specs.Answers.{IsReplied, MayAnswer, messages_in}
 use Rattle.sysv_session.specs.Calls.{Call, Meaning}
 use Rattle.sysv_session.specs.Conversation.{HasRoom, Puts, Talk, gathered, report, reported, sent_on, with_outcome}
-use Rattle.sysv_session.specs.Gathered.{Gathered, Gathers, all_bytes, marks_from, messages_among}
-use Rattle.sysv_session.specs.Input.{EndsBefore, hello_spelling}
-use Rattle.sysv_session.specs.Outbox.{Mark, Unsent, with_frame}
+use Rattle.sysv_session.specs.Failing.{is_reset}
+use Rattle.sysv_session.specs.Gathered.{Gathered, Gathers, all_bytes, ends_message, marks_from, messages_among}
+use Rattle.sysv_session.specs.Gathered.{messages_passed, messages_within}
+use Rattle.sysv_session.specs.Input.{hello_spelling}
+use Rattle.sysv_session.specs.Outbox.{Mark, Unsent, at_end, with_frame}
 use Rattle.sysv_session.specs.Output.{AreReplied, hello_frame}
 use Rattle.sysv_session.specs.Stands.{Stands, StandsAsking, StandsGreeting, Stopped}
 use Rattle.sysv_session.specs.Stands.{only_lost}
 use Rattle.sysv_session.specs.TakenUp.{EndsHere, TakesRequest, TakesUp}
-use Rattle.sysv_session.specs.Together.{IsStoppedWithin, Replied, Reports, ServesTogether, StopsAfter}
+use Rattle.sysv_session.specs.Together.{IsStoppedWithin, Replied, Reports, ServesTogether, StopsAfter, StopsBefore}
+use Rattle.sysv_session.specs.Together.{unread_at}
 use Rattle.sysv_session.specs.UnderWay.{Fresh, Greeted, UnderWay, greeting, replies_to, reply_for, reply_to}
-use Rattle.sysv_session.proofs.GatheredLemmas.{gathers_message, gathers_none, gathers_on, gathers_reply}
+use Rattle.sysv_session.proofs.GatheredLemmas.{closes, gathers_message, gathers_none, gathers_on, gathers_reply}
 use Rattle.sysv_session.proofs.ListLemmas.{all_more, few_messages, messages_more}
-use Rattle.sysv_session.proofs.OutboxLemmas.{each_once}
-use Rattle.sysv_session.proofs.TogetherLemmas.{fault_within, replies_messages}
+use Rattle.sysv_session.proofs.OutboxLemmas.{each_once, few_within}
+use Rattle.sysv_session.proofs.TogetherLemmas.{fault_within, last_of_replies, replies_messages, stops_before}
 use Rattle.sysv_session.proofs.UnderWayLemmas.{Called, call_replied, hello_replied, hello_taken, request_called}
 use Rattle.sysv_session.proofs.UnderWayLemmas.{request_taken}
 use Rattle.sysv_wire.specs.declared.fault.Fault.TheVariants.{Read}
@@ -81,6 +86,7 @@ stops_after version (Fault fault) requests left rest text few takes = (takes, fa
 stops_after version Write requests left rest text few takes = absurd takes
 stops_after version Bound requests left rest text few takes = absurd takes
 stops_after version Left requests left rest text few takes = absurd takes
+stops_after version Reset requests left rest text few takes = absurd takes
 
 -- All requests have a reply, whatever stops the session, if it is none of these.
 all_reply : (why : End) (version : Version) (slots : ℕ) (calls : List Call) (left rest : Option (List ℕ))
@@ -93,6 +99,7 @@ all_reply (Fault fault) version slots calls left rest text replies takes all = a
 all_reply Write version slots calls left rest text replies takes all = absurd takes
 all_reply Bound version slots calls left rest text replies takes all = absurd takes
 all_reply Left version slots calls left rest text replies takes all = absurd takes
+all_reply Reset version slots calls left rest text replies takes all = absurd takes
 
 append_empty : (xs ys : List ℕ) → xs ++ ys ≡ [] → xs ≡ []
 append_empty [] ys none = refl
@@ -105,6 +112,48 @@ reports_of why (byte ∷ more) taken all is = inr (
   refl,
   λ same. absurd (omega (arith, ap (length {A = ℕ}) (same ∙ is), length-append taken (byte ∷ more))),
 )
+
+-- Each message that was counted or is in the outbox is counted once.
+all_at_end : (reset : Bool) (marks : List Mark) (tally : Tallied) →
+    taken_in (at_end reset marks tally) ≡ taken_in tally + length marks
+all_at_end true marks tally = omega arith
+all_at_end false marks tally = omega (arith, few_within 0 marks)
+
+none_at_end : (reset : Bool) (marks : List Mark) (tally : Tallied) → taken_in tally + length marks ≡ 0 →
+    at_end reset marks tally ≡ record { written = 0; lost = 0 }
+none_at_end reset marks tally none =
+    let all = all_at_end reset marks tally in
+    let written : (at_end reset marks tally).written ≡ 0 = omega (arith, all, none) in
+    let lost : (at_end reset marks tally).lost ≡ 0 = omega (arith, all, none) in
+    ap₂ (λ (w l : ℕ). let t : Tallied = record { written = w; lost = l } in t) written lost
+
+-- The messages that count as written at the end are those whose frames were taken whole; but after a
+-- reset none whose frame ends with the last byte that was taken.
+written_at_end : (why : End) (version : Version) (slots : ℕ) (calls : List Call) (replies : List Gathered) (lost : ℕ)
+    (taken : List ℕ) (box : Unsent) (tally : Tallied) → Replied why version slots calls replies →
+    Gathers (only_lost lost) replies taken box tally →
+    (at_end (is_reset why) box.marks tally).written + unread_at why (length taken) replies
+    ≡ messages_within (length taken) replies
+written_at_end Ended version slots calls replies lost taken box tally replied old =
+    omega (arith, (closes false (only_lost lost) replies taken box tally old).written)
+written_at_end NoMemory version slots calls replies lost taken box tally replied old =
+    omega (arith, (closes false (only_lost lost) replies taken box tally old).written)
+written_at_end NoHello version slots calls replies lost taken box tally replied old =
+    omega (arith, (closes false (only_lost lost) replies taken box tally old).written)
+written_at_end (Fault fault) version slots calls replies lost taken box tally replied old =
+    omega (arith, (closes false (only_lost lost) replies taken box tally old).written)
+written_at_end Write version slots calls replies lost taken box tally replied old =
+    omega (arith, (closes false (only_lost lost) replies taken box tally old).written)
+written_at_end Bound version slots calls replies lost taken box tally replied old =
+    omega (arith, (closes false (only_lost lost) replies taken box tally old).written)
+written_at_end Left version slots calls replies lost taken box tally replied old =
+    omega (arith, (closes false (only_lost lost) replies taken box tally old).written)
+written_at_end Reset version slots calls replies lost taken box tally replied old =
+    let n = length taken in
+    let last : messages_within n replies ≡ messages_passed n replies + cond (ends_message n replies) 1 0 =
+    subst (λ (l : List Gathered). messages_within n l ≡ messages_passed n l + cond (ends_message n l) 1 0)
+    (sym replied.1) (last_of_replies version slots calls n replied.0) in
+    omega (arith, (closes true (only_lost lost) replies taken box tally old).written, last)
 
 module _ {K : Type 0} (Means : Meaning K) (slots : ℕ) where
   -- A new conversation stands.
@@ -279,6 +328,7 @@ module _ {K : Type 0} (Means : Meaning K) (slots : ℕ) where
     put_ends (Fault fault) talk' put = absurd put
     put_ends Write talk' put = absurd put
     put_ends Bound talk' put = absurd put
+    put_ends Reset talk' put = absurd put
 
   -- The call is left.
   pub leaves : (cred : Cred) (request : Request) (text given : List ℕ) (talk : Talk) (old now new : K)
@@ -329,10 +379,10 @@ module _ {K : Type 0} (Means : Meaning K) (slots : ℕ) where
   stops_fresh : (why : End) (talk talk' : Talk) (old now : K) (left unread rest : Option (List ℕ)) (taken : List ℕ)
       (stands : Stands Means slots talk old now left unread taken)
       (fresh : Fresh talk.session old now left unread stands.replies)
-      → EndsBefore why unread rest → talk' ≡ talk → Stopped Means slots why talk' old now left rest taken
+      → StopsBefore why unread rest → talk' ≡ talk → Stopped Means slots why talk' old now left rest taken
   stops_fresh why talk talk' old now left unread rest taken stands fresh ends same = inl (record {
     kernel = fresh.kernel;
-    ends = subst (λ (l : Option (List ℕ)). EndsBefore why l rest) fresh.reads ends;
+    ends = subst (λ (l : Option (List ℕ)). StopsBefore why l rest) fresh.reads ends;
     gathers = subst (λ (l : List Gathered). Gathers (only_lost 0) l taken talk'.unsent talk'.session.tally)
         fresh.gathered
         (regathered (only_lost 0) stands.replies taken talk.unsent talk'.unsent talk.session.tally
@@ -366,7 +416,7 @@ module _ {K : Type 0} (Means : Meaning K) (slots : ℕ) where
   reads_stop why talk talk' old now left unread rest taken text stands (inl fresh) same here =
       let ends = subst (λ (c : Option (Version × Cred)). EndsHere c talk.session.requests why unread rest text)
       fresh.caller here in
-      stops_fresh why talk talk' old now left unread rest taken stands fresh ends.0 same
+      stops_fresh why talk talk' old now left unread rest taken stands fresh (stops_before why unread rest ends.0) same
   reads_stop why talk talk' old now left unread rest taken text stands (inr greeted) same here =
       reads_stop_at why talk talk' old now left unread rest taken text stands greeted same
       (subst (λ (c : Option (Version × Cred)). EndsHere c talk.session.requests why unread rest text)
@@ -383,7 +433,7 @@ module _ {K : Type 0} (Means : Meaning K) (slots : ℕ) where
   -- It stops without reading.
   stops_quiet : (why : End) (talk : Talk) (old now : K) (left unread : Option (List ℕ)) (taken : List ℕ)
       (stands : Stands Means slots talk old now left unread taken)
-      → UnderWay Means slots talk.session old now left unread stands.replies → EndsBefore why unread unread
+      → UnderWay Means slots talk.session old now left unread stands.replies → StopsBefore why unread unread
       → ((version : Version) → StopsAfter version why unread unread) → IsStoppedWithin why talk.session.requests
       → ((version : Version) (calls : List Call) (replies : List Gathered)
       → AreReplied calls × (replies ≡ replies_to version slots calls) → Replied why version slots calls replies)
@@ -424,6 +474,13 @@ module _ {K : Type 0} (Means : Meaning K) (slots : ℕ) where
   stops_read talk old now left unread taken stands =
       stops_quiet (Fault Read) talk old now left unread taken stands stands.under_way
       ([], Consumes-nil unread, tt, tt) (λ v. ([], Consumes-nil unread, tt, tt)) tt (λ v calls replies all. all)
+
+  -- The client has reset the connection.
+  pub stops_reset : (talk : Talk) (old now : K) (left unread : Option (List ℕ)) (taken : List ℕ)
+      → Stands Means slots talk old now left unread taken → Stopped Means slots Reset talk old now left unread taken
+  stops_reset talk old now left unread taken stands =
+      stops_quiet Reset talk old now left unread taken stands stands.under_way refl (λ v. refl) tt
+      (λ v calls replies all. all)
 
   -- The connection takes no more, and some replies are left.
   pub stops_write : (talk : Talk) (old now : K) (left unread : Option (List ℕ)) (taken : List ℕ)
@@ -604,14 +661,12 @@ module _ {K : Type 0} (Means : Meaning K) (slots : ℕ) where
       let sent : taken ≡ [] = append_empty taken talk.unsent.bytes nothing in
       let empty : talk.unsent.bytes ≡ [] =
       sym (ap (λ (l : List ℕ). l ++ talk.unsent.bytes) sent) ∙ nothing in
-      let each = each_counted 0 [] taken talk.unsent talk.session.tally none.gathers in
-      let written : talk.session.tally.written ≡ 0 = omega (arith, each) in
-      let lost : talk.session.tally.lost + length talk.unsent.marks ≡ 0 = omega (arith, each) in
       inl (record {
         kernel = none.kernel;
-        ends = subst (λ (l : List ℕ). EndsBefore (reported why l) left rest) (sym empty) none.ends;
+        ends = subst (λ (l : List ℕ). StopsBefore (reported why l) left rest) (sym empty) none.ends;
         writes = subst (Appends before after) sent writes;
-        tallies = ap₂ (λ (w l : ℕ). let t : Tallied = record { written = w; lost = l } in t) written lost;
+        tallies = none_at_end (is_reset why) talk.unsent.marks talk.session.tally
+            (each_counted 0 [] taken talk.unsent talk.session.tally none.gathers);
         counts = none.counts;
       })
   ends why talk old now left rest before after taken (inr stopped) writes =
@@ -636,8 +691,10 @@ module _ {K : Type 0} (Means : Meaning K) (slots : ℕ) where
         all = omega (
           arith,
           each_counted stopped.lost stopped.replies taken talk.unsent talk.session.tally stopped.gathers,
+          all_at_end (is_reset why) talk.unsent.marks talk.session.tally,
           stopped.all,
         );
-        written = omega (arith, stopped.gathers.written);
+        written = written_at_end why stopped.version slots stopped.calls stopped.replies stopped.lost taken talk.unsent
+            talk.session.tally stopped.replied stopped.gathers;
         counts = stopped.counts;
       })

@@ -6,14 +6,15 @@ use Rattle.std.proofs.Common.{append_assoc, append-nil, length-append, le_refl}
 use Rattle.std.proofs.Common.{le_of_suc-le-suc}
 use Rattle.std.proofs.Math.Seq.{drop-length, take-length}
 use Rattle.std.proofs.lemmas.Bool.Decides.{nat_tests}
-use Rattle.std.proofs.lemmas.List.{drop-append-le, drop-drop, length-drop, map-append, take-append-le}
+use Rattle.std.proofs.lemmas.List.{drop-append-le, drop-drop, length-drop, length-map, map-append, take-append-le}
 use Rattle.std.specs.Prelude.{OnOk, OnErr, is_err}
 use Rattle.sysv_queue.specs.Delivery.{Given}
 use Rattle.sysv_queue.specs.Tally.{Tallied, taken_in}
-use Rattle.sysv_session.specs.Layout.{InOrder, IsAscending, begins_within, unspent}
-use Rattle.sysv_session.specs.Outbox.{Mark, Unsent, beyond, mark_at, more_written, nearer, with_frame}
-use Rattle.sysv_session.specs.Outbox.{with_message, within, without}
-use Rattle.sysv_session.proofs.OutboxLemmas.{first_within}
+use Rattle.sysv_session.specs.Layout.{InOrder, IsAscending, begins_passed, unspent}
+use Rattle.sysv_session.specs.Outbox.{Mark, Unsent, at_end, beyond, mark_at, more_lost, more_written, nearer}
+use Rattle.sysv_session.specs.Outbox.{with_frame}
+use Rattle.sysv_session.specs.Outbox.{passed, with_message, within, without}
+use Rattle.sysv_session.proofs.OutboxLemmas.{first_passed, first_within}
 
 pub in_order_le : (least most : ℕ) (marks : List Mark) → InOrder least marks most → least ≤ most
 in_order_le least most [] order = order
@@ -36,58 +37,76 @@ pub in_order_nearer : (n least most : ℕ) (marks : List Mark) → InOrder least
 in_order_nearer n least most [] order = omega (arith, order)
 in_order_nearer n least most (x ∷ xs) order = (omega (arith, order.0), in_order_nearer n x.ends most xs order.1)
 
-unspent_at : (b : Bool) (n : ℕ) (x : Mark) (xs : List Mark) → nat_le x.ends n ≡ b →
+unspent_at : (b : Bool) (n : ℕ) (x : Mark) (xs : List Mark) → nat_le (1 + x.ends) n ≡ b →
     unspent n (x ∷ xs) ≡ cond b (unspent n xs) (x ∷ unspent n xs)
 unspent_at true n x xs is = rw is
 unspent_at false n x xs is = rw is
 
--- If the first mark lies beyond the first n bytes, all do.
-pub all_unspent : (n least most : ℕ) (marks : List Mark) → n < least → InOrder least marks most →
+-- If the first mark is not passed, none is.
+pub all_unspent : (n least most : ℕ) (marks : List Mark) → n ≤ least → InOrder least marks most →
     unspent n marks ≡ marks
-all_unspent n least most [] lt order = refl
-all_unspent n least most (x ∷ xs) lt order =
-    let is : nat_le x.ends n ≡ false = grind (arith, nat_tests, order.0) in
+all_unspent n least most [] le order = refl
+all_unspent n least most (x ∷ xs) le order =
+    let is : nat_le (1 + x.ends) n ≡ false = grind (arith, nat_tests, order.0) in
     unspent_at false n x xs is
-    ∙ ap (λ (l : List Mark). x ∷ l) (all_unspent n x.ends most xs (omega (arith, lt, order.0)) order.1)
+    ∙ ap (λ (l : List Mark). x ∷ l) (all_unspent n x.ends most xs (omega (arith, le, order.0)) order.1)
 
-pub none_within : (n least most : ℕ) (marks : List Mark) → n < least → InOrder least marks most → within n marks ≡ 0
-none_within n least most [] lt order = refl
-none_within n least most (x ∷ xs) lt order =
-    let is : nat_le x.ends n ≡ false = grind (arith, nat_tests, order.0) in
-    omega (arith, first_within false n x xs is, none_within n x.ends most xs (omega (arith, lt, order.0)) order.1)
+pub none_passed : (n least most : ℕ) (marks : List Mark) → n ≤ least → InOrder least marks most → passed n marks ≡ 0
+none_passed n least most [] le order = refl
+none_passed n least most (x ∷ xs) le order =
+    let is : nat_le (1 + x.ends) n ≡ false = grind (arith, nat_tests, order.0) in
+    omega (arith, first_passed false n x xs is, none_passed n x.ends most xs (omega (arith, le, order.0)) order.1)
 
-in_order_unspent_at : (b : Bool) (n least most : ℕ) (x : Mark) (xs : List Mark) → nat_le x.ends n ≡ b → n ≤ most →
+in_order_unspent_at : (b : Bool) (n least most : ℕ) (x : Mark) (xs : List Mark) → nat_le (1 + x.ends) n ≡ b → n ≤ most →
     InOrder least (x ∷ xs) most → InOrder n (unspent n xs) most → InOrder n (unspent n (x ∷ xs)) most
 in_order_unspent_at true n least most x xs is le order more =
     subst (λ (l : List Mark). InOrder n l most) (sym (unspent_at true n x xs is)) more
 in_order_unspent_at false n least most x xs is le order more =
-    let lt : n < x.ends = grind (arith, nat_tests) in
+    let behind : n ≤ x.ends = grind (arith, nat_tests) in
     subst (λ (l : List Mark). InOrder n l most)
-    (sym (unspent_at false n x xs is ∙ ap (λ (l : List Mark). x ∷ l) (all_unspent n x.ends most xs lt order.1)))
-    (omega (arith, lt), order.1)
+    (sym (unspent_at false n x xs is ∙ ap (λ (l : List Mark). x ∷ l) (all_unspent n x.ends most xs behind order.1)))
+    (behind, order.1)
 
--- The marks that are left lie behind the first n bytes.
+-- The marks that are left do not end before the last of the first n bytes.
 pub in_order_unspent : (n least most : ℕ) (marks : List Mark) → n ≤ most → InOrder least marks most →
     InOrder n (unspent n marks) most
 in_order_unspent n least most [] le order = le
 in_order_unspent n least most (x ∷ xs) le order =
-    in_order_unspent_at (nat_le x.ends n) n least most x xs refl le order
+    in_order_unspent_at (nat_le (1 + x.ends) n) n least most x xs refl le order
     (in_order_unspent n x.ends most xs le order.1)
 
 -- The marks of an outbox of which k bytes were taken.
-pub beyond_nearer : (k n : ℕ) (marks : List Mark) → beyond n (map (nearer k) marks) ≡ beyond (k + n) marks
-beyond_nearer k n [] = refl
-beyond_nearer k n (x ∷ xs) = grind (arith, nat_tests, beyond_nearer k n xs)
+pub beyond_nearer : (k n least most : ℕ) (marks : List Mark) → k ≤ least → InOrder least marks most →
+    beyond n (map (nearer k) marks) ≡ beyond (k + n) marks
+beyond_nearer k n least most [] le order = refl
+beyond_nearer k n least most (x ∷ xs) le order =
+    let behind : k ≤ x.ends = omega (arith, le, order.0) in
+    grind (arith, nat_tests, beyond_nearer k n x.ends most xs behind order.1)
 
-within_nearer_at : (b : Bool) (k n : ℕ) (x : Mark) (xs : List Mark) → nat_le x.ends (k + n) ≡ b →
-    within n (map (nearer k) xs) ≡ within (k + n) xs → within n (map (nearer k) (x ∷ xs)) ≡ within (k + n) (x ∷ xs)
-within_nearer_at b k n x xs is more =
-    let same : nat_le (x.ends - k) n ≡ b = grind (arith, nat_tests, is) in
-    omega (arith, first_within b (k + n) x xs is, first_within b n (nearer k x) (map (nearer k) xs) same, more)
+passed_nearer_at : (b : Bool) (k n : ℕ) (x : Mark) (xs : List Mark) → k ≤ x.ends → nat_le (1 + x.ends) (k + n) ≡ b →
+    passed n (map (nearer k) xs) ≡ passed (k + n) xs → passed n (map (nearer k) (x ∷ xs)) ≡ passed (k + n) (x ∷ xs)
+passed_nearer_at b k n x xs behind is more =
+    let same : nat_le (1 + (x.ends - k)) n ≡ b = grind (arith, nat_tests, is) in
+    omega (arith, first_passed b (k + n) x xs is, first_passed b n (nearer k x) (map (nearer k) xs) same, more)
 
-pub within_nearer : (k n : ℕ) (marks : List Mark) → within n (map (nearer k) marks) ≡ within (k + n) marks
-within_nearer k n [] = refl
-within_nearer k n (x ∷ xs) = within_nearer_at (nat_le x.ends (k + n)) k n x xs refl (within_nearer k n xs)
+pub passed_nearer : (k n least most : ℕ) (marks : List Mark) → k ≤ least → InOrder least marks most →
+    passed n (map (nearer k) marks) ≡ passed (k + n) marks
+passed_nearer k n least most [] le order = refl
+passed_nearer k n least most (x ∷ xs) le order =
+    let behind : k ≤ x.ends = omega (arith, le, order.0) in
+    passed_nearer_at (nat_le (1 + x.ends) (k + n)) k n x xs behind refl
+    (passed_nearer k n x.ends most xs behind order.1)
+
+whole_nearer_at : (b : Bool) (k : ℕ) (x : Mark) (xs : List Mark) → nat_le (1 + x.ends) (k + 1) ≡ b →
+    within 0 (map (nearer k) xs) ≡ passed (k + 1) xs → within 0 (map (nearer k) (x ∷ xs)) ≡ passed (k + 1) (x ∷ xs)
+whole_nearer_at b k x xs is more =
+    let same : nat_le (x.ends - k) 0 ≡ b = grind (arith, nat_tests, is) in
+    omega (arith, first_passed b (k + 1) x xs is, first_within b 0 (nearer k x) (map (nearer k) xs) same, more)
+
+-- The frames that were taken whole, of an outbox of which k bytes were taken.
+pub whole_nearer : (k : ℕ) (marks : List Mark) → within 0 (map (nearer k) marks) ≡ passed (k + 1) marks
+whole_nearer k [] = refl
+whole_nearer k (x ∷ xs) = whole_nearer_at (nat_le (1 + x.ends) (k + 1)) k x xs refl (whole_nearer k xs)
 
 pub nearer_none : (marks : List Mark) → map (nearer 0) marks ≡ marks
 nearer_none [] = refl
@@ -146,15 +165,20 @@ ok_of (Err failed) is ok = absurd (grind (arith, is))
 
 -- The connection takes n bytes more.
 module _ (taken n : ℕ) (bytes : List ℕ) (marks : List Mark) where
-  pub within_view : (box : Unsent) → view_of taken bytes marks ≡ box → within (taken + n) marks ≡ within n box.marks
-  within_view box is = sym (within_nearer taken n marks) ∙ ap (λ (b : Unsent). within n b.marks) is
+  pub passed_view : (box : Unsent) → view_of taken bytes marks ≡ box → InOrder taken marks (length bytes) →
+      passed (taken + n) marks ≡ passed n box.marks
+  passed_view box is order =
+      sym (passed_nearer taken n taken (length bytes) marks (le_refl taken) order)
+      ∙ ap (λ (b : Unsent). passed n b.marks) is
 
   pub sent_view : (marks' : List Mark) (box : Unsent) → view_of taken bytes marks ≡ box →
-      marks' ≡ unspent (taken + n) marks → view_of (taken + n) bytes marks' ≡ without n box
-  sent_view marks' box is left =
+      InOrder taken marks (length bytes) → marks' ≡ unspent (taken + n) marks →
+      view_of (taken + n) bytes marks' ≡ without n box
+  sent_view marks' box is order left =
       ap₂ (λ (l : List ℕ) (ms : List Mark). let b : Unsent = record { bytes = l; marks = ms } in b)
       (sym (drop-drop n taken bytes) ∙ ap (λ (b : Unsent). drop n b.bytes) is)
-      (ap (map (nearer (taken + n))) left ∙ sym (beyond_nearer taken n marks)
+      (ap (map (nearer (taken + n))) left
+      ∙ sym (beyond_nearer taken n taken (length bytes) marks (le_refl taken) order)
       ∙ ap (λ (b : Unsent). beyond n b.marks) is)
 
   pub sent_marks : (marks' : List Mark) (box : Unsent) → view_of taken bytes marks ≡ box → n ≤ length box.bytes →
@@ -196,7 +220,7 @@ in_order_rest x xs least most order = (x.ends, most, order.1)
 pub record Spending (n : ℕ) (all : List Mark) (before : Tallied) (marks : List Mark) (tally : Tallied) : Type 0 where
   pub order : IsAscending marks
   pub kept : unspent n marks ≡ unspent n all
-  pub spent : tally.written + within n marks ≡ before.written + within n all
+  pub spent : tally.written + passed n marks ≡ before.written + passed n all
   pub lost : tally.lost ≡ before.lost
   pub few : tally.written + length marks ≡ before.written + length all
 
@@ -211,40 +235,124 @@ module _ (n : ℕ) (all : List Mark) (before : Tallied) (x : Mark) (rest : List 
   pub spending_room : taken_in before + length all < 2 ^ 64 → taken_in tally < 2 ^ 64 - 1
   spending_room room = omega (arith, room, opened.few, opened.lost)
 
-  pub spending_on : (marks' : List Mark) (tally' : Tallied) → begins_within n marks ≡ true → marks' ≡ rest →
+  pub spending_on : (marks' : List Mark) (tally' : Tallied) → begins_passed n marks ≡ true → marks' ≡ rest →
       tally' ≡ more_written 1 tally → Spending n all before marks' tally'
   spending_on marks' tally' begun same one =
-      let is : nat_le x.ends n ≡ true = sym (ap (begins_within n) first) ∙ begun in
+      let is : nat_le (1 + x.ends) n ≡ true = sym (ap (begins_passed n) first) ∙ begun in
       subst₂ (λ (m : List Mark) (t : Tallied). Spending n all before m t) (sym same) (sym one) (record {
         order = in_order_rest x rest opened.order.0 opened.order.1 opened.order.2;
         kept = sym (unspent_at true n x rest is) ∙ opened.kept;
-        spent = omega (arith, first_within true n x rest is, opened.spent);
+        spent = omega (arith, first_passed true n x rest is, opened.spent);
         lost = opened.lost;
         few = omega (arith, opened.few);
       })
 
-all_kept : (n : ℕ) (marks : List Mark) → IsAscending marks → begins_within n marks ≡ false → unspent n marks ≡ marks
+all_kept : (n : ℕ) (marks : List Mark) → IsAscending marks → begins_passed n marks ≡ false → unspent n marks ≡ marks
 all_kept n [] order is = refl
 all_kept n (x ∷ xs) order is =
-    let lt : n < x.ends = grind (arith, nat_tests, is) in
+    let behind : n ≤ x.ends = grind (arith, nat_tests, is) in
     unspent_at false n x xs is
-    ∙ ap (λ (l : List Mark). x ∷ l) (all_unspent n x.ends order.1 xs lt order.2.1)
+    ∙ ap (λ (l : List Mark). x ∷ l) (all_unspent n x.ends order.1 xs behind order.2.1)
 
-none_spent : (n : ℕ) (marks : List Mark) → IsAscending marks → begins_within n marks ≡ false → within n marks ≡ 0
+none_spent : (n : ℕ) (marks : List Mark) → IsAscending marks → begins_passed n marks ≡ false → passed n marks ≡ 0
 none_spent n [] order is = refl
 none_spent n (x ∷ xs) order is =
-    let lt : n < x.ends = grind (arith, nat_tests, is) in
-    omega (arith, first_within false n x xs is, none_within n x.ends order.1 xs lt order.2.1)
+    let behind : n ≤ x.ends = grind (arith, nat_tests, is) in
+    omega (arith, first_passed false n x xs is, none_passed n x.ends order.1 xs behind order.2.1)
 
 -- No more marks are within.
 pub spending_ends : (n : ℕ) (all : List Mark) (before : Tallied) (marks : List Mark) (tally : Tallied) →
-    begins_within n marks ≡ false → Spending n all before marks tally →
-    (marks ≡ unspent n all) × (tally ≡ more_written (within n all) before)
+    begins_passed n marks ≡ false → Spending n all before marks tally →
+    (marks ≡ unspent n all) × (tally ≡ more_written (passed n all) before)
 spending_ends n all before marks tally is old =
-    let written : tally.written ≡ before.written + within n all =
+    let written : tally.written ≡ before.written + passed n all =
     omega (arith, old.spent, none_spent n marks old.order is) in (
       sym (all_kept n marks old.order is) ∙ old.kept,
       ap₂ (λ (w l : ℕ). record { written = w; lost = l }) written old.lost,
+    )
+
+none_at_start : (marks : List Mark) → passed 0 marks ≡ 0
+none_at_start [] = refl
+none_at_start (x ∷ xs) =
+    let is : nat_le (1 + x.ends) 0 ≡ false = grind (arith, nat_tests) in
+    omega (arith, first_passed false 0 x xs is, none_at_start xs)
+
+unspent_length_at : (b : Bool) (n : ℕ) (x : Mark) (xs : List Mark) → nat_le (1 + x.ends) n ≡ b →
+    passed n xs + length (unspent n xs) ≡ length xs →
+    passed n (x ∷ xs) + length (unspent n (x ∷ xs)) ≡ length (x ∷ xs)
+unspent_length_at true n x xs is more =
+    omega (arith, first_passed true n x xs is, ap (length {A = Mark}) (unspent_at true n x xs is), more)
+unspent_length_at false n x xs is more =
+    omega (arith, first_passed false n x xs is, ap (length {A = Mark}) (unspent_at false n x xs is), more)
+
+-- Each mark is passed or unspent.
+unspent_length : (n : ℕ) (marks : List Mark) → passed n marks + length (unspent n marks) ≡ length marks
+unspent_length n [] = refl
+unspent_length n (x ∷ xs) = unspent_length_at (nat_le (1 + x.ends) n) n x xs refl (unspent_length n xs)
+
+-- An outbox ends of which `taken` bytes were taken, after a reset or not.
+module _ (taken : ℕ) (bytes : List ℕ) (marks marks' : List Mark) (before mid after : Tallied) (box : Unsent)
+    (view : view_of taken bytes marks ≡ box) where
+  marks_seen : length box.marks ≡ length marks
+  marks_seen = ap (λ (b : Unsent). length b.marks) (sym view) ∙ length-map marks (nearer taken)
+
+  ended_at : (is_reset : Bool) → marks' ≡ unspent (cond is_reset 0 (taken + 1)) marks →
+      mid ≡ more_written (passed (cond is_reset 0 (taken + 1)) marks) before → after ≡ more_lost (length marks') mid →
+      after ≡ at_end is_reset box.marks before
+  ended_at true left written lost =
+      let none = none_at_start marks in
+      let w : after.written ≡ before.written =
+      omega (arith, ap (λ (t : Tallied). t.written) lost, ap (λ (t : Tallied). t.written) written, none) in
+      let l : after.lost ≡ before.lost + length box.marks =
+      omega (
+        arith,
+        ap (λ (t : Tallied). t.lost) lost,
+        ap (λ (t : Tallied). t.lost) written,
+        ap (length {A = Mark}) left,
+        unspent_length 0 marks,
+        none,
+        marks_seen,
+      ) in
+      ap₂ (λ (a b : ℕ). let t : Tallied = record { written = a; lost = b } in t) w l
+  ended_at false left written lost =
+      let whole : within 0 box.marks ≡ passed (taken + 1) marks =
+      ap (λ (b : Unsent). within 0 b.marks) (sym view) ∙ whole_nearer taken marks in
+      let w : after.written ≡ before.written + within 0 box.marks =
+      omega (arith, ap (λ (t : Tallied). t.written) lost, ap (λ (t : Tallied). t.written) written, whole) in
+      let l : after.lost ≡ before.lost + (length box.marks - within 0 box.marks) =
+      omega (
+        arith,
+        ap (λ (t : Tallied). t.lost) lost,
+        ap (λ (t : Tallied). t.lost) written,
+        ap (length {A = Mark}) left,
+        unspent_length (taken + 1) marks,
+        whole,
+        marks_seen,
+      ) in
+      ap₂ (λ (a b : ℕ). let t : Tallied = record { written = a; lost = b } in t) w l
+
+pub ended_view : (is_reset : Bool) (taken : ℕ) (bytes : List ℕ) (marks marks' : List Mark)
+    (before mid after : Tallied) (box : Unsent) (place : ℕ) → view_of taken bytes marks ≡ box →
+    place ≡ cond is_reset 0 (taken + 1) → marks' ≡ unspent place marks →
+    mid ≡ more_written (passed place marks) before → after ≡ more_lost (length marks') mid →
+    after ≡ at_end is_reset box.marks before
+ended_view is_reset taken bytes marks marks' before mid after box place view is left written lost =
+    ended_at taken bytes marks marks' before mid after box view is_reset
+    (left ∙ ap (λ (n : ℕ). unspent n marks) is) (written ∙ ap (λ (n : ℕ). more_written (passed n marks) before) is) lost
+
+-- The tally has room for the deliveries that are left.
+pub ended_room : (taken : ℕ) (bytes : List ℕ) (marks marks' : List Mark) (before mid : Tallied) (box : Unsent)
+    (place : ℕ) → view_of taken bytes marks ≡ box → taken_in before + length box.marks < 2 ^ 64 →
+    marks' ≡ unspent place marks → mid ≡ more_written (passed place marks) before →
+    taken_in mid + length marks' < 2 ^ 64
+ended_room taken bytes marks marks' before mid box place view room left written =
+    omega (
+      arith,
+      room,
+      marks_seen taken bytes marks marks' before mid mid box view,
+      ap (length {A = Mark}) left,
+      ap taken_in written,
+      unspent_length place marks,
     )
 
 -- Marks are brought nearer, from the front to the back: all were but the first `left`.

@@ -15,6 +15,7 @@ use Rattle.sysv_session.specs.declared.kernel.RequestOutcome.TheVariants.{Reply}
 use Rattle.sysv_session.specs.declared.kernel.RequestOutcome.TheVariants as outcomes
 use Rattle.sysv_session.specs.declared.served.End.{End}
 use Rattle.sysv_session.specs.declared.served.End.TheVariants.{Ended, NoMemory, NoHello, Fault, Write, Bound, Left}
+use Rattle.sysv_session.specs.declared.served.End.TheVariants.{Reset}
 use Rattle.sysv_session.specs.declared.served.TheConstants.{SESSION_REQUESTS}
 use Rattle.sysv_session.specs.declared.session.Session.{Session}
 use Rattle.sysv_session.specs.declared.session.TakenUp.TheVariants.{Hello, Request as Asked}
@@ -187,6 +188,7 @@ module _ {K : Type 0} (Means : Meaning K) (slots : ℕ) (old : K) (left taken : 
     reads_stop_at Write greeted few takes = absurd takes
     reads_stop_at Bound greeted few takes = absurd takes
     reads_stop_at Left greeted few takes = absurd takes
+    reads_stop_at Reset greeted few takes = absurd takes
 
     reads_stop : (why : End) (greeted : Greeted Means slots session old now left unread so_far.replies) →
         EndsHere (Some (greeted.version, greeted.cred)) session.requests why unread rest text →
@@ -300,6 +302,7 @@ module _ {K : Type 0} (Means : Meaning K) (slots : ℕ) (old : K) (left taken : 
         answers_hello (Err NoHello) answers = absurd answers
         answers_hello (Err (Fault fault)) answers = absurd answers
         answers_hello (Err Bound) answers = absurd answers
+        answers_hello (Err Reset) answers = absurd answers
 
       -- A request.
       module _ (cred : Cred) (call : Call) (next : K)
@@ -373,3 +376,4 @@ module _ {K : Type 0} (Means : Meaning K) (slots : ℕ) (old : K) (left taken : 
         answers_call (Err NoHello) answers = absurd answers
         answers_call (Err (Fault fault)) answers = absurd answers
         answers_call (Err Bound) answers = absurd answers
+        answers_call (Err Reset) answers = absurd answers

@@ -1,29 +1,36 @@
 -- Replies as they are gathered, and a session whose writer took one after another.
 use Rattle.std.proofs.Common.{◌≡◌, ◌≢◌, ℕ, ◌+◌, ◌-◌, ◌<◌, ◌≤◌, List, [], ◌∷◌, ◌++◌, length, take, map, Option, None}
 use Rattle.std.proofs.Common.{Some}
-use Rattle.std.proofs.Common.{cond, refl, sym, ap, ap₂, subst, ◌∙◌, arith, inl, inr, ◌⊎◌, append-nil, length-append}
+use Rattle.std.proofs.Common.{Bool, true, false, nat_le, cond, refl, sym, ap, ap₂, subst, ◌∙◌, arith, inl, inr, ◌⊎◌}
+use Rattle.std.proofs.Common.{append-nil, length-append}
+use Rattle.std.proofs.lemmas.Bool.{cases_order}
 use Rattle.std.proofs.lemmas.Bool.Decides.{nat_tests}
 use Rattle.std.proofs.lemmas.List.{map-append, take_at}
 use Rattle.std.proofs.lemmas.List.Sums.{sum_by-cons}
 use Rattle.std.proofs.KnownBytes.{Appends-nil}
 use Rattle.std.specs.Io.KnownBytes.{Appends}
-use Rattle.std.specs.List.{concat}
+use Rattle.std.specs.List.{AllByRecursion, concat}
 use Rattle.sysv_queue.specs.Delivery.{Given}
 use Rattle.sysv_queue.specs.Tally.{Tallied}
 use Rattle.sysv_session.specs.declared.kernel.RequestOutcome.{RequestOutcome}
 use Rattle.sysv_session.specs.declared.kernel.RequestOutcome.TheVariants.{Reply, Got, Left as WasLeft}
 use Rattle.sysv_session.specs.declared.served.End.{End}
 use Rattle.sysv_session.specs.declared.served.End.TheVariants.{Ended, NoMemory, NoHello, Fault, Write, Bound, Left}
+use Rattle.sysv_session.specs.declared.served.End.TheVariants.{Reset}
 use Rattle.sysv_session.specs.Answers.{IsReplied, is_message, message_reply, messages_in, outcome_spelling}
 use Rattle.sysv_session.specs.Calls.{Call, Meaning, messages_of}
-use Rattle.sysv_session.specs.Gathered.{Gathered, all_bytes, marks_at, marks_from, messages_among, messages_within}
-use Rattle.sysv_session.specs.Outbox.{within}
+use Rattle.sysv_session.specs.Gathered.{Gathered, all_bytes, ends_message, has_end, marks_at, marks_from}
+use Rattle.sysv_session.specs.Gathered.{messages_among, messages_passed, messages_within}
+use Rattle.sysv_session.specs.Input.{EndsBefore}
+use Rattle.sysv_session.specs.Outbox.{Mark, mark_at, passed, within}
 use Rattle.sysv_session.specs.Output.{AreReplied, BreaksOff, frames_of, hello_frame}
 use Rattle.sysv_session.specs.Session.{IsBounded, Talks}
-use Rattle.sysv_session.specs.Together.{AreTogether, FailsEarly, IsStoppedWithin, Replied, StopsAfter, TalksTogether}
+use Rattle.sysv_session.specs.Together.{AreTogether, FailsEarly, IsStoppedWithin, Replied, StopsAfter, StopsBefore}
+use Rattle.sysv_session.specs.Together.{TalksTogether, unread_at}
 use Rattle.sysv_session.specs.UnderWay.{greeting, replies_to, reply_for, reply_to}
 use Rattle.sysv_session.proofs.GatheredLemmas.{all_more, breaks_off, breaks_off_far, marks_more, within-append}
 use Rattle.sysv_session.proofs.ListLemmas.{all_but_last, concat_more, frames_more, left_frames}
+use Rattle.sysv_session.proofs.OutboxLemmas.{first_passed, first_within}
 use Rattle.sysv_wire.specs.declared.fault.Fault.{Fault as WireFault}
 use Rattle.sysv_wire.specs.declared.fault.Fault.TheVariants.{Truncated, TooLong, BadOp, BadField, Read}
 use Rattle.sysv_wire.specs.declared.frame.Version.{Version}
@@ -132,6 +139,121 @@ replied_bytes version WasLeft given replied = absurd replied
 pub hello_bytes : (version : Version) (slots : ℕ) → 0 < length (hello_frame version slots)
 hello_bytes version slots = some_bytes _ []
 
+-- Each frame has bytes.
+abbrev HaveBytes : List Gathered → Type 0
+HaveBytes replies = AllByRecursion (λ (reply : Gathered). 0 < length reply.frame) replies
+
+calls_have_bytes : (calls : List Call) → AreReplied calls → HaveBytes (map reply_to calls)
+calls_have_bytes [] replied = tt
+calls_have_bytes (call ∷ calls) replied = (
+  subst (λ (l : List ℕ). 0 < length l) (sym (reply_bytes call.request.version call.outcome call.given))
+      (replied_bytes call.request.version call.outcome call.given replied.0),
+  calls_have_bytes calls replied.1,
+)
+
+-- No mark ends in the first n bytes.
+record NoneWithin (n : ℕ) (marks : List Mark) : Type 0 where
+  whole : within n marks ≡ 0
+  passed : passed n marks ≡ 0
+  ends : has_end n marks ≡ false
+
+none_at : (n place : ℕ) (message : Option Given) (rest : List Mark) → n < place → NoneWithin n rest →
+    NoneWithin n (marks_at place message ++ rest)
+none_at n place None rest lt none = none
+none_at n place (Some given) rest lt none =
+    let out : nat_le place n ≡ false = grind (arith, nat_tests) in
+    let behind : nat_le (1 + place) n ≡ false = grind (arith, nat_tests) in
+    record {
+      whole = omega (arith, first_within false n (mark_at place given) rest out, none.whole);
+      passed = omega (arith, first_passed false n (mark_at place given) rest behind, none.passed);
+      ends = grind (arith, nat_tests, none.ends);
+    }
+
+-- All frames end after their beginning.
+none_from : (n start : ℕ) (replies : List Gathered) → n ≤ start → HaveBytes replies →
+    NoneWithin n (marks_from start replies)
+none_from n start [] le have = record { whole = refl; passed = refl; ends = refl }
+none_from n start (reply ∷ more) le have =
+    let place = start + length reply.frame in
+    let behind : n < place = omega (arith, le, have.0) in
+    none_at n place reply.message (marks_from place more) behind
+    (none_from n place more (omega (arith, behind)) have.1)
+
+-- At most one frame ends with the n-th byte.
+abbrev OneEnds : ℕ → List Mark → Type 0
+OneEnds n marks = within n marks ≡ passed n marks + cond (has_end n marks) 1 0
+
+one_before : (n place : ℕ) (given : Given) (rest : List Mark) → place < n → OneEnds n rest →
+    OneEnds n (mark_at place given ∷ rest)
+one_before n place given rest lt one =
+    let inside : nat_le place n ≡ true = grind (arith, nat_tests) in
+    let behind : nat_le (1 + place) n ≡ true = grind (arith, nat_tests) in
+    let same : has_end n (mark_at place given ∷ rest) ≡ has_end n rest = grind (arith, nat_tests) in
+    omega (
+      arith,
+      first_within true n (mark_at place given) rest inside,
+      first_passed true n (mark_at place given) rest behind,
+      ap (λ (b : Bool). let m : ℕ = cond b 1 0 in m) same,
+      one,
+    )
+
+one_here : (n place : ℕ) (given : Given) (rest : List Mark) → place ≡ n → NoneWithin n rest →
+    OneEnds n (mark_at place given ∷ rest)
+one_here n place given rest is none =
+    let inside : nat_le place n ≡ true = grind (arith, nat_tests) in
+    let behind : nat_le (1 + place) n ≡ false = grind (arith, nat_tests) in
+    let same : has_end n (mark_at place given ∷ rest) ≡ true = grind (arith, nat_tests) in
+    omega (
+      arith,
+      first_within true n (mark_at place given) rest inside,
+      first_passed false n (mark_at place given) rest behind,
+      ap (λ (b : Bool). let m : ℕ = cond b 1 0 in m) same,
+      none.whole,
+      none.passed,
+    )
+
+none_ends : (n : ℕ) (marks : List Mark) → NoneWithin n marks → OneEnds n marks
+none_ends n marks none =
+    omega (arith, none.whole, none.passed, ap (λ (b : Bool). let m : ℕ = cond b 1 0 in m) none.ends)
+
+one_at : (n place : ℕ) (given : Given) (rest : List Mark) → (place ≡ n) ⊎ ((place < n) ⊎ (n < place)) →
+    (n ≤ place → NoneWithin n rest) → OneEnds n rest → OneEnds n (mark_at place given ∷ rest)
+one_at n place given rest (inl is) none one = one_here n place given rest is (none (omega (arith, is)))
+one_at n place given rest (inr (inl lt)) none one = one_before n place given rest lt one
+one_at n place given rest (inr (inr lt)) none one =
+    none_ends n _ (none_at n place (Some given) rest lt (none (omega (arith, lt))))
+
+one_more : (n place : ℕ) (message : Option Given) (rest : List Mark) → (n ≤ place → NoneWithin n rest) →
+    OneEnds n rest → OneEnds n (marks_at place message ++ rest)
+one_more n place None rest none one = one
+one_more n place (Some given) rest none one =
+    one_at n place given rest (cases_order place n) none one
+
+one_ends : (n start : ℕ) (replies : List Gathered) → HaveBytes replies → OneEnds n (marks_from start replies)
+one_ends n start [] have = refl
+one_ends n start (reply ∷ more) have =
+    let place = start + length reply.frame in
+    one_more n place reply.message (marks_from place more) (λ le. none_from n place more le have.1)
+    (one_ends n place more have.1)
+
+-- Of the replies to these calls at most one message's frame ends with the n-th byte.
+pub last_of_replies : (version : Version) (slots : ℕ) (calls : List Call) (n : ℕ) → AreReplied calls →
+    messages_within n (replies_to version slots calls)
+    ≡ messages_passed n (replies_to version slots calls) + cond (ends_message n (replies_to version slots calls)) 1 0
+last_of_replies version slots calls n replied =
+    one_ends n 0 (replies_to version slots calls) (hello_bytes version slots, calls_have_bytes calls replied)
+
+-- What ends a session before its hello stops a conversation too.
+pub stops_before : (why : End) (left rest : Option (List ℕ)) → EndsBefore why left rest → StopsBefore why left rest
+stops_before Ended left rest ends = ends
+stops_before NoMemory left rest ends = ends
+stops_before NoHello left rest ends = ends
+stops_before (Fault fault) left rest ends = ends
+stops_before Write left rest ends = ends
+stops_before Bound left rest ends = ends
+stops_before Left left rest ends = ends
+stops_before Reset left rest ends = absurd ends
+
 -- A writer took the first frames whole, and not all of the last.
 pub record Broken (front : List (List ℕ)) (last : List ℕ) (old new : Option (List ℕ)) : Type 0 where
   pub sent : List ℕ
@@ -235,9 +357,10 @@ module _ {K : Type 0} where
       → StopsAfter talks.version why talks.unread rest → IsStoppedWithin why requests
       → Replied why talks.version slots talks.calls (replies_to talks.version slots done)
       → Appends taken more (concat (hello_frame talks.version slots ∷ frames_of done))
-      → tally.written ≡ messages_of done
+      → tally.written ≡ messages_of done → ((n : ℕ) (l : List Gathered) → unread_at why n l ≡ 0)
       → TalksTogether Means slots why tally requests old new left rest taken more
-  whole Means slots why tally requests old new left rest taken more talks done ends bounded replied writes written =
+  whole Means slots why tally requests old new left rest taken more talks done ends bounded replied writes written
+      read =
       let replies = replies_to talks.version slots done in
       record {
         version = talks.version;
@@ -261,6 +384,7 @@ module _ {K : Type 0} where
         written = omega (
           arith,
           written,
+          read (length (all_bytes replies)) replies,
           all_within (length (all_bytes replies)) 0 replies (omega arith),
           replies_messages talks.version slots done,
         );
@@ -373,7 +497,7 @@ module _ {K : Type 0} where
       (done, last, is, talks.replies.4, (talks.replies.3, refl))
       (subst (λ (l : List ℕ). Appends taken more (hello_frame version slots ++ l)) frames talks.writes)
       (talks.tallies.1 ∙ ap (λ (l : List Call). messages_of (take (length l - 1) l)) is
-      ∙ ap messages_of (all_but_last done last))
+      ∙ ap messages_of (all_but_last done last)) (λ n l. refl)
 
   talks_together : (Means : Meaning K) (slots : ℕ) (why : End) (tally : Tallied) (requests : ℕ) (old new : K)
       (left rest taken more : Option (List ℕ))
@@ -382,24 +506,25 @@ module _ {K : Type 0} where
       → TalksTogether Means slots why tally requests old new left rest taken more
   talks_together Means slots Ended tally requests old new left rest taken more talks early =
       whole Means slots Ended tally requests old new left rest taken more talks talks.calls talks.ends talks.bounded
-      (talks.replies, refl) talks.writes talks.tallies.1
+      (talks.replies, refl) talks.writes talks.tallies.1 (λ n l. refl)
   talks_together Means slots NoMemory tally requests old new left rest taken more talks early = absurd talks.ends
   talks_together Means slots NoHello tally requests old new left rest taken more talks early = absurd talks.ends
   talks_together Means slots (Fault fault) tally requests old new left rest taken more talks early =
       whole Means slots (Fault fault) tally requests old new left rest taken more talks talks.calls talks.ends
-      (fault_within fault requests talks.bounded) (talks.replies, refl) talks.writes talks.tallies.1
+      (fault_within fault requests talks.bounded) (talks.replies, refl) talks.writes talks.tallies.1 (λ n l. refl)
   talks_together Means slots Write tally requests old new left rest taken more talks early =
       fails Means slots tally requests old new left rest taken more talks early (last_of talks.calls)
   talks_together Means slots Bound tally requests old new left rest taken more talks early =
       whole Means slots Bound tally requests old new left rest taken more talks talks.calls talks.ends talks.bounded
-      (talks.replies, refl) talks.writes talks.tallies.1
+      (talks.replies, refl) talks.writes talks.tallies.1 (λ n l. refl)
   talks_together Means slots Left tally requests old new left rest taken more talks early =
       leaves Means slots tally requests old new left rest taken more talks
+  talks_together Means slots Reset tally requests old new left rest taken more talks early = absurd talks.ends
 
   pub together : (Means : Meaning K) → AreTogether Means
   together Means slots served old new left rest taken more (inl stays) early = inl (record {
     kernel = stays.kernel;
-    ends = stays.ends;
+    ends = stops_before served.«end» left rest stays.ends;
     writes = subst (λ (m : Option (List ℕ)). Appends taken m []) (sym stays.writes) (Appends-nil taken);
     tallies = stays.tallies;
     counts = stays.counts;

@@ -5,11 +5,13 @@ use Rattle.sysv_session.specs.declared.kernel.RequestOutcome.{RequestOutcome}
 use Rattle.sysv_session.specs.declared.kernel.RequestOutcome.TheVariants.{Reply, Got, Left as WasLeft}
 use Rattle.sysv_session.specs.declared.served.End.{End}
 use Rattle.sysv_session.specs.declared.served.End.TheVariants.{Ended, NoMemory, NoHello, Fault, Write, Bound, Left}
+use Rattle.sysv_session.specs.declared.served.End.TheVariants.{Reset}
 use Rattle.sysv_session.specs.declared.served.Served.{Served}
 use Rattle.sysv_session.specs.declared.session.Session.{Session}
 use Rattle.sysv_session.specs.Answers.{IsReplied}
+use Rattle.sysv_session.specs.Failing.{is_reset}
 use Rattle.sysv_session.specs.Gathered.{message_frame}
-use Rattle.sysv_session.specs.Outbox.{Unsent, more_lost, more_written, with_frame, with_message, within, without}
+use Rattle.sysv_session.specs.Outbox.{Unsent, at_end, more_written, passed, with_frame, with_message, without}
 use Rattle.sysv_session.specs.Turn.{one_lost}
 use Rattle.sysv_wire.specs.declared.frame.Version.{Version}
 use Rattle.sysv_wire.specs.Replies.{reply_spelling}
@@ -41,7 +43,7 @@ lost_outcome outcome talk =
 -- The connection has taken n bytes more.
 abbrev pub sent_on : ℕ → Talk → Talk
 sent_on n talk = record {
-  session = tallied (more_written (within n talk.unsent.marks) talk.session.tally) talk.session;
+  session = tallied (more_written (passed n talk.unsent.marks) talk.session.tally) talk.session;
   unsent = without n talk.unsent;
 }
 
@@ -50,11 +52,12 @@ abbrev pub reported : End → List ℕ → End
 reported why [] = why
 reported why (byte ∷ more) = Write
 
--- What a session reports that ends for this reason. The messages in its outbox are lost.
+-- What a session reports that ends for this reason. Of the messages in its outbox, those that the
+-- connection has taken whole are written, unless it was reset, and the others are lost.
 abbrev pub report : End → Talk → Served
 report why talk = record {
   «end» = reported why talk.unsent.bytes;
-  tally = more_lost (length talk.unsent.marks) talk.session.tally;
+  tally = at_end (is_reset why) talk.unsent.marks talk.session.tally;
   requests = talk.session.requests;
 }
 
@@ -70,6 +73,7 @@ Puts (Err NoHello) version outcome given old new = ⊥
 Puts (Err (Fault fault)) version outcome given old new = ⊥
 Puts (Err Write) version outcome given old new = ⊥
 Puts (Err Bound) version outcome given old new = ⊥
+Puts (Err Reset) version outcome given old new = ⊥
 
 -- The tally can count one more message for each delivery in the outbox.
 abbrev pub HasRoom : Talk → Type 0

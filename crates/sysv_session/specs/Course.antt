@@ -110,6 +110,7 @@ IsCutShort («end».Fault Read) = ⊤
 IsCutShort «end».Write = ⊤
 IsCutShort «end».Bound = ⊤
 IsCutShort «end».Left = ⊤
+IsCutShort «end».Reset = ⊥
 
 -- The session ended as the course of its input determines, or it was cut short.
 abbrev pub Follows : Course → Served → Type 0

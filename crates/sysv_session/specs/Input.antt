@@ -65,6 +65,7 @@ EndsBefore («end».Fault fault) old new = Faults RequestFault fault old new
 EndsBefore «end».Write old new = ⊥
 EndsBefore «end».Bound old new = ⊥
 EndsBefore «end».Left old new = ⊥
+EndsBefore «end».Reset old new = ⊥
 
 -- Why a session ends after its hello, by what it took of the input after the last request that it
 -- took up.
@@ -76,6 +77,7 @@ EndsAfter version («end».Fault fault) old new = Faults (LaterFault version) fa
 EndsAfter version «end».Write old new = new ≡ old
 EndsAfter version «end».Bound old new = new ≡ old
 EndsAfter version «end».Left old new = new ≡ old
+EndsAfter version «end».Reset old new = ⊥
 
 -- The version and the credentials of a hello are read, or there is a reason why there is no hello.
 abbrev pub Greets : Result (Version × Cred) End → Option (List ℕ) → Option (List ℕ) → Type 0

@@ -6,6 +6,7 @@ use Rattle.std.specs.Io.KnownBytes.{Appends}
 use Rattle.sysv_queue.specs.Tally.{Tallied, taken_in}
 use Rattle.sysv_session.specs.declared.served.End.{End}
 use Rattle.sysv_session.specs.declared.served.End.TheVariants.{Ended, NoMemory, NoHello, Fault, Write, Bound, Left}
+use Rattle.sysv_session.specs.declared.served.End.TheVariants.{Reset}
 use Rattle.sysv_session.specs.declared.kernel.RequestOutcome.TheVariants as outcomes
 use Rattle.sysv_session.specs.Answers.{IsReplied, outcome_spelling}
 use Rattle.sysv_session.specs.Calls.{Call, messages_of}
@@ -55,6 +56,7 @@ Replies (Fault fault) calls = AreReplied calls
 Replies Write calls = AreReplied calls
 Replies Bound calls = AreReplied calls
 Replies Left calls = IsLastLeft calls
+Replies Reset calls = AreReplied calls
 
 -- The frames before the last are written whole, and then a prefix of the last, which may be all of
 -- it.
@@ -71,6 +73,7 @@ Writes (Fault fault) frames old new = Appends old new (concat frames)
 Writes Write frames old new = BreaksOff frames old new
 Writes Bound frames old new = Appends old new (concat frames)
 Writes Left frames old new = Appends old new (concat frames)
+Writes Reset frames old new = Appends old new (concat frames)
 
 -- The calls whose replies were written whole: all of them, or all but the last if the writer failed
 -- or that call was left.
@@ -82,6 +85,7 @@ answered (Fault fault) calls = calls
 answered Write calls = take (length calls - 1) calls
 answered Bound calls = calls
 answered Left calls = take (length calls - 1) calls
+answered Reset calls = calls
 
 -- The tally states the number of messages that the kernel returned, and how many of them were
 -- written whole.

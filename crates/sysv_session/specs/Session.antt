@@ -8,6 +8,7 @@ use Rattle.sysv_model.specs.declared.cred.Cred.{Cred}
 use Rattle.sysv_queue.specs.Tally.{Tallied}
 use Rattle.sysv_session.specs.declared.served.End.{End}
 use Rattle.sysv_session.specs.declared.served.End.TheVariants.{Ended, NoMemory, NoHello, Fault, Write, Bound, Left}
+use Rattle.sysv_session.specs.declared.served.End.TheVariants.{Reset}
 use Rattle.sysv_session.specs.declared.served.Served.{Served}
 use Rattle.sysv_session.specs.declared.served.TheConstants.{SESSION_REQUESTS}
 use Rattle.sysv_session.specs.Calls.{Call, IsCall, Leads, Meaning}
@@ -26,6 +27,7 @@ IsBounded (Fault fault) requests = requests < SESSION_REQUESTS
 IsBounded Write requests = ⊤
 IsBounded Bound requests = requests ≡ SESSION_REQUESTS
 IsBounded Left requests = ⊤
+IsBounded Reset requests = ⊤
 
 module _ {K : Type 0} where
   -- A session without a hello makes no call and writes nothing.

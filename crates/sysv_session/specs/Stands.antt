@@ -10,8 +10,8 @@ use Rattle.sysv_session.specs.declared.served.TheConstants.{SESSION_REQUESTS}
 use Rattle.sysv_session.specs.Calls.{Call, IsCall, Leads, Meaning, messages_of}
 use Rattle.sysv_session.specs.Conversation.{Talk}
 use Rattle.sysv_session.specs.Gathered.{Gathered, Gathers, messages_among}
-use Rattle.sysv_session.specs.Input.{EndsBefore, asked_spelling, hello_of, hello_spelling}
-use Rattle.sysv_session.specs.Together.{IsStoppedWithin, Replied, StopsAfter}
+use Rattle.sysv_session.specs.Input.{asked_spelling, hello_of, hello_spelling}
+use Rattle.sysv_session.specs.Together.{IsStoppedWithin, Replied, StopsAfter, StopsBefore}
 use Rattle.sysv_session.specs.UnderWay.{Asking, Greets, UnderWay}
 use Rattle.sysv_wire.specs.declared.frame.Version.{Version}
 use Rattle.sysv_wire.specs.declared.request.Request.{Request}
@@ -47,7 +47,7 @@ module _ {K : Type 0} where
   pub record StoppedBefore (why : End) (talk : Talk) (old now : K) (left rest : Option (List ℕ)) (taken : List ℕ) :
       Type 0 where
     pub kernel : now ≡ old
-    pub ends : EndsBefore why left rest
+    pub ends : StopsBefore why left rest
     pub gathers : Gathers (only_lost 0) [] taken talk.unsent talk.session.tally
     pub counts : talk.session.requests ≡ 0
 

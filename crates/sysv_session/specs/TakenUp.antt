@@ -5,6 +5,7 @@ use Rattle.std.specs.Io.KnownBytes.{Consumes, IsAtEnd}
 use Rattle.sysv_model.specs.declared.cred.Cred.{Cred}
 use Rattle.sysv_session.specs.declared.served.End.{End}
 use Rattle.sysv_session.specs.declared.served.End.TheVariants.{Ended, NoMemory, NoHello, Fault, Write, Bound, Left}
+use Rattle.sysv_session.specs.declared.served.End.TheVariants.{Reset}
 use Rattle.sysv_session.specs.declared.served.TheConstants.{SESSION_REQUESTS}
 use Rattle.sysv_session.specs.declared.session.Session.{Session}
 use Rattle.sysv_session.specs.declared.session.TakenUp.{TakenUp}
@@ -27,6 +28,7 @@ TakesRequest version (Err NoHello) left rest text = ⊥
 TakesRequest version (Err Write) left rest text = ⊥
 TakesRequest version (Err Bound) left rest text = ⊥
 TakesRequest version (Err Left) left rest text = ⊥
+TakesRequest version (Err Reset) left rest text = ⊥
 
 -- What a session read ends it: no hello; or no request, after its hello; or nothing was read, since
 -- it has had the maximum number of requests.

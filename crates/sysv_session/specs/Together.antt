@@ -1,7 +1,7 @@
 -- What a whole session does when its replies are gathered (this project's profile). The connection
 -- takes their bytes as it will, so it may have a prefix of them when the session ends. A session of
 -- which the writer took one reply after another is one of these.
-use Rattle.std.specs.Prelude.{◌≡◌, ◌≢◌, ◌+◌, ◌⊎◌, ⊤, ℕ, List, [], ◌∷◌, ◌++◌, Option, Some, length}
+use Rattle.std.specs.Prelude.{◌≡◌, ◌≢◌, ◌+◌, ◌⊎◌, ⊤, ℕ, List, [], ◌∷◌, ◌++◌, Option, Some, cond, length}
 use Rattle.std.proofs.Common.{inl, inr}
 use Rattle.std.specs.List.{AllByRecursion, concat}
 use Rattle.std.specs.Io.KnownBytes.{Appends, Consumes}
@@ -11,9 +11,10 @@ use Rattle.sysv_queue.specs.Tally.{Tallied, taken_in}
 use Rattle.sysv_session.specs.declared.kernel.RequestOutcome.TheVariants as outcomes
 use Rattle.sysv_session.specs.declared.served.End.{End}
 use Rattle.sysv_session.specs.declared.served.End.TheVariants.{Ended, NoMemory, NoHello, Fault, Write, Bound, Left}
+use Rattle.sysv_session.specs.declared.served.End.TheVariants.{Reset}
 use Rattle.sysv_session.specs.declared.served.Served.{Served}
 use Rattle.sysv_session.specs.Calls.{Call, IsCall, Leads, Meaning, messages_of}
-use Rattle.sysv_session.specs.Gathered.{Gathered, all_bytes, messages_within}
+use Rattle.sysv_session.specs.Gathered.{Gathered, all_bytes, ends_message, messages_within}
 use Rattle.sysv_session.specs.Input.{EndsAfter, EndsBefore, asked_spelling, hello_of, hello_spelling}
 use Rattle.sysv_session.specs.Output.{AreReplied, frames_of, hello_frame}
 use Rattle.sysv_session.specs.Session.{IsBounded, Serves}
@@ -22,8 +23,19 @@ use Rattle.sysv_wire.specs.declared.fault.Fault.TheVariants.{Truncated, TooLong,
 use Rattle.sysv_wire.specs.declared.frame.Version.{Version}
 use Rattle.sysv_wire.specs.Requests.{FitsRequest}
 
+-- Why no hello is taken up, by what was taken of the input. After a reset nothing more is taken.
+abbrev pub StopsBefore : End → Option (List ℕ) → Option (List ℕ) → Type 0
+StopsBefore Ended old new = EndsBefore Ended old new
+StopsBefore NoMemory old new = EndsBefore NoMemory old new
+StopsBefore NoHello old new = EndsBefore NoHello old new
+StopsBefore (Fault fault) old new = EndsBefore (Fault fault) old new
+StopsBefore Write old new = EndsBefore Write old new
+StopsBefore Bound old new = EndsBefore Bound old new
+StopsBefore Left old new = EndsBefore Left old new
+StopsBefore Reset old new = new ≡ old
+
 -- Why no more requests are taken up after the hello, by what was taken of the input. If memory is
--- refused, nothing more is taken.
+-- refused or the connection is reset, nothing more is taken.
 abbrev pub StopsAfter : Version → End → Option (List ℕ) → Option (List ℕ) → Type 0
 StopsAfter version Ended old new = EndsAfter version Ended old new
 StopsAfter version NoMemory old new = new ≡ old
@@ -32,6 +44,7 @@ StopsAfter version (Fault fault) old new = EndsAfter version (Fault fault) old n
 StopsAfter version Write old new = EndsAfter version Write old new
 StopsAfter version Bound old new = EndsAfter version Bound old new
 StopsAfter version Left old new = EndsAfter version Left old new
+StopsAfter version Reset old new = new ≡ old
 
 -- A session that stops at its bound has taken up the maximum number of requests. One that stops
 -- because of the input's end or a request that is refused has taken up fewer.
@@ -47,6 +60,7 @@ IsStoppedWithin (Fault Read) requests = ⊤
 IsStoppedWithin Write requests = ⊤
 IsStoppedWithin Bound requests = IsBounded Bound requests
 IsStoppedWithin Left requests = ⊤
+IsStoppedWithin Reset requests = ⊤
 
 -- No call was left, and the hello and each call has its reply.
 abbrev pub AllReply : Version → ℕ → List Call → List Gathered → Type 0
@@ -75,6 +89,20 @@ Replied (Fault fault) version slots calls replies = AllReply version slots calls
 Replied Write version slots calls replies = AllReply version slots calls replies
 Replied Bound version slots calls replies = AllReply version slots calls replies
 Replied Left version slots calls replies = AllButLeft version slots calls replies
+Replied Reset version slots calls replies = AllReply version slots calls replies
+
+-- Of the messages whose replies the connection has taken whole, the number of those that count as lost
+-- if the requests stopped for this reason and the connection has taken n bytes: 1 if it was reset and
+-- the n-th byte is the last one of a message's frame, and 0 otherwise.
+abbrev pub unread_at : End → ℕ → List Gathered → ℕ
+unread_at Ended n replies = 0
+unread_at NoMemory n replies = 0
+unread_at NoHello n replies = 0
+unread_at (Fault fault) n replies = 0
+unread_at Write n replies = 0
+unread_at Bound n replies = 0
+unread_at Left n replies = 0
+unread_at Reset n replies = cond (ends_message n replies) 1 0
 
 -- The reported end is why the requests stopped, and all bytes were sent; or it is `Write`, and they
 -- were not.
@@ -92,7 +120,7 @@ module _ {K : Type 0} where
   pub record StaysTogether (why : End) (tally : Tallied) (requests : ℕ) (old new : K)
       (left rest taken more : Option (List ℕ)) : Type 0 where
     pub kernel : new ≡ old
-    pub ends : EndsBefore why left rest
+    pub ends : StopsBefore why left rest
     pub writes : Appends taken more []
     pub tallies : tally ≡ record { written = 0; lost = 0 }
     pub counts : requests ≡ 0
@@ -100,7 +128,9 @@ module _ {K : Type 0} where
   -- A session with a hello. Its calls of the kernel are one for each request of the hello's version
   -- that was taken up after the hello. The connection has taken a prefix of the frames of the
   -- replies, and all of them unless the end is `Write`. The messages whose frames lie wholly in this
-  -- prefix count as written, and all others as lost.
+  -- prefix count as written, and all others as lost. The one exception: if the client reset the
+  -- connection, it has not read the last byte of the prefix; if that is the last byte of a message's
+  -- frame, this message counts as lost.
   pub record TalksTogether (Means : Meaning K) (slots : ℕ) (why : End) (tally : Tallied) (requests : ℕ) (old new : K)
       (left rest taken more : Option (List ℕ)) : Type 0 where
     pub version : Version
@@ -121,7 +151,7 @@ module _ {K : Type 0} where
     pub writes : Appends taken more sent
     pub reports : Reports why stopped sent (all_bytes replies)
     pub all : taken_in tally ≡ messages_of calls
-    pub written : tally.written ≡ messages_within (length sent) replies
+    pub written : tally.written + unread_at stopped (length sent) replies ≡ messages_within (length sent) replies
     pub counts : requests ≡ 1 + length calls
 
   -- A session is without a hello or with one.

@@ -7,6 +7,7 @@ use Rattle.sysv_session.specs.declared.kernel.RequestOutcome.{RequestOutcome}
 use Rattle.sysv_session.specs.declared.kernel.RequestOutcome.TheVariants as outcomes
 use Rattle.sysv_session.specs.declared.served.End.{End}
 use Rattle.sysv_session.specs.declared.served.End.TheVariants.{Ended, NoMemory, NoHello, Fault, Write, Bound, Left}
+use Rattle.sysv_session.specs.declared.served.End.TheVariants.{Reset}
 use Rattle.sysv_session.specs.Answers.{IsReplied, messages_in, outcome_spelling}
 use Rattle.sysv_wire.specs.declared.frame.Version.{Version}
 use Rattle.sysv_model.specs.Writing.{AppendsPrefix}
@@ -37,3 +38,4 @@ Answers (Err (Fault fault)) version outcome given old new before after = ⊥
 Answers (Err Bound) version outcome given old new before after = ⊥
 Answers (Err Left) version outcome given old new before after =
     (outcome ≡ outcomes.Left) × (new ≡ old) × (after ≡ before)
+Answers (Err Reset) version outcome given old new before after = ⊥

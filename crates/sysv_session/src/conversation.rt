@@ -5,7 +5,7 @@ ghost use Rattle.sysv_model.specs.declared.limits.TheConstants.{MESSAGE_BYTES};
 ghost use Rattle.sysv_queue.specs.Tally.{taken_in};
 ghost use Rattle.sysv_session.specs.Answers.{HasAnswer};
 ghost use Rattle.sysv_session.specs.Conversation.{HasRoom, Puts, gathered, report, sent_on};
-ghost use Rattle.sysv_session.specs.Failing.{ends_by_read, ends_by_write};
+ghost use Rattle.sysv_session.specs.Failing.{ends_by_read, ends_by_write, is_reset as reset};
 ghost use Rattle.sysv_session.specs.Outbox.{with_frame};
 ghost use Rattle.sysv_session.specs.Output.{hello_frame};
 ghost use Rattle.sysv_session.specs.TakenUp.{TakesUp};
@@ -160,7 +160,7 @@ impl Conversation {
     }
 
     /// Removes the first `n` bytes, which the connection has taken, and counts as written each
-    /// message whose frame ends in them.
+    /// message whose frame ends before the last of them.
     ///
     /// # Conditions
     ///
@@ -175,7 +175,8 @@ impl Conversation {
     }
 
     /// Ends the session for this reason, and returns what it did. Messages that the connection has
-    /// not taken whole count as lost. If it has not taken all bytes, the session ends with `Write`.
+    /// not taken whole count as lost; after a reset, also the one whose frame ends with the last byte
+    /// that it took, if there is one. If it has not taken all bytes, the session ends with `Write`.
     ///
     /// # Conditions
     ///
@@ -188,12 +189,23 @@ impl Conversation {
             mut session,
             outbox,
         } = self;
+        let is_reset = is_reset(why);
         let why = if outbox.unsent().is_empty() {
             why
         } else {
             End::Write
         };
-        outbox.end(&mut session.tally);
+        outbox.end(is_reset, &mut session.tally);
         session.end(why)
+    }
+}
+
+/// Returns whether the session ends because the client reset the connection.
+fn is_reset(why: End) -> bool
+    ensures { result ≡ reset why }
+{
+    match why {
+        End::Reset => true,
+        _ => false,
     }
 }

@@ -1,10 +1,10 @@
 //! Replies that a connection has not taken yet.
-ghost use Rattle.std.specs.Prelude.{◌≡◌, ◌≤◌, ◌<◌, ◌+◌, ◌^◌, ◌++◌, [], drop, length, map, IfErr, OnErr, OnOk};
+ghost use Rattle.std.specs.Prelude.{◌≡◌, ◌≤◌, ◌<◌, ◌+◌, ◌-◌, ◌^◌, ◌++◌, [], cond, drop, length, map, IfErr, OnErr, OnOk};
 ghost use Rattle.sysv_model.specs.declared.limits.TheConstants.{MESSAGE_BYTES};
 ghost use Rattle.sysv_queue.specs.Tally.{taken_in};
 ghost use Rattle.sysv_session.specs.Answers.{message_reply as the_reply};
-ghost use Rattle.sysv_session.specs.Layout.{IsAscending, begins_within as is_begun, unspent};
-ghost use Rattle.sysv_session.specs.Outbox.{more_lost, more_written, nearer, with_frame, with_message, within, without};
+ghost use Rattle.sysv_session.specs.Layout.{IsAscending, begins_passed as is_begun, unspent};
+ghost use Rattle.sysv_session.specs.Outbox.{at_end, more_lost, more_written, nearer, passed, with_frame, with_message, without};
 ghost use Rattle.sysv_wire.specs.Replies.{IsAnswer, reply_spelling};
 
 use crate::turn::message_reply;
@@ -19,7 +19,7 @@ use sysv_wire::{Reply, Version, WriteFault, write_reply};
 ///
 /// Put replies into it with `put` and `put_message`, give `unsent` to the connection, and report
 /// with `sent` how many bytes it took. Each delivery is spent once: as written as soon as the
-/// connection has taken its frame whole, or as lost by `end`.
+/// connection has taken a byte after its frame; or by `end`, as written or as lost.
 ///
 /// An outbox can be neither dropped nor copied. Spend it with `end`.
 pub struct Outbox {
@@ -139,7 +139,8 @@ impl Outbox {
     }
 
     /// Removes the first `n` bytes, which the connection has taken, and spends as written each
-    /// delivery whose frame ends in them.
+    /// delivery whose frame ends before the last of them. If a frame ends with the last of them, its
+    /// delivery is kept: a reset of the connection would show that the client has not read it.
     ///
     /// # Conditions
     ///
@@ -149,7 +150,7 @@ impl Outbox {
         requires some { n ≤ length self.old.bytes }
         requires room { taken_in tally.old + length self.old.marks < 2 ^ 64 }
         ensures after { self.new ≡ without n self.old }
-        ensures tally { tally.new ≡ more_written (within n self.old.marks) tally.old }
+        ensures tally { tally.new ≡ more_written (passed n self.old.marks) tally.old }
         // Each delivery is in the outbox, or was counted once.
         ensures each { taken_in tally.new + length self.new.marks
             ≡ taken_in tally.old + length self.old.marks }
@@ -187,36 +188,57 @@ impl Outbox {
         }
     }
 
-    /// Ends the outbox, and spends as lost each delivery in it.
+    /// Ends the outbox, and spends each delivery in it: as written if the connection has taken its
+    /// frame whole, and else as lost. After a reset of the connection all are lost, since the client
+    /// has not read the last byte that the connection took.
     ///
     /// # Conditions
     ///
     /// - The tally can count one more message for each delivery in the outbox.
-    pub fn end(self, tally: &mut Tally)
+    pub fn end(self, is_reset: bool, tally: &mut Tally)
         requires room { taken_in tally.old + length self.marks < 2 ^ 64 }
-        ensures tally { tally.new ≡ more_lost (length self.marks) tally.old }
+        ensures tally { tally.new ≡ at_end is_reset self.marks tally.old }
     {
         let Outbox {
             bytes: _,
-            taken: _,
+            taken,
             mut marks,
         } = self;
-        while let Some(Mark { ends: _, delivery }) = marks.pop_front() {
-            delivery.lost(tally);
-        }
-        marks.destroy_empty();
+        spend_written(&mut marks, whole_before(is_reset, taken), tally);
+        spend_lost(marks, tally);
     }
 }
 
-/// Spends as written each delivery whose frame ends in the first `n` bytes. Only these are
-/// examined, and the next one.
+/// Returns the place before which a frame ends whose delivery counts as written at the end, if this
+/// number of bytes was taken.
+fn whole_before(is_reset: bool, taken: usize) -> usize
+    requires { taken < 2 ^ 64 - 1 }
+    ensures { result ≡ cond is_reset 0 (taken + 1) }
+{
+    if is_reset { 0 } else { taken + 1 }
+}
+
+/// Spends all deliveries as lost.
+fn spend_lost(marks: VecDeque<Mark>, tally: &mut Tally)
+    requires room { taken_in tally.old + length marks.items < 2 ^ 64 }
+    ensures tally { tally.new ≡ more_lost (length marks.items) tally.old }
+{
+    let mut marks = marks;
+    while let Some(Mark { ends: _, delivery }) = marks.pop_front() {
+        delivery.lost(tally);
+    }
+    marks.destroy_empty();
+}
+
+/// Spends as written each delivery whose frame ends before place `n`. Only these are examined, and
+/// the next one.
 fn spend_written(marks: &mut VecDeque<Mark>, n: usize, tally: &mut Tally)
     requires order { IsAscending marks.old.items }
     requires room { taken_in tally.old + length marks.old.items < 2 ^ 64 }
     ensures marks { marks.new.items ≡ unspent n marks.old.items }
-    ensures tally { tally.new ≡ more_written (within n marks.old.items) tally.old }
+    ensures tally { tally.new ≡ more_written (passed n marks.old.items) tally.old }
 {
-    while begins_within(marks, n) {
+    while begins_passed(marks, n) {
         let Some(Mark { ends: _, delivery }) = marks.pop_front() else {
             unreachable!()
         };
@@ -224,12 +246,12 @@ fn spend_written(marks: &mut VecDeque<Mark>, n: usize, tally: &mut Tally)
     }
 }
 
-/// Returns whether the first delivery's frame ends in the first `n` bytes.
-fn begins_within(marks: &VecDeque<Mark>, n: usize) -> bool
+/// Returns whether the first delivery's frame ends before place `n`.
+fn begins_passed(marks: &VecDeque<Mark>, n: usize) -> bool
     ensures { result ≡ is_begun n marks.now.items }
 {
     match marks.front() {
-        Some(mark) => mark.ends <= n,
+        Some(mark) => mark.ends < n,
         None => false,
     }
 }

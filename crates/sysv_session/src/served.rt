@@ -30,6 +30,9 @@ pub enum End {
     /// The client left while its last call waited. That call did nothing and has no reply, and no
     /// more was read.
     Left,
+    /// The client reset the connection: it closed it before it had read all that was written to it.
+    /// No more was read. Only a conversation ends with it.
+    Reset,
 }
 
 impl From<Fault> for End {

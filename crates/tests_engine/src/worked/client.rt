@@ -157,14 +157,31 @@ fn the_session_ended_after_each_byte(rt: HostRuntime) {
 fn the_connection_fails_to_read_after_each_byte(rt: HostRuntime) {
     for good in 0..SESSION.len() + 1 {
         let wanted = wanted_after(whole_requests(good), End::Fault(Fault::Read));
-        for failure in [Step::Fail, Step::Reset] {
-            let stream = Stream {
-                input: SESSION,
-                reads: &[Step::AtMost(good), failure],
-                writes: &[],
-            };
-            assert_served(&rt, rt.alloc(), stream, &wanted, good);
+        let stream = Stream {
+            input: SESSION,
+            reads: &[Step::AtMost(good), Step::Fail],
+            writes: &[],
+        };
+        assert_served(&rt, rt.alloc(), stream, &wanted, good);
+    }
+}
+
+// After four requests the last byte that the connection has taken is that of a message's frame, which
+// the client has not read.
+#[test]
+fn the_connection_is_reset_after_each_byte(rt: HostRuntime) {
+    for good in 0..SESSION.len() + 1 {
+        let requests = whole_requests(good);
+        let mut wanted = wanted_after(requests, End::Reset);
+        if requests == 4 {
+            wanted.counts = (4, 1, 0, 1);
         }
+        let stream = Stream {
+            input: SESSION,
+            reads: &[Step::AtMost(good), Step::Reset],
+            writes: &[],
+        };
+        assert_served(&rt, rt.alloc(), stream, &wanted, good);
     }
 }
 

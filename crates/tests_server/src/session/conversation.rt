@@ -156,6 +156,27 @@ fn the_connection_takes_one_byte_after_another(rt: HostRuntime) {
     }
 }
 
+// The client resets the connection after it has taken this number of bytes. It has not read the last
+// of them, which may be the last byte of the message's frame, the 42nd.
+#[test]
+fn the_connection_is_reset_after_each_byte(rt: HostRuntime) {
+    for count in 0..50 {
+        let mut kernel = Shelf::open(&rt, rt.alloc());
+        if let Some(mut conversation) = gathered(&rt, rt.alloc(), &mut kernel) {
+            take_bytes(&rt, &mut conversation, count);
+            let served = conversation.end(End::Reset);
+            let end = if count < 49 { End::Write } else { End::Reset };
+            let (written, lost) = if count < 43 { (0, 1) } else { (1, 0) };
+            assert_eq!(rt;
+                (served.end, counts_of(&served)),
+                (end, (5, 1, written, lost)),
+                "{count}"
+            );
+        }
+        assert_eq!(rt; kernel.end(), 128);
+    }
+}
+
 // The last call is left: it has no reply.
 #[test]
 fn a_call_that_was_left_has_no_reply(rt: HostRuntime) {

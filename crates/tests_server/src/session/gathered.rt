@@ -8,7 +8,7 @@ ghost use Rattle.sysv_wire.specs.Requests.{op_of};
 
 use super::served::counts_of;
 use super::shelf::Shelf;
-use std::alloc::AllocFailed;
+use std::alloc::{AllocFailed, Global};
 use std::process::Abort;
 use sysv_model::{Body, Watched};
 use sysv_queue::{Delivery, Tally};
@@ -115,38 +115,75 @@ fn take(
     assert_eq!(rt; (tally.written(), tally.lost()), (written, 0));
 }
 
-// The first message is written once the last byte of its frame was taken, and the second is lost.
-#[test]
-fn a_message_is_written_once_its_frame_was_taken(rt: HostRuntime) {
-    let mut kernel = Shelf::open(&rt, rt.alloc());
-    let mut text = open_body(rt.alloc()).expect(&rt, "a second try");
-    let mut given = open_body(rt.alloc()).expect(&rt, "a second try");
+/// Returns an outbox with the reply to a send and two replies to receives of `hi` with type 5.
+fn with_two_messages(rt: &impl Abort, alloc: Global, kernel: &mut Shelf) -> Outbox
+    ensures { length result.marks ≡ 2 }
+{
+    let mut text = open_body(alloc).expect(rt, "a second try");
+    let mut given = open_body(alloc).expect(rt, "a second try");
     let get = Ask::Get {
         key: 7,
         flags: creating(),
     };
-    asked(&rt, &mut kernel, get, &text, &mut given);
+    asked(rt, kernel, get, &text, &mut given);
     text.push_piece(b"hi");
-    let mut tally = Tally::open();
-    let mut outbox = Outbox::open(rt.alloc());
+    let mut outbox = Outbox::open(alloc);
     let sent = Reply {
         version: Version::One,
         op: Op::Snd.number(),
         result: ReplyContent::Snd,
     };
-    put(&rt, &mut outbox, &sent, &text);
-    let first = received(&rt, &mut kernel, &text, &mut given);
-    put_message(&rt, &mut outbox, Version::One, first, &given);
-    let second = received(&rt, &mut kernel, &text, &mut given);
-    put_message(&rt, &mut outbox, Version::One, second, &given);
+    put(rt, &mut outbox, &sent, &text);
+    let first = received(rt, kernel, &text, &mut given);
+    put_message(rt, &mut outbox, Version::One, first, &given);
+    let second = received(rt, kernel, &text, &mut given);
+    put_message(rt, &mut outbox, Version::One, second, &given);
+    outbox
+}
+
+// The first message is written once a byte after its frame was taken, and the second is lost.
+#[test]
+fn a_message_is_written_once_a_byte_after_it_was_taken(rt: HostRuntime) {
+    let mut kernel = Shelf::open(&rt, rt.alloc());
+    let mut tally = Tally::open();
+    let mut outbox = with_two_messages(&rt, rt.alloc(), &mut kernel);
     assert_eq!(rt; outbox.unsent(), GATHERED);
     take(&rt, &mut outbox, 7, &mut tally, &GATHERED[7..], 0);
     take(&rt, &mut outbox, 16, &mut tally, &GATHERED[23..], 0);
-    take(&rt, &mut outbox, 1, &mut tally, &GATHERED[24..], 1);
-    take(&rt, &mut outbox, 16, &mut tally, &GATHERED[40..], 1);
-    outbox.end(&mut tally);
+    take(&rt, &mut outbox, 1, &mut tally, &GATHERED[24..], 0);
+    take(&rt, &mut outbox, 1, &mut tally, &GATHERED[25..], 1);
+    take(&rt, &mut outbox, 15, &mut tally, &GATHERED[40..], 1);
+    outbox.end(false, &mut tally);
     assert_eq!(rt; (tally.written(), tally.lost()), (1, 1));
     assert_eq!(rt; kernel.end(), 128);
+}
+
+/// Lets the connection take this number of bytes, ends the outbox, and asserts how many messages were
+/// written. The others are lost.
+fn assert_written(rt: &impl Abort, alloc: Global, taken: usize, is_reset: bool, written: u64) {
+    let mut kernel = Shelf::open(rt, alloc);
+    let mut tally = Tally::open();
+    let mut outbox = with_two_messages(rt, alloc, &mut kernel);
+    let count = taken.min(outbox.unsent().len());
+    outbox.sent(count, &mut tally);
+    outbox.end(is_reset, &mut tally);
+    assert_eq!(rt;
+        (tally.written(), tally.taken()),
+        (written, 2),
+        "{taken} {is_reset}"
+    );
+    assert_eq!(rt; kernel.end(), 128);
+}
+
+// The frames of the messages end with bytes 24 and 41.
+#[test]
+fn after_a_reset_the_message_that_ends_last_is_lost(rt: HostRuntime) {
+    for taken in 0..42 {
+        let whole = u64::from(taken >= 24) + u64::from(taken == 41);
+        assert_written(&rt, rt.alloc(), taken, false, whole);
+        let read = u64::from(taken > 24);
+        assert_written(&rt, rt.alloc(), taken, true, read);
+    }
 }
 
 /// A session whose replies are gathered, and its two bodies.
@@ -228,7 +265,7 @@ fn a_session_is_taken_up_step_by_step(rt: HostRuntime) {
     assert_eq!(rt; outbox.unsent(), ANSWERS);
     let count = outbox.unsent().len();
     outbox.sent(count, &mut session.tally);
-    outbox.end(&mut session.tally);
+    outbox.end(false, &mut session.tally);
     let served = session.end(End::Ended);
     assert_eq!(rt; counts_of(&served), (5, 1, 1, 0));
     assert_eq!(rt; kernel.end(), 128);

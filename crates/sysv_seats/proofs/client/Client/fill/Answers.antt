@@ -3,7 +3,10 @@ use Rattle.std.proofs.Common.{◌≡◌, ◌++◌, ◌∙◌, ℕ, List, ap, ari
 use Rattle.std.proofs.Math.Seq.{take-append_seam}
 use Rattle.std.specs.Io.KnownBytes.{Consumes}
 use Rattle.sysv_seats.specs.Sits.{Sitting}
-use Rattle.sysv_seats.proofs.ClientLemmas.{filled, filled_last, filled_none, filled_not}
+use Rattle.sysv_session.specs.declared.served.End.TheVariants.{Fault, Reset}
+use Rattle.sysv_wire.specs.declared.fault.Fault.TheVariants.{Read}
+use Rattle.sysv_seats.proofs.ClientLemmas.{filled, filled_last, filled_none, filled_not, stops_reading}
+use Rattle.sysv_seats.proofs.ClientLemmas.{stops_resetting}
 use Rattle.sysv_seats.proofs.client.Client.fill.Goals as goal
 
 -- The whole buffer.
@@ -34,11 +37,24 @@ returns-in-Over-End-clause-keeps g c =
 
 pub returns-in-Over-Reset : goal.returns-in-Over-Reset
 returns-in-Over-Reset g c = record {
-  keeps = filled_not g.T.NonBlocking.incoming g.T.NonBlocking.outgoing _ _ c.stop.new.self c.fill.new.self _
+  keeps = filled_not g.T.NonBlocking.incoming g.T.NonBlocking.outgoing Reset
+      (stops_resetting g.T.NonBlocking.incoming g.T.NonBlocking.outgoing) _ _ c.stop.new.self c.fill.new.self _
       c.self.view_is c.requires.free c.in-Over-Reset.ensures.bytes.0 c.fill.ensures.untold c.fill.ensures.written
       c.stop.ensures;
   handles = (refl, refl);
   breaks = ap (λ (s : Sitting g.row.T.Denot). g.T.NonBlocking.closes.breaks s.connection) c.stop.ensures
+      ∙ (c.fill.ensures.breaks
+      ∙ ap (λ (s : Sitting g.row.T.Denot). g.T.NonBlocking.closes.breaks s.connection) c.self.view_is);
+}
+
+pub returns-in-Over-Failed : goal.returns-in-Over-Failed
+returns-in-Over-Failed g c = record {
+  keeps = filled_not g.T.NonBlocking.incoming g.T.NonBlocking.outgoing (Fault Read)
+      (stops_reading g.T.NonBlocking.incoming g.T.NonBlocking.outgoing) _ _ c.stop-in-Over-Failed.new.self c.fill.new.self _
+      c.self.view_is c.requires.free c.in-Over-Failed.ensures.bytes.0 c.fill.ensures.untold c.fill.ensures.written
+      c.stop-in-Over-Failed.ensures;
+  handles = (refl, refl);
+  breaks = ap (λ (s : Sitting g.row.T.Denot). g.T.NonBlocking.closes.breaks s.connection) c.stop-in-Over-Failed.ensures
       ∙ (c.fill.ensures.breaks
       ∙ ap (λ (s : Sitting g.row.T.Denot). g.T.NonBlocking.closes.breaks s.connection) c.self.view_is);
 }

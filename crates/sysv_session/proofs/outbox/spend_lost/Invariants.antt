@@ -1,5 +1,5 @@
 use Rattle.std.proofs.Common.{◌≡◌, ◌+◌, length}
-use Rattle.sysv_session.proofs.outbox.Outbox.end.Given as goal
+use Rattle.sysv_session.proofs.outbox.spend_lost.Given as goal
 
 -- Each delivery is in the outbox or was counted as lost.
 abbrev pub invariant-loop-delivery : goal.invariant-loop-delivery
