@@ -1,6 +1,7 @@
 -- What a server did whose workers shared out its places, from what their run led to.
 use Rattle.std.proofs.Common.{◌≡◌, ◌∙◌, ℕ, ◌≤◌, List, [], ◌∷◌, ◌++◌, map, reverse, length, Option, Some, None, ap, refl}
 use Rattle.std.proofs.Common.{sym, subst, arith, inl, inr}
+use Rattle.std.specs.Prelude.{false}
 use Rattle.std.specs.List.{All, FoldsTo, flat_map, sum_by}
 use Rattle.std.proofs.lemmas.List.{length-reverse, reverse-append, reverse-reverse}
 use Rattle.std.proofs.lemmas.List.Elements.{All-head, All-tail, All-cons}
@@ -248,7 +249,7 @@ module _ {T B : Type 0} (incoming outgoing : T → Option (List ℕ)) (closes : 
           (taken : FoldsTo TakesIn kept (reverse (map (λ (p : Seated B T). p.pass) ps)) new) where
         pub all_worked : (total : Sums) (missed : ℕ) → total ≡ all_added (map (λ (p : Seated B T). p.sums) ps) →
             missed ≡ capped (sum_by (λ (p : Seated B T). p.refused) ps) → RunsAll Runs gives ws source ws' source' →
-            WorkedFrom incoming outgoing closes gives gates old source books total missed new source' books'
+            WorkedFrom incoming outgoing closes gives false gates old source books total missed new source' books'
         all_worked total missed adds counts ran =
             shifts.all_shifted incoming outgoing closes (λ (v : View B). v.pass) (λ (v : View B). v.sums)
             (λ (v : View B). v.refused) (λ (v : View B). v.book) gives gates (map view_of opened) (map view_of ps)
@@ -263,7 +264,8 @@ module _ {T B : Type 0} (incoming outgoing : T → Option (List ℕ)) (closes : 
 
         pub all_left : (workers : ℕ) → workers ≤ MAX_WORKERS → (why : WorkersFault) (told : ServeFault) →
             FaultOf why told → LeavesSource gives workers source why source' → GivesBack Runs ws why ws' →
-            LeavesConnections incoming outgoing closes gives (HiredFrom gates old new) source books told source' books'
+            LeavesConnections incoming outgoing closes gives (HiredFrom false gates old new) source books told source'
+            books'
         all_left workers few why told named leaves back =
             shifts.all_left incoming outgoing closes (λ (v : View B). v.pass) (λ (v : View B). v.sums)
             (λ (v : View B). v.refused) (λ (v : View B). v.book) gives gates (map view_of opened) (map view_of ps)

@@ -1,4 +1,6 @@
 -- The definitions of the server.
+pub mod Looking
+pub mod Looks
 pub mod Made
 pub mod Added
 pub mod Talks

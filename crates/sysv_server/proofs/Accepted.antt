@@ -186,7 +186,7 @@ module _ {L I H : Type 0} (told : L → Option (List SocketStream)) (listens : L
   has_cause m sessions s last s' items input (Some (Accept why)) none same small of_input gave all count failed = tt
 
   abbrev pub Serves : ℕ → Accepting L I H → List ⊤ → Ended → Accepting L I H → List ⊤ → Type 0
-  Serves = ServesConnections untold untold leaves_nothing Gives
+  Serves = ServesConnections untold untold leaves_nothing Gives true
 
   -- the source holds the listener that it was lent, after a run too
   pub served_hold : (blocks : ℕ) (s s' : Accepting L I H) (books books' : List ⊤) (ended : Ended) →
@@ -273,7 +273,7 @@ module _ {L I H : Type 0} (told : L → Option (List SocketStream)) (listens : L
   -- what a fault leaves of the service on a listener, and of the listener
   pub fails_from : (blocks workers m : ℕ) (s s' : Accepting L I H) (books books' : List ⊤) (why : ServeFault)
       → s.accepted ≡ 0 → s.most ≡ m → m ≤ 2 ^ 64 - 1 → length books ≡ workers
-      → LeavesConnections untold untold leaves_nothing Gives (HasLived blocks) s books why s' books'
+      → LeavesConnections untold untold leaves_nothing Gives (HasLived true blocks) s books why s' books'
       → FailsFrom told blocks workers m s.listener.now why s'.listener.now
   fails_from blocks workers m s s' books books' faults.NoMemory none same small counted left =
       (tt, ap (λ (t : Accepting L I H). told t.listener.now) left.0)
@@ -301,16 +301,16 @@ module _ {L I H : Type 0} (told : L → Option (List SocketStream)) (listens : L
   module _ (blocks workers m : ℕ) (s s' : Accepting L I H) (books books' : List ⊤) (result : Result Ended ServeFault)
       (none : s.accepted ≡ 0) (same : s.most ≡ m) (small : m ≤ 2 ^ 64 - 1)
       (ok : IfOk result (λ ended. Serves blocks s books ended s' books'))
-      (err : IfErr result (λ why. LeavesConnections untold untold leaves_nothing Gives (HasLived blocks) s books why s'
+      (err : IfErr result (λ why. LeavesConnections untold untold leaves_nothing Gives (HasLived true blocks) s books why s'
       books')) where
     pub still_holds : s'.listener.ghost_name ≡ s.listener.ghost_name
     still_holds = of result ok err
       where
         of : (r : Result Ended ServeFault) → IfOk r (λ ended. Serves blocks s books ended s' books')
-            → IfErr r (λ why. LeavesConnections untold untold leaves_nothing Gives (HasLived blocks) s books why s'
+            → IfErr r (λ why. LeavesConnections untold untold leaves_nothing Gives (HasLived true blocks) s books why s'
             books') → s'.listener.ghost_name ≡ s.listener.ghost_name
         of (Ok ended) all left = served_hold blocks s s' books books' ended all
-        of (Err why) all left = failed_hold (HasLived blocks) s s' books books' why left
+        of (Err why) all left = failed_hold (HasLived true blocks) s s' books books' why left
 
     module _ (l l' : L) (counted : length books ≡ workers) (before : s.listener.now ≡ l)
         (after : s'.listener.now ≡ l') where
@@ -329,7 +329,7 @@ module _ {L I H : Type 0} (told : L → Option (List SocketStream)) (listens : L
       all_fail = of result err
         where
           of : (r : Result Ended ServeFault)
-              → IfErr r (λ why. LeavesConnections untold untold leaves_nothing Gives (HasLived blocks) s books why s'
+              → IfErr r (λ why. LeavesConnections untold untold leaves_nothing Gives (HasLived true blocks) s books why s'
               books') → IfErr r (λ why. FailsFrom told blocks workers m l why l')
           of (Ok ended) left = tt
           of (Err why) left =

@@ -55,7 +55,7 @@ pub record ServesOn (blocks places most : ℕ) (sums : Sums) : Type 0 where
   pub alone : places ≡ 1 → all_connections desks ≡ accepted
   pub sat : Each2 SatOnSockets desks shifts
   pub removed : Result ℕ Errno
-  pub lived : Lived blocks gates shifts removed
+  pub lived : Lived true blocks gates shifts removed
 
 -- A server served the connections of a listener, and then removed the queues that were left. It
 -- returns what its stop and its close told.
@@ -80,10 +80,10 @@ pub record LeavesSockets (places : ℕ) (Ran : Gates → List Shift → Type 0) 
 abbrev pub FailsOn : (blocks places most : ℕ) → ServeFault → Type 0
 FailsOn blocks places most NoMemory = ⊤
 FailsOn blocks places most Thread =
-    (sockets : LeavesSockets places (HasLived blocks)) × (told_in sockets.left.shifts ≡ [])
+    (sockets : LeavesSockets places (HasLived true blocks)) × (told_in sockets.left.shifts ≡ [])
 FailsOn blocks places most Worn =
-    LeavesSockets places (HasLived blocks) × (most ≢ 0 → 2 ^ 62 ≤ most + MAX_WORKERS)
-FailsOn blocks places most Missed = LeavesSockets places (HasLived blocks)
+    LeavesSockets places (HasLived true blocks) × (most ≢ 0 → 2 ^ 62 ≤ most + MAX_WORKERS)
+FailsOn blocks places most Missed = LeavesSockets places (HasLived true blocks)
 
 -- A server that may have an input, that was to run this maximum number of sessions, 0 for no limit,
 -- and that ran this number of them, accepted no more connections for this reason.

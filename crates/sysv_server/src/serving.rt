@@ -17,7 +17,7 @@ use std::os::fd::AsRawFd;
 use std::os::unix::net::{UnixListener, UnixStream};
 use std::sync::Wait;
 use std::thread::Threads;
-use sysv_engine::{Common, Ended, Patience, ServeFault, Sums, serve_all, watches};
+use sysv_engine::{Common, Ended, Patience, ServeFault, Sums, serve_arrivals, watches};
 
 /// The largest number of clients at once.
 pub const MAX_CLIENTS: u32 = 16_384;
@@ -135,8 +135,8 @@ pub fn serve_listener<I: Read + AsRawFd + Drop, H: Host + Drop, R: Threads + Wai
 ///
 /// The listener is opened if it is not open, and closed when no more connections are to be
 /// accepted. Each connection that it has accepted has a session, and there are no other sessions.
-/// At `Reason::InputOver` a read of the input returned no byte or failed. The host opens nothing;
-/// it is told what happens.
+/// At `Reason::InputOver` a read of the input returned no byte or failed. The host is told what
+/// happens, and opens only the socket for readers of the server's state.
 ///
 /// # Errors
 ///
@@ -211,8 +211,10 @@ fn run<L: Listens, I: Input + Drop, H: Host, R: Threads + Wait + Net + Sync>(
     let Some(watches) = watches(rt, alloc, &common) else {
         return Err(ServeFault::NoMemory);
     };
-    let mut source = Accepting::new(listener, retries, input, sessions, &common, host);
-    let outcome = serve_all(rt, alloc, &mut source, &mut books, blocks, watches, &common);
+    let mut source = Accepting::new(
+        alloc, listener, retries, input, sessions, blocks, &common, host,
+    );
+    let outcome = serve_arrivals(rt, alloc, &mut source, &mut books, blocks, watches, &common);
     let (left, why) = source.into_parts();
     given_back(left);
     *reason = why;

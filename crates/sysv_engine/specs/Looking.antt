@@ -1,0 +1,41 @@
+-- How the rows of a running service are read (this project's profile): with a pass that is split off
+-- and joined back like those of the places.
+use Rattle.std.specs.Prelude.{◌≡◌, ℕ, Bool, true, false, List, ◌∷◌, Option, None, Result, Ok, Err}
+use Rattle.sysv_model.specs.declared.attributes.Row.{Row}
+use Rattle.sysv_model.specs.declared.errno.Errno.{Errno}
+use Rattle.sysv_service.specs.Ran.{Pass}
+use Rattle.sysv_service.specs.Told.{TellsRow}
+use Rattle.sysv_thread_laws.specs.Hiring.{Hires}
+use Rattle.sysv_engine.specs.Handled.{Shift, first_passes, last_passes}
+
+-- The row that a read returned, if it was not refused.
+abbrev pub shown_by : Result (Option Row) Errno → Option Row
+shown_by (Ok row) = row
+shown_by (Err why) = None
+
+-- The pass read the row of this slot once: that of its live queue, if there is one. A read that is
+-- refused shows none.
+abbrev pub ReadsRow : ℕ → Pass → Option Row → Pass → Type 0
+ReadsRow slot old row new =
+    (result : Result (Option Row) Errno) × TellsRow slot old result new × (row ≡ shown_by result)
+
+-- The pass read rows, and did nothing else.
+pub data Looked (old : Pass) : Pass → Type 0 where
+  -- It has read none.
+  begins : Looked old old
+  -- It read one more row.
+  reads : {mid : Pass} (slot : ℕ) (result : Result (Option Row) Errno) (new : Pass) → Looked old mid →
+      TellsRow slot mid result new → Looked old new
+
+-- What read the rows had a pass that was split off from the pass `own`, and so had the places of these
+-- shifts after it. The passes that they left were joined back, and `own` became `home`.
+pub record HiresAll (own : Pass) (shifts : List Shift) (home : Pass) : Type 0 where
+  pub before : Pass
+  pub after : Pass
+  pub looked : Looked before after
+  pub hires : Hires own (before ∷ first_passes shifts) (after ∷ last_passes shifts) home
+
+-- The same of a server that reads rows, or of one that reads none: then only the places had passes.
+abbrev pub HiresBy : Bool → Pass → List Shift → Pass → Type 0
+HiresBy true own shifts home = HiresAll own shifts home
+HiresBy false own shifts home = Hires own (first_passes shifts) (last_passes shifts) home
