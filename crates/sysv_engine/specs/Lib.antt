@@ -1,4 +1,5 @@
 -- The definitions of the server.
+pub mod Counting
 pub mod Looking
 pub mod Looks
 pub mod Made

@@ -47,7 +47,8 @@ pub record Stopped (gates : Gates) (told : Result ℕ Errno) : Type 0 where
 -- stop, and closed the gates. All of it is one run if each gate has turns left at the close, that is,
 -- if fewer than 2^62 turns were made at each object. Then the pool has all its blocks, no slot has a
 -- live queue and no message is queued. No gate is held in either case.
-pub record Lived (reads : Bool) (blocks : ℕ) (gates : Gates) (shifts : List Shift) (removed : Result ℕ Errno) : Type 0 where
+pub record Lived (reads : Bool) (blocks : ℕ) (gates : Gates) (shifts : List Shift)
+    (removed : Result ℕ Errno) : Type 0 where
   pub stopped : Stopped gates removed
   pub hires : HiresBy reads (first_pass gates) shifts stopped.before
   pub closed : Closed
@@ -79,7 +80,8 @@ NoLifeLeavesAGateHeld = (reads : Bool) (gates : Gates) (shifts : List Shift) (re
 
 -- The pool has all its blocks too, if each gate has turns left at the close.
 abbrev pub EachLifeLeavesThePoolWhole : Type 0
-EachLifeLeavesThePoolWhole = (reads : Bool) (blocks : ℕ) (gates : Gates) (shifts : List Shift) (removed : Result ℕ Errno)
+EachLifeLeavesThePoolWhole =
+    (reads : Bool) (blocks : ℕ) (gates : Gates) (shifts : List Shift) (removed : Result ℕ Errno)
     (stopped : Stopped gates removed) (closed : Closed) →
     (counted : IsCounted stopped.after.seats stopped.after.held closed) → AreOpen 0 blocks 0 gates →
     AreOf gates stopped.after.seats →

@@ -56,7 +56,8 @@ module _ {S T B : Type 0} (incoming outgoing : T → Option (List ℕ)) (closes 
     (gives : S → Option T → S → Type 0) where
   -- The places served the connections that the source returned. They began with passes that were
   -- split off from the pass `old`, and the passes that they left were joined back into it.
-  pub record WorkedFrom (reads : Bool) (gates : Gates) (old : Pass) (source : S) (books : List B) (sums : Sums) (refused : ℕ)
+  pub record WorkedFrom (reads : Bool) (gates : Gates) (old : Pass) (source : S) (books : List B) (sums : Sums)
+      (refused : ℕ)
       (new : Pass) (source' : S) (books' : List B) : Type 0 where
     pub given : List T
     pub gave : GivesAll gives source given source'

@@ -1,6 +1,8 @@
 //! What the workers of a server share with one another and with the thread that accepts
 //! connections.
-ghost use Rattle.std.specs.Prelude.{◌≡◌, IfSome, vec_len};
+ghost use Rattle.std.specs.Prelude.{◌≡◌, ◌≤◌, IfSome, vec_len};
+ghost use Rattle.sysv_keys.specs.declared.identifier.TheConstants.{SLOTS as slot_count};
+ghost use Rattle.sysv_engine.specs.Counting.{IsNothing};
 
 use crate::bell::Bell;
 use crate::counts::{Counted, Counts, Moved, SlotCounts, zeros};
@@ -101,7 +103,8 @@ impl Common {
         patience: Patience,
         drain: u32,
     ) -> Option<Common>
-        ensures { IfSome result (λ common. vec_len common.posts ≡ workers) }
+        ensures workers { IfSome result (λ common. vec_len common.posts ≡ workers) }
+        ensures at_once { IfSome result (λ common. common.at_once ≡ at_once) }
     {
         let turn = Bell::open()?;
         let posts = open_posts(alloc, workers)?;
@@ -242,8 +245,14 @@ impl Common {
         }
     }
 
-    /// Returns what the workers have counted at a slot.
-    pub fn at_slot(&self, slot: usize) -> SlotCounts {
+    /// Returns what the workers have counted at a slot, and nothing if there is no such slot. The
+    /// numbers are read one after another, while the workers go on.
+    pub fn at_slot(&self, slot: usize) -> SlotCounts
+        ensures { slot_count ≤ slot → IsNothing result }
+    {
+        if slot >= SLOTS {
+            return SlotCounts::NONE;
+        }
         let mut sum = SlotCounts::NONE;
         for post in &self.posts {
             post.counts.add_slot(slot, &mut sum);
@@ -253,10 +262,12 @@ impl Common {
 
     /// Returns what the workers have counted. The numbers are read one after another, while the
     /// workers go on.
-    pub fn counted(&self) -> Counted {
+    pub fn counted(&self) -> Counted
+        ensures at_once { result.at_once ≡ self.now.at_once }
+    {
         let mut sum = Counted {
             over: self.over.load(Ordering::SeqCst),
-            at_once: self.at_once,
+            at_once: 0,
             slots: SlotCounts::NONE,
             for_blocks: 0,
             written: 0,
@@ -265,6 +276,7 @@ impl Common {
         for post in &self.posts {
             post.counts.add_all(&mut sum);
         }
+        sum.at_once = self.at_once;
         sum
     }
 

@@ -104,7 +104,14 @@ where
     let rows = Rows::open(rt, alloc, service, pass);
     let mut seeing = Seeing::new(source, rows);
     let outcome = serve_with(
-        rt, alloc, service, pass, &mut seeing, books, watches, common,
+        rt,
+        alloc,
+        service,
+        pass,
+        &mut seeing,
+        books,
+        watches,
+        common,
     );
     let (source, rows) = seeing.into_parts();
     given_back(source);

@@ -301,7 +301,8 @@ module _ {L I H : Type 0} (told : L → Option (List SocketStream)) (listens : L
   module _ (blocks workers m : ℕ) (s s' : Accepting L I H) (books books' : List ⊤) (result : Result Ended ServeFault)
       (none : s.accepted ≡ 0) (same : s.most ≡ m) (small : m ≤ 2 ^ 64 - 1)
       (ok : IfOk result (λ ended. Serves blocks s books ended s' books'))
-      (err : IfErr result (λ why. LeavesConnections untold untold leaves_nothing Gives (HasLived true blocks) s books why s'
+      (err : IfErr result
+      (λ why. LeavesConnections untold untold leaves_nothing Gives (HasLived true blocks) s books why s'
       books')) where
     pub still_holds : s'.listener.ghost_name ≡ s.listener.ghost_name
     still_holds = of result ok err
@@ -329,7 +330,8 @@ module _ {L I H : Type 0} (told : L → Option (List SocketStream)) (listens : L
       all_fail = of result err
         where
           of : (r : Result Ended ServeFault)
-              → IfErr r (λ why. LeavesConnections untold untold leaves_nothing Gives (HasLived true blocks) s books why s'
+              → IfErr r
+              (λ why. LeavesConnections untold untold leaves_nothing Gives (HasLived true blocks) s books why s'
               books') → IfErr r (λ why. FailsFrom told blocks workers m l why l')
           of (Ok ended) left = tt
           of (Err why) left =

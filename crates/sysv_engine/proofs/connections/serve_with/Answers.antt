@@ -228,7 +228,8 @@ returns-in-Err-clause-err g c =
     let name_is = c.into_source.ensures.same_reference ∙ (same ∙ c.new-dealing.ensures.same_reference) in
     let back = c.given_back.ensures ∙ c.into_source.ensures.source in
     subst (λ s. LeavesConnections t.incoming t.outgoing t.closes g.S.Source.gives
-    (HiredFrom false own c.args.pass.now c.dismiss-in-Err.new.pass) c.args.source.now c.args.books.now.items c.fault.result s
+    (HiredFrom false own c.args.pass.now c.dismiss-in-Err.new.pass) c.args.source.now c.args.books.now.items
+    c.fault.result s
     c.dismiss-in-Err.new.books.items) (grind arith)
     (subst (λ s. LeavesConnections t.incoming t.outgoing t.closes g.S.Source.gives
     (HiredFrom false own c.args.pass.now c.dismiss-in-Err.new.pass) s c.args.books.now.items c.fault.result (of new)
