@@ -1,6 +1,6 @@
 -- What a server did whose source of connections read rows, from what it did with a source that holds
 -- that one.
-use Rattle.std.proofs.Common.{◌≡◌, ℕ, List, [], ◌∷◌, ◌++◌, reverse, Option, ap, subst, sym}
+use Rattle.std.proofs.Common.{◌≡◌, ℕ, List, [], ◌∷◌, ◌++◌, reverse, Option, Some, None, ap, subst, sym}
 use Rattle.std.specs.Prelude.{Bool, true, false, Result, Ok, Err, IfOk, IfErr}
 use Rattle.std.specs.List.{FoldsTo}
 use Rattle.std.proofs.lemmas.List.{reverse-append}
@@ -12,7 +12,7 @@ use Rattle.sysv_engine.specs.declared.fault.ServeFault.{ServeFault}
 use Rattle.sysv_engine.specs.declared.fault.ServeFault.TheVariants.{NoMemory, Thread, Worn, Missed}
 use Rattle.sysv_engine.specs.declared.sums.Sums.{Sums}
 use Rattle.sysv_engine.specs.Handled.{Shift, last_passes}
-use Rattle.sysv_engine.specs.Looking.{HiresBy, Looked}
+use Rattle.sysv_engine.specs.Looking.{HiresBy, Looked, LookedBy, SplitsOff, TakesBack}
 use Rattle.sysv_engine.specs.Serving.{HiredFrom, LeavesConnections, WorkedFrom}
 use Rattle.sysv_engine.proofs.Behind as behind
 use Rattle.sysv_engine.proofs.FaultLeaves.{fault_says}
@@ -33,6 +33,20 @@ hires_all own kept back home before after shifts gives looked takes hires = reco
         (folds_last TakesIn hires.kept (reverse (last_passes shifts)) back after home hires.takes takes);
   };
 }
+
+-- The same, if it reads any.
+pub hires_by : (reads : Bool) (own kept back home : Pass) (before after : Option Pass) (shifts : List Shift)
+    → SplitsOff reads own before kept → LookedBy before after → TakesBack after back home
+    → HiresBy false kept shifts back → HiresBy reads own shifts home
+hires_by true own kept back home None after shifts gives looked takes hires = absurd gives
+hires_by true own kept back home (Some before) None shifts gives looked takes hires = absurd looked
+hires_by true own kept back home (Some before) (Some after) shifts gives looked takes hires =
+    hires_all own kept back home before after shifts gives looked takes hires
+hires_by false own kept back home (Some before) after shifts gives looked takes hires = absurd gives
+hires_by false own kept back home None (Some after) shifts gives looked takes hires = absurd looked
+hires_by false own kept back home None None shifts gives looked takes hires =
+    subst (λ (p : Pass). HiresBy false own shifts p) (sym takes)
+    (subst (λ (p : Pass). HiresBy false p shifts back) gives hires)
 
 module _ {T B : Type 0} (incoming outgoing : T → Option (List ℕ)) (closes : Closing T B) {D S : Type 0} (of : D → S)
     (Keeps : D → D → Type 0) (stays : (d : D) → Keeps d d) (on : (a b c : D) → Keeps a b → Keeps b c → Keeps a c)
@@ -62,11 +76,12 @@ module _ {T B : Type 0} (incoming outgoing : T → Option (List ℕ)) (closes : 
     ran_kept (Ok told) worked left = behind.all_kept of Keeps stays on gives worked.given old new worked.gave
     ran_kept (Err why) worked left = left_kept why left
 
-    module _ (own home before after : Pass) (first : Gives own before kept) (looked : Looked before after)
-        (last : TakesIn back after home) where
+    module _ (reads : Bool) (own home : Pass) (before after : Option Pass)
+        (first : SplitsOff reads own before kept) (looked : LookedBy before after)
+        (last : TakesBack after back home) where
       -- What it did.
       pub ran_behind : (result : Result (Sums × ℕ) ServeFault) → Works result →
-          IfOk result (λ told. WorkedFrom incoming outgoing closes gives true gates own (of old) books told.0 told.1
+          IfOk result (λ told. WorkedFrom incoming outgoing closes gives reads gates own (of old) books told.0 told.1
           home (of new) books')
       ran_behind (Ok told) worked = record {
         given = worked.given;
@@ -79,7 +94,7 @@ module _ {T B : Type 0} (incoming outgoing : T → Option (List ℕ)) (closes : 
         crewed = worked.crewed;
         adds = worked.adds;
         counts = worked.counts;
-        hires = hires_all own kept back home before after worked.shifts first looked last worked.hires;
+        hires = hires_by reads own kept back home before after worked.shifts first looked last worked.hires;
       }
       ran_behind (Err why) worked = tt
 
@@ -98,12 +113,13 @@ module _ {T B : Type 0} (incoming outgoing : T → Option (List ℕ)) (closes : 
 
       -- What it left.
       pub all_left_behind : (result : Result (Sums × ℕ) ServeFault) → Leaves result →
-          IfErr result (λ why. LeavesConnections incoming outgoing closes gives (HiredFrom true gates own home) (of old)
+          IfErr result
+          (λ why. LeavesConnections incoming outgoing closes gives (HiredFrom reads gates own home) (of old)
           books why (of new) books')
       all_left_behind (Ok told) left = tt
       all_left_behind (Err why) left =
           fault_says incoming outgoing closes gives (of old) (of new) books books' (HiredFrom false gates kept back)
-          (HiredFrom true gates own home)
+          (HiredFrom reads gates own home)
           (λ theirs shifts hired.
-          (hired.0, hires_all own kept back home before after shifts first looked last hired.1)) why
+          (hired.0, hires_by reads own kept back home before after shifts first looked last hired.1)) why
           (left_behind why left)

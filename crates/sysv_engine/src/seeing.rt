@@ -1,5 +1,5 @@
 //! A server whose source of connections may look at the queues.
-ghost use Rattle.std.specs.Prelude.{◌≡◌, ◌≤◌, true, IfOk, IfErr, vec_len};
+ghost use Rattle.std.specs.Prelude.{◌≡◌, ◌≤◌, IfOk, IfErr, vec_len};
 ghost use Rattle.sysv_model.specs.declared.limits.TheConstants.{MIN_BLOCKS, MAX_BLOCKS};
 ghost use Rattle.sysv_workers.specs.declared.workers.TheConstants.{MAX_WORKERS};
 ghost use Rattle.sysv_service.specs.Seats.{AreOf};
@@ -24,8 +24,8 @@ use sysv_seats::NonBlocking;
 use sysv_service::{Pass, Service};
 use sysv_workers::Source;
 
-/// Serves the connections of a source like `serve_all`. The source may look at the queues while it
-/// waits for a connection.
+/// Serves the connections of a source like `serve_all`. If `reads` is true, the source may look at
+/// the queues while it waits for a connection. Else it finds no queue.
 pub fn serve_arrivals<
     T: NonBlocking + Drop + Send,
     S: Arrivals<T>,
@@ -39,6 +39,7 @@ pub fn serve_arrivals<
     blocks: u32,
     watches: Vec<W>,
     common: &Common,
+    reads: bool,
 ) -> Result<Ended, ServeFault>
 where
     T::Book: Send,
@@ -46,16 +47,16 @@ where
     requires workers { (1 ≤ vec_len watches) × (vec_len watches ≤ vec_len books.old)
         × (vec_len watches ≤ MAX_WORKERS) }
     ensures ok { IfOk result (λ ended. ServesConnections T.incoming T.outgoing T.closes S.gives
-        true blocks source.old books.old.items ended source.new books.new.items) }
+        reads blocks source.old books.old.items ended source.new books.new.items) }
     ensures balance { IfOk result (λ ended. IsBalanced ended.sums) }
     ensures err { IfErr result (λ why. LeavesConnections T.incoming T.outgoing T.closes S.gives
-        (HasLived true blocks) source.old books.old.items why source.new books.new.items) }
+        (HasLived reads blocks) source.old books.old.items why source.new books.new.items) }
 {
     let Ok((service, mut pass)) = Service::open(alloc, blocks) else {
         return Err(ServeFault::NoMemory);
     };
     let outcome = serve_seeing(
-        rt, alloc, &service, &mut pass, source, books, watches, common,
+        rt, alloc, &service, &mut pass, source, books, watches, common, reads,
     );
     let removed = service.stop(rt, &mut pass);
     let closed = service.close(pass);
@@ -71,8 +72,9 @@ where
     }
 }
 
-/// Serves the connections of a source that may look at the queues, like `serve_with`. What reads the
-/// rows has a pass of its own, which is taken back after those of all places.
+/// Serves the connections of a source that may look at the queues if `reads` is true, like
+/// `serve_with`. What reads the rows has a pass of its own, which is taken back after those of all
+/// places.
 fn serve_seeing<
     T: NonBlocking + Drop + Send,
     S: Arrivals<T>,
@@ -87,6 +89,7 @@ fn serve_seeing<
     books: &mut Vec<T::Book>,
     watches: Vec<W>,
     common: &Common,
+    reads: bool,
 ) -> Result<(Sums, u64), ServeFault>
 where
     T::Book: Send,
@@ -94,14 +97,14 @@ where
     requires count { (1 ≤ vec_len watches) × (vec_len watches ≤ vec_len books.old)
         × (vec_len watches ≤ MAX_WORKERS) }
     ensures pass { AreOf service.now pass.new.seats }
-    ensures ok { IfOk result (λ told. WorkedFrom T.incoming T.outgoing T.closes S.gives true
+    ensures ok { IfOk result (λ told. WorkedFrom T.incoming T.outgoing T.closes S.gives reads
         service.now pass.old source.old books.old.items told.0 told.1 pass.new source.new
         books.new.items) }
     ensures err { IfErr result (λ why. LeavesConnections T.incoming T.outgoing T.closes S.gives
-        (HiredFrom true service.now pass.old pass.new) source.old books.old.items why source.new
+        (HiredFrom reads service.now pass.old pass.new) source.old books.old.items why source.new
         books.new.items) }
 {
-    let rows = Rows::open(rt, alloc, service, pass);
+    let rows = Rows::open(rt, alloc, service, pass, reads);
     let mut seeing = Seeing::new(source, rows);
     let outcome = serve_with(
         rt,
@@ -115,7 +118,7 @@ where
     );
     let (source, rows) = seeing.into_parts();
     given_back(source);
-    service.join_pass(pass, rows.into_pass());
+    rows.close(pass);
     outcome
 }
 

@@ -67,6 +67,8 @@ pub(crate) struct Accepting<'a, L, I: Drop, H> {
     desk: Desk,
     /// The number of blocks in the pool.
     blocks: u32,
+    /// Whether the state of the server is shown.
+    stats: bool,
     alloc: Global,
     common: &'a Common,
     host: &'a H,
@@ -81,6 +83,7 @@ impl<'a, L: Listens, I: Input + Drop, H: Host> Accepting<'a, L, I, H> {
         input: Option<I>,
         most: u64,
         blocks: u32,
+        stats: bool,
         common: &'a Common,
         host: &'a H,
     ) -> Accepting<'a, L, I, H>
@@ -100,6 +103,7 @@ impl<'a, L: Listens, I: Input + Drop, H: Host> Accepting<'a, L, I, H> {
             told: false,
             desk: Desk::closed(),
             blocks,
+            stats,
             alloc,
             common,
             host,
@@ -122,6 +126,7 @@ impl<'a, L: Listens, I: Input + Drop, H: Host> Accepting<'a, L, I, H> {
             told: _,
             desk: _,
             blocks: _,
+            stats: _,
             alloc: _,
             common: _,
             host: _,
@@ -141,7 +146,9 @@ impl<'a, L: Listens, I: Input + Drop, H: Host> Accepting<'a, L, I, H> {
         ensures none { L.accepted self.new.listener.now ≡ L.accepted self.old.listener.now }
         ensures same_reference { self.new.listener.ghost_name ≡ self.old.listener.ghost_name }
     {
-        self.desk.open(self.host.listen_for_readers()?);
+        if self.stats {
+            self.desk.open(self.host.listen_for_readers()?);
+        }
         self.listener.open()
     }
 

@@ -1,5 +1,5 @@
 //! The server.
-ghost use Rattle.std.specs.Prelude.{◌≡◌, ◌≤◌, IfErr, IfOk, IfSome, is_some, vec_len};
+ghost use Rattle.std.specs.Prelude.{◌≡◌, ◌≤◌, false, IfErr, IfOk, IfSome, is_some, vec_len};
 ghost use Rattle.sysv_model.specs.declared.limits.TheConstants.{MIN_BLOCKS, MAX_BLOCKS};
 ghost use Rattle.sysv_workers.specs.declared.workers.TheConstants.{MAX_WORKERS};
 ghost use Rattle.sysv_engine.specs.Added.{IsBalanced};
@@ -58,9 +58,9 @@ pub fn serve_on<R: Threads + Wait + Net + Sync>(
 ) -> Result<Sums, ServeFault>
     requires blocks { (MIN_BLOCKS ≤ blocks) × (blocks ≤ MAX_BLOCKS) }
     requires workers { (1 ≤ workers) × (workers ≤ MAX_WORKERS) }
-    ensures ok { IfOk result (λ sums. ServesOn blocks workers sessions sums) }
+    ensures ok { IfOk result (λ sums. ServesOn false blocks workers sessions sums) }
     ensures balance { IfOk result IsBalanced }
-    ensures err { IfErr result (FailsOn blocks workers sessions) }
+    ensures err { IfErr result (FailsOn false blocks workers sessions) }
 {
     let terms = Terms {
         blocks,
@@ -69,6 +69,7 @@ pub fn serve_on<R: Threads + Wait + Net + Sync>(
         sessions,
         patience: Patience::UNBOUNDED,
         drain: 0,
+        stats: false,
     };
     let mut lent = Lent::new(listener);
     let mut reason = None;
@@ -119,11 +120,12 @@ pub fn serve_listener<I: Read + AsRawFd + Drop, H: Host + Drop, R: Threads + Wai
     requires blocks { (MIN_BLOCKS ≤ terms.blocks) × (terms.blocks ≤ MAX_BLOCKS) }
     requires workers { (1 ≤ terms.workers) × (terms.workers ≤ MAX_WORKERS) }
     requires at_once { (1 ≤ terms.at_once) × (terms.at_once ≤ MAX_CLIENTS) }
-    ensures ok { IfOk result (λ ended. EndsOn terms.blocks terms.at_once terms.sessions ended) }
+    ensures ok { IfOk result (λ ended. EndsOn terms.stats terms.blocks terms.at_once terms.sessions
+        ended) }
     ensures exact { IfOk result (λ ended.
         HasReason (is_some input) terms.sessions ended.sums.sessions reason.new) }
     ensures balance { IfOk result (λ ended. IsBalanced ended.sums) }
-    ensures err { IfErr result (FailsOn terms.blocks terms.at_once terms.sessions) }
+    ensures err { IfErr result (FailsOn terms.stats terms.blocks terms.at_once terms.sessions) }
 {
     let mut socket = Hosted::new(&host);
     let input = input_of(input);
@@ -157,13 +159,13 @@ pub fn serve_from<L: Listens, I: Input + Drop, H: Host, R: Threads + Wait + Net 
     requires blocks { (MIN_BLOCKS ≤ terms.blocks) × (terms.blocks ≤ MAX_BLOCKS) }
     requires workers { (1 ≤ terms.workers) × (terms.workers ≤ MAX_WORKERS) }
     requires at_once { (1 ≤ terms.at_once) × (terms.at_once ≤ MAX_CLIENTS) }
-    ensures ok { IfOk result (λ ended. EndsFrom L.accepted L.listens terms.blocks terms.at_once
-        terms.sessions listener.old ended listener.new) }
+    ensures ok { IfOk result (λ ended. EndsFrom L.accepted L.listens terms.stats terms.blocks
+        terms.at_once terms.sessions listener.old ended listener.new) }
     ensures exact { IfOk result (λ ended. HasCause I.reads (is_some input) terms.sessions
         ended.sums.sessions reason.new) }
     ensures balance { IfOk result (λ ended. IsBalanced ended.sums) }
-    ensures err { IfErr result (λ why. FailsFrom L.accepted terms.blocks terms.at_once terms.sessions
-        listener.old why listener.new) }
+    ensures err { IfErr result (λ why. FailsFrom L.accepted terms.stats terms.blocks terms.at_once
+        terms.sessions listener.old why listener.new) }
 {
     run(rt, alloc, listener, true, host, input, terms, reason)
 }
@@ -183,13 +185,13 @@ fn run<L: Listens, I: Input + Drop, H: Host, R: Threads + Wait + Net + Sync>(
     requires blocks { (MIN_BLOCKS ≤ terms.blocks) × (terms.blocks ≤ MAX_BLOCKS) }
     requires workers { (1 ≤ terms.workers) × (terms.workers ≤ MAX_WORKERS) }
     requires at_once { (1 ≤ terms.at_once) × (terms.at_once ≤ MAX_CLIENTS) }
-    ensures ok { IfOk result (λ ended. EndsFrom L.accepted L.listens terms.blocks terms.at_once
-        terms.sessions listener.old ended listener.new) }
+    ensures ok { IfOk result (λ ended. EndsFrom L.accepted L.listens terms.stats terms.blocks
+        terms.at_once terms.sessions listener.old ended listener.new) }
     ensures exact { IfOk result (λ ended. HasCause I.reads (is_some input) terms.sessions
         ended.sums.sessions reason.new) }
     ensures balance { IfOk result (λ ended. IsBalanced ended.sums) }
-    ensures err { IfErr result (λ why. FailsFrom L.accepted terms.blocks terms.at_once terms.sessions
-        listener.old why listener.new) }
+    ensures err { IfErr result (λ why. FailsFrom L.accepted terms.stats terms.blocks terms.at_once
+        terms.sessions listener.old why listener.new) }
 {
     let Terms {
         blocks,
@@ -198,6 +200,7 @@ fn run<L: Listens, I: Input + Drop, H: Host, R: Threads + Wait + Net + Sync>(
         sessions,
         patience,
         drain,
+        stats,
     } = terms;
     *reason = None;
     let workers = workers.min(at_once);
@@ -212,9 +215,18 @@ fn run<L: Listens, I: Input + Drop, H: Host, R: Threads + Wait + Net + Sync>(
         return Err(ServeFault::NoMemory);
     };
     let mut source = Accepting::new(
-        alloc, listener, retries, input, sessions, blocks, &common, host,
+        alloc, listener, retries, input, sessions, blocks, stats, &common, host,
     );
-    let outcome = serve_arrivals(rt, alloc, &mut source, &mut books, blocks, watches, &common);
+    let outcome = serve_arrivals(
+        rt,
+        alloc,
+        &mut source,
+        &mut books,
+        blocks,
+        watches,
+        &common,
+        stats,
+    );
     let (left, why) = source.into_parts();
     given_back(left);
     *reason = why;

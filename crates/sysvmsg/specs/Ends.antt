@@ -45,19 +45,19 @@ abbrev pub HasServed : Ended → Option Reason → (shown after : Option (List �
 HasServed ended reason shown after =
     IsMeantToEnd reason × (ended.refused ≡ 0) × Appends shown after (sums_line ended.sums)
 
--- A server on these terms ended so, under this limit of open files, and showed its state or did not. It
--- had as many places as the terms have sessions at once, or as many as there are descriptors for.
-abbrev pub EndsWithin : Option ℕ → (has_stats : Bool) → Terms → Ended → Type 0
-EndsWithin limit has_stats terms ended =
-    EndsOn terms.blocks (places_within limit has_stats terms.workers terms.at_once) terms.sessions ended
+-- A server on these terms ended so, under this limit of open files. It had as many places as the terms
+-- have sessions at once, or as many as there are descriptors for.
+abbrev pub EndsWithin : Option ℕ → Terms → Ended → Type 0
+EndsWithin limit terms ended =
+    EndsOn terms.stats terms.blocks (places_within limit terms.stats terms.workers terms.at_once) terms.sessions ended
 
--- A server that may have an input, and may show its state, served on these terms until the input was
--- over or the maximum number of sessions was reached, and the sums of its sessions were printed. The
--- limit of open files is the one that it read before.
-pub record HasServedAll (has_input has_stats : Bool) (terms : Terms) (shown after : Option (List ℕ)) : Type 0 where
+-- A server that may have an input served on these terms until the input was over or the maximum
+-- number of sessions was reached, and the sums of its sessions were printed. The limit of open files is
+-- the one that it read before.
+pub record HasServedAll (has_input : Bool) (terms : Terms) (shown after : Option (List ℕ)) : Type 0 where
   pub limit : Option ℕ
   pub ended : Ended
   pub reason : Option Reason
-  pub ends : EndsWithin limit has_stats terms ended
+  pub ends : EndsWithin limit terms ended
   pub meant : HasReason has_input terms.sessions ended.sums.sessions reason
   pub served : HasServed ended reason shown after

@@ -1,5 +1,5 @@
 -- What a `serve` asks for (this project's programs): its socket file and its terms.
-use Rattle.std.specs.Prelude.{◌≡◌, ◌≢◌, ◌≤◌, ⊤, ℕ, List, codes, length, Option, Some, None}
+use Rattle.std.specs.Prelude.{◌≡◌, ◌≢◌, ◌≤◌, ⊤, ℕ, List, codes, length, is_some, Option, Some, None}
 use Rattle.clap.specs.Words.{Row}
 use Rattle.sysv_server.specs.declared.terms.Terms.{Terms}
 use Rattle.sysv_words.specs.Words.{IsNat32, IsNat64}
@@ -43,6 +43,7 @@ pub record AsksForTerms (words : List Row) (terms : Terms) : Type 0 where
   pub idle : HasOr IsNat32 0 (word_of words (codes "idle")) terms.patience.idle
   pub stall : HasOr IsNat32 0 (word_of words (codes "stall")) terms.patience.stall
   pub drain : HasOr IsNat32 0 (word_of words (codes "drain")) terms.drain
+  pub stats : terms.stats ≡ is_some (word_of words (codes "stats"))
 
 -- A command with these words has this path.
 abbrev pub HasPath : List Row → List ℕ → Type 0

@@ -1,5 +1,5 @@
 //! The server.
-ghost use Rattle.std.specs.Prelude.{IfOk, is_some};
+ghost use Rattle.std.specs.Prelude.{IfOk};
 ghost use Rattle.std.specs.Io.KnownBytes.{Appends};
 ghost use Rattle.sysv_server.specs.Serving.{HasReason};
 ghost use Rattle.sysvmsg.specs.Asked.{HasLimits};
@@ -135,8 +135,8 @@ pub(crate) fn serve_at<
     S: Write,
 >(rt: &R, input: I, serving: &Serving<'_>, screen: &mut S) -> ExitCode
     requires { HasLimits serving.now }
-    ensures { SucceedsOnlyIf (HasServedAll serving.now.until_eof (is_some serving.now.stats)
-        serving.now.terms (S.contents screen.old) (S.contents screen.new)) result }
+    ensures { SucceedsOnlyIf (HasServedAll serving.now.until_eof serving.now.terms
+        (S.contents screen.old) (S.contents screen.new)) result }
 {
     let mut reason = None;
     match run_server(rt, input, serving, open_files(), &mut reason) {
@@ -161,12 +161,12 @@ fn run_server<
     reason: &mut Option<Reason>,
 ) -> Result<Ended, ServeFault>
     requires { HasLimits serving.now }
-    ensures ends { IfOk result (EndsWithin limit (is_some serving.now.stats) serving.now.terms) }
+    ensures ends { IfOk result (EndsWithin limit serving.now.terms) }
     ensures meant { IfOk result (λ ended. HasReason serving.now.until_eof
         serving.now.terms.sessions ended.sums.sessions reason.new) }
 {
     let mut terms = serving.terms;
-    terms.at_once = room(limit, serving.stats.is_some(), terms.workers, terms.at_once);
+    terms.at_once = room(limit, terms.stats, terms.workers, terms.at_once);
     let host = Reporter {
         rt,
         serving,

@@ -414,6 +414,7 @@ fn ends_as<R: Threads + Wait + Net + Files + Abort + Clock + Sync>(
             stall: 60,
         },
         drain: 60,
+        stats: false,
     };
     let first = ended(rt, alloc, terms, clients);
     if matches!(&first.0.0, Err(ServeFault::NoMemory | ServeFault::Thread)) {
@@ -501,6 +502,7 @@ fn a_server_without_a_listener_serves_nobody(rt: HostRuntime) {
         sessions: 3,
         patience: Patience::UNBOUNDED,
         drain: 0,
+        stats: false,
     };
     let mut reason = None;
     let end = serve_listener(

@@ -1,7 +1,6 @@
 -- The gates that were opened are those that were served, stopped and closed, also after a fault. The
 -- messages that were taken were written or lost.
 use Rattle.std.proofs.Common.{subst, refl}
-use Rattle.std.specs.Prelude.{true}
 use Rattle.sysv_service.specs.Ran.{Pass}
 use Rattle.sysv_engine.specs.Handled.{told_in}
 use Rattle.sysv_engine.specs.Looking.{HiresBy}
@@ -21,7 +20,7 @@ returns-in-Ok-outcome-clause-ok g c =
     let worked = c.in-Ok-outcome.ensures.ok in
     let shifts = worked.shifts in
     let hires =
-    subst (λ (p : Pass). HiresBy true p shifts c.serve_seeing-outcome.new.pass) opened.1 worked.hires in
+    subst (λ (p : Pass). HiresBy c.args.reads p shifts c.serve_seeing-outcome.new.pass) opened.1 worked.hires in
     let stopped : Stopped c.in-Ok.service c.stop-removed.result = record {
       before = c.serve_seeing-outcome.new.pass;
       after = c.stop-removed.new.pass;
@@ -48,7 +47,7 @@ returns-in-Ok-outcome-clause-ok g c =
       lost = lost_at_an_end shifts c.in-Ok-outcome.sums worked.adds;
       lived = lived laws.run laws.whole laws.none_held laws.empty c.args.blocks c.in-Ok.service c.stop-removed.result
           stopped
-          c.close-closed.result c.close-closed.ensures opened.0 c.stop-removed.ensures.pass true shifts hires;
+          c.close-closed.result c.close-closed.ensures opened.0 c.stop-removed.ensures.pass c.args.reads shifts hires;
       closed = refl;
     }
 
@@ -70,10 +69,10 @@ returns-in-Err-clause-err g c =
     let laws = c.each_life_is_one_run.ensures in
     fault_says t.incoming t.outgoing t.closes g.S.Arrivals.gives c.args.source.now c.serve_seeing-outcome.new.source
     c.args.books.now.items c.serve_seeing-outcome.new.books.items
-    (HiredFrom true c.in-Ok.service first c.serve_seeing-outcome.new.pass) (HasLived true c.args.blocks)
+    (HiredFrom c.args.reads c.in-Ok.service first c.serve_seeing-outcome.new.pass) (HasLived c.args.reads c.args.blocks)
     (have_lived laws.run laws.whole laws.none_held laws.empty c.args.blocks c.in-Ok.service c.stop-removed.result
     stopped
-    c.close-closed.result c.close-closed.ensures opened.0 c.stop-removed.ensures.pass true first opened.1)
+    c.close-closed.result c.close-closed.ensures opened.0 c.stop-removed.ensures.pass c.args.reads first opened.1)
     c.in-Err.why c.in-Err.ensures.err
 
 pub returns-in-Ok-outcome-clause-balance : goal.returns-in-Ok-outcome-clause-balance
