@@ -100,6 +100,10 @@ pub fn serve_on<R: Threads + Wait + Net + Sync>(
 /// more connections were accepted, if any were to be: at `Reason::Full` exactly `terms.sessions`
 /// sessions were run.
 ///
+/// With `terms.stats` the host also opens a socket for readers, to whom the server shows its state
+/// between two accepts. No session makes it wait, and no reader makes a session wait. Only then the
+/// rows of the queues are read.
+///
 /// # Errors
 ///
 /// The errors are those of `serve_on`. After `NoMemory` and `Thread` no listener was opened.
