@@ -369,7 +369,7 @@ fn terms_of(words: &ArgMatches<'_>) -> Result<Terms, Bad>
             stall: seconds_of(words, "stall")?,
         },
         drain: seconds_of(words, "drain")?,
-        stats: word_in(words, "stats").is_some(),
+        stats: has_word(words, "stats"),
     })
 }
 
