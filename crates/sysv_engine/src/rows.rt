@@ -1,5 +1,6 @@
 //! The rows of a running service.
-ghost use Rattle.std.specs.Prelude.{◌≡◌, IfSome};
+ghost use Rattle.std.specs.Option.{ForSome};
+ghost use Rattle.std.specs.Prelude.{◌≡◌};
 ghost use Rattle.sysv_service.specs.Seats.{AreOf};
 ghost use Rattle.sysv_engine.specs.Looking.{LookedBy, ReadsRow, SplitsOff, TakesBack};
 
@@ -15,7 +16,7 @@ pub struct Rows<'p, R> {
     rt: &'p R,
     service: &'p Service,
     pass: Option<Pass>,
-    ghost fits: { IfSome pass (λ own. AreOf service.now own.seats) },
+    ghost fits: { ForSome pass (λ own. AreOf service.now own.seats) },
 }
 
 impl<'p, R: Wait> Rows<'p, R> {
