@@ -55,71 +55,71 @@ module _ {T B : Type 0} (incoming outgoing : T → Option (List ℕ)) (closes : 
   Behind = behind.Behind of Keeps stays on gives
 
   module _ (gates : Gates) (old new : D) (books books' : List B) (kept back : Pass) where
-    abbrev Works : Result (Sums × ℕ) ServeFault → Type 0
-    Works result = IfOk result (λ told. WorkedFrom incoming outgoing closes Behind false gates kept old books told.0
-        told.1 back new books')
+    abbrev Left : ServeFault → Type 0
+    Left why = LeavesConnections incoming outgoing closes Behind (HiredFrom false gates kept back) old books why new
+        books'
 
-    abbrev Leaves : Result (Sums × ℕ) ServeFault → Type 0
-    Leaves result = IfErr result (λ why. LeavesConnections incoming outgoing closes Behind (HiredFrom false gates kept
-        back) old books why new books')
-
-    left_kept : (why : ServeFault)
-        → LeavesConnections incoming outgoing closes Behind (HiredFrom false gates kept back) old books why new books'
-        → Keeps old new
+    left_kept : (why : ServeFault) → Left why → Keeps old new
     left_kept NoMemory left = subst (Keeps old) (sym left.0) (stays old)
     left_kept Thread left = subst (Keeps old) (sym left.0) (stays old)
     left_kept Worn left = behind.returned_kept of Keeps stays on gives left.0 old new left.1
     left_kept Missed left = behind.gave_kept of Keeps stays on gives left.0 old new left.1
 
-    -- What it kept of its source.
-    pub ran_kept : (result : Result (Sums × ℕ) ServeFault) → Works result → Leaves result → Keeps old new
-    ran_kept (Ok told) worked left = behind.all_kept of Keeps stays on gives worked.given old new worked.gave
-    ran_kept (Err why) worked left = left_kept why left
+    module _ {A : Type 0} where
+      -- What it kept of its source.
+      pub ran_kept : (result : Result A ServeFault) (sums : A → Sums) (refused : A → ℕ)
+          → IfOk result (λ told. WorkedFrom incoming outgoing closes Behind false gates kept old books (sums told)
+          (refused told) back new books')
+          → IfErr result (λ why. LeavesConnections incoming outgoing closes Behind (HiredFrom false gates kept back)
+          old books why new books')
+          → Keeps old new
+      ran_kept (Ok told) sums refused worked left =
+          behind.all_kept of Keeps stays on gives worked.given old new worked.gave
+      ran_kept (Err why) sums refused worked left = left_kept why left
 
-    module _ (reads : Bool) (own home : Pass) (before after : Option Pass)
-        (first : SplitsOff reads own before kept) (looked : LookedBy before after)
-        (last : TakesBack after back home) where
-      -- What it did.
-      pub ran_behind : (result : Result (Sums × ℕ) ServeFault) → Works result →
-          IfOk result (λ told. WorkedFrom incoming outgoing closes gives reads gates own (of old) books told.0 told.1
-          home (of new) books')
-      ran_behind (Ok told) worked = record {
-        given = worked.given;
-        gave = behind.all_behind of Keeps stays on gives worked.given old new worked.gave;
-        desks = worked.desks;
-        dealt = worked.dealt;
-        ordered = worked.ordered;
-        alone = worked.alone;
-        shifts = worked.shifts;
-        crewed = worked.crewed;
-        adds = worked.adds;
-        counts = worked.counts;
-        hires = hires_by reads own kept back home before after worked.shifts first looked last worked.hires;
-      }
-      ran_behind (Err why) worked = tt
-
-      abbrev Left : ServeFault → Type 0
-      Left why = LeavesConnections incoming outgoing closes gives (HiredFrom false gates kept back) (of old) books why
-          (of new) books'
-
-      left_behind : (why : ServeFault)
-          → LeavesConnections incoming outgoing closes Behind (HiredFrom false gates kept back) old books why new
+    module _ (reads : Bool) (own home : Pass) (before after : Option Pass) (first : SplitsOff reads own before kept)
+        (looked : LookedBy before after) (last : TakesBack after back home) where
+      left_behind : (why : ServeFault) → Left why →
+          LeavesConnections incoming outgoing closes gives (HiredFrom false gates kept back) (of old) books why (of new)
           books'
-          → Left why
       left_behind NoMemory left = (ap of left.0, left.1)
       left_behind Thread left = (ap of left.0, left.1, left.2)
-      left_behind Worn left = (left.0, behind.returned_behind of Keeps stays on gives left.0 old new left.1, left.2)
+      left_behind Worn left =
+          (left.0, behind.returned_behind of Keeps stays on gives left.0 old new left.1, left.2, left.3)
       left_behind Missed left = (left.0, behind.gave_behind of Keeps stays on gives left.0 old new left.1, left.2)
 
-      -- What it left.
-      pub all_left_behind : (result : Result (Sums × ℕ) ServeFault) → Leaves result →
-          IfErr result
-          (λ why. LeavesConnections incoming outgoing closes gives (HiredFrom reads gates own home) (of old)
-          books why (of new) books')
-      all_left_behind (Ok told) left = tt
-      all_left_behind (Err why) left =
-          fault_says incoming outgoing closes gives (of old) (of new) books books' (HiredFrom false gates kept back)
-          (HiredFrom reads gates own home)
-          (λ theirs shifts hired.
-          (hired.0, hires_by reads own kept back home before after shifts first looked last hired.1)) why
-          (left_behind why left)
+      module _ {A : Type 0} where
+        -- What it did.
+        pub ran_behind : (result : Result A ServeFault) (sums : A → Sums) (refused : A → ℕ)
+            → IfOk result (λ told. WorkedFrom incoming outgoing closes Behind false gates kept old books (sums told)
+            (refused told) back new books')
+            → IfOk result (λ told. WorkedFrom incoming outgoing closes gives reads gates own (of old) books (sums told)
+            (refused told) home (of new) books')
+        ran_behind (Ok told) sums refused worked = record {
+          given = worked.given;
+          gave = behind.all_behind of Keeps stays on gives worked.given old new worked.gave;
+          desks = worked.desks;
+          dealt = worked.dealt;
+          ordered = worked.ordered;
+          alone = worked.alone;
+          shifts = worked.shifts;
+          crewed = worked.crewed;
+          adds = worked.adds;
+          counts = worked.counts;
+          hires = hires_by reads own kept back home before after worked.shifts first looked last worked.hires;
+        }
+        ran_behind (Err why) sums refused worked = tt
+
+        -- What it left.
+        pub all_left_behind : (result : Result A ServeFault)
+            → IfErr result (λ why. LeavesConnections incoming outgoing closes Behind (HiredFrom false gates kept back)
+            old books why new books')
+            → IfErr result (λ why. LeavesConnections incoming outgoing closes gives (HiredFrom reads gates own home)
+            (of old) books why (of new) books')
+        all_left_behind (Ok told) left = tt
+        all_left_behind (Err why) left =
+            fault_says incoming outgoing closes gives (of old) (of new) books books' (HiredFrom false gates kept back)
+            (HiredFrom reads gates own home)
+            (λ theirs shifts hired.
+            (hired.0, hires_by reads own kept back home before after shifts first looked last hired.1)) why
+            (left_behind why left)

@@ -280,13 +280,13 @@ module _ {T B : Type 0} (incoming outgoing : T → Option (List ℕ)) (closes : 
 
 -- The items of a source that holds another one and returns what that one returns. It keeps its hold.
 module _ {D S T : Type 0} (of : D → S) (name : D → ℕ) (gives : S → Option T → S → Type 0) where
-  abbrev Holds : D → D → Type 0
+  abbrev pub Holds : D → D → Type 0
   Holds old new = name new ≡ name old
 
-  still : (d : D) → Holds d d
+  pub still : (d : D) → Holds d d
   still d = refl
 
-  on : (a b c : D) → Holds a b → Holds b c → Holds a c
+  pub on : (a b c : D) → Holds a b → Holds b c → Holds a c
   on a b c one two = two ∙ one
 
   abbrev pub Behind : D → Option T → D → Type 0
