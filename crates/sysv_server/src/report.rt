@@ -168,7 +168,7 @@ impl Queue {
 
 /// What the accepting thread knows of a server.
 #[derive(Clone, Copy)]
-pub(crate) struct Server {
+pub(crate) struct Admission {
     /// The number of blocks in the pool.
     pub(crate) blocks: u32,
     /// The number of clients that were accepted.
@@ -191,7 +191,7 @@ impl State {
         alloc: Global,
         common: &Common,
         rows: &mut Rows<'_, R>,
-        server: &Server,
+        admission: &Admission,
     ) -> Option<State>
         ensures { Looks rows.old rows.new }
     {
@@ -203,7 +203,7 @@ impl State {
             }
         }
         Some(State {
-            numbers: numbers(&common.counted(), server),
+            numbers: numbers(&common.counted(), admission),
             queues,
         })
     }
@@ -276,7 +276,7 @@ impl State {
 }
 
 /// Returns the numbers of a server, in the order of `OF_SERVER`.
-fn numbers(counted: &Counted, server: &Server) -> [u64; OF_SERVER.len()] {
+fn numbers(counted: &Counted, admission: &Admission) -> [u64; OF_SERVER.len()] {
     let Counted {
         over,
         at_once,
@@ -285,11 +285,11 @@ fn numbers(counted: &Counted, server: &Server) -> [u64; OF_SERVER.len()] {
         written,
         lost,
     } = *counted;
-    let Server {
+    let Admission {
         blocks,
         accepted,
         has_waiting,
-    } = *server;
+    } = *admission;
     [
         accepted.saturating_sub(over),
         at_once,

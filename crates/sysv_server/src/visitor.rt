@@ -2,7 +2,7 @@
 ghost use Rattle.sysv_engine.specs.Looks.{Looks};
 
 use crate::polling::has_come;
-use crate::report::{Form, Server, State};
+use crate::report::{Admission, Form, State};
 use std::alloc::Global;
 use std::io;
 use std::io::{ErrorKind, Read, Write};
@@ -66,12 +66,12 @@ impl View<'_> {
             blocks,
             accepted,
         } = self;
-        let server = Server {
+        let admission = Admission {
             blocks,
             accepted,
             has_waiting: has_come(listener),
         };
-        let state = State::read(alloc, common, rows, &server)?;
+        let state = State::read(alloc, common, rows, &admission)?;
         state.text(alloc, form)
     }
 }
