@@ -21,7 +21,7 @@ static const char help[] =
     "Runs `sysvmsg serve` with these options (`sysvmsg serve --help` lists them),\n"
     "--until-eof and, unless they are given, --drain 5 and --blocks 65536. SIGTERM or\n"
     "SIGINT shuts it down gracefully: it refuses new clients, waits for its sessions,\n"
-    "at most as long as --drain states, prints its counts and removes the socket. A\n"
+    "at most as long as --drain states, prints its counts and removes its sockets. A\n"
     "second signal ends it at once. It reports to systemd (Type=notify) and can be\n"
     "process 1 of a container. The limit of open files of the server is the hard\n"
     "limit, so it serves more clients at once.\n"

@@ -29,6 +29,12 @@ enum {
     PARENT_END = SIGUSR1  /* reports that a thread of the parent ended, with --with */
 };
 
+/* A file that the server made. */
+struct made {
+    const char *path; /* or NULL */
+    int file;         /* a descriptor that keeps its number from another file, or -1 */
+};
+
 struct run {
     const struct request *request;
     struct signals before;
@@ -38,7 +44,7 @@ struct run {
     int server_status;
     int status; /* of the command, once it has ended, and else -1 */
     int input;  /* of the server, which shuts down once it is closed */
-    int socket; /* the file that the server made: a descriptor that keeps its number from another */
+    struct made socket, stats;
     int stopped_by;  /* the signal that ended the run, or 0 */
     long ends_since; /* in milliseconds, once `input` is closed */
     bool is_killed;
@@ -116,7 +122,7 @@ static void take_parent_end(struct run *run)
         kill(run->command, SIGTERM);
     run->command = 0;
     run->stopped_by = SIGTERM;
-    if (run->socket < 0)
+    if (run->socket.file < 0)
         end_server(run);
     else
         kill_server(run);
@@ -164,10 +170,17 @@ static void take_signal(struct run *run)
     }
 }
 
+static void keep(struct made *made)
+{
+    if (made->path)
+        made->file = open(made->path, O_PATH | O_NOFOLLOW | O_CLOEXEC);
+}
+
 /* The server listens now. */
 static void take_serving(struct run *run)
 {
-    run->socket = open(run->request->path, O_PATH | O_NOFOLLOW | O_CLOEXEC);
+    keep(&run->socket);
+    keep(&run->stats);
     if (run->stopped_by != 0)
         return;
     notify("READY=1");
@@ -187,7 +200,7 @@ static void take_lines(struct run *run)
 {
     enum line line;
     while ((line = relay_front(&run->relay)) != NO_LINE) {
-        if (line == SERVING_LINE && run->socket < 0)
+        if (line == SERVING_LINE && run->socket.file < 0)
             take_serving(run);
         if (run->request->command && line != OTHER_LINE)
             relay_drop(&run->relay);
@@ -219,24 +232,42 @@ static void step(struct run *run)
         take_signal(run);
 }
 
-/* Removes the socket file, unless another is there by now. */
-static void remove_socket(const struct run *run)
+/* Removes a socket file, unless another is there by now. */
+static void remove_made(const struct made *made)
 {
     struct stat own, found;
-    if (run->socket >= 0 && fstat(run->socket, &own) == 0 && lstat(run->request->path, &found) == 0
+    if (made->file >= 0 && fstat(made->file, &own) == 0 && lstat(made->path, &found) == 0
         && own.st_dev == found.st_dev && own.st_ino == found.st_ino)
-        unlink(run->request->path);
+        unlink(made->path);
 }
 
-/* Whether an option is among those of the server, as --drain 3 or --drain=3. */
-static bool has_option(char **options, const char *name)
+/* What follows an option of the server in its word, as "" for --drain and "=3" for --drain=3, or
+ * NULL if it is not among the words. `word` is moved to it. */
+static const char *find_option(char ***word, const char *name)
 {
     size_t length = strlen(name);
-    for (; *options && strcmp(*options, "--") != 0; options++)
-        if (strncmp(*options, name, length) == 0
-            && ((*options)[length] == '\0' || (*options)[length] == '='))
-            return true;
-    return false;
+    for (; **word && strcmp(**word, "--") != 0; (*word)++) {
+        if (strncmp(**word, name, length) != 0)
+            continue;
+        const char *rest = **word + length;
+        if (*rest == '\0' || *rest == '=')
+            return rest;
+    }
+    return NULL;
+}
+
+static bool has_option(char **options, const char *name)
+{
+    return find_option(&options, name) != NULL;
+}
+
+/* The value of an option of the server, or NULL. */
+static const char *value_of(char **options, const char *name)
+{
+    const char *rest = find_option(&options, name);
+    if (!rest)
+        return NULL;
+    return *rest == '=' ? rest + 1 : options[1];
 }
 
 /* The words of the server's command line. */
@@ -353,7 +384,13 @@ static int ended(const struct run *run)
 
 int run(const struct request *request)
 {
-    struct run state = {.request = request, .input = -1, .socket = -1, .status = -1};
+    struct run state = {
+        .request = request,
+        .input = -1,
+        .socket = {request->path, -1},
+        .stats = {value_of(request->options, "--stats"), -1},
+        .status = -1,
+    };
     begin_signals(&state);
     if (request->command) {
         watch_parent(&state);
@@ -364,6 +401,7 @@ int run(const struct request *request)
     begin_server(&state);
     while (state.server > 0 || state.command > 0 || !relay_is_over(&state.relay))
         step(&state);
-    remove_socket(&state);
+    remove_made(&state.socket);
+    remove_made(&state.stats);
     return ended(&state);
 }

@@ -2,14 +2,15 @@
 # file names.
 
 # The options of a server with which sysvmsg-serve can be called too.
-_sysvmsg_server="--mode --replace --blocks --workers --at-once --sessions --idle --stall --drain"
+_sysvmsg_server="--mode --replace --blocks --workers --at-once --sessions --idle --stall --drain --stats"
 
-_sysvmsg_commands="serve snd rcv ipcs ipcrm ipcmk script"
+_sysvmsg_commands="serve snd rcv ipcs ipcrm ipcmk stats script"
 
 # Prints the options of a command, or the commands if the word is not a command.
 _sysvmsg_words() {
     local credentials="--stderr --me --uid --gid --pid"
     case $1 in
+    stats) echo "--json --wait --stderr --help --version" ;;
     script) echo "--help --version" ;;
     serve) echo "$_sysvmsg_server --until-eof --help --version" ;;
     ipcs) echo "-i --json --wait $credentials --help --version" ;;

@@ -33,10 +33,11 @@ complete $bare -a rcv -d 'Receive a message and print its body'
 complete $bare -a ipcs -d 'Print a table of the queues'
 complete $bare -a ipcrm -d 'Remove a queue, or all'
 complete $bare -a ipcmk -d 'Make a queue and print its identifier'
+complete $bare -a stats -d 'Print the state of a server'
 complete $bare -a script -d 'Run the script on standard input'
 complete $bare -a help -d 'Print the help of a command'
 complete -c sysvmsg -n '__sysvmsg_is help' -f
-complete -c sysvmsg -n '__sysvmsg_is help; and __sysvmsg_has_words 2' -a 'serve snd rcv ipcs ipcrm ipcmk script'
+complete -c sysvmsg -n '__sysvmsg_is help; and __sysvmsg_has_words 2' -a 'serve snd rcv ipcs ipcrm ipcmk stats script'
 
 set -l clients -c sysvmsg -n '__sysvmsg_is snd rcv ipcs ipcrm ipcmk'
 complete $clients -l stderr -d 'Print errors on standard error'
@@ -56,6 +57,7 @@ function __sysvmsg_complete_server
     complete $argv -l idle -x -d 'End a session that sends no request for this time'
     complete $argv -l stall -x -d 'End a session whose request or reply takes longer'
     complete $argv -l drain -x -d 'End the sessions left this long after the last accept'
+    complete $argv -l stats -r -d 'Show the state on a second socket'
 end
 
 complete -c sysvmsg-serve -e
@@ -100,6 +102,10 @@ complete -c sysvmsg -n '__sysvmsg_is ipcrm' -l wait -x -d 'Wait for each reply a
 complete -c sysvmsg -n '__sysvmsg_is ipcmk' -l mode -x -d 'The mode of the queue'
 complete -c sysvmsg -n '__sysvmsg_is ipcmk' -l qbytes -x -d 'The maximum number of queued bytes'
 complete -c sysvmsg -n '__sysvmsg_is ipcmk' -l wait -x -d 'Wait for each reply at most this time'
+
+complete -c sysvmsg -n '__sysvmsg_is stats' -l json -d 'Print a JSON object'
+complete -c sysvmsg -n '__sysvmsg_is stats' -l stderr -d 'Print errors on standard error'
+complete -c sysvmsg -n '__sysvmsg_is stats' -l wait -x -d 'Wait for each reply at most this time'
 
 # The second word of sysvmsg-run is a program, and those after it are the program's own.
 complete -c sysvmsg-run -e

@@ -1,14 +1,15 @@
 -- The gates of a server have lived: all passes came home, the gates were stopped and then closed.
 use Rattle.std.proofs.Common.{◌≡◌, ℕ, List, sym, subst}
-use Rattle.std.specs.Prelude.{Result}
+use Rattle.std.specs.Prelude.{Bool, Result}
 use Rattle.sysv_model.specs.declared.errno.Errno.{Errno}
 use Rattle.sysv_service.specs.Opened.{AreOpen}
 use Rattle.sysv_service.specs.Seats.{Gates, AreOf}
 use Rattle.sysv_service.specs.declared.closing.Closed.{Closed}
 use Rattle.sysv_service.specs.Closing.{IsCounted}
-use Rattle.sysv_thread_laws.specs.Hiring.{first_pass, Hires}
+use Rattle.sysv_thread_laws.specs.Hiring.{first_pass}
 use Rattle.sysv_service.specs.Ran.{Pass}
-use Rattle.sysv_engine.specs.Handled.{Shift, first_passes, last_passes}
+use Rattle.sysv_engine.specs.Handled.{Shift}
+use Rattle.sysv_engine.specs.Looking.{HiresBy}
 use Rattle.sysv_engine.specs.OneRun.{EachLifeEndsEmpty, EachLifeIsOneRun, EachLifeLeavesThePoolWhole, Lived}
 use Rattle.sysv_engine.specs.OneRun.{NoLifeLeavesAGateHeld, Stopped}
 use Rattle.sysv_engine.specs.Serving.{HasLived, HiredFrom}
@@ -18,26 +19,25 @@ module _ (run : EachLifeIsOneRun) (whole : EachLifeLeavesThePoolWhole) (none_hel
     (closed : Closed)
     (counted : IsCounted stopped.after.seats stopped.after.held closed) (opened : AreOpen 0 blocks 0 gates)
     (fits : AreOf gates stopped.after.seats) where
-  unfoldable pub lived : (shifts : List Shift) →
-      Hires (first_pass gates) (first_passes shifts) (last_passes shifts) stopped.before →
-      Lived blocks gates shifts told
-  lived shifts hires = record {
+  unfoldable pub lived : (reads : Bool) (shifts : List Shift) →
+      HiresBy reads (first_pass gates) shifts stopped.before → Lived reads blocks gates shifts told
+  lived reads shifts hires = record {
     stopped = stopped;
     hires = hires;
     closed = closed;
     counted = counted;
-    run = run blocks gates shifts told stopped closed counted opened fits hires;
-    held = none_held gates shifts told stopped closed counted hires;
-    whole = whole blocks gates shifts told stopped closed counted opened fits hires;
-    empty = empty blocks gates shifts told stopped closed counted opened fits hires;
+    run = run reads blocks gates shifts told stopped closed counted opened fits hires;
+    held = none_held reads gates shifts told stopped closed counted hires;
+    whole = whole reads blocks gates shifts told stopped closed counted opened fits hires;
+    empty = empty reads blocks gates shifts told stopped closed counted opened fits hires;
   }
 
   -- The same, if the passes were split off from the pass with which the gates were opened.
-  pub have_lived : (first : Pass) → first ≡ first_pass gates → (own : Gates) (shifts : List Shift) →
-      HiredFrom gates first stopped.before own shifts → HasLived blocks own shifts
-  have_lived first is own shifts hired =
-      let hires : Hires (first_pass gates) (first_passes shifts) (last_passes shifts) stopped.before =
-      subst (λ (p : Pass). Hires p (first_passes shifts) (last_passes shifts) stopped.before) is hired.1 in
-      let here : HasLived blocks gates shifts =
-      record { opened = opened; removed = told; lived = lived shifts hires } in
-      subst (λ (g : Gates). HasLived blocks g shifts) (sym hired.0) here
+  pub have_lived : (reads : Bool) (first : Pass) → first ≡ first_pass gates → (own : Gates) (shifts : List Shift) →
+      HiredFrom reads gates first stopped.before own shifts → HasLived reads blocks own shifts
+  have_lived reads first is own shifts hired =
+      let hires : HiresBy reads (first_pass gates) shifts stopped.before =
+      subst (λ (p : Pass). HiresBy reads p shifts stopped.before) is hired.1 in
+      let here : HasLived reads blocks gates shifts =
+      record { opened = opened; removed = told; lived = lived reads shifts hires } in
+      subst (λ (g : Gates). HasLived reads blocks g shifts) (sym hired.0) here

@@ -14,4 +14,7 @@ pub mod Kept
 pub mod SharedOut
 pub mod Reversed
 pub mod Staffed
+pub mod Behind
+pub mod Looking
+pub mod ReadsRows
 pub mod Crossing

@@ -1,6 +1,6 @@
 -- The life of a server's service is that of a service with workers whose sessions make its calls.
-use Rattle.std.proofs.Common.{◌∙◌, ℕ, List, [], ◌∷◌, ◌++◌, Option, Some, None, ap, sym, subst}
-use Rattle.std.specs.Prelude.{⊤}
+use Rattle.std.proofs.Common.{◌≡◌, ◌∙◌, ℕ, List, [], ◌∷◌, ◌++◌, Option, Some, None, ap, refl, sym, subst}
+use Rattle.std.specs.Prelude.{⊤, Bool, true, false}
 use Rattle.std.specs.List.{All, AllByRecursion, FoldsTo}
 use Rattle.std.proofs.lemmas.List.{append-nil, append_assoc}
 use Rattle.std.proofs.lemmas.List.Elements.{All-from_recursion}
@@ -8,7 +8,7 @@ use Rattle.sysv_bank.specs.Banks.{Each2, Each3}
 use Rattle.sysv_thread_laws.specs.AtRest.{Rests}
 use Rattle.sysv_thread_laws.specs.Order.{Called}
 use Rattle.sysv_session.specs.declared.served.Served.{Served}
-use Rattle.sysv_thread_laws.specs.Hiring.{all_of, IsRemoval, EveryHiringObeys, EveryStopRemoves}
+use Rattle.sysv_thread_laws.specs.Hiring.{all_of, first_pass, Hires, IsRemoval, EveryHiringObeys, EveryStopRemoves}
 use Rattle.sysv_thread_laws.specs.PoolWhole.{EveryHiringLeavesThePoolWhole, NoHiringLeavesAGateHeld}
 use Rattle.sysv_thread_laws.specs.AfterStop.{EveryStopEmpties}
 use Rattle.sysv_service.specs.Ran.{Pass}
@@ -16,6 +16,9 @@ use Rattle.sysv_thread_laws.specs.Working as working
 use Rattle.sysv_thread_laws.specs.Working.{Works}
 use Rattle.sysv_engine.specs.Made.{trail, EachSessionMakesCalls}
 use Rattle.sysv_engine.specs.Handled.{Shift, first_passes, last_passes, AreMadeBy}
+use Rattle.sysv_thread_laws.specs.Crew.{IsServed}
+use Rattle.sysv_engine.specs.Looking as looking
+use Rattle.sysv_engine.specs.Looking.{HiresBy, Looked}
 use Rattle.sysv_engine.specs.Talks.{Talk, TalksAs, Talks, TalksAsIn, TalksIn}
 use Rattle.sysv_engine.specs.OneRun.{EachLifeEndsEmpty, EachLifeIsOneRun, EachLifeLeavesThePoolWhole}
 use Rattle.sysv_engine.specs.OneRun.{NoLifeLeavesAGateHeld}
@@ -32,6 +35,12 @@ both (x ∷ xs) ys one two = (one.0, both xs ys one.1 two)
 removals_rest : (calls : List Called) → AllByRecursion IsRemoval calls → AllByRecursion Resting calls
 removals_rest [] are = tt
 removals_rest (c ∷ calls) are = (subst Rests (sym are.0.2.1) tt, removals_rest calls are.1)
+
+-- Reads of rows are no calls.
+works_without : (before after : Pass) → Looked before after → Works before [] after
+works_without before after looking.begins = working.begins
+works_without before after (looking.reads slot result new looked told) =
+    working.asks_row slot result new (works_without before _ looked) told
 
 module _ (law : EachSessionMakesCalls zero_moment ⊤) where
   -- The calls that were made in a session with this report.
@@ -109,39 +118,77 @@ module _ (law : EachSessionMakesCalls zero_moment ⊤) where
         made = (one.folds, rest.made);
       }
 
-  pub each_life : EveryHiringObeys → EveryStopRemoves → EachLifeIsOneRun
-  each_life obeys stops blocks gates shifts removed stopped closed counted opened fits hires turns_left =
+  -- All workers, that which read the rows among them, if there was one. It made no calls.
+  record InAll (shifts : List Shift) (own home : Pass) : Type 0 where
+    done : InShifts shifts
+    theirs : List Pass
+    left : List Pass
+    each : List (List Called)
+    hires : Hires own theirs left home
+    works : Each3 Works theirs each left
+    same : all_of each ≡ all_of done.each
+
+  in_all : (reads : Bool) (shifts : List Shift) (own home : Pass) → HiresBy reads own shifts home →
+      InAll shifts own home
+  in_all true shifts own home hires =
       let done = in_shifts shifts in
+      record {
+        done = done;
+        theirs = hires.before ∷ first_passes shifts;
+        left = hires.after ∷ last_passes shifts;
+        each = [] ∷ done.each;
+        hires = hires.hires;
+        works = (works_without hires.before hires.after hires.looked, done.works);
+        same = refl;
+      }
+  in_all false shifts own home hires =
+      let done = in_shifts shifts in
+      record {
+        done = done;
+        theirs = first_passes shifts;
+        left = last_passes shifts;
+        each = done.each;
+        hires = hires;
+        works = done.works;
+        same = refl;
+      }
+
+  pub each_life : EveryHiringObeys → EveryStopRemoves → EachLifeIsOneRun
+  each_life obeys stops reads blocks gates shifts removed stopped closed counted opened fits hires turns_left =
+      let all = in_all reads shifts (first_pass gates) stopped.before hires in
       let stop = stops _ stopped.removed stopped.worn stopped.before stopped.after stopped.stops in
       record {
-        each = done.each;
-        made = done.made;
+        each = all.done.each;
+        made = all.done.made;
         removals = stop.0;
         are_removals = stop.2;
         counted = stop.3;
-        served = obeys 0 blocks 0 gates (first_passes shifts) (last_passes shifts) stopped.before stopped.after
-            done.each stop.0 closed opened hires done.works stop.1 fits counted turns_left;
+        served = subst (λ calls. IsServed 0 blocks counted.all.order (calls ++ stop.0)) all.same
+            (obeys 0 blocks 0 gates all.theirs all.left stopped.before stopped.after all.each stop.0 closed opened
+            all.hires all.works stop.1 fits counted turns_left);
       }
 
   pub each_whole : EveryHiringLeavesThePoolWhole → EveryStopRemoves → EachLifeLeavesThePoolWhole
-  each_whole home stops blocks gates shifts removed stopped closed counted opened fits hires turns_left =
-      let done = in_shifts shifts in
+  each_whole home stops reads blocks gates shifts removed stopped closed counted opened fits hires turns_left =
+      let all = in_all reads shifts (first_pass gates) stopped.before hires in
       let stop = stops _ stopped.removed stopped.worn stopped.before stopped.after stopped.stops in
-      let rest : All Resting (all_of done.each ++ stop.0) = All-from_recursion Resting (all_of done.each ++ stop.0)
-      (both (all_of done.each) stop.0 done.rests (removals_rest stop.0 stop.2)) in
-      home 0 blocks 0 gates (first_passes shifts) (last_passes shifts) stopped.before stopped.after done.each stop.0
-      closed opened hires done.works stop.1 fits counted turns_left rest
+      let rest : All Resting (all_of all.done.each ++ stop.0) =
+      All-from_recursion Resting (all_of all.done.each ++ stop.0)
+      (both (all_of all.done.each) stop.0 all.done.rests (removals_rest stop.0 stop.2)) in
+      home 0 blocks 0 gates all.theirs all.left stopped.before stopped.after all.each stop.0 closed opened all.hires
+      all.works stop.1 fits counted turns_left
+      (subst (λ calls. All Resting (calls ++ stop.0)) (sym all.same) rest)
 
   pub each_none_held : NoHiringLeavesAGateHeld → EveryStopRemoves → NoLifeLeavesAGateHeld
-  each_none_held none stops gates shifts removed stopped closed counted hires =
-      let done = in_shifts shifts in
+  each_none_held none stops reads gates shifts removed stopped closed counted hires =
+      let all = in_all reads shifts (first_pass gates) stopped.before hires in
       let stop = stops _ stopped.removed stopped.worn stopped.before stopped.after stopped.stops in
-      none gates (first_passes shifts) (last_passes shifts) stopped.before stopped.after done.each stop.0 closed hires
-      done.works stop.1 counted
+      none gates all.theirs all.left stopped.before stopped.after all.each stop.0 closed all.hires all.works stop.1
+      counted
 
   pub each_empty : EveryStopEmpties → EachLifeEndsEmpty
-  each_empty empties blocks gates shifts removed stopped closed counted opened fits hires turns_left =
-      let done = in_shifts shifts in
-      (empties 0 blocks 0 gates (first_passes shifts) (last_passes shifts) stopped.before stopped.before stopped.after
-      done.each [] stopped.removed stopped.worn closed opened hires done.works working.begins stopped.stops fits
-      counted turns_left).0
+  each_empty empties reads blocks gates shifts removed stopped closed counted opened fits hires turns_left =
+      let all = in_all reads shifts (first_pass gates) stopped.before hires in
+      (empties 0 blocks 0 gates all.theirs all.left stopped.before stopped.before stopped.after all.each []
+      stopped.removed stopped.worn closed opened all.hires all.works working.begins stopped.stops fits counted
+      turns_left).0

@@ -1,6 +1,7 @@
 -- The shifts and the desks of workers, from what a run of the workers leads to.
 use Rattle.std.proofs.Common.{◌≡◌, ◌∙◌, ℕ, ◌+◌, ◌<◌, ◌≤◌, List, [], ◌∷◌, ◌++◌, map, reverse, length, Option, ap, refl}
 use Rattle.std.proofs.Common.{sym, subst, arith, append_assoc, length-append}
+use Rattle.std.specs.Prelude.{false}
 use Rattle.std.specs.List.{All, AllByRecursion, FoldsTo, flat_map, slice_index_or, sum_by}
 use Rattle.std.specs.List.Sorted.{IsPermutation}
 use Rattle.std.proofs.lemmas.List.{append-nil, get_or_append_left, length-map, length-reverse, reverse-append}
@@ -227,7 +228,7 @@ module _ {W T B : Type 0} (incoming outgoing : T → Option (List ℕ)) (closes 
       → books ≡ reverse (map book states) → books' ≡ reverse (map book after) → total ≡ all_added (map sums after)
       → missed ≡ capped (sum_by refused after) → FoldsTo Gives old (map pass states) kept
       → FoldsTo TakesIn kept (reverse (map pass after)) new
-      → WorkedFrom incoming outgoing closes gives gates old source books total missed new source' books'
+      → WorkedFrom incoming outgoing closes gives false gates old source books total missed new source' books'
   all_shifted gives gates states after source source' books books' total missed old kept new ran new_ones books_are
       books_are' adds counts given taken =
       let done = manned gates states ran.parts after ran.leads new_ones in
@@ -296,7 +297,7 @@ module _ {W T B : Type 0} (incoming outgoing : T → Option (List ℕ)) (closes 
       (taken : FoldsTo TakesIn kept (reverse (map pass after)) new) where
     -- The books to which the parts of a refused run led.
     record Led (parts : List (Part W T)) : Type 0 where
-      left : LeavesBooks incoming outgoing closes (HiredFrom gates old new) books books'
+      left : LeavesBooks incoming outgoing closes (HiredFrom false gates old new) books books'
       served : all_connections left.desks ≡ flat_map (λ (p : Part W T). p.items) parts
 
     led : (parts : List (Part W T)) → Leads Runs states parts after → Led parts
@@ -323,7 +324,7 @@ module _ {W T B : Type 0} (incoming outgoing : T → Option (List ℕ)) (closes 
           served = done.served;
         }
 
-    unused : after ≡ states → LeavesUnused incoming outgoing closes (HiredFrom gates old new) books books'
+    unused : after ≡ states → LeavesUnused incoming outgoing closes (HiredFrom false gates old new) books books'
     unused is =
         let none = led (idle states) (idle_leads states after is) in
         let each = sat_each incoming outgoing closes none.left.desks none.left.shifts none.left.crewed.sat in
@@ -333,9 +334,10 @@ module _ {W T B : Type 0} (incoming outgoing : T → Option (List ℕ)) (closes 
     -- What a refused run of workers leaves of the source and of the books.
     pub all_left : (workers : ℕ) → workers ≤ MAX_WORKERS → (why : WorkersFault) (told : ServeFault) → FaultOf why told
         → LeavesSource gives workers source why source' → GivesBack Runs states why after
-        → LeavesConnections incoming outgoing closes gives (HiredFrom gates old new) source books told source' books'
+        → LeavesConnections incoming outgoing closes gives (HiredFrom false gates old new) source books told source'
+        books'
     all_left workers few why told named leaves back =
         let same : after ≡ states → books' ≡ books =
         λ is. books_are' ∙ (ap (λ l. reverse (map book l)) is ∙ sym books_are) in
-        left incoming outgoing closes gives source source' books books' (HiredFrom gates old new) Runs states after same
-        unused (λ parts. (led parts.0 parts.1).left) workers few why told named leaves back
+        left incoming outgoing closes gives source source' books books' (HiredFrom false gates old new) Runs states
+        after same unused (λ parts. (led parts.0 parts.1).left) workers few why told named leaves back

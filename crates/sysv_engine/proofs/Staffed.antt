@@ -1,6 +1,7 @@
 -- What a server did whose workers shared out its places, from what their run led to.
-use Rattle.std.proofs.Common.{◌≡◌, ◌∙◌, ℕ, ◌≤◌, List, [], ◌∷◌, ◌++◌, map, reverse, length, Option, Some, None, ap, refl}
-use Rattle.std.proofs.Common.{sym, subst, arith, inl, inr}
+use Rattle.std.proofs.Common.{◌≡◌, ◌∙◌, ℕ, ◌≤◌, List, [], ◌∷◌, ◌++◌, map, reverse, length, Option, None, ap, refl}
+use Rattle.std.proofs.Common.{sym, subst, arith}
+use Rattle.std.specs.Prelude.{false}
 use Rattle.std.specs.List.{All, FoldsTo, flat_map, sum_by}
 use Rattle.std.proofs.lemmas.List.{length-reverse, reverse-append, reverse-reverse}
 use Rattle.std.proofs.lemmas.List.Elements.{All-head, All-tail, All-cons}
@@ -13,7 +14,6 @@ use Rattle.sysv_workers.specs.Running.{GivesBack, LeavesSource, RunsAll}
 use Rattle.sysv_workers.specs.declared.workers.TheConstants.{MAX_WORKERS}
 use Rattle.sysv_workers.specs.declared.refusals.WorkersFault.{WorkersFault}
 use Rattle.sysv_workers.specs.declared.refusals.WorkersFault.TheVariants.{BadCount, NoMemory, Thread, Worn, Missed}
-use Rattle.sysv_workers.specs.Sources.{Gave, GivesAll, Returned}
 use Rattle.sysv_seats.specs.Untold.{Closing}
 use Rattle.sysv_engine.specs.declared.fault.ServeFault.{ServeFault}
 use Rattle.sysv_engine.specs.declared.sums.Sums.{Sums}
@@ -21,6 +21,7 @@ use Rattle.sysv_engine.specs.Added.{all_added, capped}
 use Rattle.sysv_engine.specs.Places.{Handled, IsOpened, IsPlace, IsStaffed, KeepsAll, Seated, Standing, Stands, View}
 use Rattle.sysv_engine.specs.Places.{SitsOn, view_of}
 use Rattle.sysv_engine.specs.Serving.{FaultOf, HiredFrom, IsNew, LeavesConnections, WorkedFrom}
+use Rattle.sysv_engine.proofs.Behind as behind
 use Rattle.sysv_engine.proofs.PlacesRun as run
 use Rattle.sysv_engine.proofs.Reversed.{all_reverse, back_reverse, map_reverse, runs_reverse}
 use Rattle.sysv_engine.proofs.Shifts as shifts
@@ -248,7 +249,7 @@ module _ {T B : Type 0} (incoming outgoing : T → Option (List ℕ)) (closes : 
           (taken : FoldsTo TakesIn kept (reverse (map (λ (p : Seated B T). p.pass) ps)) new) where
         pub all_worked : (total : Sums) (missed : ℕ) → total ≡ all_added (map (λ (p : Seated B T). p.sums) ps) →
             missed ≡ capped (sum_by (λ (p : Seated B T). p.refused) ps) → RunsAll Runs gives ws source ws' source' →
-            WorkedFrom incoming outgoing closes gives gates old source books total missed new source' books'
+            WorkedFrom incoming outgoing closes gives false gates old source books total missed new source' books'
         all_worked total missed adds counts ran =
             shifts.all_shifted incoming outgoing closes (λ (v : View B). v.pass) (λ (v : View B). v.sums)
             (λ (v : View B). v.refused) (λ (v : View B). v.book) gives gates (map view_of opened) (map view_of ps)
@@ -263,7 +264,8 @@ module _ {T B : Type 0} (incoming outgoing : T → Option (List ℕ)) (closes : 
 
         pub all_left : (workers : ℕ) → workers ≤ MAX_WORKERS → (why : WorkersFault) (told : ServeFault) →
             FaultOf why told → LeavesSource gives workers source why source' → GivesBack Runs ws why ws' →
-            LeavesConnections incoming outgoing closes gives (HiredFrom gates old new) source books told source' books'
+            LeavesConnections incoming outgoing closes gives (HiredFrom false gates old new) source books told source'
+            books'
         all_left workers few why told named leaves back =
             shifts.all_left incoming outgoing closes (λ (v : View B). v.pass) (λ (v : View B). v.sums)
             (λ (v : View B). v.refused) (λ (v : View B). v.book) gives gates (map view_of opened) (map view_of ps)
@@ -278,75 +280,31 @@ module _ {T B : Type 0} (incoming outgoing : T → Option (List ℕ)) (closes : 
 
 -- The items of a source that holds another one and returns what that one returns. It keeps its hold.
 module _ {D S T : Type 0} (of : D → S) (name : D → ℕ) (gives : S → Option T → S → Type 0) where
+  abbrev pub Holds : D → D → Type 0
+  Holds old new = name new ≡ name old
+
+  pub still : (d : D) → Holds d d
+  still d = refl
+
+  pub on : (a b c : D) → Holds a b → Holds b c → Holds a c
+  on a b c one two = two ∙ one
+
   abbrev pub Behind : D → Option T → D → Type 0
-  Behind old item new = gives (of old) item (of new) × (name new ≡ name old)
-
-  folds_behind : (items : List T) (old new : D) → FoldsTo (λ s x s'. Behind s (Some x) s') old items new →
-      FoldsTo (λ s x s'. gives s (Some x) s') (of old) items (of new)
-  folds_behind [] old new is = ap of is
-  folds_behind (x ∷ items) old new all = (of all.0, all.1.0, folds_behind items all.0 new all.2)
-
-  folds_name : (items : List T) (old new : D) → FoldsTo (λ s x s'. Behind s (Some x) s') old items new →
-      name new ≡ name old
-  folds_name [] old new is = ap name (sym is)
-  folds_name (x ∷ items) old new all = folds_name items all.0 new all.2 ∙ all.1.1
-
-  all_behind : (items : List T) (old new : D) → GivesAll Behind old items new → GivesAll gives (of old) items (of new)
-  all_behind items old new all = record {
-    last = of all.last;
-    gave = folds_behind items old all.last all.gave;
-    ended = all.ended.0;
-  }
-
-  all_name : (items : List T) (old new : D) → GivesAll Behind old items new → name new ≡ name old
-  all_name items old new all = all.ended.1 ∙ folds_name items old all.last all.gave
-
-  returned_behind : (items : List T) (old new : D) → Returned Behind old items new →
-      Returned gives (of old) items (of new)
-  returned_behind items old new (inl some) = inl (folds_behind items old new some)
-  returned_behind items old new (inr all) = inr (all_behind items old new all)
-
-  returned_name : (items : List T) (old new : D) → Returned Behind old items new → name new ≡ name old
-  returned_name items old new (inl some) = folds_name items old new some
-  returned_name items old new (inr all) = all_name items old new all
-
-  gave_behind : (items : List T) (old new : D) → Gave Behind old items new → Gave gives (of old) items (of new)
-  gave_behind items old new (inl all) = inl (all_behind items old new all)
-  gave_behind items old new (inr none) = inr (none.0, ap of none.1)
-
-  gave_name : (items : List T) (old new : D) → Gave Behind old items new → name new ≡ name old
-  gave_name items old new (inl all) = all_name items old new all
-  gave_name items old new (inr none) = ap name none.1
+  Behind = behind.Behind of Holds still on gives
 
   -- What a refused run left of it.
   pub leaves_behind : (n : ℕ) (why : WorkersFault) (old new : D) → LeavesSource Behind n old why new →
       LeavesSource gives n (of old) why (of new)
-  leaves_behind n BadCount old new leaves = ap of leaves
-  leaves_behind n NoMemory old new leaves = ap of leaves
-  leaves_behind n Thread old new leaves = ap of leaves
-  leaves_behind n Worn old new leaves = (leaves.0, returned_behind leaves.0 old new leaves.1, leaves.2)
-  leaves_behind n Missed old new leaves = (leaves.0, gave_behind leaves.0 old new leaves.1)
+  leaves_behind n why old new leaves = behind.leaves_behind of Holds still on gives n why old new leaves
 
   pub leaves_name : (n : ℕ) (why : WorkersFault) (old new : D) → LeavesSource Behind n old why new → name new ≡ name old
-  leaves_name n BadCount old new leaves = ap name leaves
-  leaves_name n NoMemory old new leaves = ap name leaves
-  leaves_name n Thread old new leaves = ap name leaves
-  leaves_name n Worn old new leaves = returned_name leaves.0 old new leaves.1
-  leaves_name n Missed old new leaves = gave_name leaves.0 old new leaves.1
+  leaves_name n why old new leaves = behind.leaves_kept of Holds still on gives n why old new leaves
 
   module _ {W : Type 0} (runs : W → T → W → Type 0) (ws ws' : List W) (old new : D)
       (ran : RunsAll runs Behind ws old ws' new) where
     -- A run over all its items.
     pub runs_behind : RunsAll runs gives ws (of old) ws' (of new)
-    runs_behind = record {
-      parts = ran.parts;
-      given = ran.given;
-      leads = ran.leads;
-      gave = all_behind ran.given old new ran.gave;
-      dealt = ran.dealt;
-      ordered = ran.ordered;
-      alone = ran.alone;
-    }
+    runs_behind = behind.runs_behind of Holds still on gives runs ws ws' old new ran
 
     pub runs_name : name new ≡ name old
-    runs_name = all_name ran.given old new ran.gave
+    runs_name = behind.runs_kept of Holds still on gives runs ws ws' old new ran

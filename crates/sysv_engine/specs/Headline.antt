@@ -11,7 +11,7 @@
 -- connection in memory tells them all, and a socket tells none, since no contract speaks of what the
 -- system does with them. What is kept of a connection when it is closed is in the book of the place
 -- that served it.
-use Rattle.std.specs.Prelude.{◌≡◌, ℕ, List, Option, length}
+use Rattle.std.specs.Prelude.{◌≡◌, ℕ, Bool, List, Option, length}
 use Rattle.std.specs.List.Sorted.{IsPermutation}
 use Rattle.sysv_service.specs.Opened.{AreOpen}
 use Rattle.sysv_service.specs.Seats.{Gates}
@@ -23,8 +23,8 @@ use Rattle.sysv_engine.specs.OneRun.{Lived}
 use Rattle.sysv_seats.specs.Untold.{Closing}
 
 pub record ServesConnections {S T B : Type 0} (incoming outgoing : T → Option (List ℕ)) (closes : Closing T B)
-    (gives : S → Option T → S → Type 0) (blocks : ℕ) (source : S) (books : List B) (ended : Ended) (source' : S)
-    (books' : List B) : Type 0 where
+    (gives : S → Option T → S → Type 0) (reads : Bool) (blocks : ℕ) (source : S) (books : List B) (ended : Ended)
+    (source' : S) (books' : List B) : Type 0 where
   -- The source returned these connections, one after the other, and then reported its end.
   pub given : List T
   pub gave : GivesAll gives source given source'
@@ -54,5 +54,5 @@ pub record ServesConnections {S T B : Type 0} (incoming outgoing : T → Option 
   pub lost : cut_off_of (told_in shifts) ≡ 0 → ended.sums.lost ≡ 0
   -- The calls of these very sessions and the removals of the stop are one run, which obeys, and the
   -- gates were closed after it.
-  pub lived : Lived blocks gates shifts ended.removed
+  pub lived : Lived reads blocks gates shifts ended.removed
   pub closed : ended.closed ≡ lived.closed

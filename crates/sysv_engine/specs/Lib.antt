@@ -1,4 +1,7 @@
 -- The definitions of the server.
+pub mod Counting
+pub mod Looking
+pub mod Looks
 pub mod Made
 pub mod Added
 pub mod Talks

@@ -12,12 +12,13 @@ use Rattle.sysv_model.specs.declared.errno.Errno.{Errno}
 use Rattle.sysv_service.specs.declared.closing.Closed.{Closed}
 use Rattle.sysv_service.specs.Closing.{IsCounted}
 use Rattle.sysv_thread_laws.specs.AfterStop.{IsEmpty}
-use Rattle.sysv_thread_laws.specs.Hiring.{first_pass, Hires, all_of, IsRemoval, removed_at}
+use Rattle.sysv_thread_laws.specs.Hiring.{first_pass, all_of, IsRemoval, removed_at}
 use Rattle.sysv_thread_laws.specs.PoolWhole.{IsWholeAgain}
 use Rattle.sysv_service.specs.Ran.{Pass}
 use Rattle.sysv_service.specs.Stopped.{Stops, TellsStop}
 use Rattle.sysv_service.specs.TurnsLeft.{EachGateHasTurnsLeft}
-use Rattle.sysv_engine.specs.Handled.{Shift, first_passes, last_passes, AreMadeBy}
+use Rattle.sysv_engine.specs.Handled.{Shift, AreMadeBy}
+use Rattle.sysv_engine.specs.Looking.{HiresBy}
 
 -- The calls of the sessions, each answered as it ended or left without a reply, and the removals of
 -- the stop, which removed this number of queues, are all the calls that made the order of turns. The
@@ -42,13 +43,14 @@ pub record Stopped (gates : Gates) (told : Result ℕ Errno) : Type 0 where
   pub tells : TellsStop removed worn told
 
 -- What a server did with these gates from their opening to their close. Its first pass gave each
--- place a pass and took all passes back, made the stop, and closed the gates. All of it is one run
--- if each gate has turns left at the close, that is, if fewer than 2^62 turns were made at each
--- object. Then the pool has all its blocks, no slot has a live queue and no message is queued. No gate
--- is held in either case.
-pub record Lived (blocks : ℕ) (gates : Gates) (shifts : List Shift) (removed : Result ℕ Errno) : Type 0 where
+-- place a pass, and one to what reads the rows, if it reads any. It took all passes back, made the
+-- stop, and closed the gates. All of it is one run if each gate has turns left at the close, that is,
+-- if fewer than 2^62 turns were made at each object. Then the pool has all its blocks, no slot has a
+-- live queue and no message is queued. No gate is held in either case.
+pub record Lived (reads : Bool) (blocks : ℕ) (gates : Gates) (shifts : List Shift)
+    (removed : Result ℕ Errno) : Type 0 where
   pub stopped : Stopped gates removed
-  pub hires : Hires (first_pass gates) (first_passes shifts) (last_passes shifts) stopped.before
+  pub hires : HiresBy reads (first_pass gates) shifts stopped.before
   pub closed : Closed
   pub counted : IsCounted stopped.after.seats stopped.after.held closed
   pub run : EachGateHasTurnsLeft 0 counted.all.order → IsOneRun blocks shifts stopped.removed counted.all.order
@@ -62,34 +64,35 @@ pub record Lived (blocks : ℕ) (gates : Gates) (shifts : List Shift) (removed :
 -- their passes, took them back and made a stop, and the gates were closed with it. If each gate has
 -- turns left at the close, then all of it is one run.
 abbrev pub EachLifeIsOneRun : Type 0
-EachLifeIsOneRun = (blocks : ℕ) (gates : Gates) (shifts : List Shift) (removed : Result ℕ Errno)
+EachLifeIsOneRun = (reads : Bool) (blocks : ℕ) (gates : Gates) (shifts : List Shift) (removed : Result ℕ Errno)
     (stopped : Stopped gates removed) (closed : Closed) →
     (counted : IsCounted stopped.after.seats stopped.after.held closed) → AreOpen 0 blocks 0 gates →
     AreOf gates stopped.after.seats →
-    Hires (first_pass gates) (first_passes shifts) (last_passes shifts) stopped.before →
+    HiresBy reads (first_pass gates) shifts stopped.before →
     EachGateHasTurnsLeft 0 counted.all.order → IsOneRun blocks shifts stopped.removed counted.all.order
 
 -- No gate is held after the close of such gates, also if one was found worn out.
 abbrev pub NoLifeLeavesAGateHeld : Type 0
-NoLifeLeavesAGateHeld = (gates : Gates) (shifts : List Shift) (removed : Result ℕ Errno)
+NoLifeLeavesAGateHeld = (reads : Bool) (gates : Gates) (shifts : List Shift) (removed : Result ℕ Errno)
     (stopped : Stopped gates removed) (closed : Closed) →
     IsCounted stopped.after.seats stopped.after.held closed →
-    Hires (first_pass gates) (first_passes shifts) (last_passes shifts) stopped.before → closed.held ≡ 0
+    HiresBy reads (first_pass gates) shifts stopped.before → closed.held ≡ 0
 
 -- The pool has all its blocks too, if each gate has turns left at the close.
 abbrev pub EachLifeLeavesThePoolWhole : Type 0
-EachLifeLeavesThePoolWhole = (blocks : ℕ) (gates : Gates) (shifts : List Shift) (removed : Result ℕ Errno)
+EachLifeLeavesThePoolWhole =
+    (reads : Bool) (blocks : ℕ) (gates : Gates) (shifts : List Shift) (removed : Result ℕ Errno)
     (stopped : Stopped gates removed) (closed : Closed) →
     (counted : IsCounted stopped.after.seats stopped.after.held closed) → AreOpen 0 blocks 0 gates →
     AreOf gates stopped.after.seats →
-    Hires (first_pass gates) (first_passes shifts) (last_passes shifts) stopped.before →
+    HiresBy reads (first_pass gates) shifts stopped.before →
     EachGateHasTurnsLeft 0 counted.all.order → IsWholeAgain blocks closed
 
 -- No slot has a live queue and no message is queued, if each gate has turns left at the close.
 abbrev pub EachLifeEndsEmpty : Type 0
-EachLifeEndsEmpty = (blocks : ℕ) (gates : Gates) (shifts : List Shift) (removed : Result ℕ Errno)
+EachLifeEndsEmpty = (reads : Bool) (blocks : ℕ) (gates : Gates) (shifts : List Shift) (removed : Result ℕ Errno)
     (stopped : Stopped gates removed) (closed : Closed) →
     (counted : IsCounted stopped.after.seats stopped.after.held closed) → AreOpen 0 blocks 0 gates →
     AreOf gates stopped.after.seats →
-    Hires (first_pass gates) (first_passes shifts) (last_passes shifts) stopped.before →
+    HiresBy reads (first_pass gates) shifts stopped.before →
     EachGateHasTurnsLeft 0 counted.all.order → IsEmpty counted.all.order closed

@@ -1,12 +1,11 @@
 -- How a server serves a source of connections, and what a fault leaves (this project's profile). Its
 -- places share one service, each place has a pass of its own, and there is one session for each
 -- connection.
-use Rattle.std.specs.Prelude.{◌≡◌, ◌≤◌, ◌+◌, ◌^◌, ℕ, List, [], Option, Result, length}
+use Rattle.std.specs.Prelude.{◌≡◌, ◌≤◌, ◌+◌, ◌^◌, ℕ, Bool, List, [], Option, Result, length}
 use Rattle.std.specs.List.Sorted.{IsPermutation}
 use Rattle.sysv_service.specs.Opened.{AreOpen}
 use Rattle.sysv_service.specs.Seats.{Gates, AreOf}
 use Rattle.sysv_model.specs.declared.errno.Errno.{Errno}
-use Rattle.sysv_thread_laws.specs.Hiring.{Hires}
 use Rattle.sysv_service.specs.Ran.{Pass}
 use Rattle.sysv_workers.specs.declared.refusals.WorkersFault.{WorkersFault}
 use Rattle.sysv_workers.specs.declared.refusals.WorkersFault.TheVariants as workers
@@ -17,7 +16,8 @@ use Rattle.sysv_engine.specs.declared.fault.ServeFault.TheVariants.{NoMemory, Th
 use Rattle.sysv_engine.specs.declared.sums.Sums.{Sums}
 use Rattle.sysv_engine.specs.Added.{nothing}
 use Rattle.sysv_engine.specs.Desks.{Desk, Crewed, AreServedInOrder, all_connections}
-use Rattle.sysv_engine.specs.Handled.{Shift, first_passes, last_passes, sums_of, refused_of, told_in}
+use Rattle.sysv_engine.specs.Handled.{Shift, sums_of, refused_of, told_in}
+use Rattle.sysv_engine.specs.Looking.{HiresBy}
 use Rattle.sysv_engine.specs.OneRun.{Lived}
 use Rattle.sysv_seats.specs.Untold.{Closing}
 
@@ -26,16 +26,16 @@ abbrev pub IsNew : Gates → Pass → Sums → ℕ → Type 0
 IsNew gates pass sums refused = AreOf gates pass.seats × (pass.held ≡ 0) × (sums ≡ nothing) × (refused ≡ 0)
 
 -- The places of these shifts had passes that were split off from the pass `old` of these gates, and
--- the passes that they left were joined back into it.
-abbrev pub HiredFrom : Gates → Pass → Pass → Gates → List Shift → Type 0
-HiredFrom own old new gates shifts = (gates ≡ own) × Hires old (first_passes shifts) (last_passes shifts) new
+-- what reads the rows had one, if it reads any. The passes that they left were joined back into it.
+abbrev pub HiredFrom : Bool → Gates → Pass → Pass → Gates → List Shift → Type 0
+HiredFrom reads own old new gates shifts = (gates ≡ own) × HiresBy reads old shifts new
 
 -- These gates were opened for a service with this number of blocks, these shifts were worked at them,
 -- and then they were stopped and closed. A fault does not return what the stop and the close told.
-pub record HasLived (blocks : ℕ) (gates : Gates) (shifts : List Shift) : Type 0 where
+pub record HasLived (reads : Bool) (blocks : ℕ) (gates : Gates) (shifts : List Shift) : Type 0 where
   pub opened : AreOpen 0 blocks 0 gates
   pub removed : Result ℕ Errno
-  pub lived : Lived blocks gates shifts removed
+  pub lived : Lived reads blocks gates shifts removed
 
 module _ {T B : Type 0} (incoming outgoing : T → Option (List ℕ)) (closes : Closing T B) where
   -- Sessions on connections led from the books `books` to the others. Each place had one session on
@@ -56,7 +56,8 @@ module _ {S T B : Type 0} (incoming outgoing : T → Option (List ℕ)) (closes 
     (gives : S → Option T → S → Type 0) where
   -- The places served the connections that the source returned. They began with passes that were
   -- split off from the pass `old`, and the passes that they left were joined back into it.
-  pub record WorkedFrom (gates : Gates) (old : Pass) (source : S) (books : List B) (sums : Sums) (refused : ℕ)
+  pub record WorkedFrom (reads : Bool) (gates : Gates) (old : Pass) (source : S) (books : List B) (sums : Sums)
+      (refused : ℕ)
       (new : Pass) (source' : S) (books' : List B) : Type 0 where
     pub given : List T
     pub gave : GivesAll gives source given source'
@@ -68,7 +69,7 @@ module _ {S T B : Type 0} (incoming outgoing : T → Option (List ℕ)) (closes 
     pub crewed : Crewed incoming outgoing closes gates books desks shifts books'
     pub adds : sums ≡ sums_of (told_in shifts)
     pub counts : refused ≡ refused_of (told_in shifts)
-    pub hires : Hires old (first_passes shifts) (last_passes shifts) new
+    pub hires : HiresBy reads old shifts new
 
   -- What a server leaves that ended by this fault, if `Ran` is so of its gates and its shifts.
   --

@@ -1,8 +1,11 @@
 //! What the workers of a server share with one another and with the thread that accepts
 //! connections.
-ghost use Rattle.std.specs.Prelude.{◌≡◌, IfSome, vec_len};
+ghost use Rattle.std.specs.Prelude.{◌≡◌, ◌≤◌, IfSome, vec_len};
+ghost use Rattle.sysv_keys.specs.declared.identifier.TheConstants.{SLOTS as slot_count};
+ghost use Rattle.sysv_engine.specs.Counting.{IsNothing};
 
 use crate::bell::Bell;
+use crate::counts::{Counted, Counts, Moved, SlotCounts, zeros};
 use crate::moment::{Moment, NO_DESCRIPTOR, await_bell};
 use crate::terms::Patience;
 use crossbeam_queue::ArrayQueue;
@@ -10,6 +13,7 @@ use std::alloc::Global;
 use std::sync::Wait;
 use std::sync::atomic::{AtomicBool, AtomicU64, Ordering};
 use sysv_keys::SLOTS;
+use sysv_queue::Tally;
 use sysv_seats::News;
 
 /// The word of the sends that wait for blocks. Before it are the words of the receives at each
@@ -17,7 +21,7 @@ use sysv_seats::News;
 pub(crate) const BLOCKS_WORD: usize = 2 * SLOTS;
 
 /// The number of words that say which workers have parked calls.
-const WORDS: usize = BLOCKS_WORD + 1;
+pub(crate) const WORDS: usize = BLOCKS_WORD + 1;
 
 /// The number of bits in a word, and so of workers that a word can name.
 const BITS: usize = 64;
@@ -50,6 +54,7 @@ struct Post {
     coming: AtomicU64,
     /// The number of clients of the worker that were closed.
     closed: AtomicU64,
+    counts: Counts,
 }
 
 /// What the workers share.
@@ -98,11 +103,12 @@ impl Common {
         patience: Patience,
         drain: u32,
     ) -> Option<Common>
-        ensures { IfSome result (λ common. vec_len common.posts ≡ workers) }
+        ensures workers { IfSome result (λ common. vec_len common.posts ≡ workers) }
+        ensures at_once { IfSome result (λ common. common.at_once ≡ at_once) }
     {
         let turn = Bell::open()?;
         let posts = open_posts(alloc, workers)?;
-        let words = open_words(alloc)?;
+        let words = zeros(alloc, WORDS)?;
         Some(Common {
             posts,
             words,
@@ -225,6 +231,55 @@ impl Common {
         }
     }
 
+    /// Takes note of the number of the worker's calls that are parked under this word.
+    pub(crate) fn set_parked(&self, worker: usize, word: usize, count: usize) {
+        if let Some(post) = self.posts.get(worker) {
+            post.counts.set_parked(word, count as u64);
+        }
+    }
+
+    /// Counts messages that moved by calls of the worker.
+    pub(crate) fn count(&self, worker: usize, moved: Moved) {
+        if let Some(post) = self.posts.get(worker) {
+            post.counts.count(moved);
+        }
+    }
+
+    /// Returns what the workers have counted at a slot, and nothing if there is no such slot. The
+    /// numbers are read one after another, while the workers go on.
+    pub fn at_slot(&self, slot: usize) -> SlotCounts
+        ensures { slot_count ≤ slot → IsNothing result }
+    {
+        if slot >= SLOTS {
+            return SlotCounts::NONE;
+        }
+        let mut sum = SlotCounts::NONE;
+        for post in &self.posts {
+            post.counts.add_slot(slot, &mut sum);
+        }
+        sum
+    }
+
+    /// Returns what the workers have counted. The numbers are read one after another, while the
+    /// workers go on.
+    pub fn counted(&self) -> Counted
+        ensures at_once { result.at_once ≡ self.now.at_once }
+    {
+        let mut sum = Counted {
+            over: self.over.load(Ordering::SeqCst),
+            at_once: 0,
+            slots: SlotCounts::NONE,
+            for_blocks: 0,
+            written: 0,
+            lost: 0,
+        };
+        for post in &self.posts {
+            post.counts.add_all(&mut sum);
+        }
+        sum.at_once = self.at_once;
+        sum
+    }
+
     /// Tells a worker to take one more connection.
     pub(crate) fn call(&self, worker: usize) {
         if let Some(post) = self.posts.get(worker) {
@@ -282,8 +337,9 @@ impl Common {
     }
 
     /// Counts a session of a worker that is over.
-    pub(crate) fn close(&self, worker: usize) {
+    pub(crate) fn close(&self, worker: usize, tally: &Tally) {
         if let Some(post) = self.posts.get(worker) {
+            post.counts.end(tally);
             post.closed.fetch_add(1, Ordering::SeqCst);
         }
         self.over.fetch_add(1, Ordering::SeqCst);
@@ -363,6 +419,7 @@ impl Post {
             everything: AtomicBool::new(false),
             coming: AtomicU64::new(0),
             closed: AtomicU64::new(0),
+            counts: Counts::open(alloc)?,
         })
     }
 
@@ -418,15 +475,6 @@ fn open_posts(alloc: Global, workers: usize) -> Option<Vec<Post>>
         posts.push(Post::open(alloc)?).ok()?;
     }
     Some(posts)
-}
-
-/// Returns the words, under which no calls are parked. Returns `None` if memory is refused.
-fn open_words(alloc: Global) -> Option<Vec<AtomicU64>> {
-    let mut words = Vec::with_capacity(alloc, WORDS).ok()?;
-    for _ in 0..WORDS {
-        words.push(AtomicU64::new(0)).ok()?;
-    }
-    Some(words)
 }
 
 /// Returns the word of the sends that wait for room at a slot.

@@ -1,5 +1,5 @@
 //! A server over any connections that never wait.
-ghost use Rattle.std.specs.Prelude.{◌≡◌, ◌≢◌, ◌≤◌, IfOk, IfErr, IfSome, vec_len};
+ghost use Rattle.std.specs.Prelude.{◌≡◌, ◌≢◌, ◌≤◌, false, IfOk, IfErr, IfSome, vec_len};
 ghost use Rattle.sysv_model.specs.declared.limits.TheConstants.{MIN_BLOCKS, MAX_BLOCKS};
 ghost use Rattle.sysv_workers.specs.declared.workers.TheConstants.{MAX_WORKERS};
 ghost use Rattle.sysv_service.specs.Seats.{AreOf};
@@ -62,10 +62,10 @@ where
     requires blocks { (MIN_BLOCKS ≤ blocks) × (blocks ≤ MAX_BLOCKS) }
     requires workers { (1 ≤ workers) × (workers ≤ MAX_WORKERS) × (workers ≤ vec_len books.old) }
     ensures ok { IfOk result (λ ended. ServesConnections T.incoming T.outgoing T.closes S.gives
-        blocks source.old books.old.items ended source.new books.new.items) }
+        false blocks source.old books.old.items ended source.new books.new.items) }
     ensures balance { IfOk result (λ ended. IsBalanced ended.sums) }
     ensures err { IfErr result (λ why. LeavesConnections T.incoming T.outgoing T.closes S.gives
-        (HasLived blocks) source.old books.old.items why source.new books.new.items) }
+        (HasLived false blocks) source.old books.old.items why source.new books.new.items) }
 {
     let (count, places) = (workers as usize, books.len());
     let Some(common) = Common::open(alloc, count, places, Patience::UNBOUNDED, 0) else {
@@ -110,10 +110,10 @@ where
     requires workers { (1 ≤ vec_len watches) × (vec_len watches ≤ vec_len books.old)
         × (vec_len watches ≤ MAX_WORKERS) }
     ensures ok { IfOk result (λ ended. ServesConnections T.incoming T.outgoing T.closes S.gives
-        blocks source.old books.old.items ended source.new books.new.items) }
+        false blocks source.old books.old.items ended source.new books.new.items) }
     ensures balance { IfOk result (λ ended. IsBalanced ended.sums) }
     ensures err { IfErr result (λ why. LeavesConnections T.incoming T.outgoing T.closes S.gives
-        (HasLived blocks) source.old books.old.items why source.new books.new.items) }
+        (HasLived false blocks) source.old books.old.items why source.new books.new.items) }
 {
     let Ok((service, mut pass)) = Service::open(alloc, blocks) else {
         return Err(ServeFault::NoMemory);
@@ -137,7 +137,7 @@ where
 
 /// Serves the connections of a source on this service, and takes back the passes and the books of
 /// all places. Returns the sums of the sessions, and the number of those whose memory was refused.
-fn serve_with<
+pub(crate) fn serve_with<
     T: NonBlocking + Drop + Send,
     S: Source<T>,
     W: Watch<T> + Drop + Send,
@@ -158,10 +158,11 @@ where
     requires count { (1 ≤ vec_len watches) × (vec_len watches ≤ vec_len books.old)
         × (vec_len watches ≤ MAX_WORKERS) }
     ensures pass { AreOf service.now pass.new.seats }
-    ensures ok { IfOk result (λ told. WorkedFrom T.incoming T.outgoing T.closes S.gives service.now
-        pass.old source.old books.old.items told.0 told.1 pass.new source.new books.new.items) }
+    ensures ok { IfOk result (λ told. WorkedFrom T.incoming T.outgoing T.closes S.gives false
+        service.now pass.old source.old books.old.items told.0 told.1 pass.new source.new
+        books.new.items) }
     ensures err { IfErr result (λ why. LeavesConnections T.incoming T.outgoing T.closes S.gives
-        (HiredFrom service.now pass.old pass.new) source.old books.old.items why source.new
+        (HiredFrom false service.now pass.old pass.new) source.old books.old.items why source.new
         books.new.items) }
 {
     let count = watches.len();
@@ -206,7 +207,7 @@ where
 }
 
 /// Uses the reference once more. This use ties it to the parameter that lent it.
-fn given_back<S>(source: &mut S)
+pub(crate) fn given_back<S>(source: &mut S)
     ensures { source.new ≡ source.old }
 {}
 

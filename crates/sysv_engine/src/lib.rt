@@ -10,9 +10,11 @@
 //! the service, and its reply reports how that call ended.
 #![tactic(auto)]
 
+mod arrivals;
 mod bell;
 mod common;
 mod connections;
+mod counts;
 mod crew;
 mod dealing;
 mod fault;
@@ -21,6 +23,8 @@ mod lines;
 mod moment;
 mod place;
 mod rounds;
+mod rows;
+mod seeing;
 mod staff;
 mod sums;
 mod terms;
@@ -28,10 +32,15 @@ mod times;
 mod watch;
 mod worker;
 
+pub use arrivals::Arrivals;
 pub use common::Common;
 pub use connections::{serve_all, serve_connections};
+pub use counts::{Counted, SlotCounts};
 pub use fault::ServeFault;
 pub use laws::{each_life_is_one_run, each_session_makes_calls};
+pub use moment::Moment;
+pub use rows::Rows;
+pub use seeing::serve_arrivals;
 pub use sums::Sums;
 pub use terms::{Ended, Patience};
 pub use watch::{Polled, Ready, Watch, watches};

@@ -1,4 +1,6 @@
 //! Points in time, and waits for descriptors up to one.
+ghost use Rattle.std.specs.Prelude.{◌≡◌, ◌+◌, ◌-◌, ◌^◌, min};
+
 use libc::net::{POLLIN, poll};
 use libc::types::{pollfd, timespec};
 use libc::{CLOCK_MONOTONIC, clock_gettime};
@@ -13,11 +15,11 @@ const NANOS_PER_MILLI: i64 = 1_000_000;
 /// A point in time: a number of milliseconds since some start. The time in which the system is
 /// suspended does not count.
 #[derive(Clone, Copy, PartialEq, Eq, PartialOrd, Ord)]
-pub(crate) struct Moment(u64);
+pub struct Moment(u64);
 
 impl Moment {
     /// Returns the present.
-    pub(crate) fn now() -> Moment {
+    pub fn now() -> Moment {
         let mut time = timespec {
             tv_sec: 0,
             tv_nsec: 0,
@@ -41,9 +43,24 @@ impl Moment {
         Some(Moment(Moment::now().0.saturating_add(millis)))
     }
 
+    /// Returns the moment this number of milliseconds later, or the last one if there is none.
+    pub fn plus_millis(self, millis: u32) -> Moment
+        ensures { result.0 ≡ min (self.0 + millis) (2 ^ 64 - 1) }
+    {
+        Moment(self.0.saturating_add(u64::from(millis)))
+    }
+
+    /// Returns the number of milliseconds from this moment to another one, 0 if that one is not
+    /// later.
+    pub fn until(self, end: Moment) -> u64
+        ensures { result ≡ end.0 - self.0 }
+    {
+        end.0.saturating_sub(self.0)
+    }
+
     /// Returns the number of milliseconds until this moment, 0 if it has passed.
     pub(crate) fn left(self) -> u64 {
-        self.0.saturating_sub(Moment::now().0)
+        Moment::now().until(self)
     }
 }
 

@@ -2,6 +2,7 @@
 ghost use Rattle.sysv_engine.specs.Places.{IsVacantAt, KeepsAll};
 
 use crate::common::{BLOCKS_WORD, Common, Letter, bit, room_word};
+use crate::counts::Moved;
 use crate::lines::Key;
 use crate::moment::Moment;
 use crate::watch::{Ready, Watch};
@@ -207,14 +208,37 @@ impl<'a, 'c, R: Wait> Serving<'a, 'c, R> {
         if key == worker.lines.key(place) {
             return false;
         }
-        worker.lines.leave(place);
+        self.leave_line(worker, place);
         let Some(key) = key else {
             return false;
         };
         worker.lines.enter(place, key);
+        self.count_parked(worker, key.word());
         self.common.mark(key.word(), worker.number);
         worker.go_on(place);
         true
+    }
+
+    /// Takes a place out of its line, if it is in one.
+    fn leave_line<T: NonBlocking, W: Watch<T>>(
+        &self,
+        worker: &mut Worker<'_, R, T, W>,
+        place: usize,
+    )
+        ensures { KeepsAll T.incoming T.outgoing T.closes worker.old.places.items
+            worker.new.places.items }
+    {
+        let Some(key) = worker.lines.key(place) else {
+            return;
+        };
+        worker.lines.leave(place);
+        self.count_parked(worker, key.word());
+    }
+
+    /// Has the number of the worker's calls that are parked under this word be known.
+    fn count_parked<T: NonBlocking, W: Watch<T>>(&self, worker: &Worker<'_, R, T, W>, word: usize) {
+        let count = worker.lines.count(word);
+        self.common.set_parked(worker.number, word, count);
     }
 
     /// Closes a client whose session is over.
@@ -222,7 +246,7 @@ impl<'a, 'c, R: Wait> Serving<'a, 'c, R> {
         ensures { KeepsAll T.incoming T.outgoing T.closes worker.old.places.items
             worker.new.places.items }
     {
-        worker.lines.leave(place);
+        self.leave_line(worker, place);
         let Some(served) = worker.close(place) else {
             return;
         };
@@ -232,7 +256,7 @@ impl<'a, 'c, R: Wait> Serving<'a, 'c, R> {
         if worker.free.len() < worker.free.capacity() {
             worker.free.push_reserved(place);
         }
-        self.common.close(worker.number);
+        self.common.close(worker.number, &served.tally);
     }
 
     /// Reads what came for the worker from other workers.
@@ -297,17 +321,24 @@ impl<'a, 'c, R: Wait> Serving<'a, 'c, R> {
         }
     }
 
-    /// Keeps what calls have changed since the last time, if calls that wait for it are parked.
+    /// Keeps what calls have changed since the last time, if calls that wait for it are parked, and
+    /// counts the messages that moved.
     fn collect<T: NonBlocking, W: Watch<T>>(&self, worker: &mut Worker<'_, R, T, W>)
         ensures { KeepsAll T.incoming T.outgoing T.closes worker.old.places.items
             worker.new.places.items }
     {
+        let mut moved = Moved::NONE;
         for _ in self.rt.forever() {
             let Some(news) = worker.tools.take_news() else {
-                return;
+                break;
             };
+            if !moved.add(news) {
+                self.common.count(worker.number, moved);
+                moved = Moved::first(news);
+            }
             self.keep(worker, news);
         }
+        self.common.count(worker.number, moved);
     }
 
     /// Keeps what a call has changed, if calls that wait for it are parked.

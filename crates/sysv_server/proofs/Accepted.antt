@@ -185,13 +185,13 @@ module _ {L I H : Type 0} (told : L → Option (List SocketStream)) (listens : L
       count ∙ (ap capped no_item ∙ below 0 (omega arith))
   has_cause m sessions s last s' items input (Some (Accept why)) none same small of_input gave all count failed = tt
 
-  abbrev pub Serves : ℕ → Accepting L I H → List ⊤ → Ended → Accepting L I H → List ⊤ → Type 0
+  abbrev pub Serves : Bool → ℕ → Accepting L I H → List ⊤ → Ended → Accepting L I H → List ⊤ → Type 0
   Serves = ServesConnections untold untold leaves_nothing Gives
 
   -- the source holds the listener that it was lent, after a run too
-  pub served_hold : (blocks : ℕ) (s s' : Accepting L I H) (books books' : List ⊤) (ended : Ended) →
-      Serves blocks s books ended s' books' → s'.listener.ghost_name ≡ s.listener.ghost_name
-  served_hold blocks s s' books books' ended served = all_hold served.given s s' served.gave
+  pub served_hold : (shows : Bool) (blocks : ℕ) (s s' : Accepting L I H) (books books' : List ⊤) (ended : Ended) →
+      Serves shows blocks s books ended s' books' → s'.listener.ghost_name ≡ s.listener.ghost_name
+  served_hold shows blocks s s' books books' ended served = all_hold served.given s s' served.gave
 
   pub failed_hold : (Ran : Gates → List Shift → Type 0) (s s' : Accepting L I H) (books books' : List ⊤)
       (why : ServeFault)
@@ -202,10 +202,11 @@ module _ {L I H : Type 0} (told : L → Option (List SocketStream)) (listens : L
   failed_hold Ran s s' books books' faults.Worn left = returned_hold left.0 s s' left.1
   failed_hold Ran s s' books books' faults.Missed left = gave_hold left.0 s s' left.1
 
-  serves_on : (blocks workers m : ℕ) (s s' : Accepting L I H) (books books' : List ⊤) (ended : Ended)
-      → s.accepted ≡ 0 → s.most ≡ m → m ≤ 2 ^ 64 - 1 → length books ≡ workers → Serves blocks s books ended s' books'
-      → ServesOn blocks workers m ended.sums
-  serves_on blocks workers m s s' books books' ended none same small counted served = record {
+  serves_on : (shows : Bool) (blocks workers m : ℕ) (s s' : Accepting L I H) (books books' : List ⊤) (ended : Ended)
+      → s.accepted ≡ 0 → s.most ≡ m → m ≤ 2 ^ 64 - 1 → length books ≡ workers
+      → Serves shows blocks s books ended s' books'
+      → ServesOn shows blocks workers m ended.sums
+  serves_on shows blocks workers m s s' books books' ended none same small counted served = record {
     gates = served.gates;
     opened = served.opened;
     shifts = served.shifts;
@@ -232,13 +233,14 @@ module _ {L I H : Type 0} (told : L → Option (List SocketStream)) (listens : L
     lived = served.lived;
   }
 
-  pub ends_from : (blocks workers m : ℕ) (s s' : Accepting L I H) (books books' : List ⊤) (ended : Ended)
-      → s.accepted ≡ 0 → s.most ≡ m → m ≤ 2 ^ 64 - 1 → length books ≡ workers → Serves blocks s books ended s' books'
-      → EndsFrom told listens blocks workers m s.listener.now ended s'.listener.now
+  pub ends_from : (shows : Bool) (blocks workers m : ℕ) (s s' : Accepting L I H) (books books' : List ⊤) (ended : Ended)
+      → s.accepted ≡ 0 → s.most ≡ m → m ≤ 2 ^ 64 - 1 → length books ≡ workers
+      → Serves shows blocks s books ended s' books'
+      → EndsFrom told listens shows blocks workers m s.listener.now ended s'.listener.now
   unfolding serves_on
-  ends_from blocks workers m s s' books books' ended none same small counted all = record {
+  ends_from shows blocks workers m s s' books books' ended none same small counted all = record {
     ends = record {
-      served = serves_on blocks workers m s s' books books' ended none same small counted all;
+      served = serves_on shows blocks workers m s s' books books' ended none same small counted all;
       refused = all.refused;
       removed = refl;
       closed = all.closed;
@@ -248,12 +250,12 @@ module _ {L I H : Type 0} (told : L → Option (List SocketStream)) (listens : L
   }
 
   -- the reason why no more connections were accepted tells how many sessions there were
-  pub ends_for : (blocks m : ℕ) (s s' : Accepting L I H) (books books' : List ⊤)
+  pub ends_for : (shows : Bool) (blocks m : ℕ) (s s' : Accepting L I H) (books books' : List ⊤)
       (ended : Ended) (input : Bool) (reason : Option Reason)
       → s.accepted ≡ 0 → s.most ≡ m → m ≤ 2 ^ 64 - 1 → s.reason ≡ None
-      → is_some s.input ≡ input → s'.reason ≡ reason → Serves blocks s books ended s' books'
+      → is_some s.input ≡ input → s'.reason ≡ reason → Serves shows blocks s books ended s' books'
       → HasCause reads input m ended.sums.sessions reason
-  ends_for blocks m s s' books books' ended input reason none same small unended of_input of_reason served =
+  ends_for shows blocks m s s' books books' ended input reason none same small unended of_input of_reason served =
       let gave = served.gave in
       let each = one_each untold untold leaves_nothing served.desks served.shifts served.given served.crewed.sat
       served.dealt in
@@ -271,17 +273,18 @@ module _ {L I H : Type 0} (told : L → Option (List SocketStream)) (listens : L
       ]
 
   -- what a fault leaves of the service on a listener, and of the listener
-  pub fails_from : (blocks workers m : ℕ) (s s' : Accepting L I H) (books books' : List ⊤) (why : ServeFault)
+  pub fails_from : (shows : Bool) (blocks workers m : ℕ) (s s' : Accepting L I H) (books books' : List ⊤)
+      (why : ServeFault)
       → s.accepted ≡ 0 → s.most ≡ m → m ≤ 2 ^ 64 - 1 → length books ≡ workers
-      → LeavesConnections untold untold leaves_nothing Gives (HasLived blocks) s books why s' books'
-      → FailsFrom told blocks workers m s.listener.now why s'.listener.now
-  fails_from blocks workers m s s' books books' faults.NoMemory none same small counted left =
+      → LeavesConnections untold untold leaves_nothing Gives (HasLived shows blocks) s books why s' books'
+      → FailsFrom told shows blocks workers m s.listener.now why s'.listener.now
+  fails_from shows blocks workers m s s' books books' faults.NoMemory none same small counted left =
       (tt, ap (λ (t : Accepting L I H). told t.listener.now) left.0)
-  fails_from blocks workers m s s' books books' faults.Thread none same small counted left = (
+  fails_from shows blocks workers m s s' books books' faults.Thread none same small counted left = (
     (record { before = books; after = books'; count = counted; left = left.2.left }, left.2.none),
     ap (λ (t : Accepting L I H). told t.listener.now) left.0,
   )
-  fails_from blocks workers m s s' books books' faults.Worn none same small counted left =
+  fails_from shows blocks workers m s s' books books' faults.Worn none same small counted left =
       let far = left.2 in (
         (
           record { before = books; after = books'; count = counted; left = left.3 },
@@ -292,59 +295,63 @@ module _ {L I H : Type 0} (told : L → Option (List SocketStream)) (listens : L
         ),
         (left.0, returned_tell left.0 s s' left.1, far),
       )
-  fails_from blocks workers m s s' books books' faults.Missed none same small counted left = (
+  fails_from shows blocks workers m s s' books books' faults.Missed none same small counted left = (
     record { before = books; after = books'; count = counted; left = left.2 },
     (left.0, gave_tell left.0 s s' left.1),
   )
 
   -- The same of a result, for a listener in the states that the source was lent it in and left it in.
-  module _ (blocks workers m : ℕ) (s s' : Accepting L I H) (books books' : List ⊤) (result : Result Ended ServeFault)
+  module _ (shows : Bool) (blocks workers m : ℕ) (s s' : Accepting L I H) (books books' : List ⊤)
+      (result : Result Ended ServeFault)
       (none : s.accepted ≡ 0) (same : s.most ≡ m) (small : m ≤ 2 ^ 64 - 1)
-      (ok : IfOk result (λ ended. Serves blocks s books ended s' books'))
-      (err : IfErr result (λ why. LeavesConnections untold untold leaves_nothing Gives (HasLived blocks) s books why s'
+      (ok : IfOk result (λ ended. Serves shows blocks s books ended s' books'))
+      (err : IfErr result
+      (λ why. LeavesConnections untold untold leaves_nothing Gives (HasLived shows blocks) s books why s'
       books')) where
     pub still_holds : s'.listener.ghost_name ≡ s.listener.ghost_name
     still_holds = of result ok err
       where
-        of : (r : Result Ended ServeFault) → IfOk r (λ ended. Serves blocks s books ended s' books')
-            → IfErr r (λ why. LeavesConnections untold untold leaves_nothing Gives (HasLived blocks) s books why s'
+        of : (r : Result Ended ServeFault) → IfOk r (λ ended. Serves shows blocks s books ended s' books')
+            → IfErr r
+            (λ why. LeavesConnections untold untold leaves_nothing Gives (HasLived shows blocks) s books why s'
             books') → s'.listener.ghost_name ≡ s.listener.ghost_name
-        of (Ok ended) all left = served_hold blocks s s' books books' ended all
-        of (Err why) all left = failed_hold (HasLived blocks) s s' books books' why left
+        of (Ok ended) all left = served_hold shows blocks s s' books books' ended all
+        of (Err why) all left = failed_hold (HasLived shows blocks) s s' books books' why left
 
     module _ (l l' : L) (counted : length books ≡ workers) (before : s.listener.now ≡ l)
         (after : s'.listener.now ≡ l') where
-      pub all_end : IfOk result (λ ended. EndsFrom told listens blocks workers m l ended l')
+      pub all_end : IfOk result (λ ended. EndsFrom told listens shows blocks workers m l ended l')
       all_end = of result ok
         where
-          of : (r : Result Ended ServeFault) → IfOk r (λ ended. Serves blocks s books ended s' books')
-              → IfOk r (λ ended. EndsFrom told listens blocks workers m l ended l')
+          of : (r : Result Ended ServeFault) → IfOk r (λ ended. Serves shows blocks s books ended s' books')
+              → IfOk r (λ ended. EndsFrom told listens shows blocks workers m l ended l')
           of (Ok ended) all =
-              subst (λ k. EndsFrom told listens blocks workers m k ended l') before
-              (subst (λ k. EndsFrom told listens blocks workers m s.listener.now ended k) after
-              (ends_from blocks workers m s s' books books' ended none same small counted all))
+              subst (λ k. EndsFrom told listens shows blocks workers m k ended l') before
+              (subst (λ k. EndsFrom told listens shows blocks workers m s.listener.now ended k) after
+              (ends_from shows blocks workers m s s' books books' ended none same small counted all))
           of (Err why) all = tt
 
-      pub all_fail : IfErr result (λ why. FailsFrom told blocks workers m l why l')
+      pub all_fail : IfErr result (λ why. FailsFrom told shows blocks workers m l why l')
       all_fail = of result err
         where
           of : (r : Result Ended ServeFault)
-              → IfErr r (λ why. LeavesConnections untold untold leaves_nothing Gives (HasLived blocks) s books why s'
-              books') → IfErr r (λ why. FailsFrom told blocks workers m l why l')
+              → IfErr r
+              (λ why. LeavesConnections untold untold leaves_nothing Gives (HasLived shows blocks) s books why s'
+              books') → IfErr r (λ why. FailsFrom told shows blocks workers m l why l')
           of (Ok ended) left = tt
           of (Err why) left =
-              subst (λ k. FailsFrom told blocks workers m k why l') before
-              (subst (λ k. FailsFrom told blocks workers m s.listener.now why k) after
-              (fails_from blocks workers m s s' books books' why none same small counted left))
+              subst (λ k. FailsFrom told shows blocks workers m k why l') before
+              (subst (λ k. FailsFrom told shows blocks workers m s.listener.now why k) after
+              (fails_from shows blocks workers m s s' books books' why none same small counted left))
 
     pub all_for : (input : Bool) (reason : Option Reason) → s.reason ≡ None → is_some s.input ≡ input →
         s'.reason ≡ reason → IfOk result (λ ended. HasCause reads input m ended.sums.sessions reason)
     all_for input reason unended of_input of_reason = of result ok
       where
-        of : (r : Result Ended ServeFault) → IfOk r (λ ended. Serves blocks s books ended s' books')
+        of : (r : Result Ended ServeFault) → IfOk r (λ ended. Serves shows blocks s books ended s' books')
             → IfOk r (λ ended. HasCause reads input m ended.sums.sessions reason)
         of (Ok ended) all =
-            ends_for blocks m s s' books books' ended input reason none same small unended of_input of_reason all
+            ends_for shows blocks m s s' books books' ended input reason none same small unended of_input of_reason all
         of (Err why) all = tt
 
 -- What is told of a listener and of an input may be left out.

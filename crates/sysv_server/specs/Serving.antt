@@ -42,7 +42,7 @@ SatOnSockets = Sat untold untold leaves_nothing
 -- A server on a listener, with this number of places. It ran no more sessions than the maximum, if the
 -- maximum is not 0. Each session was on a connection of its own. Each place had its connections in the
 -- order in which they were accepted, and a place that was alone had all of them, in that order.
-pub record ServesOn (blocks places most : ℕ) (sums : Sums) : Type 0 where
+pub record ServesOn (shows : Bool) (blocks places most : ℕ) (sums : Sums) : Type 0 where
   pub gates : Gates
   pub opened : AreOpen 0 blocks 0 gates
   pub shifts : List Shift
@@ -55,12 +55,12 @@ pub record ServesOn (blocks places most : ℕ) (sums : Sums) : Type 0 where
   pub alone : places ≡ 1 → all_connections desks ≡ accepted
   pub sat : Each2 SatOnSockets desks shifts
   pub removed : Result ℕ Errno
-  pub lived : Lived blocks gates shifts removed
+  pub lived : Lived shows blocks gates shifts removed
 
 -- A server served the connections of a listener, and then removed the queues that were left. It
 -- returns what its stop and its close told.
-pub record EndsOn (blocks places most : ℕ) (ended : Ended) : Type 0 where
-  pub served : ServesOn blocks places most ended.sums
+pub record EndsOn (shows : Bool) (blocks places most : ℕ) (ended : Ended) : Type 0 where
+  pub served : ServesOn shows blocks places most ended.sums
   pub refused : ended.refused ≡ refused_of (told_in served.shifts)
   pub removed : ended.removed ≡ served.removed
   pub closed : ended.closed ≡ served.lived.closed
@@ -77,13 +77,13 @@ pub record LeavesSockets (places : ℕ) (Ran : Gates → List Shift → Type 0) 
 -- number of sessions, 0 for no limit. After `NoMemory` nothing is stated, since memory may be refused
 -- before the gates are opened. After `Thread` there was no session. After `Worn` at least 2^62 - 16
 -- connections were accepted, so there is no lower limit.
-abbrev pub FailsOn : (blocks places most : ℕ) → ServeFault → Type 0
-FailsOn blocks places most NoMemory = ⊤
-FailsOn blocks places most Thread =
-    (sockets : LeavesSockets places (HasLived blocks)) × (told_in sockets.left.shifts ≡ [])
-FailsOn blocks places most Worn =
-    LeavesSockets places (HasLived blocks) × (most ≢ 0 → 2 ^ 62 ≤ most + MAX_WORKERS)
-FailsOn blocks places most Missed = LeavesSockets places (HasLived blocks)
+abbrev pub FailsOn : (shows : Bool) → (blocks places most : ℕ) → ServeFault → Type 0
+FailsOn shows blocks places most NoMemory = ⊤
+FailsOn shows blocks places most Thread =
+    (sockets : LeavesSockets places (HasLived shows blocks)) × (told_in sockets.left.shifts ≡ [])
+FailsOn shows blocks places most Worn =
+    LeavesSockets places (HasLived shows blocks) × (most ≢ 0 → 2 ^ 62 ≤ most + MAX_WORKERS)
+FailsOn shows blocks places most Missed = LeavesSockets places (HasLived shows blocks)
 
 -- A server that may have an input, that was to run this maximum number of sessions, 0 for no limit,
 -- and that ran this number of them, accepted no more connections for this reason.
@@ -105,9 +105,9 @@ module _ {L : Type 0} (told : L → Option (List SocketStream)) where
   -- A server served the connections of a listener, which went from the one state to the other and is
   -- closed. The listener has accepted the connections on which the sessions were, each once, and no
   -- others. `told` are the connections that the listener has accepted, if it tells them.
-  pub record EndsFrom (listens : L → Bool) (blocks places most : ℕ) (before : L) (ended : Ended)
+  pub record EndsFrom (listens : L → Bool) (shows : Bool) (blocks places most : ℕ) (before : L) (ended : Ended)
       (after : L) : Type 0 where
-    pub ends : EndsOn blocks places most ended
+    pub ends : EndsOn shows blocks places most ended
     pub accepted : told after ≡ added (told before) ends.served.accepted
     pub closed : listens after ≡ false
 
@@ -123,5 +123,6 @@ module _ {L : Type 0} (told : L → Option (List SocketStream)) where
       (accepted : List SocketStream) × (told after ≡ added (told before) accepted)
 
   -- A server on a listener ended by this fault, and left the listener so.
-  abbrev pub FailsFrom : (blocks places most : ℕ) → L → ServeFault → L → Type 0
-  FailsFrom blocks places most before why after = FailsOn blocks places most why × LeavesListener before why after
+  abbrev pub FailsFrom : (shows : Bool) → (blocks places most : ℕ) → L → ServeFault → L → Type 0
+  FailsFrom shows blocks places most before why after =
+      FailsOn shows blocks places most why × LeavesListener before why after

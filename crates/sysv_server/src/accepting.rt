@@ -1,19 +1,23 @@
 //! A source of accepted connections.
 ghost use Rattle.std.specs.Prelude.{◌≡◌, ◌≢◌, ◌<◌, ◌≤◌, ◌-◌, ◌^◌, ◌∷◌, [], true, false, is_some, None, IfErr, IfOk, OnErr, OnOk};
+ghost use Rattle.sysv_engine.specs.Looks.{Looks};
 ghost use Rattle.sysv_server.specs.Accepts.{EndsInput, HasEnded};
 ghost use Rattle.sysv_server.specs.Listening.{added, IsOver};
 
+use crate::desk::Desk;
 use crate::host::{Host, Notice, Reason};
 use crate::listening::{Input, Listens};
-use crate::polling::{FOREVER, NO_DESCRIPTOR, asking, pause};
+use crate::polling::{NO_DESCRIPTOR, asking, pause};
+use crate::visitor::View;
 use libc::net::{POLLIN, poll};
 use libc::types::pollfd;
 use libc::{EAGAIN, ECONNABORTED, EMFILE, ENOMEM, EPERM};
+use std::alloc::Global;
 use std::io;
 use std::io::ErrorKind;
-use sysv_engine::Common;
+use std::sync::Wait;
+use sysv_engine::{Arrivals, Common, Rows};
 use sysv_seats::SocketStream;
-use sysv_workers::Source;
 
 /// The maximum number of bytes of the input that are read at once and dropped.
 const INPUT_BYTES: usize = 512;
@@ -59,6 +63,13 @@ pub(crate) struct Accepting<'a, L, I: Drop, H> {
     reason: Option<Reason>,
     /// Whether the host has learned that the memory of a session was refused.
     told: bool,
+    /// Where the state of the server is shown.
+    desk: Desk,
+    /// The number of blocks in the pool.
+    blocks: u32,
+    /// Whether the state of the server is shown.
+    stats: bool,
+    alloc: Global,
     common: &'a Common,
     host: &'a H,
 }
@@ -66,10 +77,13 @@ pub(crate) struct Accepting<'a, L, I: Drop, H> {
 impl<'a, L: Listens, I: Input + Drop, H: Host> Accepting<'a, L, I, H> {
     /// Creates a source that has accepted no connection.
     pub(crate) fn new(
+        alloc: Global,
         listener: &'a mut L,
         retries: bool,
         input: Option<I>,
         most: u64,
+        blocks: u32,
+        stats: bool,
         common: &'a Common,
         host: &'a H,
     ) -> Accepting<'a, L, I, H>
@@ -87,6 +101,10 @@ impl<'a, L: Listens, I: Input + Drop, H: Host> Accepting<'a, L, I, H> {
             accepted: 0,
             reason: None,
             told: false,
+            desk: Desk::closed(),
+            blocks,
+            stats,
+            alloc,
             common,
             host,
         }
@@ -106,14 +124,37 @@ impl<'a, L: Listens, I: Input + Drop, H: Host> Accepting<'a, L, I, H> {
             accepted: _,
             reason,
             told: _,
+            desk: _,
+            blocks: _,
+            stats: _,
+            alloc: _,
             common: _,
             host: _,
         } = self;
         (listener, reason)
     }
 
+    /// Has the host open the socket for readers of the server's state, if it is to be shown, and
+    /// opens the listener.
+    fn open(&mut self) -> io::Result<()>
+        ensures same { (self.new.most ≡ self.old.most) × (self.new.accepted ≡ self.old.accepted)
+            × (self.new.reason ≡ self.old.reason) }
+        ensures input { is_some self.new.input ≡ is_some self.old.input }
+        ensures ok { OnOk result (L.listens self.new.listener.now ≡ true) }
+        ensures err { OnErr result
+            (L.listens self.new.listener.now ≡ L.listens self.old.listener.now) }
+        ensures none { L.accepted self.new.listener.now ≡ L.accepted self.old.listener.now }
+        ensures same_reference { self.new.listener.ghost_name ≡ self.old.listener.ghost_name }
+    {
+        if self.stats {
+            self.desk.open(self.host.listen_for_readers()?);
+        }
+        self.listener.open()
+    }
+
     /// Accepts the next connection. The error is why no more connections are to be accepted.
-    fn accept(&mut self) -> Result<SocketStream, Reason>
+    #[tactic(auto, using(sysv_engine::proofs::Looking::looks_stay))]
+    fn accept<R: Wait>(&mut self, rows: &mut Rows<'_, R>) -> Result<SocketStream, Reason>
         ensures same { (self.new.most ≡ self.old.most) × (self.new.accepted ≡ self.old.accepted)
             × (self.new.reason ≡ self.old.reason) }
         ensures input { is_some self.new.input ≡ is_some self.old.input }
@@ -126,36 +167,44 @@ impl<'a, L: Listens, I: Input + Drop, H: Host> Accepting<'a, L, I, H> {
         ensures err { OnErr result
             (L.accepted self.new.listener.now ≡ L.accepted self.old.listener.now) }
         ensures same_reference { self.new.listener.ghost_name ≡ self.old.listener.ghost_name }
+        ensures looks { Looks rows.old rows.new }
     {
         if self.most != 0 && self.accepted >= self.most {
             return Err(Reason::Full);
         }
         if !self.listener.is_open() {
-            if let Err(why) = self.listener.open() {
+            if let Err(why) = self.open() {
                 return Err(Reason::NoSocket(why));
             }
         }
-        let door = Door {
-            descriptor: self.listener.descriptor(),
+        let view = View {
+            alloc: self.alloc,
             common: self.common,
-            host: self.host,
+            listener: self.listener.descriptor(),
+            blocks: self.blocks,
             accepted: self.accepted,
         };
-        door.accept_next(self.listener, &mut self.told, &mut self.input, self.retries)
+        let door = Door {
+            view,
+            host: self.host,
+        };
+        let (told, input, desk) = (&mut self.told, &mut self.input, &mut self.desk);
+        door.accept_next(self.listener, told, input, desk, rows, self.retries)
     }
 }
 
-impl<L: Listens, I: Input + Drop, H: Host> Source<SocketStream> for Accepting<'_, L, I, H> {
+impl<L: Listens, I: Input + Drop, H: Host> Arrivals<SocketStream> for Accepting<'_, L, I, H> {
     ghost use Rattle.sysv_server.specs.Accepts.{Accepts};
 
     ghost gives = { Accepts L.accepted L.listens I.reads };
 
-    fn next(&mut self) -> Option<SocketStream> {
+    #[tactic(auto, using(sysv_engine::proofs::Looking::looks_stay))]
+    fn next<R: Wait>(&mut self, rows: &mut Rows<'_, R>) -> Option<SocketStream> {
         if self.reason.is_some() {
             self.listener.close();
             return None;
         }
-        match self.accept() {
+        match self.accept(rows) {
             Ok(socket) => {
                 self.accepted = self.accepted.saturating_add(1);
                 Some(socket)
@@ -163,6 +212,7 @@ impl<L: Listens, I: Input + Drop, H: Host> Source<SocketStream> for Accepting<'_
             Err(why) => {
                 self.reason = Some(why);
                 self.listener.close();
+                self.desk = Desk::closed();
                 if self.common.drain(self.accepted) {
                     self.host.note(Notice::Cut);
                 }
@@ -174,13 +224,9 @@ impl<L: Listens, I: Input + Drop, H: Host> Source<SocketStream> for Accepting<'_
 
 /// What is known of an open listener, and of the connections that came through it.
 #[derive(Drop)]
-struct Door<'c, 'h, H> {
-    /// The descriptor of the listener.
-    descriptor: i32,
-    common: &'c Common,
+struct Door<'v, 'h, H> {
+    view: View<'v>,
     host: &'h H,
-    /// The number of connections that were accepted.
-    accepted: u64,
 }
 
 /// What has arrived at a door.
@@ -190,16 +236,22 @@ struct Arrived {
     connection: bool,
     /// Whether the input can be read.
     input: bool,
+    /// Whether something has happened at the desk.
+    reader: bool,
 }
 
 impl<H: Host> Door<'_, '_, H> {
-    /// Waits for a connection and accepts it. If the server `retries`, an accept that fails for
-    /// want of something is tried again; the host is told so, and when it succeeds.
-    fn accept_next<L: Listens, I: Input>(
+    /// Waits for a connection and accepts it. Until it comes, serves the desk. If the server
+    /// `retries`, an accept that fails for want of something is tried again; the host is told so,
+    /// and when it succeeds.
+    #[tactic(auto, using(sysv_engine::proofs::Looking::looks_stay, sysv_engine::proofs::Looking::looks_on))]
+    fn accept_next<L: Listens, I: Input, R: Wait>(
         &self,
         listener: &mut L,
         told: &mut bool,
         input: &mut Option<I>,
+        desk: &mut Desk,
+        rows: &mut Rows<'_, R>,
         retries: bool,
     ) -> Result<SocketStream, Reason>
         ensures input { is_some input.new ≡ is_some input.old }
@@ -208,10 +260,12 @@ impl<H: Host> Door<'_, '_, H> {
             L.accepted listener.new ≡ added (L.accepted listener.old) (stream ∷ [])) }
         ensures err { OnErr result (L.accepted listener.new ≡ L.accepted listener.old) }
         ensures same { L.listens listener.new ≡ L.listens listener.old }
+        ensures looks { Looks rows.old rows.new }
     {
         let mut held = false;
         for _ in 0..u64::MAX {
-            let arrived = self.wait(told, descriptor(input));
+            let arrived = self.wait(told, descriptor(input), desk);
+            desk.go_on(arrived.reader, self.view, rows);
             if arrived.input && has_ended(input) {
                 return Err(Reason::InputOver);
             }
@@ -243,39 +297,48 @@ impl<H: Host> Door<'_, '_, H> {
         pause(HOLD_MILLIS);
     }
 
-    /// Waits until the input, whose descriptor is given, can be read, or until there is a connection
-    /// and room for one more client. It may return early. Tells the host of the first session whose
-    /// memory was refused.
-    fn wait(&self, told: &mut bool, input: i32) -> Arrived {
-        if self.common.is_starved() && !*told {
+    /// Waits until the input, whose descriptor is given, can be read, until something happens at the
+    /// desk, or until there is a connection and room for one more client. It may return early. Tells
+    /// the host of the first session whose memory was refused.
+    fn wait(&self, told: &mut bool, input: i32, desk: &Desk) -> Arrived {
+        let View {
+            common,
+            listener,
+            accepted,
+            ..
+        } = self.view;
+        if common.is_starved() && !*told {
             self.host.note(Notice::NoMemory);
             *told = true;
         }
-        if self.common.has_room(self.accepted) {
-            return self.arrived(input, self.descriptor, FOREVER);
+        if common.has_room(accepted) {
+            return self.arrived(input, listener, desk, desk.limit());
         }
-        self.common.await_turn(true);
-        let limit = if self.common.has_room(self.accepted) {
+        common.await_turn(true);
+        let limit = if common.has_room(accepted) {
             0
         } else {
-            FOREVER
+            desk.limit()
         };
-        let arrived = self.arrived(input, NO_DESCRIPTOR, limit);
-        self.common.await_turn(false);
+        let arrived = self.arrived(input, NO_DESCRIPTOR, desk, limit);
+        common.await_turn(false);
         arrived
     }
 
-    /// Waits until the input, the listener or the bell can be read, for at most `limit`
-    /// milliseconds, and hushes the bell.
-    fn arrived(&self, input: i32, listener: i32, limit: i32) -> Arrived {
-        let mut asked = [input, listener, self.common.bell()].map(readable);
+    /// Waits until the input, the listener or the bell can be read, or something happens at the
+    /// desk, for at most `limit` milliseconds, and hushes the bell.
+    fn arrived(&self, input: i32, listener: i32, desk: &Desk, limit: i32) -> Arrived {
+        let common = self.view.common;
+        let [input, listener, bell] = [input, listener, common.bell()].map(readable);
+        let mut asked = [input, listener, bell, desk.asking()];
         let any = poll(&mut asked, limit) > 0;
         if any && asked[2].revents != 0 {
-            self.common.hush();
+            common.hush();
         }
         Arrived {
             connection: any && asked[1].revents != 0,
             input: any && asked[0].revents != 0,
+            reader: any && asked[3].revents != 0,
         }
     }
 }

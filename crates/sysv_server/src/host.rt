@@ -8,6 +8,12 @@ pub trait Host {
     /// its memory and its threads.
     fn listen(&self) -> io::Result<UnixListener>;
 
+    /// Opens the socket on which the state of the server is shown, if there is one. The server calls
+    /// it once, just before its listener is opened, if its terms have `stats`.
+    fn listen_for_readers(&self) -> io::Result<Option<UnixListener>> {
+        Ok(None)
+    }
+
     /// Learns of something that happened to the server. Like `listen`, the thread that accepts
     /// connections calls it.
     fn note(&self, notice: Notice);

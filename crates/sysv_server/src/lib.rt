@@ -3,11 +3,14 @@
 #![tactic(auto)]
 
 mod accepting;
+mod desk;
 mod host;
 mod listening;
 mod polling;
+mod report;
 mod serving;
 mod terms;
+mod visitor;
 
 pub use host::{Host, Notice, Reason};
 pub use listening::{Input, Listens};

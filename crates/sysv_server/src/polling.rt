@@ -1,5 +1,5 @@
 //! What the accepting thread asks of `poll`.
-use libc::net::poll;
+use libc::net::{POLLIN, poll};
 use libc::types::pollfd;
 
 /// A descriptor that refers to no file. `poll` ignores negative descriptors.
@@ -20,4 +20,9 @@ pub(crate) fn asking(fd: i32, events: i16) -> pollfd {
         events,
         revents: 0,
     }
+}
+
+/// Returns whether `fd` can be read now. A listener can be if a client waits to be accepted.
+pub(crate) fn has_come(fd: i32) -> bool {
+    poll(&mut [asking(fd, POLLIN)], 0) > 0
 }

@@ -1,5 +1,5 @@
 //! The server.
-ghost use Rattle.std.specs.Prelude.{◌≡◌, ◌≤◌, IfErr, IfOk, IfSome, is_some, vec_len};
+ghost use Rattle.std.specs.Prelude.{◌≡◌, ◌≤◌, false, IfErr, IfOk, IfSome, is_some, vec_len};
 ghost use Rattle.sysv_model.specs.declared.limits.TheConstants.{MIN_BLOCKS, MAX_BLOCKS};
 ghost use Rattle.sysv_workers.specs.declared.workers.TheConstants.{MAX_WORKERS};
 ghost use Rattle.sysv_engine.specs.Added.{IsBalanced};
@@ -17,7 +17,7 @@ use std::os::fd::AsRawFd;
 use std::os::unix::net::{UnixListener, UnixStream};
 use std::sync::Wait;
 use std::thread::Threads;
-use sysv_engine::{Common, Ended, Patience, ServeFault, Sums, serve_all, watches};
+use sysv_engine::{Common, Ended, Patience, ServeFault, Sums, serve_arrivals, watches};
 
 /// The largest number of clients at once.
 pub const MAX_CLIENTS: u32 = 16_384;
@@ -58,9 +58,9 @@ pub fn serve_on<R: Threads + Wait + Net + Sync>(
 ) -> Result<Sums, ServeFault>
     requires blocks { (MIN_BLOCKS ≤ blocks) × (blocks ≤ MAX_BLOCKS) }
     requires workers { (1 ≤ workers) × (workers ≤ MAX_WORKERS) }
-    ensures ok { IfOk result (λ sums. ServesOn blocks workers sessions sums) }
+    ensures ok { IfOk result (λ sums. ServesOn false blocks workers sessions sums) }
     ensures balance { IfOk result IsBalanced }
-    ensures err { IfErr result (FailsOn blocks workers sessions) }
+    ensures err { IfErr result (FailsOn false blocks workers sessions) }
 {
     let terms = Terms {
         blocks,
@@ -69,6 +69,7 @@ pub fn serve_on<R: Threads + Wait + Net + Sync>(
         sessions,
         patience: Patience::UNBOUNDED,
         drain: 0,
+        stats: false,
     };
     let mut lent = Lent::new(listener);
     let mut reason = None;
@@ -99,6 +100,10 @@ pub fn serve_on<R: Threads + Wait + Net + Sync>(
 /// more connections were accepted, if any were to be: at `Reason::Full` exactly `terms.sessions`
 /// sessions were run.
 ///
+/// With `terms.stats` the host also opens a socket for readers, to whom the server shows its state
+/// between two accepts. No session makes it wait, and no reader makes a session wait. Only then the
+/// rows of the queues are read.
+///
 /// # Errors
 ///
 /// The errors are those of `serve_on`. After `NoMemory` and `Thread` no listener was opened.
@@ -119,11 +124,12 @@ pub fn serve_listener<I: Read + AsRawFd + Drop, H: Host + Drop, R: Threads + Wai
     requires blocks { (MIN_BLOCKS ≤ terms.blocks) × (terms.blocks ≤ MAX_BLOCKS) }
     requires workers { (1 ≤ terms.workers) × (terms.workers ≤ MAX_WORKERS) }
     requires at_once { (1 ≤ terms.at_once) × (terms.at_once ≤ MAX_CLIENTS) }
-    ensures ok { IfOk result (λ ended. EndsOn terms.blocks terms.at_once terms.sessions ended) }
+    ensures ok { IfOk result (λ ended. EndsOn terms.stats terms.blocks terms.at_once terms.sessions
+        ended) }
     ensures exact { IfOk result (λ ended.
         HasReason (is_some input) terms.sessions ended.sums.sessions reason.new) }
     ensures balance { IfOk result (λ ended. IsBalanced ended.sums) }
-    ensures err { IfErr result (FailsOn terms.blocks terms.at_once terms.sessions) }
+    ensures err { IfErr result (FailsOn terms.stats terms.blocks terms.at_once terms.sessions) }
 {
     let mut socket = Hosted::new(&host);
     let input = input_of(input);
@@ -135,8 +141,8 @@ pub fn serve_listener<I: Read + AsRawFd + Drop, H: Host + Drop, R: Threads + Wai
 ///
 /// The listener is opened if it is not open, and closed when no more connections are to be
 /// accepted. Each connection that it has accepted has a session, and there are no other sessions.
-/// At `Reason::InputOver` a read of the input returned no byte or failed. The host opens nothing;
-/// it is told what happens.
+/// At `Reason::InputOver` a read of the input returned no byte or failed. The host is told what
+/// happens, and opens only the socket for readers of the server's state.
 ///
 /// # Errors
 ///
@@ -157,13 +163,13 @@ pub fn serve_from<L: Listens, I: Input + Drop, H: Host, R: Threads + Wait + Net 
     requires blocks { (MIN_BLOCKS ≤ terms.blocks) × (terms.blocks ≤ MAX_BLOCKS) }
     requires workers { (1 ≤ terms.workers) × (terms.workers ≤ MAX_WORKERS) }
     requires at_once { (1 ≤ terms.at_once) × (terms.at_once ≤ MAX_CLIENTS) }
-    ensures ok { IfOk result (λ ended. EndsFrom L.accepted L.listens terms.blocks terms.at_once
-        terms.sessions listener.old ended listener.new) }
+    ensures ok { IfOk result (λ ended. EndsFrom L.accepted L.listens terms.stats terms.blocks
+        terms.at_once terms.sessions listener.old ended listener.new) }
     ensures exact { IfOk result (λ ended. HasCause I.reads (is_some input) terms.sessions
         ended.sums.sessions reason.new) }
     ensures balance { IfOk result (λ ended. IsBalanced ended.sums) }
-    ensures err { IfErr result (λ why. FailsFrom L.accepted terms.blocks terms.at_once terms.sessions
-        listener.old why listener.new) }
+    ensures err { IfErr result (λ why. FailsFrom L.accepted terms.stats terms.blocks terms.at_once
+        terms.sessions listener.old why listener.new) }
 {
     run(rt, alloc, listener, true, host, input, terms, reason)
 }
@@ -183,13 +189,13 @@ fn run<L: Listens, I: Input + Drop, H: Host, R: Threads + Wait + Net + Sync>(
     requires blocks { (MIN_BLOCKS ≤ terms.blocks) × (terms.blocks ≤ MAX_BLOCKS) }
     requires workers { (1 ≤ terms.workers) × (terms.workers ≤ MAX_WORKERS) }
     requires at_once { (1 ≤ terms.at_once) × (terms.at_once ≤ MAX_CLIENTS) }
-    ensures ok { IfOk result (λ ended. EndsFrom L.accepted L.listens terms.blocks terms.at_once
-        terms.sessions listener.old ended listener.new) }
+    ensures ok { IfOk result (λ ended. EndsFrom L.accepted L.listens terms.stats terms.blocks
+        terms.at_once terms.sessions listener.old ended listener.new) }
     ensures exact { IfOk result (λ ended. HasCause I.reads (is_some input) terms.sessions
         ended.sums.sessions reason.new) }
     ensures balance { IfOk result (λ ended. IsBalanced ended.sums) }
-    ensures err { IfErr result (λ why. FailsFrom L.accepted terms.blocks terms.at_once terms.sessions
-        listener.old why listener.new) }
+    ensures err { IfErr result (λ why. FailsFrom L.accepted terms.stats terms.blocks terms.at_once
+        terms.sessions listener.old why listener.new) }
 {
     let Terms {
         blocks,
@@ -198,6 +204,7 @@ fn run<L: Listens, I: Input + Drop, H: Host, R: Threads + Wait + Net + Sync>(
         sessions,
         patience,
         drain,
+        stats,
     } = terms;
     *reason = None;
     let workers = workers.min(at_once);
@@ -211,8 +218,19 @@ fn run<L: Listens, I: Input + Drop, H: Host, R: Threads + Wait + Net + Sync>(
     let Some(watches) = watches(rt, alloc, &common) else {
         return Err(ServeFault::NoMemory);
     };
-    let mut source = Accepting::new(listener, retries, input, sessions, &common, host);
-    let outcome = serve_all(rt, alloc, &mut source, &mut books, blocks, watches, &common);
+    let mut source = Accepting::new(
+        alloc, listener, retries, input, sessions, blocks, stats, &common, host,
+    );
+    let outcome = serve_arrivals(
+        rt,
+        alloc,
+        &mut source,
+        &mut books,
+        blocks,
+        watches,
+        &common,
+        stats,
+    );
     let (left, why) = source.into_parts();
     given_back(left);
     *reason = why;

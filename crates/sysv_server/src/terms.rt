@@ -18,4 +18,6 @@ pub struct Terms {
     /// The number of seconds that an orderly end may take before the sessions that are left are cut
     /// off, 0 for no limit.
     pub drain: u32,
+    /// Whether the state of the server is shown: its host then opens a socket for readers of it.
+    pub stats: bool,
 }

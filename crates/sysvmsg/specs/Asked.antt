@@ -1,7 +1,7 @@
 -- The requests that a command line may make (this project's programs).
 use Rattle.std.specs.Prelude.{ℕ, ◌≤◌, ⊤}
 use Rattle.sysvmsg.specs.declared.asked.Asked.{Asked}
-use Rattle.sysvmsg.specs.declared.asked.Asked.TheVariants.{Script, Serve, Client}
+use Rattle.sysvmsg.specs.declared.asked.Asked.TheVariants.{Script, Serve, Look, Client}
 use Rattle.sysvmsg.specs.declared.asked.Serving.{Serving}
 use Rattle.sysv_server.specs.declared.serving.TheConstants.{MAX_CLIENTS}
 use Rattle.sysv_server.specs.declared.terms.Terms.{Terms}
@@ -34,4 +34,5 @@ HasLimits serving = AreTerms serving.terms
 abbrev pub IsWithinLimits : Asked → Type 0
 IsWithinLimits Script = ⊤
 IsWithinLimits (Serve serving) = HasLimits serving
+IsWithinLimits (Look looking) = ⊤
 IsWithinLimits (Client path who task how) = HasShortText task

@@ -49,7 +49,7 @@ HasServed ended reason shown after =
 -- have sessions at once, or as many as there are descriptors for.
 abbrev pub EndsWithin : Option ℕ → Terms → Ended → Type 0
 EndsWithin limit terms ended =
-    EndsOn terms.blocks (places_within limit terms.workers terms.at_once) terms.sessions ended
+    EndsOn terms.stats terms.blocks (places_within limit terms.stats terms.workers terms.at_once) terms.sessions ended
 
 -- A server that may have an input served on these terms until the input was over or the maximum
 -- number of sessions was reached, and the sums of its sessions were printed. The limit of open files is

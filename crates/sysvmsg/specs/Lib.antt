@@ -4,6 +4,7 @@ pub mod Bodies
 pub mod Several
 pub mod Words
 pub mod Who
+pub mod Stats
 pub mod Tasks
 pub mod Servers
 pub mod Requests

@@ -3,14 +3,15 @@ use Rattle.std.specs.Prelude.{◌≡◌, ℕ, List, codes, Option, Some, None}
 use Rattle.clap.specs.Words.{App, HasMatchesOf, Row, subcommand_rows_of}
 use Rattle.clap.specs.declared.parser.matches.ArgMatches.{ArgMatches}
 use Rattle.sysvmsg.specs.declared.asked.Asked.{Asked}
-use Rattle.sysvmsg.specs.declared.asked.Asked.TheVariants.{Script, Serve, Client}
-use Rattle.sysvmsg.specs.Servers.{AsksToServe, HasPath}
+use Rattle.sysvmsg.specs.declared.asked.Asked.TheVariants.{Script, Serve, Look, Client}
+use Rattle.sysvmsg.specs.Servers.{AsksToLook, AsksToServe, HasPath}
 use Rattle.sysvmsg.specs.Tasks.{HasHow, HasTask, StatesWho}
 
 -- A client's command of this name with these words makes this request.
 abbrev pub ClientAsks : List ℕ → List Row → Asked → Type 0
 ClientAsks name words Script = ⊥
 ClientAsks name words (Serve serving) = ⊥
+ClientAsks name words (Look looking) = ⊥
 ClientAsks name words (Client path who task how) =
     HasPath words path.now × StatesWho words who × HasTask name words task × HasHow words how
 
@@ -18,6 +19,7 @@ ClientAsks name words (Client path who task how) =
 abbrev pub CommandAsks : List ℕ → List Row → Asked → Type 0
 CommandAsks name words Script = name ≡ codes "script"
 CommandAsks name words (Serve serving) = (name ≡ codes "serve") × AsksToServe words serving
+CommandAsks name words (Look looking) = (name ≡ codes "stats") × AsksToLook words looking
 CommandAsks name words (Client path who task how) = ClientAsks name words (Client path who task how)
 
 -- A command line with this command makes this request. Without a command it makes none.

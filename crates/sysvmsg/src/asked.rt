@@ -1,10 +1,10 @@
 //! The request that a command line makes.
 
-ghost use Rattle.std.specs.Prelude.{◌≡◌, ◌≤◌, ℕ, IfOk, IfSome, MatchOption, OnOk, codes, false, is_some, map, pos, true};
+ghost use Rattle.std.specs.Prelude.{◌≡◌, ◌≤◌, ℕ, IfOk, IfSome, MatchOption, OnOk, Some, codes, false, is_some, map, pos, true};
 ghost use Rattle.clap.specs.Words.{app_of, subcommand_rows_of};
 ghost use Rattle.sysvmsg.specs.Asked.{AreAtOnce, AreBlocks, AreTerms, AreWorkers, HasLimits, IsWithinLimits};
 ghost use Rattle.sysvmsg.specs.Requests.{AsksFor, ClientAsks, IsAskedBy, IsMeant};
-ghost use Rattle.sysvmsg.specs.Servers.{AsksForAtOnce, AsksForBlocks, AsksForFile, AsksForTerms, AsksForWorkers, AsksToServe, HasPath};
+ghost use Rattle.sysvmsg.specs.Servers.{AsksForAtOnce, AsksForBlocks, AsksForFile, AsksForFileAt, AsksForTerms, AsksForWorkers, AsksToLook, AsksToServe, HasPath, MayAskForStats};
 ghost use Rattle.sysvmsg.specs.Tasks.{AsksToList, AsksToMake, AsksToReceive, AsksToRemove, AsksToSend, HasTask, HasHow, NamesTarget, IsAhead, Receives, ShowsIn, StatesWho, is_json};
 ghost use Rattle.sysvmsg.specs.Words.{ArePartsOf, AreSeconds, Has, HasFlag, HasMaybe, HasOr, IsMode, IsOctalMode, IsOn, IsRead, IsThousandths, IsTime, IsUnsigned, WantsType, word_of, words_in};
 ghost use Rattle.sysv_words.specs.Words.{IsNat32, IsNat64};
@@ -31,6 +31,8 @@ pub(crate) enum Asked<'a> {
     Script,
     /// Serve at a path.
     Serve(Serving<'a>),
+    /// Show the state of a server.
+    Look(Looking<'a>),
     /// Run a task of a client at the server at `path`.
     Client {
         path: &'a str,
@@ -59,10 +61,24 @@ pub(crate) struct How {
     pub(crate) stderr: bool,
 }
 
-/// The socket file and the terms of a server.
+/// The socket of a state, and how it is shown.
+#[derive(Clone, Copy, PartialEq, Eq, Debug)]
+pub(crate) struct Looking<'a> {
+    pub(crate) path: &'a str,
+    /// Whether it is shown as a JSON object.
+    pub(crate) json: bool,
+    /// The number of milliseconds that each read waits at most.
+    pub(crate) wait: Option<u64>,
+    /// Whether errors are told on standard error.
+    pub(crate) is_aside: bool,
+}
+
+/// The socket files and the terms of a server.
 #[derive(Clone, Copy, PartialEq, Eq, Debug)]
 pub(crate) struct Serving<'a> {
     pub(crate) file: SocketFile<'a>,
+    /// The file of the socket on which its state is shown, if it is to be shown.
+    pub(crate) stats: Option<SocketFile<'a>>,
     pub(crate) terms: Terms,
     /// Whether the server ends after its standard input has ended.
     pub(crate) until_eof: bool,
@@ -102,6 +118,8 @@ type Bad = &'static str;
 const BAD_PATH: Bad = "a PATH has 1 to 107 bytes";
 
 const BAD_PATH_WITH_MODE: Bad = "with --mode a PATH has 1 to 103 bytes";
+
+const SAME_PATH: Bad = "PATH2 is PATH: --stats names a socket of its own";
 
 const BAD_KEY: Bad =
     "a KEY is 1 to 2147483647, or 0x and one to eight hexadecimal digits that are not all 0";
@@ -197,8 +215,21 @@ fn task_of<'a>(matches: &ArgMatches<'a>) -> Result<Asked<'a>, Bad>
     match name {
         "script" => Ok(Asked::Script),
         "serve" => Ok(Asked::Serve(server(words)?)),
+        "stats" => Ok(Asked::Look(looking(words)?)),
         _ => client(name, words),
     }
+}
+
+/// Returns the request of a `stats`.
+fn looking<'a>(words: &ArgMatches<'a>) -> Result<Looking<'a>, Bad>
+    ensures { IsRead result (AsksToLook (words_in words.now)) }
+{
+    Ok(Looking {
+        path: path_of(words)?,
+        json: has_flag(words, "json"),
+        wait: time_if(words, "wait")?,
+        is_aside: has_flag(words, "stderr"),
+    })
 }
 
 /// Returns the request of a client's command.
@@ -277,8 +308,10 @@ fn server<'a>(words: &ArgMatches<'a>) -> Result<Serving<'a>, Bad>
     ensures limits { IfOk result HasLimits }
     ensures meaning { IsRead result (AsksToServe (words_in words.now)) }
 {
+    let file = file_of(words)?;
     Ok(Serving {
-        file: file_of(words)?,
+        file,
+        stats: stats_of(words, file.path)?,
         terms: terms_of(words)?,
         until_eof: has_flag(words, "until-eof"),
     })
@@ -288,7 +321,28 @@ fn server<'a>(words: &ArgMatches<'a>) -> Result<Serving<'a>, Bad>
 fn file_of<'a>(words: &ArgMatches<'a>) -> Result<SocketFile<'a>, Bad>
     ensures { IsRead result (AsksForFile (words_in words.now)) }
 {
-    let path = path_of(words)?;
+    file_at(words, path_of(words)?)
+}
+
+/// Returns the file of the socket on which the state of a server at the path `own` is shown, if the
+/// command has one.
+fn stats_of<'a>(words: &ArgMatches<'a>, own: &str) -> Result<Option<SocketFile<'a>>, Bad>
+    requires { word_of (words_in words.now) (codes "path") ≡ Some own.now }
+    ensures { IsRead result (MayAskForStats (words_in words.now)) }
+{
+    match word_in(words, "stats") {
+        Some(path) if path.is_empty() || path.len() > MAX_PATH => Err(BAD_PATH),
+        Some(path) if path == own => Err(SAME_PATH),
+        Some(path) => Ok(Some(file_at(words, path)?)),
+        None => Ok(None),
+    }
+}
+
+/// Returns the file of a socket of a server at this path.
+fn file_at<'a>(words: &ArgMatches<'a>, path: &'a str) -> Result<SocketFile<'a>, Bad>
+    ensures { IsRead result (λ file. (file.path.now ≡ path.now)
+        × AsksForFileAt (words_in words.now) path.now file) }
+{
     let mode = mode_of(words)?;
     if mode.is_some() && path.len() > MAX_PATH_WITH_MODE {
         return Err(BAD_PATH_WITH_MODE);
@@ -315,6 +369,7 @@ fn terms_of(words: &ArgMatches<'_>) -> Result<Terms, Bad>
             stall: seconds_of(words, "stall")?,
         },
         drain: seconds_of(words, "drain")?,
+        stats: has_word(words, "stats"),
     })
 }
 

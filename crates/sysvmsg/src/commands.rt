@@ -110,7 +110,7 @@ const KEY: Argument = ("key", Form::Word("KEY"), KEY_HELP);
 const KEY_HELP: &str = "1 to 2147483647, or 0x and 1 to 8 hexadecimal digits, not 0";
 
 /// All commands, in the order of the help.
-const COMMANDS: [Known; 7] = [SERVE, SND, RCV, IPCS, IPCRM, IPCMK, SCRIPT];
+const COMMANDS: [Known; 8] = [SERVE, SND, RCV, IPCS, IPCRM, IPCMK, STATS, SCRIPT];
 
 const SERVE: Known = Known {
     name: "serve",
@@ -176,6 +176,11 @@ Example:
             "drain",
             Form::Value("SECONDS"),
             "Ends the sessions left this long after the last accept, 0 for never [default: 0]",
+        ),
+        (
+            "stats",
+            Form::Value("PATH2"),
+            "A second socket to create, on which the server shows its state",
         ),
     ],
     groups: &[],
@@ -442,6 +447,27 @@ Example:
         USER,
         GROUP,
         PROCESS,
+    ],
+    groups: &[],
+    usage: None,
+};
+
+const STATS: Known = Known {
+    name: "stats",
+    about: "Prints the state of a server that has --stats",
+    example: "\
+Example:
+  $ sysvmsg stats ./q.stats | grep ^sysvmsg_sessions_open
+  sysvmsg_sessions_open 3",
+    arguments: &[
+        (
+            "path",
+            Form::Word("PATH2"),
+            "The socket that the server's --stats names",
+        ),
+        ("json", Form::Flag, "Prints a JSON object"),
+        WAIT,
+        STDERR,
     ],
     groups: &[],
     usage: None,

@@ -52,7 +52,7 @@ pub(crate) fn run_as<I: Read, P: Place, S: Write>(
 {
     let teller = Teller {
         path,
-        task: &command.task,
+        task: Some(&command.task),
         is_aside: how.stderr,
     };
     match way_of(command.cred, &command.task, how) {

@@ -63,7 +63,7 @@ fn fill<R: Read>(input: &mut R, buffer: &mut [u8]) -> io::Result<usize>
 }
 
 /// Reads once, like `Read::read`. An interrupted read is made again.
-fn read_some<R: Read>(input: &mut R, buffer: &mut [u8]) -> io::Result<usize>
+pub(crate) fn read_some<R: Read>(input: &mut R, buffer: &mut [u8]) -> io::Result<usize>
     ensures bound { ReadsAtMost result buffer.new }
     ensures bytes { ReadConsumes (R.remaining input.old) (R.remaining input.new)
         result buffer.new }

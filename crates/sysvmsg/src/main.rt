@@ -15,16 +15,18 @@ mod scripts;
 mod serving;
 mod several;
 mod socket;
+mod stats;
 mod teller;
 mod who;
 
-use asked::{Asked, How, no_text, read_words};
+use asked::{Asked, How, Looking, no_text, read_words};
 use clap::Error;
 use clap::error::ErrorKind;
 use connection::run_as;
 use place::Socket;
 use scripts::answer_script;
 use serving::serve_at;
+use stats::look_at;
 use std::fs::File;
 use std::io::Eprint;
 use std::os::fd::{AsRawFd, RawFd};
@@ -58,6 +60,7 @@ fn main(rt: HostRuntime) -> ExitCode {
     match read_words(rt.alloc(), words.as_slice()) {
         Ok(Asked::Script) => answer_script(&rt, &mut rt.stdin(), &mut rt.stdout()),
         Ok(Asked::Serve(serving)) => serve_at(&rt, rt.stdin(), &serving, &mut io::writer(&rt)),
+        Ok(Asked::Look(looking)) => look(&rt, looking),
         Ok(
             Asked::Client {
                 path,
@@ -90,6 +93,17 @@ fn main(rt: HostRuntime) -> ExitCode {
             tell(&rt, &error, is_aside)
         }
     }
+}
+
+/// Prints the state of a server.
+fn look(rt: &HostRuntime, looking: Looking<'_>) -> ExitCode {
+    let looking = Looking {
+        is_aside: looking.is_aside || wants_stderr(rt),
+        ..looking
+    };
+    let mut stream = None;
+    let place = Socket::new(rt, looking.path, &mut stream);
+    look_at(rt, place, &looking, &mut io::writer(rt))
 }
 
 /// Opens a stand-in for a closed standard stream, so that no socket gets its descriptor. A read

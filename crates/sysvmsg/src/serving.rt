@@ -12,7 +12,6 @@ use crate::socket::listen_at;
 use crate::{FAULT, say};
 use libc::net::{POLLOUT, poll};
 use libc::types::pollfd;
-use std::io;
 use std::io::{Eprint, ErrorKind, Read, Write};
 use std::net::Net;
 use std::os::fd::AsRawFd;
@@ -21,6 +20,7 @@ use std::process::ExitCode;
 use std::rt::Files;
 use std::sync::Wait;
 use std::thread::Threads;
+use std::{fs, io};
 use sysv_server::{
     Ended, Host, MAX_CLIENTS, Notice, Reason, ServeFault, Sums, Terms, serve_listener,
 };
@@ -67,9 +67,23 @@ impl<R: Eprint> Reporter<'_, R> {
 impl<R: Files + Net + Eprint + AllocGlobal + Clone + Drop> Host for Reporter<'_, R> {
     /// Opens the socket, and reports that the server listens, or why it does not.
     fn listen(&self) -> io::Result<UnixListener> {
-        let listener = listen_at(self.rt, &self.serving.file)?;
-        self.announce();
-        Ok(listener)
+        match listen_at(self.rt, &self.serving.file) {
+            Ok(listener) => {
+                self.announce();
+                Ok(listener)
+            }
+            Err(why) => {
+                self.remove_stats();
+                Err(why)
+            }
+        }
+    }
+
+    fn listen_for_readers(&self) -> io::Result<Option<UnixListener>> {
+        match &self.serving.stats {
+            Some(file) => Ok(Some(listen_at(self.rt, file)?)),
+            None => Ok(None),
+        }
     }
 
     fn note(&self, notice: Notice) {
@@ -88,6 +102,16 @@ impl<R: Files + Net + Eprint + AllocGlobal + Clone + Drop> Host for Reporter<'_,
             Notice::Cut => {
                 let _ = eprintln!(*rt; "sysvmsg: the sessions that are left are cut off");
             }
+        }
+    }
+}
+
+impl<R: Files> Reporter<'_, R> {
+    /// Removes the socket on which the state would be shown, which was created before the other one
+    /// could not be.
+    fn remove_stats(&self) {
+        if let Some(file) = &self.serving.stats {
+            let _ = fs::remove_file(self.rt, file.path);
         }
     }
 }
@@ -142,7 +166,7 @@ fn run_server<
         serving.now.terms.sessions ended.sums.sessions reason.new) }
 {
     let mut terms = serving.terms;
-    terms.at_once = room(limit, terms.workers, terms.at_once);
+    terms.at_once = room(limit, terms.stats, terms.workers, terms.at_once);
     let host = Reporter {
         rt,
         serving,

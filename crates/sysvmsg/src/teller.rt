@@ -16,8 +16,8 @@ const BEFORE: &str = "sysvmsg: ";
 pub(crate) struct Teller<'a> {
     /// The path of the server's socket.
     pub(crate) path: &'a str,
-    /// The task of the client.
-    pub(crate) task: &'a Task<'a>,
+    /// The task of the client, or `None` if it prints the state of a server.
+    pub(crate) task: Option<&'a Task<'a>>,
     /// Whether each fault is a sentence on standard error.
     pub(crate) is_aside: bool,
 }
@@ -132,7 +132,11 @@ impl Teller<'_> {
 
     /// Begins a sentence: the command, and the key or the identifier of its queue.
     fn begin(&self, rt: &impl Eprint) {
-        let _ = match *self.task {
+        let Some(task) = self.task else {
+            let _ = eprint!(rt; "sysvmsg: stats: ");
+            return;
+        };
+        let _ = match *task {
             Task::List(_) => eprint!(rt; "sysvmsg: ipcs: "),
             Task::Show(id) => eprint!(rt; "sysvmsg: ipcs: identifier {id}: "),
             Task::Remove(Target::Id(id)) => eprint!(rt; "sysvmsg: ipcrm: identifier {id}: "),
@@ -166,8 +170,8 @@ fn name_in(line: &str) -> &str {
 }
 
 /// Returns whether a task names its queue by an identifier.
-fn has_id(task: &Task<'_>) -> bool {
-    matches!(task, Task::Show(_) | Task::Remove(Target::Id(_)))
+fn has_id(task: Option<&Task<'_>>) -> bool {
+    matches!(task, Some(Task::Show(_) | Task::Remove(Target::Id(_))))
 }
 
 /// Returns what the name of an error means, or nothing if it is in words. `has_id` is whether the

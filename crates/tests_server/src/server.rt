@@ -235,9 +235,47 @@ fn leaving(rt: &impl Net, path: &str) -> bool {
         & talks(rt, path, &[HELLO, CREATE, SEND], &[KNOWN, FOUND, SENT])
 }
 
+/// The path of the socket on which a server shows its state.
+const STATE_PATH: &str = "state.socket";
+
+/// The state of a server with one session, which has sent a message of three bytes to queue 0 of
+/// key 7.
+const STATE: &[u8] = b"{\"sessions\":1,\"sessions_max\":2,\"sessions_total\":1,\
+    \"has_waiting_clients\":0,\"waiting_receives\":0,\"waiting_sends\":0,\"waiting_for_blocks\":0,\
+    \"sent_total\":1,\"taken_total\":0,\"written_total\":0,\"lost_total\":0,\"blocks\":128,\
+    \"queues\":[{\"key\":\"0x00000007\",\"msqid\":0,\"bytes\":3,\"messages\":1,\"sent_total\":1,\
+    \"taken_total\":0,\"waiting_receives\":0,\"waiting_sends\":0}]}\n";
+
+/// Returns whether a reader that asks for a JSON object reads this state, and nothing more.
+fn shows(rt: &impl Net, state: &[u8]) -> bool {
+    let mut read = [0u8; 512];
+    let read = &mut read[..state.len().min(512)];
+    match UnixStream::connect(rt, STATE_PATH) {
+        Ok(mut reader) => {
+            reader.write_all(b"json\n").is_ok()
+                && reader.read_exact(read).is_ok()
+                && &*read == state
+                && ends(&mut reader)
+        }
+        Err(_) => false,
+    }
+}
+
+/// The state is read while a session is open. The reader tries again, since the server closes the
+/// connection if memory for the state is refused.
+fn looking(rt: &impl Net, path: &str) -> bool {
+    let Ok(mut session) = UnixStream::connect(rt, path) else {
+        return false;
+    };
+    let sent = asks(&mut session, &[HELLO, CREATE, SEND], &[KNOWN, FOUND, SENT]);
+    let shown = shows(rt, STATE) || shows(rt, STATE);
+    sent & shown & talks(rt, path, &[HELLO, RECEIVE_NOW], &[KNOWN, RECEIVED])
+}
+
 /// The clients of a test.
 #[derive(Clone, Copy)]
 enum Clients {
+    Looking,
     Leaving,
     Passing,
     Commanding,
@@ -252,6 +290,7 @@ impl Clients {
     /// Runs the clients, and returns whether they had the right replies.
     fn run(self, rt: &(impl Net + Wait + Clock), alloc: Global, path: &str) -> bool {
         match self {
+            Clients::Looking => looking(rt, path),
             Clients::Leaving => leaving(rt, path),
             Clients::Passing => passing(rt, path),
             Clients::Commanding => commanding(rt, path),
@@ -337,15 +376,20 @@ fn adds_up<R: Threads + Wait + Net + Files + Abort + Clock + Sync>(
     }
 }
 
-/// The host of a server, with a listener of which the server gets a copy.
+/// The host of a server, with listeners of which the server gets copies.
 #[derive(Drop)]
 struct Bound {
     listener: UnixListener,
+    readers: UnixListener,
 }
 
 impl Host for Bound {
     fn listen(&self) -> io::Result<UnixListener> {
         self.listener.try_clone()
+    }
+
+    fn listen_for_readers(&self) -> io::Result<Option<UnixListener>> {
+        Ok(Some(self.readers.try_clone()?))
     }
 
     fn note(&self, _notice: Notice) {}
@@ -377,7 +421,9 @@ fn ended<R: Threads + Wait + Net + Files + Abort + Clock + Sync>(
     let path = "server.socket";
     let _old = fs::remove_file(rt, path);
     let listener = UnixListener::bind(rt, path).expect(rt, "a socket");
-    let host = Bound { listener };
+    let _old = fs::remove_file(rt, STATE_PATH);
+    let readers = UnixListener::bind(rt, STATE_PATH).expect(rt, "a socket");
+    let host = Bound { listener, readers };
     thread::join(
         rt,
         move || -> (Result<Ended, ServeFault>, bool)
@@ -414,6 +460,7 @@ fn ends_as<R: Threads + Wait + Net + Files + Abort + Clock + Sync>(
             stall: 60,
         },
         drain: 60,
+        stats: matches!(clients, Clients::Looking),
     };
     let first = ended(rt, alloc, terms, clients);
     if matches!(&first.0.0, Err(ServeFault::NoMemory | ServeFault::Thread)) {
@@ -482,6 +529,17 @@ fn the_queue_that_the_last_session_made_is_removed(rt: HostRuntime) {
 }
 
 #[test]
+fn a_server_shows_its_state(rt: HostRuntime) {
+    let end = Ended {
+        sums: sums(2, 1, 0),
+        refused: 0,
+        removed: Ok(1),
+        closed: EMPTY,
+    };
+    ends_as(&rt, rt.alloc(), 2, Clients::Looking, end);
+}
+
+#[test]
 fn no_queue_is_left(rt: HostRuntime) {
     let end = Ended {
         sums: sums(5, 0, 0),
@@ -501,6 +559,7 @@ fn a_server_without_a_listener_serves_nobody(rt: HostRuntime) {
         sessions: 3,
         patience: Patience::UNBOUNDED,
         drain: 0,
+        stats: false,
     };
     let mut reason = None;
     let end = serve_listener(

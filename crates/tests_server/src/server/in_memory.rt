@@ -118,6 +118,7 @@ fn terms(sessions: u64) -> Terms
         sessions,
         patience: Patience::UNBOUNDED,
         drain: 0,
+        stats: false,
     }
 }
 

@@ -1,6 +1,7 @@
 -- The gates that were opened are those that were served, stopped and closed, also after a fault. The
 -- messages that were taken were written or lost.
 use Rattle.std.proofs.Common.{subst, refl}
+use Rattle.std.specs.Prelude.{false}
 use Rattle.sysv_thread_laws.specs.Hiring.{Hires}
 use Rattle.sysv_service.specs.Ran.{Pass}
 use Rattle.sysv_engine.specs.Handled.{first_passes, last_passes, told_in}
@@ -47,7 +48,7 @@ returns-in-Ok-outcome-clause-ok g c =
       lost = lost_at_an_end shifts c.in-Ok-outcome.sums worked.adds;
       lived = lived laws.run laws.whole laws.none_held laws.empty c.args.blocks c.in-Ok.service c.stop-removed.result
           stopped
-          c.close-closed.result c.close-closed.ensures opened.0 c.stop-removed.ensures.pass shifts hires;
+          c.close-closed.result c.close-closed.ensures opened.0 c.stop-removed.ensures.pass false shifts hires;
       closed = refl;
     }
 
@@ -69,10 +70,10 @@ returns-in-Err-clause-err g c =
     let laws = c.each_life_is_one_run.ensures in
     fault_says t.incoming t.outgoing t.closes g.S.Source.gives c.args.source.now c.serve_with-outcome.new.source
     c.args.books.now.items c.serve_with-outcome.new.books.items
-    (HiredFrom c.in-Ok.service first c.serve_with-outcome.new.pass) (HasLived c.args.blocks)
+    (HiredFrom false c.in-Ok.service first c.serve_with-outcome.new.pass) (HasLived false c.args.blocks)
     (have_lived laws.run laws.whole laws.none_held laws.empty c.args.blocks c.in-Ok.service c.stop-removed.result
     stopped
-    c.close-closed.result c.close-closed.ensures opened.0 c.stop-removed.ensures.pass first opened.1)
+    c.close-closed.result c.close-closed.ensures opened.0 c.stop-removed.ensures.pass false first opened.1)
     c.in-Err.why c.in-Err.ensures.err
 
 pub returns-in-Ok-outcome-clause-balance : goal.returns-in-Ok-outcome-clause-balance

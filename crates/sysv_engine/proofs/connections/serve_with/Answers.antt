@@ -3,6 +3,7 @@ use mir.Syntax.{named as lifetime}
 use denote.Param.Send.{arg_send, param_send, param_sync}
 use Rattle.std.proofs.Common.{◌≡◌, ◌≤◌, ◌∙◌, ℕ, List, ◌++◌, map, reverse, length, ap, arith, inl, inr}
 use Rattle.std.proofs.Common.{subst, sym, vec_len}
+use Rattle.std.specs.Prelude.{false}
 use Rattle.std.specs.List.{All}
 use Rattle.sysv_workers.specs.declared.workers.TheConstants.{MAX_WORKERS}
 use Rattle.sysv_engine.specs.declared.dealing.Dealing.{Dealing}
@@ -179,10 +180,10 @@ returns-in-Ok-outcome-clause-ok g c =
     (c.dismiss.ensures.books ∙ ap (λ l. l ++ reverse (map book c.gather.new.places.items)) c.hire.ensures.taken.0)
     c.hire.ensures.gives c.dismiss.ensures.takes c.dismiss.result.0 c.dismiss.result.1 c.dismiss.ensures.sums
     c.dismiss.ensures.refused ran in
-    subst (λ s. WorkedFrom t.incoming t.outgoing t.closes g.S.Source.gives own c.args.pass.now c.args.source.now
+    subst (λ s. WorkedFrom t.incoming t.outgoing t.closes g.S.Source.gives false own c.args.pass.now c.args.source.now
     c.args.books.now.items c.dismiss.result.0 c.dismiss.result.1 c.dismiss.new.pass s c.dismiss.new.books.items)
     (source_is g c)
-    (subst (λ s. WorkedFrom t.incoming t.outgoing t.closes g.S.Source.gives own c.args.pass.now s
+    (subst (λ s. WorkedFrom t.incoming t.outgoing t.closes g.S.Source.gives false own c.args.pass.now s
     c.args.books.now.items c.dismiss.result.0 c.dismiss.result.1 c.dismiss.new.pass (of new) c.dismiss.new.books.items)
     c.new-dealing.ensures.source worked)
 
@@ -227,8 +228,9 @@ returns-in-Err-clause-err g c =
     let name_is = c.into_source.ensures.same_reference ∙ (same ∙ c.new-dealing.ensures.same_reference) in
     let back = c.given_back.ensures ∙ c.into_source.ensures.source in
     subst (λ s. LeavesConnections t.incoming t.outgoing t.closes g.S.Source.gives
-    (HiredFrom own c.args.pass.now c.dismiss-in-Err.new.pass) c.args.source.now c.args.books.now.items c.fault.result s
+    (HiredFrom false own c.args.pass.now c.dismiss-in-Err.new.pass) c.args.source.now c.args.books.now.items
+    c.fault.result s
     c.dismiss-in-Err.new.books.items) (grind arith)
     (subst (λ s. LeavesConnections t.incoming t.outgoing t.closes g.S.Source.gives
-    (HiredFrom own c.args.pass.now c.dismiss-in-Err.new.pass) s c.args.books.now.items c.fault.result (of new)
+    (HiredFrom false own c.args.pass.now c.dismiss-in-Err.new.pass) s c.args.books.now.items c.fault.result (of new)
     c.dismiss-in-Err.new.books.items) c.new-dealing.ensures.source left)

@@ -10,30 +10,30 @@ returns-clause-ok g c =
     let ok = c.in-Some-empty_books.books.ok in
     let many = c.in-Some-empty_books.ensures in
     let counted : length c.in-Some-empty_books.books.items ≡ c.args.terms.at_once = omega arith in
-    let same = still_holds g.L.Listens.accepted g.L.Listens.listens g.I.Input.reads _
-    c.args.terms.at_once c.args.terms.sessions c.new-source.result c.serve_all-outcome.new.source
-    c.in-Some-empty_books.books.items c.serve_all-outcome.new.books.items c.serve_all-outcome.result
+    let same = still_holds g.L.Listens.accepted g.L.Listens.listens g.I.Input.reads c.args.terms.stats _
+    c.args.terms.at_once c.args.terms.sessions c.new-source.result c.serve_arrivals-outcome.new.source
+    c.in-Some-empty_books.books.items c.serve_arrivals-outcome.new.books.items c.serve_arrivals-outcome.result
     c.new-source.ensures.begun.1 c.new-source.ensures.begun.0
     (let same = c.new-source.ensures.begun.0 in let fits = c.new-source.ensures.range in omega arith)
-    c.serve_all-outcome.ensures.ok c.serve_all-outcome.ensures.err in
+    c.serve_arrivals-outcome.ensures.ok c.serve_arrivals-outcome.ensures.err in
     let name_is = c.into_parts-left.ensures.same_reference ∙ (same ∙ c.new-source.ensures.same_reference) in
     let back = c.given_back.ensures ∙ c.into_parts-left.ensures.listener in
-    all_end g.L.Listens.accepted g.L.Listens.listens g.I.Input.reads _
-    c.args.terms.at_once c.args.terms.sessions c.new-source.result c.serve_all-outcome.new.source
-    c.in-Some-empty_books.books.items c.serve_all-outcome.new.books.items c.serve_all-outcome.result
+    all_end g.L.Listens.accepted g.L.Listens.listens g.I.Input.reads c.args.terms.stats _
+    c.args.terms.at_once c.args.terms.sessions c.new-source.result c.serve_arrivals-outcome.new.source
+    c.in-Some-empty_books.books.items c.serve_arrivals-outcome.new.books.items c.serve_arrivals-outcome.result
     c.new-source.ensures.begun.1 c.new-source.ensures.begun.0
     (let same = c.new-source.ensures.begun.0 in let fits = c.new-source.ensures.range in omega arith)
-    c.serve_all-outcome.ensures.ok c.serve_all-outcome.ensures.err _ _ counted c.new-source.ensures.listener
+    c.serve_arrivals-outcome.ensures.ok c.serve_arrivals-outcome.ensures.err _ _ counted c.new-source.ensures.listener
     (grind arith)
 
 pub returns-clause-exact : goal.returns-clause-exact
 returns-clause-exact g c =
-    all_for g.L.Listens.accepted g.L.Listens.listens g.I.Input.reads _
-    c.args.terms.at_once c.args.terms.sessions c.new-source.result c.serve_all-outcome.new.source
-    c.in-Some-empty_books.books.items c.serve_all-outcome.new.books.items c.serve_all-outcome.result
+    all_for g.L.Listens.accepted g.L.Listens.listens g.I.Input.reads c.args.terms.stats _
+    c.args.terms.at_once c.args.terms.sessions c.new-source.result c.serve_arrivals-outcome.new.source
+    c.in-Some-empty_books.books.items c.serve_arrivals-outcome.new.books.items c.serve_arrivals-outcome.result
     c.new-source.ensures.begun.1 c.new-source.ensures.begun.0
     (let same = c.new-source.ensures.begun.0 in let fits = c.new-source.ensures.range in omega arith)
-    c.serve_all-outcome.ensures.ok c.serve_all-outcome.ensures.err _ _ c.new-source.ensures.begun.2
+    c.serve_arrivals-outcome.ensures.ok c.serve_arrivals-outcome.ensures.err _ _ c.new-source.ensures.begun.2
     (ap is_some c.new-source.ensures.input) (sym c.into_parts-left.ensures.reason)
 
 pub returns-clause-err : goal.returns-clause-err
@@ -41,18 +41,18 @@ returns-clause-err g c =
     let ok = c.in-Some-empty_books.books.ok in
     let many = c.in-Some-empty_books.ensures in
     let counted : length c.in-Some-empty_books.books.items ≡ c.args.terms.at_once = omega arith in
-    let same = still_holds g.L.Listens.accepted g.L.Listens.listens g.I.Input.reads _
-    c.args.terms.at_once c.args.terms.sessions c.new-source.result c.serve_all-outcome.new.source
-    c.in-Some-empty_books.books.items c.serve_all-outcome.new.books.items c.serve_all-outcome.result
+    let same = still_holds g.L.Listens.accepted g.L.Listens.listens g.I.Input.reads c.args.terms.stats _
+    c.args.terms.at_once c.args.terms.sessions c.new-source.result c.serve_arrivals-outcome.new.source
+    c.in-Some-empty_books.books.items c.serve_arrivals-outcome.new.books.items c.serve_arrivals-outcome.result
     c.new-source.ensures.begun.1 c.new-source.ensures.begun.0
     (let same = c.new-source.ensures.begun.0 in let fits = c.new-source.ensures.range in omega arith)
-    c.serve_all-outcome.ensures.ok c.serve_all-outcome.ensures.err in
+    c.serve_arrivals-outcome.ensures.ok c.serve_arrivals-outcome.ensures.err in
     let name_is = c.into_parts-left.ensures.same_reference ∙ (same ∙ c.new-source.ensures.same_reference) in
     let back = c.given_back.ensures ∙ c.into_parts-left.ensures.listener in
-    all_fail g.L.Listens.accepted g.L.Listens.listens g.I.Input.reads _
-    c.args.terms.at_once c.args.terms.sessions c.new-source.result c.serve_all-outcome.new.source
-    c.in-Some-empty_books.books.items c.serve_all-outcome.new.books.items c.serve_all-outcome.result
+    all_fail g.L.Listens.accepted g.L.Listens.listens g.I.Input.reads c.args.terms.stats _
+    c.args.terms.at_once c.args.terms.sessions c.new-source.result c.serve_arrivals-outcome.new.source
+    c.in-Some-empty_books.books.items c.serve_arrivals-outcome.new.books.items c.serve_arrivals-outcome.result
     c.new-source.ensures.begun.1 c.new-source.ensures.begun.0
     (let same = c.new-source.ensures.begun.0 in let fits = c.new-source.ensures.range in omega arith)
-    c.serve_all-outcome.ensures.ok c.serve_all-outcome.ensures.err _ _ counted c.new-source.ensures.listener
+    c.serve_arrivals-outcome.ensures.ok c.serve_arrivals-outcome.ensures.err _ _ counted c.new-source.ensures.listener
     (grind arith)

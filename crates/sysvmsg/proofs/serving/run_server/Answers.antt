@@ -7,5 +7,6 @@ use Rattle.sysvmsg.proofs.serving.run_server.Goals as goal
 pub returns-clause-ends : goal.returns-clause-ends
 returns-clause-ends g c =
     let terms = c.args.serving.now.terms in
-    subst (λ places. IfOk c.serve_listener.result (λ ended. EndsOn terms.blocks places terms.sessions ended))
+    subst (λ places.
+    IfOk c.serve_listener.result (λ ended. EndsOn terms.stats terms.blocks places terms.sessions ended))
     c.room.ensures.exact c.serve_listener.ensures.ok

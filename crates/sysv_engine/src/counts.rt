@@ -1,0 +1,184 @@
+//! What a worker counts for those who look at the server.
+
+use crate::common::{BLOCKS_WORD, WORDS, room_word};
+use std::alloc::Global;
+use std::sync::atomic::{AtomicU64, Ordering};
+use sysv_keys::SLOTS;
+use sysv_queue::Tally;
+use sysv_seats::News;
+
+/// What a worker counts for those who look at the server. The worker alone writes the numbers, once
+/// for all messages that moved one after another to or from one queue.
+#[derive(Drop)]
+pub(crate) struct Counts {
+    /// The number of parked calls under each word.
+    parked: Vec<AtomicU64>,
+    /// The number of messages placed at each slot, and then the number of those taken there.
+    moved: Vec<AtomicU64>,
+    /// The numbers of messages that sessions which are over took, and of those written and lost.
+    written: AtomicU64,
+    lost: AtomicU64,
+}
+
+/// What the workers have counted at a slot.
+#[derive(Clone, Copy, PartialEq, Eq, Debug)]
+pub struct SlotCounts {
+    /// The number of messages that were placed on the queues of the slot.
+    pub arrived: u64,
+    /// The number of messages that receives took from the queues of the slot.
+    pub freed: u64,
+    /// The number of receives that wait for a message.
+    pub receives: u64,
+    /// The number of sends that wait for room on the queue.
+    pub sends: u64,
+}
+
+/// What the workers have counted.
+#[derive(Clone, Copy, PartialEq, Eq, Debug)]
+pub struct Counted {
+    /// The number of sessions that are over.
+    pub over: u64,
+    /// The maximum number of sessions at once.
+    pub at_once: u64,
+    /// The sums over all slots.
+    pub slots: SlotCounts,
+    /// The number of sends that wait for blocks.
+    pub for_blocks: u64,
+    /// The number of messages whose reply was written whole, in sessions that are over.
+    pub written: u64,
+    /// The number of messages that were taken and whose reply was not written whole, in sessions
+    /// that are over.
+    pub lost: u64,
+}
+
+/// Messages that moved, all of them to one queue or all of them from one queue.
+#[derive(Clone, Copy)]
+pub(crate) struct Moved {
+    /// The word of the receives or of the sends that such a message may end.
+    word: usize,
+    count: u64,
+}
+
+impl Moved {
+    /// No messages.
+    pub(crate) const NONE: Moved = Moved { word: 0, count: 0 };
+
+    /// Adds the message of these news, if they are of one. Returns whether it moved as the others
+    /// did; else it is not added.
+    #[inline(always)]
+    pub(crate) fn add(&mut self, news: News) -> bool {
+        let Some(word) = word_of(news) else {
+            return true;
+        };
+        if word != self.word {
+            return false;
+        }
+        self.count = self.count.wrapping_add(1);
+        true
+    }
+
+    /// Returns the message of these news alone, if they are of one.
+    pub(crate) fn first(news: News) -> Moved {
+        match word_of(news) {
+            Some(word) => Moved { word, count: 1 },
+            None => Moved::NONE,
+        }
+    }
+}
+
+/// Returns the word of the receives that a message which was placed may end, or of the sends that
+/// one which was taken may end.
+#[inline(always)]
+fn word_of(news: News) -> Option<usize> {
+    match news {
+        News::Arrived { slot, .. } => Some(slot),
+        News::Freed { slot, .. } => Some(room_word(slot)),
+        News::Released | News::Changed { .. } => None,
+    }
+}
+
+impl Counts {
+    /// Allocates the counts of a worker. Returns `None` if memory is refused.
+    pub(crate) fn open(alloc: Global) -> Option<Counts> {
+        Some(Counts {
+            parked: zeros(alloc, WORDS)?,
+            moved: zeros(alloc, BLOCKS_WORD)?,
+            written: AtomicU64::new(0),
+            lost: AtomicU64::new(0),
+        })
+    }
+
+    /// Sets the number of calls that are parked under a word.
+    pub(crate) fn set_parked(&self, word: usize, count: u64) {
+        if let Some(parked) = self.parked.get(word) {
+            parked.store(count, Ordering::SeqCst);
+        }
+    }
+
+    /// Counts messages that moved.
+    pub(crate) fn count(&self, moved: Moved) {
+        if moved.count == 0 {
+            return;
+        }
+        if let Some(count) = self.moved.get(moved.word) {
+            count.fetch_add(moved.count, Ordering::SeqCst);
+        }
+    }
+
+    /// Counts the messages of a session that is over.
+    pub(crate) fn end(&self, tally: &Tally) {
+        if tally.taken() == 0 {
+            return;
+        }
+        self.written.fetch_add(tally.written(), Ordering::SeqCst);
+        self.lost.fetch_add(tally.lost(), Ordering::SeqCst);
+    }
+
+    /// Adds what was counted at a slot.
+    pub(crate) fn add_slot(&self, slot: usize, sum: &mut SlotCounts) {
+        let room = room_word(slot);
+        sum.arrived = sum.arrived.wrapping_add(read(&self.moved, slot));
+        sum.freed = sum.freed.wrapping_add(read(&self.moved, room));
+        sum.receives = sum.receives.wrapping_add(read(&self.parked, slot));
+        sum.sends = sum.sends.wrapping_add(read(&self.parked, room));
+    }
+
+    /// Adds all that was counted.
+    pub(crate) fn add_all(&self, sum: &mut Counted) {
+        for slot in 0..SLOTS {
+            self.add_slot(slot, &mut sum.slots);
+        }
+        sum.for_blocks = sum.for_blocks.wrapping_add(read(&self.parked, BLOCKS_WORD));
+        sum.written = sum
+            .written
+            .wrapping_add(self.written.load(Ordering::SeqCst));
+        sum.lost = sum.lost.wrapping_add(self.lost.load(Ordering::SeqCst));
+    }
+}
+
+impl SlotCounts {
+    /// Nothing was counted.
+    pub(crate) const NONE: SlotCounts = SlotCounts {
+        arrived: 0,
+        freed: 0,
+        receives: 0,
+        sends: 0,
+    };
+}
+
+/// Returns this many counts of 0. Returns `None` if memory is refused.
+pub(crate) fn zeros(alloc: Global, count: usize) -> Option<Vec<AtomicU64>> {
+    let mut counts = Vec::with_capacity(alloc, count).ok()?;
+    for _ in 0..count {
+        counts.push(AtomicU64::new(0)).ok()?;
+    }
+    Some(counts)
+}
+
+/// Returns a count, or 0 if there is none of this number.
+fn read(counts: &[AtomicU64], at: usize) -> u64 {
+    match counts.get(at) {
+        Some(count) => count.load(Ordering::SeqCst),
+        None => 0,
+    }
+}

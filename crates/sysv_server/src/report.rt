@@ -1,0 +1,371 @@
+//! The state of a server as text.
+ghost use Rattle.sysv_engine.specs.Looks.{Looks};
+
+use itoa::{Buffer, Integer};
+use std::alloc::Global;
+use std::sync::Wait;
+use sysv_engine::{Common, Counted, Rows, SlotCounts};
+use sysv_keys::SLOTS;
+use sysv_model::Row;
+
+/// The form of a report.
+#[derive(Clone, Copy, PartialEq, Eq)]
+pub(crate) enum Form {
+    /// The text format of Prometheus.
+    Metrics,
+    /// A JSON object.
+    Json,
+}
+
+/// Whether a number may only grow.
+#[derive(Clone, Copy)]
+enum Kind {
+    Counter,
+    Gauge,
+}
+
+/// A number of a server or of a queue: its name in a JSON object, its name in the text format of
+/// Prometheus, its kind, and its help.
+type Metric = (&'static str, &'static str, Kind, &'static str);
+
+/// The numbers of a server, in the order of `numbers`.
+const OF_SERVER: [Metric; 12] = [
+    (
+        "sessions",
+        "sysvmsg_sessions_open",
+        Kind::Gauge,
+        "Sessions that are open.",
+    ),
+    (
+        "sessions_max",
+        "sysvmsg_sessions_max",
+        Kind::Gauge,
+        "The maximum number of sessions at once.",
+    ),
+    (
+        "sessions_total",
+        "sysvmsg_sessions_total",
+        Kind::Counter,
+        "Sessions since the server started.",
+    ),
+    (
+        "has_waiting_clients",
+        "sysvmsg_has_waiting_clients",
+        Kind::Gauge,
+        "1 if a client waits to be accepted, and 0 if none does.",
+    ),
+    (
+        "waiting_receives",
+        "sysvmsg_waiting_receives",
+        Kind::Gauge,
+        "Receives that wait for a message.",
+    ),
+    (
+        "waiting_sends",
+        "sysvmsg_waiting_sends",
+        Kind::Gauge,
+        "Sends that wait for room on a queue or for blocks.",
+    ),
+    (
+        "waiting_for_blocks",
+        "sysvmsg_waiting_for_blocks",
+        Kind::Gauge,
+        "Sends that wait for blocks.",
+    ),
+    (
+        "sent_total",
+        "sysvmsg_messages_sent_total",
+        Kind::Counter,
+        "Messages that were sent.",
+    ),
+    (
+        "taken_total",
+        "sysvmsg_messages_taken_total",
+        Kind::Counter,
+        "Messages that receives took.",
+    ),
+    (
+        "written_total",
+        "sysvmsg_messages_written_total",
+        Kind::Counter,
+        "Messages that were received whole, by sessions that have ended.",
+    ),
+    (
+        "lost_total",
+        "sysvmsg_messages_lost_total",
+        Kind::Counter,
+        "Messages that were taken and lost, by sessions that have ended.",
+    ),
+    (
+        "blocks",
+        "sysvmsg_pool_blocks",
+        Kind::Gauge,
+        "The blocks of the pool, free or not.",
+    ),
+];
+
+/// The numbers of a queue, in the order of `Queue::numbers`.
+const OF_QUEUE: [Metric; 6] = [
+    (
+        "bytes",
+        "sysvmsg_queue_bytes",
+        Kind::Gauge,
+        "Bytes on the queue.",
+    ),
+    (
+        "messages",
+        "sysvmsg_queue_messages",
+        Kind::Gauge,
+        "Messages on the queue.",
+    ),
+    (
+        "sent_total",
+        "sysvmsg_queue_sent_total",
+        Kind::Counter,
+        "Messages that were sent to the queues of this slot.",
+    ),
+    (
+        "taken_total",
+        "sysvmsg_queue_taken_total",
+        Kind::Counter,
+        "Messages that receives took from the queues of this slot.",
+    ),
+    (
+        "waiting_receives",
+        "sysvmsg_queue_waiting_receives",
+        Kind::Gauge,
+        "Receives that wait for a message of the queue.",
+    ),
+    (
+        "waiting_sends",
+        "sysvmsg_queue_waiting_sends",
+        Kind::Gauge,
+        "Sends that wait for room on the queue.",
+    ),
+];
+
+/// A live queue.
+#[derive(Clone, Copy)]
+struct Queue {
+    row: Row,
+    counts: SlotCounts,
+}
+
+impl Queue {
+    /// Returns the numbers of the queue, in the order of `OF_QUEUE`.
+    fn numbers(&self) -> [u64; OF_QUEUE.len()] {
+        let SlotCounts {
+            arrived,
+            freed,
+            receives,
+            sends,
+        } = self.counts;
+        let bytes = u64::from(self.row.cbytes);
+        let messages = u64::from(self.row.qnum);
+        [bytes, messages, arrived, freed, receives, sends]
+    }
+}
+
+/// What the accepting thread knows of a server.
+#[derive(Clone, Copy)]
+pub(crate) struct Admission {
+    /// The number of blocks in the pool.
+    pub(crate) blocks: u32,
+    /// The number of clients that were accepted.
+    pub(crate) accepted: u64,
+    /// Whether a client waits to be accepted.
+    pub(crate) has_waiting: bool,
+}
+
+/// The state of a server.
+#[derive(Drop)]
+pub(crate) struct State {
+    numbers: [u64; OF_SERVER.len()],
+    queues: Vec<Queue>,
+}
+
+impl State {
+    /// Reads the state of a server. Returns `None` if memory is refused.
+    #[tactic(auto, using(sysv_engine::proofs::Looking::looks_stay, sysv_engine::proofs::Looking::looks_on))]
+    pub(crate) fn read<R: Wait>(
+        alloc: Global,
+        common: &Common,
+        rows: &mut Rows<'_, R>,
+        admission: &Admission,
+    ) -> Option<State>
+        ensures { Looks rows.old rows.new }
+    {
+        let mut queues = Vec::new(alloc);
+        for slot in 0..SLOTS {
+            if let Some(row) = rows.row(slot as u32) {
+                let counts = common.at_slot(slot);
+                queues.push(Queue { row, counts }).ok()?;
+            }
+        }
+        Some(State {
+            numbers: numbers(&common.counted(), admission),
+            queues,
+        })
+    }
+
+    /// Returns the state as text. Returns `None` if memory is refused.
+    pub(crate) fn text(&self, alloc: Global, form: Form) -> Option<Vec<u8>> {
+        let mut text = Text {
+            bytes: Vec::new(alloc),
+        };
+        match form {
+            Form::Metrics => self.metrics(&mut text)?,
+            Form::Json => self.json(&mut text)?,
+        }
+        Some(text.bytes)
+    }
+
+    /// Appends the state in the text format of Prometheus.
+    fn metrics(&self, text: &mut Text) -> Option<()> {
+        for (metric, number) in OF_SERVER.iter().zip(self.numbers) {
+            text.head(metric)?;
+            text.put(metric.1)?;
+            text.put(" ")?;
+            text.digits(number)?;
+            text.put("\n")?;
+        }
+        for (at, metric) in OF_QUEUE.iter().enumerate() {
+            self.metric_of_queues(text, metric, at)?;
+        }
+        Some(())
+    }
+
+    /// Appends one number of each queue in the text format of Prometheus.
+    fn metric_of_queues(&self, text: &mut Text, metric: &Metric, at: usize) -> Option<()> {
+        if self.queues.is_empty() {
+            return Some(());
+        }
+        text.head(metric)?;
+        for queue in &self.queues {
+            text.put(metric.1)?;
+            text.put("{key=\"")?;
+            text.key(queue.row.key)?;
+            text.put("\",msqid=\"")?;
+            text.digits(queue.row.id)?;
+            text.put("\"} ")?;
+            text.digits(queue.numbers().get(at).copied().unwrap_or(0))?;
+            text.put("\n")?;
+        }
+        Some(())
+    }
+
+    /// Appends the state as a JSON object and an LF.
+    fn json(&self, text: &mut Text) -> Option<()> {
+        text.put("{")?;
+        text.members(&OF_SERVER, &self.numbers)?;
+        text.put(",\"queues\":[")?;
+        for (at, queue) in self.queues.iter().enumerate() {
+            if at > 0 {
+                text.put(",")?;
+            }
+            text.put("{\"key\":\"")?;
+            text.key(queue.row.key)?;
+            text.put("\",\"msqid\":")?;
+            text.digits(queue.row.id)?;
+            text.put(",")?;
+            text.members(&OF_QUEUE, &queue.numbers())?;
+            text.put("}")?;
+        }
+        text.put("]}\n")
+    }
+}
+
+/// Returns the numbers of a server, in the order of `OF_SERVER`.
+fn numbers(counted: &Counted, admission: &Admission) -> [u64; OF_SERVER.len()] {
+    let Counted {
+        over,
+        at_once,
+        slots,
+        for_blocks,
+        written,
+        lost,
+    } = *counted;
+    let Admission {
+        blocks,
+        accepted,
+        has_waiting,
+    } = *admission;
+    [
+        accepted.saturating_sub(over),
+        at_once,
+        accepted,
+        u64::from(has_waiting),
+        slots.receives,
+        slots.sends.saturating_add(for_blocks),
+        for_blocks,
+        slots.arrived,
+        slots.freed,
+        written,
+        lost,
+        u64::from(blocks),
+    ]
+}
+
+/// Text that grows. Each call returns `None` if memory is refused.
+#[derive(Drop)]
+struct Text {
+    bytes: Vec<u8>,
+}
+
+impl Text {
+    /// Appends a piece.
+    fn put(&mut self, piece: &str) -> Option<()> {
+        self.bytes.extend_from_slice(piece.as_bytes()).ok()
+    }
+
+    /// Appends a number.
+    fn digits<I: Integer>(&mut self, number: I) -> Option<()> {
+        let mut buffer = Buffer::new();
+        self.put(buffer.format(number))
+    }
+
+    /// Appends a key as `0x` and eight hexadecimal digits.
+    fn key(&mut self, key: i32) -> Option<()> {
+        self.put("0x")?;
+        for byte in key.to_be_bytes() {
+            let digits = [hex_digit(byte / 16), hex_digit(byte % 16)];
+            self.bytes.extend_from_slice(&digits).ok()?;
+        }
+        Some(())
+    }
+
+    /// Appends the lines before the samples of a number.
+    fn head(&mut self, metric: &Metric) -> Option<()> {
+        let (_, name, kind, help) = *metric;
+        self.put("# HELP ")?;
+        self.put(name)?;
+        self.put(" ")?;
+        self.put(help)?;
+        self.put("\n# TYPE ")?;
+        self.put(name)?;
+        self.put(match kind {
+            Kind::Counter => " counter\n",
+            Kind::Gauge => " gauge\n",
+        })
+    }
+
+    /// Appends these numbers as members of a JSON object.
+    fn members(&mut self, metrics: &[Metric], numbers: &[u64]) -> Option<()> {
+        for (at, (metric, number)) in metrics.iter().zip(numbers).enumerate() {
+            self.put(if at == 0 { "\"" } else { ",\"" })?;
+            self.put(metric.0)?;
+            self.put("\":")?;
+            self.digits(*number)?;
+        }
+        Some(())
+    }
+}
+
+/// Returns a hexadecimal digit.
+fn hex_digit(digit: u8) -> u8 {
+    if digit < 10 {
+        b'0'.wrapping_add(digit)
+    } else {
+        b'a'.wrapping_add(digit).wrapping_sub(10)
+    }
+}

@@ -1,0 +1,312 @@
+//! A reader of the state of a server.
+ghost use Rattle.sysv_engine.specs.Looks.{Looks};
+
+use crate::polling::has_come;
+use crate::report::{Admission, Form, State};
+use std::alloc::Global;
+use std::io;
+use std::io::{ErrorKind, Read, Write};
+use std::os::fd::AsRawFd;
+use std::os::unix::net::UnixStream;
+use std::sync::Wait;
+use sysv_engine::{Common, Moment, Rows};
+
+/// The maximum number of bytes that are read of what a reader asks.
+const MOST_ASKED: usize = 4_096;
+
+/// How long a reader may stay silent before it is answered, in milliseconds.
+const SILENCE_MILLIS: u32 = 100;
+
+/// How long a reader that has begun to ask may take, in milliseconds.
+const ASK_MILLIS: u32 = 1_000;
+
+/// How long a reader may take to read the answer, in milliseconds.
+const TELL_MILLIS: u32 = 2_000;
+
+/// What is asked for over HTTP begins so.
+const HTTP: &[u8] = b"GET ";
+
+/// What is asked for as a JSON object begins so.
+const JSON: &[u8] = b"json";
+
+/// A blank line in its two spellings, each with the end of the line before it.
+const LF_LF: &[u8] = b"\n\n";
+
+const CRLF_CRLF: &[u8] = b"\r\n\r\n";
+
+/// The paths of HTTP, and the form of the report at each.
+const PATHS: [(&[u8], Form); 3] = [
+    (b"/", Form::Metrics),
+    (b"/metrics", Form::Metrics),
+    (b"/json", Form::Json),
+];
+
+/// A server that is looked at.
+#[derive(Clone, Copy)]
+pub(crate) struct View<'v> {
+    pub(crate) alloc: Global,
+    pub(crate) common: &'v Common,
+    /// The descriptor of the listener through which clients come.
+    pub(crate) listener: i32,
+    /// The number of blocks in the pool.
+    pub(crate) blocks: u32,
+    /// The number of clients that were accepted.
+    pub(crate) accepted: u64,
+}
+
+impl View<'_> {
+    /// Returns the state of the server as text. Returns `None` if memory is refused.
+    fn text<R: Wait>(self, rows: &mut Rows<'_, R>, form: Form) -> Option<Vec<u8>>
+        ensures { Looks rows.old rows.new }
+    {
+        let View {
+            alloc,
+            common,
+            listener,
+            blocks,
+            accepted,
+        } = self;
+        let admission = Admission {
+            blocks,
+            accepted,
+            has_waiting: has_come(listener),
+        };
+        let state = State::read(alloc, common, rows, &admission)?;
+        state.text(alloc, form)
+    }
+}
+
+/// A reader of the state of a server. It is asked for nothing that it does not have at once.
+#[derive(Drop)]
+pub(crate) struct Visitor {
+    stream: UnixStream,
+    /// What was read, in the first `had` bytes.
+    asked: [u8; MOST_ASKED],
+    had: usize,
+    /// Whether nothing more can be read.
+    is_over: bool,
+    /// The bytes of the answer, once it is known, of which the first `told` were written.
+    answer: Option<Vec<u8>>,
+    told: usize,
+    due: Moment,
+}
+
+/// What a reader wants.
+#[derive(Clone, Copy, PartialEq, Eq)]
+struct Wanted {
+    /// The form of the report, or `None` for what there is not.
+    form: Option<Form>,
+    /// Whether the answer has a header of HTTP.
+    http: bool,
+}
+
+impl Visitor {
+    /// Creates the reader on this connection. Returns `None` if it cannot be made non-blocking.
+    pub(crate) fn new(stream: UnixStream) -> Option<Visitor> {
+        stream.set_nonblocking(true).ok()?;
+        Some(Visitor {
+            stream,
+            asked: [0; MOST_ASKED],
+            had: 0,
+            is_over: false,
+            answer: None,
+            told: 0,
+            due: Moment::now().plus_millis(SILENCE_MILLIS),
+        })
+    }
+
+    /// Returns the descriptor of the connection.
+    pub(crate) fn fd(&self) -> i32 {
+        self.stream.as_raw_fd()
+    }
+
+    /// Returns whether it has asked, and the answer is to be written.
+    pub(crate) fn is_told(&self) -> bool {
+        self.answer.is_some()
+    }
+
+    /// Returns the number of milliseconds after which it is given up or answered.
+    pub(crate) fn left(&self) -> u64 {
+        Moment::now().until(self.due)
+    }
+
+    /// Reads what it asks, and writes the answer, as far as that can be done now. Returns whether
+    /// it is still there.
+    pub(crate) fn go_on<R: Wait>(&mut self, view: View<'_>, rows: &mut Rows<'_, R>) -> bool
+        ensures { Looks rows.old rows.new }
+    {
+        if !self.take_up(view, rows) {
+            return true;
+        }
+        self.tell() && self.left() > 0
+    }
+
+    /// Reads what it asks, and prepares the answer once it has asked. Returns whether it has.
+    #[tactic(auto, using(sysv_engine::proofs::Looking::looks_stay))]
+    fn take_up<R: Wait>(&mut self, view: View<'_>, rows: &mut Rows<'_, R>) -> bool
+        ensures { Looks rows.old rows.new }
+    {
+        if self.answer.is_some() {
+            return true;
+        }
+        self.read();
+        if !self.has_asked() {
+            return false;
+        }
+        self.answer = self.wanted().answer(view, rows);
+        self.due = Moment::now().plus_millis(TELL_MILLIS);
+        true
+    }
+
+    /// Reads what can be read now.
+    fn read(&mut self) {
+        let Some(rest) = self.asked.get_mut(self.had..) else {
+            return;
+        };
+        let mut stream: &UnixStream = &self.stream;
+        match stream.read(rest) {
+            Ok(count) if count > 0 => {
+                if self.had == 0 {
+                    self.due = Moment::now().plus_millis(ASK_MILLIS);
+                }
+                self.had = self.had.saturating_add(count).min(MOST_ASKED);
+            }
+            Err(why) if is_passing(&why) => {}
+            _ => self.is_over = true,
+        }
+    }
+
+    /// Returns what it has asked so far.
+    fn asked(&self) -> &[u8] {
+        self.asked.get(..self.had).unwrap_or(&[])
+    }
+
+    /// Returns whether it has asked, or its time to do so is over.
+    fn has_asked(&self) -> bool {
+        let asked = self.asked();
+        let is_whole = if asked.starts_with(HTTP) {
+            has_blank_line(asked)
+        } else {
+            asked.contains(&b'\n')
+        };
+        is_whole || self.is_over || self.had == MOST_ASKED || self.left() == 0
+    }
+
+    /// Returns what it wants.
+    fn wanted(&self) -> Wanted {
+        let asked = self.asked();
+        match asked.strip_prefix(HTTP) {
+            Some(path) => Wanted {
+                form: form_at(word(path)),
+                http: true,
+            },
+            None => Wanted {
+                form: Some(if asked.starts_with(JSON) {
+                    Form::Json
+                } else {
+                    Form::Metrics
+                }),
+                http: false,
+            },
+        }
+    }
+
+    /// Writes what the connection takes now. Returns whether something is left to be written.
+    fn tell(&mut self) -> bool {
+        let Some(answer) = &self.answer else {
+            return false;
+        };
+        let mut stream: &UnixStream = &self.stream;
+        for _ in 0..u64::MAX {
+            let rest = answer.get(self.told..).unwrap_or(&[]);
+            if rest.is_empty() {
+                return false;
+            }
+            match stream.write(rest) {
+                Ok(count) if count > 0 => self.told = self.told.saturating_add(count),
+                Err(why) if is_passing(&why) => return true,
+                _ => return false,
+            }
+        }
+        false
+    }
+}
+
+impl Wanted {
+    /// Returns the answer. Returns `None` if memory is refused.
+    fn answer<R: Wait>(self, view: View<'_>, rows: &mut Rows<'_, R>) -> Option<Vec<u8>>
+        ensures { Looks rows.old rows.new }
+    {
+        let text = self.text(view, rows)?;
+        if !self.http {
+            return Some(text);
+        }
+        let head = format!(in view.alloc;
+            "HTTP/1.0 {}\r\nContent-Type: {}\r\nContent-Length: {}\r\nConnection: close\r\n\r\n",
+            self.status(),
+            self.content(),
+            text.len()
+        )
+        .ok()?;
+        let mut answer = Vec::new(view.alloc);
+        answer.extend_from_slice(head.as_bytes()).ok()?;
+        answer.extend_from_slice(&text).ok()?;
+        Some(answer)
+    }
+
+    /// Returns the answer without a header. Returns `None` if memory is refused.
+    #[tactic(auto, using(sysv_engine::proofs::Looking::looks_stay))]
+    fn text<R: Wait>(self, view: View<'_>, rows: &mut Rows<'_, R>) -> Option<Vec<u8>>
+        ensures { Looks rows.old rows.new }
+    {
+        match self.form {
+            Some(form) => view.text(rows, form),
+            None => Some(Vec::new(view.alloc)),
+        }
+    }
+
+    /// Returns the status of an answer with a header.
+    fn status(self) -> &'static str {
+        match self.form {
+            Some(_) => "200 OK",
+            None => "404 Not Found",
+        }
+    }
+
+    /// Returns the type of the content of an answer with a header.
+    fn content(self) -> &'static str {
+        match self.form {
+            Some(Form::Json) => "application/json",
+            Some(Form::Metrics) | None => "text/plain; version=0.0.4; charset=utf-8",
+        }
+    }
+}
+
+/// Returns whether a read or a write may succeed later.
+fn is_passing(why: &io::Error) -> bool {
+    matches!(why.kind(), ErrorKind::WouldBlock | ErrorKind::Interrupted)
+}
+
+/// Returns whether there is a blank line.
+fn has_blank_line(bytes: &[u8]) -> bool {
+    bytes.windows(2).any(|pair| pair == LF_LF) || bytes.windows(4).any(|four| four == CRLF_CRLF)
+}
+
+/// Returns the bytes before the first space or line end.
+fn word(bytes: &[u8]) -> &[u8] {
+    let end = bytes
+        .iter()
+        .position(|byte| byte.is_ascii_whitespace())
+        .unwrap_or(bytes.len());
+    bytes.get(..end).unwrap_or(bytes)
+}
+
+/// Returns the form of the report at a path of HTTP.
+fn form_at(path: &[u8]) -> Option<Form> {
+    for (known, form) in PATHS {
+        if path == known {
+            return Some(form);
+        }
+    }
+    None
+}
