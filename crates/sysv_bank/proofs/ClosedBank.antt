@@ -7,10 +7,10 @@ use lib.ListN.{get_elem?}
 use Rattle.atomic_table.specs.Table.{State, Final, Seen}
 use Rattle.sysv_lists.specs.Prefix.{IsPrefixOf}
 use Rattle.sysv_lists.proofs.Places.{at_below, at_snoc_place, there}
-use Rattle.sysv_gate.specs.declared.view.View.{View}
-use Rattle.sysv_gate.specs.declared.view.Sight.{Sight}
-use Rattle.sysv_gate.specs.declared.view.Placed.{Placed}
-use Rattle.sysv_gate.specs.declared.closing.Closing.{Closing}
+use Rattle.sysv_gate.specs.declared.table.view.View.{View}
+use Rattle.sysv_gate.specs.declared.table.view.Sight.{Sight}
+use Rattle.sysv_gate.specs.declared.table.view.Placed.{Placed}
+use Rattle.sysv_gate.specs.declared.gate.closing.Closing.{Closing}
 use Rattle.sysv_gate.specs.Rule.{Spot}
 use Rattle.sysv_gate.specs.Gates.{Holding}
 use Rattle.sysv_gate.specs.Closings.{IsBack, Closes}
@@ -20,7 +20,7 @@ use Rattle.sysv_gate.specs.Orders.{turns_at, AreBelow, NoneMadeUnder, AllMadeUnd
 use Rattle.sysv_gate.proofs.OneViewKeepsRule.{numbers_once}
 use Rattle.sysv_gate.proofs.TableShares.{all_mine}
 use Rattle.sysv_gate.specs.Shares.{IsWhole}
-use Rattle.sysv_gate.specs.Halls.{view_at, state_at, InOrder}
+use Rattle.sysv_gate.specs.Tables.{view_at, state_at, InOrder}
 use Rattle.sysv_gate.proofs.AtTheEnd as end
 use Rattle.sysv_bank.specs.declared.seat.BankSeat.TheInside.{Inside}
 use Rattle.sysv_bank.specs.Banks.{Each2}

@@ -1,8 +1,8 @@
 -- What the calls at a place leave of the numbers of a pass and of its own turns.
 use Rattle.std.proofs.Common.{◌≡◌, ℕ, ◌+◌, List, [], ◌∷◌, ◌++◌, length, ap, ◌∙◌, length-append}
 use Rattle.std.specs.Prelude.{Result, Ok, Err, IfOk, IfErr}
-use Rattle.sysv_gate.specs.declared.view.View.{View}
-use Rattle.sysv_gate.specs.declared.view.Turn.{Turn}
+use Rattle.sysv_gate.specs.declared.table.view.View.{View}
+use Rattle.sysv_gate.specs.declared.table.view.Turn.{Turn}
 use Rattle.sysv_gate.specs.declared.count.Count.{Count}
 use Rattle.sysv_gate.specs.declared.awaited.Awaited.{Awaited}
 use Rattle.sysv_gate.specs.declared.awaited.Awaited.TheVariants.{Reached}
@@ -12,7 +12,7 @@ use Rattle.sysv_gate.specs.declared.refusals.TryRefused.TheVariants.{Busy, Worn}
 use Rattle.sysv_gate.specs.declared.refusals.Worn.{Worn as WornCall}
 use Rattle.sysv_gate.specs.Steps.{Mine, turn_of}
 use Rattle.sysv_gate.specs.Turns.{HasWorn, HasRead, HasWaited}
-use Rattle.sysv_gate.specs.Doors.{HasCalled, HasTried}
+use Rattle.sysv_gate.specs.Locks.{HasCalled, HasTried}
 use Rattle.sysv_bank.specs.Resting.{IsNamedAs}
 
 -- The pass has the same numbers there, and no more turns.

@@ -12,10 +12,10 @@ use Rattle.atomic_table.specs.declared.shared.Seat.{Seat}
 use Rattle.sysv_lists.specs.Numbers.{times}
 use Rattle.sysv_lists.specs.Prefix.{IsPrefixOf}
 use Rattle.sysv_lists.proofs.Prefixes.{prefix_trans}
-use Rattle.sysv_gate.specs.declared.view.View.{View}
-use Rattle.sysv_gate.specs.declared.view.Turn.{Turn}
-use Rattle.sysv_gate.specs.declared.view.Placed.{Placed}
-use Rattle.sysv_gate.specs.declared.view.Sight.{Sight}
+use Rattle.sysv_gate.specs.declared.table.view.View.{View}
+use Rattle.sysv_gate.specs.declared.table.view.Turn.{Turn}
+use Rattle.sysv_gate.specs.declared.table.view.Placed.{Placed}
+use Rattle.sysv_gate.specs.declared.table.view.Sight.{Sight}
 use Rattle.sysv_gate.specs.Rule.{Spot}
 use Rattle.sysv_gate.specs.Steps.{spent}
 use Rattle.sysv_gate.specs.History.{IsLegal, after_all}
@@ -23,8 +23,8 @@ use Rattle.sysv_gate.specs.Gates.{Gateway, Holding, KnowsItsOwn}
 use Rattle.sysv_gate.specs.History.{made_at}
 use Rattle.sysv_gate.specs.Orders.{turns_at, AreBelow, NoneMadeUnder}
 use Rattle.sysv_gate.specs.Counts.{of_count}
-use Rattle.sysv_gate.specs.Halls.{view_at, ReadsInOrder, me_at}
-use Rattle.sysv_gate.specs.Doors.{Doorway, IsDoorOf, IsAt, IsSame, Idles, EndsOrder}
+use Rattle.sysv_gate.specs.Tables.{view_at, ReadsInOrder, me_at}
+use Rattle.sysv_gate.specs.Locks.{LockView, IsLockOf, IsAt, IsSame, Idles, EndsOrder}
 use Rattle.sysv_gate.proofs.OrderByPlace.{turns_append, turns_here, turns_longer, below_front}
 use Rattle.sysv_bank.specs.declared.seat.BankSeat.TheInside.{Inside}
 use Rattle.sysv_bank.specs.declared.bank.Bank.TheInside.{Inside as BankInside}
@@ -89,14 +89,14 @@ same_gates {O} t t' f f' (o ∷ os) (o' ∷ os') some_place is =
     objects : (ps qs : List O) → gateways t f ps ≡ gateways t' f' qs → ps ≡ qs
     objects ps qs is = sym (back t f ps) ∙ ap (map (λ (g : Gateway O). g.opening)) is ∙ back t' f' qs
 
--- Each place has a door.
-pub door_there : {O C R : Type 0} (counted : O → ℕ × ℕ) (b : BankInside O C R) (gates : List (Gateway O)) (place : ℕ) →
-    IsOpen counted b → gateways b.hall.shared.table_id b.key.first b.key.openings.value.items ≡ gates →
-    place < length gates → place < length b.doors.items
-door_there {O} counted b gates place opened viewed inside =
+-- Each place has a lock.
+pub lock_there : {O C R : Type 0} (counted : O → ℕ × ℕ) (b : BankInside O C R) (gates : List (Gateway O)) (place : ℕ) →
+    IsOpen counted b → gateways b.table.shared.table_id b.key.first b.key.openings.value.items ≡ gates →
+    place < length gates → place < length b.locks.items
+lock_there {O} counted b gates place opened viewed inside =
     let same : length gates ≡ length b.key.openings.value.items =
     ap length (sym viewed) ∙ length-map b.key.openings.value.items _ in
-    let many = opened.doors.0 in
+    let many = opened.locks.0 in
     omega arith
 
 -- The own turns of a pass in the order that it has seen, under the numbers that it has everywhere.
@@ -108,12 +108,13 @@ own_named moves s rest q p less =
 
 module _ {O C R : Type 0} (moves : O → C → R → O → Type 0) (counted : O → ℕ × ℕ) (b : BankInside O C R)
     (s : Inside O C R) (gates : List (Gateway O)) (pass : Pass O C R) (opened : IsOpen counted b) (rest : Rests moves s)
-    (viewed : gateways b.hall.shared.table_id b.key.first b.key.openings.value.items ≡ gates) (shown : pass_of s ≡ pass)
+    (viewed : gateways b.table.shared.table_id b.key.first b.key.openings.value.items ≡ gates)
+    (shown : pass_of s ≡ pass)
     (fit : gates_of pass.seats ≡ gates) where
   abbrev Openings : List O
   Openings = b.key.openings.value.items
 
-  pub same_table : (s.token.table_id ≡ b.hall.shared.table_id) × (s.key.value.first ≡ b.key.first)
+  pub same_table : (s.token.table_id ≡ b.table.shared.table_id) × (s.key.value.first ≡ b.key.first)
       × (s.key.value.openings.value.items ≡ Openings)
   same_table = same_gates _ _ _ _ _ _ opened.some_place
       (sym (gates_there s.token.table_id s.key.value.first s.key.value.openings.value.items s.token.me.0.views
@@ -122,61 +123,62 @@ module _ {O C R : Type 0} (moves : O → C → R → O → Type 0) (counted : O 
   pub many_gates : length gates ≡ length Openings
   many_gates = ap length (sym viewed) ∙ length-map Openings _
 
-  module _ (place : ℕ) (door : Doorway O) (inside : place < length gates)
-      (at : door ≡ get_or b.doors.items place door) where
+  module _ (place : ℕ) (lock : LockView O) (inside : place < length gates)
+      (at : lock ≡ get_or b.locks.items place lock) where
     opens_at : (o : O) × (get_elem? Openings place ≡ some o)
     opens_at = there Openings place (let same = many_gates in omega arith)
 
-    is_door : door ≡ record { place = place; opening = opens_at.0 }
-    is_door = at
-        ∙ read_at b.doors.items place door (record { place = place; opening = opens_at.0 })
-        (opened.doors.1 place opens_at.0 (let same = many_gates in omega arith) opens_at.1)
+    is_lock : lock ≡ record { place = place; opening = opens_at.0 }
+    is_lock = at
+        ∙ read_at b.locks.items place lock (record { place = place; opening = opens_at.0 })
+        (opened.locks.1 place opens_at.0 (let same = many_gates in omega arith) opens_at.1)
 
-    pub place_is : door.place ≡ place
-    place_is = ap (λ (d : Doorway O). d.place) is_door
+    pub place_is : lock.place ≡ place
+    place_is = ap (λ (d : LockView O). d.place) is_lock
 
-    pub opens : get_elem? Openings door.place ≡ some door.opening
-    opens = subst (λ (d : Doorway O). get_elem? Openings d.place ≡ some d.opening) (sym is_door) opens_at.1
+    pub opens : get_elem? Openings lock.place ≡ some lock.opening
+    opens = subst (λ (d : LockView O). get_elem? Openings d.place ≡ some d.opening) (sym is_lock) opens_at.1
 
     pub accepted : {D : Type 0} (made : O → C → R → O → Type 0) (accepts : O → D → Type 0) (call : D)
         → ((gate : Gateway O) → get_elem? gates place ≡ some gate → (log : List (Turn O C R))
         → IsLegal made gate.opening log → accepts (after_all gate.opening log) call)
-        → (log : List (Turn O C R)) → IsLegal made door.opening log → accepts (after_all door.opening log) call
+        → (log : List (Turn O C R)) → IsLegal made lock.opening log → accepts (after_all lock.opening log) call
     accepted made accepts call fits =
-        let gate : Gateway O = record { table = b.hall.shared.table_id; opening = door.opening; first = b.key.first } in
-        let there = at_map (λ (o : O). record { table = b.hall.shared.table_id; opening = o; first = b.key.first })
-        Openings place door.opening (subst (λ n. get_elem? Openings n ≡ some door.opening) place_is opens) in
+        let gate : Gateway O =
+        record { table = b.table.shared.table_id; opening = lock.opening; first = b.key.first } in
+        let there = at_map (λ (o : O). record { table = b.table.shared.table_id; opening = o; first = b.key.first })
+        Openings place lock.opening (subst (λ n. get_elem? Openings n ≡ some lock.opening) place_is opens) in
         fits gate (subst (λ gs. get_elem? gs place ≡ some gate) viewed there)
 
-    pub door_of : IsDoorOf b.hall.shared.table_id b.hall.shared.key.openings.value.items door
-    door_of = (
-      subst (λ (os : List O). get_elem? os door.place ≡ some door.opening)
+    pub lock_of : IsLockOf b.table.shared.table_id b.table.shared.key.openings.value.items lock
+    lock_of = (
+      subst (λ (os : List O). get_elem? os lock.place ≡ some lock.opening)
           (ap (λ k. k.openings.value.items) (sym opened.key)) opens,
       let words = opened.words in let same = many_gates in let is = place_is in omega arith,
     )
 
-    opens_mine : get_elem? s.key.value.openings.value.items door.place ≡ some door.opening
-    opens_mine = subst (λ (os : List O). get_elem? os door.place ≡ some door.opening) (sym same_table.2) opens
+    opens_mine : get_elem? s.key.value.openings.value.items lock.place ≡ some lock.opening
+    opens_mine = subst (λ (os : List O). get_elem? os lock.place ≡ some lock.opening) (sym same_table.2) opens
 
-    pub rests_there : RestsAt moves door.opening s.key.value.first (view_at door.place s.token.me.0)
-    rests_there = (rest.each door.place door.opening opens_mine).0
+    pub rests_there : RestsAt moves lock.opening s.key.value.first (view_at lock.place s.token.me.0)
+    rests_there = (rest.each lock.place lock.opening opens_mine).0
 
-    known : door.place < length s.token.me.0.views
+    known : lock.place < length s.token.me.0.views
     known =
-        let few = at_below s.key.value.openings.value.items door.place door.opening opens_mine in
+        let few = at_below s.key.value.openings.value.items lock.place lock.opening opens_mine in
         let many = rest.many in
         omega arith
 
-    pub is_at : IsAt b.hall.shared.table_id door s.token
+    pub is_at : IsAt b.table.shared.table_id lock s.token
     is_at = (
       same_table.0,
       known,
       rests_there.opening,
-      rest.no_slot ∙ sym (ap (map (λ (x : ℕ × Spot O C R). (door.place, x.1))) rest.no_slot),
-      (rest.each door.place door.opening opens_mine).1,
+      rest.no_slot ∙ sym (ap (map (λ (x : ℕ × Spot O C R). (lock.place, x.1))) rest.no_slot),
+      (rest.each lock.place lock.opening opens_mine).1,
     )
 
-    pub idles : Idles (me_at door.place s.token.me)
+    pub idles : Idles (me_at lock.place s.token.me)
     idles = record {
       no_slot = ap (map (λ (x : ℕ × Spot O C R). (0, x.1))) rest.no_slot;
       no_ticket = rests_there.no_ticket;
@@ -185,15 +187,15 @@ module _ {O C R : Type 0} (moves : O → C → R → O → Type 0) (counted : O 
     }
 
     -- After steps at the place.
-    module _ (token : Seat (Spot O C R) (Sight O C R)) (went : IsSame door.place s.token token) where
+    module _ (token : Seat (Spot O C R) (Sight O C R)) (went : IsSame lock.place s.token token) where
       abbrev Now : Inside O C R
       Now = record { token = token; key = s.key }
 
       abbrev Was : Holding O C R
-      Was = holding s.token.table_id s.key.value.first door.opening (view_at door.place s.token.me.0)
+      Was = holding s.token.table_id s.key.value.first lock.opening (view_at lock.place s.token.me.0)
 
       abbrev Is : Holding O C R
-      Is = holding token.table_id s.key.value.first door.opening (view_at door.place token.me.0)
+      Is = holding token.table_id s.key.value.first lock.opening (view_at lock.place token.me.0)
 
       pub gates_after : gates_of (pass_of Now).seats ≡ gates
       gates_after =
@@ -213,26 +215,26 @@ module _ {O C R : Type 0} (moves : O → C → R → O → Type 0) (counted : O 
         at = ap (λ (p : Pass O C R). get_elem? p.seats place) (sym shown)
             ∙ ap (λ (k : ℕ). get_elem? (pass_of s).seats k) (sym place_is)
             ∙ holding_at s.token.table_id s.key.value.first s.key.value.openings.value.items s.token.me.0.views
-            door.place door.opening opens_mine known;
+            lock.place lock.opening opens_mine known;
         others = ap (holdings token.table_id s.key.value.first s.key.value.openings.value.items) went.2.others
             ∙ holding_set token.table_id s.key.value.first s.key.value.openings.value.items s.token.me.0.views
-            door.place door.opening (view_at door.place token.me.0) opens_mine
+            lock.place lock.opening (view_at lock.place token.me.0) opens_mine
             ∙ ap (λ (t : TableId).
-            set (holdings t s.key.value.first s.key.value.openings.value.items s.token.me.0.views) door.place Is) went.0
+            set (holdings t s.key.value.first s.key.value.openings.value.items s.token.me.0.views) lock.place Is) went.0
             ∙ ap (λ (k : ℕ). set (pass_of s).seats k Is) place_is
             ∙ ap (λ (p : Pass O C R). set p.seats place Is) shown;
         change = is;
       }
 
-      view_else : (other : ℕ) → other ≢ door.place → view_at other token.me.0 ≡ view_at other s.token.me.0
+      view_else : (other : ℕ) → other ≢ lock.place → view_at other token.me.0 ≡ view_at other s.token.me.0
       view_else other ne = ap (λ (vs : List (View O C R)). get_or vs other spent) went.2.others
-          ∙ get_or-set_other s.token.me.0.views door.place other (view_at door.place token.me.0) spent ne
+          ∙ get_or-set_other s.token.me.0.views lock.place other (view_at lock.place token.me.0) spent ne
 
-      module _ (names : IsNamedAs (view_at door.place s.token.me.0) (view_at door.place token.me.0)) where
+      module _ (names : IsNamedAs (view_at lock.place s.token.me.0) (view_at lock.place token.me.0)) where
         -- The numbers stay at each place.
         pub names_at : (other : ℕ) → IsNamedAs (view_at other s.token.me.0) (view_at other token.me.0)
         names_at other =
-            dite (ℕ_discrete other door.place)
+            dite (ℕ_discrete other lock.place)
             (λ e. subst (λ (k : ℕ). IsNamedAs (view_at k s.token.me.0) (view_at k token.me.0)) (sym e) names)
             (λ ne. (
               ap (λ (v : View O C R). v.number) (view_else other ne),
@@ -249,12 +251,12 @@ module _ {O C R : Type 0} (moves : O → C → R → O → Type 0) (counted : O 
             (here.0 ∙ old.0 ∙ sym zero_here.0, here.1 ∙ old.1 ∙ sym zero_here.1)
 
       -- If no turn was made, the order grows by turns of others only.
-      pub goes_on : Stays (view_at door.place s.token.me.0) (view_at door.place token.me.0) → GoesOn pass (pass_of Now)
+      pub goes_on : Stays (view_at lock.place s.token.me.0) (view_at lock.place token.me.0) → GoesOn pass (pass_of Now)
       goes_on stays =
           let many = went.2.many in
           let owns = went.2.owns rest.owns in
           let still : (other : ℕ) → (view_at other token.me.0).own ≡ (view_at other s.token.me.0).own = (λ other.
-          dite (ℕ_discrete other door.place)
+          dite (ℕ_discrete other lock.place)
           (λ e. subst (λ (k : ℕ). (view_at k token.me.0).own ≡ (view_at k s.token.me.0).own) (sym e) stays.own)
           (λ ne. ap (λ (v : View O C R). v.own) (view_else other ne))) in
           let goes : NoneMadeUnder (pass_of s).numbers went.2.order.0 =
@@ -274,21 +276,21 @@ module _ {O C R : Type 0} (moves : O → C → R → O → Type 0) (counted : O 
             shares = went.2.shares;
           })
 
-      pub rests_after : token.me.1 ≡ [] → RestsAt moves door.opening s.key.value.first (view_at door.place token.me.0) →
-          IsNamedAs (view_at door.place s.token.me.0) (view_at door.place token.me.0) → Rests moves Now
+      pub rests_after : token.me.1 ≡ [] → RestsAt moves lock.opening s.key.value.first (view_at lock.place token.me.0) →
+          IsNamedAs (view_at lock.place s.token.me.0) (view_at lock.place token.me.0) → Rests moves Now
       rests_after none there names = record {
         no_slot = none;
         nothing_else = went.2.also ∙ rest.nothing_else;
         many = went.2.many ∙ rest.many;
         each = λ other o opens'.
-            dite (ℕ_discrete other door.place)
+            dite (ℕ_discrete other lock.place)
             (λ e.
-            let same : door.opening ≡ o = some-injective door.opening o
+            let same : lock.opening ≡ o = some-injective lock.opening o
             (sym opens_mine ∙ subst (λ (k : ℕ). get_elem? s.key.value.openings.value.items k ≡ some o) e opens') in
             subst (λ (k : ℕ).
             RestsAt moves o s.key.value.first (view_at k token.me.0)
             × IsPrefixOf (view_at k token.me.0).seen (turns_at k token.me.0.seen)) (sym e) (
-              subst (λ (q : O). RestsAt moves q s.key.value.first (view_at door.place token.me.0)) same there,
+              subst (λ (q : O). RestsAt moves q s.key.value.first (view_at lock.place token.me.0)) same there,
               went.2.within,
             ))
             (λ ne.
@@ -305,18 +307,18 @@ module _ {O C R : Type 0} (moves : O → C → R → O → Type 0) (counted : O 
         owns = went.2.owns rest.owns;
       }
 
-      pub adds_to_order : EndsOrder door.place s.token.me token.me →
-          Adds (view_at door.place s.token.me.0) (view_at door.place token.me.0) → AddsToOrder place pass (pass_of Now)
+      pub adds_to_order : EndsOrder lock.place s.token.me token.me →
+          Adds (view_at lock.place s.token.me.0) (view_at lock.place token.me.0) → AddsToOrder place pass (pass_of Now)
       adds_to_order ends more =
           let many = went.2.many in
           let owns = went.2.owns rest.owns in
-          let t : Placed O C R = record { place = door.place; turn = ends.turn } in
+          let t : Placed O C R = record { place = lock.place; turn = ends.turn } in
           let cut : (q : ℕ) → turns_at q token.me.0.seen ≡ turns_at q ends.front ++ turns_at q (t ∷ []) =
           (λ q. ap (turns_at q) ends.order ∙ turns_append q ends.front (t ∷ [])) in
-          let here : turns_at door.place token.me.0.seen ≡ turns_at door.place ends.front ++ ends.turn ∷ [] =
-          cut door.place
-          ∙ ap (λ (l : List (Turn O C R)). turns_at door.place ends.front ++ l)
-          (turns_here door.place (ends.turn ∷ [])) in
+          let here : turns_at lock.place token.me.0.seen ≡ turns_at lock.place ends.front ++ ends.turn ∷ [] =
+          cut lock.place
+          ∙ ap (λ (l : List (Turn O C R)). turns_at lock.place ends.front ++ l)
+          (turns_here lock.place (ends.turn ∷ [])) in
           let mine : (q p : ℕ) → q < length token.me.0.views →
           times p (view_at q token.me.0).own ≡ made_at (pass_of s).numbers (turns_at q token.me.0.seen) p = (λ q p less.
           owns.own q p less
@@ -324,21 +326,21 @@ module _ {O C R : Type 0} (moves : O → C → R → O → Type 0) (counted : O 
           ((names_at more.names q).1 ∙ (rest.named q (omega arith)).1)) in
           let most : (q p : ℕ) → q < length token.me.0.views →
           made_at (pass_of s).numbers (turns_at q ends.front) p ≤ times p (view_at q s.token.me.0).own = (λ q p less.
-          dite (ℕ_discrete q door.place)
+          dite (ℕ_discrete q lock.place)
           (λ e.
-          let fewer : door.place < length token.me.0.views = omega arith in
-          let last : more.last ≡ length (turns_at door.place ends.front) = (
+          let fewer : lock.place < length token.me.0.views = omega arith in
+          let last : more.last ≡ length (turns_at lock.place ends.front) = (
           let a = more.seen in
           let b = ap length ends.seen in
           let c = ap length here in
-          let d = length-append (turns_at door.place ends.front) (ends.turn ∷ []) in
+          let d = length-append (turns_at lock.place ends.front) (ends.turn ∷ []) in
           omega arith) in
           subst (λ (k : ℕ).
           made_at (pass_of s).numbers (turns_at k ends.front) p ≤ times p (view_at k s.token.me.0).own) (sym e)
-          (before_last (pass_of s).numbers (view_at door.place s.token.me.0).own (turns_at door.place ends.front)
+          (before_last (pass_of s).numbers (view_at lock.place s.token.me.0).own (turns_at lock.place ends.front)
           ends.turn more.last last
           (λ p'.
-          ap (times p') (sym more.own) ∙ mine door.place p' fewer
+          ap (times p') (sym more.own) ∙ mine lock.place p' fewer
           ∙ ap (λ (l : List (Turn O C R)). made_at (pass_of s).numbers l p') here) p))
           (λ ne.
           let a = mine q p less in
@@ -362,12 +364,12 @@ module _ {O C R : Type 0} (moves : O → C → R → O → Type 0) (counted : O 
             seen = λ h there.
                 let is : Is ≡ h = some-injective Is h
                 (sym (holding_at token.table_id s.key.value.first s.key.value.openings.value.items token.me.0.views
-                door.place door.opening opens_mine (let many = went.2.many in let less = known in omega arith))
+                lock.place lock.opening opens_mine (let many = went.2.many in let less = known in omega arith))
                 ∙ subst (λ (k : ℕ). get_elem? (pass_of Now).seats k ≡ some h) (sym place_is) there) in
                 ap (λ (x : Holding O C R). x.seen) (sym is) ∙ ends.seen
                 ∙ ap (λ (k : ℕ). turns_at k token.me.0.seen) place_is;
             strangers = subst (λ (p : Pass O C R). NoneMadeUnder p.numbers ends.longer.0) shown goes;
-            by = ends.by ∙ more.names.0 ∙ (rest.named door.place known).0 ∙ ap (λ (p : Pass O C R). p.number) shown;
+            by = ends.by ∙ more.names.0 ∙ (rest.named lock.place known).0 ∙ ap (λ (p : Pass O C R). p.number) shown;
             number = number;
             numbers = (names_at more.names 0).1 ∙ ap (λ (p : Pass O C R). p.numbers) shown;
             shares = went.2.shares ∙ ap (λ (p : Pass O C R). p.shares) shown;

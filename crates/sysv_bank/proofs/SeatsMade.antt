@@ -11,10 +11,10 @@ use Rattle.sysv_lists.specs.Prefix.{IsPrefixOf}
 use Rattle.sysv_lists.specs.Numbers.{times}
 use Rattle.sysv_lists.proofs.Places.{at_below, there}
 use Rattle.sysv_lists.proofs.Counting.{times-same, times-append}
-use Rattle.sysv_gate.specs.declared.view.View.{View}
-use Rattle.sysv_gate.specs.declared.view.Turn.{Turn}
-use Rattle.sysv_gate.specs.declared.view.Sight.{Sight}
-use Rattle.sysv_gate.specs.declared.view.Placed.{Placed}
+use Rattle.sysv_gate.specs.declared.table.view.View.{View}
+use Rattle.sysv_gate.specs.declared.table.view.Turn.{Turn}
+use Rattle.sysv_gate.specs.declared.table.view.Sight.{Sight}
+use Rattle.sysv_gate.specs.declared.table.view.Placed.{Placed}
 use Rattle.sysv_gate.specs.History.{made_at}
 use Rattle.sysv_gate.specs.Rule.{Spot, start}
 use Rattle.sysv_gate.specs.Steps as step
@@ -23,11 +23,11 @@ use Rattle.sysv_gate.specs.Gates.{Gateway, Holding, opened, parted, IsSplit, Joi
 use Rattle.sysv_gate.specs.Orders.{turns_at, AreBelow, NoneMadeUnder}
 use Rattle.sysv_gate.proofs.OrderByPlace.{turns_longer}
 use Rattle.sysv_gate.proofs.Histories.{made_at-append}
-use Rattle.sysv_gate.specs.Halls.{view_at, Passing, outset}
+use Rattle.sysv_gate.specs.Tables.{view_at, Passing, outset}
 use Rattle.sysv_gate.specs.Plays.{halved, both_views, both_of, merged_from, Merges}
-use Rattle.sysv_gate.specs.Doors.{IsNewcomer, KnowsAll}
+use Rattle.sysv_gate.specs.Locks.{IsNewcomer, KnowsAll}
 use Rattle.std.specs.declared.snapshot.Snapshot.{Snapshot}
-use Rattle.sysv_gate.specs.declared.hall.HallKey.{HallKey}
+use Rattle.sysv_gate.specs.declared.table.TableKey.{TableKey}
 use Rattle.sysv_gate.proofs.PassSplitKeepsRule.{both_length, merged_length}
 use Rattle.sysv_bank.specs.declared.seat.BankSeat.TheInside.{Inside}
 use Rattle.sysv_bank.specs.Banks.{Each2, Each3, AreOpened}
@@ -265,7 +265,7 @@ module _ {O C R : Type 0} (moves : O → C → R → O → Type 0) where
         }
 
     -- The order that the two seats have seen, and their numbers.
-    pub split_order : (key : Snapshot (HallKey O)) (parent : Seat (Spot O C R) (Sight O C R)) → 1 ≤ length Os
+    pub split_order : (key : Snapshot (TableKey O)) (parent : Seat (Spot O C R) (Sight O C R)) → 1 ≤ length Os
         → parent.me ≡ (halved s.token.me.0, s.token.me.1) → IsNewcomer s.token.me.0 token.me
         → SplitsOff (pass_of s) (pass_of (record { token = parent; key = s.key }))
         (pass_of (record { token = token; key = key }))
@@ -320,7 +320,7 @@ module _ {O C R : Type 0} (moves : O → C → R → O → Type 0) where
       )
 
   -- A seat at rest stays so if its key is replaced by an equal one.
-  pub rests_key : (s : Inside O C R) (key : Snapshot (HallKey O)) → key.value.first ≡ s.key.value.first →
+  pub rests_key : (s : Inside O C R) (key : Snapshot (TableKey O)) → key.value.first ≡ s.key.value.first →
       key.value.openings.value.items ≡ s.key.value.openings.value.items → Rests moves s →
       Rests moves record { token = s.token; key = key }
   rests_key s key first os rest = record {
@@ -334,7 +334,7 @@ module _ {O C R : Type 0} (moves : O → C → R → O → Type 0) where
     owns = rest.owns;
   }
 
-  pub seats_key : (s : Inside O C R) (key : Snapshot (HallKey O)) → key.value.first ≡ s.key.value.first
+  pub seats_key : (s : Inside O C R) (key : Snapshot (TableKey O)) → key.value.first ≡ s.key.value.first
       → key.value.openings.value.items ≡ s.key.value.openings.value.items
       → (pass_of (record { token = s.token; key = key })).seats ≡ (pass_of s).seats
   seats_key s key first os = λ i. holdings s.token.table_id (first i) (os i) s.token.me.0.views

@@ -4,9 +4,9 @@ use mathlib.Core.Option.{some}
 use lib.ListN.{get_elem?}
 use Rattle.atomic_table.specs.Table.{State}
 use Rattle.sysv_lists.specs.Prefix.{IsPrefixOf}
-use Rattle.sysv_gate.specs.declared.view.Sight.{Sight}
+use Rattle.sysv_gate.specs.declared.table.view.Sight.{Sight}
 use Rattle.sysv_gate.specs.Rule.{Spot}
-use Rattle.sysv_gate.specs.Halls.{InOrder}
+use Rattle.sysv_gate.specs.Tables.{InOrder}
 
 -- Of the orders that two passes have seen, one is a prefix of the other.
 abbrev pub OneOrder : {O C R : Type 0} → (O → C → R → O → Type 0) → (O → ℕ × ℕ) → Type 0

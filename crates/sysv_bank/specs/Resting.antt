@@ -4,13 +4,13 @@ use mathlib.Core.Option.{some}
 use lib.ListN.{get_elem?}
 use Rattle.atomic_table.specs.Seated.{TableId}
 use Rattle.atomic_table.specs.declared.shared.Seat.{Seat}
-use Rattle.sysv_gate.specs.declared.view.View.{View}
-use Rattle.sysv_gate.specs.declared.view.Sight.{Sight}
+use Rattle.sysv_gate.specs.declared.table.view.View.{View}
+use Rattle.sysv_gate.specs.declared.table.view.Sight.{Sight}
 use Rattle.sysv_gate.specs.Rule.{Spot}
 use Rattle.sysv_gate.specs.Gates.{Gateway}
 use Rattle.sysv_gate.specs.Held.{RestsThere}
-use Rattle.sysv_gate.specs.Halls.{view_at, OwnsInOrder}
-use Rattle.sysv_gate.specs.Laying.{AreDoorsUpTo}
+use Rattle.sysv_gate.specs.Tables.{view_at, OwnsInOrder}
+use Rattle.sysv_gate.specs.Laying.{AreLocksUpTo}
 use Rattle.sysv_bank.specs.declared.seat.BankSeat.TheInside.{Inside}
 use Rattle.sysv_bank.specs.declared.bank.Bank.TheInside.{Inside as BankInside}
 use Rattle.sysv_bank.specs.Passes.{Pass, holdings}
@@ -51,14 +51,14 @@ module _ {O C R : Type 0} where
 abbrev pub gateways : {O : Type 0} → TableId → ℕ → List O → List (Gateway O)
 gateways table first openings = map (λ o. record { table = table; opening = o; first = first }) openings
 
--- The table has a place for each object, each place has its door, and there is space for the result
+-- The table has a place for each object, each place has its lock, and there is space for the result
 -- of `close`.
 pub record IsOpen {O C R : Type 0} (counted : O → ℕ × ℕ) (b : BankInside O C R) : Type 0 where
-  pub key : b.hall.shared.key ≡ b.key
-  pub words : b.hall.shared.table_id.words ≡ 80 * length b.key.openings.value.items
-  pub slots : b.hall.shared.table_id.slots ≡ length b.key.openings.value.items
+  pub key : b.table.shared.key ≡ b.key
+  pub words : b.table.shared.table_id.words ≡ 80 * length b.key.openings.value.items
+  pub slots : b.table.shared.table_id.slots ≡ length b.key.openings.value.items
   pub some_place : 1 ≤ length b.key.openings.value.items
   pub few : 80 * length b.key.openings.value.items ≤ 2 ^ 60
-  pub doors : AreDoorsUpTo b.key.openings.value.items (length b.key.openings.value.items) b.doors.items
+  pub locks : AreLocksUpTo b.key.openings.value.items (length b.key.openings.value.items) b.locks.items
   pub none_yet : b.closings.items ≡ []
   pub room : length b.key.openings.value.items ≤ vec_capacity b.closings

@@ -14,7 +14,8 @@ use std::alloc::Global;
 use std::marker::Model;
 use std::snapshot::Snapshot;
 use sysv_gate::{
-    Closing, Door, Hall, HallKey, Object, OpenRefused, close_place, join_pass, lay_hall, split_pass,
+    Closing, Object, OpenRefused, PlaceLock, PlaceTable, TableKey, close_place, join_pass,
+    lay_table, split_pass,
 };
 
 /// The largest first ticket.
@@ -24,9 +25,9 @@ const LIMIT: u64 = 1 << 62;
 /// have one order, whatever places they are made at. Threads share the bank by reference, and each
 /// thread uses a seat of its own.
 pub struct Bank<O: Object> {
-    pub(crate) hall: Hall<O>,
-    key: HallKey<O>,
-    pub(crate) doors: Vec<Door<O>, Global>,
+    pub(crate) table: PlaceTable<O>,
+    key: TableKey<O>,
+    pub(crate) locks: Vec<PlaceLock<O>, Global>,
     /// Space for the result of `close`, so that `close` allocates nothing.
     closings: Vec<Closing<O>, Global>,
 }
@@ -38,7 +39,7 @@ impl<O: Object> Model for Bank<O> {
 
     ghost Value = { List (Gateway O) };
 
-    ghost view = { λ b. gateways b.hall.shared.table_id b.key.first b.key.openings.value.items };
+    ghost view = { λ b. gateways b.table.shared.table_id b.key.first b.key.openings.value.items };
 
     ghost invariant = { IsOpen O.counted };
 }
@@ -80,21 +81,21 @@ impl<O: Object> Bank<O> {
         let Ok(closings) = Vec::with_capacity(alloc, objects.len()) else {
             return Err(OpenRefused::NoMemory(objects));
         };
-        let key = HallKey {
+        let key = TableKey {
             openings: Snapshot::of(&objects),
             first,
         };
-        match lay_hall(alloc, &mut objects, &key) {
-            Some((hall, token, doors)) => {
+        match lay_table(alloc, &mut objects, &key) {
+            Some((table, token, locks)) => {
                 objects.destroy_empty();
                 let seat = BankSeat {
                     token,
                     key: Snapshot::of(&key),
                 };
                 let bank = Bank {
-                    hall,
+                    table,
                     key,
-                    doors,
+                    locks,
                     closings,
                 };
                 Ok((bank, seat))
@@ -125,7 +126,7 @@ impl<O: Object> Bank<O> {
         ensures order { IfOk result (λ s. SplitsOff seat.old seat.new s) }
         ensures always { IsOk result }
     {
-        let token = split_pass(&self.hall, &mut seat.token);
+        let token = split_pass(&self.table, &mut seat.token);
         Ok(BankSeat {
             token,
             key: Snapshot::of(&self.key),
@@ -146,7 +147,7 @@ impl<O: Object> Bank<O> {
             seat.new.seats }
         ensures order { JoinsOrders seat.old other seat.new }
     {
-        join_pass(&self.hall, &mut seat.token, other.into_token());
+        join_pass(&self.table, &mut seat.token, other.into_token());
     }
 
     /// Closes the bank. Returns, for each place in order, what `Gate::close` returns: the object
@@ -166,12 +167,12 @@ impl<O: Object> Bank<O> {
         ensures order { ClosesInOrder (Moves O.meaning O.counted) seat result.items }
     {
         let Bank {
-            hall,
+            table,
             key,
-            doors: _,
+            locks: _,
             mut closings,
         } = self;
-        let mut closed = hall.close_with(seat.into_token());
+        let mut closed = table.close_with(seat.into_token());
         for place in 0..closed.slot_count() {
             closings.push_reserved(close_place(&mut closed, place, key.first));
         }

@@ -48,7 +48,7 @@ impl<O: Object> Bank<O> {
             × ChangesAt place seat.old.seats seat.new.seats
             (λ before after. after ≡ marked before)) }
     {
-        self.doors[place].call(rt, &self.hall, &mut seat.token, call)
+        self.locks[place].call(rt, &self.table, &mut seat.token, call)
     }
 
     /// Makes the call at `place` if no other seat holds a ticket there, like `Gate::try_call`. It
@@ -84,7 +84,7 @@ impl<O: Object> Bank<O> {
         ensures err { IfErr result (λ e. ChangesAt place seat.old.seats seat.new.seats
             (λ before after. Refuses (Moves O.meaning O.counted) before call e after)) }
     {
-        self.doors[place].try_call(&self.hall, &mut seat.token, call)
+        self.locks[place].try_call(&self.table, &mut seat.token, call)
     }
 
     /// Wakes every thread that waits at `place`, like `Gate::wake`.
@@ -95,7 +95,7 @@ impl<O: Object> Bank<O> {
     pub fn wake(&self, rt: &impl Wait, place: usize)
         requires { place < length self.now }
     {
-        self.doors[place].wake(rt);
+        self.locks[place].wake(rt);
     }
 
     /// Returns a count of the object at `place`, like `Gate::arrived` for the first count and
@@ -113,7 +113,7 @@ impl<O: Object> Bank<O> {
             (λ before after. (after ≡ read_to count result before)
             × Learns O.counted count before result) }
     {
-        self.doors[place].count(&self.hall, &mut seat.token, count)
+        self.locks[place].count(&self.table, &mut seat.token, count)
     }
 
     /// Waits until a count at `place` is at least `goal`, like `Gate::await_arrived` for the first
@@ -137,6 +137,6 @@ impl<O: Object> Bank<O> {
         ensures waited { ChangesAt place seat.old.seats seat.new.seats
             (λ before after. Waited O.counted count goal before result after) }
     {
-        self.doors[place].await_count(rt, &self.hall, &mut seat.token, count, goal)
+        self.locks[place].await_count(rt, &self.table, &mut seat.token, count, goal)
     }
 }

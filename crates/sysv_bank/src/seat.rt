@@ -4,14 +4,14 @@ ghost use Rattle.sysv_bank.specs.Resting.{IsTokenOf};
 
 use std::marker::Model;
 use std::snapshot::Snapshot;
-use sysv_gate::{HallKey, HallToken, Object};
+use sysv_gate::{Object, TableKey, TableToken};
 
 /// The right of one thread to take turns at each place of a bank, and what that thread knows of the
 /// histories there and of the order of all turns. It works only with the bank that it came from. It
 /// may move to another thread.
 pub struct BankSeat<O: Object> {
-    pub(crate) token: HallToken<O>,
-    pub(crate) key: Snapshot<HallKey<O>>,
+    pub(crate) token: TableToken<O>,
+    pub(crate) key: Snapshot<TableKey<O>>,
 }
 
 impl<O: Object> Model for BankSeat<O> {
@@ -34,7 +34,7 @@ impl<O: Object> Drop for BankSeat<O> {
 }
 
 impl<O: Object> BankSeat<O> {
-    pub(crate) fn into_token(self) -> HallToken<O>
+    pub(crate) fn into_token(self) -> TableToken<O>
         ensures { IsTokenOf (Moves O.meaning O.counted) self result }
     {
         let BankSeat { token, key: _ } = self;

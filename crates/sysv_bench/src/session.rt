@@ -12,7 +12,7 @@ use std::io;
 use std::sync::Wait;
 use std::thread::Threads;
 use std::time::{Clock, CpuClock};
-use sysv_seats::ServiceKernel;
+use sysv_seats::ServiceHandler;
 use sysv_service::Service;
 use sysv_session::End;
 
@@ -45,13 +45,13 @@ fn time_of_session<R: Wait + Clock + CpuClock>(rt: &R, alloc: Global, pairs: u32
     let Ok((service, pass)) = Service::open(alloc, 1024) else {
         return None;
     };
-    let mut kernel = ServiceKernel::new(rt, &service, &Still, pass);
+    let mut handler = ServiceHandler::new(rt, &service, &Still, pass);
     let mut reader = Requests::new(pairs);
     let mut writer = Replies::default();
     let watch = Watch::start(rt, Time::Passed);
-    let served = kernel.serve(alloc, &mut reader, &mut writer);
+    let served = handler.serve(alloc, &mut reader, &mut writer);
     let nanos = watch.and_then(|watch| watch.nanos(rt));
-    let pass = kernel.into_pass();
+    let pass = handler.into_pass();
     service.close(pass);
     if served.end == End::Ended && served.tally.written() == u64::from(pairs) {
         nanos

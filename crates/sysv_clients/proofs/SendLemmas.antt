@@ -15,8 +15,8 @@ use Rattle.sysv_clients.specs.declared.sending.Sending.{Sending}
 use Rattle.sysv_clients.specs.declared.sending.Unsent.{Unsent}
 use Rattle.sysv_clients.specs.declared.sending.Unsent.TheVariants.{Fault, Cut, Long, Many, Input}
 use Rattle.sysv_clients.specs.declared.sending.Window.{Window}
-use Rattle.sysv_clients.specs.declared.lines.Fetched.{Fetched}
-use Rattle.sysv_clients.specs.declared.lines.Fetched.TheVariants.{Line, Last, Nothing}
+use Rattle.sysv_clients.specs.declared.input_lines.Fetched.{Fetched}
+use Rattle.sysv_clients.specs.declared.input_lines.Fetched.TheVariants.{Line, Last, Nothing}
 use Rattle.sysv_clients.specs.Asks.{request_of}
 use Rattle.sysv_clients.specs.Calls.{BreaksPlan, Call, Each, IsCallDone, Made, id_in, read_by, written_by}
 use Rattle.sysv_clients.specs.Lines.{FailsBy, Fetches, HasNone, IsNext, is_line, is_nothing}

@@ -5,8 +5,8 @@ use Rattle.std.specs.Prelude.{length, All, Option, None, Some, Result, Ok, Err}
 use Rattle.std.specs.Io.KnownBytes.{Consumes, IsAtEnd}
 use Rattle.std.specs.IoError.{error_kind}
 use Rattle.std.specs.declared.io.ErrorKind.{ErrorKind}
-use Rattle.sysv_clients.specs.declared.lines.Fetched.{Fetched}
-use Rattle.sysv_clients.specs.declared.lines.Fetched.TheVariants.{Line, Last, Nothing}
+use Rattle.sysv_clients.specs.declared.input_lines.Fetched.{Fetched}
+use Rattle.sysv_clients.specs.declared.input_lines.Fetched.TheVariants.{Line, Last, Nothing}
 use Rattle.sysv_clients.specs.declared.sending.Unsent.{Unsent}
 use Rattle.sysv_clients.specs.declared.sending.Unsent.TheVariants.{Fault, Cut, Long, Many, Input}
 use Rattle.sysv_model.specs.declared.limits.TheConstants.{MESSAGE_BYTES}

@@ -7,7 +7,7 @@ use Rattle.sysv_clients.specs.declared.command.Form.TheVariants.{Line, Raw, Zero
 use Rattle.sysv_clients.specs.declared.command.Format.TheVariants.{Table as AsTable, Json}
 use Rattle.sysv_clients.specs.declared.command.Task.{Task}
 use Rattle.sysv_clients.specs.declared.command.Task.TheVariants.{List as Table, Show, Remove, Make, Send, Receive}
-use Rattle.sysv_clients.specs.declared.line.TheConstants.{MAX_LINE}
+use Rattle.sysv_clients.specs.declared.queue_line.TheConstants.{MAX_LINE}
 use Rattle.sysv_clients.specs.declared.style.Style.{Style}
 use Rattle.sysv_clients.specs.Object.{object_line}
 use Rattle.sysv_clients.specs.Queue.{id_line, json_line, stat_lines}

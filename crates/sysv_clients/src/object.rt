@@ -6,8 +6,8 @@ ghost use Rattle.sysv_clients.specs.Object.{body_member, json_byte, json_text, o
 ghost use Rattle.sysv_clients.specs.declared.page.TheConstants.{PAGE_ROOM};
 ghost use Rattle.sysv_model.specs.declared.limits.TheConstants.{MESSAGE_BYTES};
 
-use crate::line::hex_digit;
 use crate::page::Page;
+use crate::queue_line::hex_digit;
 use base64::engine::general_purpose::STANDARD;
 use itoa::Buffer;
 use std::str;

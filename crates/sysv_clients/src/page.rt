@@ -9,7 +9,7 @@ ghost use Rattle.sysv_model.specs.declared.limits.TheConstants.{MESSAGE_BYTES};
 ghost use Rattle.sysv_wire.specs.Replies.{gives_text};
 
 use crate::command::Form;
-use crate::line::{Line, MAX_LINE};
+use crate::queue_line::{Line, MAX_LINE};
 use crate::style::Style;
 use itoa::Buffer;
 use std::alloc::Global;

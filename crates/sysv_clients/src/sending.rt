@@ -16,7 +16,7 @@ use crate::command::{create_flags, wait_flags};
 use crate::exchange::{exchange, hear, put};
 use crate::fault::ClientFault;
 use crate::feed::Feed;
-use crate::lines::{Chunk, fetch};
+use crate::input_lines::{Chunk, fetch};
 use std::alloc::Global;
 use std::io;
 use std::io::{Read, Write};

@@ -17,7 +17,7 @@ use Rattle.sysv_model.specs.History.{Who, Call, Install, Place, Take, Remove, Re
 use Rattle.sysv_model.specs.History.{Discarded}
 use Rattle.sysv_model.specs.Pool.{PoolCall, Reserve, Release, PoolReply, Reserved, TooFew, Released, Foreign, PoolEntry}
 use Rattle.sysv_model.specs.Pool.{PoolHistory}
-use Rattle.sysv_model.specs.Turn.{OfSlot, Deed, AtSlot, AtRegistry, AtPool, asked_by, Turn, slot_history, pool_history}
+use Rattle.sysv_model.specs.Turn.{OfSlot, Op, AtSlot, AtRegistry, AtPool, asked_by, Turn, slot_history, pool_history}
 use Rattle.sysv_model.specs.Waiting.{held as waiting_in}
 use Rattle.sysv_pool.specs.State.{state_of, reserved_by, returned_by, reserved, returned, free_after}
 use Rattle.sysv_pool.specs.LegalReply.{Legal as LegalAtPool, IsLegalHistory as IsLegalPoolHistory}
@@ -28,7 +28,7 @@ use Rattle.sysv_queue.specs.BlocksKept.{blocks_put, blocks_off, TurnKeepsBlocks}
 use Rattle.sysv_queue.specs.LegalReply.{Legal, IsLegalHistory}
 use Rattle.sysv_keys.specs.declared.identifier.TheConstants.{SLOTS}
 use Rattle.sysv_keys.specs.Identifier.{slot_of_id}
-use Rattle.sysv_objects.specs.LegalDeed.{IsLegalDeed, AreLegal}
+use Rattle.sysv_objects.specs.LegalOp.{IsLegalOp, AreLegal}
 use Rattle.sysv_steps.specs.Call.{SystemCall, Msgget}
 use Rattle.sysv_steps.specs.State.{Wait, OnSettled, Phase, AtInstall, AtProbe, AtLook, AtPlace, AtTake, AtStat, AtSet}
 use Rattle.sysv_steps.specs.State.{AtRemove, State, Goes, Waits, Over, Refused}
@@ -37,7 +37,7 @@ use Rattle.sysv_steps.specs.Resume.{resume}
 use Rattle.sysv_steps.specs.Asks.{asks}
 use Rattle.sysv_steps.specs.Next.{next}
 use Rattle.sysv_steps.specs.HeldBlocks.{held, given_by, left_by, HasItsBlocks, GivesWhatIsAsked, EachStepKeepsItsBlocks}
-use Rattle.sysv_core.specs.World.{Started, Doing, doing_in, preset_who, preset_cred, preset_flags, preset_begin}
+use Rattle.sysv_core.specs.World.{Invocation, Doing, doing_in, preset_who, preset_cred, preset_flags, preset_begin}
 use Rattle.sysv_core.specs.World.{preset_settle, with_preset_turns}
 use Rattle.sysv_core.specs.Conserved.{blocks_waiting, blocks_in_call, blocks_in_calls, AreConserved}
 use Rattle.sysv_lists.proofs.Orders.{at_most}
@@ -97,11 +97,11 @@ unfolding blocks_waiting
 is_sum turns = refl
 
 -- A turn that is not at a slot changes no queued message.
-waiting_stays : (turns : List Turn) (who : Who) (deed : Deed) →
-    ((slot : ℕ) → slot_history slot (turns ++ turn_of who deed ∷ []) ≡ slot_history slot turns) →
-    blocks_waiting (turns ++ turn_of who deed ∷ []) ≡ blocks_waiting turns
-waiting_stays turns who deed same =
-    let more = turns ++ turn_of who deed ∷ [] in
+waiting_stays : (turns : List Turn) (who : Who) (op : Op) →
+    ((slot : ℕ) → slot_history slot (turns ++ turn_of who op ∷ []) ≡ slot_history slot turns) →
+    blocks_waiting (turns ++ turn_of who op ∷ []) ≡ blocks_waiting turns
+waiting_stays turns who op same =
+    let more = turns ++ turn_of who op ∷ [] in
     is_sum more
     ∙ (same_sum (waiting_at more) (waiting_at turns) 0 SLOTS
     (λ slot low. ap (λ h. blocks_of (waiting_in h)) (same slot)) ∙ sym (is_sum turns))
@@ -153,14 +153,14 @@ given_is_off s slot call (Discarded messages) l = absurd l
 given_is_off s slot call reply l = refl
 
 -- The pool grants what a call requested.
-only_one : (d x : Deed) → Contains (d ∷ []) x → d ≡ x
+only_one : (d x : Op) → Contains (d ∷ []) x → d ≡ x
 only_one d x (zero, low, is) = is
 only_one d x (suc k, low, is) = absurd (omega (arith, low))
 
-gives_it : (generation blocks : ℕ) (turns : List Turn) (deed : Deed) → IsLegalDeed generation blocks turns deed →
-    GivesWhatIsAsked (deed ∷ [])
-gives_it generation blocks turns deed legal size n has =
-    (subst (IsLegalDeed generation blocks turns) (only_one deed (AtPool (Reserve size) (Reserved n)) has) legal).1
+gives_it : (generation blocks : ℕ) (turns : List Turn) (op : Op) → IsLegalOp generation blocks turns op →
+    GivesWhatIsAsked (op ∷ [])
+gives_it generation blocks turns op legal size n has =
+    (subst (IsLegalOp generation blocks turns) (only_one op (AtPool (Reserve size) (Reserved n)) has) legal).1
 
 -- The number of free blocks after a turn at the pool.
 free_moves : (size : ℕ) (h : PoolHistory) (e : PoolEntry) → PoolLaw size h →
@@ -180,7 +180,7 @@ free_moves size h e law legal = by_turn e.call e.reply legal (returned_more h e)
 
 -- ---- what the calls hold
 
-in_state : (call : Started) (state : State) → blocks_in_call (doing_in call state) ≡ held state
+in_state : (call : Invocation) (state : State) → blocks_in_call (doing_in call state) ≡ held state
 in_state call (Goes phase) = refl
 in_state call (Waits wait) = refl
 in_state call (Over ending) = refl
@@ -215,7 +215,7 @@ pub record BlockLaws : Type 0 where
 
 module _ (b : BlockLaws) (generation size : ℕ) (turns : List Turn) (actors : List (Option Doing))
     (legal : AreLegal generation size turns) (all : AreConserved size turns actors) where
-  module _ (place : ℕ) (call : Started) (phase : Phase)
+  module _ (place : ℕ) (call : Invocation) (phase : Phase)
       (there : slice_get actors place ≡ Some (Some record { call = call; state = Goes phase }))
       (own : HasItsBlocks (Goes phase)) (now : ℕ) (state : State) where
     abbrev was : Option Doing
@@ -255,11 +255,11 @@ module _ (b : BlockLaws) (generation size : ℕ) (turns : List Turn) (actors : L
     given_is_reserved c reply = refl
 
     -- What leaves the call comes to the slots or to the pool, and what the call receives leaves them.
-    moves : (deed : Deed) → asked_by deed ≡ asks phase now → IsLegalDeed generation size turns deed →
-        held state + left_by deed ≡ held (Goes phase) + given_by deed →
-        let more = turns ++ turn_of call.who deed ∷ [] in
-        (free_after size (pool_history more) + blocks_waiting more + given_by deed
-        ≡ free_after size (pool_history turns) + blocks_waiting turns + left_by deed)
+    moves : (op : Op) → asked_by op ≡ asks phase now → IsLegalOp generation size turns op →
+        held state + left_by op ≡ held (Goes phase) + given_by op →
+        let more = turns ++ turn_of call.who op ∷ [] in
+        (free_after size (pool_history more) + blocks_waiting more + given_by op
+        ≡ free_after size (pool_history turns) + blocks_waiting turns + left_by op)
         × All (λ (e : PoolEntry). e.reply ≢ Foreign) (pool_history more)
     moves (AtSlot slot c reply) asked l balance =
         let pool = pool_stays turns call.who (AtSlot slot c reply) refl in
@@ -302,12 +302,12 @@ module _ (b : BlockLaws) (generation size : ℕ) (turns : List Turn) (actors : L
               (All-push (λ (x : PoolEntry). x.reply ≢ Foreign) h e all.taken_back back),
         )
 
-    pub turn_conserves : (deed : Deed) → asked_by deed ≡ asks phase now → IsLegalDeed generation size turns deed →
-        next phase deed ≡ Some state →
-        AreConserved size (turns ++ turn_of call.who deed ∷ []) (slice_set actors place (doing_in call state))
-    turn_conserves deed asked l goes =
-        let balance = b.step phase deed now state own (gives_it generation size turns deed l) asked goes in
-        let m = moves deed asked l balance in
+    pub turn_conserves : (op : Op) → asked_by op ≡ asks phase now → IsLegalOp generation size turns op →
+        next phase op ≡ Some state →
+        AreConserved size (turns ++ turn_of call.who op ∷ []) (slice_set actors place (doing_in call state))
+    turn_conserves op asked l goes =
+        let balance = b.step phase op now state own (gives_it generation size turns op l) asked goes in
+        let m = moves op asked l balance in
         record { whole = omega (arith, m.0, balance, calls_move, all.whole); taken_back = m.1 }
 
   -- The three turns of a preset move no block.
@@ -341,7 +341,7 @@ module _ (b : BlockLaws) (generation size : ℕ) (turns : List Turn) (actors : L
 
 -- A call that starts, or whose wait is over, holds what it held.
 pub stands_conserves : (size : ℕ) (turns : List Turn) (actors : List (Option Doing)) (place : ℕ) (was : Option Doing)
-    (call : Started) (state : State) → slice_get actors place ≡ Some was → held state ≡ blocks_in_call was →
+    (call : Invocation) (state : State) → slice_get actors place ≡ Some was → held state ≡ blocks_in_call was →
     AreConserved size turns actors → AreConserved size turns (slice_set actors place (doing_in call state))
 stands_conserves size turns actors place was call state there same all = record {
   whole = still (free_after size (pool_history turns)) (blocks_waiting turns) (blocks_in_calls actors)

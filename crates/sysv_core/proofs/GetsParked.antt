@@ -10,14 +10,14 @@ use Rattle.sysv_model.specs.History.{Who, Probe, Gone, Entry, History}
 use Rattle.sysv_model.specs.Live.{live, HasId, IsLive}
 use Rattle.sysv_model.specs.Registry.{RegistryCall, RegistryReply, RegistryEntry, RegistryHistory, Begin, Settle}
 use Rattle.sysv_model.specs.Registry.{Forget, Found, Busy, Changed, changes_row, settled}
-use Rattle.sysv_model.specs.Turn.{Deed, AtSlot, AtRegistry, Turn, slot_entry, slot_history, registry_history, deeds_of}
+use Rattle.sysv_model.specs.Turn.{Op, AtSlot, AtRegistry, Turn, slot_entry, slot_history, registry_history, ops_of}
 use Rattle.sysv_queue.specs.QueueLaw.{installs}
 use Rattle.sysv_queue.specs.ForGood.{IsInstalledOnce}
 use Rattle.sysv_keys.specs.Identifier.{slot_of_id}
 use Rattle.sysv_keys.specs.Rows.{Row, makes, settles, forgets, is_made, is_settled, is_forgotten, IsRow}
 use Rattle.sysv_keys.specs.LegalReply.{IsLegalReply, IsLegalHistory as IsLegalRegistryHistory}
 use Rattle.sysv_keys.specs.RegistryLaw.{LeavesRow}
-use Rattle.sysv_objects.specs.LegalDeed.{AreLegal}
+use Rattle.sysv_objects.specs.LegalOp.{AreLegal}
 use Rattle.sysv_steps.specs.State.{Getting}
 use Rattle.sysv_steps.specs.WaitsFor.{WasUnsettled}
 use Rattle.sysv_core.specs.World.{World}
@@ -113,7 +113,7 @@ never_lives id h before more after p once whole was dead =
 -- ---- the two refusals
 
 slot_both : (slot : ℕ) (xs ys : List Turn) → slot_history slot (xs ++ ys) ≡ slot_history slot xs ++ slot_history slot ys
-slot_both slot xs ys = flat_map-append (λ (x : Turn). slot_entry slot x.who x.deed) xs ys
+slot_both slot xs ys = flat_map-append (λ (x : Turn). slot_entry slot x.who x.op) xs ys
 
 module _ (laws : EachObeys) (w : World) (legal : AreLegal w.generation w.blocks w.turns) (tended : AreTended w)
     (good : AreRemovedForGood w.turns) (order : SettledOnceInstalled w.turns) (who : Who) (get : Getting) (told : ℕ)
@@ -128,7 +128,7 @@ module _ (laws : EachObeys) (w : World) (legal : AreLegal w.generation w.blocks 
       legal.registry front e (back ++ more) (whole ∙ (ap (λ h. h ++ more) same ∙ append_assoc front (e ∷ back) more))
 
   -- The row that the registry reported still exists.
-  row_now : (front later : List Deed) (reply : RegistryReply) (row : Row)
+  row_now : (front later : List Op) (reply : RegistryReply) (row : Row)
       (m : Made who w.turns front (AtRegistry (Begin get.key get.flags) reply) later) →
       IsRow w.generation (registry_history m.before) row → told ≡ settled (registry_history m.before) →
       IsRow w.generation all_rows row
@@ -142,7 +142,7 @@ module _ (laws : EachObeys) (w : World) (legal : AreLegal w.generation w.blocks 
       (rows_stay (e ∷ registry_history m.after) (registry_history m.before) row (omega (arith, low, count))
       (((laws w.generation (registry_history m.before) (legal_before m.before _ whole)).rows row).0 is)))
 
-  registry_legal : (front later : List Deed) (reply : RegistryReply)
+  registry_legal : (front later : List Op) (reply : RegistryReply)
       (m : Made who w.turns front (AtRegistry (Begin get.key get.flags) reply) later) →
       IsLegalReply w.generation (registry_history m.before) (Begin get.key get.flags) reply
   registry_legal front later reply m =
@@ -150,8 +150,8 @@ module _ (laws : EachObeys) (w : World) (legal : AreLegal w.generation w.blocks 
       (registry_history m.after)
       (ap registry_history m.whole ∙ registry_around m.before m.after m.by (Begin get.key get.flags) reply)
 
-  pub was_busy : (front : List Deed) →
-      deeds_of who w.turns ≡ front ++ AtRegistry (Begin get.key get.flags) (Busy told) ∷ [] → IsBeingChanged w get.key
+  pub was_busy : (front : List Op) →
+      ops_of who w.turns ≡ front ++ AtRegistry (Begin get.key get.flags) (Busy told) ∷ [] → IsBeingChanged w get.key
   was_busy front e =
       let m = made_at who w.turns front (AtRegistry (Begin get.key get.flags) (Busy told)) [] e in
       let l = registry_legal front [] (Busy told) m in
@@ -159,24 +159,24 @@ module _ (laws : EachObeys) (w : World) (legal : AreLegal w.generation w.blocks 
       let is = row_now front [] (Busy told) row m l.1.1 l.2 in
       record { row = row; bound = is; of_key = refl; tended = tended row is (inl refl) }
 
-  pub was_gone : (id : ℤ) (front : List Deed) →
-      deeds_of who w.turns
+  pub was_gone : (id : ℤ) (front : List Op) →
+      ops_of who w.turns
       ≡ front ++ AtRegistry (Begin get.key get.flags) (Found id told)
       ∷ AtSlot (slot_of_id id) (Probe id get.cred get.flags) Gone ∷ [] → IsBeingChanged w get.key
   was_gone id front e =
       let slot = slot_of_id id in
       let probe = Probe id get.cred get.flags in
-      let begin_deed = AtRegistry (Begin get.key get.flags) (Found id told) in
-      let m = made_at who w.turns front begin_deed (AtSlot slot probe Gone ∷ []) e in
+      let begin_op = AtRegistry (Begin get.key get.flags) (Found id told) in
+      let m = made_at who w.turns front begin_op (AtSlot slot probe Gone ∷ []) e in
       let p = made_at who m.after [] (AtSlot slot probe Gone) [] m.later_is in
       let l = registry_legal front (AtSlot slot probe Gone ∷ []) (Found id told) m in
       let row : Row = record { id = id; key = get.key; live = true } in
       let is = row_now front (AtSlot slot probe Gone ∷ []) (Found id told) row m l.1 l.2 in
       let x : Entry = record { who = p.by; call = probe; reply = Gone } in
-      let since = turn_of m.by begin_deed ∷ p.before in
+      let since = turn_of m.by begin_op ∷ p.before in
       let turns_are : w.turns ≡ (m.before ++ since) ++ turn_of p.by (AtSlot slot probe Gone) ∷ p.after =
       m.whole
-      ∙ (ap (λ ts. m.before ++ turn_of m.by begin_deed ∷ ts) p.whole
+      ∙ (ap (λ ts. m.before ++ turn_of m.by begin_op ∷ ts) p.whole
       ∙ sym (append_assoc m.before since (turn_of p.by (AtSlot slot probe Gone) ∷ p.after))) in
       let parts : slot_history slot (m.before ++ since) ≡ slot_history slot m.before ++ slot_history slot since =
       slot_both slot m.before since in
@@ -188,13 +188,13 @@ module _ (laws : EachObeys) (w : World) (legal : AreLegal w.generation w.blocks 
       (ap registry_history m.whole
       ∙ registry_around m.before m.after m.by (Begin get.key get.flags) (Found id told)))).rows
       row).0 l.1 in
-      let was = order id m.before (turn_of m.by begin_deed ∷ m.after) m.whole left.stage in
+      let was = order id m.before (turn_of m.by begin_op ∷ m.after) m.whole left.stage in
       let not_live = never_lives id (slot_history slot w.turns) (slot_history slot m.before) (slot_history slot since)
       (slot_history slot p.after) x (good.once slot id)
       (around ∙ ap (λ k. k ++ x ∷ slot_history slot p.after) parts) was
       (subst (λ (k : History). ¬ IsLive k id) parts dead) in
       record { row = row; bound = is; of_key = refl; tended = tended row is (inr not_live) }
 
-  pub being_changed : WasUnsettled get told (deeds_of who w.turns) → IsBeingChanged w get.key
+  pub being_changed : WasUnsettled get told (ops_of who w.turns) → IsBeingChanged w get.key
   being_changed (inl f) = was_busy f.0 f.1
   being_changed (inr f) = was_gone f.0 f.1.0 f.1.1

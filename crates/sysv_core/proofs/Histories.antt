@@ -9,42 +9,42 @@ use Rattle.sysv_model.specs.declared.attributes.Attributes.{Attributes}
 use Rattle.sysv_model.specs.History.{Who, Entry, History}
 use Rattle.sysv_model.specs.Live.{live, live_after}
 use Rattle.sysv_model.specs.Pool.{PoolEntry, PoolHistory, frees, released}
-use Rattle.sysv_model.specs.Turn.{Deed, AtSlot, AtRegistry, AtPool, Turn, slot_entry, registry_entry, pool_entry}
+use Rattle.sysv_model.specs.Turn.{Op, AtSlot, AtRegistry, AtPool, Turn, slot_entry, registry_entry, pool_entry}
 use Rattle.sysv_model.specs.Turn.{slot_history, registry_history, pool_history}
 use Rattle.sysv_pool.specs.State.{reserved_by, returned_by, reserved, returned}
 use Rattle.sysv_core.specs.World.{preset_who, preset_begin, preset_install, preset_settle, with_preset_turns}
 
-abbrev pub turn_of : Who → Deed → Turn
-turn_of who deed = record { who = who; deed = deed }
+abbrev pub turn_of : Who → Op → Turn
+turn_of who op = record { who = who; op = op }
 
 pub slot_more : (slot : ℕ) (turns : List Turn) (t : Turn) →
-    slot_history slot (turns ++ t ∷ []) ≡ slot_history slot turns ++ slot_entry slot t.who t.deed
+    slot_history slot (turns ++ t ∷ []) ≡ slot_history slot turns ++ slot_entry slot t.who t.op
 slot_more slot turns t =
-    flat_map-append (λ (x : Turn). slot_entry slot x.who x.deed) turns (t ∷ [])
-    ∙ ap (λ es. slot_history slot turns ++ es) (append-nil (slot_entry slot t.who t.deed))
+    flat_map-append (λ (x : Turn). slot_entry slot x.who x.op) turns (t ∷ [])
+    ∙ ap (λ es. slot_history slot turns ++ es) (append-nil (slot_entry slot t.who t.op))
 
 pub registry_more : (turns : List Turn) (t : Turn) →
-    registry_history (turns ++ t ∷ []) ≡ registry_history turns ++ registry_entry t.who t.deed
+    registry_history (turns ++ t ∷ []) ≡ registry_history turns ++ registry_entry t.who t.op
 registry_more turns t =
-    flat_map-append (λ (x : Turn). registry_entry x.who x.deed) turns (t ∷ [])
-    ∙ ap (λ es. registry_history turns ++ es) (append-nil (registry_entry t.who t.deed))
+    flat_map-append (λ (x : Turn). registry_entry x.who x.op) turns (t ∷ [])
+    ∙ ap (λ es. registry_history turns ++ es) (append-nil (registry_entry t.who t.op))
 
 pub pool_more : (turns : List Turn) (t : Turn) →
-    pool_history (turns ++ t ∷ []) ≡ pool_history turns ++ pool_entry t.who t.deed
+    pool_history (turns ++ t ∷ []) ≡ pool_history turns ++ pool_entry t.who t.op
 pool_more turns t =
-    flat_map-append (λ (x : Turn). pool_entry x.who x.deed) turns (t ∷ [])
-    ∙ ap (λ es. pool_history turns ++ es) (append-nil (pool_entry t.who t.deed))
+    flat_map-append (λ (x : Turn). pool_entry x.who x.op) turns (t ∷ [])
+    ∙ ap (λ es. pool_history turns ++ es) (append-nil (pool_entry t.who t.op))
 
 -- A turn that is not at the pool leaves the pool's history as it was, and one that is not at a slot
 -- leaves that of each slot.
-pub pool_stays : (turns : List Turn) (who : Who) (deed : Deed) → pool_entry who deed ≡ [] →
-    pool_history (turns ++ turn_of who deed ∷ []) ≡ pool_history turns
-pool_stays turns who deed none =
-    pool_more turns (turn_of who deed) ∙ (ap (λ es. pool_history turns ++ es) none ∙ append-nil (pool_history turns))
+pub pool_stays : (turns : List Turn) (who : Who) (op : Op) → pool_entry who op ≡ [] →
+    pool_history (turns ++ turn_of who op ∷ []) ≡ pool_history turns
+pool_stays turns who op none =
+    pool_more turns (turn_of who op) ∙ (ap (λ es. pool_history turns ++ es) none ∙ append-nil (pool_history turns))
 
-pub slot_stays : (slot : ℕ) (turns : List Turn) (who : Who) (deed : Deed) → slot_entry slot who deed ≡ [] →
-    slot_history slot (turns ++ turn_of who deed ∷ []) ≡ slot_history slot turns
-slot_stays slot turns who deed none = slot_more slot turns (turn_of who deed)
+pub slot_stays : (slot : ℕ) (turns : List Turn) (who : Who) (op : Op) → slot_entry slot who op ≡ [] →
+    slot_history slot (turns ++ turn_of who op ∷ []) ≡ slot_history slot turns
+slot_stays slot turns who op none = slot_more slot turns (turn_of who op)
     ∙ (ap (λ es. slot_history slot turns ++ es) none ∙ append-nil (slot_history slot turns))
 
 -- ---- the live queue of a slot
@@ -52,13 +52,13 @@ slot_stays slot turns who deed none = slot_more slot turns (turn_of who deed)
 pub live_more : (h : History) (e : Entry) → live (h ++ e ∷ []) ≡ live_after (live h) e.call e.reply
 live_more h e = fold-append (λ (old : Option Attributes) (x : Entry). live_after old x.call x.reply) None h (e ∷ [])
 
--- What a deed makes of it.
-abbrev pub live_by : ℕ → Deed → Option Attributes → Option Attributes
+-- What an operation makes of it.
+abbrev pub live_by : ℕ → Op → Option Attributes → Option Attributes
 live_by slot (AtSlot at call reply) l = cond (eqb at slot) (live_after l call reply) l
-live_by slot deed l = l
+live_by slot op l = l
 
-live_entry : (slot : ℕ) (h : History) (who : Who) (deed : Deed) →
-    live (h ++ slot_entry slot who deed) ≡ live_by slot deed (live h)
+live_entry : (slot : ℕ) (h : History) (who : Who) (op : Op) →
+    live (h ++ slot_entry slot who op) ≡ live_by slot op (live h)
 live_entry slot h who (AtSlot at call reply) = by_slot (eqb at slot)
   where
     by_slot : (b : Bool) → live (h ++ cond b (record { who = who; call = call; reply = reply } ∷ []) [])
@@ -68,10 +68,10 @@ live_entry slot h who (AtSlot at call reply) = by_slot (eqb at slot)
 live_entry slot h who (AtRegistry call reply) = ap live (append-nil h)
 live_entry slot h who (AtPool call reply) = ap live (append-nil h)
 
-pub live_turn : (slot : ℕ) (turns : List Turn) (who : Who) (deed : Deed) →
-    live (slot_history slot (turns ++ turn_of who deed ∷ [])) ≡ live_by slot deed (live (slot_history slot turns))
-live_turn slot turns who deed =
-    ap live (slot_more slot turns (turn_of who deed)) ∙ live_entry slot (slot_history slot turns) who deed
+pub live_turn : (slot : ℕ) (turns : List Turn) (who : Who) (op : Op) →
+    live (slot_history slot (turns ++ turn_of who op ∷ [])) ≡ live_by slot op (live (slot_history slot turns))
+live_turn slot turns who op =
+    ap live (slot_more slot turns (turn_of who op)) ∙ live_entry slot (slot_history slot turns) who op
 
 -- ---- the three turns of a preset
 

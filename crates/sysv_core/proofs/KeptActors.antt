@@ -7,7 +7,7 @@ use Rattle.std.proofs.lemmas.Option.{slice_get-map, slice_get_read}
 use Rattle.sysv_objects.specs.Objects.{Objects, CountsUpTo, raises_by, raises}
 use Rattle.sysv_model.specs.History.{Call, Install}
 use Rattle.sysv_model.specs.Pool.{Reserve, Release}
-use Rattle.sysv_model.specs.Turn.{Deed, AtSlot, AtRegistry, AtPool}
+use Rattle.sysv_model.specs.Turn.{Op, AtSlot, AtRegistry, AtPool}
 use Rattle.sysv_steps.specs.State.{State, Goes, Waits, Over}
 use Rattle.sysv_core.specs.declared.doing.Doing.{Doing}
 use Rattle.sysv_core.specs.declared.doing.Led.{Led}
@@ -115,7 +115,7 @@ raises_one : (call : Call) → raises call ≤ 1
 raises_one (Install id key cred mode now) = omega arith
 raises_one call = omega arith
 
-raises_at_most : (deed : Deed) → raises_by deed ≤ 1
+raises_at_most : (op : Op) → raises_by op ≤ 1
 raises_at_most (AtSlot slot call reply) = raises_one call
 raises_at_most (AtRegistry call reply) = omega arith
 raises_at_most (AtPool (Reserve size) reply) = omega arith
@@ -125,9 +125,9 @@ raises_at_most (AtPool (Release blocks) reply) = omega arith
 pub counts_on : (old : Objects) (state : State) (now : ℕ) (l : Led) (new : Objects) (n : ℕ) →
     StepLeads old state now l new → CountsUpTo n old → CountsUpTo (n + counted_led l) new
 counts_on old (Goes phase) now (led.To doing) new n step up =
-    weaker (n + raises_by step.deed) (n + 1) new (omega (arith, raises_at_most step.deed)) (step.turn.counts n up)
+    weaker (n + raises_by step.op) (n + 1) new (omega (arith, raises_at_most step.op)) (step.turn.counts n up)
 counts_on old (Goes phase) now (led.Over ended) new n step up =
-    weaker (n + raises_by step.deed) (n + 1) new (omega (arith, raises_at_most step.deed)) (step.turn.counts n up)
+    weaker (n + raises_by step.op) (n + 1) new (omega (arith, raises_at_most step.op)) (step.turn.counts n up)
 counts_on old (Goes phase) now (led.Stays doing) new n step up = absurd step.leads
 counts_on old (Waits wait) now l new n step up =
     weaker n (n + counted_led l) new (omega arith) (subst (CountsUpTo n) (sym step.1) up)

@@ -18,14 +18,14 @@ use Rattle.sysv_model.specs.History.{Who, Call, Install, Place, Take, Set, Remov
 use Rattle.sysv_model.specs.History.{Done, Discarded, Entry}
 use Rattle.sysv_model.specs.Live.{live, live_after, HasId, IsLive}
 use Rattle.sysv_model.specs.Registry.{RegistryCall, RegistryReply, RegistryEntry, Begin, Settle, Forget, Made, Changed}
-use Rattle.sysv_model.specs.Turn.{Deed, AtSlot, AtRegistry, AtPool, Turn, slot_entry, slot_history, registry_history}
+use Rattle.sysv_model.specs.Turn.{Op, AtSlot, AtRegistry, AtPool, Turn, slot_entry, slot_history, registry_history}
 use Rattle.sysv_queue.specs.Slot.{Slot, slot_of}
 use Rattle.sysv_queue.specs.LegalReply.{Legal}
 use Rattle.sysv_queue.specs.QueueLaw.{removes, installs}
 use Rattle.sysv_queue.specs.ForGood.{IsInstalledOnce}
 use Rattle.sysv_keys.specs.Identifier.{slot_of_id}
 use Rattle.sysv_keys.specs.Rows.{makes, settles, forgets, is_made}
-use Rattle.sysv_objects.specs.LegalDeed.{IsLegalDeed}
+use Rattle.sysv_objects.specs.LegalOp.{IsLegalOp}
 use Rattle.sysv_steps.specs.Call.{SystemCall, Msgget}
 use Rattle.sysv_steps.specs.State.{Wait, OnSettled, AtInstall, AtSettle, AtUnmake, AtForget, State, Goes, Over, Refused}
 use Rattle.sysv_steps.specs.Begin.{is_refused, first, begin}
@@ -66,40 +66,40 @@ removing id = record { task = ToRemove; id = id }
 abbrev pub forgetting : ℤ → Job
 forgetting id = record { task = ToForget; id = id }
 
--- The job that the deed does.
-abbrev pub job_of : Deed → Option Job
+-- The job that the operation does.
+abbrev pub job_of : Op → Option Job
 job_of (AtSlot slot (Install id key cred mode now) (Installed true)) = Some (installing id)
 job_of (AtSlot slot (Remove id cred) (Discarded messages)) = Some (removing id)
 job_of (AtRegistry (Begin key flags) (Made id)) = Some (making id)
 job_of (AtRegistry (Settle id) (Changed true)) = Some (settling id)
 job_of (AtRegistry (Forget id) (Changed true)) = Some (forgetting id)
-job_of deed = None
+job_of op = None
 
 abbrev pub gives : ℤ → RegistryCall → RegistryReply → Bool
 gives id (Begin key flags) (Made at) = int_eq at id
 gives id call reply = false
 
-abbrev pub of_slot : (Call → Reply → Bool) → Deed → Bool
+abbrev pub of_slot : (Call → Reply → Bool) → Op → Bool
 of_slot p (AtSlot slot call reply) = p call reply
-of_slot p deed = false
+of_slot p op = false
 
-abbrev pub of_registry : (RegistryCall → RegistryReply → Bool) → Deed → Bool
+abbrev pub of_registry : (RegistryCall → RegistryReply → Bool) → Op → Bool
 of_registry p (AtRegistry call reply) = p call reply
-of_registry p deed = false
+of_registry p op = false
 
-abbrev pub does_task : Task → ℤ → Deed → Bool
-does_task ToMake id deed = of_registry (gives id) deed
-does_task ToInstall id deed = of_slot (installs id) deed
-does_task ToSettle id deed = of_registry (settles id) deed
-does_task ToRemove id deed = of_slot (removes id) deed
-does_task ToForget id deed = of_registry (forgets id) deed
+abbrev pub does_task : Task → ℤ → Op → Bool
+does_task ToMake id op = of_registry (gives id) op
+does_task ToInstall id op = of_slot (installs id) op
+does_task ToSettle id op = of_registry (settles id) op
+does_task ToRemove id op = of_slot (removes id) op
+does_task ToForget id op = of_registry (forgets id) op
 
-abbrev pub does : Job → Deed → Bool
-does j deed = does_task j.task j.id deed
+abbrev pub does : Job → Op → Bool
+does j op = does_task j.task j.id op
 
 -- One of the turns did the job.
 abbrev pub done : Job → List Turn → Bool
-done j turns = list_any (λ (t : Turn). does j t.deed) turns
+done j turns = list_any (λ (t : Turn). does j t.op) turns
 
 -- The job that it follows was done.
 abbrev pub IsReadyFor : Task → ℤ → List Turn → Type 0
@@ -246,10 +246,10 @@ split_last (z ∷ xs) x (w ∷ front) back y e =
       | inr r ↦ inr (r.0, ap (λ v. v ∷ xs) same ∙ ap (λ ys. w ∷ ys) r.1)
     ]
 
--- ---- what a deed does
+-- ---- what an operation does
 
-does_job : (task : Task) (id : ℤ) (deed : Deed) → does (record { task = task; id = id }) deed ≡ true →
-    job_of deed ≡ Some (record { task = task; id = id })
+does_job : (task : Task) (id : ℤ) (op : Op) → does (record { task = task; id = id }) op ≡ true →
+    job_of op ≡ Some (record { task = task; id = id })
 does_job ToInstall id (AtSlot slot (Install at key cred mode now) (Installed true)) e =
     ap (λ i. Some (installing i)) ((Decides-int_eq at id).0 e)
 does_job ToRemove id (AtSlot slot (Remove at cred) (Discarded messages)) e =
@@ -259,20 +259,20 @@ does_job ToSettle id (AtRegistry (Settle at) (Changed true)) e =
     ap (λ i. Some (settling i)) ((Decides-int_eq at id).0 e)
 does_job ToForget id (AtRegistry (Forget at) (Changed true)) e =
     ap (λ i. Some (forgetting i)) ((Decides-int_eq at id).0 e)
-does_job task id deed e = absurd cc
+does_job task id op e = absurd cc
 
--- A deed does one job.
-pub one_job : (i j : Job) (deed : Deed) → does i deed ≡ true → job_of deed ≡ Some j → i ≡ j
-one_job i j deed e is = some_is (sym (does_job i.task i.id deed e) ∙ is)
+-- An operation does one job.
+pub one_job : (i j : Job) (op : Op) → does i op ≡ true → job_of op ≡ Some j → i ≡ j
+one_job i j op e is = some_is (sym (does_job i.task i.id op e) ∙ is)
 
-pub no_job : (i : Job) (deed : Deed) → job_of deed ≡ None → does i deed ≡ false
-no_job i deed none = by_value (does i deed) refl
+pub no_job : (i : Job) (op : Op) → job_of op ≡ None → does i op ≡ false
+no_job i op none = by_value (does i op) refl
   where
-    by_value : (b : Bool) → does i deed ≡ b → does i deed ≡ false
-    by_value true e = let bad : None ≡ Some i = sym none ∙ does_job i.task i.id deed e in absurd cc
+    by_value : (b : Bool) → does i op ≡ b → does i op ≡ false
+    by_value true e = let bad : None ≡ Some i = sym none ∙ does_job i.task i.id op e in absurd cc
     by_value false e = e
 
-pub job_does : (deed : Deed) (j : Job) → job_of deed ≡ Some j → does j deed ≡ true
+pub job_does : (op : Op) (j : Job) → job_of op ≡ Some j → does j op ≡ true
 job_does (AtSlot slot (Install id key cred mode now) (Installed true)) j e =
     subst (λ i. does i (AtSlot slot (Install id key cred mode now) (Installed true)) ≡ true) (some_is e) (same_int id)
 job_does (AtSlot slot (Remove id cred) (Discarded messages)) j e =
@@ -283,13 +283,13 @@ job_does (AtRegistry (Settle id) (Changed true)) j e =
     subst (λ i. does i (AtRegistry (Settle id) (Changed true)) ≡ true) (some_is e) (same_int id)
 job_does (AtRegistry (Forget id) (Changed true)) j e =
     subst (λ i. does i (AtRegistry (Forget id) (Changed true)) ≡ true) (some_is e) (same_int id)
-job_does deed j e = absurd cc
+job_does op j e = absurd cc
 
 -- ---- what was done
 
 pub done_on : (j : Job) (front back : List Turn) → done j front ≡ true → done j (front ++ back) ≡ true
 done_on j front back e =
-    list_any-append (λ (t : Turn). does j t.deed) front back ∙ or_left (done j front) (done j back) e
+    list_any-append (λ (t : Turn). does j t.op) front back ∙ or_left (done j front) (done j back) e
 
 pub ready_on : (j : Job) (front back : List Turn) → IsReady j front → IsReady j (front ++ back)
 ready_on j front back r = by_task j.task j.id r
@@ -301,24 +301,24 @@ ready_on j front back r = by_task j.task j.id r
     by_task ToRemove id e = done_on (installing id) front back e
     by_task ToForget id e = done_on (removing id) front back e
 
-module _ (turns : List Turn) (who : Who) (deed : Deed) where
-  pub done_more : (j : Job) → done j (turns ++ turn_of who deed ∷ []) ≡ (done j turns || does j deed)
-  done_more j = any_more (λ (t : Turn). does j t.deed) turns (turn_of who deed)
+module _ (turns : List Turn) (who : Who) (op : Op) where
+  pub done_more : (j : Job) → done j (turns ++ turn_of who op ∷ []) ≡ (done j turns || does j op)
+  done_more j = any_more (λ (t : Turn). does j t.op) turns (turn_of who op)
 
-  pub done_now : (j : Job) → does j deed ≡ true → done j (turns ++ turn_of who deed ∷ []) ≡ true
-  done_now j e = done_more j ∙ or_right (done j turns) (does j deed) e
+  pub done_now : (j : Job) → does j op ≡ true → done j (turns ++ turn_of who op ∷ []) ≡ true
+  done_now j e = done_more j ∙ or_right (done j turns) (does j op) e
 
-  pub not_done : (j : Job) → done j turns ≡ false → does j deed ≡ false →
-      done j (turns ++ turn_of who deed ∷ []) ≡ false
-  not_done j e f = done_more j ∙ (ap (λ b. b || does j deed) e ∙ f)
+  pub not_done : (j : Job) → done j turns ≡ false → does j op ≡ false →
+      done j (turns ++ turn_of who op ∷ []) ≡ false
+  not_done j e f = done_more j ∙ (ap (λ b. b || does j op) e ∙ f)
 
-  pub undone : (j : Job) → done j (turns ++ turn_of who deed ∷ []) ≡ false →
-      (done j turns ≡ false) × (does j deed ≡ false)
-  undone j e = none_of (done j turns) (does j deed) (sym (done_more j) ∙ e)
+  pub undone : (j : Job) → done j (turns ++ turn_of who op ∷ []) ≡ false →
+      (done j turns ≡ false) × (does j op ≡ false)
+  undone j e = none_of (done j turns) (does j op) (sym (done_more j) ∙ e)
 
-  pub done_by : (j : Job) → done j (turns ++ turn_of who deed ∷ []) ≡ true →
-      (done j turns ≡ true) ⊎ (does j deed ≡ true)
-  done_by j e = one_of (done j turns) (does j deed) (sym (done_more j) ∙ e)
+  pub done_by : (j : Job) → done j (turns ++ turn_of who op ∷ []) ≡ true →
+      (done j turns ≡ true) ⊎ (does j op ≡ true)
+  done_by j e = one_of (done j turns) (does j op) (sym (done_more j) ∙ e)
 
 -- ---- what the turns say of an identifier
 
@@ -330,20 +330,20 @@ pub record IsInUse (turns : List Turn) (slot : ℕ) (id : ℤ) : Type 0 where
 
 pub record Facts (turns : List Turn) : Type 0 where
   -- Each job was done when it was the next.
-  pub fresh : (front back : List Turn) (t : Turn) (j : Job) → turns ≡ front ++ t ∷ back → does j t.deed ≡ true →
+  pub fresh : (front back : List Turn) (t : Turn) (j : Job) → turns ≡ front ++ t ∷ back → does j t.op ≡ true →
       IsNext j front
   pub once : (slot : ℕ) (id : ℤ) → IsInstalledOnce id (slot_history slot turns)
   -- A queue is live from its install to its removal.
   pub lives : (slot : ℕ) (id : ℤ) → HasId (live (slot_history slot turns)) id → IsInUse turns slot id
   pub alive : (id : ℤ) → done (installing id) turns ≡ true → done (removing id) turns ≡ false →
       IsLive (slot_history (slot_of_id id) turns) id
-  pub home : All (λ (t : Turn). IsInItsSlot t.deed) turns
+  pub home : All (λ (t : Turn). IsInItsSlot t.op) turns
   pub vacant : AllFindVacant turns
   pub taken : AllTakeTheirRows turns
 
 pub ordered : (turns : List Turn) → Facts turns → (j : Job) → done j turns ≡ true → IsReady j turns
 ordered turns f j e =
-    let s = passing (λ (t : Turn). does j t.deed) turns e in
+    let s = passing (λ (t : Turn). does j t.op) turns e in
     subst (IsReady j) (sym s.whole)
     (ready_on j s.front (s.it ∷ s.back) (f.fresh s.front s.back s.it j s.whole s.passes).0)
 
@@ -353,8 +353,8 @@ any_parts p f [] = refl
 any_parts p f (x ∷ xs) =
     list_any-append p (f x) (flat_map f xs) ∙ ap (λ b. list_any p (f x) || b) (any_parts p f xs)
 
-in_slot : (p : Call → Reply → Bool) (slot : ℕ) (who : Who) (deed : Deed) →
-    list_any (λ (e : Entry). p e.call e.reply) (slot_entry slot who deed) ≡ true → of_slot p deed ≡ true
+in_slot : (p : Call → Reply → Bool) (slot : ℕ) (who : Who) (op : Op) →
+    list_any (λ (e : Entry). p e.call e.reply) (slot_entry slot who op) ≡ true → of_slot p op ≡ true
 in_slot p slot who (AtSlot at call reply) e = by_slot (eqb at slot) e
   where
     by_slot : (b : Bool) → list_any (λ (x : Entry). p x.call x.reply)
@@ -367,33 +367,33 @@ in_slot p slot who (AtPool call reply) e = absurd cc
 -- A turn in the history of a slot is one of the turns.
 of_slots : (p : Call → Reply → Bool) (slot : ℕ) (turns : List Turn) →
     list_any (λ (e : Entry). p e.call e.reply) (slot_history slot turns) ≡ true →
-    list_any (λ (t : Turn). of_slot p t.deed) turns ≡ true
+    list_any (λ (t : Turn). of_slot p t.op) turns ≡ true
 of_slots p slot turns e =
-    let in_it = λ (t : Turn). list_any (λ (x : Entry). p x.call x.reply) (slot_entry slot t.who t.deed) in
+    let in_it = λ (t : Turn). list_any (λ (x : Entry). p x.call x.reply) (slot_entry slot t.who t.op) in
     let s = passing in_it turns
-    (sym (any_parts (λ (x : Entry). p x.call x.reply) (λ (t : Turn). slot_entry slot t.who t.deed) turns) ∙ e) in
-    passed in_it (λ (t : Turn). of_slot p t.deed) turns s (in_slot p slot s.it.who s.it.deed s.passes)
+    (sym (any_parts (λ (x : Entry). p x.call x.reply) (λ (t : Turn). slot_entry slot t.who t.op) turns) ∙ e) in
+    passed in_it (λ (t : Turn). of_slot p t.op) turns s (in_slot p slot s.it.who s.it.op s.passes)
 
 -- ---- one more turn
 
 -- What is demanded of a turn.
-abbrev pub IsSeemly : Deed → Type 0
-IsSeemly deed = IsInItsSlot deed × FindsVacant deed × TakesItsRow deed
+abbrev pub IsSeemly : Op → Type 0
+IsSeemly op = IsInItsSlot op × FindsVacant op × TakesItsRow op
 
-abbrev pub IsLegalAtSlot : List Turn → Deed → Type 0
+abbrev pub IsLegalAtSlot : List Turn → Op → Type 0
 IsLegalAtSlot turns (AtSlot slot call reply) = Legal (slot_of (slot_history slot turns)) call reply
-IsLegalAtSlot turns deed = Unit {0}
+IsLegalAtSlot turns op = Unit {0}
 
-pub legal_at_slot : (generation blocks : ℕ) (turns : List Turn) (deed : Deed) →
-    IsLegalDeed generation blocks turns deed → IsLegalAtSlot turns deed
+pub legal_at_slot : (generation blocks : ℕ) (turns : List Turn) (op : Op) →
+    IsLegalOp generation blocks turns op → IsLegalAtSlot turns op
 legal_at_slot generation blocks turns (AtSlot slot call reply) l = l
 legal_at_slot generation blocks turns (AtRegistry call reply) l = tt
 legal_at_slot generation blocks turns (AtPool call reply) l = tt
 
-pub record IsFine (turns : List Turn) (deed : Deed) : Type 0 where
-  pub seemly : IsSeemly deed
-  pub legal : IsLegalAtSlot turns deed
-  pub next : (j : Job) → does j deed ≡ true → IsNext j turns
+pub record IsFine (turns : List Turn) (op : Op) : Type 0 where
+  pub seemly : IsSeemly op
+  pub legal : IsLegalAtSlot turns op
+  pub next : (j : Job) → does j op ≡ true → IsNext j turns
 
 -- A turn that leaves a queue live installed it, or found it live and did not remove it.
 pub lived : (l : Option Attributes) (id : ℤ) (call : Call) (reply : Reply) → HasId (live_after l call reply) id →
@@ -447,22 +447,22 @@ installed_live l id (Install made key cred mode now) (Installed true) e = (Decid
 installed_live l id call reply e = absurd cc
 
 module _ (turns : List Turn) (f : Facts turns) (who : Who) where
-  abbrev more : Deed → List Turn
-  more deed = turns ++ turn_of who deed ∷ []
+  abbrev more : Op → List Turn
+  more op = turns ++ turn_of who op ∷ []
 
-  in_use_still : (deed : Deed) (slot : ℕ) (id : ℤ) → IsInUse turns slot id → does (removing id) deed ≡ false →
-      IsInUse (more deed) slot id
-  in_use_still deed slot id u kept = record {
+  in_use_still : (op : Op) (slot : ℕ) (id : ℤ) → IsInUse turns slot id → does (removing id) op ≡ false →
+      IsInUse (more op) slot id
+  in_use_still op slot id u kept = record {
     here = u.here;
-    installed = done_on (installing id) turns (turn_of who deed ∷ []) u.installed;
-    kept = not_done turns who deed (removing id) u.kept kept;
+    installed = done_on (installing id) turns (turn_of who op ∷ []) u.installed;
+    kept = not_done turns who op (removing id) u.kept kept;
   }
 
   same_slot : (at slot : ℕ) → at ≡ slot → eqb at slot ≡ true
   same_slot at slot e = ap (eqb at) (sym e) ∙ itself at
 
-  lives_then : (deed : Deed) → IsFine turns deed → (slot : ℕ) (id : ℤ) →
-      HasId (live_by slot deed (live (slot_history slot turns))) id → IsInUse (more deed) slot id
+  lives_then : (op : Op) → IsFine turns op → (slot : ℕ) (id : ℤ) →
+      HasId (live_by slot op (live (slot_history slot turns))) id → IsInUse (more op) slot id
   lives_then (AtSlot at call reply) fine slot id has = by_slot (eqb at slot) refl has
     where
       by_slot : (b : Bool) → eqb at slot ≡ b →
@@ -491,10 +491,10 @@ module _ (turns : List Turn) (f : Facts turns) (who : Who) where
   lives_then (AtPool call reply) fine slot id has =
       in_use_still (AtPool call reply) slot id (f.lives slot id has) refl
 
-  alive_then : (deed : Deed) → IsFine turns deed → (id : ℤ) →
-      (does (installing id) deed ≡ true)
-      ⊎ (IsLive (slot_history (slot_of_id id) turns) id × (does (removing id) deed ≡ false)) →
-      HasId (live_by (slot_of_id id) deed (live (slot_history (slot_of_id id) turns))) id
+  alive_then : (op : Op) → IsFine turns op → (id : ℤ) →
+      (does (installing id) op ≡ true)
+      ⊎ (IsLive (slot_history (slot_of_id id) turns) id × (does (removing id) op ≡ false)) →
+      HasId (live_by (slot_of_id id) op (live (slot_history (slot_of_id id) turns))) id
   alive_then (AtSlot at call reply) fine id (inl now) =
       let l = live (slot_history (slot_of_id id) turns) in
       subst (λ b. HasId (cond b (live_after l call reply) l) id)
@@ -535,81 +535,81 @@ module _ (turns : List Turn) (f : Facts turns) (who : Who) where
   once_by slot at call reply id false fine before middle after e x same first =
       f.once slot id before middle after e x (sym (append-nil (slot_history slot turns)) ∙ same) first
 
-  once_then : (deed : Deed) → IsFine turns deed → (slot : ℕ) (id : ℤ) →
-      IsInstalledOnce id (slot_history slot turns ++ slot_entry slot who deed)
+  once_then : (op : Op) → IsFine turns op → (slot : ℕ) (id : ℤ) →
+      IsInstalledOnce id (slot_history slot turns ++ slot_entry slot who op)
   once_then (AtSlot at call reply) fine slot id = once_by slot at call reply id (eqb at slot) fine
   once_then (AtRegistry call reply) fine slot id =
       subst (IsInstalledOnce id) (sym (append-nil (slot_history slot turns))) (f.once slot id)
   once_then (AtPool call reply) fine slot id =
       subst (IsInstalledOnce id) (sym (append-nil (slot_history slot turns))) (f.once slot id)
 
-  pub facts_more : (deed : Deed) → IsFine turns deed → Facts (more deed)
-  facts_more deed fine = record {
-    fresh = λ front back t j whole e. elim (split_last turns (turn_of who deed) front back t whole) [
+  pub facts_more : (op : Op) → IsFine turns op → Facts (more op)
+  facts_more op fine = record {
+    fresh = λ front back t j whole e. elim (split_last turns (turn_of who op) front back t whole) [
       | inl last ↦ subst (IsNext j) (sym last.0)
-          (fine.next j (ap (λ (x : Turn). does j x.deed) (sym last.1) ∙ e))
+          (fine.next j (ap (λ (x : Turn). does j x.op) (sym last.1) ∙ e))
       | inr old ↦ f.fresh front old.0 t j old.1 e
     ];
     once = λ slot id.
-        subst (IsInstalledOnce id) (sym (slot_more slot turns (turn_of who deed))) (once_then deed fine slot id);
+        subst (IsInstalledOnce id) (sym (slot_more slot turns (turn_of who op))) (once_then op fine slot id);
     lives = λ slot id has.
-        lives_then deed fine slot id (subst (λ l. HasId l id) (live_turn slot turns who deed) has);
+        lives_then op fine slot id (subst (λ l. HasId l id) (live_turn slot turns who op) has);
     alive = λ id made kept.
-        let k = undone turns who deed (removing id) kept in
-        subst (λ l. HasId l id) (sym (live_turn (slot_of_id id) turns who deed))
-        (alive_then deed fine id (elim (done_by turns who deed (installing id) made) [
+        let k = undone turns who op (removing id) kept in
+        subst (λ l. HasId l id) (sym (live_turn (slot_of_id id) turns who op))
+        (alive_then op fine id (elim (done_by turns who op (installing id) made) [
           | inl old ↦ inr (f.alive id old k.0, k.1)
           | inr now ↦ inl now
         ]));
-    home = All-push (λ (t : Turn). IsInItsSlot t.deed) turns (turn_of who deed) f.home fine.seemly.0;
-    vacant = All-push (λ (t : Turn). FindsVacant t.deed) turns (turn_of who deed) f.vacant fine.seemly.1;
-    taken = All-push (λ (t : Turn). TakesItsRow t.deed) turns (turn_of who deed) f.taken fine.seemly.2;
+    home = All-push (λ (t : Turn). IsInItsSlot t.op) turns (turn_of who op) f.home fine.seemly.0;
+    vacant = All-push (λ (t : Turn). FindsVacant t.op) turns (turn_of who op) f.vacant fine.seemly.1;
+    taken = All-push (λ (t : Turn). TakesItsRow t.op) turns (turn_of who op) f.taken fine.seemly.2;
   }
 
 -- ---- the same in the histories
 
-registry_first : (p : RegistryCall → RegistryReply → Bool) (who : Who) (deed : Deed) (turns : List Turn) →
-    list_any (λ (t : Turn). of_registry p t.deed) turns
+registry_first : (p : RegistryCall → RegistryReply → Bool) (who : Who) (op : Op) (turns : List Turn) →
+    list_any (λ (t : Turn). of_registry p t.op) turns
     ≡ list_any (λ (e : RegistryEntry). p e.call e.reply) (registry_history turns) →
-    list_any (λ (t : Turn). of_registry p t.deed) (turn_of who deed ∷ turns)
-    ≡ list_any (λ (e : RegistryEntry). p e.call e.reply) (registry_history (turn_of who deed ∷ turns))
+    list_any (λ (t : Turn). of_registry p t.op) (turn_of who op ∷ turns)
+    ≡ list_any (λ (e : RegistryEntry). p e.call e.reply) (registry_history (turn_of who op ∷ turns))
 registry_first p who (AtSlot slot call reply) turns e = e
 registry_first p who (AtRegistry call reply) turns e = ap (λ b. p call reply || b) e
 registry_first p who (AtPool call reply) turns e = e
 
 pub in_registry : (p : RegistryCall → RegistryReply → Bool) (turns : List Turn) →
-    list_any (λ (t : Turn). of_registry p t.deed) turns
+    list_any (λ (t : Turn). of_registry p t.op) turns
     ≡ list_any (λ (e : RegistryEntry). p e.call e.reply) (registry_history turns)
 in_registry p [] = refl
-in_registry p (t ∷ turns) = registry_first p t.who t.deed turns (in_registry p turns)
+in_registry p (t ∷ turns) = registry_first p t.who t.op turns (in_registry p turns)
 
 abbrev pub WasMade : ℤ → List Turn → Type 0
 WasMade id turns = (key : ℤ) × (is_made id key (registry_history turns) ≡ true)
 
-key_of : (id : ℤ) (deed : Deed) → does (making id) deed ≡ true → (key : ℤ) × (of_registry (makes id key) deed ≡ true)
+key_of : (id : ℤ) (op : Op) → does (making id) op ≡ true → (key : ℤ) × (of_registry (makes id key) op ≡ true)
 key_of id (AtRegistry (Begin key flags) (Made at)) e = (key, ap (λ b. b && int_eq key key) e ∙ same_int key)
-key_of id deed e = absurd cc
+key_of id op e = absurd cc
 
 pub made_for : (id : ℤ) (turns : List Turn) → done (making id) turns ≡ true → WasMade id turns
 made_for id turns e =
-    let s = passing (λ (t : Turn). does (making id) t.deed) turns e in
-    let k = key_of id s.it.deed s.passes in (
+    let s = passing (λ (t : Turn). does (making id) t.op) turns e in
+    let k = key_of id s.it.op s.passes in (
       k.0,
       sym (in_registry (makes id k.0) turns)
-          ∙ passed (λ (t : Turn). does (making id) t.deed) (λ (t : Turn). of_registry (makes id k.0) t.deed) turns s
+          ∙ passed (λ (t : Turn). does (making id) t.op) (λ (t : Turn). of_registry (makes id k.0) t.op) turns s
           k.1,
     )
 
-of_key : (id key : ℤ) (deed : Deed) → of_registry (makes id key) deed ≡ true → does (making id) deed ≡ true
+of_key : (id key : ℤ) (op : Op) → of_registry (makes id key) op ≡ true → does (making id) op ≡ true
 of_key id key (AtRegistry (Begin asked flags) (Made at)) e = (both_true (int_eq at id) (int_eq asked key) e).0
-of_key id key deed e = absurd cc
+of_key id key op e = absurd cc
 
 pub was_made : (id key : ℤ) (turns : List Turn) → is_made id key (registry_history turns) ≡ true →
     done (making id) turns ≡ true
 was_made id key turns e =
-    let s = passing (λ (t : Turn). of_registry (makes id key) t.deed) turns (in_registry (makes id key) turns ∙ e) in
-    passed (λ (t : Turn). of_registry (makes id key) t.deed) (λ (t : Turn). does (making id) t.deed) turns s
-    (of_key id key s.it.deed s.passes)
+    let s = passing (λ (t : Turn). of_registry (makes id key) t.op) turns (in_registry (makes id key) turns ∙ e) in
+    passed (λ (t : Turn). of_registry (makes id key) t.op) (λ (t : Turn). does (making id) t.op) turns s
+    (of_key id key s.it.op s.passes)
 
 pub gave : (id key : ℤ) (call : RegistryCall) (reply : RegistryReply) → makes id key call reply ≡ true →
     reply ≡ Made id

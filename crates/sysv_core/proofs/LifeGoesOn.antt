@@ -11,19 +11,19 @@ use Rattle.sysv_model.specs.History.{Who, Installed, Gone, Full, NoMatch, Discar
 use Rattle.sysv_model.specs.Live.{live, HasId}
 use Rattle.sysv_model.specs.Registry.{Begin, Made, Changed, RegistryEntry, RegistryHistory}
 use Rattle.sysv_model.specs.Pool.{TooFew, Released, Foreign}
-use Rattle.sysv_model.specs.Turn.{Deed, AtSlot, AtRegistry, AtPool, asked_by, Turn, slot_entry, registry_entry}
+use Rattle.sysv_model.specs.Turn.{Op, AtSlot, AtRegistry, AtPool, asked_by, Turn, slot_entry, registry_entry}
 use Rattle.sysv_model.specs.Turn.{pool_entry, slot_history, registry_history, pool_history}
 use Rattle.sysv_keys.specs.Identifier.{slot_of_id}
 use Rattle.sysv_keys.specs.Rows.{Row, makes, forgets, settles, is_settled, IsRow}
 use Rattle.sysv_keys.specs.LegalReply.{IsLegalHistory as IsLegalRegistryHistory}
 use Rattle.sysv_keys.specs.RegistryLaw.{RegistryLaw, LeavesRow}
-use Rattle.sysv_objects.specs.LegalDeed.{IsLegalDeed, AreLegal}
+use Rattle.sysv_objects.specs.LegalOp.{IsLegalOp, AreLegal}
 use Rattle.sysv_steps.specs.State.{Afterwards, IsRefused, WaitsOn, Phase, AtBegin, AtInstall, AtSettle, AtUnmake}
 use Rattle.sysv_steps.specs.State.{AtLook, Getting, Id, AtReserve, AtSendGiveback, AtTake}
 use Rattle.sysv_steps.specs.State.{AtRemove, AtForget, State, Goes, Waits, Over}
 use Rattle.sysv_steps.specs.Asks.{asks}
 use Rattle.sysv_steps.specs.Next.{waits_or, goes_on, next}
-use Rattle.sysv_core.specs.World.{Started, Doing, doing_in, preset_who, preset_cred, preset_flags, preset_begin}
+use Rattle.sysv_core.specs.World.{Invocation, Doing, doing_in, preset_who, preset_cred, preset_flags, preset_begin}
 use Rattle.sysv_core.specs.World.{preset_install, preset_settle, with_preset_turns}
 use Rattle.sysv_core.proofs.Told.{told, told_is}
 use Rattle.sysv_core.proofs.Lists.{map-slice_set, slice_set-same, get_set_same, get_set_other, same_place}
@@ -66,12 +66,12 @@ abbrev pub follow : Job → Option Job
 follow j = follow_of j.task j.id
 
 -- What a turn does for a call that had the one job and then has the other.
-pub data Step (turns : List Turn) (deed : Deed) (was then : Option Job) : Type 0 where
+pub data Step (turns : List Turn) (op : Op) (was then : Option Job) : Type 0 where
   -- No job is done. If the call had one, its identifier was forgotten already.
-  rests : job_of deed ≡ None → ((j : Job) → was ≡ Some j → done (forgetting j.id) turns ≡ true) → then ≡ None →
-      Step turns deed was then
-  acts : (j : Job) → job_of deed ≡ Some j → IsNext j turns → ((i : Job) → was ≡ Some i → i ≡ j) →
-      (is_owned j.task ≡ true → was ≡ Some j) → then ≡ follow j → Step turns deed was then
+  rests : job_of op ≡ None → ((j : Job) → was ≡ Some j → done (forgetting j.id) turns ≡ true) → then ≡ None →
+      Step turns op was then
+  acts : (j : Job) → job_of op ≡ Some j → IsNext j turns → ((i : Job) → was ≡ Some i → i ≡ j) →
+      (is_owned j.task ≡ true → was ≡ Some j) → then ≡ follow j → Step turns op was then
 
 record IsAfter (j i : Job) : Type 0 where
   on : (turns : List Turn) → done j turns ≡ true → IsReady i turns
@@ -91,81 +91,81 @@ after ToRemove id i e = subst (IsAfter (removing id)) (some_is e)
     record { on = λ ts d. d; back = λ ts d. d; owned = refl; apart = λ x. let t : ToForget ≡ ToRemove = tasks x in cc }
 after task id i e = absurd cc
 
-module _ (turns : List Turn) (who : Who) (deed : Deed) where
+module _ (turns : List Turn) (who : Who) (op : Op) where
   abbrev more : List Turn
-  more = turns ++ turn_of who deed ∷ []
+  more = turns ++ turn_of who op ∷ []
 
   -- A job that is ready after the turn was ready before it, or follows what the turn did.
   readies : (task : Task) (id : ℤ) → is_owned task ≡ true → IsReadyFor task id more →
       IsReadyFor task id turns
-      ⊎ ((j : Job) × (does j deed ≡ true) × (follow j ≡ Some (record { task = task; id = id })))
+      ⊎ ((j : Job) × (does j op ≡ true) × (follow j ≡ Some (record { task = task; id = id })))
   readies ToInstall id own r =
-      elim (done_by turns who deed (making id) r) [ inl old ↦ inl old | inr now ↦ inr (making id, now, refl) ]
+      elim (done_by turns who op (making id) r) [ inl old ↦ inl old | inr now ↦ inr (making id, now, refl) ]
   readies ToSettle id own r =
-      elim (done_by turns who deed (installing id) r) [ inl old ↦ inl old | inr now ↦ inr (installing id, now, refl) ]
+      elim (done_by turns who op (installing id) r) [ inl old ↦ inl old | inr now ↦ inr (installing id, now, refl) ]
   readies ToForget id own r =
-      elim (done_by turns who deed (removing id) r) [ inl old ↦ inl old | inr now ↦ inr (removing id, now, refl) ]
+      elim (done_by turns who op (removing id) r) [ inl old ↦ inl old | inr now ↦ inr (removing id, now, refl) ]
   readies ToMake id own r = absurd cc
   readies ToRemove id own r = absurd cc
 
   -- What a step means for all jobs.
   record IsStep (was then : Option Job) : Type 0 where
     new : (i : Job) → then ≡ Some i → IsNext i more × (is_owned i.task ≡ true) × (IsReady i turns → ⊥)
-    own : (i : Job) → is_owned i.task ≡ true → does i deed ≡ true → was ≡ Some i
+    own : (i : Job) → is_owned i.task ≡ true → does i op ≡ true → was ≡ Some i
     came : (i : Job) → is_owned i.task ≡ true → IsReady i more → IsReady i turns ⊎ (then ≡ Some i)
     left : (i : Job) → was ≡ Some i → (done i more ≡ true) ⊎ (done (forgetting i.id) more ≡ true)
 
-  step_is : Facts turns → (was then : Option Job) → Step turns deed was then → IsStep was then
+  step_is : Facts turns → (was then : Option Job) → Step turns op was then → IsStep was then
   step_is f was then (rests none gone nothing) = record {
     new = λ i is. let bad : None ≡ Some i = sym nothing ∙ is in absurd cc;
-    own = λ i o d. not_both (does i deed) d (no_job i deed none);
+    own = λ i o d. not_both (does i op) d (no_job i op none);
     came = λ i o r. elim (readies i.task i.id o r) [
       | inl old ↦ inl old
-      | inr now ↦ not_both (does now.0 deed) now.1 (no_job now.0 deed none)
+      | inr now ↦ not_both (does now.0 op) now.1 (no_job now.0 op none)
     ];
-    left = λ i is. inr (done_on (forgetting i.id) turns (turn_of who deed ∷ []) (gone i is));
+    left = λ i is. inr (done_on (forgetting i.id) turns (turn_of who op ∷ []) (gone i is));
   }
   step_is f was then (acts j job is_next mine held to) =
-      let now : does j deed ≡ true = job_does deed j job in
+      let now : does j op ≡ true = job_does op j job in
       record {
         new = λ i is.
             let a = after j.task j.id i (sym to ∙ is) in
             let never : IsReady i turns → ⊥ = λ r. not_both (done j turns) (a.back turns r) is_next.1 in (
               (
-                a.on more (done_now turns who deed j now),
-                not_done turns who deed i (elim (either (done i turns)) [
+                a.on more (done_now turns who op j now),
+                not_done turns who op i (elim (either (done i turns)) [
                   | inl d ↦ absurd (never (ordered turns f i d))
                   | inr d ↦ d
-                ]) (falls (does i deed) false (λ d. absurd (a.apart (one_job i j deed d job))) refl),
+                ]) (falls (does i op) false (λ d. absurd (a.apart (one_job i j op d job))) refl),
               ),
               a.owned,
               never,
             );
         own = λ i o d.
-            let same : j ≡ i = sym (one_job i j deed d job) in
+            let same : j ≡ i = sym (one_job i j op d job) in
             subst (λ x. was ≡ Some x) same (held (subst (λ (x : Job). is_owned x.task ≡ true) (sym same) o));
         came = λ i o r. elim (readies i.task i.id o r) [
           | inl old ↦ inl old
-          | inr n ↦ inr (to ∙ (ap follow (sym (one_job n.0 j deed n.1 job)) ∙ n.2))
+          | inr n ↦ inr (to ∙ (ap follow (sym (one_job n.0 j op n.1 job)) ∙ n.2))
         ];
-        left = λ i is. inl (subst (λ x. done x more ≡ true) (sym (mine i is)) (done_now turns who deed j now));
+        left = λ i is. inl (subst (λ x. done x more ≡ true) (sym (mine i is)) (done_now turns who op j now));
       }
 
   pub life_turn : (jobs : List (Option Job)) → Life turns jobs → (place : ℕ) (was then : Option Job) →
-      slice_get jobs place ≡ Some was → IsFine turns deed → Step turns deed was then →
+      slice_get jobs place ≡ Some was → IsFine turns op → Step turns op was then →
       Life more (slice_set jobs place then)
   life_turn jobs l place was then there fine step =
       let s = step_is l.facts was then step in
       record {
-        facts = facts_more turns l.facts who deed fine;
+        facts = facts_more turns l.facts who op fine;
         holds = λ p i at. elim (same_place place p) [
           | inl same ↦ let n = s.new i (now_is p i same at) in (n.0, n.1)
           | inr apart ↦
               let old = then_is p i apart at in
               let h = l.holds p i old in (
                 (
-                  ready_on i turns (turn_of who deed ∷ []) h.0.0,
-                  not_done turns who deed i h.0.1 (falls (does i deed) false
+                  ready_on i turns (turn_of who op ∷ []) h.0.0,
+                  not_done turns who op i h.0.1 (falls (does i op) false
                       (λ d. absurd (apart (l.alone place p i (there ∙ ap (λ x. Some x) (s.own i h.1 d)) old))) refl),
                 ),
                 h.1,
@@ -183,8 +183,8 @@ module _ (turns : List Turn) (who : Who) (deed : Deed) where
         ];
         owed = λ i o n. elim (s.came i o n.0) [
           | inr to ↦ inl (place, get_set_same jobs place then was there ∙ ap (λ x. Some x) to)
-          | inl ready ↦ elim (l.owed i o (ready, (undone turns who deed i n.1).0)) [
-            | inr gone ↦ inr (done_on (forgetting i.id) turns (turn_of who deed ∷ []) gone)
+          | inl ready ↦ elim (l.owed i o (ready, (undone turns who op i n.1).0)) [
+            | inr gone ↦ inr (done_on (forgetting i.id) turns (turn_of who op ∷ []) gone)
             | inl h ↦ elim (same_place place h.0) [
               | inr apart ↦ inl (h.0, get_set_other jobs place h.0 then apart ∙ h.1)
               | inl same ↦ elim (s.left i (some_is (sym there ∙ (ap (slice_get jobs) same ∙ h.1)))) [
@@ -272,26 +272,26 @@ module _ (registry_law : EachObeys) (generation blocks : ℕ) (turns : List Turn
           (gave id m.0 s.it.call s.it.reply s.passes) refl)
 
   -- A turn of a call that has its job to do.
-  abbrev Goes_on : Who → Phase → Deed → State → Type 0
-  Goes_on who phase deed state =
+  abbrev Goes_on : Who → Phase → Op → State → Type 0
+  Goes_on who phase op state =
       ((j : Job) → job_at (Goes phase) ≡ Some j → IsNext j turns × (is_owned j.task ≡ true)) →
-      IsLegalDeed generation blocks turns deed →
-      IsLegalRegistryHistory generation (registry_history (turns ++ turn_of who deed ∷ [])) →
-      next phase deed ≡ Some state → IsSeemly deed × Step turns deed (job_at (Goes phase)) (job_at state)
+      IsLegalOp generation blocks turns op →
+      IsLegalRegistryHistory generation (registry_history (turns ++ turn_of who op ∷ [])) →
+      next phase op ≡ Some state → IsSeemly op × Step turns op (job_at (Goes phase)) (job_at state)
 
   -- A turn that does no job, and one that does that of the call.
-  quiet : (deed : Deed) (state : State) (o : Option State) → o ≡ Some state → IsSeemly deed → job_of deed ≡ None →
-      next_job o ≡ None → IsSeemly deed × Step turns deed None (job_at state)
-  quiet deed state o n seemly none to = (seemly, rests none (λ j e. absurd cc) (ap next_job (sym n) ∙ to))
+  quiet : (op : Op) (state : State) (o : Option State) → o ≡ Some state → IsSeemly op → job_of op ≡ None →
+      next_job o ≡ None → IsSeemly op × Step turns op None (job_at state)
+  quiet op state o n seemly none to = (seemly, rests none (λ j e. absurd cc) (ap next_job (sym n) ∙ to))
 
-  own : (j : Job) (deed : Deed) (state : State) (o : Option State) → o ≡ Some state → IsSeemly deed →
-      job_of deed ≡ Some j → IsNext j turns → next_job o ≡ follow j →
-      IsSeemly deed × Step turns deed (Some j) (job_at state)
-  own j deed state o n seemly job is_next to =
+  own : (j : Job) (op : Op) (state : State) (o : Option State) → o ≡ Some state → IsSeemly op →
+      job_of op ≡ Some j → IsNext j turns → next_job o ≡ follow j →
+      IsSeemly op × Step turns op (Some j) (job_at state)
+  own j op state o n seemly job is_next to =
       (seemly, acts j job is_next (λ i e. sym (some_is e)) (λ e. refl) (ap next_job (sym n) ∙ to))
 
-  step_told : (who : Who) (phase : Phase) (deed : Deed) (now : ℕ) (state : State) →
-      Goes_on who phase (told (asks phase now) deed) state
+  step_told : (who : Who) (phase : Phase) (op : Op) (now : ℕ) (state : State) →
+      Goes_on who phase (told (asks phase now) op) state
   step_told who (AtBegin get) (AtRegistry c (Made id)) now state has l then n = (
     (tt, tt, tt),
     acts (making id) refl (tt, legal_made who get.key get.flags id then) (λ i e. absurd cc) (λ e. absurd cc)
@@ -301,7 +301,7 @@ module _ (registry_law : EachObeys) (generation blocks : ℕ) (turns : List Turn
       own (installing id) _ state _ n (refl, refl, tt) refl (has (installing id) refl).0 refl
   step_told who (AtInstall get id) (AtSlot at c (Installed false)) now state has l then n =
       absurd (occupied id (has (installing id) refl).0 l)
-  step_told who (AtInstall get id) deed now state has l then n = absurd cc
+  step_told who (AtInstall get id) op now state has l then n = absurd cc
   step_told who (AtSettle id) (AtRegistry c (Changed true)) now state has l then n =
       own (settling id) _ state _ n (tt, tt, tt) refl (has (settling id) refl).0 refl
   step_told who (AtSettle id) (AtRegistry c (Changed false)) now state has l then n = (
@@ -319,15 +319,15 @@ module _ (registry_law : EachObeys) (generation blocks : ℕ) (turns : List Turn
           let row : Row = record { id = id; key = its.0; live = false } in
           absurd (l its.0 (is_row row
           (record { made = its.1.made; kept = its.1.kept; stage = sym (in_registry (settles id) turns) ∙ h.1 })))
-  step_told who (AtSettle id) deed now state has l then n = absurd cc
+  step_told who (AtSettle id) op now state has l then n = absurd cc
   step_told who (AtForget id blocks) (AtRegistry c (Changed true)) now state has l then n =
       own (forgetting id) _ state _ n (tt, tt, refl) refl (has (forgetting id) refl).0 refl
   step_told who (AtForget id blocks) (AtRegistry c (Changed false)) now state has l then n =
       let h = (has (forgetting id) refl).0 in
       let row = row_made id (ordered turns f (installing id) (ordered turns f (removing id) h.0)) h.1 in
       absurd (l (row_of id row.0) (is_row (row_of id row.0) row.1) refl)
-  step_told who (AtForget id blocks) deed now state has l then n = absurd cc
-  step_told who (AtUnmake id) deed now state has l then n = let bad = (has (making id) refl).1 in absurd cc
+  step_told who (AtForget id blocks) op now state has l then n = absurd cc
+  step_told who (AtUnmake id) op now state has l then n = let bad = (has (making id) refl).1 in absurd cc
   step_told who (AtRemove by id) (AtSlot at c (Discarded messages)) now state has l then n =
       let u = f.lives (slot_of_id id) id l.0 in (
         (tt, tt, tt),
@@ -352,24 +352,24 @@ module _ (registry_law : EachObeys) (generation blocks : ℕ) (turns : List Turn
 
   -- The call makes a turn.
   pub life_goes : (jobs : List (Option Job)) → Life turns jobs → (place : ℕ) (who : Who) (phase : Phase) (now : ℕ)
-      (deed : Deed) (state : State) → slice_get jobs place ≡ Some (job_at (Goes phase)) →
-      asked_by deed ≡ asks phase now → IsLegalDeed generation blocks turns deed →
-      IsLegalRegistryHistory generation (registry_history (turns ++ turn_of who deed ∷ [])) →
-      next phase deed ≡ Some state → Life (turns ++ turn_of who deed ∷ []) (slice_set jobs place (job_at state))
-  life_goes jobs l place who phase now deed state there asked legal_now then goes =
-      let s = subst (λ d. Goes_on who phase d state) (told_is (asks phase now) deed asked)
-      (step_told who phase deed now state)
+      (op : Op) (state : State) → slice_get jobs place ≡ Some (job_at (Goes phase)) →
+      asked_by op ≡ asks phase now → IsLegalOp generation blocks turns op →
+      IsLegalRegistryHistory generation (registry_history (turns ++ turn_of who op ∷ [])) →
+      next phase op ≡ Some state → Life (turns ++ turn_of who op ∷ []) (slice_set jobs place (job_at state))
+  life_goes jobs l place who phase now op state there asked legal_now then goes =
+      let s = subst (λ d. Goes_on who phase d state) (told_is (asks phase now) op asked)
+      (step_told who phase op now state)
       (λ j is. l.holds place j (there ∙ ap (λ x. Some x) is)) legal_now then goes in
-      life_turn turns who deed jobs l place (job_at (Goes phase)) (job_at state) there (record {
+      life_turn turns who op jobs l place (job_at (Goes phase)) (job_at state) there (record {
         seemly = s.0;
-        legal = legal_at_slot generation blocks turns deed legal_now;
+        legal = legal_at_slot generation blocks turns op legal_now;
         next = next_of (job_at (Goes phase)) (job_at state) s.1;
       }) s.1
     where
-      next_of : (was to : Option Job) → Step turns deed was to → (j : Job) → does j deed ≡ true → IsNext j turns
-      next_of was to (rests none gone nothing) j d = not_both (does j deed) d (no_job j deed none)
+      next_of : (was to : Option Job) → Step turns op was to → (j : Job) → does j op ≡ true → IsNext j turns
+      next_of was to (rests none gone nothing) j d = not_both (does j op) d (no_job j op none)
       next_of was to (acts i job is_next mine held then_is) j d =
-          subst (λ x. IsNext x turns) (sym (one_job j i deed d job)) is_next
+          subst (λ x. IsNext x turns) (sym (one_job j i op d job)) is_next
 
 -- ---- the actors
 
@@ -377,12 +377,12 @@ jobs_get : (actors : List (Option Doing)) (place : ℕ) (was : Option Doing) →
     slice_get (jobs_of actors) place ≡ Some (job_in was)
 jobs_get actors place was there = slice_get-map job_in actors place ∙ ap (option_map job_in) there
 
-job_is : (call : Started) (state : State) → job_in (doing_in call state) ≡ job_at state
+job_is : (call : Invocation) (state : State) → job_in (doing_in call state) ≡ job_at state
 job_is call (Goes phase) = refl
 job_is call (Waits wait) = refl
 job_is call (Over ending) = refl
 
-pub jobs_set : (actors : List (Option Doing)) (place : ℕ) (call : Started) (state : State) →
+pub jobs_set : (actors : List (Option Doing)) (place : ℕ) (call : Invocation) (state : State) →
     slice_set (jobs_of actors) place (job_at state) ≡ jobs_of (slice_set actors place (doing_in call state))
 jobs_set actors place call state = ap (slice_set (jobs_of actors) place) (sym (job_is call state))
     ∙ sym (map-slice_set job_in actors place (doing_in call state))
@@ -403,18 +403,19 @@ abbrev pub Lives : List Turn → List (Option Doing) → Type 0
 Lives turns actors = Life turns (jobs_of actors)
 
 pub lives_turn : EachObeys → (generation blocks : ℕ) (turns : List Turn) (actors : List (Option Doing)) (place : ℕ)
-    (call : Started) (phase : Phase) (now : ℕ) (deed : Deed) (state : State) →
-    slice_get actors place ≡ Some (Some record { call = call; state = Goes phase }) → asked_by deed ≡ asks phase now →
-    AreLegal generation blocks turns → IsLegalDeed generation blocks turns deed →
-    AreLegal generation blocks (turns ++ turn_of call.who deed ∷ []) → next phase deed ≡ Some state →
-    Lives turns actors → Lives (turns ++ turn_of call.who deed ∷ []) (slice_set actors place (doing_in call state))
-lives_turn law generation blocks turns actors place call phase now deed state there asked legal l then goes life =
-    subst (Life (turns ++ turn_of call.who deed ∷ [])) (jobs_set actors place call state)
-    (life_goes law generation blocks turns life.facts legal (jobs_of actors) life place call.who phase now deed state
+    (call : Invocation) (phase : Phase) (now : ℕ) (op : Op) (state : State) →
+    slice_get actors place ≡ Some (Some record { call = call; state = Goes phase }) → asked_by op ≡ asks phase now →
+    AreLegal generation blocks turns → IsLegalOp generation blocks turns op →
+    AreLegal generation blocks (turns ++ turn_of call.who op ∷ []) → next phase op ≡ Some state →
+    Lives turns actors → Lives (turns ++ turn_of call.who op ∷ []) (slice_set actors place (doing_in call state))
+lives_turn law generation blocks turns actors place call phase now op state there asked legal l then goes life =
+    subst (Life (turns ++ turn_of call.who op ∷ [])) (jobs_set actors place call state)
+    (life_goes law generation blocks turns life.facts legal (jobs_of actors) life place call.who phase now op state
     (jobs_get actors place (Some record { call = call; state = Goes phase }) there) asked l then.registry goes)
 
 -- A call that starts, or whose wait ends, has no job before and after.
-pub lives_stand : (turns : List Turn) (actors : List (Option Doing)) (place : ℕ) (was : Option Doing) (call : Started)
+pub lives_stand : (turns : List Turn) (actors : List (Option Doing)) (place : ℕ) (was : Option Doing)
+    (call : Invocation)
     (state : State) → slice_get actors place ≡ Some was → job_in was ≡ None → job_at state ≡ None →
     Lives turns actors → Lives turns (slice_set actors place (doing_in call state))
 lives_stand turns actors place was call state there none then l =
@@ -485,48 +486,48 @@ life_behind turns jobs l = record {
     there j (suc p) at = inl (p, at)
 
 -- A turn of nobody that does no job.
-pub life_apart : (turns : List Turn) (who : Who) (deed : Deed) (jobs : List (Option Job)) → Life turns jobs →
-    IsFine turns deed → job_of deed ≡ None → Life (turns ++ turn_of who deed ∷ []) jobs
-life_apart turns who deed jobs l fine none =
-    life_behind (turns ++ turn_of who deed ∷ []) jobs
-    (life_turn turns who deed (None ∷ jobs) (life_before turns jobs l) 0 None None refl fine
+pub life_apart : (turns : List Turn) (who : Who) (op : Op) (jobs : List (Option Job)) → Life turns jobs →
+    IsFine turns op → job_of op ≡ None → Life (turns ++ turn_of who op ∷ []) jobs
+life_apart turns who op jobs l fine none =
+    life_behind (turns ++ turn_of who op ∷ []) jobs
+    (life_turn turns who op (None ∷ jobs) (life_before turns jobs l) 0 None None refl fine
     (rests none (λ j e. absurd cc) refl))
 
--- The turns before a turn are legal if those up to it are, and so is its deed.
+-- The turns before a turn are legal if those up to it are, and so is its operation.
 front_legal : (generation blocks : ℕ) (turns : List Turn) (t : Turn) → AreLegal generation blocks (turns ++ t ∷ []) →
     AreLegal generation blocks turns
 front_legal generation blocks turns t l = record {
-  slots = λ slot before e after same. l.slots slot before e (after ++ slot_entry slot t.who t.deed)
+  slots = λ slot before e after same. l.slots slot before e (after ++ slot_entry slot t.who t.op)
       (slot_more slot turns t
-      ∙ (ap (λ h. h ++ slot_entry slot t.who t.deed) same ∙ append_assoc before (e ∷ after) _));
-  registry = λ before e after same. l.registry before e (after ++ registry_entry t.who t.deed)
-      (registry_more turns t ∙ (ap (λ h. h ++ registry_entry t.who t.deed) same ∙ append_assoc before (e ∷ after) _));
-  pool = λ before e after same. l.pool before e (after ++ pool_entry t.who t.deed)
-      (pool_more turns t ∙ (ap (λ h. h ++ pool_entry t.who t.deed) same ∙ append_assoc before (e ∷ after) _));
+      ∙ (ap (λ h. h ++ slot_entry slot t.who t.op) same ∙ append_assoc before (e ∷ after) _));
+  registry = λ before e after same. l.registry before e (after ++ registry_entry t.who t.op)
+      (registry_more turns t ∙ (ap (λ h. h ++ registry_entry t.who t.op) same ∙ append_assoc before (e ∷ after) _));
+  pool = λ before e after same. l.pool before e (after ++ pool_entry t.who t.op)
+      (pool_more turns t ∙ (ap (λ h. h ++ pool_entry t.who t.op) same ∙ append_assoc before (e ∷ after) _));
 }
 
-deed_legal : (generation blocks : ℕ) (turns : List Turn) (who : Who) (deed : Deed) →
-    AreLegal generation blocks (turns ++ turn_of who deed ∷ []) → IsLegalDeed generation blocks turns deed
-deed_legal generation blocks turns who (AtSlot slot call reply) l =
+op_legal : (generation blocks : ℕ) (turns : List Turn) (who : Who) (op : Op) →
+    AreLegal generation blocks (turns ++ turn_of who op ∷ []) → IsLegalOp generation blocks turns op
+op_legal generation blocks turns who (AtSlot slot call reply) l =
     l.slots slot (slot_history slot turns) (record { who = who; call = call; reply = reply }) []
     (slot_around slot turns [] who call reply)
-deed_legal generation blocks turns who (AtRegistry call reply) l =
+op_legal generation blocks turns who (AtRegistry call reply) l =
     l.registry (registry_history turns) (record { who = who; call = call; reply = reply }) []
     (registry_around turns [] who call reply)
-deed_legal generation blocks turns who (AtPool call reply) l =
+op_legal generation blocks turns who (AtPool call reply) l =
     l.pool (pool_history turns) (record { who = who; call = call; reply = reply }) []
     (pool_more turns (turn_of who (AtPool call reply)))
 
 module _ (law : EachObeys) (generation blocks : ℕ) where
-  preset_turn : (turns : List Turn) (was : Option Job) (jobs : List (Option Job)) (phase : Phase) (deed : Deed)
-      (state : State) → AreLegal generation blocks (turns ++ turn_of preset_who deed ∷ []) →
-      was ≡ job_at (Goes phase) → asked_by deed ≡ asks phase 0 → next phase deed ≡ Some state →
-      Life turns (was ∷ jobs) → Life (turns ++ turn_of preset_who deed ∷ []) (job_at state ∷ jobs)
-  preset_turn turns was jobs phase deed state legal is asked goes l =
+  preset_turn : (turns : List Turn) (was : Option Job) (jobs : List (Option Job)) (phase : Phase) (op : Op)
+      (state : State) → AreLegal generation blocks (turns ++ turn_of preset_who op ∷ []) →
+      was ≡ job_at (Goes phase) → asked_by op ≡ asks phase 0 → next phase op ≡ Some state →
+      Life turns (was ∷ jobs) → Life (turns ++ turn_of preset_who op ∷ []) (job_at state ∷ jobs)
+  preset_turn turns was jobs phase op state legal is asked goes l =
       life_goes law generation blocks turns l.facts
-      (front_legal generation blocks turns (turn_of preset_who deed) legal)
-      (was ∷ jobs) l 0 preset_who phase 0 deed state (ap (λ x. Some x) is) asked
-      (deed_legal generation blocks turns preset_who deed legal) legal.registry goes
+      (front_legal generation blocks turns (turn_of preset_who op) legal)
+      (was ∷ jobs) l 0 preset_who phase 0 op state (ap (λ x. Some x) is) asked
+      (op_legal generation blocks turns preset_who op legal) legal.registry goes
 
   pub preset_lives : (turns : List Turn) (jobs : List (Option Job)) →
       AreLegal generation blocks (with_preset_turns turns) → Life turns jobs → Life (with_preset_turns turns) jobs

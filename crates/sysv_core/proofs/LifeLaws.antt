@@ -8,7 +8,7 @@ use Rattle.std.proofs.lemmas.List.Folds.{list_any-append}
 use Rattle.sysv_model.proofs.Sharing.{all_left}
 use Rattle.sysv_model.specs.History.{Who, Entry}
 use Rattle.sysv_model.specs.Live.{IsLive}
-use Rattle.sysv_model.specs.Turn.{Deed, AtSlot, AtRegistry, AtPool, Turn, slot_history, registry_history}
+use Rattle.sysv_model.specs.Turn.{Op, AtSlot, AtRegistry, AtPool, Turn, slot_history, registry_history}
 use Rattle.sysv_queue.specs.QueueLaw.{installs}
 use Rattle.sysv_queue.specs.LegalReply.{IsLegalHistory}
 use Rattle.sysv_queue.specs.ForGood.{RemovedForGood}
@@ -90,8 +90,8 @@ SettledOnceInstalled turns = (id : ℤ) (front back : List Turn) → turns ≡ f
     is_settled id (registry_history front) ≡ true → was_installed id front ≡ true
 
 -- The turn that installs an identifier is one at its slot.
-installed_there : (id : ℤ) (before after : List Turn) (who : Who) (deed : Deed) → IsInItsSlot deed →
-    does (installing id) deed ≡ true → was_installed id (before ++ turn_of who deed ∷ after) ≡ true
+installed_there : (id : ℤ) (before after : List Turn) (who : Who) (op : Op) → IsInItsSlot op →
+    does (installing id) op ≡ true → was_installed id (before ++ turn_of who op ∷ after) ≡ true
 installed_there id before after who (AtSlot slot call reply) home now =
     let p = λ (e : Entry). installs id e.call e.reply in
     subst (λ n. list_any p (slot_history n (before ++ turn_of who (AtSlot slot call reply) ∷ after)) ≡ true)
@@ -102,20 +102,20 @@ installed_there id before after who (AtSlot slot call reply) home now =
 installed_there id before after who (AtRegistry call reply) home now = absurd cc
 installed_there id before after who (AtPool call reply) home now = absurd cc
 
-installed_front : (id : ℤ) (turns : List Turn) → All (λ (t : Turn). IsInItsSlot t.deed) turns →
+installed_front : (id : ℤ) (turns : List Turn) → All (λ (t : Turn). IsInItsSlot t.op) turns →
     done (installing id) turns ≡ true → was_installed id turns ≡ true
 installed_front id turns home e =
-    let i = passing (λ (t : Turn). does (installing id) t.deed) turns e in
-    let its = All-contains (λ (t : Turn). IsInItsSlot t.deed) turns i.it home
+    let i = passing (λ (t : Turn). does (installing id) t.op) turns e in
+    let its = All-contains (λ (t : Turn). IsInItsSlot t.op) turns i.it home
     (subst (λ (ts : List Turn). Contains ts i.it) (sym i.whole)
     (Contains-append_right i.front (i.it ∷ i.back) i.it (0, omega arith, refl {a = i.it}))) in
-    ap (was_installed id) i.whole ∙ installed_there id i.front i.back i.it.who i.it.deed its i.passes
+    ap (was_installed id) i.whole ∙ installed_there id i.front i.back i.it.who i.it.op its i.passes
 
 pub settled_once_installed : (turns : List Turn) → Facts turns → SettledOnceInstalled turns
 settled_once_installed turns f id front back whole e =
-    let s = passing (λ (t : Turn). does (settling id) t.deed) front (in_registry (settles id) front ∙ e) in
+    let s = passing (λ (t : Turn). does (settling id) t.op) front (in_registry (settles id) front ∙ e) in
     let next = f.fresh s.front (s.back ++ back) s.it (settling id)
     (whole ∙ (ap (λ ts. ts ++ back) s.whole ∙ append_assoc s.front (s.it ∷ s.back) back)) s.passes in
-    installed_front id front (all_left (λ (t : Turn). IsInItsSlot t.deed) front back
-    (subst (All (λ (t : Turn). IsInItsSlot t.deed)) whole f.home))
+    installed_front id front (all_left (λ (t : Turn). IsInItsSlot t.op) front back
+    (subst (All (λ (t : Turn). IsInItsSlot t.op)) whole f.home))
     (ap (done (installing id)) s.whole ∙ done_on (installing id) s.front (s.it ∷ s.back) next.0)

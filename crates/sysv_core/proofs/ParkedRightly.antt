@@ -13,20 +13,20 @@ use Rattle.sysv_model.specs.Live.{live, HasId}
 use Rattle.sysv_model.specs.Waiting.{waiting, waiting_on, held}
 use Rattle.sysv_model.specs.Registry.{settled}
 use Rattle.sysv_model.specs.Pool.{released}
-use Rattle.sysv_model.specs.Turn.{AtSlot, Turn, slot_history, registry_history, pool_history, deeds_of}
+use Rattle.sysv_model.specs.Turn.{AtSlot, Turn, slot_history, registry_history, pool_history, ops_of}
 use Rattle.sysv_queue.specs.Fits.{Fits as FitsOn}
 use Rattle.sysv_queue.specs.Named.{IsNamed}
 use Rattle.sysv_queue.specs.LegalReply.{IsLegalReply, IsLegalHistory}
 use Rattle.sysv_queue.specs.StaysRight.{NoMatchStays, FullStays, FullStaysForLook, CountsNeverFall}
 use Rattle.sysv_keys.specs.Identifier.{slot_of_id}
-use Rattle.sysv_objects.specs.LegalDeed.{AreLegal}
+use Rattle.sysv_objects.specs.LegalOp.{AreLegal}
 use Rattle.sysv_steps.specs.Call.{SystemCall, Msgget, Msgsnd, Msgrcv}
 use Rattle.sysv_steps.specs.State.{Getting, Sending, Receiving, Wait, OnSettled, OnFreed, OnReleased, OnArrived, Waits}
 use Rattle.sysv_steps.specs.Resume.{awaited, goal_of}
 use Rattle.sysv_steps.specs.Played.{Plays}
 use Rattle.sysv_steps.specs.HoldsAsked.{IsSend, IsReceive, WaitHolds, EachHoldsWhatItWasAsked}
 use Rattle.sysv_steps.specs.WaitsFor.{WaitsFor, FoundNone, IsLastAtSlot, EachWaitsForItsRefusal}
-use Rattle.sysv_core.specs.World.{World, Started, Doing, begun, value_of}
+use Rattle.sysv_core.specs.World.{World, Invocation, Doing, begun, value_of}
 use Rattle.sysv_core.specs.Parked.{HasNothingToTake, HasNoRoom, HasTooFewBlocks, IsToBeWoken, IsBeingChanged, HasReason}
 use Rattle.sysv_core.specs.Parked.{AreParkedRightly}
 use Rattle.sysv_core.specs.Removed.{AreRemovedForGood}
@@ -79,7 +79,7 @@ record LastAt (w : World) (slot : ℕ) (call : Call) (reply : Reply) : Type 0 wh
   all_legal : IsLegalHistory (earlier ++ since)
 
 last_at : (w : World) → AreLegal w.generation w.blocks w.turns → (who : Who) (slot : ℕ) (call : Call) (reply : Reply) →
-    IsLastAtSlot (AtSlot slot call reply) (deeds_of who w.turns) → LastAt w slot call reply
+    IsLastAtSlot (AtSlot slot call reply) (ops_of who w.turns) → LastAt w slot call reply
 last_at w legal who slot call reply f =
     let m = made_at who w.turns f.0 (AtSlot slot call reply) f.1 f.2 in
     let entry : Entry = record { who = m.by; call = call; reply = reply } in
@@ -93,7 +93,7 @@ last_at w legal who slot call reply f =
     }
 
 receive_parked : (w : World) → AreLegal w.generation w.blocks w.turns → NoMatchStays → CountsNeverFall → (who : Who)
-    (r : Receiving) (told : ℕ) → FoundNone r told (deeds_of who w.turns) →
+    (r : Receiving) (told : ℕ) → FoundNone r told (ops_of who w.turns) →
     arrived (slot_history (slot_of_id r.id) w.turns) < told + 1 →
     HasNothingToTake (slot_history (slot_of_id r.id) w.turns) r.id r.cred r.selector
 receive_parked w legal stays counts who r told f below =
@@ -121,7 +121,7 @@ module _ (w : World) (legal : AreLegal w.generation w.blocks w.turns) (counts : 
       (stays (omega (arith, low, is, (counts l.earlier l.since).1))))
 
   looker_parked : FullStays → IsLastAtSlot (AtSlot (slot_of_id s.id) (Look s.id s.cred (length s.text)) (Full told))
-      (deeds_of who w.turns) → HasNoRoom (slot_history (slot_of_id s.id) w.turns) s.id s.cred (length s.text)
+      (ops_of who w.turns) → HasNoRoom (slot_history (slot_of_id s.id) w.turns) s.id s.cred (length s.text)
   looker_parked full f =
       let call = Look s.id s.cred (length s.text) in
       let l = last_at w legal who (slot_of_id s.id) call (Full told) f in
@@ -130,7 +130,7 @@ module _ (w : World) (legal : AreLegal w.generation w.blocks w.turns) (counts : 
 
   placer_parked : FullStaysForLook → (now : ℕ) →
       IsLastAtSlot (AtSlot (slot_of_id s.id) (Place s.id s.cred s.mtype s.text now) (Full told))
-      (deeds_of who w.turns) → HasNoRoom (slot_history (slot_of_id s.id) w.turns) s.id s.cred (length s.text)
+      (ops_of who w.turns) → HasNoRoom (slot_history (slot_of_id s.id) w.turns) s.id s.cred (length s.text)
   placer_parked full now f =
       let call = Place s.id s.cred s.mtype s.text now in
       let l = last_at w legal who (slot_of_id s.id) call (Full told) f in
@@ -167,9 +167,9 @@ IsShortOf w wait = Unit {0}
 module _ (laws : EachObeys) (w : World) (legal : AreLegal w.generation w.blocks w.turns) (no_match : NoMatchStays)
     (full : FullStays)
     (full_for_look : FullStaysForLook) (counts : CountsNeverFall) (tended : AreTended w)
-    (good : AreRemovedForGood w.turns) (order : SettledOnceInstalled w.turns) (call : Started) where
+    (good : AreRemovedForGood w.turns) (order : SettledOnceInstalled w.turns) (call : Invocation) where
   has_reason : (asked : SystemCall) (wait : Wait) → WaitHolds call.cred asked wait → IsShortOf w wait →
-      WaitsFor wait (deeds_of call.who w.turns) → value_of w.turns (awaited wait) < goal_of wait →
+      WaitsFor wait (ops_of call.who w.turns) → value_of w.turns (awaited wait) < goal_of wait →
       HasReason w call.cred asked wait
   has_reason (Msgrcv id size mtype flags) (OnArrived goal r) holds short (told, is, f) below =
       a_receive w.turns call.cred id size mtype flags r holds
@@ -196,19 +196,19 @@ module _ (laws : EachObeys) (w : World) (legal : AreLegal w.generation w.blocks 
 
 pub parked_rightly : EachObeys → (w : World) → AreLegal w.generation w.blocks w.turns →
     ((place : ℕ) (d : Doing) → slice_get w.actors place ≡ Some (Some d) →
-    Plays (begun d.call) (deeds_of d.call.who w.turns) d.state) →
+    Plays (begun d.call) (ops_of d.call.who w.turns) d.state) →
     NoMatchStays → FullStays → FullStaysForLook → CountsNeverFall → EachWaitsForItsRefusal → EachHoldsWhatItWasAsked →
     AreTended w → AreRemovedForGood w.turns → SettledOnceInstalled w.turns → AreShort w → AreToBeWoken w →
     AreParkedRightly w
 parked_rightly laws w legal plays no_match full full_for_look counts refused holds tended good order short woken place d
     wait
     p =
-    let played : Plays (begun d.call) (deeds_of d.call.who w.turns) (Waits wait) =
-    subst (Plays (begun d.call) (deeds_of d.call.who w.turns)) p.waits (plays place d p.there) in
+    let played : Plays (begun d.call) (ops_of d.call.who w.turns) (Waits wait) =
+    subst (Plays (begun d.call) (ops_of d.call.who w.turns)) p.waits (plays place d p.there) in
     has_reason laws w legal no_match full full_for_look counts tended good order d.call d.call.asked wait
-    (holds d.call.cred d.call.asked d.call.released (deeds_of d.call.who w.turns) (Waits wait) played)
+    (holds d.call.cred d.call.asked d.call.released (ops_of d.call.who w.turns) (Waits wait) played)
     (short_of wait p.waits)
-    (refused d.call.cred d.call.asked d.call.released (deeds_of d.call.who w.turns) wait played) p.below
+    (refused d.call.cred d.call.asked d.call.released (ops_of d.call.who w.turns) wait played) p.below
   where
     short_of : (x : Wait) → d.state ≡ Waits x → IsShortOf w x
     short_of (OnReleased goal send) is = λ below.

@@ -8,9 +8,9 @@ use Rattle.std.proofs.lemmas.List.Elements.{filter-append}
 use Rattle.std.proofs.lemmas.Bool.{eqb-true}
 use Rattle.std.proofs.lemmas.Bool.Decides.{nat_tests}
 use Rattle.sysv_model.specs.History.{Who, Actor, Seat}
-use Rattle.sysv_model.specs.Turn.{Turn, is_same, deeds_of}
+use Rattle.sysv_model.specs.Turn.{Turn, is_same, ops_of}
 use Rattle.sysv_steps.specs.State.{State, Goes, Waits, Over}
-use Rattle.sysv_core.specs.World.{Started, Doing, Given, doing_in, given_in}
+use Rattle.sysv_core.specs.World.{Invocation, Doing, Response, doing_in, response_in}
 use Rattle.sysv_core.specs.AnswerLaw.{endings_of, stands_in, standing_of, ended, standing}
 use Rattle.sysv_core.proofs.Life.{both_true}
 use Rattle.sysv_core.proofs.Lists.{get_set_same, get_set_other, same_place}
@@ -41,54 +41,55 @@ not_same c d f = told_apart c d (is_same c d) refl f
 
 -- ---- turns
 
-deeds_more : (who : Who) (turns : List Turn) (t : Turn) →
-    deeds_of who (turns ++ t ∷ [])
-    ≡ deeds_of who turns ++ map (λ (x : Turn). x.deed) (cond (is_same who t.who) (t ∷ []) [])
-deeds_more who turns t =
-    ap (map (λ (x : Turn). x.deed)) (filter-append (λ (x : Turn). is_same who x.who) turns (t ∷ []))
-    ∙ map-append (λ (x : Turn). x.deed) (filter (λ (x : Turn). is_same who x.who) turns)
+ops_more : (who : Who) (turns : List Turn) (t : Turn) →
+    ops_of who (turns ++ t ∷ [])
+    ≡ ops_of who turns ++ map (λ (x : Turn). x.op) (cond (is_same who t.who) (t ∷ []) [])
+ops_more who turns t =
+    ap (map (λ (x : Turn). x.op)) (filter-append (λ (x : Turn). is_same who x.who) turns (t ∷ []))
+    ∙ map-append (λ (x : Turn). x.op) (filter (λ (x : Turn). is_same who x.who) turns)
     (cond (is_same who t.who) (t ∷ []) [])
 
-pub own_deed : (who : Who) (turns : List Turn) (t : Turn) → is_same who t.who ≡ true →
-    deeds_of who (turns ++ t ∷ []) ≡ deeds_of who turns ++ t.deed ∷ []
-own_deed who turns t e =
-    deeds_more who turns t ∙ ap (λ b. deeds_of who turns ++ map (λ (x : Turn). x.deed) (cond b (t ∷ []) [])) e
+pub own_op : (who : Who) (turns : List Turn) (t : Turn) → is_same who t.who ≡ true →
+    ops_of who (turns ++ t ∷ []) ≡ ops_of who turns ++ t.op ∷ []
+own_op who turns t e =
+    ops_more who turns t ∙ ap (λ b. ops_of who turns ++ map (λ (x : Turn). x.op) (cond b (t ∷ []) [])) e
 
-pub other_deed : (who : Who) (turns : List Turn) (t : Turn) → is_same who t.who ≡ false →
-    deeds_of who (turns ++ t ∷ []) ≡ deeds_of who turns
-other_deed who turns t e = deeds_more who turns t
-    ∙ (ap (λ b. deeds_of who turns ++ map (λ (x : Turn). x.deed) (cond b (t ∷ []) [])) e
-    ∙ append-nil (deeds_of who turns))
+pub other_op : (who : Who) (turns : List Turn) (t : Turn) → is_same who t.who ≡ false →
+    ops_of who (turns ++ t ∷ []) ≡ ops_of who turns
+other_op who turns t e = ops_more who turns t
+    ∙ (ap (λ b. ops_of who turns ++ map (λ (x : Turn). x.op) (cond b (t ∷ []) [])) e
+    ∙ append-nil (ops_of who turns))
 
 -- ---- endings
 
-endings_more : (who : Who) (given : List Given) (g : Given) →
-    endings_of who (given ++ g ∷ [])
-    ≡ endings_of who given ++ map (λ (x : Given). x.ending) (cond (is_same who g.call.who) (g ∷ []) [])
-endings_more who given g =
-    ap (map (λ (x : Given). x.ending)) (filter-append (λ (x : Given). is_same who x.call.who) given (g ∷ []))
-    ∙ map-append (λ (x : Given). x.ending) (filter (λ (x : Given). is_same who x.call.who) given)
+endings_more : (who : Who) (responses : List Response) (g : Response) →
+    endings_of who (responses ++ g ∷ [])
+    ≡ endings_of who responses ++ map (λ (x : Response). x.ending) (cond (is_same who g.call.who) (g ∷ []) [])
+endings_more who responses g =
+    ap (map (λ (x : Response). x.ending)) (filter-append (λ (x : Response). is_same who x.call.who) responses (g ∷ []))
+    ∙ map-append (λ (x : Response). x.ending) (filter (λ (x : Response). is_same who x.call.who) responses)
     (cond (is_same who g.call.who) (g ∷ []) [])
 
-pub other_endings : (who : Who) (given : List Given) (call : Started) (state : State) → is_same who call.who ≡ false →
-    endings_of who (given ++ given_in call state) ≡ endings_of who given
-other_endings who given call (Goes phase) e = ap (endings_of who) (append-nil given)
-other_endings who given call (Waits wait) e = ap (endings_of who) (append-nil given)
-other_endings who given call (Over ending) e =
-    let g : Given = record { call = call; ending = ending } in
-    endings_more who given g
-    ∙ (ap (λ b. endings_of who given ++ map (λ (x : Given). x.ending) (cond b (g ∷ []) [])) e
-    ∙ append-nil (endings_of who given))
+pub other_endings : (who : Who) (responses : List Response) (call : Invocation) (state : State) →
+    is_same who call.who ≡ false →
+    endings_of who (responses ++ response_in call state) ≡ endings_of who responses
+other_endings who responses call (Goes phase) e = ap (endings_of who) (append-nil responses)
+other_endings who responses call (Waits wait) e = ap (endings_of who) (append-nil responses)
+other_endings who responses call (Over ending) e =
+    let g : Response = record { call = call; ending = ending } in
+    endings_more who responses g
+    ∙ (ap (λ b. endings_of who responses ++ map (λ (x : Response). x.ending) (cond b (g ∷ []) [])) e
+    ∙ append-nil (endings_of who responses))
 
 -- A call without an ending has that of its state afterwards.
-pub own_endings : (given : List Given) (call : Started) (state : State) → is_same call.who call.who ≡ true →
-    endings_of call.who given ≡ [] → endings_of call.who (given ++ given_in call state) ≡ ended state
-own_endings given call (Goes phase) same none = ap (endings_of call.who) (append-nil given) ∙ none
-own_endings given call (Waits wait) same none = ap (endings_of call.who) (append-nil given) ∙ none
-own_endings given call (Over ending) same none =
-    let g : Given = record { call = call; ending = ending } in
-    endings_more call.who given g
-    ∙ (ap (λ b. endings_of call.who given ++ map (λ (x : Given). x.ending) (cond b (g ∷ []) [])) same
+pub own_endings : (responses : List Response) (call : Invocation) (state : State) → is_same call.who call.who ≡ true →
+    endings_of call.who responses ≡ [] → endings_of call.who (responses ++ response_in call state) ≡ ended state
+own_endings responses call (Goes phase) same none = ap (endings_of call.who) (append-nil responses) ∙ none
+own_endings responses call (Waits wait) same none = ap (endings_of call.who) (append-nil responses) ∙ none
+own_endings responses call (Over ending) same none =
+    let g : Response = record { call = call; ending = ending } in
+    endings_more call.who responses g
+    ∙ (ap (λ b. endings_of call.who responses ++ map (λ (x : Response). x.ending) (cond b (g ∷ []) [])) same
     ∙ ap (λ es. es ++ ending ∷ []) none)
 
 -- ---- actors
@@ -98,7 +99,7 @@ abbrev pub IsIn : Who → Option Doing → Type 0
 IsIn who None = Unit {0}
 IsIn who (Some doing) = doing.call.who ≡ who
 
-in_its_state : (call : Started) (state : State) → IsIn call.who (doing_in call state)
+in_its_state : (call : Invocation) (state : State) → IsIn call.who (doing_in call state)
 in_its_state call (Goes phase) = refl
 in_its_state call (Waits wait) = refl
 in_its_state call (Over ending) = tt
@@ -108,7 +109,7 @@ not_in who other None e i = refl
 not_in who other (Some d) e i =
     ap (λ b. cond b (Some d.state) None) (subst (λ name. is_same other name ≡ false) (sym i) e)
 
-own_in : (call : Started) (state : State) → is_same call.who call.who ≡ true →
+own_in : (call : Invocation) (state : State) → is_same call.who call.who ≡ true →
     stands_in call.who (Some (doing_in call state)) ≡ standing state
 own_in call (Goes phase) same = ap (λ b. cond b (Some (Goes phase)) None) same
 own_in call (Waits wait) same = ap (λ b. cond b (Some (Waits wait)) None) same
@@ -121,7 +122,7 @@ at_actor (Actor (suc p) s) place start actors e =
     let same : p ≡ place = cc in ap (λ n. stands_in (Actor (suc p) s) (slice_get actors n)) same
 at_actor (Seat n) place start actors e = absurd cc
 
-pub own_standing : (actors : List (Option Doing)) (place start : ℕ) (was : Option Doing) (call : Started)
+pub own_standing : (actors : List (Option Doing)) (place start : ℕ) (was : Option Doing) (call : Invocation)
     (state : State) → call.who ≡ Actor (suc place) start → slice_get actors place ≡ Some was →
     standing_of call.who (slice_set actors place (doing_in call state)) ≡ standing state
 own_standing actors place start was call state who there =
@@ -129,7 +130,8 @@ own_standing actors place start was call state who there =
     ∙ (ap (stands_in call.who) (get_set_same actors place (doing_in call state) was there)
     ∙ own_in call state (same_itself place start call.who who))
 
-elsewhere : (actors : List (Option Doing)) (place : ℕ) (was : Option Doing) (call : Started) (state : State) (p s : ℕ) →
+elsewhere : (actors : List (Option Doing)) (place : ℕ) (was : Option Doing) (call : Invocation) (state : State)
+    (p s : ℕ) →
     is_same (Actor (suc p) s) call.who ≡ false →
     slice_get actors place ≡ Some was → IsIn call.who was →
     standing_of (Actor (suc p) s) (slice_set actors place (doing_in call state)) ≡ standing_of (Actor (suc p) s) actors
@@ -144,7 +146,7 @@ elsewhere actors place was call state p s apart there i = elim (same_place place
   | inr other ↦ ap (stands_in (Actor (suc p) s)) (get_set_other actors place p (doing_in call state) other)
 ]
 
-pub other_standing : (who : Who) (actors : List (Option Doing)) (place : ℕ) (was : Option Doing) (call : Started)
+pub other_standing : (who : Who) (actors : List (Option Doing)) (place : ℕ) (was : Option Doing) (call : Invocation)
     (state : State) → is_same who call.who ≡ false →
     slice_get actors place ≡ Some was → IsIn call.who was →
     standing_of who (slice_set actors place (doing_in call state)) ≡ standing_of who actors

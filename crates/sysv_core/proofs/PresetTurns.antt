@@ -94,7 +94,7 @@ module _ (one : NoTwoRepliesAreLegal) (unused : UnusedSlots) (generation : ℕ) 
     still_vacant : live (slot_history 0 (turns ++ turn_of preset_who preset_begin ∷ [])) ≡ None
     still_vacant =
         ap live
-        (flat_map-append (λ (x : Turn). slot_entry 0 x.who x.deed) turns (turn_of preset_who preset_begin ∷ [])
+        (flat_map-append (λ (x : Turn). slot_entry 0 x.who x.op) turns (turn_of preset_who preset_begin ∷ [])
         ∙ append-nil (slot_history 0 turns)) ∙ vacant
 
     legal_install : (b : Bool) →
@@ -120,10 +120,10 @@ module _ (one : NoTwoRepliesAreLegal) (unused : UnusedSlots) (generation : ℕ) 
     registry_is : registry_history ((turns ++ turn_of preset_who preset_begin ∷ []) ++ turn_of preset_who preset_install
         ∷ []) ≡ registry_history turns ++ registry_entry preset_who preset_begin
     registry_is =
-        flat_map-append (λ (x : Turn). registry_entry x.who x.deed) (turns ++ turn_of preset_who preset_begin ∷ [])
+        flat_map-append (λ (x : Turn). registry_entry x.who x.op) (turns ++ turn_of preset_who preset_begin ∷ [])
         (turn_of preset_who preset_install ∷ [])
         ∙ (append-nil (registry_history (turns ++ turn_of preset_who preset_begin ∷ []))
-        ∙ flat_map-append (λ (x : Turn). registry_entry x.who x.deed) turns (turn_of preset_who preset_begin ∷ []))
+        ∙ flat_map-append (λ (x : Turn). registry_entry x.who x.op) turns (turn_of preset_who preset_begin ∷ []))
 
     settles_zero : MakesTurn second (AtRegistry (Settle (pos 0)) (Changed settled)) new
     settles_zero = subst (λ i. MakesTurn second (AtRegistry (Settle i) (Changed settled)) new) is_zero settles

@@ -9,42 +9,43 @@ use Rattle.sysv_core.specs.declared.event.Event.TheVariants.{Start, Step}
 use Rattle.sysv_core.specs.declared.event.Answer.{Answer}
 use Rattle.sysv_core.specs.declared.event.Stepped.{Stepped}
 use Rattle.sysv_core.specs.declared.event.Stepped.TheVariants as stepped
-use Rattle.sysv_core.specs.World.{World, Opening, Given, Happening, Preset, opening, Makes}
+use Rattle.sysv_core.specs.World.{World, Opening, Response, Happening, Preset, opening, Makes}
 use Rattle.sysv_core.specs.Run.{Leads}
 use Rattle.sysv_core.specs.Seen.{Seen, StandsFor, happening_of, Tells, TellAll, Gives, PresetsSeen, StepsSeen}
 use Rattle.sysv_core.specs.Tallying.{is_got, messages_given, messages_in}
 use Rattle.sysv_core.specs.Headline.{StandsWithEvent, RunsOn, LawsHold, EveryRunObeys}
 
-pub leads_more : (w : World) (xs : List Happening) (x : Happening) (given more : List Given) (mid after : World) →
-    Leads w xs given mid → Makes mid x more after → Leads w (xs ++ x ∷ []) (given ++ more) after
-leads_more w [] x given more mid after l g =
-    let none : given ≡ [] = l.0 in
+pub leads_more : (w : World) (xs : List Happening) (x : Happening) (responses more : List Response)
+    (mid after : World) →
+    Leads w xs responses mid → Makes mid x more after → Leads w (xs ++ x ∷ []) (responses ++ more) after
+leads_more w [] x responses more mid after l g =
+    let none : responses ≡ [] = l.0 in
     let here = subst (λ (v : World). Makes v x more after) l.1 g in
     (after, more, [], here, (refl, refl), ap (λ gs. gs ++ more) none ∙ sym (append-nil more))
-leads_more w (y ∷ xs) x given more mid after l g =
+leads_more w (y ∷ xs) x responses more mid after l g =
     let rest = leads_more l.0 xs x l.2 more mid after l.4 g in
     (l.0, l.1, l.2 ++ more, l.3, rest, ap (λ gs. gs ++ more) l.5 ∙ append_assoc l.1 l.2 more)
 
-pub stands_preset : (o : Opening) (es : List Happening) (given : List Given) (old new : Seen) (made : Bool) →
-    StandsFor o es given old → PresetsSeen old made new → StandsFor o (es ++ Preset ∷ []) given new
-stands_preset o es given old new made s goes =
+pub stands_preset : (o : Opening) (es : List Happening) (responses : List Response) (old new : Seen) (made : Bool) →
+    StandsFor o es responses old → PresetsSeen old made new → StandsFor o (es ++ Preset ∷ []) responses new
+stands_preset o es responses old new made s goes =
     let g = goes s.world s.sight in
     record {
       world = g.0;
-      led = subst (λ gs. Leads (opening o) (es ++ Preset ∷ []) gs g.0) (append-nil given)
-          (leads_more (opening o) es Preset given [] s.world g.0 s.led (refl, (made, g.1)));
+      led = subst (λ gs. Leads (opening o) (es ++ Preset ∷ []) gs g.0) (append-nil responses)
+          (leads_more (opening o) es Preset responses [] s.world g.0 s.led (refl, (made, g.1)));
       sight = g.2;
     }
 
 pub stands_step : (old new : Seen) (event : Event) (result : Stepped) → StepsSeen old event result new →
     StandsWithEvent old event result new
-stands_step old new event result goes = λ o es given s.
+stands_step old new event result goes = λ o es responses s.
     let g = goes s.world s.sight in (
       g.1.0,
       g.1.2,
       record {
         world = g.0;
-        led = leads_more (opening o) es (happening_of event) given g.1.0 s.world g.0 s.led g.1.1;
+        led = leads_more (opening o) es (happening_of event) responses g.1.0 s.world g.0 s.led g.1.1;
         sight = g.2;
       },
     )
@@ -68,25 +69,26 @@ messages_more answers a =
 
 -- From one list for which a world stood to that list and the events since then, with their answers.
 pub record UnderWay (start now : Seen) (done : List Event) (answers : List Answer) : Type 0 where
-  pub goes : (o : Opening) (es : List Happening) (given : List Given) → StandsFor o es given start →
-      (more : List Given) × TellAll more answers × StandsFor o (es ++ map happening_of done) (given ++ more) now
+  pub goes : (o : Opening) (es : List Happening) (responses : List Response) → StandsFor o es responses start →
+      (more : List Response) × TellAll more answers × StandsFor o (es ++ map happening_of done) (responses ++ more) now
 
 pub under_way : (start : Seen) → UnderWay start start [] []
 under_way start = record {
-  goes = λ o es given s. (
+  goes = λ o es responses s. (
     [],
     tt,
-    subst (λ gs. StandsFor o (es ++ []) gs start) (sym (append-nil given))
-        (subst (λ xs. StandsFor o xs given start) (sym (append-nil es)) s),
+    subst (λ gs. StandsFor o (es ++ []) gs start) (sym (append-nil responses))
+        (subst (λ xs. StandsFor o xs responses start) (sym (append-nil es)) s),
   );
 }
 
-one_told : (given : List Given) (answers : List Answer) (g : Given) (a : Answer) → TellAll given answers → Tells g a →
-    TellAll (given ++ g ∷ []) (answers ++ a ∷ [])
+one_told : (responses : List Response) (answers : List Answer) (g : Response) (a : Answer) → TellAll responses answers →
+    Tells g a →
+    TellAll (responses ++ g ∷ []) (answers ++ a ∷ [])
 one_told [] [] g a all one = (one, tt)
 one_told [] (b ∷ answers) g a all one = absurd all
-one_told (h ∷ given) [] g a all one = absurd all
-one_told (h ∷ given) (b ∷ answers) g a all one = (all.0, one_told given answers g a all.1 one)
+one_told (h ∷ responses) [] g a all one = absurd all
+one_told (h ∷ responses) (b ∷ answers) g a all one = (all.0, one_told responses answers g a all.1 one)
 
 -- The result of an event, as answers.
 abbrev pub answers_in : Stepped → List Answer
@@ -94,30 +96,33 @@ answers_in (stepped.Answer answer) = answer ∷ []
 answers_in stepped.Nothing = []
 answers_in stepped.Worn = []
 
-more_told : (w : World) (given more : List Given) (answers : List Answer) (result : Stepped) → TellAll given answers →
-    Gives w more result → TellAll (given ++ more) (answers ++ answers_in result)
-more_told w given more answers (stepped.Answer a) all g =
-    subst (λ xs. TellAll (given ++ xs) (answers ++ a ∷ [])) (sym g.1.1) (one_told given answers g.1.0 a all g.1.2)
-more_told w given more answers stepped.Nothing all g =
-    subst (λ xs. TellAll (given ++ xs) (answers ++ [])) (sym g.1)
-    (subst (λ xs. TellAll xs (answers ++ [])) (sym (append-nil given))
-    (subst (TellAll given) (sym (append-nil answers)) all))
-more_told w given more answers stepped.Worn all g =
-    subst (λ xs. TellAll (given ++ xs) (answers ++ [])) (sym g.1)
-    (subst (λ xs. TellAll xs (answers ++ [])) (sym (append-nil given))
-    (subst (TellAll given) (sym (append-nil answers)) all))
+more_told : (w : World) (responses more : List Response) (answers : List Answer) (result : Stepped) →
+    TellAll responses answers →
+    Gives w more result → TellAll (responses ++ more) (answers ++ answers_in result)
+more_told w responses more answers (stepped.Answer a) all g =
+    subst (λ xs. TellAll (responses ++ xs) (answers ++ a ∷ [])) (sym g.1.1)
+    (one_told responses answers g.1.0 a all g.1.2)
+more_told w responses more answers stepped.Nothing all g =
+    subst (λ xs. TellAll (responses ++ xs) (answers ++ [])) (sym g.1)
+    (subst (λ xs. TellAll xs (answers ++ [])) (sym (append-nil responses))
+    (subst (TellAll responses) (sym (append-nil answers)) all))
+more_told w responses more answers stepped.Worn all g =
+    subst (λ xs. TellAll (responses ++ xs) (answers ++ [])) (sym g.1)
+    (subst (λ xs. TellAll xs (answers ++ [])) (sym (append-nil responses))
+    (subst (TellAll responses) (sym (append-nil answers)) all))
 
 pub goes_on : (start now new : Seen) (done : List Event) (answers : List Answer) (event : Event) (result : Stepped) →
     UnderWay start now done answers → StandsWithEvent now event result new →
     UnderWay start new (done ++ event ∷ []) (answers ++ answers_in result)
 goes_on start now new done answers event result u step = record {
-  goes = λ o es given s.
-      let one = u.goes o es given s in
-      let two = step o (es ++ map happening_of done) (given ++ one.0) one.2 in (
+  goes = λ o es responses s.
+      let one = u.goes o es responses s in
+      let two = step o (es ++ map happening_of done) (responses ++ one.0) one.2 in (
         one.0 ++ two.0,
         more_told one.2.world one.0 two.0 answers result one.1 two.1,
-        subst (λ gs. StandsFor o (es ++ map happening_of (done ++ event ∷ [])) gs new) (append_assoc given one.0 two.0)
-            (subst (λ xs. StandsFor o xs ((given ++ one.0) ++ two.0) new)
+        subst (λ gs. StandsFor o (es ++ map happening_of (done ++ event ∷ [])) gs new)
+            (append_assoc responses one.0 two.0)
+            (subst (λ xs. StandsFor o xs ((responses ++ one.0) ++ two.0) new)
             (append_assoc es (map happening_of done) (happening_of event ∷ [])
             ∙ ap (λ xs. es ++ xs) (sym (map-append happening_of done (event ∷ [])))) two.2),
       );
@@ -125,12 +130,12 @@ goes_on start now new done answers event result u step = record {
 
 pub runs_on : (start new : Seen) (events done left : List Event) (answers : List Answer) →
     UnderWay start new done answers → events ≡ done ++ left → (left ≡ []) ⊎ (WORN ≤ new.steps) →
-    (o : Opening) (es : List Happening) (given : List Given) → StandsFor o es given start →
-    RunsOn o es given events answers new
-runs_on start new events done left answers u split worn o es given s =
-    let g = u.goes o es given s in
+    (o : Opening) (es : List Happening) (responses : List Response) → StandsFor o es responses start →
+    RunsOn o es responses events answers new
+runs_on start new events done left answers u split worn o es responses s =
+    let g = u.goes o es responses s in
     record { done = done; left = left; more = g.0; split = split; worn = worn; told = g.1; stands = g.2 }
 
 -- The world of each list obeys the laws.
 pub laws_hold : EveryRunObeys → (seen : Seen) → LawsHold seen
-laws_hold obeys seen = λ o list given s. obeys o list given s.world s.led
+laws_hold obeys seen = λ o list responses s. obeys o list responses s.world s.led

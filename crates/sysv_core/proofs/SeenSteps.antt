@@ -8,11 +8,11 @@ use Rattle.sysv_model.specs.declared.cred.Cred.{Cred}
 use Rattle.sysv_model.specs.declared.limits.TheConstants.{WORN}
 use Rattle.sysv_model.specs.History.{Who}
 use Rattle.sysv_model.specs.Pool.{released}
-use Rattle.sysv_model.specs.Turn.{Deed, Turn, pool_history, registry_history}
+use Rattle.sysv_model.specs.Turn.{Op, Turn, pool_history, registry_history}
 use Rattle.sysv_keys.specs.Rows.{IsUnused}
 use Rattle.sysv_keys.specs.Unused.{UnusedSlots}
 use Rattle.sysv_queue.specs.Tally.{Tallied}
-use Rattle.sysv_objects.specs.LegalDeed.{IsLegalDeed, AreLegal}
+use Rattle.sysv_objects.specs.LegalOp.{IsLegalOp, AreLegal}
 use Rattle.sysv_objects.specs.Objects.{Objects}
 use Rattle.sysv_objects.specs.StandsFor.{StandsFor as ObjectsStandFor}
 use Rattle.sysv_steps.specs.State.{Phase, Wait, Ending, State, Goes, Waits, Over}
@@ -29,8 +29,9 @@ use Rattle.sysv_core.specs.declared.doing.Standing.{Standing}
 use Rattle.sysv_core.specs.declared.doing.Standing.TheVariants as standing
 use Rattle.sysv_core.specs.declared.event.Stepped.{Stepped}
 use Rattle.sysv_core.specs.declared.event.Stepped.TheVariants as stepped
-use Rattle.sysv_core.specs.World.{World, Started, Doing, Given, Start as Begun, Step as Stepping, Preset, actor_at}
-use Rattle.sysv_core.specs.World.{doing_in, given_in, in_state, with_call, starting, begun, value_of, Continues}
+use Rattle.sysv_core.specs.World.{World, Invocation, Doing, Response, Start as Begun, Step as Stepping, Preset}
+use Rattle.sysv_core.specs.World.{actor_at}
+use Rattle.sysv_core.specs.World.{doing_in, response_in, in_state, with_call, starting, begun, value_of, Continues}
 use Rattle.sysv_core.specs.World.{StartsAt, StepsAt, Presets, with_preset}
 use Rattle.sysv_core.specs.Kinds.{kind_of, phase_kind, wait_kind, gives_back, IsOf}
 use Rattle.sysv_core.specs.Sound.{IsToCaller, StaysSound}
@@ -72,7 +73,7 @@ never_over ending (doing.Stat step) e = cc
 never_over ending (doing.Set step) e = cc
 never_over ending (doing.Remove step) e = cc
 
-state_led : (call : Started) (b : Bool) (state : State) (l : Led) → LeadsTo b state l →
+state_led : (call : Invocation) (b : Bool) (state : State) (l : Led) → LeadsTo b state l →
     state_in (doing_in call state) ≡ kept_led l
 state_led call b (Goes phase) (led.To doing) h = ap Some h
 state_led call b (Waits wait) (led.To doing) h = ap Some h
@@ -81,14 +82,14 @@ state_led call b (Over ending) (led.Over ended) h = refl
 state_led call b state l h = absurd h
 
 -- The result of a start or a step is reported.
-tells_led : (w : World) (call : Started) (actor : ℕ) (state : State) (l : Led) → w.steps < WORN →
+tells_led : (w : World) (call : Invocation) (actor : ℕ) (state : State) (l : Led) → w.steps < WORN →
     IsToCaller call.who actor → LeadsTo (gives_back (Some (kind_of call.asked))) state l →
-    Gives w (given_in call state) (told_by actor l)
+    Gives w (response_in call state) (told_by actor l)
 tells_led w call actor (Goes phase) (led.To doing) young own h = (young, refl)
 tells_led w call actor (Waits wait) (led.To doing) young own h = (young, refl)
 tells_led w call actor (Over ending) (led.To doing) young own h = absurd (never_over ending doing h)
 tells_led w call actor (Over ending) (led.Over ended) young own h =
-    let g : Given = record { call = call; ending = ending } in
+    let g : Response = record { call = call; ending = ending } in
     (young, (g, refl, record { caller = own; ending = h }))
 tells_led w call actor state l young own h = absurd h
 
@@ -207,16 +208,16 @@ module _ (w : World) (seen : Seen) (s : IsSeenAs w seen) (sound : StaysSound) wh
       let after : World = in_state (with_call w started) (suc n) started state in
       let made = inr (
         young,
-        subst (λ o. StartsAt w (suc n) cred asked o (given_in started state) after) (sym idle) (refl, refl),
+        subst (λ o. StartsAt w (suc n) cred asked o (response_in started state) after) (sym idle) (refl, refl),
       ) in (
         after,
-        (given_in started state, made, tells_led w started (suc n) state l young refl to),
+        (response_in started state, made, tells_led w started (suc n) state l young refl to),
         record {
           objects = s.objects;
           states = set_states n (doing_in started state) (kept_led l)
               (state_led started (gives_back (Some (kind_of asked))) state l to)
               ∙ ap (λ k. slice_set seen.states k (kept_led l)) same;
-          sound = sound w after (Begun (suc n) cred asked) (given_in started state) s.sound made;
+          sound = sound w after (Begun (suc n) cred asked) (response_in started state) s.sound made;
           steps = ap (λ k. k + 1) s.steps;
           blocks = s.blocks;
         },
@@ -240,20 +241,20 @@ module _ (w : World) (seen : Seen) (s : IsSeenAs w seen) (sound : StaysSound) wh
       ObjectsStandFor w.generation turns objects → objects.pool.size ≡ seen.objects.pool.size →
       LeadsTo (gives_back (Some (kind_of d.call.asked))) state l →
       let after : World = in_state (record w { turns = turns }) (suc n) d.call state in
-      Continues w (suc n) now d.call d.state (given_in d.call state) after →
+      Continues w (suc n) now d.call d.state (response_in d.call state) after →
       Moves w (Step (suc n) now) (told_by (suc n) l) (led_on seen place l objects)
   goes n place now l objects d turns state young same busy own stands size to continues =
       let after : World = in_state (record w { turns = turns }) (suc n) d.call state in
       let made =
-      inr (young, subst (λ o. StepsAt w (suc n) now o (given_in d.call state) after) (sym busy) continues) in (
+      inr (young, subst (λ o. StepsAt w (suc n) now o (response_in d.call state) after) (sym busy) continues) in (
         after,
-        (given_in d.call state, made, tells_led w d.call (suc n) state l young own to),
+        (response_in d.call state, made, tells_led w d.call (suc n) state l young own to),
         record {
           objects = stands;
           states = set_states n (doing_in d.call state) (kept_led l)
               (state_led d.call (gives_back (Some (kind_of d.call.asked))) state l to)
               ∙ ap (λ k. slice_set seen.states k (kept_led l)) same;
-          sound = sound w after (Stepping (suc n) now) (given_in d.call state) s.sound made;
+          sound = sound w after (Stepping (suc n) now) (response_in d.call state) s.sound made;
           steps = ap (λ k. k + 1) s.steps ∙ counts_led _ state l seen.steps to;
           blocks = s.blocks ∙ sym size;
         },
@@ -267,14 +268,14 @@ module _ (w : World) (seen : Seen) (s : IsSeenAs w seen) (sound : StaysSound) wh
       let kind : phase_kind p ≡ Some (kind_of d.call.asked) = subst (IsOf (kind_of d.call.asked)) is own.0 in
       let to : LeadsTo (gives_back (Some (kind_of d.call.asked))) turn.state l =
       subst (λ k. LeadsTo (gives_back k) turn.state l) kind turn.leads in
-      let legal = subst (λ n. IsLegalDeed w.generation n w.turns turn.deed) (sym s.blocks)
+      let legal = subst (λ n. IsLegalOp w.generation n w.turns turn.op) (sym s.blocks)
       (turn.turn.legal w.generation w.turns s.objects) in
-      let turns = w.turns ++ record { who = d.call.who; deed = turn.deed } ∷ [] in
+      let turns = w.turns ++ record { who = d.call.who; op = turn.op } ∷ [] in
       let after : World = in_state (record w { turns = turns }) (suc n) d.call turn.state in
       goes n place now l objects d turns turn.state young same busy own.1
       (turn.turn.stands w.generation w.turns d.call.who s.objects) turn.turn.size to
-      (subst (λ st. Continues w (suc n) now d.call st (given_in d.call turn.state) after) (sym is)
-      (turn.deed, turn.state, turn.asked, legal, turn.goes, refl, refl))
+      (subst (λ st. Continues w (suc n) now d.call st (response_in d.call turn.state) after) (sym is)
+      (turn.op, turn.state, turn.asked, legal, turn.goes, refl, refl))
 
   -- The actor still waits.
   stays_here : (n place now : ℕ) (wait : Wait) (l : Led) (d : Doing) → w.steps < WORN →
@@ -310,7 +311,7 @@ module _ (w : World) (seen : Seen) (s : IsSeenAs w seen) (sound : StaysSound) wh
         let after : World = in_state (record w { turns = w.turns }) (suc n) d.call state in
         goes n place now l seen.objects d w.turns state young same busy own.1 s.objects refl
         (subst (λ k. LeadsTo (gives_back k) state l) kind reached.1)
-        (subst (λ st. Continues w (suc n) now d.call st (given_in d.call state) after) (sym is)
+        (subst (λ st. Continues w (suc n) now d.call st (response_in d.call state) after) (sym is)
         (inl (reached.0, refl, refl)))
     | inr below ↦ stays_here n place now wait l d young busy is there
         (subst (λ st. Continues w (suc n) now d.call st [] w) (sym is) (inr (below.0, (refl, refl)))) below.1
@@ -340,9 +341,9 @@ module _ (w : World) (seen : Seen) (s : IsSeenAs w seen) (sound : StaysSound) wh
   -- ---- a preset
 
   module _
-      (more : (generation blocks : ℕ) (turns : List Turn) (who : Who) (deed : Deed) → AreLegal generation blocks turns →
-      IsLegalDeed generation blocks turns deed →
-      AreLegal generation blocks (turns ++ record { who = who; deed = deed } ∷ [])) (unused : UnusedSlots) where
+      (more : (generation blocks : ℕ) (turns : List Turn) (who : Who) (op : Op) → AreLegal generation blocks turns →
+      IsLegalOp generation blocks turns op →
+      AreLegal generation blocks (turns ++ record { who = who; op = op } ∷ [])) (unused : UnusedSlots) where
     pub preset_unused : (made : Bool) (objects : Objects) → IsUnused w.generation (registry_history w.turns) 0 →
         MakesPreset seen.objects made objects →
         (after : World) × Presets w made after × IsSeenAs after (record seen { objects = objects })

@@ -19,13 +19,13 @@ use Rattle.sysv_model.specs.History.{Accepted, Taken, Done, Discarded}
 use Rattle.sysv_model.specs.Live.{live, live_after, HasId}
 use Rattle.sysv_model.specs.Registry.{Changed}
 use Rattle.sysv_model.specs.Pool.{PoolCall, PoolReply, Released, Foreign, PoolEntry, released}
-use Rattle.sysv_model.specs.Turn.{Deed, AtSlot, AtRegistry, AtPool, asked_by, Turn, pool_entry, slot_history}
+use Rattle.sysv_model.specs.Turn.{Op, AtSlot, AtRegistry, AtPool, asked_by, Turn, pool_entry, slot_history}
 use Rattle.sysv_model.specs.Turn.{pool_history}
 use Rattle.sysv_queue.specs.Granted.{MayWrite}
 use Rattle.sysv_queue.specs.Slot.{Slot, slot_of}
 use Rattle.sysv_queue.specs.LegalReply.{Legal, IsLegalReply, IsLegalHistory}
 use Rattle.sysv_keys.specs.Identifier.{slot_of_id}
-use Rattle.sysv_objects.specs.LegalDeed.{IsLegalDeed}
+use Rattle.sysv_objects.specs.LegalOp.{IsLegalOp}
 use Rattle.sysv_steps.specs.Call.{SystemCall, Msgget, MsgctlSet, MsgctlRmid}
 use Rattle.sysv_steps.specs.State.{Sending, Ending, Wait, OnSettled, OnReleased, Phase, AtLook, AtReserve, AtSet}
 use Rattle.sysv_steps.specs.State.{AtSetGiveback, AtRemove, AtForget, AtRemoveGiveback, State, Goes, Waits, Over}
@@ -35,7 +35,8 @@ use Rattle.sysv_steps.specs.Asks.{asks}
 use Rattle.sysv_steps.specs.Next.{waits_or, goes_on, next}
 use Rattle.sysv_steps.specs.Resume.{resume, awaited}
 use Rattle.sysv_steps.specs.HoldsAsked.{Holds}
-use Rattle.sysv_core.specs.World.{World, Opening, Started, Doing, Given, opening, doing_in, starting, begun, value_of}
+use Rattle.sysv_core.specs.World.{World, Opening, Invocation, Doing, Response, opening, doing_in, starting, begun}
+use Rattle.sysv_core.specs.World.{value_of}
 use Rattle.sysv_core.specs.World.{preset_who, preset_cred, preset_flags, preset_begin, preset_install, preset_settle}
 use Rattle.sysv_core.specs.World.{with_preset_turns}
 use Rattle.sysv_core.specs.Sound.{IsSound}
@@ -69,9 +70,9 @@ changes id (Set at cred to now) Done = int_eq at id
 changes id (Remove at cred) (Discarded messages) = int_eq at id
 changes id call reply = false
 
-abbrev changed : ℤ → Deed → Bool
+abbrev changed : ℤ → Op → Bool
 changed id (AtSlot slot call reply) = changes id call reply
-changed id deed = false
+changed id op = false
 
 abbrev Open : Option Attributes → ℤ → Cred → Type 0
 Open l id cred = HasId l id × MayWrite cred l
@@ -90,9 +91,9 @@ open_on s id by (Remove at cred) (Discarded messages) l lives may kept =
     not_both (int_eq at id) ((Decides-int_eq at id).1 (one_id s.live at id l.0 lives)) kept
 open_on s id by call reply l lives may kept = (lives, may)
 
-open_then : (turns : List Turn) (deed : Deed) (id : ℤ) (by : Cred) → IsLegalAtSlot turns deed →
-    changed id deed ≡ false → IsOpenTo (slot_history (slot_of_id id) turns) id by →
-    Open (live_by (slot_of_id id) deed (live (slot_history (slot_of_id id) turns))) id by
+open_then : (turns : List Turn) (op : Op) (id : ℤ) (by : Cred) → IsLegalAtSlot turns op →
+    changed id op ≡ false → IsOpenTo (slot_history (slot_of_id id) turns) id by →
+    Open (live_by (slot_of_id id) op (live (slot_history (slot_of_id id) turns))) id by
 open_then turns (AtSlot slot c reply) id by legal kept o =
     by_slot (eqb slot (slot_of_id id)) (λ e. eqb-true slot (slot_of_id id) e)
   where
@@ -105,12 +106,12 @@ open_then turns (AtSlot slot c reply) id by legal kept o =
 open_then turns (AtRegistry c reply) id by legal kept o = (o.lives, o.may_write)
 open_then turns (AtPool c reply) id by legal kept o = (o.lives, o.may_write)
 
-open_past : (turns : List Turn) (who : Who) (deed : Deed) (id : ℤ) (by : Cred) → IsLegalAtSlot turns deed →
-    changed id deed ≡ false → IsOpenTo (slot_history (slot_of_id id) turns) id by →
-    IsOpenTo (slot_history (slot_of_id id) (turns ++ turn_of who deed ∷ [])) id by
-open_past turns who deed id by legal kept o =
-    let on = subst (λ l. Open l id by) (sym (live_turn (slot_of_id id) turns who deed))
-    (open_then turns deed id by legal kept o) in
+open_past : (turns : List Turn) (who : Who) (op : Op) (id : ℤ) (by : Cred) → IsLegalAtSlot turns op →
+    changed id op ≡ false → IsOpenTo (slot_history (slot_of_id id) turns) id by →
+    IsOpenTo (slot_history (slot_of_id id) (turns ++ turn_of who op ∷ [])) id by
+open_past turns who op id by legal kept o =
+    let on = subst (λ l. Open l id by) (sym (live_turn (slot_of_id id) turns who op))
+    (open_then turns op id by legal kept o) in
     record { lives = on.0; may_write = on.1 }
 
 -- ---- who has still to give back
@@ -128,9 +129,9 @@ is_asked cred asked (AtSet by at what) h = absurd h
 is_asked cred asked (AtRemove by at) h = absurd h
 is_asked cred asked phase h = tt
 
-change_goes : (id : ℤ) (asked : SystemCall) (phase : Phase) (now : ℕ) (deed : Deed) (state : State) →
-    IsAsked asked phase → next phase (told (asks phase now) deed) ≡ Some state →
-    changed id (told (asks phase now) deed) ≡ true → HasToGiveBack asked state id
+change_goes : (id : ℤ) (asked : SystemCall) (phase : Phase) (now : ℕ) (op : Op) (state : State) →
+    IsAsked asked phase → next phase (told (asks phase now) op) ≡ Some state →
+    changed id (told (asks phase now) op) ≡ true → HasToGiveBack asked state id
 change_goes id asked (AtSet by at to) now (AtSlot slot c Done) state own n ch =
     subst (λ q. HasToGiveBack q state id) (sym own)
     (subst (λ t. HasToGiveBack (MsgctlSet at to) t id) (sym (some_is n)) ((Decides-int_eq at id).0 ch))
@@ -143,22 +144,22 @@ change_goes id asked phase now (AtRegistry c reply) state own n ch = absurd cc
 change_goes id asked AtSetGiveback now (AtPool c reply) state own n ch = absurd cc
 change_goes id asked phase now (AtPool c reply) state own n ch = absurd cc
 
-abbrev AtPoolWith : PoolReply → Deed → Type 0
-AtPoolWith reply deed = (call : PoolCall) × (deed ≡ AtPool call reply)
+abbrev AtPoolWith : PoolReply → Op → Type 0
+AtPoolWith reply op = (call : PoolCall) × (op ≡ AtPool call reply)
 
-giver_goes : (asked : SystemCall) (phase : Phase) (deed : Deed) (state : State) (id : ℤ) →
-    HasToGiveBack asked (Goes phase) id → next phase deed ≡ Some state →
-    HasToGiveBack asked state id ⊎ AtPoolWith Released deed ⊎ AtPoolWith Foreign deed
+giver_goes : (asked : SystemCall) (phase : Phase) (op : Op) (state : State) (id : ℤ) →
+    HasToGiveBack asked (Goes phase) id → next phase op ≡ Some state →
+    HasToGiveBack asked state id ⊎ AtPoolWith Released op ⊎ AtPoolWith Foreign op
 giver_goes (MsgctlSet at to) AtSetGiveback (AtPool c Released) state id p n = inr (inl (c, refl))
 giver_goes (MsgctlSet at to) AtSetGiveback (AtPool c Foreign) state id p n = inr (inr (c, refl))
-giver_goes (MsgctlSet at to) AtSetGiveback deed state id p n = absurd cc
+giver_goes (MsgctlSet at to) AtSetGiveback op state id p n = absurd cc
 giver_goes (MsgctlRmid at) (AtForget removed blocks) (AtRegistry c (Changed done)) state id p n =
     inl (subst (λ t. HasToGiveBack (MsgctlRmid at) t id) (sym (some_is n)) p)
-giver_goes (MsgctlRmid at) (AtForget removed blocks) deed state id p n = absurd cc
+giver_goes (MsgctlRmid at) (AtForget removed blocks) op state id p n = absurd cc
 giver_goes (MsgctlRmid at) (AtRemoveGiveback blocks) (AtPool c Released) state id p n = inr (inl (c, refl))
 giver_goes (MsgctlRmid at) (AtRemoveGiveback blocks) (AtPool c Foreign) state id p n = inr (inr (c, refl))
-giver_goes (MsgctlRmid at) (AtRemoveGiveback blocks) deed state id p n = absurd cc
-giver_goes asked phase deed state id p n = absurd p
+giver_goes (MsgctlRmid at) (AtRemoveGiveback blocks) op state id p n = absurd cc
+giver_goes asked phase op state id p n = absurd p
 
 -- Some actor's call still has to release a chain.
 pub record SomeGive (id : ℤ) (actors : List (Option Doing)) : Type 0 where
@@ -182,7 +183,8 @@ still_give id actors place was new there s = elim (same_place place s.place) [
   }
 ]
 
-gives_now : (id : ℤ) (actors : List (Option Doing)) (place : ℕ) (was : Option Doing) (call : Started) (state : State) →
+gives_now : (id : ℤ) (actors : List (Option Doing)) (place : ℕ) (was : Option Doing) (call : Invocation)
+    (state : State) →
     slice_get actors place ≡ Some was → HasToGiveBack call.asked state id →
     SomeGive id (slice_set actors place (doing_in call state))
 gives_now id actors place was call state there p = record {
@@ -223,17 +225,17 @@ each_woken turns more actors then (Waits (OnReleased goal s)) f k = f s refl k
 each_woken turns more actors then st f k = tt
 
 -- A turn at the pool that takes back a chain ends each wait.
-after_giving : (turns : List Turn) (who : Who) (deed : Deed) (n : ℕ) → n ≤ released (pool_history turns) →
-    AtPoolWith Released deed → n < released (pool_history (turns ++ turn_of who deed ∷ []))
-after_giving turns who deed n read (c, is) =
+after_giving : (turns : List Turn) (who : Who) (op : Op) (n : ℕ) → n ≤ released (pool_history turns) →
+    AtPoolWith Released op → n < released (pool_history (turns ++ turn_of who op ∷ []))
+after_giving turns who op n read (c, is) =
     let e : PoolEntry = record { who = who; call = c; reply = Released } in
-    let more : pool_history (turns ++ turn_of who deed ∷ []) ≡ pool_history turns ++ e ∷ [] =
-    pool_more turns (turn_of who deed) ∙ ap (λ d. pool_history turns ++ pool_entry who d) is in
+    let more : pool_history (turns ++ turn_of who op ∷ []) ≡ pool_history turns ++ e ∷ [] =
+    pool_more turns (turn_of who op) ∙ ap (λ d. pool_history turns ++ pool_entry who d) is in
     subst (λ h. n < released h) (sym more) (omega (arith, read, released_more (pool_history turns) e))
 
 -- No turn undoes that.
-pool_part : (turns : List Turn) (who : Who) (deed : Deed) (n : ℕ) → n < released (pool_history turns) →
-    n < released (pool_history (turns ++ turn_of who deed ∷ []))
+pool_part : (turns : List Turn) (who : Who) (op : Op) (n : ℕ) → n < released (pool_history turns) →
+    n < released (pool_history (turns ++ turn_of who op ∷ []))
 pool_part turns who (AtSlot slot c reply) n since =
     subst (λ h. n < released h) (sym (pool_stays turns who (AtSlot slot c reply) refl)) since
 pool_part turns who (AtRegistry c reply) n since =
@@ -244,13 +246,13 @@ pool_part turns who (AtPool c reply) n since =
     (omega (arith, since, released_more (pool_history turns) e))
 
 -- No chain is refused.
-never_foreign : (turns : List Turn) (who : Who) (deed : Deed) →
-    All (λ (e : PoolEntry). e.reply ≢ Foreign) (pool_history (turns ++ turn_of who deed ∷ [])) →
-    AtPoolWith Foreign deed → ⊥
-never_foreign turns who deed all (c, is) =
+never_foreign : (turns : List Turn) (who : Who) (op : Op) →
+    All (λ (e : PoolEntry). e.reply ≢ Foreign) (pool_history (turns ++ turn_of who op ∷ [])) →
+    AtPoolWith Foreign op → ⊥
+never_foreign turns who op all (c, is) =
     let e : PoolEntry = record { who = who; call = c; reply = Foreign } in
-    let more : pool_history (turns ++ turn_of who deed ∷ []) ≡ pool_history turns ++ e ∷ [] =
-    pool_more turns (turn_of who deed) ∙ ap (λ d. pool_history turns ++ pool_entry who d) is in
+    let more : pool_history (turns ++ turn_of who op ∷ []) ≡ pool_history turns ++ e ∷ [] =
+    pool_more turns (turn_of who op) ∙ ap (λ d. pool_history turns ++ pool_entry who d) is in
     All-contains (λ (x : PoolEntry). x.reply ≢ Foreign) (pool_history turns ++ e ∷ []) e
     (subst (All (λ (x : PoolEntry). x.reply ≢ Foreign)) more all)
     (Contains-append_right (pool_history turns) (e ∷ []) e (0, omega arith, refl)) refl
@@ -259,12 +261,12 @@ abbrev AreWoken : List Turn → List (Option Doing) → Type 0
 AreWoken turns actors =
     (place : ℕ) (d : Doing) → slice_get actors place ≡ Some (Some d) → IsWoken turns actors d.state
 
-module _ (generation blocks : ℕ) (turns : List Turn) (actors : List (Option Doing)) (place : ℕ) (call : Started)
+module _ (generation blocks : ℕ) (turns : List Turn) (actors : List (Option Doing)) (place : ℕ) (call : Invocation)
     (phase : Phase) (there : slice_get actors place ≡ Some (Some record { call = call; state = Goes phase })) (now : ℕ)
-    (deed : Deed) (state : State)
-    (asked : asked_by deed ≡ asks phase now) (legal : IsLegalDeed generation blocks turns deed)
-    (goes : next phase deed ≡ Some state) (own : IsAsked call.asked phase)
-    (back : AtPoolWith Foreign deed → ⊥) where
+    (op : Op) (state : State)
+    (asked : asked_by op ≡ asks phase now) (legal : IsLegalOp generation blocks turns op)
+    (goes : next phase op ≡ Some state) (own : IsAsked call.asked phase)
+    (back : AtPoolWith Foreign op → ⊥) where
   abbrev was : Option Doing
   was = Some record { call = call; state = Goes phase }
 
@@ -272,7 +274,7 @@ module _ (generation blocks : ℕ) (turns : List Turn) (actors : List (Option Do
   moved_actors = slice_set actors place (doing_in call state)
 
   abbrev later : List Turn
-  later = turns ++ turn_of call.who deed ∷ []
+  later = turns ++ turn_of call.who op ∷ []
 
   mover_gives : (id : ℤ) → ((d : Doing) × (was ≡ Some d) × HasToGiveBack d.call.asked d.state id) →
       HasToGiveBack call.asked (Goes phase) id
@@ -282,12 +284,12 @@ module _ (generation blocks : ℕ) (turns : List Turn) (actors : List (Option Do
 
   open_still : (id : ℤ) (by : Cred) → IsOpenTo (slot_history (slot_of_id id) turns) id by →
       IsOpenTo (slot_history (slot_of_id id) later) id by ⊎ SomeGive id moved_actors
-  open_still id by o = elim (either (changed id deed)) [
-    | inr kept ↦ inl (open_past turns call.who deed id by (legal_at_slot generation blocks turns deed legal) kept o)
+  open_still id by o = elim (either (changed id op)) [
+    | inr kept ↦ inl (open_past turns call.who op id by (legal_at_slot generation blocks turns op legal) kept o)
     | inl ch ↦
-        let is = told_is (asks phase now) deed asked in
+        let is = told_is (asks phase now) op asked in
         inr (gives_now id actors place was call state there
-        (change_goes id call.asked phase now deed state own (ap (next phase) is ∙ goes) (ap (changed id) is ∙ ch)))
+        (change_goes id call.asked phase now op state own (ap (next phase) is ∙ goes) (ap (changed id) is ∙ ch)))
   ]
 
   woken_on : (s : Sending) → s.released ≤ released (pool_history turns) → Woken turns actors s →
@@ -298,13 +300,13 @@ module _ (generation blocks : ℕ) (turns : List Turn) (actors : List (Option Do
   ]
   woken_on s read (inr (inl g)) = elim (still_give s.id actors place was (doing_in call state) there g) [
     | inr on ↦ inr (inl on)
-    | inl m ↦ elim (giver_goes call.asked phase deed state s.id (mover_gives s.id m) goes) [
+    | inl m ↦ elim (giver_goes call.asked phase op state s.id (mover_gives s.id m) goes) [
       | inl p ↦ inr (inl (gives_now s.id actors place was call state there p))
-      | inr (inl gave) ↦ inr (inr (after_giving turns call.who deed s.released read gave))
+      | inr (inl gave) ↦ inr (inr (after_giving turns call.who op s.released read gave))
       | inr (inr refused) ↦ absurd (back refused)
     ]
   ]
-  woken_on s read (inr (inr p)) = inr (inr (pool_part turns call.who deed s.released p))
+  woken_on s read (inr (inr p)) = inr (inr (pool_part turns call.who op s.released p))
 
   -- Another call.
   still_woken : (st : State) → IsRight blocks (pool_history turns) st → IsWoken turns actors st →
@@ -313,8 +315,8 @@ module _ (generation blocks : ℕ) (turns : List Turn) (actors : List (Option Do
       (λ s is. woken_on s (subst (λ n. n ≤ released (pool_history turns)) is r.read)) k
 
   -- The call itself.
-  looked : (s t : Sending) (d : Deed) → d ≡ deed → asked_by d ≡ asks (AtLook s) now →
-      IsLegalDeed generation blocks turns d → next (AtLook s) d ≡ Some (Goes (AtReserve t)) →
+  looked : (s t : Sending) (d : Op) → d ≡ op → asked_by d ≡ asks (AtLook s) now →
+      IsLegalOp generation blocks turns d → next (AtLook s) d ≡ Some (Goes (AtReserve t)) →
       IsOpenTo (slot_history (slot_of_id s.id) turns) s.id s.cred
   looked s t (AtSlot slot c Fits) is a l n =
       let here : slot ≡ slot_of_id s.id = cc in
@@ -335,8 +337,8 @@ module _ (generation blocks : ℕ) (turns : List Turn) (actors : List (Option Do
   own_woken r k (Goes (AtReserve t)) is (s, at, t_is) =
       let read : s.released ≤ released (pool_history turns) =
       (subst (λ p. IsRight blocks (pool_history turns) (Goes p)) at r).read in
-      let o = looked s t deed refl (asked ∙ ap (λ p. asks p now) at) legal
-      (ap (λ p. next p deed) (sym at) ∙ (goes ∙ ap (λ x. Some x) (sym is))) in
+      let o = looked s t op refl (asked ∙ ap (λ p. asks p now) at) legal
+      (ap (λ p. next p op) (sym at) ∙ (goes ∙ ap (λ x. Some x) (sym is))) in
       subst (Woken later moved_actors) (sym t_is) (woken_on (record s { seen = true }) read (inl o))
   own_woken r k (Waits (OnReleased goal t)) is at =
       let r_at = subst (λ p. IsRight blocks (pool_history turns) (Goes p)) at r in
@@ -347,7 +349,7 @@ module _ (generation blocks : ℕ) (turns : List Turn) (actors : List (Option Do
   turn_woken right woken = λ at e here.
       let d : Doing = record { call = call; state = Goes phase } in
       let r = right place d there in
-      let f = followed generation blocks turns phase now deed state r.short asked legal goes in
+      let f = followed generation blocks turns phase now op state r.short asked legal goes in
       elim (does actors place was call state at e there here) [
         | moved same c s ↦
             subst (IsWoken later moved_actors) (sym s) (own_woken r (woken place d there) state refl f.comes)
@@ -357,7 +359,7 @@ module _ (generation blocks : ℕ) (turns : List Turn) (actors : List (Option Do
 -- ---- every actor
 
 -- A call that continues without a turn, or that starts.
-stand_woken : (turns : List Turn) (actors : List (Option Doing)) (place : ℕ) (was : Option Doing) (call : Started)
+stand_woken : (turns : List Turn) (actors : List (Option Doing)) (place : ℕ) (was : Option Doing) (call : Invocation)
     (state : State) → slice_get actors place ≡ Some was →
     ((d : Doing) (id : ℤ) → was ≡ Some d → HasToGiveBack d.call.asked d.state id → ⊥) →
     IsWoken turns (slice_set actors place (doing_in call state)) state → AreWoken turns actors →
@@ -432,12 +434,13 @@ pub record AllWoken (w : World) : Type 0 where
   pub right : AllRight w
   pub woken : AreWoken w.turns w.actors
 
-pub move_woken : (w after : World) (given : List Given) → AllHold w → AllWoken w → IsSound after → Move w given after →
+pub move_woken : (w after : World) (responses : List Response) → AllHold w → AllWoken w → IsSound after →
+    Move w responses after →
     AllWoken after
-move_woken w after given holds k sound m =
-    record { right = move_right w after given k.right m; woken = then m }
+move_woken w after responses holds k sound m =
+    record { right = move_right w after responses k.right m; woken = then m }
   where
-    then : Move w given after → AreWoken after.turns after.actors
+    then : Move w responses after → AreWoken after.turns after.actors
     then (stood t) = subst (λ (v : World). AreWoken v.turns v.actors) (sym t.1) k.woken
     then (began place cred asked there t) =
         let call = starting w (suc place) cred asked in

@@ -7,10 +7,10 @@ use Rattle.sysv_model.specs.History.{Installed, Gone, Denied, Granted, Full, Fit
 use Rattle.sysv_model.specs.History.{Told, Done, Discarded, Refused}
 use Rattle.sysv_model.specs.Registry.{Found, Made, Busy, Unbound, Changed}
 use Rattle.sysv_model.specs.Pool.{Reserved, TooFew, Released, Foreign}
-use Rattle.sysv_model.specs.Turn.{Deed, AtSlot, AtRegistry, AtPool, asked_by, Turn, registry_history}
+use Rattle.sysv_model.specs.Turn.{Op, AtSlot, AtRegistry, AtPool, asked_by, Turn, registry_history}
 use Rattle.sysv_keys.specs.Unused.{UnusedSlots}
-use Rattle.sysv_objects.specs.LegalDeed.{IsLegalDeed, AreLegal}
-use Rattle.sysv_objects.specs.OneDeed.{SomeDeedIsLegal}
+use Rattle.sysv_objects.specs.LegalOp.{IsLegalOp, AreLegal}
+use Rattle.sysv_objects.specs.OneOp.{SomeOpIsLegal}
 use Rattle.sysv_steps.specs.Call.{SystemCall}
 use Rattle.sysv_steps.specs.State.{Phase, AtBegin, AtInstall, AtSettle, AtProbe, AtUnmake, AtLook, AtReserve, AtPlace}
 use Rattle.sysv_steps.specs.State.{AtSendGiveback, AtTake, AtReceiveGiveback, AtStat, AtSet, AtSetGiveback, AtRemove}
@@ -22,8 +22,8 @@ use Rattle.sysv_core.specs.declared.event.Event.{Event}
 use Rattle.sysv_core.specs.declared.event.Event.TheVariants as event
 use Rattle.sysv_core.specs.declared.event.Stepped.{Stepped}
 use Rattle.sysv_core.specs.declared.event.Stepped.TheVariants as stepped
-use Rattle.sysv_core.specs.World.{World, Started, Doing, Given, Happening, Preset, Start, Step, opening, actor_at}
-use Rattle.sysv_core.specs.World.{given_in, in_state, with_call, with_turn, with_preset, starting, begun, value_of}
+use Rattle.sysv_core.specs.World.{World, Invocation, Doing, Response, Happening, Preset, Start, Step, opening, actor_at}
+use Rattle.sysv_core.specs.World.{response_in, in_state, with_call, with_turn, with_preset, starting, begun, value_of}
 use Rattle.sysv_core.specs.World.{StartsAt, StepsAt, Presets, Makes}
 use Rattle.sysv_core.specs.Run.{Leads}
 use Rattle.sysv_core.specs.Answered.{outcome_of, text_given, body_with}
@@ -41,8 +41,8 @@ use Rattle.sysv_core.proofs.SoundStays.{opening_sound}
 abbrev HasNext : Option State → Type 0
 HasNext o = (state : State) × (o ≡ Some state)
 
-row_told : (g blocks : ℕ) (turns : List Turn) (phase : Phase) (now : ℕ) (deed : Deed) →
-    IsLegalDeed g blocks turns (told (asks phase now) deed) → HasNext (next phase (told (asks phase now) deed))
+row_told : (g blocks : ℕ) (turns : List Turn) (phase : Phase) (now : ℕ) (op : Op) →
+    IsLegalOp g blocks turns (told (asks phase now) op) → HasNext (next phase (told (asks phase now) op))
 row_told g blocks turns (AtBegin get) now (AtRegistry c (Found id settled)) l = (_, refl)
 row_told g blocks turns (AtBegin get) now (AtRegistry c (Made id)) l = (_, refl)
 row_told g blocks turns (AtBegin get) now (AtRegistry c (Busy settled)) l = (_, refl)
@@ -88,27 +88,27 @@ row_told g blocks turns phase now (AtSlot at c reply) l = absurd l
 row_told g blocks turns phase now (AtRegistry c reply) l = absurd l
 row_told g blocks turns phase now (AtPool c reply) l = absurd l
 
-row : (g blocks : ℕ) (turns : List Turn) (phase : Phase) (now : ℕ) (deed : Deed) → asked_by deed ≡ asks phase now →
-    IsLegalDeed g blocks turns deed → HasNext (next phase deed)
-row g blocks turns phase now deed asked l =
-    let is = told_is (asks phase now) deed asked in
+row : (g blocks : ℕ) (turns : List Turn) (phase : Phase) (now : ℕ) (op : Op) → asked_by op ≡ asks phase now →
+    IsLegalOp g blocks turns op → HasNext (next phase op)
+row g blocks turns phase now op asked l =
+    let is = told_is (asks phase now) op asked in
     subst (λ d. HasNext (next phase d)) is
-    (row_told g blocks turns phase now deed (subst (IsLegalDeed g blocks turns) (sym is) l))
+    (row_told g blocks turns phase now op (subst (IsLegalOp g blocks turns) (sym is) l))
 
 -- ---- what a happening makes, and that it can be told
 
 record Somewhere (w : World) (x : Happening) : Type 0 where
-  given : List Given
+  responses : List Response
   after : World
-  makes : Makes w x given after
-  told : w.steps < WORN → (result : Stepped) × Gives w given result
+  makes : Makes w x responses after
+  told : w.steps < WORN → (result : Stepped) × Gives w responses result
 
-given_told : (w : World) (call : Started) (actor : ℕ) (state : State) → w.steps < WORN → IsToCaller call.who actor →
-    (result : Stepped) × Gives w (given_in call state) result
+given_told : (w : World) (call : Invocation) (actor : ℕ) (state : State) → w.steps < WORN → IsToCaller call.who actor →
+    (result : Stepped) × Gives w (response_in call state) result
 given_told w call actor (Goes phase) young own = (stepped.Nothing, (young, refl))
 given_told w call actor (Waits wait) young own = (stepped.Nothing, (young, refl))
 given_told w call actor (Over ending) young own =
-    let g : Given = record { call = call; ending = ending } in (
+    let g : Response = record { call = call; ending = ending } in (
       stepped.Answer record {
         actor = actor;
         result = outcome_of ending;
@@ -118,7 +118,7 @@ given_told w call actor (Over ending) young own =
     )
 
 stays_there : (w : World) (x : Happening) → Makes w x [] w → Somewhere w x
-stays_there w x m = record { given = []; after = w; makes = m; told = λ young. (stepped.Nothing, (young, refl)) }
+stays_there w x m = record { responses = []; after = w; makes = m; told = λ young. (stepped.Nothing, (young, refl)) }
 
 starts_somewhere : (w : World) (actor : ℕ) (cred : Cred) (asked : SystemCall) (o : Option (Option Doing)) →
     w.steps < WORN → actor_at w.actors actor ≡ o → Somewhere w (Start actor cred asked)
@@ -131,28 +131,29 @@ starts_somewhere w actor cred asked (Some None) young e =
     let state = begun call in
     let after : World = in_state (with_call w call) actor call state in
     record {
-      given = given_in call state;
+      responses = response_in call state;
       after = after;
-      makes = inr (young, subst (λ o. StartsAt w actor cred asked o (given_in call state) after) (sym e) (refl, refl));
+      makes =
+          inr (young, subst (λ o. StartsAt w actor cred asked o (response_in call state) after) (sym e) (refl, refl));
       told = λ fresh. given_told w call actor state fresh refl;
     }
 
-module _ (some : SomeDeedIsLegal) (sound : StaysSound) (unused : UnusedSlots) where
-  continues_somewhere : (w : World) (place now : ℕ) (call : Started) (state : State) → IsSound w → w.steps < WORN →
+module _ (some : SomeOpIsLegal) (sound : StaysSound) (unused : UnusedSlots) where
+  continues_somewhere : (w : World) (place now : ℕ) (call : Invocation) (state : State) → IsSound w → w.steps < WORN →
       slice_get w.actors place ≡ Some (Some record { call = call; state = state }) → Somewhere w (Step (suc place) now)
   continues_somewhere w place now call (Goes phase) ok young e =
       let d : Doing = record { call = call; state = Goes phase } in
       let own = ok.own place d e in
-      let deed = some w.generation w.blocks w.turns (asks phase now) ok.legal in
-      let state = row w.generation w.blocks w.turns phase now deed.0 deed.1 deed.2 in
-      let after : World = in_state (with_turn w call.who deed.0) (suc place) call state.0 in
+      let op = some w.generation w.blocks w.turns (asks phase now) ok.legal in
+      let state = row w.generation w.blocks w.turns phase now op.0 op.1 op.2 in
+      let after : World = in_state (with_turn w call.who op.0) (suc place) call state.0 in
       record {
-        given = given_in call state.0;
+        responses = response_in call state.0;
         after = after;
         makes = inr (
           young,
-          subst (λ o. StepsAt w (suc place) now o (given_in call state.0) after) (sym e)
-              (deed.0, state.0, deed.1, deed.2, state.1, refl, refl),
+          subst (λ o. StepsAt w (suc place) now o (response_in call state.0) after) (sym e)
+              (op.0, state.0, op.1, op.2, state.1, refl, refl),
         );
         told = λ fresh. given_told w call (suc place) state.0 fresh own.1;
       }
@@ -163,7 +164,7 @@ module _ (some : SomeDeedIsLegal) (sound : StaysSound) (unused : UnusedSlots) wh
             let state = Goes (resume wait value) in
             let after : World = in_state w (suc place) call state in
             record {
-              given = [];
+              responses = [];
               after = after;
               makes =
                   inr (young, subst (λ o. StepsAt w (suc place) now o [] after) (sym e) (inl (reached, refl, refl)));
@@ -201,7 +202,7 @@ module _ (some : SomeDeedIsLegal) (sound : StaysSound) (unused : UnusedSlots) wh
     | inr young ↦
         let s = event_somewhere w e ok young in
         let told = s.told young in
-        (told.0, s.after, (s.given, s.makes, told.1), sound w s.after (happening_of e) s.given ok s.makes)
+        (told.0, s.after, (s.responses, s.makes, told.1), sound w s.after (happening_of e) s.responses ok s.makes)
   ]
 
   pub some_preset : SomePreset
@@ -213,21 +214,22 @@ module _ (some : SomeDeedIsLegal) (sound : StaysSound) (unused : UnusedSlots) wh
   ]
 
   goes_somewhere : (w : World) (x : Happening) → IsSound w →
-      (given : List Given) × (after : World) × Makes w x given after
+      (responses : List Response) × (after : World) × Makes w x responses after
   goes_somewhere w Preset ok = let p = some_preset w ok in ([], p.1, (refl, (p.0, p.2)))
   goes_somewhere w (Start actor cred asked) ok = elim (at_most WORN w.steps) [
     | inl old ↦ ([], w, inl (old, (refl, refl)))
     | inr young ↦
-        let s = starts_somewhere w actor cred asked (actor_at w.actors actor) young refl in (s.given, s.after, s.makes)
+        let s = starts_somewhere w actor cred asked (actor_at w.actors actor) young refl in
+        (s.responses, s.after, s.makes)
   ]
   goes_somewhere w (Step actor now) ok = elim (at_most WORN w.steps) [
     | inl old ↦ ([], w, inl (old, (refl, refl)))
     | inr young ↦
-        let s = steps_somewhere w actor now (actor_at w.actors actor) ok young refl in (s.given, s.after, s.makes)
+        let s = steps_somewhere w actor now (actor_at w.actors actor) ok young refl in (s.responses, s.after, s.makes)
   ]
 
   leads_from : (list : List Happening) (w : World) → IsSound w →
-      (given : List Given) × (after : World) × Leads w list given after
+      (responses : List Response) × (after : World) × Leads w list responses after
   leads_from [] w ok = ([], w, (refl, refl))
   leads_from (x ∷ xs) w ok =
       let one = goes_somewhere w x ok in

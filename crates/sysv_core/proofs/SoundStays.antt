@@ -15,13 +15,13 @@ use Rattle.sysv_model.specs.History.{Discarded, Installed, Full, NoMatch, Gone}
 use Rattle.sysv_model.specs.Live.{live, live_after}
 use Rattle.sysv_model.specs.Pool.{TooFew, Released, Foreign}
 use Rattle.sysv_model.specs.Registry.{RegistryEntry, Begin, Settle, Made, Changed}
-use Rattle.sysv_model.specs.Turn.{OfSlot, Deed, AtSlot, AtRegistry, AtPool, asked_by, Turn, registry_entry}
+use Rattle.sysv_model.specs.Turn.{OfSlot, Op, AtSlot, AtRegistry, AtPool, asked_by, Turn, registry_entry}
 use Rattle.sysv_model.specs.Turn.{slot_history, registry_history}
 use Rattle.sysv_keys.specs.Identifier.{slot_of_id}
 use Rattle.sysv_keys.specs.Rows.{makes, is_made, IsUnused}
 use Rattle.sysv_keys.specs.LegalReply.{IsLegalReply as IsLegalRegistryReply}
 use Rattle.sysv_keys.specs.Unused.{UnusedSlots}
-use Rattle.sysv_objects.specs.LegalDeed.{IsLegalDeed, AreLegal}
+use Rattle.sysv_objects.specs.LegalOp.{IsLegalOp, AreLegal}
 use Rattle.sysv_steps.specs.Call.{SystemCall}
 use Rattle.sysv_steps.specs.State.{Getting, Afterwards, IsRefused, WaitsOn, Phase, AtBegin, AtInstall, AtLook}
 use Rattle.sysv_steps.specs.State.{AtReserve, AtTake, AtSendGiveback, State, Goes, Waits, Over}
@@ -30,7 +30,8 @@ use Rattle.sysv_steps.specs.Next.{waits_or, goes_on, next}
 use Rattle.sysv_steps.specs.HeldBlocks.{held, HasItsBlocks}
 use Rattle.sysv_steps.specs.Resume.{resume, awaited}
 use Rattle.sysv_core.specs.Kinds.{kind_of, IsOf}
-use Rattle.sysv_core.specs.World.{World, Opening, Started, Doing, Given, opening, doing_in, starting, begun, value_of}
+use Rattle.sysv_core.specs.World.{World, Opening, Invocation, Doing, Response, opening, doing_in, starting, begun}
+use Rattle.sysv_core.specs.World.{value_of}
 use Rattle.sysv_core.specs.World.{preset_who, preset_flags, preset_begin, preset_install, preset_settle}
 use Rattle.sysv_core.specs.World.{with_preset_turns, with_preset}
 use Rattle.sysv_core.specs.Sound.{IsToCaller, AreOwn, IsMadeIn, IsSound, StaysSound}
@@ -50,8 +51,8 @@ pub made_more : (id key : ℤ) (turns : List Turn) (t : Turn) → is_made id key
 made_more id key turns t e =
     ap (is_made id key) (registry_more turns t)
     ∙ (list_any-append (λ (x : RegistryEntry). makes id key x.call x.reply) (registry_history turns)
-    (registry_entry t.who t.deed)
-    ∙ or_left (is_made id key (registry_history turns)) (is_made id key (registry_entry t.who t.deed)) e)
+    (registry_entry t.who t.op)
+    ∙ or_left (is_made id key (registry_history turns)) (is_made id key (registry_entry t.who t.op)) e)
 
 pub still_made : (turns : List Turn) (t : Turn) (slot : ℕ) → IsMadeIn turns slot → IsMadeIn (turns ++ t ∷ []) slot
 still_made turns t slot m = record { id = m.id; key = m.key; made = made_more m.id m.key turns t m.made; here = m.here }
@@ -94,12 +95,12 @@ lived_before None (Remove id cred) (Discarded messages) a e = absurd cc
 lived_before None call reply a e = absurd cc
 
 -- The same after a turn, which may be at another object.
-pub data Lived (turns : List Turn) (slot : ℕ) (deed : Deed) : Type 0 where
-  before : (a : Attributes) → live (slot_history slot turns) ≡ Some a → Lived turns slot deed
-  installed : (call : Call) (reply : Reply) → deed ≡ AtSlot slot call reply → IsInstall call → Lived turns slot deed
+pub data Lived (turns : List Turn) (slot : ℕ) (op : Op) : Type 0 where
+  before : (a : Attributes) → live (slot_history slot turns) ≡ Some a → Lived turns slot op
+  installed : (call : Call) (reply : Reply) → op ≡ AtSlot slot call reply → IsInstall call → Lived turns slot op
 
-lived_then : (turns : List Turn) (slot : ℕ) (deed : Deed) (a : Attributes) →
-    live_by slot deed (live (slot_history slot turns)) ≡ Some a → Lived turns slot deed
+lived_then : (turns : List Turn) (slot : ℕ) (op : Op) (a : Attributes) →
+    live_by slot op (live (slot_history slot turns)) ≡ Some a → Lived turns slot op
 lived_then turns slot (AtSlot at call reply) a e = by_slot (eqb at slot) (λ same. eqb-true at slot same) e
   where
     by_slot : (b : Bool) → (b ≡ true → at ≡ slot) →
@@ -113,20 +114,20 @@ lived_then turns slot (AtSlot at call reply) a e = by_slot (eqb at slot) (λ sam
 lived_then turns slot (AtRegistry call reply) a e = before a e
 lived_then turns slot (AtPool call reply) a e = before a e
 
-pub lived : (turns : List Turn) (who : Who) (deed : Deed) (slot : ℕ) (a : Attributes) →
-    live (slot_history slot (turns ++ turn_of who deed ∷ [])) ≡ Some a → Lived turns slot deed
-lived turns who deed slot a e = lived_then turns slot deed a (sym (live_turn slot turns who deed) ∙ e)
+pub lived : (turns : List Turn) (who : Who) (op : Op) (slot : ℕ) (a : Attributes) →
+    live (slot_history slot (turns ++ turn_of who op ∷ [])) ≡ Some a → Lived turns slot op
+lived turns who op slot a e = lived_then turns slot op a (sym (live_turn slot turns who op) ∙ e)
 
 -- What is live in each slot after one more turn.
 abbrev pub AllMade : List Turn → Type 0
 AllMade turns = (slot : ℕ) (a : Attributes) → live (slot_history slot turns) ≡ Some a → IsMadeIn turns slot
 
-pub all_made : (turns : List Turn) (who : Who) (deed : Deed) → AllMade turns →
-    ((slot : ℕ) (call : Call) (reply : Reply) → deed ≡ AtSlot slot call reply → IsInstall call → IsMadeIn turns slot) →
-    AllMade (turns ++ turn_of who deed ∷ [])
-all_made turns who deed all its slot a e = elim (lived turns who deed slot a e) [
-  | before b old ↦ still_made turns (turn_of who deed) slot (all slot b old)
-  | installed c reply is i ↦ still_made turns (turn_of who deed) slot (its slot c reply is i)
+pub all_made : (turns : List Turn) (who : Who) (op : Op) → AllMade turns →
+    ((slot : ℕ) (call : Call) (reply : Reply) → op ≡ AtSlot slot call reply → IsInstall call → IsMadeIn turns slot) →
+    AllMade (turns ++ turn_of who op ∷ [])
+all_made turns who op all its slot a e = elim (lived turns who op slot a e) [
+  | before b old ↦ still_made turns (turn_of who op) slot (all slot b old)
+  | installed c reply is i ↦ still_made turns (turn_of who op) slot (its slot c reply is i)
 ]
 
 -- The step that requests an install.
@@ -141,9 +142,9 @@ not_on : {get : Getting} {id : ℤ} (a : Afterwards) → Some (goes_on a) ≡ So
 not_on (IsRefused why) e = cc
 not_on (WaitsOn wait) e = cc
 
-made_told : (turns : List Turn) (who : Who) (phase : Phase) (now : ℕ) (deed : Deed) (get : Getting) (id : ℤ) →
-    next phase (told (asks phase now) deed) ≡ Some (Goes (AtInstall get id)) →
-    IsMadeIn (turns ++ turn_of who (told (asks phase now) deed) ∷ []) (slot_of_id id)
+made_told : (turns : List Turn) (who : Who) (phase : Phase) (now : ℕ) (op : Op) (get : Getting) (id : ℤ) →
+    next phase (told (asks phase now) op) ≡ Some (Goes (AtInstall get id)) →
+    IsMadeIn (turns ++ turn_of who (told (asks phase now) op) ∷ []) (slot_of_id id)
 made_told turns who (AtBegin g) now (AtRegistry c (Made made)) get id n =
     let same : made ≡ id = cc in
     subst (λ i. IsMadeIn (turns ++ turn_of who (AtRegistry (Begin g.key g.flags) (Made made)) ∷ []) (slot_of_id i)) same
@@ -162,32 +163,32 @@ made_told turns who phase now (AtRegistry c reply) get id n = absurd cc
 made_told turns who phase now (AtPool c Released) get id n = absurd cc
 made_told turns who phase now (AtPool c reply) get id n = absurd cc
 
-made_next : (turns : List Turn) (who : Who) (phase : Phase) (now : ℕ) (deed : Deed) (get : Getting) (id : ℤ) →
-    asked_by deed ≡ asks phase now → next phase deed ≡ Some (Goes (AtInstall get id)) →
-    IsMadeIn (turns ++ turn_of who deed ∷ []) (slot_of_id id)
-made_next turns who phase now deed get id asked n =
-    let is = told_is (asks phase now) deed asked in
+made_next : (turns : List Turn) (who : Who) (phase : Phase) (now : ℕ) (op : Op) (get : Getting) (id : ℤ) →
+    asked_by op ≡ asks phase now → next phase op ≡ Some (Goes (AtInstall get id)) →
+    IsMadeIn (turns ++ turn_of who op ∷ []) (slot_of_id id)
+made_next turns who phase now op get id asked n =
+    let is = told_is (asks phase now) op asked in
     subst (λ d. IsMadeIn (turns ++ turn_of who d ∷ []) (slot_of_id id)) is
-    (made_told turns who phase now deed get id (ap (next phase) is ∙ n))
+    (made_told turns who phase now op get id (ap (next phase) is ∙ n))
 
 -- ---- the actors
 
 one_busy : {x y : Option Doing} → Some x ≡ Some y → x ≡ y
 one_busy e = cc
 
-is_in : (call : Started) (state : State) (d : Doing) → doing_in call state ≡ Some d →
+is_in : (call : Invocation) (state : State) (d : Doing) → doing_in call state ≡ Some d →
     (d.call ≡ call) × (d.state ≡ state)
 is_in call (Goes phase) d e = (cc, cc)
 is_in call (Waits wait) d e = (cc, cc)
 is_in call (Over ending) d e = absurd cc
 
 -- What an actor does after one of them does something else.
-pub data Does (actors : List (Option Doing)) (place : ℕ) (call : Started) (state : State) (at : ℕ)
+pub data Does (actors : List (Option Doing)) (place : ℕ) (call : Invocation) (state : State) (at : ℕ)
     (d : Doing) : Type 0 where
   moved : place ≡ at → d.call ≡ call → d.state ≡ state → Does actors place call state at d
   other : slice_get actors at ≡ Some (Some d) → Does actors place call state at d
 
-pub does : (actors : List (Option Doing)) (place : ℕ) (was : Option Doing) (call : Started) (state : State) (at : ℕ)
+pub does : (actors : List (Option Doing)) (place : ℕ) (was : Option Doing) (call : Invocation) (state : State) (at : ℕ)
     (d : Doing) → slice_get actors place ≡ Some was →
     slice_get (slice_set actors place (doing_in call state)) at ≡ Some (Some d) → Does actors place call state at d
 does actors place was call state at d there here = elim (same_place place at) [
@@ -200,7 +201,7 @@ does actors place was call state at d there here = elim (same_place place at) [
   | inr apart ↦ other (sym (get_set_other actors place at (doing_in call state) apart) ∙ here)
 ]
 
-pub own_still : (actors : List (Option Doing)) (place : ℕ) (was : Option Doing) (call : Started) (state : State) →
+pub own_still : (actors : List (Option Doing)) (place : ℕ) (was : Option Doing) (call : Invocation) (state : State) →
     slice_get actors place ≡ Some was → AreOwn actors → IsOf (kind_of call.asked) state →
     IsToCaller call.who (suc place) → HasItsBlocks state →
     AreOwn (slice_set actors place (doing_in call state))
@@ -208,9 +209,9 @@ own_still actors place was call state there all kind own blocks = λ at d here.
     elim (does actors place was call state at d there here) [
       | moved same c s ↦ (
         subst (IsOf (kind_of d.call.asked)) (sym s)
-            (subst (λ (x : Started). IsOf (kind_of x.asked) state) (sym c) kind),
+            (subst (λ (x : Invocation). IsOf (kind_of x.asked) state) (sym c) kind),
         subst (λ n. IsToCaller d.call.who (suc n)) same
-            (subst (λ (x : Started). IsToCaller x.who (suc place)) (sym c) own),
+            (subst (λ (x : Invocation). IsToCaller x.who (suc place)) (sym c) own),
         subst HasItsBlocks (sym s) blocks,
       )
       | other old ↦ all at d old
@@ -222,7 +223,7 @@ AreInstalled turns actors = (place : ℕ) (d : Doing) (get : Getting) (id : ℤ)
 
 -- The actors after the call of one moved.
 pub all_installed : (turns more : List Turn) (actors : List (Option Doing)) (place : ℕ) (was : Option Doing)
-    (call : Started) (state : State) → slice_get actors place ≡ Some was →
+    (call : Invocation) (state : State) → slice_get actors place ≡ Some was →
     ((slot : ℕ) → IsMadeIn turns slot → IsMadeIn more slot) → AreInstalled turns actors →
     ((get : Getting) (id : ℤ) → state ≡ Goes (AtInstall get id) → IsMadeIn more (slot_of_id id)) →
     AreInstalled more (slice_set actors place (doing_in call state))
@@ -234,42 +235,42 @@ all_installed turns more actors place was call state there still all own = λ at
 
 -- One whose call is not before an install.
 pub later_installs : (turns : List Turn) (actors : List (Option Doing)) (place : ℕ) (was : Option Doing)
-    (call : Started) (state : State) → slice_get actors place ≡ Some was → AreInstalled turns actors →
+    (call : Invocation) (state : State) → slice_get actors place ≡ Some was → AreInstalled turns actors →
     job_at state ≡ None → AreInstalled turns (slice_set actors place (doing_in call state))
 later_installs turns actors place was call state there all none =
     all_installed turns turns actors place was call state there (λ slot m. m) all
     (λ get id e. let bad : None ≡ Some (installing id) = sym none ∙ ap job_at e in absurd cc)
 
 module _
-    (more : (generation blocks : ℕ) (turns : List Turn) (who : Who) (deed : Deed) → AreLegal generation blocks turns →
-    IsLegalDeed generation blocks turns deed → AreLegal generation blocks (turns ++ turn_of who deed ∷ []))
+    (more : (generation blocks : ℕ) (turns : List Turn) (who : Who) (op : Op) → AreLegal generation blocks turns →
+    IsLegalOp generation blocks turns op → AreLegal generation blocks (turns ++ turn_of who op ∷ []))
     (b : BlockLaws) where
-  module _ (w : World) (s : IsSound w) (place : ℕ) (call : Started) where
+  module _ (w : World) (s : IsSound w) (place : ℕ) (call : Invocation) where
     -- The world after a turn of the call.
-    pub turn_sound : (phase : Phase) (now : ℕ) (deed : Deed) (state : State) →
+    pub turn_sound : (phase : Phase) (now : ℕ) (op : Op) (state : State) →
         slice_get w.actors place ≡ Some (Some record { call = call; state = Goes phase }) →
-        asked_by deed ≡ asks phase now →
-        IsLegalDeed w.generation w.blocks w.turns deed → next phase deed ≡ Some state →
+        asked_by op ≡ asks phase now →
+        IsLegalOp w.generation w.blocks w.turns op → next phase op ≡ Some state →
         IsSound (record w {
-          turns = w.turns ++ turn_of call.who deed ∷ [];
+          turns = w.turns ++ turn_of call.who op ∷ [];
           actors = slice_set w.actors place (doing_in call state);
           steps = w.steps + 1;
         })
-    turn_sound phase now deed state there asked legal goes =
+    turn_sound phase now op state there asked legal goes =
         let d : Doing = record { call = call; state = Goes phase } in
         let kind = kind_of call.asked in
         let own = s.own place d there in
-        let still = still_made w.turns (turn_of call.who deed) in
-        let l = later_next w.generation w.blocks w.turns kind phase now deed state own.0 asked legal goes in
+        let still = still_made w.turns (turn_of call.who op) in
+        let l = later_next w.generation w.blocks w.turns kind phase now op state own.0 asked legal goes in
         record {
-          legal = more w.generation w.blocks w.turns call.who deed s.legal legal;
+          legal = more w.generation w.blocks w.turns call.who op s.legal legal;
           own = own_still w.actors place (Some d) call state there s.own (later_of kind state l) own.1
               (blocks_later kind state l);
           installs = all_installed w.turns _ w.actors place (Some d) call state there still s.installs
-              (λ get id is. made_next w.turns call.who phase now deed get id asked (goes ∙ ap (λ x. Some x) is));
+              (λ get id is. made_next w.turns call.who phase now op get id asked (goes ∙ ap (λ x. Some x) is));
           blocks = turn_conserves b w.generation w.blocks w.turns w.actors s.legal s.blocks place call phase there own.2
-              now state deed asked legal goes;
-          lives = all_made w.turns call.who deed s.lives (λ slot c reply is i.
+              now state op asked legal goes;
+          lives = all_made w.turns call.who op s.lives (λ slot c reply is i.
               let at = installs_there phase now slot i.id i.key i.cred i.mode i.now
               (ap (OfSlot slot) (sym i.asks_it) ∙ (ap asked_by (sym is) ∙ asked)) in
               subst (IsMadeIn w.turns) (sym at.3) (s.installs place d at.0 at.1 there (ap Goes at.2)));
@@ -282,7 +283,7 @@ module _
     look_sound d state is there l none held_same = record {
       legal = s.legal;
       own = own_still w.actors place (Some d) call state there s.own (later_of (kind_of call.asked) state l)
-          (subst (λ (c : Started). IsToCaller c.who (suc place)) is (s.own place d there).1)
+          (subst (λ (c : Invocation). IsToCaller c.who (suc place)) is (s.own place d there).1)
           (blocks_later (kind_of call.asked) state l);
       installs = later_installs w.turns w.actors place (Some d) call state there s.installs none;
       lives = s.lives;
@@ -314,8 +315,8 @@ module _
 -- ---- the preset
 
 module _
-    (more : (generation blocks : ℕ) (turns : List Turn) (who : Who) (deed : Deed) → AreLegal generation blocks turns →
-    IsLegalDeed generation blocks turns deed → AreLegal generation blocks (turns ++ turn_of who deed ∷ []))
+    (more : (generation blocks : ℕ) (turns : List Turn) (who : Who) (op : Op) → AreLegal generation blocks turns →
+    IsLegalOp generation blocks turns op → AreLegal generation blocks (turns ++ turn_of who op ∷ []))
     (unused : UnusedSlots) where
   -- No queue is live in an unused slot.
   pub vacant_there : (w : World) → IsSound w → IsUnused w.generation (registry_history w.turns) 0 →
@@ -349,8 +350,8 @@ module _
       (unused.zero generation (registry_history turns) preset_flags u)))
 
 module _
-    (more : (generation blocks : ℕ) (turns : List Turn) (who : Who) (deed : Deed) → AreLegal generation blocks turns →
-    IsLegalDeed generation blocks turns deed → AreLegal generation blocks (turns ++ turn_of who deed ∷ []))
+    (more : (generation blocks : ℕ) (turns : List Turn) (who : Who) (op : Op) → AreLegal generation blocks turns →
+    IsLegalOp generation blocks turns op → AreLegal generation blocks (turns ++ turn_of who op ∷ []))
     (b : BlockLaws) (unused : UnusedSlots) where
   preset_sound : (w : World) → IsSound w → IsUnused w.generation (registry_history w.turns) 0 → IsSound (with_preset w)
   preset_sound w s u = record {
@@ -378,23 +379,23 @@ module _
           (still_made _ (turn_of preset_who preset_install) slot
           (still_made w.turns (turn_of preset_who preset_begin) slot m))
 
-  move_sound : (w after : World) (given : List Given) → IsSound w → Move w given after → IsSound after
-  move_sound w after given s (stood t) = subst IsSound (sym t.1) s
-  move_sound w after given s (began place cred asked there t) =
+  move_sound : (w after : World) (responses : List Response) → IsSound w → Move w responses after → IsSound after
+  move_sound w after responses s (stood t) = subst IsSound (sym t.1) s
+  move_sound w after responses s (began place cred asked there t) =
       subst IsSound (sym t.1) (start_sound more b w place cred asked s there)
-  move_sound w after given s (turned place now call phase there t) =
+  move_sound w after responses s (turned place now call phase there t) =
       subst IsSound (sym t.6) (turn_sound more b w s place call phase now t.0 t.1 there t.2 t.3 t.4)
-  move_sound w after given s (awoke place call wait there reached gave is) =
+  move_sound w after responses s (awoke place call wait there reached gave is) =
       let d : Doing = record { call = call; state = Waits wait } in
       let value = value_of w.turns (awaited wait) in
       subst IsSound (sym is)
       (look_sound more b w s place call d (Goes (resume wait value)) refl there
       (resumed_later (kind_of call.asked) wait value (s.own place d there).0) (resumed_none wait value)
       (resumed_holds wait value))
-  move_sound w after given s (preset_made u gave is) = subst IsSound (sym is) (preset_sound w s u)
+  move_sound w after responses s (preset_made u gave is) = subst IsSound (sym is) (preset_sound w s u)
 
   pub makes_sound : StaysSound
-  makes_sound w after x given s m = move_sound w after given s (moves w after x given m)
+  makes_sound w after x responses s m = move_sound w after responses s (moves w after x responses m)
 
 pub none_busy : (n place : ℕ) (d : Doing) → slice_get (replicate n None) place ≡ Some (Some d) → ⊥
 none_busy zero place d e = cc

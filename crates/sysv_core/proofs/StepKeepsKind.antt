@@ -7,8 +7,8 @@ use Rattle.sysv_model.specs.declared.errno.Errno.TheVariants.{EINVAL}
 use Rattle.sysv_model.specs.History.{Installed, Gone, Denied, Full, Fits, NoMatch, Taken, Done, Discarded}
 use Rattle.sysv_model.specs.Registry.{Found, Made, Busy, Changed}
 use Rattle.sysv_model.specs.Pool.{Reserved, TooFew, Released, Foreign}
-use Rattle.sysv_model.specs.Turn.{Deed, AtSlot, AtRegistry, AtPool, asked_by, Turn}
-use Rattle.sysv_objects.specs.LegalDeed.{IsLegalDeed}
+use Rattle.sysv_model.specs.Turn.{Op, AtSlot, AtRegistry, AtPool, asked_by, Turn}
+use Rattle.sysv_objects.specs.LegalOp.{IsLegalOp}
 use Rattle.sysv_steps.specs.Call.{SystemCall, Msgget}
 use Rattle.sysv_steps.specs.State.{Wait, OnSettled, Afterwards, IsRefused, WaitsOn, Phase, AtBegin}
 use Rattle.sysv_steps.specs.State.{AtInstall, AtProbe, AtLook, AtReserve, AtPlace, AtSendGiveback, AtTake, AtSet}
@@ -54,9 +54,9 @@ abbrev IsLaterIn : Kind → Option State → Type 0
 IsLaterIn kind None = Unit {0}
 IsLaterIn kind (Some state) = IsLater kind state
 
-later_told : (g size : ℕ) (turns : List Turn) (kind : Kind) (phase : Phase) (now : ℕ) (deed : Deed) →
-    phase_kind phase ≡ Some kind → IsLegalDeed g size turns (told (asks phase now) deed) →
-    IsLaterIn kind (next phase (told (asks phase now) deed))
+later_told : (g size : ℕ) (turns : List Turn) (kind : Kind) (phase : Phase) (now : ℕ) (op : Op) →
+    phase_kind phase ≡ Some kind → IsLegalOp g size turns (told (asks phase now) op) →
+    IsLaterIn kind (next phase (told (asks phase now) op))
 later_told g size turns kind (AtBegin get) now (AtRegistry c (Found id settled)) k l = (k, tt)
 later_told g size turns kind (AtBegin get) now (AtRegistry c (Made id)) k l = (k, tt)
 later_told g size turns kind (AtBegin get) now (AtRegistry c (Busy settled)) k l = k
@@ -82,7 +82,7 @@ later_told g size turns kind (AtTake receive) now (AtSlot slot c (Taken message)
 later_told g size turns kind (AtSet cred id to) now (AtSlot slot c Done) k l = (k, tt)
 later_told g size turns kind (AtRemove cred id) now (AtSlot slot c (Discarded messages)) k l = (k, tt)
 later_told g size turns kind (AtForget id blocks) now (AtRegistry c (Changed done)) k l = (k, tt)
-later_told g size turns kind (AtReserve send) now deed k l = absurd l
+later_told g size turns kind (AtReserve send) now op k l = absurd l
 later_told g size turns kind phase now (AtSlot slot c Gone) k l = tt
 later_told g size turns kind phase now (AtSlot slot c reply) k l = tt
 later_told g size turns kind phase now (AtRegistry c (Changed done)) k l = tt
@@ -92,13 +92,13 @@ later_told g size turns kind phase now (AtPool c Foreign) k l = tt
 later_told g size turns kind phase now (AtPool c reply) k l = tt
 
 -- A legal turn leads to such a state.
-pub later_next : (g size : ℕ) (turns : List Turn) (kind : Kind) (phase : Phase) (now : ℕ) (deed : Deed)
-    (state : State) → phase_kind phase ≡ Some kind → asked_by deed ≡ asks phase now →
-    IsLegalDeed g size turns deed → next phase deed ≡ Some state → IsLater kind state
-later_next g size turns kind phase now deed state k asked legal goes =
-    let is = told_is (asks phase now) deed asked in
+pub later_next : (g size : ℕ) (turns : List Turn) (kind : Kind) (phase : Phase) (now : ℕ) (op : Op)
+    (state : State) → phase_kind phase ≡ Some kind → asked_by op ≡ asks phase now →
+    IsLegalOp g size turns op → next phase op ≡ Some state → IsLater kind state
+later_next g size turns kind phase now op state k asked legal goes =
+    let is = told_is (asks phase now) op asked in
     subst (IsLaterIn kind) (ap (next phase) is ∙ goes)
-    (later_told g size turns kind phase now deed k (subst (IsLegalDeed g size turns) (sym is) legal))
+    (later_told g size turns kind phase now op k (subst (IsLegalOp g size turns) (sym is) legal))
 
 pub blocks_later : (kind : Kind) (s : State) → IsLater kind s → HasItsBlocks s
 blocks_later kind (Goes phase) l = l.1

@@ -15,8 +15,8 @@ use Rattle.sysv_model.specs.declared.flags.TheConstants.Flags.{MSG_NOERROR}
 use Rattle.sysv_model.specs.HasFlag.{has_flag}
 use Rattle.sysv_model.specs.Selector.{selector_for}
 use Rattle.sysv_model.specs.History.{Who, Call, Look, Place, Take, Remove, Gone, Discarded, Entry, History}
-use Rattle.sysv_model.specs.Turn.{OfSlot, Deed, AtSlot, AtRegistry, AtPool, asked_by, Turn, slot_history, is_same}
-use Rattle.sysv_model.specs.Turn.{deeds_of}
+use Rattle.sysv_model.specs.Turn.{OfSlot, Op, AtSlot, AtRegistry, AtPool, asked_by, Turn, slot_history, is_same}
+use Rattle.sysv_model.specs.Turn.{ops_of}
 use Rattle.sysv_queue.specs.ForGood.{NamesId, not_live_reply}
 use Rattle.sysv_keys.specs.Identifier.{slot_of_id}
 use Rattle.sysv_steps.specs.Call.{SystemCall, Msgsnd, Msgrcv}
@@ -25,7 +25,7 @@ use Rattle.sysv_steps.specs.Played.{Plays}
 use Rattle.sysv_steps.specs.AsksFor.{AsksFor, AllAskFor}
 use Rattle.sysv_steps.specs.Answers.{is_at_slot, found_gone, some}
 use Rattle.sysv_steps.specs.AfterRemoval.{SendsOrReceives, IsToldOfRemoval, EachIsToldOfRemoval}
-use Rattle.sysv_core.specs.World.{World, Started, Given, begun}
+use Rattle.sysv_core.specs.World.{World, Invocation, Response, begun}
 use Rattle.sysv_core.specs.AnswerLaw.{endings_of, ended, Fate}
 use Rattle.sysv_core.specs.Removed.{AreRemovedForGood}
 use Rattle.sysv_core.specs.LastWords.{IsOfQueue, IsRemoval, IsToldSo}
@@ -49,16 +49,16 @@ nor_left false false e f = refl
 nor_left false true e f = absurd cc
 nor_left true b e f = absurd cc
 
--- ---- the deeds of a call around a turn
+-- ---- the operations of a call around a turn
 
-deeds_both : (who : Who) (xs ys : List Turn) → deeds_of who (xs ++ ys) ≡ deeds_of who xs ++ deeds_of who ys
-deeds_both who xs ys =
-    ap (map (λ (x : Turn). x.deed)) (filter-append (λ (x : Turn). is_same who x.who) xs ys)
-    ∙ map-append (λ (x : Turn). x.deed) (filter (λ (x : Turn). is_same who x.who) xs)
+ops_both : (who : Who) (xs ys : List Turn) → ops_of who (xs ++ ys) ≡ ops_of who xs ++ ops_of who ys
+ops_both who xs ys =
+    ap (map (λ (x : Turn). x.op)) (filter-append (λ (x : Turn). is_same who x.who) xs ys)
+    ∙ map-append (λ (x : Turn). x.op) (filter (λ (x : Turn). is_same who x.who) xs)
     (filter (λ (x : Turn). is_same who x.who) ys)
 
-abbrev from_turn : Who → Bool → Turn → List Turn → List Deed
-from_turn who b t ts = map (λ (x : Turn). x.deed)
+abbrev from_turn : Who → Bool → Turn → List Turn → List Op
+from_turn who b t ts = map (λ (x : Turn). x.op)
     (cond b (t ∷ filter (λ (x : Turn). is_same who x.who) ts) (filter (λ (x : Turn). is_same who x.who) ts))
 
 -- No send and no receive requests a removal.
@@ -108,40 +108,41 @@ is_one (Msgsnd i mtype flags text) id q = tt
 is_one (Msgrcv i size mtype flags) id q = tt
 is_one asked id q = absurd q
 
-is_gone : (deed : Deed) → found_gone deed ≡ true → (slot : ℕ) × (call : Call) × (deed ≡ AtSlot slot call Gone)
+is_gone : (op : Op) → found_gone op ≡ true → (slot : ℕ) × (call : Call) × (op ≡ AtSlot slot call Gone)
 is_gone (AtSlot slot call Gone) e = (slot, call, refl)
-is_gone deed e = absurd cc
+is_gone op e = absurd cc
 
-module _ (w : World) (given : List Given) (call : Started) (fate : Fate w given call) (told : EachIsToldOfRemoval)
-    (all : AllAskFor call.cred call.asked (deeds_of call.who w.turns)) (good : AreRemovedForGood w.turns)
+module _ (w : World) (responses : List Response) (call : Invocation) (fate : Fate w responses call)
+    (told : EachIsToldOfRemoval)
+    (all : AllAskFor call.cred call.asked (ops_of call.who w.turns)) (good : AreRemovedForGood w.turns)
     (id : ℤ) (before after : List Turn) (t : Turn) (whole : w.turns ≡ before ++ t ∷ after)
-    (removal : IsRemoval id t.deed) (q : IsOfQueue id call.asked) where
-  abbrev earlier : List Deed
-  earlier = deeds_of call.who before
+    (removal : IsRemoval id t.op) (q : IsOfQueue id call.asked) where
+  abbrev earlier : List Op
+  earlier = ops_of call.who before
 
-  abbrev since : List Deed
-  since = deeds_of call.who after
+  abbrev since : List Op
+  since = ops_of call.who after
 
-  asked_for : (deed : Deed) → Contains (deeds_of call.who w.turns) deed → AsksFor call.cred call.asked (asked_by deed)
-  asked_for deed has =
-      All-contains (λ (d : Deed). AsksFor call.cred call.asked (asked_by d)) (deeds_of call.who w.turns) deed all has
+  asked_for : (op : Op) → Contains (ops_of call.who w.turns) op → AsksFor call.cred call.asked (asked_by op)
+  asked_for op has =
+      All-contains (λ (d : Op). AsksFor call.cred call.asked (asked_by d)) (ops_of call.who w.turns) op all has
 
-  parted : deeds_of call.who w.turns ≡ earlier ++ from_turn call.who (is_same call.who t.who) t after
-  parted = ap (deeds_of call.who) whole ∙ deeds_both call.who before (t ∷ after)
+  parted : ops_of call.who w.turns ≡ earlier ++ from_turn call.who (is_same call.who t.who) t after
+  parted = ap (ops_of call.who) whole ∙ ops_both call.who before (t ∷ after)
 
   -- The removal belongs to another call.
   another : (b : Bool) → is_same call.who t.who ≡ b → is_same call.who t.who ≡ false
   another false e = e
   another true e =
-      let mine : deeds_of call.who w.turns ≡ earlier ++ t.deed ∷ since =
+      let mine : ops_of call.who w.turns ≡ earlier ++ t.op ∷ since =
       parted ∙ ap (λ b. earlier ++ from_turn call.who b t after) e in
-      let has : Contains (deeds_of call.who w.turns) t.deed = subst (λ (ds : List Deed). Contains ds t.deed) (sym mine)
-      (Contains-append_right earlier (t.deed ∷ since) t.deed (0, omega arith, refl)) in
+      let has : Contains (ops_of call.who w.turns) t.op = subst (λ (ds : List Op). Contains ds t.op) (sym mine)
+      (Contains-append_right earlier (t.op ∷ since) t.op (0, omega arith, refl)) in
       absurd (not_removal id id (slot_of_id id) call.cred removal.0 call.asked q
-      (subst (λ (d : Deed). AsksFor call.cred call.asked (asked_by d)) removal.2 (asked_for t.deed has)))
+      (subst (λ (d : Op). AsksFor call.cred call.asked (asked_by d)) removal.2 (asked_for t.op has)))
 
-  deeds_are : deeds_of call.who w.turns ≡ earlier ++ since
-  deeds_are = parted ∙ ap (λ b. earlier ++ from_turn call.who b t after) (another (is_same call.who t.who) refl)
+  ops_are : ops_of call.who w.turns ≡ earlier ++ since
+  ops_are = parted ∙ ap (λ b. earlier ++ from_turn call.who b t after) (another (is_same call.who t.who) refl)
 
   same_int : int_eq id id ≡ true
   same_int = (Decides-int_eq id id).1 refl
@@ -164,11 +165,11 @@ module _ (w : World) (given : List Given) (call : Started) (fate : Fate w given 
       (good.gone slot id (slot_history slot before) (slot_history slot after) entry history same_int).told has
 
   -- A turn of the call at the slot since then.
-  finds_gone : (deed : Deed) → Contains since deed → is_at_slot deed ≡ true → found_gone deed ≡ true
+  finds_gone : (op : Op) → Contains since op → is_at_slot op ≡ true → found_gone op ≡ true
   finds_gone (AtSlot at c reply) has e =
       let a = is_about id at c call.cred call.asked q
       (asked_for (AtSlot at c reply)
-      (subst (λ (ds : List Deed). Contains ds (AtSlot at c reply)) (sym deeds_are)
+      (subst (λ (ds : List Op). Contains ds (AtSlot at c reply)) (sym ops_are)
       (Contains-append_right earlier since (AtSlot at c reply) has))) in
       let split = contained_at since (AtSlot at c reply) has in
       let m = made_at call.who after split.0 (AtSlot at c reply) split.1 split.2 in
@@ -190,23 +191,23 @@ module _ (w : World) (given : List Given) (call : Started) (fate : Fate w given 
 
     found : found_gone came.it ≡ true
     found = finds_gone came.it
-        (subst (λ (ds : List Deed). Contains ds came.it) (sym came.whole)
+        (subst (λ (ds : List Op). Contains ds came.it) (sym came.whole)
         (Contains-append_right came.front (came.it ∷ came.back) came.it (0, omega arith, refl))) came.passes
 
-    answer : (ending : Ending) → Plays (begun call) (deeds_of call.who w.turns) (Over ending) →
+    answer : (ending : Ending) → Plays (begun call) (ops_of call.who w.turns) (Over ending) →
         IsToldOfRemoval (earlier ++ came.front) came.back ending
     answer ending plays =
         let g = is_gone came.it found in
-        let split : deeds_of call.who w.turns ≡ (earlier ++ came.front) ++ AtSlot g.0 g.1 Gone ∷ came.back =
-        deeds_are
-        ∙ (ap (λ (ds : List Deed). earlier ++ ds) (came.whole ∙ ap (λ d. came.front ++ d ∷ came.back) g.2)
+        let split : ops_of call.who w.turns ≡ (earlier ++ came.front) ++ AtSlot g.0 g.1 Gone ∷ came.back =
+        ops_are
+        ∙ (ap (λ (ds : List Op). earlier ++ ds) (came.whole ∙ ap (λ d. came.front ++ d ∷ came.back) g.2)
         ∙ sym (append_assoc earlier came.front (AtSlot g.0 g.1 Gone ∷ came.back))) in
-        told call.cred call.asked call.released (deeds_of call.who w.turns) ending (is_one call.asked id q) plays
+        told call.cred call.asked call.released (ops_of call.who w.turns) ending (is_one call.asked id q) plays
         (earlier ++ came.front) came.back g.0 g.1 split
 
     each_ending : (why : Errno) →
-        ((ending : Ending) → Plays (begun call) (deeds_of call.who w.turns) (Over ending) → ending ≡ Refused why) →
-        (state : State) → Plays (begun call) (deeds_of call.who w.turns) state →
+        ((ending : Ending) → Plays (begun call) (ops_of call.who w.turns) (Over ending) → ending ≡ Refused why) →
+        (state : State) → Plays (begun call) (ops_of call.who w.turns) state →
         All (λ (ending : Ending). ending ≡ Refused why) (ended state)
     each_ending why f (Goes phase) plays = all_empty (λ (ending : Ending). ending ≡ Refused why)
     each_ending why f (Waits wait) plays = all_empty (λ (ending : Ending). ending ≡ Refused why)
@@ -214,27 +215,28 @@ module _ (w : World) (given : List Given) (call : Started) (fate : Fate w given 
         (all_empty (λ (x : Ending). x ≡ Refused why)) (f ending plays)
 
     all_endings : (why : Errno) →
-        ((ending : Ending) → Plays (begun call) (deeds_of call.who w.turns) (Over ending) → ending ≡ Refused why) →
-        All (λ (ending : Ending). ending ≡ Refused why) (endings_of call.who given)
+        ((ending : Ending) → Plays (begun call) (ops_of call.who w.turns) (Over ending) → ending ≡ Refused why) →
+        All (λ (ending : Ending). ending ≡ Refused why) (endings_of call.who responses)
     all_endings why f = subst (All (λ (ending : Ending). ending ≡ Refused why)) (sym fate.answered)
         (each_ending why f fate.state fate.plays)
 
-    was_there : some is_at_slot earlier → All (λ (ending : Ending). ending ≡ Refused EIDRM) (endings_of call.who given)
+    was_there : some is_at_slot earlier →
+        All (λ (ending : Ending). ending ≡ Refused EIDRM) (endings_of call.who responses)
     was_there there = all_endings EIDRM (λ ending plays.
         (answer ending plays).removed
         (list_any-append is_at_slot earlier came.front
         ∙ or_left (list_any is_at_slot earlier) (list_any is_at_slot came.front) there))
 
     was_not : list_any is_at_slot earlier ≡ false →
-        All (λ (ending : Ending). ending ≡ Refused EINVAL) (endings_of call.who given)
+        All (λ (ending : Ending). ending ≡ Refused EINVAL) (endings_of call.who responses)
     was_not none = all_endings EINVAL (λ ending plays.
         (answer ending plays).absent
         (list_any-append is_at_slot earlier came.front
         ∙ nor_left (list_any is_at_slot earlier) (list_any is_at_slot came.front) none came.none_before))
 
-  pub told_so : IsToldSo earlier since (endings_of call.who given)
+  pub told_so : IsToldSo earlier since (endings_of call.who responses)
   told_so = record {
-    gone = All-weaker (Contains since) (λ (deed : Deed). is_at_slot deed ≡ true → found_gone deed ≡ true) finds_gone
+    gone = All-weaker (Contains since) (λ (op : Op). is_at_slot op ≡ true → found_gone op ≡ true) finds_gone
         since (All-contains_itself since);
     removed = λ there come. was_there come there;
     absent = λ none come. was_not come none;

@@ -43,7 +43,7 @@ module _ (old new : Objects) (p : Phase) (now before after : ℕ) (s : State) (l
       StepsOn MakesTurn (λ _ _ _. ⊥) (λ n. n ≡ now) p old before s new after → LeadsTo b s l →
       TurnLeads old p now l new
   leads_so b kind (inl step) leads = record {
-    deed = step.deed;
+    op = step.op;
     state = s;
     asked = step.asked ∙ same_asks p step.now now step.moment;
     turn = step.makes.turn;
@@ -57,7 +57,7 @@ module _ (old new : Objects) (p : Phase) (now before after : ℕ) (s : State) (l
       StepsOn MakesTurn (λ _ _ _. ⊥) no_moment p old before s new after →
       LeadsTo false s l → TurnLeads old p now l new
   leads_ever kind (inl step) leads = record {
-    deed = step.deed;
+    op = step.op;
     state = s;
     asked = step.asked ∙ same_asks p step.now now (λ e. absurd (step.moment e));
     turn = step.makes.turn;

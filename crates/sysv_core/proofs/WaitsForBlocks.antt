@@ -11,9 +11,9 @@ use Rattle.sysv_model.specs.History.{Who, Gone, Full, Fits, NoMatch, Installed}
 use Rattle.sysv_model.specs.Registry.{Made, Changed}
 use Rattle.sysv_model.specs.Pool.{PoolCall, Reserve, Release, PoolReply, Reserved, TooFew, Released, Foreign, PoolEntry}
 use Rattle.sysv_model.specs.Pool.{PoolHistory, blocks_for, frees, released}
-use Rattle.sysv_model.specs.Turn.{Deed, AtSlot, AtRegistry, AtPool, asked_by, Turn, pool_entry, pool_history}
+use Rattle.sysv_model.specs.Turn.{Op, AtSlot, AtRegistry, AtPool, asked_by, Turn, pool_entry, pool_history}
 use Rattle.sysv_pool.specs.State.{returned_by, free_after}
-use Rattle.sysv_objects.specs.LegalDeed.{IsLegalDeed}
+use Rattle.sysv_objects.specs.LegalOp.{IsLegalOp}
 use Rattle.sysv_steps.specs.Call.{SystemCall, Msgsnd}
 use Rattle.sysv_steps.specs.State.{Sending, Wait, OnSettled, OnFreed, OnReleased, OnArrived, Afterwards, IsRefused}
 use Rattle.sysv_steps.specs.State.{WaitsOn, Phase, AtBegin, AtInstall, AtLook, AtReserve, AtPlace, AtSendGiveback}
@@ -22,7 +22,7 @@ use Rattle.sysv_steps.specs.Begin.{is_refused, first}
 use Rattle.sysv_steps.specs.Asks.{asks}
 use Rattle.sysv_steps.specs.Next.{waits_or, goes_on, next}
 use Rattle.sysv_steps.specs.Resume.{resume, awaited}
-use Rattle.sysv_core.specs.World.{World, Started, Doing, Given, doing_in, starting, begun, value_of}
+use Rattle.sysv_core.specs.World.{World, Invocation, Doing, Response, doing_in, starting, begun, value_of}
 use Rattle.sysv_core.proofs.Histories.{turn_of, pool_more, preset_pool, one, released_more, returned_more}
 use Rattle.sysv_core.proofs.Histories.{reserved_more}
 use Rattle.sysv_core.proofs.Told.{told, told_is}
@@ -157,9 +157,9 @@ afterwards_follows size h blocks (IsRefused why) s = record { read = omega arith
 afterwards_follows size h blocks (WaitsOn (OnReleased goal send)) s = absurd s
 afterwards_follows size h blocks (WaitsOn wait) s = record { read = omega arith; short = tt; comes = tt }
 
-followed_told : (g size : ℕ) (turns : List Turn) (phase : Phase) (now : ℕ) (deed : Deed) →
-    IsShort size (pool_history turns) (Goes phase) → IsLegalDeed g size turns (told (asks phase now) deed) →
-    FollowsIn size (pool_history turns) phase (next phase (told (asks phase now) deed))
+followed_told : (g size : ℕ) (turns : List Turn) (phase : Phase) (now : ℕ) (op : Op) →
+    IsShort size (pool_history turns) (Goes phase) → IsLegalOp g size turns (told (asks phase now) op) →
+    FollowsIn size (pool_history turns) phase (next phase (told (asks phase now) op))
 followed_told g size turns (AtLook send) now (AtSlot slot c (Full freed)) s l =
     full_waits size _ send (freed + 1) send.nowait EAGAIN (record send { seen = true }) refl
 followed_told g size turns (AtLook send) now (AtSlot slot c Fits) s l =
@@ -168,7 +168,7 @@ followed_told g size turns (AtReserve send) now (AtPool c (Reserved blocks)) s l
     record { read = omega arith; short = tt; comes = tt }
 followed_told g size turns (AtReserve send) now (AtPool c TooFew) s l =
     too_few size (pool_history turns) send send.nowait EAGAIN l
-followed_told g size turns (AtReserve send) now deed s l = absurd l
+followed_told g size turns (AtReserve send) now op s l = absurd l
 followed_told g size turns (AtPlace send blocks) now (AtSlot slot c (Full freed)) s l =
     full_gives_back size _ send blocks (freed + 1) blocks send.nowait EAGAIN (record send { seen = true }) refl
 followed_told g size turns (AtSendGiveback blocks afterwards) now (AtPool c Released) s l =
@@ -190,13 +190,13 @@ followed_told g size turns phase now (AtPool c Foreign) s l = plain size _ phase
 followed_told g size turns phase now (AtPool c reply) s l = plain size _ phase _ refl tt tt
 
 -- Where a legal turn leads.
-pub followed : (g size : ℕ) (turns : List Turn) (phase : Phase) (now : ℕ) (deed : Deed) (state : State) →
-    IsShort size (pool_history turns) (Goes phase) → asked_by deed ≡ asks phase now → IsLegalDeed g size turns deed →
-    next phase deed ≡ Some state → Follows size (pool_history turns) phase state
-followed g size turns phase now deed state short asked legal goes =
-    let is = told_is (asks phase now) deed asked in
+pub followed : (g size : ℕ) (turns : List Turn) (phase : Phase) (now : ℕ) (op : Op) (state : State) →
+    IsShort size (pool_history turns) (Goes phase) → asked_by op ≡ asks phase now → IsLegalOp g size turns op →
+    next phase op ≡ Some state → Follows size (pool_history turns) phase state
+followed g size turns phase now op state short asked legal goes =
+    let is = told_is (asks phase now) op asked in
     subst (FollowsIn size (pool_history turns) phase) (ap (next phase) is ∙ goes)
-    (followed_told g size turns phase now deed short (subst (IsLegalDeed g size turns) (sym is) legal))
+    (followed_told g size turns phase now op short (subst (IsLegalOp g size turns) (sym is) legal))
 
 -- ---- every actor
 
@@ -205,31 +205,31 @@ AreRight blocks turns actors =
     (place : ℕ) (d : Doing) → slice_get actors place ≡ Some (Some d) → IsRight blocks (pool_history turns) d.state
 
 -- The same after one more turn of any caller.
-still_right : (blocks : ℕ) (turns : List Turn) (who : Who) (deed : Deed) (state : State) →
-    IsRight blocks (pool_history turns) state → IsRight blocks (pool_history (turns ++ turn_of who deed ∷ [])) state
-still_right blocks turns who deed state r =
-    subst (λ h. IsRight blocks h state) (sym (pool_more turns (turn_of who deed))) (by_deed deed)
+still_right : (blocks : ℕ) (turns : List Turn) (who : Who) (op : Op) (state : State) →
+    IsRight blocks (pool_history turns) state → IsRight blocks (pool_history (turns ++ turn_of who op ∷ [])) state
+still_right blocks turns who op state r =
+    subst (λ h. IsRight blocks h state) (sym (pool_more turns (turn_of who op))) (by_op op)
   where
-    by_deed : (d : Deed) → IsRight blocks (pool_history turns ++ pool_entry who d) state
-    by_deed (AtSlot slot call reply) = subst (λ h. IsRight blocks h state) (sym (append-nil (pool_history turns))) r
-    by_deed (AtRegistry call reply) = subst (λ h. IsRight blocks h state) (sym (append-nil (pool_history turns))) r
-    by_deed (AtPool call reply) =
+    by_op : (d : Op) → IsRight blocks (pool_history turns ++ pool_entry who d) state
+    by_op (AtSlot slot call reply) = subst (λ h. IsRight blocks h state) (sym (append-nil (pool_history turns))) r
+    by_op (AtRegistry call reply) = subst (λ h. IsRight blocks h state) (sym (append-nil (pool_history turns))) r
+    by_op (AtPool call reply) =
         right_more blocks (pool_history turns) (record { who = who; call = call; reply = reply }) state r
 
-module _ (w : World) (all : AreRight w.blocks w.turns w.actors) (place : ℕ) (call : Started) where
-  turn_right : (phase : Phase) (now : ℕ) (deed : Deed) (state : State) →
+module _ (w : World) (all : AreRight w.blocks w.turns w.actors) (place : ℕ) (call : Invocation) where
+  turn_right : (phase : Phase) (now : ℕ) (op : Op) (state : State) →
       slice_get w.actors place ≡ Some (Some record { call = call; state = Goes phase }) →
-      asked_by deed ≡ asks phase now → IsLegalDeed w.generation w.blocks w.turns deed → next phase deed ≡ Some state →
-      AreRight w.blocks (w.turns ++ turn_of call.who deed ∷ []) (slice_set w.actors place (doing_in call state))
-  turn_right phase now deed state there asked legal goes = λ at d here.
+      asked_by op ≡ asks phase now → IsLegalOp w.generation w.blocks w.turns op → next phase op ≡ Some state →
+      AreRight w.blocks (w.turns ++ turn_of call.who op ∷ []) (slice_set w.actors place (doing_in call state))
+  turn_right phase now op state there asked legal goes = λ at d here.
       elim (does w.actors place (Some record { call = call; state = Goes phase }) call state at d there here) [
         | moved same c s ↦
             let was = all place (record { call = call; state = Goes phase }) there in
-            let f = followed w.generation w.blocks w.turns phase now deed state was.short asked legal goes in
-            still_right w.blocks w.turns call.who deed d.state
+            let f = followed w.generation w.blocks w.turns phase now op state was.short asked legal goes in
+            still_right w.blocks w.turns call.who op d.state
             (subst (IsRight w.blocks (pool_history w.turns)) (sym s)
             record { read = omega (arith, f.read, was.read); short = f.short })
-        | other old ↦ still_right w.blocks w.turns call.who deed d.state (all at d old)
+        | other old ↦ still_right w.blocks w.turns call.who op d.state (all at d old)
       ]
 
   -- A call that continues without a turn, or that starts.
@@ -259,22 +259,22 @@ begun_right blocks h cred asked false = record { read = omega arith; short = tt 
 abbrev pub AllRight : World → Type 0
 AllRight w = AreRight w.blocks w.turns w.actors
 
-pub move_right : (w after : World) (given : List Given) → AllRight w → Move w given after → AllRight after
-move_right w after given all (stood t) = subst AllRight (sym t.1) all
-move_right w after given all (began place cred asked there t) =
+pub move_right : (w after : World) (responses : List Response) → AllRight w → Move w responses after → AllRight after
+move_right w after responses all (stood t) = subst AllRight (sym t.1) all
+move_right w after responses all (began place cred asked there t) =
     let call = starting w (suc place) cred asked in
     subst AllRight (sym t.1)
     (stand_right w all place call None (begun call) there
     (begun_right w.blocks (pool_history w.turns) cred asked (is_refused asked)))
-move_right w after given all (turned place now call phase there t) =
+move_right w after responses all (turned place now call phase there t) =
     subst AllRight (sym t.6) (turn_right w all place call phase now t.0 t.1 there t.2 t.3 t.4)
-move_right w after given all (awoke place call wait there reached gave is) =
+move_right w after responses all (awoke place call wait there reached gave is) =
     let d : Doing = record { call = call; state = Waits wait } in
     subst AllRight (sym is)
     (stand_right w all place call (Some d) (Goes (resume wait (value_of w.turns (awaited wait)))) there
     (resumed_right w.blocks w.turns wait (all place d there)))
 -- A preset makes no turn at the pool.
-move_right w after given all (preset_made unused gave is) =
+move_right w after responses all (preset_made unused gave is) =
     subst AllRight (sym is)
     (λ place d there. subst (λ h. IsRight w.blocks h d.state) (sym (preset_pool w.turns)) (all place d there))
 

@@ -5,12 +5,13 @@ use Rattle.std.specs.List.{All, Contains}
 use Rattle.sysv_model.specs.declared.errno.Errno.TheVariants.{EAGAIN}
 use Rattle.sysv_model.specs.Message.{Message}
 use Rattle.sysv_model.specs.History.{Actor, Remove, Discarded}
-use Rattle.sysv_model.specs.Turn.{OfSlot, Deed, AtSlot, deeds_of}
+use Rattle.sysv_model.specs.Turn.{OfSlot, Op, AtSlot, ops_of}
 use Rattle.sysv_steps.specs.State.{AtPlace, Ending, Zero, Refused, State, Goes, Waits, Over}
 use Rattle.sysv_steps.specs.Played.{Plays, begins, steps}
-use Rattle.sysv_steps.specs.AsksFor.{AsksFor, EachDeedIsAskedFor}
+use Rattle.sysv_steps.specs.AsksFor.{AsksFor, EachOpIsAskedFor}
 use Rattle.sysv_steps.specs.Answers.{EachAnswerIsRight}
-use Rattle.sysv_core.specs.World.{Started, begun, preset_who, preset_cred, preset_begin, preset_install, preset_settle}
+use Rattle.sysv_core.specs.World.{Invocation, begun, preset_who, preset_cred, preset_begin, preset_install}
+use Rattle.sysv_core.specs.World.{preset_settle}
 use Rattle.sysv_core.specs.AnswerLaw.{AreInTheirCalls, IsMade, ended, standing}
 use Rattle.sysv_core.specs.WorkedRun.{hello, the_calls, look_for}
 use Rattle.sysv_core.proofs.SoundStays.{none_busy}
@@ -53,49 +54,51 @@ over_and_going x s (Waits wait) e f = cc
 over_and_going x s (Over ending) e f = cc
 
 -- No call of the run belongs to actor 3.
-none_of_three : (place : ℕ) → (call : Started) × Contains the_calls call × (Actor 3 place ≡ call.who) → ⊥
-none_of_three place (call, (zero, low, is), name) = let e = ap (λ (c : Started). c.who) is in cc
-none_of_three place (call, (suc zero, low, is), name) = let e = ap (λ (c : Started). c.who) is in cc
-none_of_three place (call, (suc (suc zero), low, is), name) = let e = ap (λ (c : Started). c.who) is in cc
-none_of_three place (call, (suc (suc (suc zero)), low, is), name) = let e = ap (λ (c : Started). c.who) is in cc
-none_of_three place (call, (suc (suc (suc (suc zero))), low, is), name) = let e = ap (λ (c : Started). c.who) is in cc
+none_of_three : (place : ℕ) → (call : Invocation) × Contains the_calls call × (Actor 3 place ≡ call.who) → ⊥
+none_of_three place (call, (zero, low, is), name) = let e = ap (λ (c : Invocation). c.who) is in cc
+none_of_three place (call, (suc zero, low, is), name) = let e = ap (λ (c : Invocation). c.who) is in cc
+none_of_three place (call, (suc (suc zero), low, is), name) = let e = ap (λ (c : Invocation). c.who) is in cc
+none_of_three place (call, (suc (suc (suc zero)), low, is), name) = let e = ap (λ (c : Invocation). c.who) is in cc
+none_of_three place (call, (suc (suc (suc (suc zero))), low, is), name) =
+    let e = ap (λ (c : Invocation). c.who) is in cc
 none_of_three place (call, (suc (suc (suc (suc (suc zero)))), low, is), name) =
-    let e = ap (λ (c : Started). c.who) is in cc
+    let e = ap (λ (c : Invocation). c.who) is in cc
 none_of_three place (call, (suc (suc (suc (suc (suc (suc zero))))), low, is), name) =
-    let e = ap (λ (c : Started). c.who) is in cc
+    let e = ap (λ (c : Invocation). c.who) is in cc
 none_of_three place (call, (suc (suc (suc (suc (suc (suc (suc k)))))), low, is), name) = omega (arith, low)
 
-nobody : (deed : Deed) → ¬ IsMade the_calls (record { who = Actor 3 0; deed = deed })
-nobody deed (inl preset) = let who = preset.0 in cc
-nobody deed (inr by) = none_of_three 0 by
+nobody : (op : Op) → ¬ IsMade the_calls (record { who = Actor 3 0; op = op })
+nobody op (inl preset) = let who = preset.0 in cc
+nobody op (inr by) = none_of_three 0 by
 
 -- No call of the run has the name of a preset.
-none_of_preset : (call : Started) × Contains the_calls call × (preset_who ≡ call.who) → ⊥
-none_of_preset (call, (zero, low, is), name) = let e = ap (λ (c : Started). c.who) is in cc
-none_of_preset (call, (suc zero, low, is), name) = let e = ap (λ (c : Started). c.who) is in cc
-none_of_preset (call, (suc (suc zero), low, is), name) = let e = ap (λ (c : Started). c.who) is in cc
-none_of_preset (call, (suc (suc (suc zero)), low, is), name) = let e = ap (λ (c : Started). c.who) is in cc
-none_of_preset (call, (suc (suc (suc (suc zero))), low, is), name) = let e = ap (λ (c : Started). c.who) is in cc
-none_of_preset (call, (suc (suc (suc (suc (suc zero)))), low, is), name) = let e = ap (λ (c : Started). c.who) is in cc
+none_of_preset : (call : Invocation) × Contains the_calls call × (preset_who ≡ call.who) → ⊥
+none_of_preset (call, (zero, low, is), name) = let e = ap (λ (c : Invocation). c.who) is in cc
+none_of_preset (call, (suc zero, low, is), name) = let e = ap (λ (c : Invocation). c.who) is in cc
+none_of_preset (call, (suc (suc zero), low, is), name) = let e = ap (λ (c : Invocation). c.who) is in cc
+none_of_preset (call, (suc (suc (suc zero)), low, is), name) = let e = ap (λ (c : Invocation). c.who) is in cc
+none_of_preset (call, (suc (suc (suc (suc zero))), low, is), name) = let e = ap (λ (c : Invocation). c.who) is in cc
+none_of_preset (call, (suc (suc (suc (suc (suc zero)))), low, is), name) =
+    let e = ap (λ (c : Invocation). c.who) is in cc
 none_of_preset (call, (suc (suc (suc (suc (suc (suc zero))))), low, is), name) =
-    let e = ap (λ (c : Started). c.who) is in cc
+    let e = ap (λ (c : Invocation). c.who) is in cc
 none_of_preset (call, (suc (suc (suc (suc (suc (suc (suc k)))))), low, is), name) = omega (arith, low)
 
-three_of_preset : All (λ (deed : Deed). IsMade [] (record { who = preset_who; deed = deed }))
+three_of_preset : All (λ (op : Op). IsMade [] (record { who = preset_who; op = op }))
     (preset_begin ∷ preset_install ∷ preset_settle ∷ [])
 three_of_preset zero d low = inl (refl, inl refl)
 three_of_preset (suc zero) d low = inl (refl, inr (inl refl))
 three_of_preset (suc (suc zero)) d low = inl (refl, inr (inr refl))
 three_of_preset (suc (suc (suc k))) d low = absurd (omega (arith, low))
 
-no_look : ¬ IsMade the_calls (record { who = preset_who; deed = look_fits })
+no_look : ¬ IsMade the_calls (record { who = preset_who; op = look_fits })
 no_look (inl (who, inl is)) = cc
 no_look (inl (who, inr (inl is))) = cc
 no_look (inl (who, inr (inr is))) = cc
 no_look (inr by) = none_of_preset by
 
 no_removal : (messages : List Message) →
-    ¬ IsMade the_calls (record { who = preset_who; deed = AtSlot 0 (Remove (pos 0) preset_cred) (Discarded messages) })
+    ¬ IsMade the_calls (record { who = preset_who; op = AtSlot 0 (Remove (pos 0) preset_cred) (Discarded messages) })
 no_removal messages (inl (who, inl is)) = cc
 no_removal messages (inl (who, inr (inl is))) = cc
 no_removal messages (inl (who, inr (inr is))) = cc
@@ -112,7 +115,7 @@ other_size (inr (inr (inr (blocks, is)))) = cc
 in_its_own : AreInTheirCalls (looking 5)
 in_its_own zero d there =
     let same : d.call ≡ the_send = cc in
-    ((0, omega arith, sym same), (2, ap (λ (c : Started). c.who) same))
+    ((0, omega arith, sym same), (2, ap (λ (c : Invocation). c.who) same))
 in_its_own (suc place) d there = absurd (none_busy 15 place d there)
 
 not_started_there : ¬ AreInTheirCalls (record (looking 5) { calls = [] })
@@ -121,7 +124,7 @@ not_started_there own = omega (arith, (own 0 _ refl).0.1)
 of_another_there : ¬ AreInTheirCalls (looked_by 2)
 of_another_there own = let who = (own 1 _ refl).1.1 in cc
 
-pub worked_answers : EachDeedIsAskedFor → EachAnswerIsRight → WorkedAnswers
+pub worked_answers : EachOpIsAskedFor → EachAnswerIsRight → WorkedAnswers
 worked_answers asked right = record {
   plays = its_play;
   admitted = record { state = Over Zero; plays = its_play; answered = refl; stands = refl };
@@ -129,7 +132,7 @@ worked_answers asked right = record {
   unanswered = λ f. no_answer f.state f.answered f.stands;
   answered_wrongly = λ f.
       let is = one_answer (Refused EAGAIN) f.state f.answered in
-      let p = subst (Plays (begun the_send) (deeds_of the_send.who the_end.turns)) is f.plays in
+      let p = subst (Plays (begun the_send) (ops_of the_send.who the_end.turns)) is f.plays in
       let r = right the_send.cred the_send.asked 0 _ _ p in
       let full = (r.again.0 refl).1 in
       cc;
@@ -142,7 +145,7 @@ worked_answers asked right = record {
     stands = refl;
   };
   looks_otherwise = λ f.
-      other_size ((asked the_send.cred the_send.asked 0 (deeds_of the_send.who (looking 6).turns) f.state f.plays) 0
+      other_size ((asked the_send.cred the_send.asked 0 (ops_of the_send.who (looking 6).turns) f.state f.plays) 0
       look_fits (omega arith));
   its_own = in_its_own;
   not_started = not_started_there;

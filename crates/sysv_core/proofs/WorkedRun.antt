@@ -16,7 +16,7 @@ use Rattle.sysv_queue.specs.LegalReply.{IsLegalReply}
 use Rattle.sysv_steps.specs.State.{Phase, AtLook, AtReserve, AtPlace, AtTake, AtReceiveGiveback, Zero, Got, Refused}
 use Rattle.sysv_steps.specs.State.{Goes, Over}
 use Rattle.sysv_steps.specs.Begin.{is_refused}
-use Rattle.sysv_core.specs.World.{World, Started, Given, Happening, Preset, opening, with_actor, Makes}
+use Rattle.sysv_core.specs.World.{World, Invocation, Response, Happening, Preset, opening, with_actor, Makes}
 use Rattle.sysv_core.specs.Run.{Leads}
 use Rattle.sysv_core.specs.WorkedRun.{sender, receiver, hello, receive_up_to_100, send_hello, send_nothing, one_starts}
 use Rattle.sysv_core.specs.WorkedRun.{two_starts, steps, the_happenings, send_typeless, one_calls, two_calls, the_calls}
@@ -66,7 +66,7 @@ legal_third_take = (refl, may_read, none_is_named, refl)
 
 -- ---- the worlds of the run
 
-abbrev after_calls : ℕ → List Started
+abbrev after_calls : ℕ → List Invocation
 after_calls count = take count the_calls
 
 -- The world after this number of turns at the slot, of calls and of counted events, if no actor is
@@ -81,7 +81,7 @@ idle_at turns calls count = record {
   generation = 0;
 }
 
-abbrev pub calling_at : (turns calls count actor : ℕ) → Started → Phase → World
+abbrev pub calling_at : (turns calls count actor : ℕ) → Invocation → Phase → World
 calling_at turns calls count actor call phase = record {
   turns = take (turns + 2) the_turns;
   calls = after_calls calls;
@@ -111,11 +111,11 @@ take_of cred =
 -- ---- the happenings
 
 -- As records, so that what they are about is inferred from them.
-record Went (w : World) (x : Happening) (one : List Given) (mid : World) : Type 0 where
+record Went (w : World) (x : Happening) (one : List Response) (mid : World) : Type 0 where
   pub goes : Makes w x one mid
 
-record Led (w : World) (xs : List Happening) (given : List Given) (after : World) : Type 0 where
-  pub leads : Leads w xs given after
+record Led (w : World) (xs : List Happening) (responses : List Response) (after : World) : Type 0 where
+  pub leads : Leads w xs responses after
 
 goes_preset : Went (opening of_16) Preset [] (idle_at 1 0 0)
 goes_preset = record { goes = (refl, (true, inl (record { empty = refl; first = refl }, refl, refl))) }
@@ -264,7 +264,7 @@ goes_typeless = record { goes = inr (omega arith, (refl, refl)) }
 
 -- ---- the run
 
-on : {w mid after : World} {x : Happening} {xs : List Happening} {one rest : List Given} → Went w x one mid →
+on : {w mid after : World} {x : Happening} {xs : List Happening} {one rest : List Response} → Went w x one mid →
     Led mid xs rest after → Led w (x ∷ xs) (one ++ rest) after
 on {w} {mid} {after} {x} {xs} {one} {rest} went led = record { leads = (mid, one, rest, went.goes, led.leads, refl) }
 

@@ -5,7 +5,7 @@ use Rattle.std.proofs.lemmas.List.Elements.{All-push, All-contains}
 use Rattle.sysv_model.specs.declared.errno.Errno.TheVariants.{EIDRM, EINVAL}
 use Rattle.sysv_model.specs.declared.selector.Selector.TheVariants.{Any}
 use Rattle.sysv_model.specs.Registry.{Forget, Changed}
-use Rattle.sysv_model.specs.Turn.{Deed, AtRegistry, Turn}
+use Rattle.sysv_model.specs.Turn.{Op, AtRegistry, Turn}
 use Rattle.sysv_queue.specs.Named.{IsNamed}
 use Rattle.sysv_steps.specs.State.{Ending, Refused}
 use Rattle.sysv_steps.specs.Answers.{is_at_slot, found_gone}
@@ -17,23 +17,23 @@ use Rattle.sysv_core.proofs.Histories.{begun_turns, installed_turns}
 none_is_named : (place : ℕ) → ¬ IsNamed Any [] place
 none_is_named place named = let below : place < 0 = named.0.0 in omega arith
 
-no_deed : (P : Deed → Type 0) → All P []
-no_deed P k d low = absurd (omega (arith, low))
+no_op : (P : Op → Type 0) → All P []
+no_op P k d low = absurd (omega (arith, low))
 
 no_ending : (P : Ending → Type 0) → All P []
 no_ending P k d low = absurd (omega (arith, low))
 
-all_gone : All (λ (deed : Deed). is_at_slot deed ≡ true → found_gone deed ≡ true) (finds_it_gone ∷ [])
-all_gone = All-push (λ (deed : Deed). is_at_slot deed ≡ true → found_gone deed ≡ true) [] finds_it_gone (no_deed _)
+all_gone : All (λ (op : Op). is_at_slot op ≡ true → found_gone op ≡ true) (finds_it_gone ∷ [])
+all_gone = All-push (λ (op : Op). is_at_slot op ≡ true → found_gone op ≡ true) [] finds_it_gone (no_op _)
     (λ at. refl)
 
 one_ending : (e : Ending) → All (λ (x : Ending). x ≡ e) (e ∷ [])
 one_ending e = All-push (λ (x : Ending). x ≡ e) [] e (no_ending _) refl
 
 -- Turns that each take their row, and then one more that does.
-takes_one_more : (turns : List Turn) (t : Turn) → AllTakeTheirRows turns → TakesItsRow t.deed →
+takes_one_more : (turns : List Turn) (t : Turn) → AllTakeTheirRows turns → TakesItsRow t.op →
     AllTakeTheirRows (turns ++ t ∷ [])
-takes_one_more turns t all takes = All-push (λ (x : Turn). TakesItsRow x.deed) turns t all takes
+takes_one_more turns t all takes = All-push (λ (x : Turn). TakesItsRow x.op) turns t all takes
 
 takes_rows : AllTakeTheirRows (after_forget true)
 takes_rows =
@@ -57,12 +57,12 @@ worked_waits = record {
   told_to_a_later_one =
       record { gone = all_gone; removed = λ there come. absurd cc; absent = λ none come. one_ending (Refused EINVAL) };
   found_again = λ t.
-      let bad = All-contains (λ (deed : Deed). is_at_slot deed ≡ true → found_gone deed ≡ true) (finds_none ∷ [])
+      let bad = All-contains (λ (op : Op). is_at_slot op ≡ true → found_gone op ≡ true) (finds_none ∷ [])
       finds_none t.gone (0, omega arith, refl) refl in
       cc;
   forgets = takes_rows;
   forgets_nothing = λ all.
-      let bad = All-contains (λ (t : Turn). TakesItsRow t.deed) (after_forget false)
+      let bad = All-contains (λ (t : Turn). TakesItsRow t.op) (after_forget false)
       (by_preset (AtRegistry (Forget (pos 0)) (Changed false))) all (4, omega arith, refl) in
       cc;
   comes_back = λ r. let bad = r.once 0 (pos 0) [] (_ ∷ []) [] _ _ refl refl in cc;

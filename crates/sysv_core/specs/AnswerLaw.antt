@@ -8,16 +8,17 @@
 use Rattle.std.specs.Prelude.{◌≡◌, ◌⊎◌, ℕ, suc, List, [], ◌∷◌, Option, Some, None, Contains, filter, map, slice_get}
 use Rattle.std.specs.Prelude.{if◌then◌else◌}
 use Rattle.sysv_model.specs.History.{Who, Actor, Seat}
-use Rattle.sysv_model.specs.Turn.{Turn, is_same, deeds_of}
+use Rattle.sysv_model.specs.Turn.{Turn, is_same, ops_of}
 use Rattle.sysv_steps.specs.State.{Ending, State, Goes, Waits, Over}
 use Rattle.sysv_steps.specs.Played.{Plays}
 use Rattle.sysv_steps.specs.AsksFor.{AllAskFor}
-use Rattle.sysv_core.specs.World.{World, Started, Doing, Given, actor_at, begun, preset_who, preset_begin}
+use Rattle.sysv_core.specs.World.{World, Invocation, Doing, Response, actor_at, begun, preset_who, preset_begin}
 use Rattle.sysv_core.specs.World.{preset_install, preset_settle}
 
 -- The endings of the calls of this name, in order.
-abbrev pub endings_of : Who → List Given → List Ending
-endings_of who given = map (λ (g : Given). g.ending) (filter (λ (g : Given). is_same who g.call.who) given)
+abbrev pub endings_of : Who → List Response → List Ending
+endings_of who responses =
+    map (λ (g : Response). g.ending) (filter (λ (g : Response). is_same who g.call.who) responses)
 
 -- The state in which an actor is in the call of this name, if it is in that call.
 abbrev pub stands_in : Who → Option (Option Doing) → Option State
@@ -44,10 +45,10 @@ standing (Over ending) = None
 
 -- The call plays its own turns to a state; its endings, and what its actor does, are those of that
 -- state.
-pub record Fate (w : World) (given : List Given) (call : Started) : Type 0 where
+pub record Fate (w : World) (responses : List Response) (call : Invocation) : Type 0 where
   pub state : State
-  pub plays : Plays (begun call) (deeds_of call.who w.turns) state
-  pub answered : endings_of call.who given ≡ ended state
+  pub plays : Plays (begun call) (ops_of call.who w.turns) state
+  pub answered : endings_of call.who responses ≡ ended state
   pub stands : standing_of call.who w.actors ≡ standing state
 
 -- Each actor that is in a call is in one that it started. Actors count from 1.
@@ -57,13 +58,13 @@ AreInTheirCalls w = (place : ℕ) (d : Doing) → slice_get w.actors place ≡ S
 
 -- The turn is one of the three of a preset.
 abbrev pub IsOfPreset : Turn → Type 0
-IsOfPreset t = (t.who ≡ preset_who) × ((t.deed ≡ preset_begin) ⊎ (t.deed ≡ preset_install) ⊎ (t.deed ≡ preset_settle))
+IsOfPreset t = (t.who ≡ preset_who) × ((t.op ≡ preset_begin) ⊎ (t.op ≡ preset_install) ⊎ (t.op ≡ preset_settle))
 
 -- The turn is one of a preset, or it is made by a call that was started.
-abbrev pub IsMade : List Started → Turn → Type 0
-IsMade calls t = IsOfPreset t ⊎ ((call : Started) × Contains calls call × (t.who ≡ call.who))
+abbrev pub IsMade : List Invocation → Turn → Type 0
+IsMade calls t = IsOfPreset t ⊎ ((call : Invocation) × Contains calls call × (t.who ≡ call.who))
 
 -- Each turn of the call requests, under the call's credentials, what its arguments name, and
 -- nothing else.
-abbrev pub AsksAsItWasAsked : World → Started → Type 0
-AsksAsItWasAsked w call = AllAskFor call.cred call.asked (deeds_of call.who w.turns)
+abbrev pub AsksAsItWasAsked : World → Invocation → Type 0
+AsksAsItWasAsked w call = AllAskFor call.cred call.asked (ops_of call.who w.turns)

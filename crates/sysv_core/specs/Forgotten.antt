@@ -4,13 +4,13 @@
 -- slot occupied.
 use Rattle.std.specs.Prelude.{◌≡◌, true, List, All}
 use Rattle.sysv_model.specs.Registry.{Forget, Changed}
-use Rattle.sysv_model.specs.Turn.{Deed, AtRegistry, Turn}
+use Rattle.sysv_model.specs.Turn.{Op, AtRegistry, Turn}
 
--- If the deed is a forget, it took a row away.
-abbrev pub TakesItsRow : Deed → Type 0
+-- If the operation is a forget, it took a row away.
+abbrev pub TakesItsRow : Op → Type 0
 TakesItsRow (AtRegistry (Forget id) reply) = reply ≡ Changed true
-TakesItsRow deed = Unit {0}
+TakesItsRow op = Unit {0}
 
 -- Each of the turns that is a forget took a row away.
 abbrev pub AllTakeTheirRows : List Turn → Type 0
-AllTakeTheirRows turns = All (λ (t : Turn). TakesItsRow t.deed) turns
+AllTakeTheirRows turns = All (λ (t : Turn). TakesItsRow t.op) turns

@@ -14,7 +14,7 @@
 -- list, with the answers of that run and no others.
 use Rattle.std.specs.Prelude.{◌≡◌, ◌≢◌, ◌⊎◌, ℕ, ◌≤◌, List, [], ◌∷◌, ◌++◌, map, All, AllPairs, Contains}
 use Rattle.sysv_model.specs.declared.limits.TheConstants.{WORN}
-use Rattle.sysv_model.specs.Turn.{Turn, slot_history, registry_history, pool_history, deeds_of}
+use Rattle.sysv_model.specs.Turn.{Turn, slot_history, registry_history, pool_history, ops_of}
 use Rattle.sysv_pool.specs.PoolLaw.{PoolLaw}
 use Rattle.sysv_queue.specs.QueueLaw.{QueueLaw}
 use Rattle.sysv_keys.specs.RegistryLaw.{RegistryLaw}
@@ -23,7 +23,7 @@ use Rattle.sysv_steps.specs.Effects.{effects}
 use Rattle.sysv_core.specs.declared.event.Event.{Event}
 use Rattle.sysv_core.specs.declared.event.Answer.{Answer}
 use Rattle.sysv_core.specs.declared.event.Stepped.{Stepped}
-use Rattle.sysv_core.specs.World.{World, Opening, Started, Given, Happening, Preset, opening}
+use Rattle.sysv_core.specs.World.{World, Opening, Invocation, Response, Happening, Preset, opening}
 use Rattle.sysv_core.specs.Run.{Leads}
 use Rattle.sysv_core.specs.AnswerLaw.{Fate, AreInTheirCalls, IsMade, AsksAsItWasAsked}
 use Rattle.sysv_core.specs.Conserved.{AreConserved}
@@ -51,31 +51,32 @@ pub record ObjectsAreLawful (o : Opening) (w : World) : Type 0 where
 -- The laws of the calls, and of the turns that they make. Whose a turn may be differs between
 -- worlds with presets and worlds with threads, so it is a parameter: `owned` holds of the turns of
 -- these calls, and of those that need no call.
-pub record CallsAreLawful (owned : List Started → Turn → Type 0) (w : World) (given : List Given) : Type 0 where
+pub record CallsAreLawful (owned : List Invocation → Turn → Type 0) (w : World)
+    (responses : List Response) : Type 0 where
   -- Each call plays its own turns, and has one ending if it is over.
-  pub fates : All (Fate w given) w.calls
+  pub fates : All (Fate w responses) w.calls
   -- No two calls have the same name.
-  pub apart : AllPairs (λ (c d : Started). c.who ≢ d.who) w.calls
+  pub apart : AllPairs (λ (c d : Invocation). c.who ≢ d.who) w.calls
   -- Each turn is owned.
   pub made : All (owned w.calls) w.turns
   -- Each turn of a call requests what the call's arguments name, also if the call is under way.
   pub asked : All (AsksAsItWasAsked w) w.calls
   -- Each call, also one under way, has had at most one effect: one identifier made, one message
   -- accepted, one taken, one queue changed, or one removed.
-  pub once : All (λ (c : Started). effects (deeds_of c.who w.turns) ≤ 1) w.calls
+  pub once : All (λ (c : Invocation). effects (ops_of c.who w.turns) ≤ 1) w.calls
   -- Each actor that is in a call is in one that it started, and that is one of the calls.
   pub under_way : AreInTheirCalls w
 
 -- The laws of the answers, which are the endings of the calls.
-pub record AnswersAreLawful (w : World) (given : List Given) : Type 0 where
+pub record AnswersAreLawful (w : World) (responses : List Response) : Type 0 where
   -- Each ending belongs to one of the calls.
-  pub known : All (λ (g : Given). Contains w.calls g.call) given
+  pub known : All (λ (g : Response). Contains w.calls g.call) responses
   -- Each ending is right for the arguments of its call and for the turns of that call.
   pub right : All
-      (λ (g : Given). IsRightAnswer g.call.asked (deeds_of g.call.who w.turns) g.ending) given
+      (λ (g : Response). IsRightAnswer g.call.asked (ops_of g.call.who w.turns) g.ending) responses
   -- Sends and receives of a removed queue fail with EIDRM if they had reached it before, else with
   -- EINVAL.
-  pub told : AreToldOfRemovals w given
+  pub told : AreToldOfRemovals w responses
 
 -- The laws of the life of an identifier, from its making to its forgetting.
 pub record LivesAreLawful (w : World) : Type 0 where
@@ -91,57 +92,58 @@ pub record LivesAreLawful (w : World) : Type 0 where
 
 -- The laws of a world that was opened in this way, and of the endings on the way to it, without the
 -- law of waits.
-pub record IsLawful (owned : List Started → Turn → Type 0)
-    (o : Opening) (w : World) (given : List Given) : Type 0 where
+pub record IsLawful (owned : List Invocation → Turn → Type 0)
+    (o : Opening) (w : World) (responses : List Response) : Type 0 where
   pub objects : ObjectsAreLawful o w
-  pub calls : CallsAreLawful owned w given
-  pub answers : AnswersAreLawful w given
+  pub calls : CallsAreLawful owned w responses
+  pub answers : AnswersAreLawful w responses
   pub lives : LivesAreLawful w
 
 -- All laws of a world that was opened in this way, and of the endings on the way to it.
-pub record Obeys (o : Opening) (w : World) (given : List Given) : Type 0 where
+pub record Obeys (o : Opening) (w : World) (responses : List Response) : Type 0 where
   -- All laws above hold. Each turn is made by one of the calls, or is one of the three turns of a
   -- preset.
-  pub lawful : IsLawful IsMade o w given
+  pub lawful : IsLawful IsMade o w responses
   -- Each call that waits below its goal has a reason to.
   pub parked : AreParkedRightly w
 
 -- Every list of happenings leads from every opening only to worlds that obey the laws.
 abbrev pub EveryRunObeys : Type 0
-EveryRunObeys = (o : Opening) (list : List Happening) (given : List Given) (w : World) →
-    Leads (opening o) list given w → Obeys o w given
+EveryRunObeys = (o : Opening) (list : List Happening) (responses : List Response) (w : World) →
+    Leads (opening o) list responses w → Obeys o w responses
 
 -- For every list for which the world stood, it now stands for that list and a preset.
 abbrev pub StandsWithPreset : Seen → Seen → Type 0
-StandsWithPreset old new = (o : Opening) (list : List Happening) (given : List Given) →
-    StandsFor o list given old → StandsFor o (list ++ Preset ∷ []) given new
+StandsWithPreset old new = (o : Opening) (list : List Happening) (responses : List Response) →
+    StandsFor o list responses old → StandsFor o (list ++ Preset ∷ []) responses new
 
 -- For every list for which the world stood, it now stands for that list and the event, and the
 -- result of the event is that of the run.
 abbrev pub StandsWithEvent : Seen → Event → Stepped → Seen → Type 0
 StandsWithEvent old event result new =
-    (o : Opening) (list : List Happening) (given : List Given) (s : StandsFor o list given old) →
-    (more : List Given) × Gives s.world more result × StandsFor o (list ++ happening_of event ∷ []) (given ++ more) new
+    (o : Opening) (list : List Happening) (responses : List Response) (s : StandsFor o list responses old) →
+    (more : List Response) × Gives s.world more result
+    × StandsFor o (list ++ happening_of event ∷ []) (responses ++ more) new
 
 -- The world continues from that list by the events, all of them or up to the first that finds it
 -- worn out at step number 2^62. The answers are those of the endings on the way, in order.
-pub record RunsOn (o : Opening) (list : List Happening) (given : List Given) (events : List Event)
+pub record RunsOn (o : Opening) (list : List Happening) (responses : List Response) (events : List Event)
     (answers : List Answer) (new : Seen) : Type 0 where
   pub done : List Event
   pub left : List Event
-  pub more : List Given
+  pub more : List Response
   pub split : events ≡ done ++ left
   pub worn : (left ≡ []) ⊎ (WORN ≤ new.steps)
   pub told : TellAll more answers
-  pub stands : StandsFor o (list ++ map happening_of done) (given ++ more) new
+  pub stands : StandsFor o (list ++ map happening_of done) (responses ++ more) new
 
 -- For every list for which the world stood, it now stands for that list and the events that
 -- happened, with the answers of that run in order.
 abbrev pub StandsWithEvents : Seen → List Event → List Answer → Seen → Type 0
-StandsWithEvents old events answers new = (o : Opening) (list : List Happening) (given : List Given) →
-    StandsFor o list given old → RunsOn o list given events answers new
+StandsWithEvents old events answers new = (o : Opening) (list : List Happening) (responses : List Response) →
+    StandsFor o list responses old → RunsOn o list responses events answers new
 
 -- For every list for which the world stands, the world to which it leads obeys the laws.
 abbrev pub LawsHold : Seen → Type 0
-LawsHold seen = (o : Opening) (list : List Happening) (given : List Given)
-    (s : StandsFor o list given seen) → Obeys o s.world given
+LawsHold seen = (o : Opening) (list : List Happening) (responses : List Response)
+    (s : StandsFor o list responses seen) → Obeys o s.world responses

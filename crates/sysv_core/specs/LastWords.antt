@@ -8,12 +8,12 @@ use Rattle.sysv_model.specs.declared.cred.Cred.{Cred}
 use Rattle.sysv_model.specs.declared.errno.Errno.TheVariants.{EIDRM, EINVAL}
 use Rattle.sysv_model.specs.Message.{Message}
 use Rattle.sysv_model.specs.History.{Remove, Discarded}
-use Rattle.sysv_model.specs.Turn.{Deed, AtSlot, Turn, deeds_of}
+use Rattle.sysv_model.specs.Turn.{Op, AtSlot, Turn, ops_of}
 use Rattle.sysv_keys.specs.Identifier.{slot_of_id}
 use Rattle.sysv_steps.specs.Call.{SystemCall, Msgsnd, Msgrcv}
 use Rattle.sysv_steps.specs.State.{Ending, Refused}
 use Rattle.sysv_steps.specs.Answers.{is_at_slot, found_gone, some}
-use Rattle.sysv_core.specs.World.{World, Started, Given}
+use Rattle.sysv_core.specs.World.{World, Invocation, Response}
 use Rattle.sysv_core.specs.AnswerLaw.{endings_of}
 
 -- The call is a send or a receive under this identifier.
@@ -22,23 +22,23 @@ IsOfQueue id (Msgsnd at mtype flags text) = at ≡ id
 IsOfQueue id (Msgrcv at size mtype flags) = at ≡ id
 IsOfQueue id asked = ⊥
 
--- The deed removes the queue of this identifier.
-abbrev pub IsRemoval : ℤ → Deed → Type 0
-IsRemoval id deed =
-    (cred : Cred) × (messages : List Message) × (deed ≡ AtSlot (slot_of_id id) (Remove id cred) (Discarded messages))
+-- The operation removes the queue of this identifier.
+abbrev pub IsRemoval : ℤ → Op → Type 0
+IsRemoval id op =
+    (cred : Cred) × (messages : List Message) × (op ≡ AtSlot (slot_of_id id) (Remove id cred) (Discarded messages))
 
--- What such a call finds after the removal, and how it ends if it is over, by its deeds before the
--- removal and after it.
-pub record IsToldSo (before after : List Deed) (endings : List Ending) : Type 0 where
-  pub gone : All (λ (deed : Deed). is_at_slot deed ≡ true → found_gone deed ≡ true) after
+-- What such a call finds after the removal, and how it ends if it is over, by its operations before
+-- the removal and after it.
+pub record IsToldSo (before after : List Op) (endings : List Ending) : Type 0 where
+  pub gone : All (λ (op : Op). is_at_slot op ≡ true → found_gone op ≡ true) after
   pub removed : some is_at_slot before → some is_at_slot after →
       All (λ (ending : Ending). ending ≡ Refused EIDRM) endings
   pub absent : list_any is_at_slot before ≡ false → some is_at_slot after →
       All (λ (ending : Ending). ending ≡ Refused EINVAL) endings
 
 -- This holds of each removal in the world and of each send and receive under its identifier.
-abbrev pub AreToldOfRemovals : World → List Given → Type 0
-AreToldOfRemovals w given = (id : ℤ) (before after : List Turn) (t : Turn) (call : Started) →
-    w.turns ≡ before ++ t ∷ after → IsRemoval id t.deed →
+abbrev pub AreToldOfRemovals : World → List Response → Type 0
+AreToldOfRemovals w responses = (id : ℤ) (before after : List Turn) (t : Turn) (call : Invocation) →
+    w.turns ≡ before ++ t ∷ after → IsRemoval id t.op →
     Contains w.calls call → IsOfQueue id call.asked →
-    IsToldSo (deeds_of call.who before) (deeds_of call.who after) (endings_of call.who given)
+    IsToldSo (ops_of call.who before) (ops_of call.who after) (endings_of call.who responses)

@@ -1,7 +1,7 @@
 -- The result of a start or a step of a call in the code, as a state of the definitions (this
 -- project's profile).
 use Rattle.std.specs.Prelude.{◌≡◌, ◌<◌, ◌≤◌, ◌⊎◌, ℕ, Bool, List, Some}
-use Rattle.sysv_model.specs.Turn.{Deed, Turn, asked_by}
+use Rattle.sysv_model.specs.Turn.{Op, Turn, asked_by}
 use Rattle.sysv_objects.specs.Objects.{Objects}
 use Rattle.sysv_objects.specs.StandsFor.{StandsFor, MakesTurn}
 use Rattle.sysv_steps.specs.State.{Phase, Wait, State, Goes, Waits, Over}
@@ -26,11 +26,11 @@ LeadsTo back state (led.Stays doing) = ⊥
 
 -- One turn of the call in that phase at its object, and its result.
 pub record TurnLeads (old : Objects) (phase : Phase) (now : ℕ) (result : Led) (new : Objects) : Type 0 where
-  pub deed : Deed
+  pub op : Op
   pub state : State
-  pub asked : asked_by deed ≡ asks phase now
-  pub turn : MakesTurn old deed new
-  pub goes : next phase deed ≡ Some state
+  pub asked : asked_by op ≡ asks phase now
+  pub turn : MakesTurn old op new
+  pub goes : next phase op ≡ Some state
   pub leads : LeadsTo (gives_back (phase_kind phase)) state result
 
 -- The call still is in the state in which it was.

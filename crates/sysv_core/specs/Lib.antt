@@ -12,7 +12,7 @@ pub use Rattle.sysv_pool.specs.PoolLaw
 pub use Rattle.sysv_queue.specs.QueueLaw
 pub use Rattle.sysv_keys.specs.RegistryLaw
 pub use Rattle.sysv_objects.specs.Objects
-pub use Rattle.sysv_objects.specs.LegalDeed
+pub use Rattle.sysv_objects.specs.LegalOp
 pub use Rattle.sysv_steps.specs.State
 pub use Rattle.sysv_steps.specs.Next
 pub use Rattle.sysv_steps.specs.Played

@@ -11,7 +11,7 @@ use Rattle.sysv_core.specs.declared.event.Event.TheVariants as event
 use Rattle.sysv_core.specs.declared.event.Answer.{Answer}
 use Rattle.sysv_core.specs.declared.event.Stepped.{Stepped}
 use Rattle.sysv_core.specs.declared.event.Stepped.TheVariants as stepped
-use Rattle.sysv_core.specs.World.{World, Opening, Doing, Given, Happening, Start, Step, Makes, Presets, opening}
+use Rattle.sysv_core.specs.World.{World, Opening, Doing, Response, Happening, Start, Step, Makes, Presets, opening}
 use Rattle.sysv_core.specs.Run.{Leads}
 use Rattle.sysv_steps.specs.Asked.{asked_of}
 use Rattle.sysv_core.specs.Answered.{TellsEnding}
@@ -28,26 +28,27 @@ happening_of (event.Step actor now) = Step actor now
 -- ---- answers
 
 -- The answer is that of this ending, to the actor of the call.
-pub record Tells (g : Given) (a : Answer) : Type 0 where
+pub record Tells (g : Response) (a : Answer) : Type 0 where
   pub caller : IsToCaller g.call.who a.actor
   pub ending : TellsEnding (gives_back (Some (kind_of g.call.asked))) g.ending a.result a.body
 
 -- The answers are those of the endings, in order.
-abbrev pub TellAll : List Given → List Answer → Type 0
+abbrev pub TellAll : List Response → List Answer → Type 0
 TellAll [] [] = Unit {0}
 TellAll [] (a ∷ answers) = ⊥
-TellAll (g ∷ given) [] = ⊥
-TellAll (g ∷ given) (a ∷ answers) = Tells g a × TellAll given answers
+TellAll (g ∷ responses) [] = ⊥
+TellAll (g ∷ responses) (a ∷ answers) = Tells g a × TellAll responses answers
 
 -- The result of a step of the code: nothing, an answer, or that the world is worn out.
-abbrev pub Gives : World → List Given → Stepped → Type 0
-Gives w given stepped.Nothing = (w.steps < WORN) × (given ≡ [])
-Gives w given stepped.Worn = (WORN ≤ w.steps) × (given ≡ [])
-Gives w given (stepped.Answer answer) = (w.steps < WORN) × ((g : Given) × (given ≡ g ∷ []) × Tells g answer)
+abbrev pub Gives : World → List Response → Stepped → Type 0
+Gives w responses stepped.Nothing = (w.steps < WORN) × (responses ≡ [])
+Gives w responses stepped.Worn = (WORN ≤ w.steps) × (responses ≡ [])
+Gives w responses (stepped.Answer answer) = (w.steps < WORN) × ((g : Response) × (responses ≡ g ∷ []) × Tells g answer)
 
 -- One event in a world, with its result.
 abbrev pub Steps : World → Event → Stepped → World → Type 0
-Steps w event result after = (given : List Given) × Makes w (happening_of event) given after × Gives w given result
+Steps w event result after =
+    (responses : List Response) × Makes w (happening_of event) responses after × Gives w responses result
 
 -- ---- worlds
 
@@ -85,13 +86,14 @@ StepsSeen old event result new =
 
 -- The list leads from this opening, with these endings, to a world as which the code's world is
 -- seen.
-pub record StandsFor (o : Opening) (list : List Happening) (given : List Given) (seen : Seen) : Type 0 where
+pub record StandsFor (o : Opening) (list : List Happening) (responses : List Response) (seen : Seen) : Type 0 where
   pub world : World
-  pub led : Leads (opening o) list given world
+  pub led : Leads (opening o) list responses world
   pub sight : IsSeenAs world seen
 
 -- This is the number of blocks with which the world was opened, for every list of happenings for
 -- which it stands.
 abbrev pub AreAllFree : Seen → ℕ → Type 0
 AreAllFree seen blocks =
-    (o : Opening) (list : List Happening) (given : List Given) → StandsFor o list given seen → blocks ≡ o.blocks
+    (o : Opening) (list : List Happening) (responses : List Response) → StandsFor o list responses seen →
+    blocks ≡ o.blocks

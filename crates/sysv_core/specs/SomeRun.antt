@@ -4,7 +4,7 @@
 use Rattle.std.specs.Prelude.{Bool, List}
 use Rattle.sysv_core.specs.declared.event.Event.{Event}
 use Rattle.sysv_core.specs.declared.event.Stepped.{Stepped}
-use Rattle.sysv_core.specs.World.{World, Opening, Happening, Given, Presets, opening}
+use Rattle.sysv_core.specs.World.{World, Opening, Happening, Response, Presets, opening}
 use Rattle.sysv_core.specs.Run.{Leads}
 use Rattle.sysv_core.specs.Sound.{IsSound}
 use Rattle.sysv_core.specs.Seen.{Steps}
@@ -21,4 +21,5 @@ SomePreset = (w : World) → IsSound w → (made : Bool) × (after : World) × P
 -- Each list of happenings leads from each opening to a world, with a list of endings.
 abbrev pub SomeRun : Type 0
 SomeRun =
-    (o : Opening) (list : List Happening) → (given : List Given) × (after : World) × Leads (opening o) list given after
+    (o : Opening) (list : List Happening) →
+    (responses : List Response) × (after : World) × Leads (opening o) list responses after

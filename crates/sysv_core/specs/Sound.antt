@@ -9,11 +9,11 @@ use Rattle.sysv_model.specs.Live.{live}
 use Rattle.sysv_model.specs.Turn.{Turn, slot_history, registry_history}
 use Rattle.sysv_keys.specs.Identifier.{slot_of_id}
 use Rattle.sysv_keys.specs.Rows.{is_made}
-use Rattle.sysv_objects.specs.LegalDeed.{AreLegal}
+use Rattle.sysv_objects.specs.LegalOp.{AreLegal}
 use Rattle.sysv_steps.specs.State.{Getting, AtInstall, Goes}
 use Rattle.sysv_steps.specs.HeldBlocks.{HasItsBlocks}
 use Rattle.sysv_core.specs.Kinds.{kind_of, IsOf}
-use Rattle.sysv_core.specs.World.{World, Opening, Doing, Happening, Given, Makes, opening}
+use Rattle.sysv_core.specs.World.{World, Opening, Doing, Happening, Response, Makes, opening}
 use Rattle.sysv_core.specs.Conserved.{AreConserved}
 
 -- The caller is this actor.
@@ -51,4 +51,5 @@ OpensSound = (o : Opening) → IsSound (opening o)
 
 -- Each happening leads from a sound world only to sound worlds.
 abbrev pub StaysSound : Type 0
-StaysSound = (w after : World) (x : Happening) (given : List Given) → IsSound w → Makes w x given after → IsSound after
+StaysSound = (w after : World) (x : Happening) (responses : List Response) → IsSound w → Makes w x responses after →
+    IsSound after

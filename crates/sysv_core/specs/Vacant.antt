@@ -4,13 +4,13 @@
 -- whose slot is occupied.
 use Rattle.std.specs.Prelude.{◌≡◌, true, List, All}
 use Rattle.sysv_model.specs.History.{Install, Installed}
-use Rattle.sysv_model.specs.Turn.{Deed, AtSlot, Turn}
+use Rattle.sysv_model.specs.Turn.{Op, AtSlot, Turn}
 
--- If the deed is an install, it made the queue.
-abbrev pub FindsVacant : Deed → Type 0
+-- If the operation is an install, it made the queue.
+abbrev pub FindsVacant : Op → Type 0
 FindsVacant (AtSlot slot (Install id key cred mode now) reply) = reply ≡ Installed true
-FindsVacant deed = Unit {0}
+FindsVacant op = Unit {0}
 
 -- Each of the turns that is an install made the queue.
 abbrev pub AllFindVacant : List Turn → Type 0
-AllFindVacant turns = All (λ (t : Turn). FindsVacant t.deed) turns
+AllFindVacant turns = All (λ (t : Turn). FindsVacant t.op) turns

@@ -5,17 +5,17 @@ use Rattle.sysv_model.specs.declared.errno.Errno.TheVariants.{EAGAIN}
 use Rattle.sysv_model.specs.Message.{Message}
 use Rattle.sysv_model.specs.History.{Actor, Remove, Fits, Accepted, Full, Discarded}
 use Rattle.sysv_model.specs.Pool.{Reserve, Reserved}
-use Rattle.sysv_model.specs.Turn.{Deed, AtSlot, AtPool}
+use Rattle.sysv_model.specs.Turn.{Op, AtSlot, AtPool}
 use Rattle.sysv_steps.specs.State.{AtReserve, Zero, Refused, State, Goes, Over}
 use Rattle.sysv_steps.specs.Played.{Plays}
-use Rattle.sysv_core.specs.World.{World, Started, opening, with_actor, begun, preset_who, preset_cred, preset_begin}
+use Rattle.sysv_core.specs.World.{World, Invocation, opening, with_actor, begun, preset_who, preset_cred, preset_begin}
 use Rattle.sysv_core.specs.World.{preset_install, preset_settle, with_preset_turns}
 use Rattle.sysv_core.specs.AnswerLaw.{Fate, AreInTheirCalls, IsMade}
 use Rattle.sysv_core.specs.WorkedRun.{hello, send_hello, place_hello, look_for, one_calls, one_ends, the_calls}
 use Rattle.sysv_core.specs.WorkedRun.{the_turns, the_answers, of_16}
 
 -- The call.
-abbrev pub the_send : Started
+abbrev pub the_send : Invocation
 the_send = one_calls 2 send_hello
 
 -- The world after the run: every actor is idle.
@@ -50,7 +50,7 @@ going_on = record the_end {
 -- A world in which the send is under way after one look for this number of bytes.
 abbrev pub looking : ℕ → World
 looking size = record {
-  turns = with_preset_turns [] ++ record { who = the_send.who; deed = AtSlot 0 (look_for size) Fits } ∷ [];
+  turns = with_preset_turns [] ++ record { who = the_send.who; op = AtSlot 0 (look_for size) Fits } ∷ [];
   calls = the_send ∷ [];
   actors = with_actor (opening of_16).actors 1 (Some record { call = the_send; state = still_reserving });
   steps = 4;
@@ -65,13 +65,13 @@ looked_by actor = record (looking 5) {
 }
 
 -- The look of the send; its reservation and its place follow.
-abbrev pub look_fits : Deed
+abbrev pub look_fits : Op
 look_fits = AtSlot 0 (look_for 5) Fits
 
-abbrev pub gets_a_block : Deed
+abbrev pub gets_a_block : Op
 gets_a_block = AtPool (Reserve 5) (Reserved 1)
 
-abbrev pub accepts : ℕ → Deed
+abbrev pub accepts : ℕ → Op
 accepts number = AtSlot 0 place_hello (Accepted number)
 
 -- What the law admits and refuses.
@@ -95,11 +95,11 @@ pub record WorkedAnswers : Type 0 where
   pub not_started : ¬ AreInTheirCalls (record (looking 5) { calls = [] })
   pub of_another : ¬ AreInTheirCalls (looked_by 2)
   -- A turn that no call made is refused.
-  pub by_nobody : (deed : Deed) → ¬ IsMade the_calls (record { who = Actor 3 0; deed = deed })
+  pub by_nobody : (op : Op) → ¬ IsMade the_calls (record { who = Actor 3 0; op = op })
   -- A preset makes its three turns, and no others: no look, and no removal of its queue.
-  pub by_preset : All (λ (deed : Deed). IsMade [] (record { who = preset_who; deed = deed }))
+  pub by_preset : All (λ (op : Op). IsMade [] (record { who = preset_who; op = op }))
       (preset_begin ∷ preset_install ∷ preset_settle ∷ [])
-  pub by_no_preset : ¬ IsMade the_calls (record { who = preset_who; deed = look_fits })
+  pub by_no_preset : ¬ IsMade the_calls (record { who = preset_who; op = look_fits })
   pub removed_by_no_preset : (messages : List Message) →
       ¬ IsMade the_calls
-      (record { who = preset_who; deed = AtSlot 0 (Remove (pos 0) preset_cred) (Discarded messages) })
+      (record { who = preset_who; op = AtSlot 0 (Remove (pos 0) preset_cred) (Discarded messages) })

@@ -22,7 +22,8 @@ use Rattle.sysv_queue.specs.LegalReply.{IsLegalReply}
 use Rattle.sysv_steps.specs.Call.{SystemCall, Msgsnd, Msgrcv}
 use Rattle.sysv_steps.specs.State.{Ending, Zero, Got, Refused}
 use Rattle.sysv_steps.specs.Begin.{is_refused}
-use Rattle.sysv_core.specs.World.{World, Opening, Started, Given, Happening, Preset, Start, Step, opening, preset_cred}
+use Rattle.sysv_core.specs.World.{World, Opening, Invocation, Response, Happening, Preset, Start, Step, opening}
+use Rattle.sysv_core.specs.World.{preset_cred}
 use Rattle.sysv_core.specs.World.{preset_flags, with_preset_turns}
 use Rattle.sysv_core.specs.Run.{Leads}
 
@@ -74,16 +75,16 @@ the_happenings =
     ∷ one_starts send_typeless ∷ []
 
 -- The calls, each with the step number at which it was started and the released count at its start.
-abbrev pub one_calls : (start : ℕ) → SystemCall → Started
+abbrev pub one_calls : (start : ℕ) → SystemCall → Invocation
 one_calls start call = record { who = Actor 1 start; cred = sender; asked = call; released = 0 }
 
-abbrev pub two_calls : (start released : ℕ) → SystemCall → Started
+abbrev pub two_calls : (start released : ℕ) → SystemCall → Invocation
 two_calls start released call = record { who = Actor 2 start; cred = receiver; asked = call; released = released }
 
-abbrev pub last_call : Started
+abbrev pub last_call : Invocation
 last_call = record { who = Actor 1 18; cred = sender; asked = send_typeless; released = 2 }
 
-abbrev pub the_calls : List Started
+abbrev pub the_calls : List Invocation
 the_calls =
     one_calls 0 receive_up_to_100
     ∷ one_calls 2 send_hello
@@ -94,16 +95,16 @@ the_calls =
     ∷ last_call ∷ []
 
 -- The endings, in order.
-abbrev pub one_ends : (start : ℕ) → SystemCall → Ending → Given
+abbrev pub one_ends : (start : ℕ) → SystemCall → Ending → Response
 one_ends start call ending = record { call = one_calls start call; ending = ending }
 
-abbrev pub two_ends : (start released : ℕ) → SystemCall → Ending → Given
+abbrev pub two_ends : (start released : ℕ) → SystemCall → Ending → Response
 two_ends start released call ending = record { call = two_calls start released call; ending = ending }
 
-abbrev pub last_ends : Ending → Given
+abbrev pub last_ends : Ending → Response
 last_ends ending = record { call = last_call; ending = ending }
 
-abbrev pub the_answers : List Given
+abbrev pub the_answers : List Response
 the_answers =
     one_ends 0 receive_up_to_100 (Refused ENOMSG)
     ∷ one_ends 2 send_hello Zero
@@ -155,10 +156,10 @@ the_entries = turn_of 0 0 preset_call (Installed true) ∷ the_later_entries
 
 -- A turn at the slot, and one at the pool.
 abbrev pub slot_turn : (actor start : ℕ) → Call → Reply → Turn
-slot_turn actor start call reply = record { who = Actor actor start; deed = AtSlot 0 call reply }
+slot_turn actor start call reply = record { who = Actor actor start; op = AtSlot 0 call reply }
 
 abbrev pub pool_turn : (actor start : ℕ) → PoolCall → PoolReply → Turn
-pool_turn actor start call reply = record { who = Actor actor start; deed = AtPool call reply }
+pool_turn actor start call reply = record { who = Actor actor start; op = AtPool call reply }
 
 -- All turns: the three of the preset, and those of the calls. "hello" needs one block, and an empty
 -- body needs none.

@@ -6,7 +6,7 @@ use Rattle.sysv_model.specs.declared.errno.Errno.TheVariants.{EIDRM, EINVAL}
 use Rattle.sysv_model.specs.declared.selector.Selector.TheVariants.{Any}
 use Rattle.sysv_model.specs.History.{Take, Remove, Gone, NoMatch, Accepted, Discarded, History}
 use Rattle.sysv_model.specs.Registry.{Forget, Changed}
-use Rattle.sysv_model.specs.Turn.{Deed, AtSlot, AtRegistry, Turn, slot_history}
+use Rattle.sysv_model.specs.Turn.{Op, AtSlot, AtRegistry, Turn, slot_history}
 use Rattle.sysv_steps.specs.State.{Refused}
 use Rattle.sysv_core.specs.World.{preset_who, preset_install, with_preset_turns}
 use Rattle.sysv_core.specs.Parked.{HasNothingToTake}
@@ -16,8 +16,8 @@ use Rattle.sysv_core.specs.LastWords.{IsToldSo}
 use Rattle.sysv_core.specs.WorkedRun.{sender, place_hello}
 
 -- A turn that no actor made.
-abbrev pub by_preset : Deed → Turn
-by_preset deed = record { who = preset_who; deed = deed }
+abbrev pub by_preset : Op → Turn
+by_preset op = record { who = preset_who; op = op }
 
 abbrev pub slot_0 : List Turn → History
 slot_0 turns = slot_history 0 turns
@@ -35,11 +35,11 @@ abbrev pub after_forget : Bool → List Turn
 after_forget done = after_removal ++ by_preset (AtRegistry (Forget (pos 0)) (Changed done)) ∷ []
 
 -- A turn of the receive that finds no message.
-abbrev pub finds_none : Deed
+abbrev pub finds_none : Op
 finds_none = AtSlot 0 (Take (pos 0) sender Any 9 true 0) (NoMatch 0)
 
 -- A turn of the receive that finds the identifier gone.
-abbrev pub finds_it_gone : Deed
+abbrev pub finds_it_gone : Op
 finds_it_gone = AtSlot 0 (Take (pos 0) sender Any 9 true 0) Gone
 
 -- What the laws admit and refuse.

@@ -10,12 +10,12 @@ ghost use Rattle.sysv_core.specs.WorkedAnswers.{WorkedAnswers};
 ghost use Rattle.sysv_core.specs.WorkedWaits.{WorkedWaits};
 
 use sysv_keys::{registry_law, unused_slots};
-use sysv_objects::{legal_turns, one_legal_deed};
+use sysv_objects::{legal_turns, one_legal_op};
 use sysv_pool::pool_law;
 use sysv_queue::{blocks_kept, queue_law, removed_for_good, stays_right};
 use sysv_steps::{
-    after_removal, each_answer_is_right, each_deed_is_asked_for, each_has_one_effect,
-    each_holds_its_blocks, each_holds_what_it_was_asked, waits_for_its_refusal,
+    after_removal, each_answer_is_right, each_has_one_effect, each_holds_its_blocks,
+    each_holds_what_it_was_asked, each_op_is_asked_for, waits_for_its_refusal,
 };
 
 /// States the headline: every list of happenings leads from every opening only to worlds that obey
@@ -28,7 +28,7 @@ pub fn every_run_obeys()
     queue_law();
     registry_law();
     pool_law();
-    each_deed_is_asked_for();
+    each_op_is_asked_for();
     each_answer_is_right();
     each_has_one_effect();
     stays_right();
@@ -58,7 +58,7 @@ pub fn one_step()
     ensures preset { OnePreset }
 {
     each_world_is_sound();
-    one_legal_deed();
+    one_legal_op();
 }
 
 /// States that each event and each preset leads from a sound world to a sound world.
@@ -67,7 +67,7 @@ pub fn some_step()
     ensures preset { SomePreset }
 {
     each_world_is_sound();
-    one_legal_deed();
+    one_legal_op();
     unused_slots();
 }
 
@@ -77,7 +77,7 @@ pub fn some_run()
 {
     each_world_is_sound();
     legal_turns();
-    one_legal_deed();
+    one_legal_op();
     unused_slots();
 }
 
@@ -87,7 +87,7 @@ pub fn one_run()
     ensures { OneRun }
 {
     each_world_is_sound();
-    one_legal_deed();
+    one_legal_op();
 }
 
 /// States that the worked run is a run of the definitions, with its endings in their places.
@@ -111,7 +111,7 @@ pub fn worked_selection()
 pub fn worked_answers()
     ensures { WorkedAnswers }
 {
-    each_deed_is_asked_for();
+    each_op_is_asked_for();
     each_answer_is_right();
 }
 

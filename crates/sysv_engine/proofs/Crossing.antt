@@ -18,7 +18,7 @@ use Rattle.sysv_service.proofs.Crossing.{crossing, pass_send, service_sync}
 use Rattle.sysv_service.specs.contracts.service.Service as service
 use Rattle.sysv_seats.specs.contracts.client.Client as client
 use Rattle.sysv_seats.specs.contracts.client.Client.TheInside as client_inside
-use Rattle.sysv_seats.specs.contracts.kernel.ServiceKernel as kernel
+use Rattle.sysv_seats.specs.contracts.handler.ServiceHandler as handler
 use Rattle.sysv_seats.specs.contracts.tools.Tools as tools
 use Rattle.sysv_seats.specs.contracts.zero.Zero as zero
 use Rattle.sysv_seats.specs.contracts.zero.ZeroClock.TheImpl as clock
@@ -26,13 +26,13 @@ use Rattle.sysv_seats.specs.declared.non_blocking.NonBlocking.{Ghosts}
 use Rattle.sysv_seats.proofs.parked.Parked.TheSendSync.{the_send as parked_send}
 use Rattle.sysv_session.proofs.session.Session.TheSendSync.{the_send as session_send}
 use Rattle.sysv_seats.proofs.zero.Zero.TheSendSync.{the_sync as zero_sync}
-use Rattle.sysv_engine.specs.contracts.common.Common as common
-use Rattle.sysv_engine.specs.contracts.common.Letter as letter
-use Rattle.sysv_engine.specs.contracts.lines.Key as key
-use Rattle.sysv_engine.specs.contracts.lines.Line as line
-use Rattle.sysv_engine.specs.contracts.lines.Lines as lines
-use Rattle.sysv_engine.specs.contracts.lines.Link as link
-use Rattle.sysv_engine.specs.contracts.lines.SlotLines as slot_lines
+use Rattle.sysv_engine.specs.contracts.server_state.ServerState as server
+use Rattle.sysv_engine.specs.contracts.server_state.Letter as letter
+use Rattle.sysv_engine.specs.contracts.parked_calls.Key as key
+use Rattle.sysv_engine.specs.contracts.parked_calls.Line as line
+use Rattle.sysv_engine.specs.contracts.parked_calls.Lines as lines
+use Rattle.sysv_engine.specs.contracts.parked_calls.Link as link
+use Rattle.sysv_engine.specs.contracts.parked_calls.SlotLines as slot_lines
 use Rattle.sysv_engine.specs.contracts.moment.Moment as moment
 use Rattle.sysv_engine.specs.contracts.place.Place as place
 use Rattle.sysv_engine.specs.contracts.place.Place.TheInside as place_inside
@@ -40,14 +40,14 @@ use Rattle.sysv_engine.specs.contracts.rounds.Serving as serving
 use Rattle.sysv_engine.specs.contracts.times.Times as times
 use Rattle.sysv_engine.specs.contracts.watch.Ready as ready
 use Rattle.sysv_engine.specs.contracts.worker.Worker as worker
-use Rattle.sysv_engine.proofs.common.Common.TheSendSync as commons
+use Rattle.sysv_engine.proofs.server_state.ServerState.TheSendSync as servers
 use Rattle.sysv_engine.proofs.sums.Sums.TheSendSync as sums
 
-kernel_send : (l : NamedLft) (R : RattleType) → IsSync R → IsSend (kernel.the_row l zero.the_row R clock.ghosts)
-kernel_send l R sr =
+handler_send : (l : NamedLft) (R : RattleType) → IsSync R → IsSend (handler.the_row l zero.the_row R clock.ghosts)
+handler_send l R sr =
     let served : IsSend (as_row (shr_ref_field l service.the_row tt)) =
     search (crossing, service_sync, shr_send) depth 20 in
-    declared_send (kernel.the_type l zero.the_row R clock.ghosts) (
+    declared_send (handler.the_type l zero.the_row R clock.ghosts) (
       as_row_send (row_field (ShrRef l.mir l.lft R)) (shr_send l.mir l.lft R sr),
       (
         served,
@@ -118,7 +118,7 @@ place_send : (l : NamedLft) (R T B : RattleType) (ghosts : Ghosts T.Denot B.Deno
     IsSend (place.the_row l R T B ghosts)
 place_send l R T B ghosts r t b = view_send (place_inside.the_row l R T B ghosts) _ _ _ _
     (declared_send (place_inside.the_type l R T B ghosts) (
-      kernel_send l R r,
+      handler_send l R r,
       (
         options.the_send _ (client_send T B ghosts t),
         (
@@ -207,8 +207,8 @@ pub serving_sync : (l m : NamedLft) (R : RattleType) → IsSync R → IsSync (se
 serving_sync l m R y =
     let served : IsSync (as_row (shr_ref_field l service.the_row tt)) =
     search (crossing, service_sync, shr_sync) depth 20 in
-    let shared : IsSync (as_row (shr_ref_field m common.the_row tt)) =
-    search (crossing, commons.the_sync, shr_sync) depth 20 in
+    let shared : IsSync (as_row (shr_ref_field m server.the_row tt)) =
+    search (crossing, servers.the_sync, shr_sync) depth 20 in
     declared_sync (serving.the_type l m R) (
       as_row_sync (row_field (ShrRef l.mir l.lft R)) (shr_sync l.mir l.lft R y),
       (search (crossing, heaps.the_sync) depth 10, (served, (shared, tt))),

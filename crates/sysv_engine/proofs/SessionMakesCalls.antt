@@ -2,7 +2,7 @@
 use Rattle.std.proofs.Common.{◌∙◌, ℕ, List, [], ◌∷◌, ◌++◌, ap, sym, subst, refl, inl, inr}
 use Rattle.std.proofs.lemmas.List.{append-nil, append_assoc}
 use Rattle.sysv_model.specs.declared.cred.Cred.{Cred}
-use Rattle.sysv_model.specs.Turn.{Deed}
+use Rattle.sysv_model.specs.Turn.{Op}
 use Rattle.sysv_steps.specs.Begin.{begin}
 use Rattle.sysv_steps.specs.Call.{SystemCall, Msgget, Msgsnd, Msgrcv, MsgctlStat, MsgctlSet, MsgctlRmid}
 use Rattle.sysv_steps.specs.Resume.{Released}
@@ -10,7 +10,7 @@ use Rattle.sysv_steps.specs.State.{State, Waits, Over}
 use Rattle.std.specs.List.{AllByRecursion}
 use Rattle.sysv_thread_laws.specs.AtRest.{Rests}
 use Rattle.sysv_thread_laws.specs.Order.{Called}
-use Rattle.sysv_session.specs.declared.kernel.RequestOutcome.{RequestOutcome}
+use Rattle.sysv_session.specs.declared.handler.RequestOutcome.{RequestOutcome}
 use Rattle.sysv_session.specs.Calls.{Call, Leads}
 use Rattle.sysv_wire.specs.declared.frame.Version.{Version}
 use Rattle.sysv_wire.specs.declared.request.Ask.{Ask}
@@ -34,12 +34,12 @@ both (x ∷ xs) ys one two = (one.0, both xs ys one.1 two)
 
 -- One call more.
 one_call : (may : ℕ → Type 0) → EachRunIsAtAnyMoment may →
-    (cred : Cred) (asked : SystemCall) (released : ℕ) (start mid : Pass) (made : List Called) (deeds : List Deed)
+    (cred : Cred) (asked : SystemCall) (released : ℕ) (start mid : Pass) (made : List Called) (ops : List Op)
     (state : State) (new : Pass) →
-    Ran may (begin cred asked released) mid deeds state new → Works start made mid →
-    Works start (made ++ call_of mid cred asked released deeds state ∷ []) new
-one_call may any cred asked released start mid made deeds state new ran works =
-    working.calls cred asked released deeds state new works (any (begin cred asked released) mid deeds state new ran).0
+    Ran may (begin cred asked released) mid ops state new → Works start made mid →
+    Works start (made ++ call_of mid cred asked released ops state ∷ []) new
+one_call may any cred asked released start mid made ops state new ran works =
+    working.calls cred asked released ops state new works (any (begin cred asked released) mid ops state new ran).0
 
 module _ (may : ℕ → Type 0) (may_leave : Type 0) (any : EachRunIsAtAnyMoment may)
     (unstamped : EachRunIsAtAnyMoment no_moment) (version : Version) (cred : Cred) where
@@ -54,8 +54,8 @@ module _ (may : ℕ → Type 0) (may_leave : Type 0) (any : EachRunIsAtAnyMoment
         given (trail new (made ++ calls))
 
   -- Only this call.
-  abbrev only : Pass → SystemCall → ℕ → List Deed → State → List Called
-  only pass asked released deeds state = call_of pass cred asked released deeds state ∷ []
+  abbrev only : Pass → SystemCall → ℕ → List Op → State → List Called
+  only pass asked released ops state = call_of pass cred asked released ops state ∷ []
 
   makes : (ask : Ask) (text : List ℕ) (old : Pass) (outcome : RequestOutcome) (given : List ℕ) (new : Pass) →
       Asks may may_leave version cred ask text old outcome given new → Makes ask text old outcome given new
@@ -193,10 +193,10 @@ module _ (may : ℕ → Type 0) (may_leave : Type 0) (any : EachRunIsAtAnyMoment
   pub each_session : EachSessionMakesCalls may may_leave
   each_session start old new made served left rest taken more works (inl stays) = (
     [],
-    subst (Works start (made ++ [])) (sym stays.kernel)
+    subst (Works start (made ++ [])) (sym stays.handler)
         (subst (λ calls. Works start calls old) (sym (append-nil made)) works),
     inl (record {
-      kernel = ap (λ (p : Pass). trail p (made ++ [])) stays.kernel ∙ ap (trail old) (append-nil made);
+      handler = ap (λ (p : Pass). trail p (made ++ [])) stays.handler ∙ ap (trail old) (append-nil made);
       ends = stays.ends;
       writes = stays.writes;
       tallies = stays.tallies;

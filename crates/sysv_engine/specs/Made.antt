@@ -5,7 +5,7 @@ use Rattle.std.specs.Prelude.{◌≡◌, ℕ, List, [], ◌∷◌, ◌++◌, Opt
 use Rattle.sysv_keys.specs.declared.identifier.TheConstants.{SLOTS}
 use Rattle.sysv_model.specs.declared.attributes.Row.{Row}
 use Rattle.sysv_model.specs.declared.errno.Errno.{Errno}
-use Rattle.sysv_model.specs.Turn.{Deed}
+use Rattle.sysv_model.specs.Turn.{Op}
 use Rattle.std.specs.List.{AllByRecursion}
 use Rattle.sysv_thread_laws.specs.AtRest.{Rests}
 use Rattle.sysv_thread_laws.specs.Order.{Called}
@@ -33,8 +33,8 @@ trail pass made = record { pass = pass; made = made }
 -- The call was made with the pass, and is added to the calls made with it.
 abbrev pub MakesCall : Going Trail
 MakesCall may cred asked released before state after =
-    (deeds : List Deed) × Ran may (begin cred asked released) before.pass deeds state after.pass
-    × (after.made ≡ before.made ++ call_of before.pass cred asked released deeds state ∷ [])
+    (ops : List Op) × Ran may (begin cred asked released) before.pass ops state after.pass
+    × (after.made ≡ before.made ++ call_of before.pass cred asked released ops state ∷ [])
 
 -- The released count was read, which is no call.
 abbrev pub ReadsBeside : ℕ → Trail → Trail → Type 0

@@ -7,12 +7,12 @@ ghost use Rattle.sysv_engine.specs.Added.{IsBalanced};
 ghost use Rattle.sysv_engine.specs.Headline.{ServesConnections};
 ghost use Rattle.sysv_engine.specs.Serving.{FaultOf, HasLived, HiredFrom, LeavesConnections, WorkedFrom};
 
-use crate::common::Common;
 use crate::crew::{dismiss, hire};
 use crate::dealing::{Dealing, shares};
 use crate::fault::ServeFault;
 use crate::laws::each_life_is_one_run;
 use crate::rounds::Serving;
+use crate::server_state::ServerState;
 use crate::staff::{discard, gather, kits, staff};
 use crate::sums::Sums;
 use crate::terms::{Ended, Patience};
@@ -68,13 +68,13 @@ where
         (HasLived false blocks) source.old books.old.items why source.new books.new.items) }
 {
     let (count, places) = (workers as usize, books.len());
-    let Some(common) = Common::open(alloc, count, places, Patience::UNBOUNDED, 0) else {
+    let Some(server) = ServerState::open(alloc, count, places, Patience::UNBOUNDED, 0) else {
         return Err(ServeFault::NoMemory);
     };
     let Some(watches) = watches(alloc, count, places) else {
         return Err(ServeFault::NoMemory);
     };
-    serve_all(rt, alloc, source, books, blocks, watches, &common)
+    serve_all(rt, alloc, source, books, blocks, watches, &server)
 }
 
 /// Creates this number of watches, each of at most `places` places. Returns `None` if memory is
@@ -102,7 +102,7 @@ pub fn serve_all<
     books: &mut Vec<T::Book>,
     blocks: u32,
     watches: Vec<W>,
-    common: &Common,
+    server: &ServerState,
 ) -> Result<Ended, ServeFault>
 where
     T::Book: Send,
@@ -119,7 +119,7 @@ where
         return Err(ServeFault::NoMemory);
     };
     let outcome = serve_with(
-        rt, alloc, &service, &mut pass, source, books, watches, common,
+        rt, alloc, &service, &mut pass, source, books, watches, server,
     );
     let removed = service.stop(rt, &mut pass);
     let closed = service.close(pass);
@@ -150,7 +150,7 @@ pub(crate) fn serve_with<
     source: &mut S,
     books: &mut Vec<T::Book>,
     watches: Vec<W>,
-    common: &Common,
+    server: &ServerState,
 ) -> Result<(Sums, u64), ServeFault>
 where
     T::Book: Send,
@@ -187,9 +187,9 @@ where
         rt,
         alloc,
         service,
-        common,
+        server,
     };
-    let mut dealing = Dealing::new(source, common, shares);
+    let mut dealing = Dealing::new(source, server, shares);
     let outcome = run_workers(rt, alloc, workers, &mut dealing, &job);
     given_back(dealing.into_source());
     match outcome {

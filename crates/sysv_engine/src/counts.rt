@@ -1,6 +1,6 @@
 //! What a worker counts for those who look at the server.
 
-use crate::common::{BLOCKS_WORD, WORDS, room_word};
+use crate::server_state::{BLOCKS_WORD, WORDS, room_word};
 use std::alloc::Global;
 use std::sync::atomic::{AtomicU64, Ordering};
 use sysv_keys::SLOTS;

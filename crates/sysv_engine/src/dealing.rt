@@ -1,7 +1,7 @@
 //! A source whose connections are dealt out to workers.
 ghost use Rattle.std.specs.Prelude.{◌≡◌};
 
-use crate::common::Common;
+use crate::server_state::ServerState;
 use std::alloc::Global;
 use sysv_workers::Source;
 
@@ -39,7 +39,7 @@ pub(crate) fn shares(alloc: Global, workers: usize, places: usize) -> Option<Vec
 /// returned, so that the worker does not wait for it.
 pub(crate) struct Dealing<'s, 'c, S> {
     source: &'s mut S,
-    common: &'c Common,
+    server: &'c ServerState,
     /// The number of connections that were returned, up to the number of workers.
     dealt: usize,
     /// The shares of the workers.
@@ -52,7 +52,7 @@ impl<'s, 'c, S> Dealing<'s, 'c, S> {
     /// Creates a source that has returned no connection.
     pub(crate) fn new(
         source: &'s mut S,
-        common: &'c Common,
+        server: &'c ServerState,
         shares: Vec<Share>,
     ) -> Dealing<'s, 'c, S>
         ensures source { result.source.now ≡ source.old }
@@ -60,7 +60,7 @@ impl<'s, 'c, S> Dealing<'s, 'c, S> {
     {
         Dealing {
             source,
-            common,
+            server,
             dealt: 0,
             shares,
             next: 0,
@@ -74,7 +74,7 @@ impl<'s, 'c, S> Dealing<'s, 'c, S> {
     {
         let Dealing {
             source,
-            common: _,
+            server: _,
             dealt: _,
             shares: _,
             next: _,
@@ -91,7 +91,7 @@ impl<'s, 'c, S> Dealing<'s, 'c, S> {
         if let Some(share) = self.shares.get_mut(worker) {
             share.told = share.told.saturating_add(1);
         }
-        self.common.call(worker);
+        self.server.call(worker);
     }
 
     /// Returns the worker with the most vacant places. Of several it returns the first one, and
@@ -117,7 +117,7 @@ impl<'s, 'c, S> Dealing<'s, 'c, S> {
         let Some(share) = self.shares.get(worker) else {
             return 0;
         };
-        let clients = share.told.saturating_sub(self.common.closed(worker));
+        let clients = share.told.saturating_sub(self.server.closed(worker));
         share.places.saturating_sub(clients)
     }
 
@@ -134,7 +134,7 @@ impl<T, S: Source<T>> Source<T> for Dealing<'_, '_, S> {
 
     fn next(&mut self) -> Option<T> {
         let Some(connection) = self.source.next() else {
-            self.common.finish();
+            self.server.finish();
             return None;
         };
         if self.dealt < self.shares.len() {
@@ -142,7 +142,7 @@ impl<T, S: Source<T>> Source<T> for Dealing<'_, '_, S> {
         } else {
             self.tell();
         }
-        self.common.deal();
+        self.server.deal();
         Some(connection)
     }
 }

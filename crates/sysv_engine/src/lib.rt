@@ -6,25 +6,25 @@
 //! what it waits for may have come.
 //!
 //! `serve_connections` serves the connections of a source on a new service. All sessions share the
-//! service, which is the kernel of each session: each request, except one for a row, is one call of
-//! the service, and its reply reports how that call ended.
+//! service, which is the handler of each session: each request, except one for a row, is one call
+//! of the service, and its reply reports how that call ended.
 #![tactic(auto)]
 
 mod arrivals;
 mod bell;
-mod common;
 mod connections;
 mod counts;
 mod crew;
 mod dealing;
 mod fault;
 mod laws;
-mod lines;
 mod moment;
+mod parked_calls;
 mod place;
 mod rounds;
 mod rows;
 mod seeing;
+mod server_state;
 mod staff;
 mod sums;
 mod terms;
@@ -33,7 +33,6 @@ mod watch;
 mod worker;
 
 pub use arrivals::Arrivals;
-pub use common::Common;
 pub use connections::{serve_all, serve_connections};
 pub use counts::{Counted, SlotCounts};
 pub use fault::ServeFault;
@@ -41,6 +40,7 @@ pub use laws::{each_life_is_one_run, each_session_makes_calls};
 pub use moment::Moment;
 pub use rows::Rows;
 pub use seeing::serve_arrivals;
+pub use server_state::ServerState;
 pub use sums::Sums;
 pub use terms::{Ended, Patience};
 pub use watch::{Polled, Ready, Watch, watches};

@@ -6,8 +6,8 @@ ghost use Rattle.sysv_engine.specs.Added.{added, capped, nothing, one_session};
 ghost use Rattle.sysv_engine.specs.Handled.{one_refused};
 ghost use Rattle.sysv_engine.specs.Places.{KeepsPlace, TakesIn, taken_by};
 
-use crate::lines::Key;
 use crate::moment::Moment;
+use crate::parked_calls::Key;
 use crate::sums::Sums;
 use crate::terms::Patience;
 use crate::times::Times;
@@ -15,16 +15,16 @@ use crate::watch::{Ready, Watch};
 use std::alloc::Global;
 use std::marker::Model;
 use std::sync::Wait;
-use sysv_seats::{Client, NonBlocking, ServiceKernel, Tools, ZERO, Zero};
+use sysv_seats::{Client, NonBlocking, ServiceHandler, Tools, ZERO, Zero};
 use sysv_service::{Pass, Service};
 use sysv_session::{End, Served};
 
 /// A place of a server. Clients have it one after another.
 ///
-/// It has a kernel with a pass of its own, the client that has it now, the sums of its sessions, the
-/// number of those whose memory was refused, and its book.
+/// It has a handler with a pass of its own, the client that has it now, the sums of its sessions,
+/// the number of those whose memory was refused, and its book.
 pub(crate) struct Place<'a, R: Wait, T: NonBlocking> {
-    kernel: ServiceKernel<'a, Zero, R>,
+    handler: ServiceHandler<'a, Zero, R>,
     client: Option<Client<T>>,
     sums: Sums,
     refused: u64,
@@ -42,8 +42,8 @@ impl<'a, R: Wait, T: NonBlocking> Model for Place<'a, R, T> {
     ghost Value = { Seated T.Book T };
 
     ghost view = { λ p. record {
-      gates = p.kernel.service.now;
-      pass = p.kernel.pass;
+      gates = p.handler.service.now;
+      pass = p.handler.pass;
       sums = p.sums;
       refused = p.refused;
       book = p.book;
@@ -69,7 +69,7 @@ impl<'a, R: Wait, T: NonBlocking> Place<'a, R, T> {
         } }
     {
         Place {
-            kernel: ServiceKernel::new(rt, service, &ZERO, pass),
+            handler: ServiceHandler::new(rt, service, &ZERO, pass),
             client: None,
             sums: Sums::open(),
             refused: 0,
@@ -89,7 +89,7 @@ impl<'a, R: Wait, T: NonBlocking> Place<'a, R, T> {
         ensures fits { AreOf self.entry.gates result.0.seats }
     {
         let Place {
-            kernel,
+            handler,
             client,
             sums,
             refused,
@@ -100,7 +100,7 @@ impl<'a, R: Wait, T: NonBlocking> Place<'a, R, T> {
         } = self;
         match client {
             Some(_) => unreachable!(),
-            None => (kernel.into_pass(), sums, refused, book),
+            None => (handler.into_pass(), sums, refused, book),
         }
     }
 
@@ -196,7 +196,7 @@ impl<'a, R: Wait, T: NonBlocking> Place<'a, R, T> {
         ensures keeps { KeepsPlace T.incoming T.outgoing T.closes self.old self.new }
     {
         if let Some(client) = &mut self.client {
-            client.take_turn(&mut self.kernel, tools);
+            client.take_turn(&mut self.handler, tools);
             client.drain();
         }
     }
@@ -219,7 +219,7 @@ impl<'a, R: Wait, T: NonBlocking> Place<'a, R, T> {
         ensures keeps { KeepsPlace T.incoming T.outgoing T.closes self.old self.new }
     {
         if let Some(client) = &mut self.client {
-            client.go_on(&mut self.kernel, tools);
+            client.go_on(&mut self.handler, tools);
         }
     }
 

@@ -1,10 +1,10 @@
 //! The event loop of a worker.
 ghost use Rattle.sysv_engine.specs.Places.{IsVacantAt, KeepsAll};
 
-use crate::common::{BLOCKS_WORD, Common, Letter, bit, room_word};
 use crate::counts::Moved;
-use crate::lines::Key;
 use crate::moment::Moment;
+use crate::parked_calls::Key;
+use crate::server_state::{BLOCKS_WORD, Letter, ServerState, bit, room_word};
 use crate::watch::{Ready, Watch};
 use crate::worker::{Worker, sooner};
 use std::alloc::Global;
@@ -24,7 +24,7 @@ pub(crate) struct Serving<'a, 'c, R> {
     pub(crate) rt: &'a R,
     pub(crate) alloc: Global,
     pub(crate) service: &'a Service,
-    pub(crate) common: &'c Common,
+    pub(crate) server: &'c ServerState,
 }
 
 impl<'a, 'c, R: Wait, T: NonBlocking + Drop, W: Watch<T>> Job<Worker<'a, R, T, W>, T>
@@ -38,7 +38,7 @@ impl<'a, 'c, R: Wait, T: NonBlocking + Drop, W: Watch<T>> Job<Worker<'a, R, T, W
         job.service.now connection old.places.items new.places.items };
 
     fn run(&self, worker: &mut Worker<'a, R, T, W>, connection: T) {
-        self.common.take();
+        self.server.take();
         let place = self.make_room(worker);
         worker.adopt(place, self.alloc, connection);
         self.turn(worker, place);
@@ -81,11 +81,11 @@ impl<'a, 'c, R: Wait> Serving<'a, 'c, R> {
         ensures { KeepsAll T.incoming T.outgoing T.closes worker.old.places.items
             worker.new.places.items }
     {
-        if self.common.coming(worker.number) > worker.answered {
+        if self.server.coming(worker.number) > worker.answered {
             worker.answered += 1;
             return true;
         }
-        worker.is_empty() && self.common.is_finished()
+        worker.is_empty() && self.server.is_finished()
     }
 
     /// Waits for news, and serves each client that has some.
@@ -102,7 +102,7 @@ impl<'a, 'c, R: Wait> Serving<'a, 'c, R> {
         }
         self.take_turns(worker);
         self.look_at_times(worker);
-        if self.common.is_cut() {
+        if self.server.is_cut() {
             self.cut_all(worker);
         }
     }
@@ -113,14 +113,14 @@ impl<'a, 'c, R: Wait> Serving<'a, 'c, R> {
             worker.new.places.items }
     {
         let number = worker.number;
-        let may_sleep = self.common.fall_asleep(number);
+        let may_sleep = self.server.fall_asleep(number);
         let limit = if may_sleep && worker.turns.is_empty() {
             worker.check.map(Moment::left)
         } else {
             Some(0)
         };
         worker.watch.wait(limit, &mut worker.ready);
-        if self.common.wake_up(number) {
+        if self.server.wake_up(number) {
             self.read_letters(worker);
         }
     }
@@ -171,7 +171,7 @@ impl<'a, 'c, R: Wait> Serving<'a, 'c, R> {
             return;
         }
         worker.await_more(place);
-        worker.set_time(place, self.common.patience());
+        worker.set_time(place, self.server.patience());
     }
 
     /// Puts a client into the line of what its parked call waits for, and out of any other line. A
@@ -214,7 +214,7 @@ impl<'a, 'c, R: Wait> Serving<'a, 'c, R> {
         };
         worker.lines.enter(place, key);
         self.count_parked(worker, key.word());
-        self.common.mark(key.word(), worker.number);
+        self.server.mark(key.word(), worker.number);
         worker.go_on(place);
         true
     }
@@ -238,7 +238,7 @@ impl<'a, 'c, R: Wait> Serving<'a, 'c, R> {
     /// Has the number of the worker's calls that are parked under this word be known.
     fn count_parked<T: NonBlocking, W: Watch<T>>(&self, worker: &Worker<'_, R, T, W>, word: usize) {
         let count = worker.lines.count(word);
-        self.common.set_parked(worker.number, word, count);
+        self.server.set_parked(worker.number, word, count);
     }
 
     /// Closes a client whose session is over.
@@ -251,12 +251,12 @@ impl<'a, 'c, R: Wait> Serving<'a, 'c, R> {
             return;
         };
         if served.end == End::NoMemory {
-            self.common.starve();
+            self.server.starve();
         }
         if worker.free.len() < worker.free.capacity() {
             worker.free.push_reserved(place);
         }
-        self.common.close(worker.number, &served.tally);
+        self.server.close(worker.number, &served.tally);
     }
 
     /// Reads what came for the worker from other workers.
@@ -265,13 +265,13 @@ impl<'a, 'c, R: Wait> Serving<'a, 'c, R> {
             worker.new.places.items }
     {
         for _ in self.rt.forever() {
-            let Some(letter) = self.common.letter(self.rt, worker.number) else {
+            let Some(letter) = self.server.letter(self.rt, worker.number) else {
                 break;
             };
             self.heed(worker, letter);
             self.spread(worker);
         }
-        if self.common.has_lost(worker.number) {
+        if self.server.has_lost(worker.number) {
             self.look_at_all(worker);
             self.spread(worker);
         }
@@ -315,7 +315,7 @@ impl<'a, 'c, R: Wait> Serving<'a, 'c, R> {
     /// The fastest way is the worker that wrote the letter. But sometimes it is another worker's
     /// turn: else the clients of one worker might have all, and those of the others wait.
     fn first_for(&self, letter: &Letter, writer: usize, turn: Option<usize>) -> usize {
-        match turn.and_then(|turn| turn.checked_rem(self.common.workers())) {
+        match turn.and_then(|turn| turn.checked_rem(self.server.workers())) {
             Some(from) => next_of(letter.rest, from),
             None => writer,
         }
@@ -333,12 +333,12 @@ impl<'a, 'c, R: Wait> Serving<'a, 'c, R> {
                 break;
             };
             if !moved.add(news) {
-                self.common.count(worker.number, moved);
+                self.server.count(worker.number, moved);
                 moved = Moved::first(news);
             }
             self.keep(worker, news);
         }
-        self.common.count(worker.number, moved);
+        self.server.count(worker.number, moved);
     }
 
     /// Keeps what a call has changed, if calls that wait for it are parked.
@@ -356,17 +356,17 @@ impl<'a, 'c, R: Wait> Serving<'a, 'c, R> {
             least: usize::MAX,
         };
         if worker.letters.push_back(letter).is_err() {
-            self.common.send_everything();
+            self.server.send_everything();
         }
     }
 
     /// Returns which workers have parked calls that such news may end.
     fn parked_for(&self, news: News) -> u64 {
         match news {
-            News::Arrived { slot, .. } => self.common.word(slot),
-            News::Freed { slot, .. } => self.common.word(room_word(slot)),
-            News::Released => self.common.word(BLOCKS_WORD),
-            News::Changed { slot } => self.common.word(slot) | self.common.word(room_word(slot)),
+            News::Arrived { slot, .. } => self.server.word(slot),
+            News::Freed { slot, .. } => self.server.word(room_word(slot)),
+            News::Released => self.server.word(BLOCKS_WORD),
+            News::Changed { slot } => self.server.word(slot) | self.server.word(room_word(slot)),
         }
     }
 
@@ -391,7 +391,7 @@ impl<'a, 'c, R: Wait> Serving<'a, 'c, R> {
     /// Gives a letter to the first worker that has not had it, from the one of this number on, or to
     /// all of them.
     fn pass_on(&self, from: usize, mut letter: Letter) {
-        for _ in 0..self.common.workers() {
+        for _ in 0..self.server.workers() {
             if letter.rest == 0 {
                 return;
             }
@@ -403,7 +403,7 @@ impl<'a, 'c, R: Wait> Serving<'a, 'c, R> {
                 letter.rest = 0;
             }
             letter.rest |= bit(next);
-            let is_sent = self.common.send(self.rt, next, letter);
+            let is_sent = self.server.send(self.rt, next, letter);
             letter.rest = rest;
             if is_sent && !is_for_all {
                 return;
@@ -445,7 +445,7 @@ impl<'a, 'c, R: Wait> Serving<'a, 'c, R> {
     /// Says that no calls are parked under this word, if that is so.
     fn unmark<T: NonBlocking, W: Watch<T>>(&self, worker: &Worker<'_, R, T, W>, word: usize) {
         if worker.lines.count(word) == 0 {
-            self.common.unmark(word, worker.number);
+            self.server.unmark(word, worker.number);
         }
     }
 

@@ -9,11 +9,11 @@ ghost use Rattle.sysv_engine.specs.Looks.{Looks};
 ghost use Rattle.sysv_engine.specs.Serving.{HasLived, HiredFrom, LeavesConnections, WorkedFrom};
 
 use crate::arrivals::Arrivals;
-use crate::common::Common;
 use crate::connections::{given_back, serve_with};
 use crate::fault::ServeFault;
 use crate::laws::each_life_is_one_run;
 use crate::rows::Rows;
+use crate::server_state::ServerState;
 use crate::sums::Sums;
 use crate::terms::Ended;
 use crate::watch::Watch;
@@ -38,7 +38,7 @@ pub fn serve_arrivals<
     books: &mut Vec<T::Book>,
     blocks: u32,
     watches: Vec<W>,
-    common: &Common,
+    server: &ServerState,
     reads: bool,
 ) -> Result<Ended, ServeFault>
 where
@@ -56,7 +56,7 @@ where
         return Err(ServeFault::NoMemory);
     };
     let outcome = serve_seeing(
-        rt, alloc, &service, &mut pass, source, books, watches, common, reads,
+        rt, alloc, &service, &mut pass, source, books, watches, server, reads,
     );
     let removed = service.stop(rt, &mut pass);
     let closed = service.close(pass);
@@ -88,7 +88,7 @@ fn serve_seeing<
     source: &mut S,
     books: &mut Vec<T::Book>,
     watches: Vec<W>,
-    common: &Common,
+    server: &ServerState,
     reads: bool,
 ) -> Result<(Sums, u64), ServeFault>
 where
@@ -114,7 +114,7 @@ where
         &mut seeing,
         books,
         watches,
-        common,
+        server,
     );
     let (source, rows) = seeing.into_parts();
     given_back(source);

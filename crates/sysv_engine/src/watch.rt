@@ -1,8 +1,8 @@
 //! What reports which clients have news.
 ghost use Rattle.std.specs.Prelude.{◌≡◌, IfSome, vec_len};
 
-use crate::common::Common;
 use crate::moment::{asking, pause};
+use crate::server_state::ServerState;
 use libc::net::{POLLRDHUP, poll};
 use mio::unix::SourceFd;
 use mio::{Events, Interest, Poll, Token};
@@ -136,12 +136,12 @@ impl<T: AsRawFd> Watch<T> for Polled {
 }
 
 /// Opens a watch for each worker. Returns `None` if memory or a descriptor is refused.
-pub fn watches(net: &impl Net, alloc: Global, common: &Common) -> Option<Vec<Polled>>
-    ensures { IfSome result (λ watches. vec_len watches ≡ vec_len common.now.posts) }
+pub fn watches(net: &impl Net, alloc: Global, server: &ServerState) -> Option<Vec<Polled>>
+    ensures { IfSome result (λ watches. vec_len watches ≡ vec_len server.now.posts) }
 {
-    let mut watches = Vec::with_capacity(alloc, common.workers()).ok()?;
-    for worker in 0..common.workers() {
-        let watch = Polled::open(net, alloc, common.bell_of(worker))?;
+    let mut watches = Vec::with_capacity(alloc, server.workers()).ok()?;
+    for worker in 0..server.workers() {
+        let watch = Polled::open(net, alloc, server.bell_of(worker))?;
         watches.push(watch).ok()?;
     }
     Some(watches)

@@ -2,10 +2,10 @@
 ghost use Rattle.std.specs.Prelude.{◌≡◌, ◌≤◌, ◌++◌, reverse, vec_len, vec_capacity, [], IfSome};
 ghost use Rattle.sysv_engine.specs.Places.{AdoptsOne, IsVacantAt, KeepsAll};
 
-use crate::common::Letter;
-use crate::lines::{Key, Lines};
 use crate::moment::Moment;
+use crate::parked_calls::{Key, Lines};
 use crate::place::Place;
+use crate::server_state::Letter;
 use crate::terms::Patience;
 use crate::watch::{Ready, Watch};
 use std::alloc::Global;

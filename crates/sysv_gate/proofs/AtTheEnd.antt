@@ -10,11 +10,11 @@ use lib.ListN.{get_elem?}
 use Rattle.atomic_table.specs.Table.{State, Final, Seen}
 use Rattle.atomic_table.specs.Seated.{TableId}
 use Rattle.atomic_table.proofs.Lists.{at_map}
-use Rattle.sysv_gate.specs.declared.closing.Closing.{Closing}
-use Rattle.sysv_gate.specs.declared.view.View.{View}
-use Rattle.sysv_gate.specs.declared.view.Turn.{Turn}
-use Rattle.sysv_gate.specs.declared.view.Sight.{Sight}
-use Rattle.sysv_gate.specs.declared.view.Placed.{Placed}
+use Rattle.sysv_gate.specs.declared.gate.closing.Closing.{Closing}
+use Rattle.sysv_gate.specs.declared.table.view.View.{View}
+use Rattle.sysv_gate.specs.declared.table.view.Turn.{Turn}
+use Rattle.sysv_gate.specs.declared.table.view.Sight.{Sight}
+use Rattle.sysv_gate.specs.declared.table.view.Placed.{Placed}
 use Rattle.sysv_lists.specs.Numbers.{times}
 use Rattle.sysv_lists.specs.Prefix.{IsPrefixOf}
 use Rattle.sysv_gate.specs.History.{IsLegal, after_all, HasItsOwn}
@@ -25,7 +25,7 @@ use Rattle.sysv_gate.specs.Closings.{held_object, IsBack, ATurnIsDue, Closes}
 use Rattle.sysv_gate.specs.Ending.{IsReadAt}
 use Rattle.sysv_gate.specs.Shares.{IsWhole}
 use Rattle.sysv_gate.specs.Orders.{turns_at}
-use Rattle.sysv_gate.specs.Halls.{block, view_at, state_at, InOrder}
+use Rattle.sysv_gate.specs.Tables.{block, view_at, state_at, InOrder}
 use Rattle.sysv_lists.proofs.Places.{at_below, one_there, there}
 use Rattle.sysv_lists.proofs.Sums.{some_part}
 use Rattle.sysv_lists.proofs.Counting.{once_between-first}

@@ -6,7 +6,7 @@ use native.Mathlib.Decide.{dec_le}
 use Rattle.std.proofs.lemmas.List.{get_or-drop, get_or-take, drop-set-add, drop-set-lt, take-set-le, length-take-le}
 use Rattle.std.proofs.lemmas.List.{length-drop}
 use Rattle.std.proofs.Math.Seq.{take-set-lt}
-use Rattle.sysv_gate.specs.Halls.{block}
+use Rattle.sysv_gate.specs.Tables.{block}
 
 pub block_length : (place count : ℕ) (words : List ℕ) → length words ≡ 80 * count → place < count →
     length (block place words) ≡ 80

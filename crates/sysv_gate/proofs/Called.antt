@@ -1,8 +1,8 @@
 -- A call at a place, from its ticket to its turn.
 use Rattle.std.proofs.Common.{◌≡◌, ℕ, ◌+◌, ◌<◌, ◌^◌, ◌≤◌, false, true, List, [], ◌∷◌, ◌++◌, length, sym, ap, ◌∙◌, subst}
 use Rattle.std.proofs.Common.{arith}
-use Rattle.sysv_gate.specs.declared.view.View.{View}
-use Rattle.sysv_gate.specs.declared.view.Turn.{Turn}
+use Rattle.sysv_gate.specs.declared.table.view.View.{View}
+use Rattle.sysv_gate.specs.declared.table.view.Turn.{Turn}
 use Rattle.sysv_lists.specs.Numbers.{times}
 use Rattle.sysv_lists.specs.Prefix.{IsPrefixOf}
 use Rattle.sysv_lists.proofs.Prefixes.{prefix_trans}
@@ -10,8 +10,8 @@ use Rattle.sysv_gate.specs.History.{after_all}
 use Rattle.sysv_gate.specs.Counts.{of_count}
 use Rattle.sysv_gate.specs.Steps.{Mine, turn_of, drew}
 use Rattle.sysv_gate.specs.Turns.{HasDrawn, TurnCame, HasMade}
-use Rattle.sysv_gate.specs.Halls.{Passing}
-use Rattle.sysv_gate.specs.Doors.{Only, EndsOrder, HasCalled}
+use Rattle.sysv_gate.specs.Tables.{Passing}
+use Rattle.sysv_gate.specs.Locks.{Only, EndsOrder, HasCalled}
 
 module _ {O C R : Type 0} (moves : O → C → R → O → Type 0) (counted : O → ℕ × ℕ) (o : O) where
   -- The turn began, and was made.

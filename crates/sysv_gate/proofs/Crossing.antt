@@ -4,7 +4,7 @@ use denote.RattleType.{RattleType}
 use denote.Param.Send.{IsSend, IsSync, AllSend, sendable, view_send, view_sync, part_keyless}
 use Rattle.sysv_gate.specs.declared.object.Object.{Ghosts}
 use Rattle.sysv_gate.specs.History.{Moves}
-use Rattle.sysv_gate.specs.Halls.{InOrder, outset}
+use Rattle.sysv_gate.specs.Tables.{InOrder, outset}
 use denote.Struct.Field.{row_field, u64-field, usize-field}
 use Rattle.std.specs.contracts.option.Option as option
 use Rattle.std.proofs.option.Option.TheSendSync as crossing
@@ -17,29 +17,29 @@ use Rattle.atomic_table.proofs.owned.Table.TheSendSync as tables
 use Rattle.std.specs.contracts.alloc.Global as heap
 use Rattle.std.proofs.alloc.Global.TheSendSync as heaps
 use Rattle.std.proofs.Crossing.{frees}
-use Rattle.sysv_gate.specs.contracts.hall.HallRule as hall_rule
-use Rattle.sysv_gate.specs.contracts.view.Sight as sight
-use Rattle.sysv_gate.specs.contracts.place.Done as done
-use Rattle.sysv_gate.specs.contracts.place.Beside as beside
-use Rattle.sysv_gate.specs.contracts.place.Beside.TheInside as beside_inside
-use Rattle.sysv_gate.specs.contracts.place.Place as place
-use Rattle.sysv_gate.specs.contracts.seat.Key as key
-use Rattle.sysv_gate.specs.contracts.seat.Seat as seat
-use Rattle.sysv_gate.specs.contracts.seat.Seat.TheInside as inside
-use Rattle.sysv_gate.specs.contracts.bell.Bell as bell
-use Rattle.sysv_gate.proofs.bell.Bell.TheSendSync as bells
+use Rattle.sysv_gate.specs.contracts.table.PlaceTableRule as table_rule
+use Rattle.sysv_gate.specs.contracts.table.view.Sight as sight
+use Rattle.sysv_gate.specs.contracts.table.place.Done as done
+use Rattle.sysv_gate.specs.contracts.table.place.Beside as beside
+use Rattle.sysv_gate.specs.contracts.table.place.Beside.TheInside as beside_inside
+use Rattle.sysv_gate.specs.contracts.table.place.Place as place
+use Rattle.sysv_gate.specs.contracts.gate.seat.Key as key
+use Rattle.sysv_gate.specs.contracts.gate.seat.Seat as seat
+use Rattle.sysv_gate.specs.contracts.gate.seat.Seat.TheInside as inside
+use Rattle.sysv_gate.specs.contracts.lock.bell.Bell as bell
+use Rattle.sysv_gate.proofs.lock.bell.Bell.TheSendSync as bells
 use Rattle.std.specs.contracts.sync.atomic.AtomicU64 as atomic
 use Rattle.std.proofs.sync.atomic.AtomicU64.TheSendSync as atomics
-use Rattle.sysv_gate.specs.contracts.bell.Entrance as entrance
-use Rattle.sysv_gate.proofs.bell.Entrance.TheSendSync as entrances
-use Rattle.sysv_gate.specs.contracts.bell.TurnBells as turns
-use Rattle.sysv_gate.proofs.bell.TurnBells.TheSendSync as turn_bells
+use Rattle.sysv_gate.specs.contracts.lock.bell.Entrance as entrance
+use Rattle.sysv_gate.proofs.lock.bell.Entrance.TheSendSync as entrances
+use Rattle.sysv_gate.specs.contracts.lock.bell.TurnBells as turns
+use Rattle.sysv_gate.proofs.lock.bell.TurnBells.TheSendSync as turn_bells
 use Rattle.sysv_gate.specs.contracts.gate.Gate as gate
 use Rattle.std.specs.contracts.vec.Vec as vec
 use Rattle.std.specs.contracts.impls.GlobalAllocator.TheImpl as global
-use Rattle.sysv_gate.specs.contracts.hall.HallKey as hall_key
-use Rattle.sysv_gate.specs.contracts.door.Door as door
-use Rattle.sysv_gate.specs.contracts.door.Door.TheInside as door_inside
+use Rattle.sysv_gate.specs.contracts.table.TableKey as table_key
+use Rattle.sysv_gate.specs.contracts.lock.PlaceLock as lock
+use Rattle.sysv_gate.specs.contracts.lock.PlaceLock.TheInside as lock_inside
 use Rattle.sysv_gate.specs.contracts.gate.Gate.TheInside as within
 
 pub snapshot_send : (T : RattleType) → IsSend (snapshot.the_row T)
@@ -79,16 +79,16 @@ inside_send O C R g s = declared_send (inside.the_type O C R g) (
 pub seat_send : (O C R : RattleType) (g : Ghosts O.Denot C.Denot R.Denot) → IsSend O → IsSend (seat.the_row O C R g)
 seat_send O C R g s = view_send (inside.the_row O C R g) _ _ _ _ (inside_send O C R g s)
 
-pub hall_key_sync : (O : RattleType) → IsSync (hall_key.the_row O)
-hall_key_sync O = declared_sync (hall_key.the_type O) (
+pub table_key_sync : (O : RattleType) → IsSync (table_key.the_row O)
+table_key_sync O = declared_sync (table_key.the_type O) (
   as_row_sync (snapshot.the_field (vec.the_row O heap.the_row global.ghosts))
       (snapshot_sync (vec.the_row O heap.the_row global.ghosts)),
   (as_row_sync u64-field (search sendable), tt),
 )
 
-pub door_sync : (O C R : RattleType) (g : Ghosts O.Denot C.Denot R.Denot) → IsSync (door.the_row O C R g)
-door_sync O C R g = view_sync (door_inside.the_row O C R g) _ _ _ _
-    (declared_sync (door_inside.the_type O C R g) (
+pub lock_sync : (O C R : RattleType) (g : Ghosts O.Denot C.Denot R.Denot) → IsSync (lock.the_row O C R g)
+lock_sync O C R g = view_sync (lock_inside.the_row O C R g) _ _ _ _
+    (declared_sync (lock_inside.the_type O C R g) (
       as_row_sync usize-field (search sendable),
       (
         as_row_sync usize-field (search sendable),
@@ -114,13 +114,13 @@ door_sync O C R g = view_sync (door_inside.the_row O C R g) _ _ _ _
 pub gate_sync : (O C R : RattleType) (g : Ghosts O.Denot C.Denot R.Denot) → IsSend O → IsSync (gate.the_row O C R g)
 gate_sync O C R g s = view_sync (within.the_row O C R g) _ _ _ _
     (declared_sync (within.the_type O C R g) (
-      tables.the_sync (option.the_row (place.the_row O C R)) (sight.the_row O C R) (hall_key.the_row O)
-          (hall_rule.the_row O) heap.the_row
+      tables.the_sync (option.the_row (place.the_row O C R)) (sight.the_row O C R) (table_key.the_row O)
+          (table_rule.the_row O) heap.the_row
           (record {
             holds = λ k. InOrder (Moves g.meaning g.counted) g.counted k.openings.value.items k.first;
             first = λ k. outset k.openings.value.items k.first;
           }) _ (spot_send O C R s) heaps.the_send heaps.the_sync frees,
-      (key_sync O, (as_row_sync (door.the_field O C R g) (door_sync O C R g), tt)),
+      (key_sync O, (as_row_sync (lock.the_field O C R g) (lock_sync O C R g), tt)),
     ))
 
 -- The captures of a closure may move to another thread if each of them may.

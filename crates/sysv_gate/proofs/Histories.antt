@@ -1,7 +1,7 @@
 -- Histories that grow by one turn.
 use Rattle.std.proofs.Common.{◌≡◌, ℕ, zero, suc, ◌+◌, ◌≤◌, ◌==◌, cond, List, [], ◌∷◌, ◌++◌, length, refl, arith}
 use Rattle.std.proofs.lemmas.Bool.Decides.{nat_tests}
-use Rattle.sysv_gate.specs.declared.view.Turn.{Turn}
+use Rattle.sysv_gate.specs.declared.table.view.Turn.{Turn}
 use Rattle.sysv_lists.specs.Numbers.{times, NoneTwice}
 use Rattle.sysv_lists.proofs.Counting.{times-append}
 use Rattle.sysv_gate.specs.History.{after_all, IsLegal, made_at}

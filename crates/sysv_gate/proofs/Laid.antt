@@ -13,15 +13,15 @@ use Rattle.std.proofs.lemmas.List.{take-append-le, length-drop}
 use Rattle.atomic_table.specs.Table.{opening}
 use Rattle.atomic_table.proofs.Lists.{at_map, at_snoc, at_last, at_longer}
 use Rattle.sysv_lists.proofs.Places.{at_below}
-use Rattle.sysv_gate.specs.declared.view.Sight.{Sight}
-use Rattle.sysv_gate.specs.declared.place.Place.{Place}
+use Rattle.sysv_gate.specs.declared.table.view.Sight.{Sight}
+use Rattle.sysv_gate.specs.declared.table.place.Place.{Place}
 use Rattle.sysv_lists.specs.Prefix.{IsPrefixOf}
 use Rattle.sysv_gate.specs.Rule.{Spot, put, GatedBy, start}
 use Rattle.sysv_gate.specs.Closings.{held_object}
 use Rattle.sysv_gate.specs.Steps as gate
-use Rattle.sysv_gate.specs.Halls.{block, view_at, IsFull, InOrder, outset}
-use Rattle.sysv_gate.specs.Laying.{IsLaid, AreLaidUpTo, AreDoorsUpTo, all_put}
-use Rattle.sysv_gate.specs.Doors.{Doorway}
+use Rattle.sysv_gate.specs.Tables.{block, view_at, IsFull, InOrder, outset}
+use Rattle.sysv_gate.specs.Laying.{IsLaid, AreLaidUpTo, AreLocksUpTo, all_put}
+use Rattle.sysv_gate.specs.Locks.{LockView}
 use Rattle.sysv_gate.proofs.Blocks.{block_length}
 use Rattle.sysv_gate.proofs.OpenedMeetsRule.{starts}
 use Rattle.sysv_gate.proofs.TableShares.{first_whole}
@@ -62,26 +62,27 @@ module _ {O : Type 0} (counted : O → ℕ × ℕ) (first : ℕ) (objects : List
             (laid.1 place p (omega arith) there)),
       )
 
--- One more door is made.
-pub one_door : {O : Type 0} (objects : List O) (count : ℕ) (doors doors' : List (Doorway O)) (door : Doorway O) (o : O)
-    → AreDoorsUpTo objects count doors → doors' ≡ doors ++ door ∷ [] → get_elem? objects count ≡ some o
-    → door.place ≡ count → door.opening ≡ o
-    → AreDoorsUpTo objects (count + 1) doors'
-one_door {O} objects count doors doors' door o are more at place opening =
-    let long = ap length more ∙ length-append doors (door ∷ []) in
+-- One more lock is made.
+pub one_lock : {O : Type 0} (objects : List O) (count : ℕ) (locks locks' : List (LockView O)) (lock : LockView O)
+    (o : O)
+    → AreLocksUpTo objects count locks → locks' ≡ locks ++ lock ∷ [] → get_elem? objects count ≡ some o
+    → lock.place ≡ count → lock.opening ≡ o
+    → AreLocksUpTo objects (count + 1) locks'
+one_lock {O} objects count locks locks' lock o are more at place opening =
+    let long = ap length more ∙ length-append locks (lock ∷ []) in
     let before = are.0 in
-    let is : door ≡ record { place = count; opening = o } = λ i. record { place = place i; opening = opening i } in (
+    let is : lock ≡ record { place = count; opening = o } = λ i. record { place = place i; opening = opening i } in (
       (omega arith),
       λ k p less there. dite (ℕ_discrete k count)
           (λ e.
           let same : o ≡ p = some-injective o p (sym at ∙ subst (λ (n : ℕ). get_elem? objects n ≡ some p) e there) in
-          ap (λ (l : List (Doorway O)). get_elem? l k) more
-          ∙ ap (λ (n : ℕ). get_elem? (doors ++ door ∷ []) n) e
-          ∙ at_last doors door count are.0
+          ap (λ (l : List (LockView O)). get_elem? l k) more
+          ∙ ap (λ (n : ℕ). get_elem? (locks ++ lock ∷ []) n) e
+          ∙ at_last locks lock count are.0
           ∙ ap some (is ∙ (λ i. record { place = sym e i; opening = same i })))
           (λ ne.
-          ap (λ (l : List (Doorway O)). get_elem? l k) more
-          ∙ at_longer doors (door ∷ []) k (record { place = k; opening = p }) (are.1 k p (omega arith) there)),
+          ap (λ (l : List (LockView O)). get_elem? l k) more
+          ∙ at_longer locks (lock ∷ []) k (record { place = k; opening = p }) (are.1 k p (omega arith) there)),
     )
 
 module _ {O C R : Type 0} (moves : O → C → R → O → Type 0) (counted : O → ℕ × ℕ) where

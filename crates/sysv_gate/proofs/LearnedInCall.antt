@@ -4,13 +4,13 @@ use Rattle.std.proofs.Common.{subst, arith, Option, Some}
 use Rattle.std.specs.Prelude.{cond, nat_lt}
 use mathlib.Core.Option.{none}
 use Rattle.std.proofs.lemmas.Bool.Decides.{nat_tests}
-use Rattle.sysv_gate.specs.declared.view.View.{View}
-use Rattle.sysv_gate.specs.declared.view.Turn.{Turn}
-use Rattle.sysv_gate.specs.declared.place.Done.{Done}
-use Rattle.sysv_gate.specs.declared.place.Place.{Place}
+use Rattle.sysv_gate.specs.declared.table.view.View.{View}
+use Rattle.sysv_gate.specs.declared.table.view.Turn.{Turn}
+use Rattle.sysv_gate.specs.declared.table.place.Done.{Done}
+use Rattle.sysv_gate.specs.declared.table.place.Place.{Place}
 use Rattle.sysv_gate.specs.declared.count.Count.{Count}
 use Rattle.sysv_gate.specs.declared.count.Count.TheVariants.{Arrived, Freed}
-use Rattle.sysv_gate.specs.declared.turns.Rose.{Rose}
+use Rattle.sysv_gate.specs.declared.lock.turns.Rose.{Rose}
 use Rattle.sysv_gate.specs.declared.awaited.Awaited.{Awaited}
 use Rattle.sysv_gate.specs.declared.awaited.Awaited.TheVariants.{Reached}
 use Rattle.sysv_gate.specs.declared.awaited.Awaited.TheVariants as awaited

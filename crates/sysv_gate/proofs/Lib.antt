@@ -17,7 +17,7 @@ pub mod SlotToOrder
 pub mod Called
 pub mod SeenAfterCall
 pub mod RestingViews
-pub mod OneDoor
+pub mod OneLock
 pub mod Laid
 pub mod AtTheEnd
 pub mod LawsFromRule

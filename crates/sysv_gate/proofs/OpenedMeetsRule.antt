@@ -8,7 +8,7 @@ use lib.ListN.{get_elem?}
 use Rattle.std.proofs.lemmas.Bool.Decides.{nat_tests}
 use Rattle.atomic_table.specs.Table.{opening}
 use Rattle.atomic_table.proofs.Lists.{at_snoc}
-use Rattle.sysv_gate.specs.declared.view.View.{View}
+use Rattle.sysv_gate.specs.declared.table.view.View.{View}
 use Rattle.sysv_lists.specs.Numbers.{times, once_between}
 use Rattle.sysv_gate.specs.Rule.{Spot, put, bearers, Fits, IsKept, IsAnnounced, AreAnnounced, GatedBy, start}
 use Rattle.sysv_gate.specs.declared.count.Count.{Count}

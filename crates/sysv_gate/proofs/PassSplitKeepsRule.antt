@@ -8,10 +8,10 @@ use lib.ListN.{get_elem?}
 use Rattle.std.proofs.lemmas.List.{map-set, map-append, length-map, set-get_or, get_or-map}
 use Rattle.atomic_table.specs.Table.{State, step, keeps, Allows, Splits, Joins}
 use Rattle.atomic_table.proofs.Lists.{at_map, at_set, at_snoc}
-use Rattle.sysv_gate.specs.declared.view.View.{View}
-use Rattle.sysv_gate.specs.declared.view.Turn.{Turn}
-use Rattle.sysv_gate.specs.declared.view.Placed.{Placed}
-use Rattle.sysv_gate.specs.declared.view.Sight.{Sight}
+use Rattle.sysv_gate.specs.declared.table.view.View.{View}
+use Rattle.sysv_gate.specs.declared.table.view.Turn.{Turn}
+use Rattle.sysv_gate.specs.declared.table.view.Placed.{Placed}
+use Rattle.sysv_gate.specs.declared.table.view.Sight.{Sight}
 use Rattle.sysv_lists.specs.Numbers.{times}
 use Rattle.sysv_lists.specs.Prefix.{IsPrefixOf}
 use Rattle.sysv_lists.proofs.Prefixes.{prefix_self}
@@ -21,9 +21,9 @@ use Rattle.sysv_gate.specs.Rule.{Spot, GatedBy}
 use Rattle.sysv_gate.specs.Steps as gate
 use Rattle.sysv_gate.specs.Steps.{parted, named, merged, Gathers}
 use Rattle.sysv_gate.specs.Orders.{turns_at, AreBelow}
-use Rattle.sysv_gate.specs.Halls.{block, view_at, state_at, IsFull, AreTheWhole, Kept, InOrder, Passing, me_at}
+use Rattle.sysv_gate.specs.Tables.{block, view_at, state_at, IsFull, AreTheWhole, Kept, InOrder, Passing, me_at}
 use Rattle.sysv_gate.specs.Plays.{at_each, halved, newcomer, both_views, both_of, spent, merged_from, Names, Merges}
-use Rattle.sysv_gate.specs.Doors.{IsNewcomer}
+use Rattle.sysv_gate.specs.Locks.{IsNewcomer}
 use Rattle.sysv_gate.proofs.Histories.{made_at-front}
 use Rattle.sysv_gate.proofs.OrderByPlace.{turns_longer}
 use Rattle.sysv_gate.proofs.TableShares.{half_none, front_none, still_whole, split_whole, joined_whole}

@@ -2,20 +2,20 @@
 use Rattle.std.proofs.Common.{◌≡◌, ◌≢◌, ℕ, zero, suc, List, [], ◌∷◌, length, set, sym, ap, ◌∙◌, subst, refl, arith}
 use Rattle.std.proofs.Common.{length-set}
 use Rattle.std.proofs.lemmas.List.{set-get_or}
-use Rattle.sysv_gate.specs.declared.view.Turn.{Turn}
+use Rattle.sysv_gate.specs.declared.table.view.Turn.{Turn}
 use Rattle.sysv_lists.specs.Prefix.{IsPrefixOf}
 use Rattle.sysv_lists.proofs.Prefixes.{prefix_self, prefix_longer, prefix_trans}
 use Rattle.sysv_gate.specs.Orders.{turns_at, placed}
 use Rattle.sysv_gate.specs.Steps.{Mine, spent}
-use Rattle.sysv_gate.specs.Halls.{view_at, Passing, Carries}
+use Rattle.sysv_gate.specs.Tables.{view_at, Passing, Carries}
 use Rattle.sysv_gate.specs.Plays.{StepsAt}
-use Rattle.sysv_gate.specs.Doors.{Doorway, IsAt, Only, IsSame}
+use Rattle.sysv_gate.specs.Locks.{LockView, IsAt, Only, IsSame}
 use Rattle.atomic_table.specs.Seated.{TableId}
 use Rattle.sysv_gate.specs.Turns.{Looked, TurnCame, SawMore}
 use Rattle.sysv_gate.proofs.LearnedInCall.{not_held, turn_later, saw_later}
 use Rattle.sysv_gate.specs.Rule.{Spot}
-use Rattle.sysv_gate.specs.declared.view.Sight.{Sight}
-use Rattle.sysv_gate.specs.declared.view.View.{View}
+use Rattle.sysv_gate.specs.declared.table.view.Sight.{Sight}
+use Rattle.sysv_gate.specs.declared.table.view.View.{View}
 use Rattle.atomic_table.specs.declared.shared.Seat.{Seat}
 
 set_twice : {A : Type 0} (xs : List A) (i : ℕ) (a b : A) → set (set xs i a) i b ≡ set xs i b
@@ -72,10 +72,10 @@ module _ {O C R : Type 0} (place : ℕ) where
   same_trans before mid after one two = (two.0 ∙ one.0, two.1 ∙ one.1, only_trans before.me mid.me after.me one.2 two.2)
 
 -- The pass is still one of the table, and knows the object that was first at the place.
-pub at_after : {O C R : Type 0} (table : TableId) (door : Doorway O) (before after : Seat (Spot O C R) (Sight O C R))
-    → IsAt table door before → IsSame door.place before after
-    → (view_at door.place after.me.0).opening ≡ (view_at door.place before.me.0).opening → IsAt table door after
-at_after table door before after at same opening =
+pub at_after : {O C R : Type 0} (table : TableId) (lock : LockView O) (before after : Seat (Spot O C R) (Sight O C R))
+    → IsAt table lock before → IsSame lock.place before after
+    → (view_at lock.place after.me.0).opening ≡ (view_at lock.place before.me.0).opening → IsAt table lock after
+at_after table lock before after at same opening =
     let less = at.1 in
     let many = same.2.many in
     (same.0 ∙ at.0, omega arith, opening ∙ at.2, same.2.carries, same.2.within)

@@ -6,17 +6,17 @@ use Rattle.atomic_table.specs.Seated.{TableId}
 use Rattle.sysv_lists.specs.Prefix.{IsPrefixOf}
 use Rattle.sysv_lists.proofs.Counting.{times-same}
 use Rattle.sysv_lists.proofs.Prefixes.{prefix_self}
-use Rattle.sysv_gate.specs.declared.view.View.{View}
-use Rattle.sysv_gate.specs.declared.view.Turn.{Turn}
-use Rattle.sysv_gate.specs.declared.view.Sight.{Sight}
-use Rattle.sysv_gate.specs.declared.view.Placed.{Placed}
+use Rattle.sysv_gate.specs.declared.table.view.View.{View}
+use Rattle.sysv_gate.specs.declared.table.view.Turn.{Turn}
+use Rattle.sysv_gate.specs.declared.table.view.Sight.{Sight}
+use Rattle.sysv_gate.specs.declared.table.view.Placed.{Placed}
 use Rattle.sysv_gate.specs.History.{IsLegal, HasItsOwn, made_at}
 use Rattle.sysv_gate.specs.Rule.{Spot}
 use Rattle.sysv_gate.specs.Steps as step
 use Rattle.sysv_gate.specs.Steps.{spent, named, merged, Gathers}
 use Rattle.sysv_gate.specs.Gates.{Joins}
 use Rattle.sysv_gate.specs.Orders.{turns_at}
-use Rattle.sysv_gate.specs.Halls.{view_at, Passing, me_at}
+use Rattle.sysv_gate.specs.Tables.{view_at, Passing, me_at}
 use Rattle.sysv_gate.specs.Plays.{at_each, halved, newcomer, both_views, both_of, Merges}
 use Rattle.sysv_gate.specs.Held.{holding, RestsAt, RestsThere}
 use Rattle.sysv_gate.proofs.PassSplitKeepsRule.{both_there, both_length, merged_there}

@@ -9,8 +9,8 @@ use lib.ListN.{get_elem?}
 use Rattle.std.proofs.lemmas.List.Sums.{sum_by_push}
 use Rattle.atomic_table.specs.Table.{State, Splits, Joins}
 use Rattle.atomic_table.proofs.Lists.{at_set, at_longer, at_snoc, set_else}
-use Rattle.sysv_gate.specs.declared.view.View.{View}
-use Rattle.sysv_gate.specs.declared.view.Turn.{Turn}
+use Rattle.sysv_gate.specs.declared.table.view.View.{View}
+use Rattle.sysv_gate.specs.declared.table.view.Turn.{Turn}
 use Rattle.sysv_lists.specs.Numbers.{times}
 use Rattle.sysv_gate.specs.History.{IsLegal, after_all, made_at}
 use Rattle.sysv_gate.specs.Counts.{word_of, of_count}
@@ -127,11 +127,11 @@ module _ {O C R : Type 0} (moves : O → C → R → O → Type 0) (counted : O 
       )
 
   -- A new seat is added that has seen what another seat has.
-  coming_keeps : (log : Log) (drawn id : ℕ) (homes : Homes O C R) (views : List V) (v : V)
+  acquire_keeps : (log : Log) (drawn id : ℕ) (homes : Homes O C R) (views : List V) (v : V)
       → IsKept moves opening first log drawn homes views → get_elem? views id ≡ some v
       → ((k : ℕ) (u : V) → get_elem? views k ≡ some u → u.alone ≡ false)
       → IsKept moves opening first log drawn homes (views ++ newcomer v ∷ [])
-  coming_keeps log drawn id homes views v kept at beside =
+  acquire_keeps log drawn id homes views v kept at beside =
       let w : V = newcomer v in
       let fits = kept.each id v at in
       let same : (x : ℕ) → bearers x (views ++ w ∷ []) ≡ bearers x views = λ x.
@@ -204,7 +204,7 @@ module _ {O C R : Type 0} (moves : O → C → R → O → Type 0) (counted : O 
         held.0,
         held.1,
         held.2,
-        coming_keeps log drawn id s.homes (set s.views id p) p kept here (none_alone log s.views id v held.3.alone at),
+        acquire_keeps log drawn id s.homes (set s.views id p) p kept here (none_alone log s.views id v held.3.alone at),
         counts_more counted (after_all opening log) s.words id (set s.views id p) p (newcomer v) told here none_yet
             refl,
       )

@@ -3,8 +3,8 @@ use Rattle.std.proofs.Common.{◌≡◌, ℕ, ◌≤◌, false, List, [], ◌∷
 use Rattle.std.specs.Prelude.{Result, Ok, Err, IfOk, IfErr}
 use Rattle.atomic_table.specs.Seated.{TableId}
 use Rattle.sysv_lists.specs.Numbers.{times}
-use Rattle.sysv_gate.specs.declared.view.View.{View}
-use Rattle.sysv_gate.specs.declared.view.Turn.{Turn}
+use Rattle.sysv_gate.specs.declared.table.view.View.{View}
+use Rattle.sysv_gate.specs.declared.table.view.Turn.{Turn}
 use Rattle.sysv_gate.specs.declared.count.Count.{Count}
 use Rattle.sysv_gate.specs.declared.awaited.Awaited.{Awaited}
 use Rattle.sysv_gate.specs.declared.awaited.Awaited.TheVariants.{Reached}
@@ -13,7 +13,7 @@ use Rattle.sysv_gate.specs.declared.refusals.TryRefused.{TryRefused}
 use Rattle.sysv_gate.specs.declared.refusals.TryRefused.TheVariants.{Busy, Worn}
 use Rattle.sysv_gate.specs.declared.refusals.Worn.{Worn as WornCall}
 use Rattle.sysv_gate.specs.Rule.{Spot}
-use Rattle.sysv_gate.specs.Halls.{Passing, me_at}
+use Rattle.sysv_gate.specs.Tables.{Passing, me_at}
 use Rattle.sysv_gate.specs.Steps.{Mine}
 use Rattle.sysv_gate.specs.Gates as gate
 use Rattle.sysv_gate.specs.Gates.{Holding, Answers, Learns, marked}
@@ -21,7 +21,7 @@ use Rattle.sysv_gate.specs.Held.{holding, RestsAt}
 use Rattle.sysv_gate.specs.Refusals.{Refuses}
 use Rattle.sysv_gate.specs.Waits.{Waited}
 use Rattle.sysv_gate.specs.Turns.{HasWorn, HasRead, HasWaited}
-use Rattle.sysv_gate.specs.Doors.{HasCalled, HasTried}
+use Rattle.sysv_gate.specs.Locks.{HasCalled, HasTried}
 
 module _ {O C R : Type 0} (moves : O → C → R → O → Type 0) (counted : O → ℕ × ℕ) (o : O) (first : ℕ)
     (table table' : TableId) (same : table' ≡ table) (m m' : Mine O C R) (rest : RestsAt moves o first m.0) where

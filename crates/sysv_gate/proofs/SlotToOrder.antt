@@ -3,9 +3,9 @@ use Rattle.std.proofs.Common.{◌≡◌, ℕ, ◌+◌, ◌%◌, ◌^◌, ◌≤�
 use Rattle.std.specs.Prelude.{Some}
 use mathlib.Core.Option.{none}
 use Rattle.atomic_table.specs.Table.{step, rest}
-use Rattle.sysv_gate.specs.declared.view.View.{View}
-use Rattle.sysv_gate.specs.declared.view.Turn.{Turn}
-use Rattle.sysv_gate.specs.declared.place.Done.{Done}
+use Rattle.sysv_gate.specs.declared.table.view.View.{View}
+use Rattle.sysv_gate.specs.declared.table.view.Turn.{Turn}
+use Rattle.sysv_gate.specs.declared.table.place.Done.{Done}
 use Rattle.sysv_lists.specs.Numbers.{times}
 use Rattle.sysv_lists.specs.Prefix.{IsPrefixOf}
 use Rattle.sysv_lists.proofs.Prefixes.{prefix_self, prefix_trans}
@@ -16,9 +16,9 @@ use Rattle.sysv_gate.specs.Counts.{of_count}
 use Rattle.sysv_gate.specs.declared.count.Count.{Count}
 use Rattle.sysv_gate.specs.Steps.{Mine, turn_of, ended, spent, Ends}
 use Rattle.sysv_gate.specs.Orders.{turns_at, placed}
-use Rattle.sysv_gate.specs.Halls.{view_at, Passing, me_at, Carries}
+use Rattle.sysv_gate.specs.Tables.{view_at, Passing, me_at, Carries}
 use Rattle.sysv_gate.specs.Plays.{StepsAt, turns_told}
-use Rattle.sysv_gate.specs.Doors.{Only, EndsOrder}
+use Rattle.sysv_gate.specs.Locks.{Only, EndsOrder}
 use Rattle.sysv_gate.proofs.OrderByPlace.{turns_append, turns_here}
 use Rattle.sysv_gate.proofs.OneSlotStep.{AllowsTo}
 use Rattle.sysv_gate.proofs.StepKeepsRule.{ends}

@@ -10,10 +10,10 @@ use lib.ListN.{get_elem?}
 use Rattle.std.proofs.lemmas.List.{append-nil, map-set}
 use Rattle.atomic_table.specs.Table.{State, step, Valid, stepped, homes_after, carried_after, Allows}
 use Rattle.atomic_table.proofs.Lists.{at_map, at_set, set_again}
-use Rattle.sysv_gate.specs.declared.view.View.{View}
-use Rattle.sysv_gate.specs.declared.view.Turn.{Turn}
-use Rattle.sysv_gate.specs.declared.view.Placed.{Placed}
-use Rattle.sysv_gate.specs.declared.view.Sight.{Sight}
+use Rattle.sysv_gate.specs.declared.table.view.View.{View}
+use Rattle.sysv_gate.specs.declared.table.view.Turn.{Turn}
+use Rattle.sysv_gate.specs.declared.table.view.Placed.{Placed}
+use Rattle.sysv_gate.specs.declared.table.view.Sight.{Sight}
 use Rattle.sysv_lists.specs.Prefix.{IsPrefixOf}
 use Rattle.sysv_lists.proofs.Prefixes.{prefix_longer}
 use Rattle.sysv_lists.proofs.Places.{at_below, set_at, there}
@@ -22,7 +22,7 @@ use Rattle.sysv_gate.specs.Counts.{of_count}
 use Rattle.sysv_gate.specs.Rule.{Spot, GatedBy}
 use Rattle.sysv_gate.specs.Steps.{Mine, At, spent}
 use Rattle.sysv_gate.specs.Orders.{turns_at, placed, AreBelow}
-use Rattle.sysv_gate.specs.Halls.{block, view_at, state_at, ReadsInOrder, IsFull, InOrder, Passing, me_at, Carries}
+use Rattle.sysv_gate.specs.Tables.{block, view_at, state_at, ReadsInOrder, IsFull, InOrder, Passing, me_at, Carries}
 use Rattle.sysv_gate.specs.Plays.{StepsAt, AtAPlace}
 use Rattle.sysv_gate.proofs.Blocks.{block_read, block_set, block_else}
 use Rattle.sysv_gate.proofs.OrderByPlace.{turns_append, turns_here, turns_else, below_more, below_placed}

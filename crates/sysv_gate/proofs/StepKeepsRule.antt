@@ -12,9 +12,9 @@ use lib.ListN.{get_elem?}
 use prog.Atomic.{either}
 use Rattle.atomic_table.specs.Table.{State, step, Valid, stepped, carried_after}
 use Rattle.atomic_table.proofs.Lists.{set_here, exchanged}
-use Rattle.sysv_gate.specs.declared.view.View.{View}
-use Rattle.sysv_gate.specs.declared.view.Turn.{Turn}
-use Rattle.sysv_gate.specs.declared.place.Done.{Done}
+use Rattle.sysv_gate.specs.declared.table.view.View.{View}
+use Rattle.sysv_gate.specs.declared.table.view.Turn.{Turn}
+use Rattle.sysv_gate.specs.declared.table.place.Done.{Done}
 use Rattle.sysv_gate.specs.declared.count.Count.{Count}
 use Rattle.sysv_lists.specs.Numbers.{times, once_between}
 use Rattle.sysv_lists.specs.Prefix.{IsPrefixOf}

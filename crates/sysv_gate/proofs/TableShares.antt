@@ -14,16 +14,16 @@ use Rattle.sysv_lists.specs.Numbers.{times}
 use Rattle.sysv_lists.proofs.Counting.{times-same}
 use Rattle.sysv_lists.proofs.Places.{set_at, set_else, one_there, each_before}
 use Rattle.sysv_lists.proofs.Sums.{sum_by-set_at, two-le-sum_by, some_part}
-use Rattle.sysv_gate.specs.declared.view.View.{View}
-use Rattle.sysv_gate.specs.declared.view.Turn.{Turn}
-use Rattle.sysv_gate.specs.declared.view.Placed.{Placed}
-use Rattle.sysv_gate.specs.declared.view.Sight.{Sight}
+use Rattle.sysv_gate.specs.declared.table.view.View.{View}
+use Rattle.sysv_gate.specs.declared.table.view.Turn.{Turn}
+use Rattle.sysv_gate.specs.declared.table.view.Placed.{Placed}
+use Rattle.sysv_gate.specs.declared.table.view.Sight.{Sight}
 use Rattle.sysv_gate.specs.History.{made_at}
 use Rattle.sysv_gate.specs.Orders.{turns_at}
 use Rattle.sysv_gate.specs.Shares.{AreWithin, parts, IsWhole, half}
 use Rattle.sysv_gate.specs.Rule.{Spot, bearers}
 use Rattle.sysv_gate.specs.Steps as gate
-use Rattle.sysv_gate.specs.Halls.{view_at, state_at, AreTheWhole, Kept}
+use Rattle.sysv_gate.specs.Tables.{view_at, state_at, AreTheWhole, Kept}
 
 -- An element of a mapped list.
 map_at : {A B : Type 0} (f : A → B) (xs : List A) (i : ℕ) (b : B) → get_elem? (map f xs) i ≡ some b →

@@ -2,7 +2,7 @@
 -- project's profile, and no part of POSIX.1-2017.
 use Rattle.std.specs.Prelude.{◌≡◌, ℕ, ◌≤◌, ◌||◌, Bool, true, false, List, [], ◌∷◌, ◌++◌, length}
 use Rattle.atomic_table.specs.Seated.{TableId}
-use Rattle.sysv_gate.specs.declared.view.Turn.{Turn}
+use Rattle.sysv_gate.specs.declared.table.view.Turn.{Turn}
 use Rattle.sysv_gate.specs.declared.count.Count.{Count}
 use Rattle.sysv_lists.specs.Prefix.{IsPrefixOf}
 use Rattle.sysv_gate.specs.History.{IsLegal, after_all, HasItsOwn}

@@ -2,14 +2,14 @@
 use Rattle.std.specs.Prelude.{◌≡◌, ℕ, ◌≤◌, false, [], length, Some}
 use Rattle.atomic_table.specs.Seated.{TableId}
 use Rattle.atomic_table.specs.declared.shared.Seat.{Seat}
-use Rattle.sysv_gate.specs.declared.seat.Seat.TheInside.{Inside}
-use Rattle.sysv_gate.specs.declared.view.View.{View}
-use Rattle.sysv_gate.specs.declared.view.Sight.{Sight}
+use Rattle.sysv_gate.specs.declared.gate.seat.Seat.TheInside.{Inside}
+use Rattle.sysv_gate.specs.declared.table.view.View.{View}
+use Rattle.sysv_gate.specs.declared.table.view.Sight.{Sight}
 use Rattle.sysv_gate.specs.Rule.{Spot}
 use Rattle.sysv_gate.specs.History.{IsLegal, HasItsOwn}
 use Rattle.sysv_gate.specs.Gates.{Holding}
 use Rattle.sysv_gate.specs.Orders.{turns_at}
-use Rattle.sysv_gate.specs.Halls.{view_at}
+use Rattle.sysv_gate.specs.Tables.{view_at}
 use Rattle.sysv_lists.specs.Numbers.{times}
 use Rattle.sysv_lists.specs.Prefix.{IsPrefixOf}
 

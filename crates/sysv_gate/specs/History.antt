@@ -2,7 +2,7 @@
 -- of the seat that made it, the call, the reply, and the object after it. Reed and Kanodia's mutual
 -- exclusion by a sequencer and an eventcount determines the order.
 use Rattle.std.specs.Prelude.{◌≡◌, ℕ, zero, suc, ◌+◌, ◌<◌, ◌≤◌, List, [], ◌∷◌}
-use Rattle.sysv_gate.specs.declared.view.Turn.{Turn}
+use Rattle.sysv_gate.specs.declared.table.view.Turn.{Turn}
 use Rattle.sysv_lists.specs.Numbers.{times, NoneTwice}
 
 -- Each of the two counts stays or rises by one.

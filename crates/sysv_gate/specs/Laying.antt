@@ -5,10 +5,10 @@ use lib.ListN.{get_elem?}
 use Rattle.sysv_gate.specs.Rule.{Spot, put}
 use Rattle.atomic_table.specs.Seated.{TableId}
 use Rattle.atomic_table.specs.declared.shared.Seat.{Seat}
-use Rattle.sysv_gate.specs.declared.hall.HallKey.{HallKey}
-use Rattle.sysv_gate.specs.declared.view.Sight.{Sight}
-use Rattle.sysv_gate.specs.Halls.{block, outset}
-use Rattle.sysv_gate.specs.Doors.{Doorway}
+use Rattle.sysv_gate.specs.declared.table.TableKey.{TableKey}
+use Rattle.sysv_gate.specs.declared.table.view.Sight.{Sight}
+use Rattle.sysv_gate.specs.Tables.{block, outset}
+use Rattle.sysv_gate.specs.Locks.{LockView}
 
 -- The words of a new place: its tickets begin at `first`, and the counts are those of the object.
 abbrev pub IsLaid : {O : Type 0} → (O → ℕ × ℕ) → ℕ → O → List ℕ → Type 0
@@ -23,28 +23,29 @@ AreLaidUpTo {O} counted first objects count words =
     × ((place : ℕ) (o : O) → place < count → get_elem? objects place ≡ some o →
     IsLaid counted first o (block place words))
 
--- The doors of the first `count` places, each with its object.
-abbrev pub AreDoorsUpTo : {O : Type 0} → List O → ℕ → List (Doorway O) → Type 0
-AreDoorsUpTo {O} objects count doors =
-    (length doors ≡ count)
+-- The locks of the first `count` places, each with its object.
+abbrev pub AreLocksUpTo : {O : Type 0} → List O → ℕ → List (LockView O) → Type 0
+AreLocksUpTo {O} objects count locks =
+    (length locks ≡ count)
     × ((place : ℕ) (o : O) → place < count → get_elem? objects place ≡ some o →
-    get_elem? doors place ≡ some (record { place = place; opening = o }))
+    get_elem? locks place ≡ some (record { place = place; opening = o }))
 
 -- Each object is in its slot.
 abbrev pub all_put : {O C R : Type 0} → List O → List (Spot O C R)
 all_put objects = map (λ o. put o None) objects
 
--- The table has one place, where this object was first, and the door is that of the place.
-pub record IsOneDoor {O : Type 0} (o : O) (start : ℕ) (id : TableId) (key : HallKey O) (door : Doorway O) : Type 0 where
+-- The table has one place, where this object was first, and the lock is that of the place.
+pub record IsOneLock {O : Type 0} (o : O) (start : ℕ) (id : TableId) (key : TableKey O)
+    (lock : LockView O) : Type 0 where
   pub openings : key.openings.value.items ≡ o ∷ []
   pub first : key.first ≡ start
   pub words : id.words ≡ 80
   pub slots : id.slots ≡ 1
-  pub is : door ≡ record { place = 0; opening = o }
+  pub is : lock ≡ record { place = 0; opening = o }
 
 module _ {O C R : Type 0} where
   -- The table and its first pass are new.
-  pub record IsNew (id : TableId) (known about : HallKey O) (token : Seat (Spot O C R) (Sight O C R)) : Type 0 where
+  pub record IsNew (id : TableId) (known about : TableKey O) (token : Seat (Spot O C R) (Sight O C R)) : Type 0 where
     pub key : known ≡ about
     pub words : id.words ≡ 80 * length about.openings.value.items
     pub slots : id.slots ≡ length about.openings.value.items
@@ -52,6 +53,6 @@ module _ {O C R : Type 0} where
     pub me : token.me ≡ (outset about.openings.value.items about.first, [])
 
   -- The table has one place, and the table and its first pass are new.
-  abbrev pub IsLaidOut : O → ℕ → TableId → HallKey O → Doorway O → Seat (Spot O C R) (Sight O C R) → Type 0
-  IsLaidOut o first id key door token =
-      IsOneDoor o first id key door × (token.table_id ≡ id) × (token.me ≡ (outset (o ∷ []) first, []))
+  abbrev pub IsLaidOut : O → ℕ → TableId → TableKey O → LockView O → Seat (Spot O C R) (Sight O C R) → Type 0
+  IsLaidOut o first id key lock token =
+      IsOneLock o first id key lock × (token.table_id ≡ id) × (token.me ≡ (outset (o ∷ []) first, []))

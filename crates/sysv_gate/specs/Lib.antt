@@ -6,9 +6,9 @@ pub mod Rule
 pub mod Steps
 pub mod Orders
 pub mod Shares
-pub mod Halls
+pub mod Tables
 pub mod Plays
-pub mod Doors
+pub mod Locks
 pub mod Laying
 pub mod Gates
 pub mod Held

@@ -9,10 +9,10 @@ use mathlib.Core.Option.{some}
 use mathlib.Core.Option as maybe
 use lib.ListN.{get_elem?}
 use Rattle.atomic_table.specs.Table.{State}
-use Rattle.sysv_gate.specs.declared.view.View.{View}
-use Rattle.sysv_gate.specs.declared.view.Turn.{Turn}
-use Rattle.sysv_gate.specs.declared.place.Place.{Place}
-use Rattle.sysv_gate.specs.declared.place.Done.{Done}
+use Rattle.sysv_gate.specs.declared.table.view.View.{View}
+use Rattle.sysv_gate.specs.declared.table.view.Turn.{Turn}
+use Rattle.sysv_gate.specs.declared.table.place.Place.{Place}
+use Rattle.sysv_gate.specs.declared.table.place.Done.{Done}
 use Rattle.sysv_gate.specs.declared.count.Count.{Count}
 use Rattle.sysv_lists.specs.Numbers.{times, once_between}
 use Rattle.sysv_gate.specs.Counts.{word_of, of_count}

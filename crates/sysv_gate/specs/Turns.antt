@@ -1,17 +1,17 @@
 -- What the parts of a call require of a seat, and what they leave. This project's profile.
 use Rattle.std.specs.Prelude.{◌≡◌, ℕ, ◌+◌, ◌<◌, ◌≤◌, ◌^◌, cond, true, false, List, [], ◌∷◌, length, Some}
-use Rattle.sysv_gate.specs.declared.view.View.{View}
-use Rattle.sysv_gate.specs.declared.view.Turn as view
-use Rattle.sysv_gate.specs.declared.turns.Entry.{Entry}
-use Rattle.sysv_gate.specs.declared.turns.Rose.{Rose}
+use Rattle.sysv_gate.specs.declared.table.view.View.{View}
+use Rattle.sysv_gate.specs.declared.table.view.Turn as view
+use Rattle.sysv_gate.specs.declared.lock.turns.Entry.{Entry}
+use Rattle.sysv_gate.specs.declared.lock.turns.Rose.{Rose}
 use Rattle.sysv_gate.specs.declared.awaited.Awaited.{Awaited}
 use Rattle.sysv_gate.specs.declared.awaited.Awaited.TheVariants.{Reached}
 use Rattle.sysv_gate.specs.declared.awaited.Awaited.TheVariants as awaited
-use Rattle.sysv_gate.specs.declared.place.Place.{Place}
-use Rattle.sysv_gate.specs.declared.place.Done.{Done}
+use Rattle.sysv_gate.specs.declared.table.place.Place.{Place}
+use Rattle.sysv_gate.specs.declared.table.place.Done.{Done}
 use Rattle.sysv_gate.specs.declared.count.Count.{Count}
 use Rattle.sysv_gate.specs.declared.count.Count.TheVariants.{Arrived, Freed}
-use Rattle.sysv_gate.specs.declared.turns.Entry.TheVariants.{Turn, Busy, Worn}
+use Rattle.sysv_gate.specs.declared.lock.turns.Entry.TheVariants.{Turn, Busy, Worn}
 use Rattle.sysv_lists.specs.Numbers.{times}
 use Rattle.sysv_lists.specs.Prefix.{IsPrefixOf}
 use Rattle.sysv_gate.specs.History.{IsLegal, after_all, HasItsOwn}

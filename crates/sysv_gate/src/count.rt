@@ -2,7 +2,7 @@
 ghost use Rattle.std.specs.Prelude.{◌≡◌};
 ghost use Rattle.sysv_gate.specs.Counts.{word_of};
 
-use crate::words::{ARRIVED, FREED};
+use crate::table::words::{ARRIVED, FREED};
 
 /// One of the two counts of an object.
 #[derive(Clone, Copy)]

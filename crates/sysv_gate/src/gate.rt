@@ -6,16 +6,20 @@ ghost use Rattle.sysv_gate.specs.Refusals.{HandsBack, Refuses};
 ghost use Rattle.sysv_gate.specs.Closings.{Closes};
 ghost use Rattle.sysv_gate.specs.declared.refusals.OpenRefused.TheVariants.{NoMemory};
 
-use crate::closing::Closing;
-use crate::door::Door;
-use crate::ending::close_place;
-use crate::hall::Hall;
-use crate::laying::lay_one;
+pub(crate) mod closing;
+pub(crate) mod counts;
+pub(crate) mod seat;
+
+use crate::gate::closing::Closing;
+use crate::gate::seat::{Key, Seat};
+use crate::lock::PlaceLock;
 use crate::object::Object;
-use crate::passes::{join_pass, split_pass};
 use crate::refusals::{OpenRefused, TryRefused, Worn};
-use crate::seat::{Key, Seat};
-use crate::words::LIMIT;
+use crate::table::PlaceTable;
+use crate::table::close::close_place;
+use crate::table::laying::lay_one;
+use crate::table::passes::{join_pass, split_pass};
+use crate::table::words::LIMIT;
 use std::alloc::Global;
 use std::marker::Model;
 use std::snapshot::Snapshot;
@@ -25,9 +29,9 @@ use std::sync::Wait;
 /// thread takes turns with a seat of its own.
 pub struct Gate<O: Object> {
     /// The table, which has one place.
-    pub(crate) hall: Hall<O>,
+    pub(crate) table: PlaceTable<O>,
     key: Key<O>,
-    pub(crate) door: Door<O>,
+    pub(crate) lock: PlaceLock<O>,
 }
 
 impl<O: Object> Model for Gate<O> {
@@ -90,12 +94,12 @@ impl<O: Object> Gate<O> {
             first,
         };
         match lay_one(alloc, object, first) {
-            Ok((hall, token, door)) => {
+            Ok((table, token, lock)) => {
                 let seat = Seat {
                     token,
                     key: Snapshot::of(&key),
                 };
-                Ok((Gate { hall, key, door }, seat))
+                Ok((Gate { table, key, lock }, seat))
             }
             Err(object) => Err(OpenRefused::NoMemory(object)),
         }
@@ -129,7 +133,7 @@ impl<O: Object> Gate<O> {
         ensures not_worn { OnOk result (seat.old.worn ≡ false) }
         ensures worn { IfErr result (λ w. (w.call ≡ call) × (seat.new ≡ marked seat.old)) }
     {
-        self.door.call(rt, &self.hall, &mut seat.token, call)
+        self.lock.call(rt, &self.table, &mut seat.token, call)
     }
 
     /// Makes the call if no other seat holds a ticket, and returns the object's reply. It never
@@ -162,13 +166,13 @@ impl<O: Object> Gate<O> {
         ensures err { IfErr result (λ e. Refuses (Moves O.meaning O.counted) seat.old call e
             seat.new) }
     {
-        self.door.try_call(&self.hall, &mut seat.token, call)
+        self.lock.try_call(&self.table, &mut seat.token, call)
     }
 
     /// Wakes every thread that waits for its turn or for a count. A thread whose ticket is not
     /// served, or whose goal is not reached, sleeps again.
     pub fn wake(&self, rt: &impl Wait) {
-        self.door.wake(rt);
+        self.lock.wake(rt);
     }
 
     /// Returns a new seat, which may move to another thread. It has a number of its own, has seen
@@ -184,7 +188,7 @@ impl<O: Object> Gate<O> {
         ensures same { seat.new ≡ parted seat.old }
         ensures new { IsSplit seat.old result }
     {
-        let token = split_pass(&self.hall, &mut seat.token);
+        let token = split_pass(&self.table, &mut seat.token);
         Seat {
             token,
             key: Snapshot::of(&self.key),
@@ -203,7 +207,7 @@ impl<O: Object> Gate<O> {
         ensures gate { seat.new.gate ≡ self.now }
         ensures joined { Joins (Moves O.meaning O.counted) seat.old other seat.new }
     {
-        join_pass(&self.hall, &mut seat.token, other.into_token());
+        join_pass(&self.table, &mut seat.token, other.into_token());
     }
 
     /// Closes the gate. Returns the object and the number of all turns.
@@ -218,8 +222,12 @@ impl<O: Object> Gate<O> {
         requires { seat.gate ≡ self }
         ensures { Closes (Moves O.meaning O.counted) seat result }
     {
-        let Gate { hall, key, door: _ } = self;
-        let mut closed = hall.close_with(seat.into_token());
+        let Gate {
+            table,
+            key,
+            lock: _,
+        } = self;
+        let mut closed = table.close_with(seat.into_token());
         let closing = close_place(&mut closed, 0, key.first);
         closed.free();
         closing

@@ -3,8 +3,8 @@ ghost use Rattle.sysv_gate.specs.History.{Moves};
 ghost use Rattle.sysv_gate.specs.Gates.{KnowsItsOwn};
 ghost use Rattle.sysv_gate.specs.Laws.{OneTurnAtATime, NoTurnOfTwoSeats, OneHistory, MarkedOnlyWhenWorn, CountsOutsideATurn};
 
+use crate::gate::seat::Seat;
 use crate::object::Object;
-use crate::seat::Seat;
 
 /// States that at most one seat is in its turn at once.
 pub fn one_turn_at_a_time<O: Object>()

@@ -14,43 +14,29 @@
 #![tactic(auto)]
 
 mod awaited;
-mod bell;
-mod calls;
-mod closing;
-mod coming;
 mod count;
-mod door;
-mod ending;
 mod gate;
-mod gate_waits;
-mod hall;
 mod laws;
-mod laying;
+mod lock;
 mod object;
-mod passes;
-mod place;
 mod refusals;
-mod seat;
-mod turns;
-mod view;
-mod waits;
-mod words;
+mod table;
 
 pub use awaited::Awaited;
-pub use closing::Closing;
 pub use count::Count;
-pub use door::Door;
-pub use ending::close_place;
 pub use gate::Gate;
-pub use hall::{Hall, HallKey, HallRule, HallToken};
+pub use gate::closing::Closing;
+pub use gate::seat::Seat;
 pub use laws::{
     counts_outside_a_turn, each_seat_knows_its_own, marked_only_when_worn, no_turn_of_two_seats,
     one_history, one_turn_at_a_time,
 };
-pub use laying::lay_hall;
+pub use lock::PlaceLock;
 pub use object::Object;
-pub use passes::{join_pass, split_pass};
-pub use place::{Done, Place};
 pub use refusals::{OpenRefused, TryRefused, Worn};
-pub use seat::Seat;
-pub use view::{Placed, Sight, Turn, View};
+pub use table::close::close_place;
+pub use table::laying::lay_table;
+pub use table::passes::{join_pass, split_pass};
+pub use table::place::{Done, Place};
+pub use table::view::{Placed, Sight, Turn, View};
+pub use table::{PlaceTable, PlaceTableRule, TableKey, TableToken};

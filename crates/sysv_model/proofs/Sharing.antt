@@ -6,7 +6,7 @@ use Rattle.std.specs.List.{All}
 use Rattle.std.proofs.Math.Nat.{pow-suc}
 use Rattle.std.proofs.lemmas.List.Elements.{All-cons, All-nil, All-head, All-tail, All-append, All-map, All-weaker}
 use Rattle.std.proofs.lemmas.List.Sums.{sum_by-cons, sum_by-append}
-use Rattle.sysv_model.specs.Turn.{Deed}
+use Rattle.sysv_model.specs.Turn.{Op}
 use Rattle.sysv_model.specs.Members.{Member, parts, AreWhole, Does, starts, sees, makes}
 
 -- ---- lists
@@ -143,7 +143,7 @@ turned_whole before one rest w =
 
 -- ---- the passes
 
-pub does_shares : {before after : Member} {deeds : List Deed} → Does before deeds after → after.shares ≡ before.shares
+pub does_shares : {before after : Member} {ops : List Op} → Does before ops after → after.shares ≡ before.shares
 does_shares starts = refl
 does_shares (sees after done s) = ap (λ (p : Member). p.shares) s.goes_on ∙ does_shares done
-does_shares (makes deed after done m) = ap (λ (p : Member). p.shares) m.goes_on ∙ does_shares done
+does_shares (makes op after done m) = ap (λ (p : Member). p.shares) m.goes_on ∙ does_shares done

@@ -5,7 +5,7 @@ use Rattle.std.specs.Prelude.{◌≡◌, ℕ, suc, ◌-◌, ◌^◌, ◌≤◌, 
 use Rattle.std.specs.List.{sum_by}
 use Rattle.sysv_lists.specs.Numbers.{times, NoneTwice}
 use Rattle.sysv_lists.specs.Prefix.{IsPrefixOf}
-use Rattle.sysv_model.specs.Turn.{Deed}
+use Rattle.sysv_model.specs.Turn.{Op}
 use Rattle.sysv_model.specs.Turns.{Numbered}
 
 -- ---- a pass
@@ -53,20 +53,20 @@ pub record SeesMore (before after : Member) : Type 0 where
 
 -- The pass has seen turns of others, if any, and has then made a turn. Its own turn is the last
 -- that it has seen.
-pub record MakesTurn (before : Member) (deed : Deed) (after : Member) : Type 0 where
+pub record MakesTurn (before : Member) (op : Op) (after : Member) : Type 0 where
   pub others : List Numbered
   pub apart : AreOfOthers before.numbers others
   pub goes_on : after
-      ≡ record before { order = (before.order ++ others) ++ record { by = before.number; deed = deed } ∷ [] }
+      ≡ record before { order = (before.order ++ others) ++ record { by = before.number; op = op } ∷ [] }
 
--- The pass has made turns with these deeds, in order, and has seen turns of others before, between
--- and after them.
-pub data Does (before : Member) : List Deed → Member → Type 0 where
+-- The pass has made turns with these operations, in order, and has seen turns of others before,
+-- between and after them.
+pub data Does (before : Member) : List Op → Member → Type 0 where
   starts : Does before [] before
-  sees : {deeds : List Deed} {mid : Member} (after : Member) → Does before deeds mid → SeesMore mid after →
-      Does before deeds after
-  makes : {deeds : List Deed} {mid : Member} (deed : Deed) (after : Member) →
-      Does before deeds mid → MakesTurn mid deed after → Does before (deeds ++ deed ∷ []) after
+  sees : {ops : List Op} {mid : Member} (after : Member) → Does before ops mid → SeesMore mid after →
+      Does before ops after
+  makes : {ops : List Op} {mid : Member} (op : Op) (after : Member) →
+      Does before ops mid → MakesTurn mid op after → Does before (ops ++ op ∷ []) after
 
 -- Another pass was split off, which has seen the same turns. The new pass has one number, and none
 -- of these turns was made under it. Each of the two passes has half of each share.

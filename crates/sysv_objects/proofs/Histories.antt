@@ -11,29 +11,29 @@ use Rattle.sysv_model.specs.History.{Reply, Entry, History, announces_arrival, a
 use Rattle.sysv_model.specs.History.{then_turn}
 use Rattle.sysv_model.specs.Registry.{RegistryCall, RegistryReply}
 use Rattle.sysv_model.specs.Pool.{PoolCall, PoolReply}
-use Rattle.sysv_model.specs.Turn.{Deed, AtSlot, AtRegistry, AtPool, Turn, slot_entry, registry_entry, pool_entry}
+use Rattle.sysv_model.specs.Turn.{Op, AtSlot, AtRegistry, AtPool, Turn, slot_entry, registry_entry, pool_entry}
 use Rattle.sysv_model.specs.Turn.{slot_history, registry_history, pool_history}
 
-abbrev pub turn_of : Who → Deed → Turn
-turn_of who deed = record { who = who; deed = deed }
+abbrev pub turn_of : Who → Op → Turn
+turn_of who op = record { who = who; op = op }
 
 pub slot_more : (slot : ℕ) (turns : List Turn) (t : Turn) →
-    slot_history slot (turns ++ t ∷ []) ≡ slot_history slot turns ++ slot_entry slot t.who t.deed
+    slot_history slot (turns ++ t ∷ []) ≡ slot_history slot turns ++ slot_entry slot t.who t.op
 slot_more slot turns t =
-    flat_map-append (λ (x : Turn). slot_entry slot x.who x.deed) turns (t ∷ [])
-    ∙ ap (λ es. slot_history slot turns ++ es) (append-nil (slot_entry slot t.who t.deed))
+    flat_map-append (λ (x : Turn). slot_entry slot x.who x.op) turns (t ∷ [])
+    ∙ ap (λ es. slot_history slot turns ++ es) (append-nil (slot_entry slot t.who t.op))
 
 pub registry_more : (turns : List Turn) (t : Turn) →
-    registry_history (turns ++ t ∷ []) ≡ registry_history turns ++ registry_entry t.who t.deed
+    registry_history (turns ++ t ∷ []) ≡ registry_history turns ++ registry_entry t.who t.op
 registry_more turns t =
-    flat_map-append (λ (x : Turn). registry_entry x.who x.deed) turns (t ∷ [])
-    ∙ ap (λ es. registry_history turns ++ es) (append-nil (registry_entry t.who t.deed))
+    flat_map-append (λ (x : Turn). registry_entry x.who x.op) turns (t ∷ [])
+    ∙ ap (λ es. registry_history turns ++ es) (append-nil (registry_entry t.who t.op))
 
 pub pool_more : (turns : List Turn) (t : Turn) →
-    pool_history (turns ++ t ∷ []) ≡ pool_history turns ++ pool_entry t.who t.deed
+    pool_history (turns ++ t ∷ []) ≡ pool_history turns ++ pool_entry t.who t.op
 pool_more turns t =
-    flat_map-append (λ (x : Turn). pool_entry x.who x.deed) turns (t ∷ [])
-    ∙ ap (λ es. pool_history turns ++ es) (append-nil (pool_entry t.who t.deed))
+    flat_map-append (λ (x : Turn). pool_entry x.who x.op) turns (t ∷ [])
+    ∙ ap (λ es. pool_history turns ++ es) (append-nil (pool_entry t.who t.op))
 
 itself : (n : ℕ) → eqb n n ≡ true
 itself n = grind (arith, nat_tests)

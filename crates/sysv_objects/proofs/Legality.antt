@@ -5,7 +5,7 @@ use Rattle.std.proofs.lemmas.Bool.Decides.{eqb_tells}
 use Rattle.sysv_model.specs.History.{Who, Call, Reply, Entry, History}
 use Rattle.sysv_model.specs.Registry.{RegistryEntry, RegistryHistory}
 use Rattle.sysv_model.specs.Pool.{PoolEntry, PoolHistory}
-use Rattle.sysv_model.specs.Turn.{OfSlot, OfRegistry, OfPool, Deed, AtSlot, AtRegistry, AtPool, Turn, slot_history}
+use Rattle.sysv_model.specs.Turn.{OfSlot, OfRegistry, OfPool, Op, AtSlot, AtRegistry, AtPool, Turn, slot_history}
 use Rattle.sysv_model.specs.Turn.{registry_history, pool_history}
 use Rattle.sysv_queue.specs.LegalReply.{IsLegalReply, IsLegalHistory}
 use Rattle.sysv_queue.specs.OneReply.{SomeReplyIsLegal, NoTwoRepliesAreLegal}
@@ -14,8 +14,8 @@ use Rattle.sysv_keys.specs.OneReply.{SomeReplyIsLegal as SomeRegistryReply}
 use Rattle.sysv_keys.specs.OneReply.{NoTwoRepliesAreLegal as NoTwoRegistryReplies}
 use Rattle.sysv_pool.specs.LegalReply.{IsLegalReply as IsLegalPoolReply, IsLegalHistory as IsLegalPoolHistory}
 use Rattle.sysv_pool.specs.OneReply.{SomeReplyIsLegal as SomePoolReply, NoTwoRepliesAreLegal as NoTwoPoolReplies}
-use Rattle.sysv_objects.specs.LegalDeed.{IsLegalDeed, AreLegal}
-use Rattle.sysv_objects.specs.OneDeed.{SomeDeedIsLegal, NoTwoDeedsAreLegal}
+use Rattle.sysv_objects.specs.LegalOp.{IsLegalOp, AreLegal}
+use Rattle.sysv_objects.specs.OneOp.{SomeOpIsLegal, NoTwoOpsAreLegal}
 use Rattle.sysv_objects.proofs.Histories.{turn_of, at_its_slot, at_another, registry_more, pool_more, not_at_registry}
 use Rattle.sysv_objects.proofs.Histories.{not_at_slot, slot_not_at_pool, registry_not_at_pool, pool_not_at_slot}
 use Rattle.sysv_objects.proofs.Histories.{pool_not_at_registry}
@@ -49,9 +49,9 @@ module _ (l : Laws) where
   at_this turns who slot at call reply (inr other) legal here =
       subst IsLegalHistory (sym (at_another slot at turns who call reply other.1)) legal
 
-  pub more_legal : (generation blocks : ℕ) (turns : List Turn) (who : Who) (deed : Deed) →
-      AreLegal generation blocks turns → IsLegalDeed generation blocks turns deed →
-      AreLegal generation blocks (turns ++ turn_of who deed ∷ [])
+  pub more_legal : (generation blocks : ℕ) (turns : List Turn) (who : Who) (op : Op) →
+      AreLegal generation blocks turns → IsLegalOp generation blocks turns op →
+      AreLegal generation blocks (turns ++ turn_of who op ∷ [])
   more_legal generation blocks turns who (AtSlot at call reply) a here = record {
     slots = λ slot. at_this turns who slot at call reply (eqb_tells at slot) (a.slots slot) here;
     registry = subst (IsLegalRegistryHistory generation) (sym (not_at_registry turns who at call reply)) a.registry;
@@ -72,12 +72,12 @@ module _ (l : Laws) where
         (l.pool_next blocks (pool_history turns) (record { who = who; call = call; reply = reply }) a.pool here);
   }
 
-pub some_deed : SomeReplyIsLegal → SomeRegistryReply → SomePoolReply → SomeDeedIsLegal
-some_deed slots registry pool generation blocks turns (OfSlot slot call) a =
+pub some_op : SomeReplyIsLegal → SomeRegistryReply → SomePoolReply → SomeOpIsLegal
+some_op slots registry pool generation blocks turns (OfSlot slot call) a =
     let r = slots (slot_history slot turns) call in (AtSlot slot call r.0, refl, r.1)
-some_deed slots registry pool generation blocks turns (OfRegistry call) a =
+some_op slots registry pool generation blocks turns (OfRegistry call) a =
     let r = registry generation (registry_history turns) call a.registry in (AtRegistry call r.0, refl, r.1)
-some_deed slots registry pool generation blocks turns (OfPool call) a =
+some_op slots registry pool generation blocks turns (OfPool call) a =
     let r = pool blocks (pool_history turns) call in (AtPool call r.0, refl, r.1)
 
 module _ (slots : NoTwoRepliesAreLegal) (registry : NoTwoRegistryReplies) (pool : NoTwoPoolReplies) where
@@ -90,25 +90,25 @@ module _ (slots : NoTwoRepliesAreLegal) (registry : NoTwoRegistryReplies) (pool 
       (subst (λ n. IsLegalReply (slot_history n turns) call answer) (sym e)
       (subst (λ c. IsLegalReply (slot_history at turns) c answer) (sym f) m))
 
-  pub one_deed : NoTwoDeedsAreLegal
-  one_deed generation blocks turns (AtSlot slot call reply) (AtSlot at other answer) a same l m =
+  pub one_op : NoTwoOpsAreLegal
+  one_op generation blocks turns (AtSlot slot call reply) (AtSlot at other answer) a same l m =
       let places : slot ≡ at = cc in
       let calls : call ≡ other = cc in
       let replies = one_of_slot turns slot at call other reply answer places calls l m in
       cc
-  one_deed generation blocks turns (AtRegistry call reply) (AtRegistry other answer) a same l m =
+  one_op generation blocks turns (AtRegistry call reply) (AtRegistry other answer) a same l m =
       let calls : call ≡ other = cc in
       let replies = registry generation (registry_history turns) call reply answer a.registry l
       (subst (λ c. IsLegalRegistryReply generation (registry_history turns) c answer) (sym calls) m) in
       cc
-  one_deed generation blocks turns (AtSlot slot call reply) (AtRegistry other answer) a same l m = absurd cc
-  one_deed generation blocks turns (AtRegistry call reply) (AtSlot at other answer) a same l m = absurd cc
-  one_deed generation blocks turns (AtPool call reply) (AtPool other answer) a same l m =
+  one_op generation blocks turns (AtSlot slot call reply) (AtRegistry other answer) a same l m = absurd cc
+  one_op generation blocks turns (AtRegistry call reply) (AtSlot at other answer) a same l m = absurd cc
+  one_op generation blocks turns (AtPool call reply) (AtPool other answer) a same l m =
       let calls : call ≡ other = cc in
       let replies = pool blocks (pool_history turns) call reply answer l
       (subst (λ c. IsLegalPoolReply blocks (pool_history turns) c answer) (sym calls) m) in
       cc
-  one_deed generation blocks turns (AtPool call reply) (AtSlot at other answer) a same l m = absurd cc
-  one_deed generation blocks turns (AtPool call reply) (AtRegistry other answer) a same l m = absurd cc
-  one_deed generation blocks turns (AtSlot slot call reply) (AtPool other answer) a same l m = absurd cc
-  one_deed generation blocks turns (AtRegistry call reply) (AtPool other answer) a same l m = absurd cc
+  one_op generation blocks turns (AtPool call reply) (AtSlot at other answer) a same l m = absurd cc
+  one_op generation blocks turns (AtPool call reply) (AtRegistry other answer) a same l m = absurd cc
+  one_op generation blocks turns (AtSlot slot call reply) (AtPool other answer) a same l m = absurd cc
+  one_op generation blocks turns (AtRegistry call reply) (AtPool other answer) a same l m = absurd cc

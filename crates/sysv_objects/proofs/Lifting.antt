@@ -4,7 +4,7 @@ use Rattle.std.proofs.Common.{subst, ◌∙◌, arith, slice_get, slice_set, len
 use Rattle.sysv_model.specs.History.{Who, Actor, Call, Reply, Entry}
 use Rattle.sysv_model.specs.Registry.{RegistryCall, RegistryReply}
 use Rattle.sysv_model.specs.Pool.{PoolEntry, frees as is_release, released}
-use Rattle.sysv_model.specs.Turn.{Deed, AtSlot, AtRegistry, AtPool, Turn, slot_history, registry_history, pool_history}
+use Rattle.sysv_model.specs.Turn.{Op, AtSlot, AtRegistry, AtPool, Turn, slot_history, registry_history, pool_history}
 use Rattle.sysv_queue.specs.Slot.{Slot}
 use Rattle.sysv_queue.specs.LegalReply.{Legal}
 use Rattle.sysv_queue.specs.StandsFor.{StandsFor as SlotStandsFor, MakesTurn as SlotMakesTurn}
@@ -20,7 +20,7 @@ use Rattle.sysv_objects.specs.declared.pool.PoolCall.TheVariants as asked
 use Rattle.sysv_objects.specs.declared.pool.PoolReply.{PoolReply as Told}
 use Rattle.sysv_objects.specs.declared.pool.PoolReply.TheVariants as told
 use Rattle.sysv_objects.specs.PoolTurns.{pool_call, pool_reply, FitsPoolCall, PoolMoves}
-use Rattle.sysv_objects.specs.LegalDeed.{IsLegalDeed}
+use Rattle.sysv_objects.specs.LegalOp.{IsLegalOp}
 use Rattle.sysv_objects.specs.Objects.{Objects, raises, pool_raises}
 use Rattle.sysv_objects.specs.StandsFor.{StandsFor, Stand, MakesTurn}
 use Rattle.sysv_objects.proofs.Lists.{get_set}
@@ -40,15 +40,15 @@ abbrev pub with_pool : Objects → Pool → Objects
 with_pool objects pool = record { slots = objects.slots; registry = objects.registry; pool = pool }
 
 -- Objects that stand for some turns before a turn stand for some turns after it.
-pub stand_on : (old new : Objects) (deed : Deed) → Stand old → MakesTurn old deed new → Stand new
-stand_on old new deed st turn = (st.0, st.1 ++ turn_of (Actor 0 0) deed ∷ [], turn.stands st.0 st.1 (Actor 0 0) st.2)
+pub stand_on : (old new : Objects) (op : Op) → Stand old → MakesTurn old op new → Stand new
+stand_on old new op st turn = (st.0, st.1 ++ turn_of (Actor 0 0) op ∷ [], turn.stands st.0 st.1 (Actor 0 0) st.2)
 
 -- ---- at a slot
 
 module _ (old : Objects) (number : ℕ) (was new : Slot) (call : Call) (reply : Reply)
     (there : slice_get old.slots number ≡ Some was) (turn : SlotMakesTurn was call reply new) where
   legal_there : (generation : ℕ) (turns : List Turn) → StandsFor generation turns old →
-      IsLegalDeed generation old.pool.size turns (AtSlot number call reply)
+      IsLegalOp generation old.pool.size turns (AtSlot number call reply)
   legal_there generation turns st = subst (λ s. Legal s call reply) (sym (st.slots number was there).seen) turn.legal
 
   stands_there : (generation : ℕ) (turns : List Turn) (who : Who) → StandsFor generation turns old →

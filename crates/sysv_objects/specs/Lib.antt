@@ -13,7 +13,7 @@ pub mod SlotTurns
 pub mod RegistryTurns
 pub mod PoolTurns
 pub mod Turns
-pub mod LegalDeed
-pub mod OneDeed
+pub mod LegalOp
+pub mod OneOp
 pub mod Objects
 pub mod StandsFor

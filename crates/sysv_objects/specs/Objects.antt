@@ -3,7 +3,7 @@
 use Rattle.std.specs.Prelude.{◌≡◌, ◌≢◌, ℕ, ◌≤◌, List, Some, slice_get, sum_by}
 use Rattle.sysv_model.specs.History.{Call, Place, Take, Set, Remove}
 use Rattle.sysv_model.specs.Pool.{PoolCall, Reserve, Release}
-use Rattle.sysv_model.specs.Turn.{Deed, AtSlot, AtRegistry, AtPool}
+use Rattle.sysv_model.specs.Turn.{Op, AtSlot, AtRegistry, AtPool}
 use Rattle.sysv_queue.specs.Slot.{Slot}
 use Rattle.sysv_queue.specs.Blocks.{blocks_of}
 use Rattle.sysv_keys.specs.State.{Registry}
@@ -38,8 +38,8 @@ abbrev pub pool_raises : PoolCall → ℕ
 pool_raises (Reserve size) = 0
 pool_raises (Release blocks) = 1
 
--- The most by which a deed raises a count of its object.
-abbrev pub raises_by : Deed → ℕ
+-- The most by which an operation raises a count of its object.
+abbrev pub raises_by : Op → ℕ
 raises_by (AtSlot slot call reply) = raises call
 raises_by (AtRegistry call reply) = 0
 raises_by (AtPool call reply) = pool_raises call

@@ -1,13 +1,13 @@
 -- How the objects relate to a list of turns, and what a request does to them (this profile's).
 use Rattle.std.specs.Prelude.{◌≡◌, ℕ, ◌+◌, List, [], ◌∷◌, ◌++◌, Some, length, slice_get, All}
 use Rattle.sysv_model.specs.History.{Who}
-use Rattle.sysv_model.specs.Turn.{Deed, Turn, slot_history, registry_history, pool_history}
+use Rattle.sysv_model.specs.Turn.{Op, Turn, slot_history, registry_history, pool_history}
 use Rattle.sysv_keys.specs.declared.identifier.TheConstants.{SLOTS}
 use Rattle.sysv_queue.specs.Slot.{Slot}
 use Rattle.sysv_queue.specs.StandsFor.{StandsFor as SlotStandsFor}
 use Rattle.sysv_pool.specs.StandsFor.{StandsFor as PoolStandsFor}
 use Rattle.sysv_keys.specs.StandsFor.{StandsFor as RegistryStandsFor}
-use Rattle.sysv_objects.specs.LegalDeed.{IsLegalDeed}
+use Rattle.sysv_objects.specs.LegalOp.{IsLegalOp}
 use Rattle.sysv_objects.specs.Objects.{Objects, CountsUpTo, raises_by}
 
 -- The objects stand for a list of turns if each of them stands for its own history in the list. All
@@ -27,16 +27,16 @@ AreVacant slots = (length slots ≡ SLOTS) × All (SlotStandsFor []) slots
 abbrev pub Stand : Objects → Type 0
 Stand objects = (generation : ℕ) × (turns : List Turn) × StandsFor generation turns objects
 
--- The deed is a turn that takes the objects from the old state to the new one.
-pub record MakesTurn (old : Objects) (deed : Deed) (new : Objects) : Type 0 where
+-- The operation is a turn that takes the objects from the old state to the new one.
+pub record MakesTurn (old : Objects) (op : Op) (new : Objects) : Type 0 where
   -- the reply is legal after each list of turns that the objects stood for
   pub legal : (generation : ℕ) (turns : List Turn) → StandsFor generation turns old →
-      IsLegalDeed generation old.pool.size turns deed
+      IsLegalOp generation old.pool.size turns op
   -- after the call the objects stand for each of those lists with this turn added, whoever made the
   -- turn
   pub stands : (generation : ℕ) (turns : List Turn) (who : Who) → StandsFor generation turns old →
-      StandsFor generation (turns ++ record { who = who; deed = deed } ∷ []) new
+      StandsFor generation (turns ++ record { who = who; op = op } ∷ []) new
   -- the pool keeps its size
   pub size : new.pool.size ≡ old.pool.size
   -- the counts of the slots and of the pool have risen by no more than such a turn raises them
-  pub counts : (bound : ℕ) → CountsUpTo bound old → CountsUpTo (bound + raises_by deed) new
+  pub counts : (bound : ℕ) → CountsUpTo bound old → CountsUpTo (bound + raises_by op) new

@@ -1,7 +1,7 @@
 -- A turn at any of the objects, made at the objects themselves or with a seat at their gates (this
 -- profile's).
 use Rattle.std.specs.Prelude.{[], ⊤}
-use Rattle.sysv_model.specs.Turn.{Ask, OfSlot, OfRegistry, OfPool, Deed, AtSlot, AtRegistry, AtPool}
+use Rattle.sysv_model.specs.Turn.{Ask, OfSlot, OfRegistry, OfPool, Op, AtSlot, AtRegistry, AtPool}
 use Rattle.sysv_queue.specs.Slot.{Slot}
 use Rattle.sysv_objects.specs.declared.pool.PoolCall.TheVariants.{Reserve, Release}
 use Rattle.sysv_objects.specs.declared.object.ObjectCall.{ObjectCall}
@@ -48,7 +48,7 @@ LeavesObject (told.Pool reply) = LeavesPool reply
 
 -- The turn was made, if `takes` states which turns are made, and the reply fits the request. The
 -- reply of a slot depends on the slot before the turn, whose messages a removal discards.
-abbrev pub Takes : {P : Type 0} → (P → Deed → P → Type 0) → P → ObjectCall → ObjectReply → P → Type 0
+abbrev pub Takes : {P : Type 0} → (P → Op → P → Type 0) → P → ObjectCall → ObjectReply → P → Type 0
 Takes takes before (asked.Slot call) (told.Slot reply) after =
     (slot : Slot) × takes before (AtSlot (slot_asked call) (slot_call call) (slot_reply slot reply)) after
     × FitsSlotCall slot call reply

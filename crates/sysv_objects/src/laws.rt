@@ -2,9 +2,9 @@
 
 ghost use Rattle.std.specs.Prelude.{ℕ, List, [], ◌∷◌, ◌++◌};
 ghost use Rattle.sysv_model.specs.History.{Who};
-ghost use Rattle.sysv_model.specs.Turn.{Deed, Turn};
-ghost use Rattle.sysv_objects.specs.LegalDeed.{IsLegalDeed, AreLegal};
-ghost use Rattle.sysv_objects.specs.OneDeed.{SomeDeedIsLegal, NoTwoDeedsAreLegal};
+ghost use Rattle.sysv_model.specs.Turn.{Op, Turn};
+ghost use Rattle.sysv_objects.specs.LegalOp.{IsLegalOp, AreLegal};
+ghost use Rattle.sysv_objects.specs.OneOp.{SomeOpIsLegal, NoTwoOpsAreLegal};
 
 use sysv_keys::{legal_history as legal_registry_history, one_legal_reply as one_registry_reply};
 use sysv_pool::{legal_history as legal_pool_history, one_legal_reply as one_pool_reply};
@@ -14,9 +14,9 @@ use sysv_queue::{legal_history, one_legal_reply};
 /// legal turn.
 pub fn legal_turns()
     ensures none { (generation blocks : ℕ) → AreLegal generation blocks [] }
-    ensures more { (generation blocks : ℕ) (turns : List Turn) (who : Who) (deed : Deed) →
-        AreLegal generation blocks turns → IsLegalDeed generation blocks turns deed →
-        AreLegal generation blocks (turns ++ record { who = who; deed = deed } ∷ []) }
+    ensures more { (generation blocks : ℕ) (turns : List Turn) (who : Who) (op : Op) →
+        AreLegal generation blocks turns → IsLegalOp generation blocks turns op →
+        AreLegal generation blocks (turns ++ record { who = who; op = op } ∷ []) }
 {
     legal_history();
     legal_registry_history();
@@ -24,9 +24,9 @@ pub fn legal_turns()
 }
 
 /// States that after a legal list of turns each request to an object has exactly one legal reply.
-pub fn one_legal_deed()
-    ensures some { SomeDeedIsLegal }
-    ensures one { NoTwoDeedsAreLegal }
+pub fn one_legal_op()
+    ensures some { SomeOpIsLegal }
+    ensures one { NoTwoOpsAreLegal }
 {
     one_legal_reply();
     one_registry_reply();

@@ -17,7 +17,7 @@ mod registry;
 mod slot;
 
 pub use directly::Directly;
-pub use laws::{legal_turns, one_legal_deed};
+pub use laws::{legal_turns, one_legal_op};
 pub use letter::Letter;
 pub use object::{ObjectCall, ObjectReply, Turns};
 pub use objects::{Objects, ObjectsRefused};

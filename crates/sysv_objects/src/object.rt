@@ -1,7 +1,7 @@
 //! A turn at any of the objects.
 
 ghost use Rattle.std.specs.Prelude.{◌≡◌, IfOk, IfErr, OnErr};
-ghost use Rattle.sysv_model.specs.Turn.{Ask, Deed};
+ghost use Rattle.sysv_model.specs.Turn.{Ask, Op};
 ghost use Rattle.sysv_objects.specs.Turns.{chain_asked, ask_of_call, IsOfSomeSlot, Takes};
 
 use crate::pool::{PoolCall, PoolReply};
@@ -49,7 +49,7 @@ pub trait Turns {
     ghost stays: { Self → Self.At → Type 0 };
 
     /// Which turns are made.
-    ghost takes: { Self.At → Deed → Self.At → Type 0 };
+    ghost takes: { Self.At → Op → Self.At → Type 0 };
 
     /// What holds if no turn was made because a gate is worn out.
     ghost misses: { Self.At → Ask → Self.At → Type 0 };

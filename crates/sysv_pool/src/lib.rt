@@ -5,11 +5,11 @@
 
 mod blocks;
 mod chain;
+mod free_list;
 mod laws;
 mod loose;
 mod pool;
-mod shelf;
-mod stock;
+mod size_class;
 
 pub use chain::Chain;
 pub use laws::{legal_history, one_legal_reply, pool_law};

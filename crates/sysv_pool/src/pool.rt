@@ -7,7 +7,7 @@ ghost use Rattle.sysv_pool.specs.StandsFor.{StandsFor, MakesTurn};
 ghost use Rattle.sysv_pool.specs.Replies.{reserve_reply, release_reply};
 
 use crate::chain::Chain;
-use crate::stock::Stock;
+use crate::free_list::FreeList;
 use std::alloc::Global;
 use std::marker::Model;
 use sysv_model::{BLOCK_BYTES, MAX_BLOCKS, MIN_BLOCKS};
@@ -29,7 +29,7 @@ pub enum PoolRefused {
 ///
 /// A pool cannot be dropped; end it with `end`.
 pub struct Pool {
-    stock: Stock,
+    free_list: FreeList,
     count: u32,
     size: u32,
     released: u64,
@@ -44,7 +44,7 @@ impl Model for Pool {
 
     ghost view = { λ p. record { size = p.size; free = p.count; released = p.released } };
 
-    ghost invariant = { λ p. (p.stock ≡ p.count) × (p.count ≤ p.size)
+    ghost invariant = { λ p. (p.free_list ≡ p.count) × (p.count ≤ p.size)
         × (p.size ≤ most_blocks) };
 }
 
@@ -63,9 +63,9 @@ impl Pool {
         if blocks < MIN_BLOCKS || blocks > MAX_BLOCKS {
             return Err(PoolRefused::BadSize);
         }
-        let stock = Stock::open(alloc, blocks).map_err(|_| PoolRefused::NoMemory)?;
+        let free_list = FreeList::open(alloc, blocks).map_err(|_| PoolRefused::NoMemory)?;
         Ok(Pool {
-            stock,
+            free_list,
             count: blocks,
             size: blocks,
             released: 0,
@@ -95,7 +95,7 @@ impl Pool {
         if count > self.count {
             return None;
         }
-        let link = self.stock.take(count);
+        let link = self.free_list.take(count);
         self.count -= count;
         Some(Chain {
             link,
@@ -132,7 +132,7 @@ impl Pool {
             count,
             len: _,
         } = chain;
-        self.stock.put(link, count);
+        self.free_list.put(link, count);
         self.count += count;
         self.released += 1;
         Ok(())
@@ -156,11 +156,11 @@ impl Pool {
     /// Frees the memory of the free blocks. Chains that are still reserved keep their blocks.
     pub fn end(self) {
         let Pool {
-            stock,
+            free_list,
             count: _,
             size: _,
             released: _,
         } = self;
-        stock.end();
+        free_list.end();
     }
 }

@@ -7,8 +7,8 @@ use Rattle.sysv_steps.specs.Call.{SystemCall}
 use Rattle.sysv_steps.specs.State.{State, Goes, Waits, Over}
 use Rattle.sysv_steps.specs.Resume.{awaited, resume}
 use Rattle.sysv_core.specs.Run.{Leads}
-use Rattle.sysv_core.specs.World.{World, Opening, Started, Doing, Happening, Given, Preset, Start, Step, Makes}
-use Rattle.sysv_core.specs.World.{actor_at, doing_in, given_in, begun, starting, value_of, Continues}
+use Rattle.sysv_core.specs.World.{World, Opening, Invocation, Doing, Happening, Response, Preset, Start, Step, Makes}
+use Rattle.sysv_core.specs.World.{actor_at, doing_in, response_in, begun, starting, value_of, Continues}
 use Rattle.sysv_core.specs.World.{StartsAt, StepsAt, StaysWith, opening}
 use Rattle.sysv_core.proofs.Lists.{get_set_same}
 use Rattle.sysv_core.proofs.SoundStays.{does, moved, other}
@@ -35,7 +35,7 @@ none_at zero place d e = absurd cc
 none_at (suc n) zero d e = absurd cc
 none_at (suc n) (suc place) d e = none_at n place d e
 
-is_under_way : (call : Started) (state : State) (d : Doing) → doing_in call state ≡ Some d →
+is_under_way : (call : Invocation) (state : State) (d : Doing) → doing_in call state ≡ Some d →
     StandsAs (operation_of call.asked) state →
     IsUnderWayAs (operation_of call.asked) state
 is_under_way call (Goes phase) d e s = s
@@ -43,7 +43,7 @@ is_under_way call (Waits wait) d e s = s
 is_under_way call (Over ending) d e s = absurd cc
 
 -- An actor's call comes to a state.
-own_set : (actors : List (Option Doing)) (place : ℕ) (was : Option Doing) (call : Started) (state : State) →
+own_set : (actors : List (Option Doing)) (place : ℕ) (was : Option Doing) (call : Invocation) (state : State) →
     slice_get actors place ≡ Some was → AreOwn actors → StandsAs (operation_of call.asked) state →
     AreOwn (slice_set actors place (doing_in call state))
 own_set actors place was call state there own stands = λ at d here.
@@ -52,7 +52,7 @@ own_set actors place was call state there own stands = λ at d here.
           let got : doing_in call state ≡ Some d =
           some_is (sym (get_set_same actors place (doing_in call state) was there)
           ∙ subst (λ n. slice_get (slice_set actors place (doing_in call state)) n ≡ Some (Some d)) (sym same) here) in
-          subst (λ (x : Started). IsUnderWayAs (operation_of x.asked) d.state) (sym c)
+          subst (λ (x : Invocation). IsUnderWayAs (operation_of x.asked) d.state) (sym c)
           (subst (IsUnderWayAs (operation_of call.asked)) (sym s) (is_under_way call state d got stands))
       | other old ↦ own at d old
     ]
@@ -63,7 +63,7 @@ own_set actors place was call state there own stands = λ at d here.
 -- ---- the calls that end
 
 -- Each of the calls that end is of this operation.
-abbrev pub AreOf : Operation → List Given → Type 0
+abbrev pub AreOf : Operation → List Response → Type 0
 AreOf operation [] = Unit {0}
 AreOf operation (g ∷ given) = (operation_of g.call.asked ≡ operation) × AreOf operation given
 
@@ -73,24 +73,24 @@ CallsAs operation None = Unit {0}
 CallsAs operation (Some None) = Unit {0}
 CallsAs operation (Some (Some d)) = operation_of d.call.asked ≡ operation
 
-given_as : (call : Started) (state : State) → AreOf (operation_of call.asked) (given_in call state)
+given_as : (call : Invocation) (state : State) → AreOf (operation_of call.asked) (response_in call state)
 given_as call (Goes phase) = tt
 given_as call (Waits wait) = tt
 given_as call (Over ending) = (refl, tt)
 
-calls_as : (call : Started) (state : State) → CallsAs (operation_of call.asked) (Some (doing_in call state))
+calls_as : (call : Invocation) (state : State) → CallsAs (operation_of call.asked) (Some (doing_in call state))
 calls_as call (Goes phase) = refl
 calls_as call (Waits wait) = refl
 calls_as call (Over ending) = tt
 
 -- What a happening leaves of an actor and of the calls that end.
-pub record Leaves (operation : Operation) (actor : ℕ) (given : List Given) (after : World) : Type 0 where
+pub record Leaves (operation : Operation) (actor : ℕ) (given : List Response) (after : World) : Type 0 where
   pub own : AreOwn after.actors
   pub of : AreOf operation given
   pub calls : CallsAs operation (actor_at after.actors actor)
 
 -- The world stays as it was.
-stays : (o : Operation) (w : World) (actor : ℕ) (given : List Given) (after : World) → AreOwn w.actors →
+stays : (o : Operation) (w : World) (actor : ℕ) (given : List Response) (after : World) → AreOwn w.actors →
     CallsAs o (actor_at w.actors actor) → StaysWith w given after → Leaves o actor given after
 stays o w actor given after own calls st = record {
   own = subst (λ (x : World). AreOwn x.actors) (sym st.1) own;
@@ -99,10 +99,10 @@ stays o w actor given after own calls st = record {
 }
 
 -- The call of the actor at this place comes to a state.
-comes : (actors : List (Option Doing)) (place : ℕ) (was : Option Doing) (call : Started) (state : State)
-    (given : List Given)
+comes : (actors : List (Option Doing)) (place : ℕ) (was : Option Doing) (call : Invocation) (state : State)
+    (given : List Response)
     (after : World) → slice_get actors place ≡ Some was → AreOwn actors → StandsAs (operation_of call.asked) state →
-    given ≡ given_in call state → after.actors ≡ slice_set actors place (doing_in call state) →
+    given ≡ response_in call state → after.actors ≡ slice_set actors place (doing_in call state) →
     Leaves (operation_of call.asked) (suc place) given after
 comes actors place was call state given after there own stands g e = record {
   own = subst AreOwn (sym e) (own_set actors place was call state there own stands);
@@ -112,7 +112,8 @@ comes actors place was call state given after there own stands g e = record {
       (calls_as call state));
 }
 
-continues : (w after : World) (given : List Given) (place now : ℕ) (call : Started) (state : State) → AreOwn w.actors →
+continues : (w after : World) (given : List Response) (place now : ℕ) (call : Invocation) (state : State) →
+    AreOwn w.actors →
     slice_get w.actors place ≡ Some (Some record { call = call; state = state }) →
     IsUnderWayAs (operation_of call.asked) state → Continues w (suc place) now call state given after →
     Leaves (operation_of call.asked) (suc place) given after
@@ -128,7 +129,7 @@ continues w after given place now call (Waits wait) own there u (inr t) =
     (subst (CallsAs (operation_of call.asked)) (sym there) refl) t.1
 continues w after given place now call (Over ending) own there u t = absurd u
 
-step_at : (o : Operation) (w after : World) (given : List Given) (actor now : ℕ) (at : Option (Option Doing)) →
+step_at : (o : Operation) (w after : World) (given : List Response) (actor now : ℕ) (at : Option (Option Doing)) →
     AreOwn w.actors →
     actor_at w.actors actor ≡ at → CallsAs o at → StepsAt w actor now at given after → Leaves o actor given after
 step_at o w after given actor now None own is calls t =
@@ -141,7 +142,7 @@ step_at o w after given (suc place) now (Some (Some d)) own is calls t =
     (continues w after given place now d.call d.state own is (own place d is) t)
 
 -- A step of an actor whose call is of this operation.
-pub step_leaves : (o : Operation) (w after : World) (given : List Given) (actor now : ℕ) → AreOwn w.actors →
+pub step_leaves : (o : Operation) (w after : World) (given : List Response) (actor now : ℕ) → AreOwn w.actors →
     CallsAs o (actor_at w.actors actor) → Makes w (Step actor now) given after → Leaves o actor given after
 step_leaves o w after given actor now own calls (inl worn) = stays o w actor given after own calls worn.1
 step_leaves o w after given actor now own calls (inr t) =
@@ -160,7 +161,7 @@ idle_at actors zero o (Some (Some d)) own is idle = absurd cc
 idle_at actors (suc place) o (Some (Some d)) own is idle =
     absurd (busy (operation_of d.call.asked) d.state (own place d is) idle)
 
-start_at : (w after : World) (given : List Given) (actor : ℕ) (cred : Cred) (asked : SystemCall)
+start_at : (w after : World) (given : List Response) (actor : ℕ) (cred : Cred) (asked : SystemCall)
     (at : Option (Option Doing)) → AreOwn w.actors → actor_at w.actors actor ≡ at → under_way at ≡ None →
     StartsAt w actor cred asked at given after → Leaves (operation_of asked) actor given after
 start_at w after given actor cred asked None own is idle t =
@@ -174,7 +175,7 @@ start_at w after given (suc place) cred asked (Some (Some d)) own is idle t =
     absurd (busy (operation_of d.call.asked) d.state (own place d is) idle)
 
 -- The start of a call of an actor without a call under way.
-pub start_leaves : (w after : World) (given : List Given) (actor : ℕ) (cred : Cred) (asked : SystemCall) →
+pub start_leaves : (w after : World) (given : List Response) (actor : ℕ) (cred : Cred) (asked : SystemCall) →
     AreOwn w.actors → under_way (actor_at w.actors actor) ≡ None → Makes w (Start actor cred asked) given after →
     Leaves (operation_of asked) actor given after
 start_leaves w after given actor cred asked own idle (inl worn) =
@@ -221,7 +222,7 @@ calls_here (Some (Some d)) = refl
 own_same : (w after : World) → AreOwn w.actors → after ≡ w → AreOwn after.actors
 own_same w after own e = subst (λ (x : World). AreOwn x.actors) (sym e) own
 
-own_start : (w after : World) (given : List Given) (actor : ℕ) (cred : Cred) (asked : SystemCall)
+own_start : (w after : World) (given : List Response) (actor : ℕ) (cred : Cred) (asked : SystemCall)
     (at : Option (Option Doing)) → AreOwn w.actors → actor_at w.actors actor ≡ at →
     StartsAt w actor cred asked at given after → AreOwn after.actors
 own_start w after given actor cred asked None own is t = own_same w after own t.1
@@ -229,7 +230,7 @@ own_start w after given actor cred asked (Some None) own is t =
     (start_at w after given actor cred asked (Some None) own is refl t).own
 own_start w after given actor cred asked (Some (Some d)) own is t = own_same w after own t.1
 
-own_makes : (w after : World) (x : Happening) (given : List Given) → AreOwn w.actors → Makes w x given after →
+own_makes : (w after : World) (x : Happening) (given : List Response) → AreOwn w.actors → Makes w x given after →
     AreOwn after.actors
 own_makes w after Preset given own (none, (made, inl p)) = subst (λ (x : World). AreOwn x.actors) (sym p.2) own
 own_makes w after Preset given own (none, (made, inr p)) = own_same w after own p.2
@@ -240,7 +241,7 @@ own_makes w after (Step actor now) given own t =
     let at = actor_at w.actors actor in
     (step_leaves (operation_here at) w after given actor now own (calls_here at) t).own
 
-pub own_leads : (w : World) (list : List Happening) (given : List Given) (after : World) → AreOwn w.actors →
+pub own_leads : (w : World) (list : List Happening) (given : List Response) (after : World) → AreOwn w.actors →
     Leads w list given after → AreOwn after.actors
 own_leads w [] given after own l = own_same w after own l.1
 own_leads w (x ∷ list) given after own l = own_leads l.0 list l.2 after (own_makes w l.0 x l.1 own l.3) l.4

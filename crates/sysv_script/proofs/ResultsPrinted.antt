@@ -5,7 +5,7 @@ use Rattle.sysv_steps.specs.Call.{SystemCall, Msgget, Msgsnd, Msgrcv, MsgctlStat
 use Rattle.sysv_steps.specs.Asked.{asked_of}
 use Rattle.sysv_core.specs.Run.{Leads}
 use Rattle.sysv_core.specs.Seen.{Gives, Tells}
-use Rattle.sysv_core.specs.World.{World, Happening, Given, Doing, Start, Step, Makes, actor_at}
+use Rattle.sysv_core.specs.World.{World, Happening, Response, Doing, Start, Step, Makes, actor_at}
 use Rattle.sysv_core.specs.declared.event.Stepped.{Stepped}
 use Rattle.sysv_core.specs.declared.event.Stepped.TheVariants as stepped
 use Rattle.sysv_script.specs.declared.names.Operation.{Operation}
@@ -16,7 +16,7 @@ use Rattle.sysv_script.proofs.OwnOperation.{AreOwn, AreOf, CallsAs, step_leaves,
 
 -- ---- one after the other
 
-pub results_append : (given more : List Given) (out rest : List ℕ) → HasResults given out → HasResults more rest →
+pub results_append : (given more : List Response) (out rest : List ℕ) → HasResults given out → HasResults more rest →
     HasResults (given ++ more) (out ++ rest)
 results_append given more out rest Empty b = b
 results_append given more out rest (Result g left line tail is a) b =
@@ -26,7 +26,7 @@ results_append given more out rest (Without left line tail is a) b =
     subst (HasResults (left ++ more)) (sym (append_assoc line tail rest))
     (Without (left ++ more) line (tail ++ rest) is (results_append left more tail rest a b))
 
-pub leads_append : (w : World) (xs ys : List Happening) (given more : List Given) (mid after : World) →
+pub leads_append : (w : World) (xs ys : List Happening) (given more : List Response) (mid after : World) →
     Leads w xs given mid → Leads mid ys more after → Leads w (xs ++ ys) (given ++ more) after
 leads_append w [] ys given more mid after l k =
     subst (λ gs. Leads w ys (gs ++ more) after) (sym l.0) (subst (λ (v : World). Leads v ys more after) l.1 k)
@@ -52,31 +52,31 @@ print_both w out rest mid after a b = (
 pub rests : (w after : World) → after ≡ w → LeadsPrinting w [] after
 rests w after e = ([], [], (refl, e), Empty)
 
-pub one_makes : (w after : World) (x : Happening) (given : List Given) → Makes w x given after →
+pub one_makes : (w after : World) (x : Happening) (given : List Response) → Makes w x given after →
     Leads w (x ∷ []) given after
 one_makes w after x given m = (after, given, [], m, (refl, refl), sym (append-nil given))
 
 -- ---- a line for a call
 
-only : (given : List Given) (line : List ℕ) → HasResults given (line ++ []) → HasResults given line
+only : (given : List Response) (line : List ℕ) → HasResults given (line ++ []) → HasResults given line
 only given line h = subst (HasResults given) (append-nil line) h
 
 pub without_result : (line : List ℕ) → IsWithoutResult line → HasResults [] line
 without_result line is = only [] line (Without [] line [] is Empty)
 
 -- The calls that end are those that the result of the last event tells, and are of this operation.
-abbrev pub EndsAs : Operation → List Given → Stepped → Type 0
+abbrev pub EndsAs : Operation → List Response → Stepped → Type 0
 EndsAs operation given stepped.Nothing = given ≡ []
 EndsAs operation given stepped.Worn = given ≡ []
 EndsAs operation given (stepped.Answer answer) =
-    (g : Given) × (given ≡ g ∷ []) × Tells g answer × (operation_of g.call.asked ≡ operation)
+    (g : Response) × (given ≡ g ∷ []) × Tells g answer × (operation_of g.call.asked ≡ operation)
 
 standing_without : (actor : ℕ) (at : Option (Option Doing)) → IsWithoutResult (standing_line actor at)
 standing_without actor (Some (Some d)) = (actor, inl (d.state, refl))
 standing_without actor (Some None) = (actor, inr (inr (inl refl)))
 standing_without actor None = (actor, inr (inr (inl refl)))
 
-pub printed_results : (w : World) (actor : ℕ) (operation : Operation) (given : List Given) (result : Stepped) →
+pub printed_results : (w : World) (actor : ℕ) (operation : Operation) (given : List Response) (result : Stepped) →
     EndsAs operation given result → HasResults given (printed w actor operation result)
 printed_results w actor operation given stepped.Nothing e =
     let line = printed w actor operation stepped.Nothing in
@@ -92,7 +92,8 @@ printed_results w actor operation given (stepped.Answer answer) e =
 
 -- ---- the steps of a call
 
-ends_as : (o : Operation) (w : World) (given : List Given) (result : Stepped) → AreOf o given → Gives w given result →
+ends_as : (o : Operation) (w : World) (given : List Response) (result : Stepped) → AreOf o given →
+    Gives w given result →
     EndsAs o given result
 ends_as o w given stepped.Nothing of g = g.1
 ends_as o w given stepped.Worn of g = g.1
@@ -102,13 +103,13 @@ ends_as o w given (stepped.Answer answer) of g =
 -- The steps lead to another world, in which each actor is again in a state of its own call.
 pub record StepsTo (o : Operation) (w : World) (result : Stepped) (after : World) : Type 0 where
   pub list : List Happening
-  pub given : List Given
+  pub given : List Response
   pub leads : Leads w list given after
   pub ends : EndsAs o given result
   pub own : AreOwn after.actors
 
 -- After an event without a result.
-goes_further : (o : Operation) (w mid after : World) (x : Happening) (given : List Given) (result : Stepped) →
+goes_further : (o : Operation) (w mid after : World) (x : Happening) (given : List Response) (result : Stepped) →
     Makes w x given mid → given ≡ [] → StepsTo o mid result after → StepsTo o w result after
 goes_further o w mid after x given result makes none s = record {
   list = x ∷ s.list;
@@ -118,7 +119,8 @@ goes_further o w mid after x given result makes none s = record {
   own = s.own;
 }
 
-stops : (o : Operation) (w : World) (mid after : Scene) (x : Happening) (given : List Given) (first result : Stepped) →
+stops : (o : Operation) (w : World) (mid after : Scene) (x : Happening) (given : List Response)
+    (first result : Stepped) →
     AreOwn mid.world.actors → Makes w x given mid.world → EndsAs o given first → result ≡ first → after ≡ mid →
     StepsTo o w result after.world
 stops o w mid after x given first result own makes ends r a =
@@ -127,7 +129,7 @@ stops o w mid after x given first result own makes ends r a =
     (record { list = x ∷ []; given = given; leads = one_makes w mid.world x given makes; ends = ends; own = own }))
 
 -- After an event with this result the call makes more steps.
-after_event : (n : ℕ) (o : Operation) (w : World) (mid : Scene) (actor : ℕ) (x : Happening) (given : List Given)
+after_event : (n : ℕ) (o : Operation) (w : World) (mid : Scene) (actor : ℕ) (x : Happening) (given : List Response)
     (first result : Stepped) (after : Scene) → AreOwn mid.world.actors → CallsAs o (actor_at mid.world.actors actor) →
     Makes w x given mid.world → EndsAs o given first → GoesOn n mid actor first result after →
     StepsTo o w result after.world

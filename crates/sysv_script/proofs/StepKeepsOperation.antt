@@ -7,7 +7,7 @@ use Rattle.sysv_model.specs.History.{Reply, Installed, Gone, Denied, Granted, Fu
 use Rattle.sysv_model.specs.History.{Taken, Told as TellsStat, Done, Discarded, Refused as IsRefusedFor}
 use Rattle.sysv_model.specs.Registry.{RegistryReply, Found, Made, Busy, Unbound, Changed}
 use Rattle.sysv_model.specs.Pool.{PoolReply, Reserved, TooFew, Released, Foreign}
-use Rattle.sysv_model.specs.Turn.{Deed, AtSlot, AtRegistry, AtPool}
+use Rattle.sysv_model.specs.Turn.{Op, AtSlot, AtRegistry, AtPool}
 use Rattle.sysv_steps.specs.Call.{SystemCall, Msgget, Msgsnd, Msgrcv, MsgctlStat, MsgctlSet, MsgctlRmid}
 use Rattle.sysv_steps.specs.State.{Getting, Sending, Receiving, Wait, OnSettled, OnFreed, OnReleased, OnArrived}
 use Rattle.sysv_steps.specs.State.{Afterwards, IsRefused, WaitsOn, Phase, AtBegin, AtInstall, AtSettle, AtProbe}
@@ -146,7 +146,7 @@ given_back o follow TooFew t l e = absurd cc
 at : (o p : Operation) (t : State) → o ≡ p → StandsAs o t → StandsAs p t
 at o p t e l = subst (λ x. StandsAs x t) e l
 
-pub next_as : (o : Operation) (phase : Phase) (deed : Deed) (t : State) → GoesAs o phase → next phase deed ≡ Some t →
+pub next_as : (o : Operation) (phase : Phase) (op : Op) (t : State) → GoesAs o phase → next phase op ≡ Some t →
     StandsAs o t
 next_as o (AtBegin get) (AtRegistry call reply) t g e = at Get o t g (begin_as get reply t e)
 next_as o (AtInstall get id) (AtSlot slot call reply) t g e = at Get o t g (install_as id reply t e)
@@ -166,7 +166,7 @@ next_as o AtSetGiveback (AtPool call reply) t g e = given_back o (Over _) reply 
 next_as o (AtRemove cred id) (AtSlot slot call reply) t g e = at OfRemove o t g (remove_as id reply t e)
 next_as o (AtForget id blocks) (AtRegistry call reply) t g e = at OfRemove o t g (forget_as blocks reply t e)
 next_as o (AtRemoveGiveback blocks) (AtPool call reply) t g e = given_back o (Over _) reply t tt e
-next_as o phase deed t g e = absurd cc
+next_as o phase op t g e = absurd cc
 
 -- ---- the end of a wait, and the start
 

@@ -6,7 +6,7 @@ use Rattle.std.specs.Io.KnownBytes.{Appends}
 use Rattle.sysv_model.specs.Writing.{AppendsPrefix}
 use Rattle.sysv_core.specs.Headline.{Obeys}
 use Rattle.sysv_core.specs.Run.{Leads}
-use Rattle.sysv_core.specs.World.{World, Opening, Happening, Given, opening}
+use Rattle.sysv_core.specs.World.{World, Opening, Happening, Response, opening}
 use Rattle.sysv_script.specs.declared.fault.ScriptFault.{ScriptFault}
 use Rattle.sysv_script.specs.declared.fault.ScriptFault.TheVariants.{Line, Read, Write, NoMemory, Bound}
 use Rattle.sysv_script.specs.Results.{HasResults}
@@ -21,7 +21,7 @@ use Rattle.sysv_script.specs.Written.{WritesScript}
 pub record IsOfObeyingRun (out : List ℕ) (w : World) : Type 0 where
   pub opened : Opening
   pub list : List Happening
-  pub given : List Given
+  pub given : List Response
   pub leads : Leads (opening opened) list given w
   pub obeys : Obeys opened w given
   pub results : HasResults given out

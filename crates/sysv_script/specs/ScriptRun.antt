@@ -3,7 +3,7 @@
 -- way, in their order, and no other results.
 use Rattle.std.specs.Prelude.{◌≡◌, ◌⊎◌, ℕ, Bool, true, List, [], ◌++◌}
 use Rattle.sysv_core.specs.Run.{Leads}
-use Rattle.sysv_core.specs.World.{World, Opening, Happening, Given, opening}
+use Rattle.sysv_core.specs.World.{World, Opening, Happening, Response, opening}
 use Rattle.sysv_script.specs.Said.{Said}
 use Rattle.sysv_script.specs.Scene.{Scene, opening_scene, opening_world, LineRuns}
 use Rattle.sysv_script.specs.Faults.{bad_line_text}
@@ -13,7 +13,7 @@ use Rattle.sysv_script.specs.Results.{LeadsPrinting, IsOfRunPrinting}
 
 -- A run leads to the world from an opening.
 abbrev pub IsOfRun : World → Type 0
-IsOfRun w = (o : Opening) × (list : List Happening) × (given : List Given) × Leads (opening o) list given w
+IsOfRun w = (o : Opening) × (list : List Happening) × (given : List Response) × Leads (opening o) list given w
 
 -- A run leads from the world of the scene to this one, and the text has the results of its calls.
 -- If every line so far was skipped, the run may lead from a new world instead, whose pool has

@@ -12,8 +12,8 @@ use Rattle.sysv_model.specs.declared.cred.Cred.{Cred}
 use Rattle.sysv_model.specs.declared.errno.Errno.{Errno}
 use Rattle.sysv_model.specs.declared.flags.Flags.{Flags}
 use Rattle.sysv_model.specs.declared.limits.TheConstants.{MESSAGE_BYTES}
-use Rattle.sysv_session.specs.declared.kernel.RequestOutcome.{RequestOutcome}
-use Rattle.sysv_session.specs.declared.kernel.RequestOutcome.TheVariants.{Reply, Got, Left as WasLeft}
+use Rattle.sysv_session.specs.declared.handler.RequestOutcome.{RequestOutcome}
+use Rattle.sysv_session.specs.declared.handler.RequestOutcome.TheVariants.{Reply, Got, Left as WasLeft}
 use Rattle.sysv_session.specs.declared.served.End.{End}
 use Rattle.sysv_session.specs.declared.served.End.TheVariants.{Ended, NoMemory, NoHello, Fault, Write, Bound, Left}
 use Rattle.sysv_session.specs.declared.served.End.TheVariants.{Reset}

@@ -1,10 +1,10 @@
--- What a kernel may return for a send and a receive in pieces.
+-- What a handler may return for a send and a receive in pieces.
 use Rattle.std.proofs.Common.{ℕ, ℤ, List, [], Result, Ok, Err, inl, inr, refl, sym, subst, arith}
 use Rattle.std.specs.Prelude.{⊤}
 use Rattle.sysv_model.specs.declared.errno.Errno.{Errno}
 use Rattle.sysv_model.specs.declared.flags.Flags.{Flags}
 use Rattle.sysv_queue.specs.Delivery.{Given}
-use Rattle.sysv_session.specs.declared.kernel.RequestOutcome.{RequestOutcome}
+use Rattle.sysv_session.specs.declared.handler.RequestOutcome.{RequestOutcome}
 use Rattle.sysv_service.specs.declared.progress.Progress.{Progress}
 use Rattle.sysv_service.specs.declared.progress.Progress.TheVariants as progress
 use Rattle.sysv_steps.specs.declared.receive.ReceiveWait.{ReceiveWait}

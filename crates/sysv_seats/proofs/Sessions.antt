@@ -1,4 +1,4 @@
--- A session that a kernel serves is one that its pass serves.
+-- A session that a handler serves is one that its pass serves.
 use Rattle.std.proofs.Common.{◌≡◌, ◌∙◌, ℕ, List, [], ◌∷◌, Option, ap, subst, inl, inr}
 use Rattle.sysv_model.specs.declared.cred.Cred.{Cred}
 use Rattle.sysv_session.specs.declared.served.Served.{Served}
@@ -32,10 +32,10 @@ module _ {K S C : Type 0} (service : K → S) (clock : K → C) (pass : K → Pa
   serves slots served old new left rest taken more h =
       elim h [
         | inl stays ↦ (
-          ap service stays.kernel,
-          ap clock stays.kernel,
+          ap service stays.handler,
+          ap clock stays.handler,
           inl (record {
-            kernel = ap pass stays.kernel;
+            handler = ap pass stays.handler;
             ends = stays.ends;
             writes = stays.writes;
             tallies = stays.tallies;

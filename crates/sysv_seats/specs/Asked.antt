@@ -1,4 +1,4 @@
--- What a kernel over a service does to its pass for a request (this project's profile). These are
+-- What a handler over a service does to its pass for a request (this project's profile). These are
 -- the definitions of `Requests`, for a pass.
 use Rattle.std.specs.Prelude.{◌≡◌, ℕ, ℤ, List, Option}
 use Rattle.sysv_keys.specs.declared.identifier.TheConstants.{SLOTS}
@@ -6,7 +6,7 @@ use Rattle.sysv_model.specs.declared.attributes.SetTo.{SetTo}
 use Rattle.sysv_model.specs.declared.cred.Cred.{Cred}
 use Rattle.sysv_model.specs.declared.flags.Flags.{Flags}
 use Rattle.sysv_service.specs.Reading.{Reads}
-use Rattle.sysv_session.specs.declared.kernel.RequestOutcome.{RequestOutcome}
+use Rattle.sysv_session.specs.declared.handler.RequestOutcome.{RequestOutcome}
 use Rattle.sysv_session.specs.declared.served.Served.{Served}
 use Rattle.sysv_session.specs.Calls.{Meaning}
 use Rattle.sysv_session.specs.Session.{Serves}

@@ -5,8 +5,8 @@ use Rattle.sysv_model.specs.declared.cred.Cred.{Cred}
 use Rattle.sysv_model.specs.declared.errno.Errno.{Errno}
 use Rattle.sysv_model.specs.declared.flags.Flags.{Flags}
 use Rattle.sysv_queue.specs.Delivery.{Given}
-use Rattle.sysv_session.specs.declared.kernel.RequestOutcome.{RequestOutcome}
-use Rattle.sysv_session.specs.declared.kernel.RequestOutcome.TheVariants.{Left}
+use Rattle.sysv_session.specs.declared.handler.RequestOutcome.{RequestOutcome}
+use Rattle.sysv_session.specs.declared.handler.RequestOutcome.TheVariants.{Left}
 use Rattle.sysv_service.specs.declared.progress.Progress.{Progress}
 use Rattle.sysv_service.specs.declared.progress.Progress.TheVariants as progress
 use Rattle.sysv_steps.specs.declared.receive.ReceiveWait.{ReceiveWait}

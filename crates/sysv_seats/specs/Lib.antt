@@ -2,7 +2,7 @@
 pub mod Replies
 pub mod Requests
 pub mod Asked
-pub mod KernelHandles
+pub mod HandlesKept
 pub mod Parked
 pub mod News
 pub mod InPieces

@@ -12,8 +12,8 @@ use Rattle.sysv_keys.specs.Identifier.{slot_of_id}
 use Rattle.sysv_service.specs.declared.progress.Progress.{Progress}
 use Rattle.sysv_service.specs.declared.progress.Progress.TheVariants as progress
 use Rattle.sysv_steps.specs.declared.send.SendWait.TheVariants.{Room}
-use Rattle.sysv_session.specs.declared.kernel.RequestOutcome.{RequestOutcome}
-use Rattle.sysv_session.specs.declared.kernel.RequestOutcome.TheVariants.{Reply, Got, Left}
+use Rattle.sysv_session.specs.declared.handler.RequestOutcome.{RequestOutcome}
+use Rattle.sysv_session.specs.declared.handler.RequestOutcome.TheVariants.{Reply, Got, Left}
 use Rattle.sysv_wire.specs.declared.reply.ReplyContent.{ReplyContent}
 use Rattle.sysv_wire.specs.declared.reply.ReplyContent.TheVariants.{Refused}
 use Rattle.sysv_wire.specs.declared.request.Ask.{Ask}

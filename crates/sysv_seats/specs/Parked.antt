@@ -8,7 +8,7 @@ use Rattle.sysv_model.specs.declared.errno.Errno.{Errno}
 use Rattle.sysv_model.specs.declared.limits.TheConstants.{MESSAGE_BYTES}
 use Rattle.sysv_model.specs.declared.selector.Selector.{Selector}
 use Rattle.sysv_queue.specs.Delivery.{Given}
-use Rattle.sysv_session.specs.declared.kernel.RequestOutcome.{RequestOutcome}
+use Rattle.sysv_session.specs.declared.handler.RequestOutcome.{RequestOutcome}
 use Rattle.sysv_session.specs.Answers.{MayAnswer, IsReplied as HasReply}
 use Rattle.sysv_service.specs.declared.progress.Progress.{Progress}
 use Rattle.sysv_service.specs.declared.progress.Progress.TheVariants as progress
@@ -84,7 +84,8 @@ HasBegun may version cred ask text before (progress.Waits waiting) given after =
 HasBegun may version cred ask text before (progress.Over outcome) given after =
     Asks may ⊥ version cred ask text before outcome given after
 
--- If the request is over, a kernel may return its outcome. If it waits, the wait is one of its call.
+-- If the request is over, a handler may return its outcome. If it waits, the wait is one of its
+-- call.
 abbrev pub MayProgress : Version → Ask → Progress Waiting RequestOutcome → List ℕ → Type 0
 MayProgress version ask (progress.Waits waiting) given = IsWaitOf ask waiting
 MayProgress version ask (progress.Over outcome) given = MayAnswer version ask outcome given

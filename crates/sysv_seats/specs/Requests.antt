@@ -9,8 +9,8 @@ use Rattle.sysv_model.specs.declared.cred.Cred.{Cred}
 use Rattle.sysv_model.specs.declared.errno.Errno.{Errno}
 use Rattle.sysv_model.specs.declared.flags.Flags.{Flags}
 use Rattle.sysv_queue.specs.Delivery.{Given}
-use Rattle.sysv_session.specs.declared.kernel.RequestOutcome.{RequestOutcome}
-use Rattle.sysv_session.specs.declared.kernel.RequestOutcome.TheVariants.{Left}
+use Rattle.sysv_session.specs.declared.handler.RequestOutcome.{RequestOutcome}
+use Rattle.sysv_session.specs.declared.handler.RequestOutcome.TheVariants.{Left}
 use Rattle.sysv_steps.specs.Stepping.{no_moment}
 use Rattle.sysv_service.specs.Told.{TellsId, TellsZero, TellsStat, TellsGot}
 use Rattle.sysv_steps.specs.Call.{SystemCall, Msgget, Msgsnd, Msgrcv, MsgctlStat, MsgctlSet, MsgctlRmid}
@@ -23,8 +23,8 @@ use Rattle.sysv_wire.specs.declared.request.Ask.TheVariants.{Hello, Get, Snd, Rc
 use Rattle.sysv_seats.specs.Replies.{id_reply, done_reply, given_reply, stat_reply, row_reply}
 
 -- How a call goes: the times that its steps may have, the caller's credentials, the call, the
--- released count that it starts with, the kernel before, the state that the call reached, and the
--- kernel after.
+-- released count that it starts with, the handler before, the state that the call reached, and the
+-- handler after.
 abbrev pub Going : Type 0 → Type 1
 Going K = (ℕ → Type 0) → Cred → SystemCall → ℕ → K → State → K → Type 0
 
@@ -116,7 +116,7 @@ module _ {K : Type 0} (Comes : Going K) (ReadsReleased : ℕ → K → K → Typ
 
   -- Request by request, in a version. `text` is the body of a send, and `given` is the body of a
   -- received message and otherwise empty. The times are those that the clock may return. A send and
-  -- a receive that wait may be left if the caller may leave. A hello is no request to a kernel.
+  -- a receive that wait may be left if the caller may leave. A hello is no request to a handler.
   abbrev pub Asks : (ℕ → Type 0) → Type 0 → Version → Cred → Ask → List ℕ → K → RequestOutcome → List ℕ → K → Type 0
   Asks may may_leave version cred (Hello other) text before outcome given after = ⊥
   Asks may may_leave version cred (Get key flags) text before outcome given after =

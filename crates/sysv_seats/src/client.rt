@@ -6,12 +6,12 @@ ghost use Rattle.sysv_session.specs.Answers.{IsAsked};
 ghost use Rattle.sysv_session.specs.TakenUp.{TakesUp};
 ghost use Rattle.sysv_wire.specs.Requests.{op_of, request_spelling};
 ghost use Rattle.sysv_seats.specs.Breaking.{MayBreak, MayEnd};
-ghost use Rattle.sysv_seats.specs.KernelHandles.{KeepsHandles};
+ghost use Rattle.sysv_seats.specs.HandlesKept.{KeepsHandles};
 ghost use Rattle.sysv_seats.specs.News.{Keeps as KeepsNews, news_of, told_of};
 ghost use Rattle.sysv_seats.specs.Parked.{HasBegun, IsReplied, MayProgress};
 ghost use Rattle.sysv_seats.specs.Sits.{Arrives, GreetsAs, HasAsked, IsFree, IsOver, IsPending, Keeps, KeepsWith, MayClose, ReadsNext, Sits, broken_off_for, end_at_close, is_early as early, is_finished, parked_bytes, parked_wait, stopped_for, zero_moment};
 
-use crate::kernel::ServiceKernel;
+use crate::handler::ServiceHandler;
 use crate::news::Told;
 use crate::non_blocking::{Drained, Filled, NonBlocking, Over};
 use crate::parked::Parked;
@@ -269,26 +269,30 @@ impl<T: NonBlocking> Client<T> {
 
     /// Takes up and answers what has arrived: a share of the requests that are there, or what one
     /// read returns.
-    pub fn take_turn<R: Wait>(&mut self, kernel: &mut ServiceKernel<'_, Zero, R>, tools: &mut Tools)
-        ensures keeps { KeepsWith T.incoming T.outgoing self.old kernel.old.pass self.new
-            kernel.new.pass }
-        ensures handles { KeepsHandles kernel.old kernel.new }
+    pub fn take_turn<R: Wait>(
+        &mut self,
+        handler: &mut ServiceHandler<'_, Zero, R>,
+        tools: &mut Tools,
+    )
+        ensures keeps { KeepsWith T.incoming T.outgoing self.old handler.old.pass self.new
+            handler.new.pass }
+        ensures handles { KeepsHandles handler.old handler.new }
         ensures breaks { T.closes.breaks self.new.connection
             ≡ T.closes.breaks self.old.connection }
     {
         if self.is_held() {
             return;
         }
-        self.take_some(kernel, tools);
+        self.take_some(handler, tools);
         self.heed_leave();
         self.compact();
     }
 
     /// Looks whether the parked call may go on, and continues it if so.
-    pub fn go_on<R: Wait>(&mut self, kernel: &mut ServiceKernel<'_, Zero, R>, tools: &mut Tools)
-        ensures keeps { KeepsWith T.incoming T.outgoing self.old kernel.old.pass self.new
-            kernel.new.pass }
-        ensures handles { KeepsHandles kernel.old kernel.new }
+    pub fn go_on<R: Wait>(&mut self, handler: &mut ServiceHandler<'_, Zero, R>, tools: &mut Tools)
+        ensures keeps { KeepsWith T.incoming T.outgoing self.old handler.old.pass self.new
+            handler.new.pass }
+        ensures handles { KeepsHandles handler.old handler.new }
         ensures breaks { T.closes.breaks self.new.connection
             ≡ T.closes.breaks self.old.connection }
     {
@@ -307,7 +311,7 @@ impl<T: NonBlocking> Client<T> {
             waiting,
             length,
         } = parked;
-        let progress = kernel.go_on(&request, &tools.text, &mut tools.given, waiting);
+        let progress = handler.go_on(&request, &tools.text, &mut tools.given, waiting);
         self.settle(cred, request, length, progress, tools);
         self.has_input = self.is_within_request();
     }
@@ -401,27 +405,27 @@ impl<T: NonBlocking> Client<T> {
     }
 
     /// Takes up a share of what has arrived, or what one read returns.
-    fn take_some<R: Wait>(&mut self, kernel: &mut ServiceKernel<'_, Zero, R>, tools: &mut Tools)
+    fn take_some<R: Wait>(&mut self, handler: &mut ServiceHandler<'_, Zero, R>, tools: &mut Tools)
         requires free { IsFree self.old }
-        ensures keeps { KeepsWith T.incoming T.outgoing self.old kernel.old.pass self.new
-            kernel.new.pass }
-        ensures handles { KeepsHandles kernel.old kernel.new }
+        ensures keeps { KeepsWith T.incoming T.outgoing self.old handler.old.pass self.new
+            handler.new.pass }
+        ensures handles { KeepsHandles handler.old handler.new }
         ensures breaks { T.closes.breaks self.new.connection
             ≡ T.closes.breaks self.old.connection }
     {
         if self.has_input {
-            self.take_share(kernel, tools);
+            self.take_share(handler, tools);
         } else if self.is_ready {
-            self.fill(kernel, tools);
+            self.fill(handler, tools);
         }
     }
 
     /// Reads once, and takes up what has arrived.
-    fn fill<R: Wait>(&mut self, kernel: &mut ServiceKernel<'_, Zero, R>, tools: &mut Tools)
+    fn fill<R: Wait>(&mut self, handler: &mut ServiceHandler<'_, Zero, R>, tools: &mut Tools)
         requires free { IsFree self.old }
-        ensures keeps { KeepsWith T.incoming T.outgoing self.old kernel.old.pass self.new
-            kernel.new.pass }
-        ensures handles { KeepsHandles kernel.old kernel.new }
+        ensures keeps { KeepsWith T.incoming T.outgoing self.old handler.old.pass self.new
+            handler.new.pass }
+        ensures handles { KeepsHandles handler.old handler.new }
         ensures breaks { T.closes.breaks self.new.connection
             ≡ T.closes.breaks self.old.connection }
     {
@@ -430,10 +434,10 @@ impl<T: NonBlocking> Client<T> {
                 // (a peer that has left is reported once, so its connection is read to the end)
                 self.is_ready = self.has_left | (count == tools.arrived.len());
                 self.arrive(&tools.arrived[..count]);
-                self.take_share(kernel, tools);
+                self.take_share(handler, tools);
             }
             Filled::NothingNow => self.is_ready = false,
-            Filled::Over(Over::End) => self.take_up(true, kernel, tools),
+            Filled::Over(Over::End) => self.take_up(true, handler, tools),
             Filled::Over(Over::Reset) => self.stop(End::Reset),
             Filled::Over(Over::Failed) => self.stop(End::Fault(Fault::Read)),
         }
@@ -451,10 +455,10 @@ impl<T: NonBlocking> Client<T> {
     }
 
     /// Takes up a share of the requests in the input.
-    fn take_share<R: Wait>(&mut self, kernel: &mut ServiceKernel<'_, Zero, R>, tools: &mut Tools)
-        ensures keeps { KeepsWith T.incoming T.outgoing self.old kernel.old.pass self.new
-            kernel.new.pass }
-        ensures handles { KeepsHandles kernel.old kernel.new }
+    fn take_share<R: Wait>(&mut self, handler: &mut ServiceHandler<'_, Zero, R>, tools: &mut Tools)
+        ensures keeps { KeepsWith T.incoming T.outgoing self.old handler.old.pass self.new
+            handler.new.pass }
+        ensures handles { KeepsHandles handler.old handler.new }
         ensures breaks { T.closes.breaks self.new.connection
             ≡ T.closes.breaks self.old.connection }
     {
@@ -467,7 +471,7 @@ impl<T: NonBlocking> Client<T> {
                 self.has_input = false;
                 return;
             }
-            self.take_up(false, kernel, tools);
+            self.take_up(false, handler, tools);
         }
         self.has_input = self.is_within_request();
     }
@@ -477,14 +481,14 @@ impl<T: NonBlocking> Client<T> {
     fn take_up<R: Wait>(
         &mut self,
         is_end: bool,
-        kernel: &mut ServiceKernel<'_, Zero, R>,
+        handler: &mut ServiceHandler<'_, Zero, R>,
         tools: &mut Tools,
     )
         requires free { IsFree self.old }
         requires end { is_end ≡ true → IsAtEnd (T.incoming self.old.connection) }
-        ensures keeps { KeepsWith T.incoming T.outgoing self.old kernel.old.pass self.new
-            kernel.new.pass }
-        ensures handles { KeepsHandles kernel.old kernel.new }
+        ensures keeps { KeepsWith T.incoming T.outgoing self.old handler.old.pass self.new
+            handler.new.pass }
+        ensures handles { KeepsHandles handler.old handler.new }
         ensures breaks { T.closes.breaks self.new.connection
             ≡ T.closes.breaks self.old.connection }
     {
@@ -496,7 +500,7 @@ impl<T: NonBlocking> Client<T> {
                 self.greet(version, tools);
             }
             Ok(TakenUp::Request(cred, request)) => {
-                self.ask(cred, request, size, kernel, tools);
+                self.ask(cred, request, size, handler, tools);
             }
             Err(why) if is_early(why, is_end) => self.has_input = false,
             Err(why) => self.stop(why),
@@ -537,7 +541,7 @@ impl<T: NonBlocking> Client<T> {
         cred: Cred,
         request: Request,
         size: usize,
-        kernel: &mut ServiceKernel<'_, Zero, R>,
+        handler: &mut ServiceHandler<'_, Zero, R>,
         tools: &mut Tools,
     )
         requires asked { op_of request.ask ≢ Op.Hello }
@@ -545,14 +549,14 @@ impl<T: NonBlocking> Client<T> {
         requires frame { size ≤ length self.old.input }
         ensures keeps { (start : Pass) (origin : T) →
             HasAsked T.incoming T.outgoing start origin self.old cred request tools.old.text size
-            kernel.old.pass →
-            Sits T.incoming T.outgoing start origin self.new kernel.new.pass }
-        ensures handles { KeepsHandles kernel.old kernel.new }
+            handler.old.pass →
+            Sits T.incoming T.outgoing start origin self.new handler.new.pass }
+        ensures handles { KeepsHandles handler.old handler.new }
         ensures breaks { T.closes.breaks self.new.connection
             ≡ T.closes.breaks self.old.connection }
     {
         tools.given.clear();
-        let progress = kernel.begin(cred, &request, &tools.text, &mut tools.given);
+        let progress = handler.begin(cred, &request, &tools.text, &mut tools.given);
         self.settle(cred, request, size, progress, tools);
     }
 

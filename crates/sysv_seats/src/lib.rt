@@ -1,14 +1,14 @@
-//! What serves one client of a server: the kernel of its session over a service, and connections
+//! What serves one client of a server: the handler of its session over a service, and connections
 //! that never wait.
 //!
-//! The service is the kernel of each session. Each request, except one for a row, is one call of
+//! The service is the handler of each session. Each request, except one for a row, is one call of
 //! the service, and its reply reports how that call ended.
 #![tactic(auto)]
 
 mod book;
 mod client;
-mod kernel;
-mod kernel_pieces;
+mod handler;
+mod handler_pieces;
 mod memory_stream;
 mod news;
 mod non_blocking;
@@ -21,7 +21,7 @@ mod zero;
 
 pub use book::Replies;
 pub use client::Client;
-pub use kernel::ServiceKernel;
+pub use handler::ServiceHandler;
 pub use memory_stream::{MemoryStream, Step};
 pub use news::News;
 pub use non_blocking::{Drained, Filled, NonBlocking, Over};

@@ -14,5 +14,5 @@ impl Clock for Zero {
     }
 }
 
-/// The clock of every kernel of a server.
+/// The clock of every handler of a server.
 pub const ZERO: Zero = Zero;

@@ -16,7 +16,7 @@ use std::alloc::Global;
 use std::io;
 use std::io::ErrorKind;
 use std::sync::Wait;
-use sysv_engine::{Arrivals, Common, Rows};
+use sysv_engine::{Arrivals, Rows, ServerState};
 use sysv_seats::SocketStream;
 
 /// The maximum number of bytes of the input that are read at once and dropped.
@@ -70,7 +70,7 @@ pub(crate) struct Accepting<'a, L, I: Drop, H> {
     /// Whether the state of the server is shown.
     stats: bool,
     alloc: Global,
-    common: &'a Common,
+    server: &'a ServerState,
     host: &'a H,
 }
 
@@ -84,7 +84,7 @@ impl<'a, L: Listens, I: Input + Drop, H: Host> Accepting<'a, L, I, H> {
         most: u64,
         blocks: u32,
         stats: bool,
-        common: &'a Common,
+        server: &'a ServerState,
         host: &'a H,
     ) -> Accepting<'a, L, I, H>
         ensures begun { (result.most ≡ most) × (result.accepted ≡ 0) × (result.reason ≡ None) }
@@ -105,7 +105,7 @@ impl<'a, L: Listens, I: Input + Drop, H: Host> Accepting<'a, L, I, H> {
             blocks,
             stats,
             alloc,
-            common,
+            server,
             host,
         }
     }
@@ -128,7 +128,7 @@ impl<'a, L: Listens, I: Input + Drop, H: Host> Accepting<'a, L, I, H> {
             blocks: _,
             stats: _,
             alloc: _,
-            common: _,
+            server: _,
             host: _,
         } = self;
         (listener, reason)
@@ -179,17 +179,17 @@ impl<'a, L: Listens, I: Input + Drop, H: Host> Accepting<'a, L, I, H> {
         }
         let view = View {
             alloc: self.alloc,
-            common: self.common,
+            server: self.server,
             listener: self.listener.descriptor(),
             blocks: self.blocks,
             accepted: self.accepted,
         };
-        let door = Door {
+        let acceptor = Acceptor {
             view,
             host: self.host,
         };
         let (told, input, desk) = (&mut self.told, &mut self.input, &mut self.desk);
-        door.accept_next(self.listener, told, input, desk, rows, self.retries)
+        acceptor.accept_next(self.listener, told, input, desk, rows, self.retries)
     }
 }
 
@@ -213,7 +213,7 @@ impl<L: Listens, I: Input + Drop, H: Host> Arrivals<SocketStream> for Accepting<
                 self.reason = Some(why);
                 self.listener.close();
                 self.desk = Desk::closed();
-                if self.common.drain(self.accepted) {
+                if self.server.drain(self.accepted) {
                     self.host.note(Notice::Cut);
                 }
                 None
@@ -224,12 +224,12 @@ impl<L: Listens, I: Input + Drop, H: Host> Arrivals<SocketStream> for Accepting<
 
 /// What is known of an open listener, and of the connections that came through it.
 #[derive(Drop)]
-struct Door<'v, 'h, H> {
+struct Acceptor<'v, 'h, H> {
     view: View<'v>,
     host: &'h H,
 }
 
-/// What has arrived at a door.
+/// What has arrived at a acceptor.
 #[derive(Clone, Copy, PartialEq, Eq)]
 struct Arrived {
     /// Whether there is a connection.
@@ -240,7 +240,7 @@ struct Arrived {
     reader: bool,
 }
 
-impl<H: Host> Door<'_, '_, H> {
+impl<H: Host> Acceptor<'_, '_, H> {
     /// Waits for a connection and accepts it. Until it comes, serves the desk. If the server
     /// `retries`, an accept that fails for want of something is tried again; the host is told so,
     /// and when it succeeds.
@@ -302,38 +302,38 @@ impl<H: Host> Door<'_, '_, H> {
     /// the host of the first session whose memory was refused.
     fn wait(&self, told: &mut bool, input: i32, desk: &Desk) -> Arrived {
         let View {
-            common,
+            server,
             listener,
             accepted,
             ..
         } = self.view;
-        if common.is_starved() && !*told {
+        if server.is_starved() && !*told {
             self.host.note(Notice::NoMemory);
             *told = true;
         }
-        if common.has_room(accepted) {
+        if server.has_room(accepted) {
             return self.arrived(input, listener, desk, desk.limit());
         }
-        common.await_turn(true);
-        let limit = if common.has_room(accepted) {
+        server.await_turn(true);
+        let limit = if server.has_room(accepted) {
             0
         } else {
             desk.limit()
         };
         let arrived = self.arrived(input, NO_DESCRIPTOR, desk, limit);
-        common.await_turn(false);
+        server.await_turn(false);
         arrived
     }
 
     /// Waits until the input, the listener or the bell can be read, or something happens at the
     /// desk, for at most `limit` milliseconds, and hushes the bell.
     fn arrived(&self, input: i32, listener: i32, desk: &Desk, limit: i32) -> Arrived {
-        let common = self.view.common;
-        let [input, listener, bell] = [input, listener, common.bell()].map(readable);
+        let server = self.view.server;
+        let [input, listener, bell] = [input, listener, server.bell()].map(readable);
         let mut asked = [input, listener, bell, desk.asking()];
         let any = poll(&mut asked, limit) > 0;
         if any && asked[2].revents != 0 {
-            common.hush();
+            server.hush();
         }
         Arrived {
             connection: any && asked[1].revents != 0,

@@ -4,7 +4,7 @@ ghost use Rattle.sysv_engine.specs.Looks.{Looks};
 use itoa::{Buffer, Integer};
 use std::alloc::Global;
 use std::sync::Wait;
-use sysv_engine::{Common, Counted, Rows, SlotCounts};
+use sysv_engine::{Counted, Rows, ServerState, SlotCounts};
 use sysv_keys::SLOTS;
 use sysv_model::Row;
 
@@ -189,7 +189,7 @@ impl State {
     #[tactic(auto, using(sysv_engine::proofs::Looking::looks_stay, sysv_engine::proofs::Looking::looks_on))]
     pub(crate) fn read<R: Wait>(
         alloc: Global,
-        common: &Common,
+        server: &ServerState,
         rows: &mut Rows<'_, R>,
         admission: &Admission,
     ) -> Option<State>
@@ -198,12 +198,12 @@ impl State {
         let mut queues = Vec::new(alloc);
         for slot in 0..SLOTS {
             if let Some(row) = rows.row(slot as u32) {
-                let counts = common.at_slot(slot);
+                let counts = server.at_slot(slot);
                 queues.push(Queue { row, counts }).ok()?;
             }
         }
         Some(State {
-            numbers: numbers(&common.counted(), admission),
+            numbers: numbers(&server.counted(), admission),
             queues,
         })
     }

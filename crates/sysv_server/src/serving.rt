@@ -17,7 +17,7 @@ use std::os::fd::AsRawFd;
 use std::os::unix::net::{UnixListener, UnixStream};
 use std::sync::Wait;
 use std::thread::Threads;
-use sysv_engine::{Common, Ended, Patience, ServeFault, Sums, serve_arrivals, watches};
+use sysv_engine::{Ended, Patience, ServeFault, ServerState, Sums, serve_arrivals, watches};
 
 /// The largest number of clients at once.
 pub const MAX_CLIENTS: u32 = 16_384;
@@ -208,18 +208,18 @@ fn run<L: Listens, I: Input + Drop, H: Host, R: Threads + Wait + Net + Sync>(
     } = terms;
     *reason = None;
     let workers = workers.min(at_once);
-    let Some(common) = Common::open(alloc, workers as usize, at_once as usize, patience, drain)
+    let Some(server) = ServerState::open(alloc, workers as usize, at_once as usize, patience, drain)
     else {
         return Err(ServeFault::NoMemory);
     };
     let Some(mut books) = empty_books(alloc, at_once) else {
         return Err(ServeFault::NoMemory);
     };
-    let Some(watches) = watches(rt, alloc, &common) else {
+    let Some(watches) = watches(rt, alloc, &server) else {
         return Err(ServeFault::NoMemory);
     };
     let mut source = Accepting::new(
-        alloc, listener, retries, input, sessions, blocks, stats, &common, host,
+        alloc, listener, retries, input, sessions, blocks, stats, &server, host,
     );
     let outcome = serve_arrivals(
         rt,
@@ -228,7 +228,7 @@ fn run<L: Listens, I: Input + Drop, H: Host, R: Threads + Wait + Net + Sync>(
         &mut books,
         blocks,
         watches,
-        &common,
+        &server,
         stats,
     );
     let (left, why) = source.into_parts();

@@ -9,7 +9,7 @@ use std::io::{ErrorKind, Read, Write};
 use std::os::fd::AsRawFd;
 use std::os::unix::net::UnixStream;
 use std::sync::Wait;
-use sysv_engine::{Common, Moment, Rows};
+use sysv_engine::{Moment, Rows, ServerState};
 
 /// The maximum number of bytes that are read of what a reader asks.
 const MOST_ASKED: usize = 4_096;
@@ -45,7 +45,7 @@ const PATHS: [(&[u8], Form); 3] = [
 #[derive(Clone, Copy)]
 pub(crate) struct View<'v> {
     pub(crate) alloc: Global,
-    pub(crate) common: &'v Common,
+    pub(crate) server: &'v ServerState,
     /// The descriptor of the listener through which clients come.
     pub(crate) listener: i32,
     /// The number of blocks in the pool.
@@ -61,7 +61,7 @@ impl View<'_> {
     {
         let View {
             alloc,
-            common,
+            server,
             listener,
             blocks,
             accepted,
@@ -71,7 +71,7 @@ impl View<'_> {
             accepted,
             has_waiting: has_come(listener),
         };
-        let state = State::read(alloc, common, rows, &admission)?;
+        let state = State::read(alloc, server, rows, &admission)?;
         state.text(alloc, form)
     }
 }

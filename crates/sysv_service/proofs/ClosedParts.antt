@@ -7,8 +7,8 @@ use Rattle.atomic_table.proofs.Lists.{at_map}
 use Rattle.sysv_model.specs.Turn.{slot_history, registry_history, pool_history}
 use Rattle.sysv_model.specs.Turns.{turns_of}
 use Rattle.sysv_queue.specs.Slot.{Slot}
-use Rattle.sysv_gate.specs.declared.closing.Closing.{Closing}
-use Rattle.sysv_gate.specs.declared.view.Turn.{Turn}
+use Rattle.sysv_gate.specs.declared.gate.closing.Closing.{Closing}
+use Rattle.sysv_gate.specs.declared.table.view.Turn.{Turn}
 use Rattle.sysv_gate.specs.History.{Moves}
 use Rattle.sysv_gate.specs.Gates.{Gateway}
 use Rattle.sysv_gate.specs.Closings.{Closes}
@@ -30,7 +30,7 @@ use Rattle.sysv_service.specs.Gated.{gated_counts}
 use Rattle.sysv_service.specs.ObjectKinds.{Kind, turn_as, seat_as, IsClosingAs}
 use Rattle.sysv_service.specs.Seats.{SlotSeat, entries, slot_entry, registry_entry, pool_entry}
 use Rattle.sysv_service.specs.Sharing.{ClosesAfter, ClosesAfterEach}
-use Rattle.sysv_service.specs.Order.{GatedPlaced, GatedPass, opening_at, deeds_of}
+use Rattle.sysv_service.specs.Order.{GatedPlaced, GatedPass, opening_at, ops_of}
 use Rattle.sysv_service.specs.Banked.{AreByKind, seats_at}
 use Rattle.sysv_service.proofs.GateOfKind.{Keeps, back_as, closes_as, log_as, object_kept}
 use Rattle.sysv_service.proofs.KindsKept.{keeps_slot, keeps_registry, keeps_pool}
@@ -86,7 +86,7 @@ pub all_parts : (last : GatedPass) (cs done : List (Closing Gated)) (r p : Closi
     Each2 GivenBack done closed.slots.items →
     (IfSome r.object IsRegistry → IsClosingAs as_registry r closed.registry) →
     (IfSome p.object IsPool → IsClosingAs as_pool p closed.pool) →
-    ClosesAfterEach (seats_at last.seats m) closed (deeds_of (gates_of last.seats) o.order)
+    ClosesAfterEach (seats_at last.seats m) closed (ops_of (gates_of last.seats) o.order)
 all_parts last cs done r p closed m kinds o is back registry pool =
     parted last.seats kinds (λ place h c there at. o.each place h c there (subst (λ l. at_place l place c) (sym is) at))
   where
@@ -96,7 +96,7 @@ all_parts last cs done r p closed m kinds o is back registry pool =
         (closes : Closes (Moves GatedMoves gated_counts) h c) × (closes.log ≡ turns_at place o.order)
 
     parted : (seats : List Mark) → AreByKind (gates_of seats) → each_place seats →
-        ClosesAfterEach (seats_at seats m) closed (deeds_of (gates_of seats) o.order)
+        ClosesAfterEach (seats_at seats m) closed (ops_of (gates_of seats) o.order)
     parted [] are each = absurd are
     parted (x ∷ []) are each = absurd are
     parted (x ∷ y ∷ ss) are each =
@@ -113,22 +113,22 @@ all_parts last cs done r p closed m kinds o is back registry pool =
               (Moves SlotMoves slot_counts) slot_counts keeps_slot s.0 c.0 kind own.0) in
               subst (λ (h : SlotSeat).
               ClosesAfter (Moves SlotMoves slot_counts) slot_entry
-              (slot_history slot (turns_of (deeds_of gates o.order))) h d) (sym s.2)
+              (slot_history slot (turns_of (ops_of gates o.order))) h d) (sym s.2)
               (after_part as_slot IsSlot SlotMoves slot_counts keeps_slot slot_entry s.0 c.0 d (suc (suc slot)) o.order
-              (slot_history slot (turns_of (deeds_of gates o.order))) kind same own.0 own.1
+              (slot_history slot (turns_of (ops_of gates o.order))) kind same own.0 own.1
               (slot_history_of gates slot o.order
               ∙ ap (λ g.
               entries slot_entry (as_slot.object g) (map (turn_as as_slot) (turns_at (suc (suc slot)) o.order)))
               (opened_there ss slot s.0 s.1)));
           registry =
               after_part as_registry IsRegistry RegistryMoves registry_counts keeps_registry registry_entry x r
-              closed.registry 0 o.order (registry_history (turns_of (deeds_of gates o.order))) are.0
+              closed.registry 0 o.order (registry_history (turns_of (ops_of gates o.order))) are.0
               (registry (object_kept as_registry IsRegistry (Moves GatedMoves gated_counts) gated_counts
               (Moves RegistryMoves registry_counts) registry_counts keeps_registry x r are.0 first.0)) first.0 first.1
               (registry_history_of gates o.order);
           pool =
               after_part as_pool IsPool PoolMoves pool_counts keeps_pool pool_entry y p closed.pool 1 o.order
-              (pool_history (turns_of (deeds_of gates o.order))) are.1
+              (pool_history (turns_of (ops_of gates o.order))) are.1
               (pool (object_kept as_pool IsPool (Moves GatedMoves gated_counts) gated_counts
               (Moves PoolMoves pool_counts) pool_counts keeps_pool y p are.1 second.0)) second.0 second.1
               (pool_history_of gates o.order);

@@ -10,8 +10,8 @@ use Rattle.std.proofs.option.Option.TheSendSync as options
 use Rattle.sysv_queue.proofs.Crossing.{block_send, block_sync, chain_send, queue_send, queue_sync}
 use Rattle.sysv_keys.proofs.registry.Registry.TheSendSync as registries
 use Rattle.sysv_pool.specs.contracts.loose.Loose as loose
-use Rattle.sysv_pool.specs.contracts.shelf.Shelf as shelf
-use Rattle.sysv_pool.specs.contracts.stock.Stock as stock
+use Rattle.sysv_pool.specs.contracts.size_class.SizeClass as size_class
+use Rattle.sysv_pool.specs.contracts.free_list.FreeList as free_list
 use Rattle.sysv_pool.specs.contracts.pool.Pool as pool
 use Rattle.sysv_service.specs.contracts.kinds.Gated as gated
 use Rattle.sysv_service.specs.contracts.object.SharedObject as shared
@@ -40,23 +40,23 @@ loose_send = search (crossing, block_send) depth 30
 loose_sync : IsSync loose.the_row
 loose_sync = search (crossing, block_sync) depth 30
 
-shelf_send : IsSend shelf.the_row
-shelf_send = search (crossing, block_send) depth 30
+size_class_send : IsSend size_class.the_row
+size_class_send = search (crossing, block_send) depth 30
 
-shelf_sync : IsSync shelf.the_row
-shelf_sync = search (crossing, block_sync) depth 30
+size_class_sync : IsSync size_class.the_row
+size_class_sync = search (crossing, block_sync) depth 30
 
-stock_send : IsSend stock.the_row
-stock_send = search (crossing, loose_send, shelf_send) depth 30
+free_list_send : IsSend free_list.the_row
+free_list_send = search (crossing, loose_send, size_class_send) depth 30
 
-stock_sync : IsSync stock.the_row
-stock_sync = search (crossing, loose_sync, shelf_sync) depth 30
+free_list_sync : IsSync free_list.the_row
+free_list_sync = search (crossing, loose_sync, size_class_sync) depth 30
 
 pool_send : IsSend pool.the_row
-pool_send = search (crossing, stock_send) depth 30
+pool_send = search (crossing, free_list_send) depth 30
 
 pool_sync : IsSync pool.the_row
-pool_sync = search (crossing, stock_sync) depth 30
+pool_sync = search (crossing, free_list_sync) depth 30
 
 gated_send : IsSend gated.the_row
 gated_send = search (crossing, queue_send, registries.the_send, pool_send) depth 30

@@ -9,7 +9,7 @@ use Rattle.sysv_model.specs.declared.attributes.Row.{Row}
 use Rattle.sysv_model.specs.declared.errno.Errno.{Errno}
 use Rattle.sysv_model.specs.History.{ReadRow, Shown}
 use Rattle.sysv_model.specs.Registry.{Forget, Changed}
-use Rattle.sysv_model.specs.Turn.{Ask, OfSlot, OfRegistry, OfPool, Deed, AtSlot, AtRegistry, AtPool}
+use Rattle.sysv_model.specs.Turn.{Ask, OfSlot, OfRegistry, OfPool, Op, AtSlot, AtRegistry, AtPool}
 use Rattle.sysv_steps.specs.State.{Phase, AtInstall, State, Goes, Waits}
 use Rattle.sysv_steps.specs.Asks.{asks}
 use Rattle.sysv_steps.specs.Resume.{Count, ArrivedOf, FreedOf, Settled, Released, awaited}
@@ -88,7 +88,7 @@ pub never : {P : Type 0} → true ≡ false → P
 never e = absurd cc
 
 module _ (before after : Seats) (none : IsUnmarked after) where
-  pub no_mark_by_turn : (deed : Deed) → MakesTurnAt before deed after → IsUnmarked before
+  pub no_mark_by_turn : (op : Op) → MakesTurnAt before op after → IsUnmarked before
   no_mark_by_turn (AtSlot slot call reply) makes = record {
     slots = fresh_before slot before.slots after.slots _ (λ was is took fresh. took.fresh) makes.0 none.slots;
     registry = subst (λ (r : RegistrySeat). r.worn ≡ false) makes.1 none.registry;
@@ -158,17 +158,17 @@ module _ (before after : Seats) (none : IsUnmarked after) where
 
 -- ---- a call
 
-not_forgotten : (id : ℤ) (before : Pass) (deeds : List Deed) (after : Pass) → IsUnmarked after.seats →
-    Forgets id before deeds after → IsUnmarked before.seats
-not_forgotten id before deeds after none (inl f) =
+not_forgotten : (id : ℤ) (before : Pass) (ops : List Op) (after : Pass) → IsUnmarked after.seats →
+    Forgets id before ops after → IsUnmarked before.seats
+not_forgotten id before ops after none (inl f) =
     no_mark_by_turn before.seats after.seats none (AtRegistry (Forget id) (Changed f.0)) f.2.turn
-not_forgotten id before deeds after none (inr f) =
+not_forgotten id before ops after none (inr f) =
     absurd (not_worn before.seats after.seats none (OfRegistry (Forget id)) f.1)
 
-not_back : (phase : Phase) (before : Pass) (deeds : List Deed) (state : State) (after : Pass) → IsUnmarked after.seats →
-    TurnsBack phase before deeds state after → IsUnmarked before.seats
-not_back (AtInstall get id) before deeds state after none back = not_forgotten id before deeds after none back.1
-not_back phase before deeds state after none back = subst IsUnmarked back.2 none
+not_back : (phase : Phase) (before : Pass) (ops : List Op) (state : State) (after : Pass) → IsUnmarked after.seats →
+    TurnsBack phase before ops state after → IsUnmarked before.seats
+not_back (AtInstall get id) before ops state after none back = not_forgotten id before ops after none back.1
+not_back phase before ops state after none back = subst IsUnmarked back.2 none
 
 pub no_mark_by_row : (slot : ℕ) (before : Pass) (result : Result (Option Row) Errno) (after : Pass) →
     IsUnmarked after.seats → TellsRow slot before result after → IsUnmarked before.seats
@@ -180,18 +180,18 @@ no_mark_by_row slot before (Err why) after none (inr told) =
 
 module _ (may : ℕ → Type 0) (from : State) (old : Pass) where
   -- A call that left its pass unmarked found no gate worn out.
-  pub finds_turns : (deeds : List Deed) (state : State) (new : Pass) (ran : Ran may from old deeds state new) →
+  pub finds_turns : (ops : List Op) (state : State) (new : Pass) (ran : Ran may from old ops state new) →
       IsUnmarked new.seats → FindsTurns ran × IsUnmarked old.seats
   finds_turns _ _ _ begins none = (tt, none)
-  finds_turns _ _ _ (steps {deeds} {phase} {mid} state new ran step) none =
-      finds_turns deeds (Goes phase) mid ran (no_mark_by_turn mid.seats new.seats none step.deed step.makes.turn)
-  finds_turns _ _ _ (turns_back {deeds} {phase} {mid} state new ran step) none =
+  finds_turns _ _ _ (steps {ops} {phase} {mid} state new ran step) none =
+      finds_turns ops (Goes phase) mid ran (no_mark_by_turn mid.seats new.seats none step.op step.makes.turn)
+  finds_turns _ _ _ (turns_back {ops} {phase} {mid} state new ran step) none =
       absurd (not_worn mid.seats step.there
-      (not_back phase (record mid { seats = step.there }) step.deeds state new none step.back) (asks phase step.now)
+      (not_back phase (record mid { seats = step.there }) step.ops state new none step.back) (asks phase step.now)
       step.worn)
-  finds_turns _ _ _ (reads {deeds} {state} {mid} count value new ran r same) none =
-      finds_turns deeds state mid ran (no_mark_by_read mid.seats new.seats none count value r)
-  finds_turns _ _ _ (resumes {deeds} {wait} {mid} value new ran reached r same) none =
-      finds_turns deeds (Waits wait) mid ran (no_mark_by_read mid.seats new.seats none (awaited wait) value r)
-  finds_turns _ _ _ (gives_up {deeds} {wait} {mid} value new ran below r same) none =
+  finds_turns _ _ _ (reads {ops} {state} {mid} count value new ran r same) none =
+      finds_turns ops state mid ran (no_mark_by_read mid.seats new.seats none count value r)
+  finds_turns _ _ _ (resumes {ops} {wait} {mid} value new ran reached r same) none =
+      finds_turns ops (Waits wait) mid ran (no_mark_by_read mid.seats new.seats none (awaited wait) value r)
+  finds_turns _ _ _ (gives_up {ops} {wait} {mid} value new ran below r same) none =
       absurd (not_given_up mid.seats new.seats none (awaited wait) value r)

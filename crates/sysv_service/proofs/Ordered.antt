@@ -14,7 +14,7 @@ use Rattle.sysv_model.specs.Turns.{Numbered}
 use Rattle.sysv_model.specs.Members.{under, AreWhole, AreOfOthers, AreOwn, first_with, SeesMore, MakesTurn, Splits}
 use Rattle.sysv_model.specs.Members.{Joins, Closes}
 use Rattle.sysv_model.proofs.Sharing.{AtMost, whole_in_any}
-use Rattle.sysv_gate.specs.declared.closing.Closing.{Closing}
+use Rattle.sysv_gate.specs.declared.gate.closing.Closing.{Closing}
 use Rattle.sysv_gate.specs.History.{Moves, IsLegal}
 use Rattle.sysv_gate.specs.Gates.{Gateway, Holding}
 use Rattle.sysv_gate.specs.Shares.{AreWithin, IsWhole}
@@ -26,8 +26,8 @@ use Rattle.sysv_service.specs.declared.kinds.Gated.{Gated}
 use Rattle.sysv_objects.specs.declared.object.ObjectCall.{ObjectCall}
 use Rattle.sysv_objects.specs.declared.object.ObjectReply.{ObjectReply}
 use Rattle.sysv_service.specs.Gated.{GatedMoves, gated_counts}
-use Rattle.sysv_service.specs.Order.{GatedPlaced, GatedPass, object_at, deed_at, deeds_after, deeds_of, member_of}
-use Rattle.sysv_service.specs.Ordered.{deed_added, IsLegalOrder}
+use Rattle.sysv_service.specs.Order.{GatedPlaced, GatedPass, object_at, op_at, ops_after, ops_of, member_of}
+use Rattle.sysv_service.specs.Ordered.{op_added, IsLegalOrder}
 
 -- ---- numbers
 
@@ -63,55 +63,55 @@ whole shares w depth within = whole_in_any shares w depth (all_within depth shar
 -- ---- orders
 
 module _ (gates : List (Gateway Gated)) where
-  abbrev pub deed_after : List GatedPlaced → GatedPlaced → Numbered
-  deed_after earlier t = record { by = t.turn.by; deed = deed_at t.place (object_at gates t.place earlier) t.turn }
+  abbrev pub op_after : List GatedPlaced → GatedPlaced → Numbered
+  op_after earlier t = record { by = t.turn.by; op = op_at t.place (object_at gates t.place earlier) t.turn }
 
-  pub deeds_after-append : (earlier xs ys : List GatedPlaced) →
-      deeds_after gates earlier (xs ++ ys) ≡ deeds_after gates earlier xs ++ deeds_after gates (earlier ++ xs) ys
-  deeds_after-append earlier [] ys = ap (λ l. deeds_after gates l ys) (sym (append-nil earlier))
-  deeds_after-append earlier (x ∷ xs) ys =
-      ap (λ l. deed_after earlier x ∷ l)
-      (deeds_after-append (earlier ++ x ∷ []) xs ys
-      ∙ ap (λ l. deeds_after gates (earlier ++ x ∷ []) xs ++ deeds_after gates l ys) (append_assoc earlier (x ∷ []) xs))
+  pub ops_after-append : (earlier xs ys : List GatedPlaced) →
+      ops_after gates earlier (xs ++ ys) ≡ ops_after gates earlier xs ++ ops_after gates (earlier ++ xs) ys
+  ops_after-append earlier [] ys = ap (λ l. ops_after gates l ys) (sym (append-nil earlier))
+  ops_after-append earlier (x ∷ xs) ys =
+      ap (λ l. op_after earlier x ∷ l)
+      (ops_after-append (earlier ++ x ∷ []) xs ys
+      ∙ ap (λ l. ops_after gates (earlier ++ x ∷ []) xs ++ ops_after gates l ys) (append_assoc earlier (x ∷ []) xs))
 
-  pub deeds_of-append : (xs ys : List GatedPlaced) →
-      deeds_of gates (xs ++ ys) ≡ deeds_of gates xs ++ deeds_after gates xs ys
-  deeds_of-append xs ys = deeds_after-append [] xs ys
+  pub ops_of-append : (xs ys : List GatedPlaced) →
+      ops_of gates (xs ++ ys) ≡ ops_of gates xs ++ ops_after gates xs ys
+  ops_of-append xs ys = ops_after-append [] xs ys
 
   others_of : (numbers : List ℕ) (earlier ts : List GatedPlaced) → NoneMadeUnder numbers ts →
-      AreOfOthers numbers (deeds_after gates earlier ts)
+      AreOfOthers numbers (ops_after gates earlier ts)
   others_of numbers earlier [] none = All-nil (IsOther numbers)
   others_of numbers earlier (t ∷ ts) none =
-      All-cons (IsOther numbers) (deed_after earlier t) (deeds_after gates (earlier ++ t ∷ []) ts) none.0
+      All-cons (IsOther numbers) (op_after earlier t) (ops_after gates (earlier ++ t ∷ []) ts) none.0
       (others_of numbers (earlier ++ t ∷ []) ts none.1)
 
   own_of : (numbers : List ℕ) (earlier ts : List GatedPlaced) → AllMadeUnder numbers ts →
-      AreOwn numbers (deeds_after gates earlier ts)
+      AreOwn numbers (ops_after gates earlier ts)
   own_of numbers earlier [] all = All-nil (IsOwn numbers)
   own_of numbers earlier (t ∷ ts) all =
-      All-cons (IsOwn numbers) (deed_after earlier t) (deeds_after gates (earlier ++ t ∷ []) ts) all.0
+      All-cons (IsOwn numbers) (op_after earlier t) (ops_after gates (earlier ++ t ∷ []) ts) all.0
       (own_of numbers (earlier ++ t ∷ []) ts all.1)
 
-  abbrev longer_of : (xs ys : List GatedPlaced) → IsPrefixOf xs ys → IsPrefixOf (deeds_of gates xs) (deeds_of gates ys)
-  longer_of xs ys longer = (deeds_after gates xs longer.0, ap (deeds_of gates) longer.1 ∙ deeds_of-append xs longer.0)
+  abbrev longer_of : (xs ys : List GatedPlaced) → IsPrefixOf xs ys → IsPrefixOf (ops_of gates xs) (ops_of gates ys)
+  longer_of xs ys longer = (ops_after gates xs longer.0, ap (ops_of gates) longer.1 ∙ ops_of-append xs longer.0)
 
   -- An order that goes on without a turn under one of the numbers has no more turns under it.
   under_of : (numbers : List ℕ) (xs ys : List GatedPlaced) → GoesOnWithout numbers xs ys → (x : ℕ) →
-      1 ≤ times x numbers → under x (deeds_of gates ys) ≡ under x (deeds_of gates xs)
+      1 ≤ times x numbers → under x (ops_of gates ys) ≡ under x (ops_of gates xs)
   under_of numbers xs ys goes x has =
-      let more : List Numbered = deeds_after gates xs goes.0.0 in
+      let more : List Numbered = ops_after gates xs goes.0.0 in
       ap (under x) (longer_of xs ys goes.0).1
-      ∙ (filter-append (λ (t : Numbered). t.by == x) (deeds_of gates xs) more
-      ∙ (ap (λ l. under x (deeds_of gates xs) ++ l)
+      ∙ (filter-append (λ (t : Numbered). t.by == x) (ops_of gates xs) more
+      ∙ (ap (λ l. under x (ops_of gates xs) ++ l)
       (under_none x numbers more (others_of numbers xs goes.0.0 goes.1) has)
-      ∙ append-nil (under x (deeds_of gates xs))))
+      ∙ append-nil (under x (ops_of gates xs))))
 
   -- ---- what passes do
 
   pub opens : (pass : GatedPass) → (pass.order ≡ []) × (pass.number ≡ 0) × (pass.numbers ≡ 0 ∷ []) →
       pass.shares ≡ 0 ∷ [] → member_of gates pass ≡ first_with 0
   opens pass first shares = λ i.
-      record { number = first.1 i; numbers = first.2 i; shares = shares i; order = deeds_of gates (first.0 i) }
+      record { number = first.1 i; numbers = first.2 i; shares = shares i; order = ops_of gates (first.0 i) }
 
   pub sees : (before after : GatedPass) → GoesOn before after →
       SeesMore (member_of gates before) (member_of gates after)
@@ -124,19 +124,19 @@ module _ (gates : List (Gateway Gated)) where
       }
 
   pub makes : (place : ℕ) (before after : GatedPass) (adds : AddsToOrder place before after) →
-      MakesTurn (member_of gates before) (deed_added gates place before after adds) (member_of gates after)
+      MakesTurn (member_of gates before) (op_added gates place before after adds) (member_of gates after)
   makes place before after adds =
       let t : GatedPlaced = record { place = place; turn = adds.turn } in
-      let others : List Numbered = deeds_after gates before.order adds.others in
-      let order : deeds_of gates after.order
-      ≡ (deeds_of gates before.order ++ others)
-      ++ record { by = before.number; deed = deed_added gates place before after adds } ∷ [] =
-      ap (deeds_of gates) adds.order
-      ∙ (deeds_of-append (before.order ++ adds.others) (t ∷ [])
-      ∙ (ap (λ l. l ++ deeds_after gates (before.order ++ adds.others) (t ∷ []))
-      (deeds_of-append before.order adds.others)
+      let others : List Numbered = ops_after gates before.order adds.others in
+      let order : ops_of gates after.order
+      ≡ (ops_of gates before.order ++ others)
+      ++ record { by = before.number; op = op_added gates place before after adds } ∷ [] =
+      ap (ops_of gates) adds.order
+      ∙ (ops_of-append (before.order ++ adds.others) (t ∷ [])
+      ∙ (ap (λ l. l ++ ops_after gates (before.order ++ adds.others) (t ∷ []))
+      (ops_of-append before.order adds.others)
       ∙ ap (λ (n : ℕ).
-      (deeds_of gates before.order ++ others) ++ record { by = n; deed = deed_added gates place before after adds }
+      (ops_of gates before.order ++ others) ++ record { by = n; op = op_added gates place before after adds }
       ∷ []) adds.by)) in
       record {
         others = others;
@@ -153,35 +153,35 @@ module _ (gates : List (Gateway Gated)) where
         (subst (λ ns. NoneMadeUnder ns before.order) s.new_numbers
         (subst (λ (l : List GatedPlaced). NoneMadeUnder new.numbers l) s.new_order s.no_turn));
     parent = λ i.
-        record { number = s.number i; numbers = s.numbers i; shares = s.shares i; order = deeds_of gates (s.order i) };
+        record { number = s.number i; numbers = s.numbers i; shares = s.shares i; order = ops_of gates (s.order i) };
     child = λ i. record {
       number = new.number;
       numbers = s.new_numbers i;
       shares = s.new_shares i;
-      order = deeds_of gates (s.new_order i);
+      order = ops_of gates (s.new_order i);
     };
   }
 
   pub joins : (one two after : GatedPass) → JoinsOrders one two after →
       Joins (member_of gates one) (member_of gates two) (member_of gates after)
   joins one two after j = record {
-    order = deeds_of gates after.order;
+    order = ops_of gates after.order;
     begins_one = longer_of one.order after.order j.begins_one.0;
     begins_two = longer_of two.order after.order j.begins_two.0;
     own_one = under_of one.numbers one.order after.order j.begins_one;
     own_two = under_of two.numbers two.order after.order j.begins_two;
     joined = λ i.
-        record { number = j.number i; numbers = j.numbers i; shares = j.shares i; order = deeds_of gates after.order };
+        record { number = j.number i; numbers = j.numbers i; shares = j.shares i; order = ops_of gates after.order };
   }
 
   pub closes : (last : GatedPass) (closings : List (Closing Gated)) →
       (c : ClosesInOrder (Moves GatedMoves gated_counts) last closings) →
-      Closes (member_of gates last) (deeds_of gates c.order)
+      Closes (member_of gates last) (ops_of gates c.order)
   closes last closings c = record {
     longer = longer_of last.order c.order c.longer;
     apart = c.apart;
     all = λ w.
-        let home = c.home (whole last.shares w) in (ap (deeds_of gates) home.0, own_of last.numbers [] c.order home.1);
+        let home = c.home (whole last.shares w) in (ap (ops_of gates) home.0, own_of last.numbers [] c.order home.1);
   }
 
 -- ---- the end

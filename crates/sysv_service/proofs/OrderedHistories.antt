@@ -22,9 +22,9 @@ use Rattle.sysv_keys.specs.StandsFor.{StandsFor as RegistryStandsFor}
 use Rattle.sysv_keys.specs.LegalReply.{IsLegalHistory as IsLegalRegistryHistory}
 use Rattle.sysv_pool.specs.StandsFor.{StandsFor as PoolStandsFor}
 use Rattle.sysv_pool.specs.LegalReply.{IsLegalHistory as IsLegalPoolHistory}
-use Rattle.sysv_objects.specs.LegalDeed.{AreLegal}
-use Rattle.sysv_gate.specs.declared.view.Turn.{Turn}
-use Rattle.sysv_gate.specs.declared.closing.Closing.{Closing}
+use Rattle.sysv_objects.specs.LegalOp.{AreLegal}
+use Rattle.sysv_gate.specs.declared.table.view.Turn.{Turn}
+use Rattle.sysv_gate.specs.declared.gate.closing.Closing.{Closing}
 use Rattle.sysv_gate.specs.History.{Moves, IsLegal, after_all}
 use Rattle.sysv_gate.specs.Gates.{Gateway}
 use Rattle.sysv_gate.specs.Orders.{turns_at}
@@ -48,8 +48,8 @@ use Rattle.sysv_service.specs.Seats.{entries, slot_entry, registry_entry, pool_e
 use Rattle.sysv_service.specs.Opened.{AreOpen}
 use Rattle.sysv_service.specs.Banked.{AreSlots, AreByKind, gates_seen, seats_seen}
 use Rattle.sysv_service.specs.Sharing.{LegalIfOpen}
-use Rattle.sysv_service.specs.Order.{GatedTurn, GatedPlaced, GatedPass, opening_at, object_at, deed_at, deeds_after}
-use Rattle.sysv_service.specs.Order.{deeds_of}
+use Rattle.sysv_service.specs.Order.{GatedTurn, GatedPlaced, GatedPass, opening_at, object_at, op_at, ops_after}
+use Rattle.sysv_service.specs.Order.{ops_of}
 use Rattle.sysv_service.specs.Ordered.{IsLegalOrder, OrdersAreOfCrews}
 use Rattle.sysv_service.proofs.GateOfKind.{legal_as}
 use Rattle.sysv_service.proofs.KindsKept.{keeps_slot, keeps_registry, keeps_pool}
@@ -107,7 +107,7 @@ module _ (gates : List (Gateway Gated)) where
     -- What the turn adds to the history.
     abbrev Adds : Type 0
     Adds = (at : ℕ) (before : Gated) (t : GatedTurn) →
-        in_world (turn_of (record { by = t.by; deed = deed_at at before t }))
+        in_world (turn_of (record { by = t.by; op = op_at at before t }))
         ≡ cond (at == place) (entry (kind.object before) (turn_as kind t) ∷ []) []
 
     abbrev entries_of : Gated → List GatedTurn → List E
@@ -117,17 +117,17 @@ module _ (gates : List (Gateway Gated)) where
     one_entry before t = entry (kind.object before) (turn_as kind t) ∷ []
 
     history : Adds → (earlier ts : List GatedPlaced) →
-        flat_map in_world (turns_of (deeds_after gates earlier ts))
+        flat_map in_world (turns_of (ops_after gates earlier ts))
         ≡ entries_of (object_at gates place earlier) (turns_at place ts)
     history adds earlier [] = refl
     history adds earlier (t ∷ ts) =
         let was : Gated = object_at gates t.place earlier in
         let first = adds t.place was t.turn in
         let rest = history adds (earlier ++ t ∷ []) ts in
-        let later : List E = flat_map in_world (turns_of (deeds_after gates (earlier ++ t ∷ []) ts)) in
+        let later : List E = flat_map in_world (turns_of (ops_after gates (earlier ++ t ∷ []) ts)) in
         dite (ℕ_discrete t.place place)
         (λ e.
-        let it : in_world (turn_of (record { by = t.turn.by; deed = deed_at t.place was t.turn }))
+        let it : in_world (turn_of (record { by = t.turn.by; op = op_at t.place was t.turn }))
         ≡ one_entry (object_at gates place earlier) t.turn =
         first
         ∙ (ap (λ b. cond b (one_entry was t.turn) []) (same_place t.place place e)
@@ -144,7 +144,7 @@ module _ (gates : List (Gateway Gated)) where
         (sym (turns_if place t ts ∙ ap (λ us. us ++ turns_at place ts) (elsewhere place t apart)))))
 
   slot_adds : (slot : ℕ) →
-      Adds (suc (suc slot)) as_slot slot_entry (λ (t : WorldTurn). world_slot_entry slot t.who t.deed)
+      Adds (suc (suc slot)) as_slot slot_entry (λ (t : WorldTurn). world_slot_entry slot t.who t.op)
   slot_adds slot zero before t =
       none_at (slot_entry (slot_in before) (turn_as as_slot t)) zero (suc (suc slot)) (λ e. omega arith)
   slot_adds slot (suc zero) before t =
@@ -152,37 +152,37 @@ module _ (gates : List (Gateway Gated)) where
   slot_adds slot (suc (suc at)) before t =
       ap (λ b. cond b (slot_entry (slot_in before) (turn_as as_slot t) ∷ []) []) (sym (two_on at slot))
 
-  registry_adds : Adds zero as_registry registry_entry (λ (t : WorldTurn). world_registry_entry t.who t.deed)
+  registry_adds : Adds zero as_registry registry_entry (λ (t : WorldTurn). world_registry_entry t.who t.op)
   registry_adds zero before t = refl
   registry_adds (suc zero) before t =
       none_at (registry_entry (registry_in before) (turn_as as_registry t)) (suc zero) zero (λ e. omega arith)
   registry_adds (suc (suc at)) before t =
       none_at (registry_entry (registry_in before) (turn_as as_registry t)) (suc (suc at)) zero (λ e. omega arith)
 
-  pool_adds : Adds (suc zero) as_pool pool_entry (λ (t : WorldTurn). world_pool_entry t.who t.deed)
+  pool_adds : Adds (suc zero) as_pool pool_entry (λ (t : WorldTurn). world_pool_entry t.who t.op)
   pool_adds zero before t = none_at (pool_entry (pool_in before) (turn_as as_pool t)) zero (suc zero) (λ e. omega arith)
   pool_adds (suc zero) before t = refl
   pool_adds (suc (suc at)) before t =
       none_at (pool_entry (pool_in before) (turn_as as_pool t)) (suc (suc at)) (suc zero) (λ e. omega arith)
 
   pub slot_history_of : (slot : ℕ) (order : List GatedPlaced) →
-      slot_history slot (turns_of (deeds_of gates order))
+      slot_history slot (turns_of (ops_of gates order))
       ≡ entries slot_entry (slot_in (opening_at gates (suc (suc slot))))
       (map (turn_as as_slot) (turns_at (suc (suc slot)) order))
   slot_history_of slot order = history (suc (suc slot)) as_slot slot_entry
-      (λ (t : WorldTurn). world_slot_entry slot t.who t.deed) (slot_adds slot) [] order
+      (λ (t : WorldTurn). world_slot_entry slot t.who t.op) (slot_adds slot) [] order
 
   pub registry_history_of : (order : List GatedPlaced) →
-      registry_history (turns_of (deeds_of gates order))
+      registry_history (turns_of (ops_of gates order))
       ≡ entries registry_entry (registry_in (opening_at gates zero)) (map (turn_as as_registry) (turns_at zero order))
   registry_history_of order = history zero as_registry registry_entry
-      (λ (t : WorldTurn). world_registry_entry t.who t.deed) registry_adds [] order
+      (λ (t : WorldTurn). world_registry_entry t.who t.op) registry_adds [] order
 
   pub pool_history_of : (order : List GatedPlaced) →
-      pool_history (turns_of (deeds_of gates order))
+      pool_history (turns_of (ops_of gates order))
       ≡ entries pool_entry (pool_in (opening_at gates (suc zero))) (map (turn_as as_pool) (turns_at (suc zero) order))
   pool_history_of order =
-      history (suc zero) as_pool pool_entry (λ (t : WorldTurn). world_pool_entry t.who t.deed) pool_adds [] order
+      history (suc zero) as_pool pool_entry (λ (t : WorldTurn). world_pool_entry t.who t.op) pool_adds [] order
 
 -- ---- legal turns
 
@@ -239,7 +239,7 @@ pool_legal blocks o ts is stands many legal =
 
 legal : (generation blocks first : ℕ) (gates : List (Gateway Gated)) (order : List GatedPlaced) → AreByKind gates →
     AreOpen generation blocks first (gates_seen gates) → IsLegalOrder gates order →
-    AreLegal generation blocks (turns_of (deeds_of gates order))
+    AreLegal generation blocks (turns_of (ops_of gates order))
 legal generation blocks first [] order kinds fresh l = absurd kinds
 legal generation blocks first (r ∷ []) order kinds fresh l = absurd kinds
 legal generation blocks first (r ∷ p ∷ ss) order kinds fresh l =
@@ -271,7 +271,7 @@ legal generation blocks first (r ∷ p ∷ ss) order kinds fresh l =
 
 pub order_legal : (last : GatedPass) (closings : List (Closing Gated)) → AreByKind (gates_of last.seats) →
     length closings ≡ length last.seats → (c : ClosesInOrder (Moves GatedMoves gated_counts) last closings) →
-    LegalIfOpen (seats_seen last) (deeds_of (gates_of last.seats) c.order)
+    LegalIfOpen (seats_seen last) (ops_of (gates_of last.seats) c.order)
 order_legal last closings kinds many c generation blocks first gates fresh fit =
     legal generation blocks first (gates_of last.seats) c.order kinds
     (subst (AreOpen generation blocks first) (sym (gates_known last gates fit)) fresh) (ends last closings many c)

@@ -27,8 +27,8 @@ use Rattle.sysv_objects.specs.SlotTurns.{slot_call, slot_reply}
 use Rattle.sysv_objects.specs.RegistryTurns.{registry_call, registry_reply}
 use Rattle.sysv_objects.specs.PoolTurns.{pool_call, pool_reply}
 use Rattle.sysv_service.specs.Gated.{slot_in}
-use Rattle.sysv_service.specs.Order.{GatedTurn, GatedPlaced, GatedPass, opening_at, deed_at, member_of}
-use Rattle.sysv_service.specs.Ordered.{deed_added, AnswersAt, deed_answered}
+use Rattle.sysv_service.specs.Order.{GatedTurn, GatedPlaced, GatedPass, opening_at, op_at, member_of}
+use Rattle.sysv_service.specs.Ordered.{op_added, AnswersAt, op_answered}
 use Rattle.sysv_service.proofs.Ordered.{makes}
 
 opening_of : (seats : List (Holding Gated ObjectCall ObjectReply)) (place : ℕ)
@@ -41,7 +41,7 @@ opening_of (s ∷ ss) (suc place) h at = opening_of ss place h at
 
 pub answered : (place : ℕ) (before after : GatedPass) (call : ObjectCall) (reply : ObjectReply)
     (adds : AddsToOrder place before after) (c : AnswersAt place before call reply after) →
-    deed_added (gates_of before.seats) place before after adds ≡ deed_answered place before call reply after c
+    op_added (gates_of before.seats) place before after adds ≡ op_answered place before call reply after c
 answered place before after call reply adds c =
     let a = c.change.0 in
     let added : GatedPlaced = record { place = place; turn = adds.turn } in
@@ -57,7 +57,7 @@ answered place before after call reply adds c =
     let both = same_from_push (turns_at place (before.order ++ adds.others)) (c.was.seen ++ a.others) adds.turn turn
     (sym in_order ∙ (sym (adds.seen c.is is_there) ∙ seen)) in
     let opening = opening_of before.seats place c.was c.at in
-    λ i. deed_at place (after_all (opening i) (both.0 i)) (both.1 i)
+    λ i. op_at place (after_all (opening i) (both.0 i)) (both.1 i)
 
 two_more : (n : ℕ) → n + 2 ≡ suc (suc n)
 two_more n = omega arith
@@ -79,7 +79,7 @@ slot_made slot before after call reply adds c =
     record { by = c.was.number; call = asked.Slot call; reply = told.Slot reply; after = c.change.0.object } in
     subst (λ d. MakesTurn (member_of (gates_of before.seats) before) d (member_of (gates_of before.seats) after))
     (answered (slot + 2) before after (asked.Slot call) (told.Slot reply) adds c
-    ∙ ap (λ n. deed_at n (object_was (slot + 2) before (asked.Slot call) (told.Slot reply) after c) turn)
+    ∙ ap (λ n. op_at n (object_was (slot + 2) before (asked.Slot call) (told.Slot reply) after c) turn)
     (two_more slot))
     (makes (gates_of before.seats) (slot + 2) before after adds)
 

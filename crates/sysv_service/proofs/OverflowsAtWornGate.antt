@@ -11,7 +11,7 @@ use Rattle.sysv_model.specs.History.{ReadRow, Reply, Refused as IsRefusedFor, Di
 use Rattle.sysv_model.specs.Registry.{RegistryCall, RegistryReply, RegistryHistory, RegistryEntry, Begin, Settle}
 use Rattle.sysv_model.specs.Registry.{Forget, Unbound, Changed}
 use Rattle.sysv_model.specs.Pool.{Released as WasReleased, Foreign}
-use Rattle.sysv_model.specs.Turn.{OfSlot, OfRegistry, Deed, AtSlot, AtRegistry, AtPool}
+use Rattle.sysv_model.specs.Turn.{OfSlot, OfRegistry, Op, AtSlot, AtRegistry, AtPool}
 use Rattle.sysv_keys.specs.LegalReply.{IsLegalReply}
 use Rattle.sysv_keys.specs.StandsFor.{StandsFor as RegistryStandsFor}
 use Rattle.sysv_keys.specs.Identifier.{slot_of_id}
@@ -27,7 +27,7 @@ use Rattle.sysv_steps.specs.Resume.{Count, ArrivedOf, FreedOf, Settled, Released
 use Rattle.sysv_steps.specs.State.{Ending, Refused, Phase, AtInstall, AtRemove, AtForget, AtRemoveGiveback, State, Goes}
 use Rattle.sysv_steps.specs.State.{Waits, Over}
 use Rattle.sysv_steps.specs.Stepping.{no_moment}
-use Rattle.sysv_gate.specs.declared.view.Turn.{Turn}
+use Rattle.sysv_gate.specs.declared.table.view.Turn.{Turn}
 use Rattle.sysv_gate.specs.Gates.{Gateway}
 use Rattle.sysv_gate.specs.History.{Moves, IsLegal, after_all}
 use Rattle.sysv_service.specs.Counts.{slot_counts, registry_counts}
@@ -63,14 +63,14 @@ IsProperUnbound (Unbound EOVERFLOW) = ⊥
 IsProperUnbound reply = Unit {0}
 
 -- The turn is not one of a slot that replied EOVERFLOW.
-abbrev IsProperAtSlot : Deed → Type 0
+abbrev IsProperAtSlot : Op → Type 0
 IsProperAtSlot (AtSlot slot call reply) = IsProperReply reply
-IsProperAtSlot deed = Unit {0}
+IsProperAtSlot op = Unit {0}
 
 -- The turn is not one of the registry that replied EOVERFLOW.
-abbrev IsProperAtRegistry : Deed → Type 0
+abbrev IsProperAtRegistry : Op → Type 0
 IsProperAtRegistry (AtRegistry call reply) = IsProperUnbound reply
-IsProperAtRegistry deed = Unit {0}
+IsProperAtRegistry op = Unit {0}
 
 refused_so : (o : Slot) (call : Call) → Legal o call (IsRefusedFor EOVERFLOW) → ⊥
 refused_so o (Install id key cred mode now) legal = legal
@@ -121,14 +121,14 @@ proper_turn call reply before after took =
     (subst (λ r. Legal o call r) (ap (λ (e : Entry). e.reply) took.entered)
     (subst (λ c. Legal o c (slot_reply o took.reply)) (ap (λ (e : Entry). e.call) took.entered) legal))
 
-proper_at_slot : (before after : Seats) (deed : Deed) → MakesTurnAt before deed after → IsProperAtSlot deed
+proper_at_slot : (before after : Seats) (op : Op) → MakesTurnAt before op after → IsProperAtSlot op
 proper_at_slot before after (AtSlot slot call reply) makes =
     proper_turn call reply makes.0.was makes.0.is makes.0.change
-proper_at_slot before after deed makes = tt
+proper_at_slot before after op makes = tt
 
 -- ---- a call keeps the gate of the registry
 
-keeps_gate : (before after : Seats) (deed : Deed) → MakesTurnAt before deed after →
+keeps_gate : (before after : Seats) (op : Op) → MakesTurnAt before op after →
     after.registry.gate ≡ before.registry.gate
 keeps_gate before after (AtSlot slot call reply) makes = ap (λ (s : RegistrySeat). s.gate) makes.1
 keeps_gate before after (AtRegistry call reply) makes = ap (λ (s : RegistrySeat). s.gate) makes.0.answers.made
@@ -143,23 +143,23 @@ read_keeps_gate before after Released value r = ap (λ (s : RegistrySeat). s.gat
 
 -- ---- the turns of a call that found no gate worn out
 
-pushed : (P : Deed → Type 0) (deeds : List Deed) (deed : Deed) → AllByRecursion P deeds → P deed →
-    AllByRecursion P (deeds ++ deed ∷ [])
-pushed P [] deed all proper = (proper, tt)
-pushed P (d ∷ ds) deed all proper = (all.0, pushed P ds deed all.1 proper)
+pushed : (P : Op → Type 0) (ops : List Op) (op : Op) → AllByRecursion P ops → P op →
+    AllByRecursion P (ops ++ op ∷ [])
+pushed P [] op all proper = (proper, tt)
+pushed P (d ∷ ds) op all proper = (all.0, pushed P ds op all.1 proper)
 
 module _ (may : ℕ → Type 0) (from : State) (old : Pass) where
-  slot_turns : (deeds : List Deed) (state : State) (new : Pass) (ran : Ran may from old deeds state new) →
-      FindsTurns ran → AllByRecursion IsProperAtSlot deeds
+  slot_turns : (ops : List Op) (state : State) (new : Pass) (ran : Ran may from old ops state new) →
+      FindsTurns ran → AllByRecursion IsProperAtSlot ops
   slot_turns _ _ _ begins found = tt
-  slot_turns _ _ _ (steps {deeds} {phase} {mid} state new ran step) found =
-      pushed IsProperAtSlot deeds step.deed (slot_turns deeds (Goes phase) mid ran found)
-      (proper_at_slot mid.seats new.seats step.deed step.makes.turn)
-  slot_turns _ _ _ (turns_back {deeds} {phase} {mid} state new ran step) found = absurd found
-  slot_turns _ _ _ (reads {deeds} {state} {mid} count value new ran r same) found = slot_turns deeds state mid ran found
-  slot_turns _ _ _ (resumes {deeds} {wait} {mid} value new ran reached r same) found =
-      slot_turns deeds (Waits wait) mid ran found
-  slot_turns _ _ _ (gives_up {deeds} {wait} {mid} value new ran below r same) found = absurd found
+  slot_turns _ _ _ (steps {ops} {phase} {mid} state new ran step) found =
+      pushed IsProperAtSlot ops step.op (slot_turns ops (Goes phase) mid ran found)
+      (proper_at_slot mid.seats new.seats step.op step.makes.turn)
+  slot_turns _ _ _ (turns_back {ops} {phase} {mid} state new ran step) found = absurd found
+  slot_turns _ _ _ (reads {ops} {state} {mid} count value new ran r same) found = slot_turns ops state mid ran found
+  slot_turns _ _ _ (resumes {ops} {wait} {mid} value new ran reached r same) found =
+      slot_turns ops (Waits wait) mid ran found
+  slot_turns _ _ _ (gives_up {ops} {wait} {mid} value new ran below r same) found = absurd found
 
 module _ (histories : SeenHistories) (lasts : OwnTurnsAreLast) (generation : ℕ) where
   registry_turn : (call : RegistryCall) (reply : RegistryReply) (before after : RegistrySeat) →
@@ -175,9 +175,9 @@ module _ (histories : SeenHistories) (lasts : OwnTurnsAreLast) (generation : ℕ
       legal_is_proper_there generation (registry_seen before ++ last.0) call reply
       (stands.legal (registry_seen before ++ last.0) e [] last.1)
 
-  proper_at_registry : (before after : Seats) (deed : Deed) →
-      RegistryStandsFor generation [] before.registry.gate.opening → MakesTurnAt before deed after →
-      IsProperAtRegistry deed
+  proper_at_registry : (before after : Seats) (op : Op) →
+      RegistryStandsFor generation [] before.registry.gate.opening → MakesTurnAt before op after →
+      IsProperAtRegistry op
   proper_at_registry before after (AtSlot slot call reply) fresh makes = tt
   proper_at_registry before after (AtRegistry call reply) fresh makes =
       registry_turn call reply before.registry after.registry fresh makes.0
@@ -185,25 +185,25 @@ module _ (histories : SeenHistories) (lasts : OwnTurnsAreLast) (generation : ℕ
 
   module _ (may : ℕ → Type 0) (from : State) (old : Pass)
       (fresh : RegistryStandsFor generation [] old.seats.registry.gate.opening) where
-    registry_turns : (deeds : List Deed) (state : State) (new : Pass) (ran : Ran may from old deeds state new) →
+    registry_turns : (ops : List Op) (state : State) (new : Pass) (ran : Ran may from old ops state new) →
         FindsTurns ran →
-        (new.seats.registry.gate ≡ old.seats.registry.gate) × AllByRecursion IsProperAtRegistry deeds
+        (new.seats.registry.gate ≡ old.seats.registry.gate) × AllByRecursion IsProperAtRegistry ops
     registry_turns _ _ _ begins found = (refl, tt)
-    registry_turns _ _ _ (steps {deeds} {phase} {mid} state new ran step) found =
-        let so = registry_turns deeds (Goes phase) mid ran found in
+    registry_turns _ _ _ (steps {ops} {phase} {mid} state new ran step) found =
+        let so = registry_turns ops (Goes phase) mid ran found in
         let there = subst (λ (g : Gateway Registry). RegistryStandsFor generation [] g.opening) (sym so.0) fresh in (
-          keeps_gate mid.seats new.seats step.deed step.makes.turn ∙ so.0,
-          pushed IsProperAtRegistry deeds step.deed so.1
-              (proper_at_registry mid.seats new.seats step.deed there step.makes.turn),
+          keeps_gate mid.seats new.seats step.op step.makes.turn ∙ so.0,
+          pushed IsProperAtRegistry ops step.op so.1
+              (proper_at_registry mid.seats new.seats step.op there step.makes.turn),
         )
-    registry_turns _ _ _ (turns_back {deeds} {phase} {mid} state new ran step) found = absurd found
-    registry_turns _ _ _ (reads {deeds} {state} {mid} count value new ran r same) found =
-        let so = registry_turns deeds state mid ran found in
+    registry_turns _ _ _ (turns_back {ops} {phase} {mid} state new ran step) found = absurd found
+    registry_turns _ _ _ (reads {ops} {state} {mid} count value new ran r same) found =
+        let so = registry_turns ops state mid ran found in
         (read_keeps_gate mid.seats new.seats count value r ∙ so.0, so.1)
-    registry_turns _ _ _ (resumes {deeds} {wait} {mid} value new ran reached r same) found =
-        let so = registry_turns deeds (Waits wait) mid ran found in
+    registry_turns _ _ _ (resumes {ops} {wait} {mid} value new ran reached r same) found =
+        let so = registry_turns ops (Waits wait) mid ran found in
         (read_keeps_gate mid.seats new.seats (awaited wait) value r ∙ so.0, so.1)
-    registry_turns _ _ _ (gives_up {deeds} {wait} {mid} value new ran below r same) found = absurd found
+    registry_turns _ _ _ (gives_up {ops} {wait} {mid} value new ran below r same) found = absurd found
 
 -- ---- no right answer is EOVERFLOW
 
@@ -215,25 +215,25 @@ both_other : (xs ys : List Errno) → AllByRecursion IsOther xs → AllByRecursi
 both_other [] ys a b = b
 both_other (x ∷ xs) ys a b = (a.0, both_other xs ys a.1 b)
 
-module _ (P : Deed → Type 0) (f : Deed → List Errno)
-    (each : (deed : Deed) → P deed → AllByRecursion IsOther (f deed)) where
-  all_other : (deeds : List Deed) → AllByRecursion P deeds → AllByRecursion IsOther (flat_map f deeds)
+module _ (P : Op → Type 0) (f : Op → List Errno)
+    (each : (op : Op) → P op → AllByRecursion IsOther (f op)) where
+  all_other : (ops : List Op) → AllByRecursion P ops → AllByRecursion IsOther (flat_map f ops)
   all_other [] all = tt
   all_other (d ∷ ds) all = both_other (f d) (flat_map f ds) (each d all.0) (all_other ds all.1)
 
-  not_among : (deeds : List Deed) → AllByRecursion P deeds → flat_map f deeds ≡ EOVERFLOW ∷ [] → ⊥
-  not_among deeds all is =
-      let others : AllByRecursion IsOther (EOVERFLOW ∷ []) = subst (AllByRecursion IsOther) is (all_other deeds all) in
+  not_among : (ops : List Op) → AllByRecursion P ops → flat_map f ops ≡ EOVERFLOW ∷ [] → ⊥
+  not_among ops all is =
+      let others : AllByRecursion IsOther (EOVERFLOW ∷ []) = subst (AllByRecursion IsOther) is (all_other ops all) in
       others.0 refl
 
-refused_other : (deed : Deed) → IsProperAtSlot deed → AllByRecursion IsOther (refused_by deed)
+refused_other : (op : Op) → IsProperAtSlot op → AllByRecursion IsOther (refused_by op)
 refused_other (AtSlot slot call (IsRefusedFor why)) proper =
     (λ e. subst (λ w. IsProperReply (IsRefusedFor w)) e proper, tt)
-refused_other deed proper = tt
+refused_other op proper = tt
 
-unbound_other : (deed : Deed) → IsProperAtRegistry deed → AllByRecursion IsOther (unbound_by deed)
+unbound_other : (op : Op) → IsProperAtRegistry op → AllByRecursion IsOther (unbound_by op)
 unbound_other (AtRegistry call (Unbound why)) proper = (λ e. subst (λ w. IsProperUnbound (Unbound w)) e proper, tt)
-unbound_other deed proper = tt
+unbound_other op proper = tt
 
 abbrev why_of : Ending → Errno
 why_of (Refused why) = why
@@ -245,30 +245,30 @@ not_with [] others with_it = with_it
 not_with (why ∷ more) others (inl is) = others.0 (sym (ap why_of is))
 not_with (why ∷ more) others (inr rest) = not_with more others.1 rest
 
-not_so : (asked : SystemCall) (deeds : List Deed) → AllByRecursion IsProperAtSlot deeds →
-    IsRefusedSo asked deeds EOVERFLOW → ⊥
-not_so asked deeds all (inl own) = absurd cc
-not_so asked deeds all (inr is) = not_among IsProperAtSlot refused_by refused_other deeds all is
+not_so : (asked : SystemCall) (ops : List Op) → AllByRecursion IsProperAtSlot ops →
+    IsRefusedSo asked ops EOVERFLOW → ⊥
+not_so asked ops all (inl own) = absurd cc
+not_so asked ops all (inr is) = not_among IsProperAtSlot refused_by refused_other ops all is
 
 -- What is known of the turns of a get at the registry.
-abbrev IsProperFor : SystemCall → List Deed → Type 0
-IsProperFor (Msgget key flags) deeds = AllByRecursion IsProperAtRegistry deeds
-IsProperFor asked deeds = Unit {0}
+abbrev IsProperFor : SystemCall → List Op → Type 0
+IsProperFor (Msgget key flags) ops = AllByRecursion IsProperAtRegistry ops
+IsProperFor asked ops = Unit {0}
 
-no_overflow : (asked : SystemCall) (deeds : List Deed) → IsRightAnswer asked deeds (Refused EOVERFLOW) →
-    AllByRecursion IsProperAtSlot deeds → IsProperFor asked deeds → ⊥
-no_overflow (Msgsnd id mtype flags text) deeds right all there = elim right.only [
+no_overflow : (asked : SystemCall) (ops : List Op) → IsRightAnswer asked ops (Refused EOVERFLOW) →
+    AllByRecursion IsProperAtSlot ops → IsProperFor asked ops → ⊥
+no_overflow (Msgsnd id mtype flags text) ops right all there = elim right.only [
   | inl is ↦ absurd cc
   | inr with_it ↦ not_with (EAGAIN ∷ EACCES ∷ EIDRM ∷ EINVAL ∷ [])
       (λ e. absurd cc, (λ e. absurd cc, (λ e. absurd cc, (λ e. absurd cc, tt)))) with_it
 ]
-no_overflow (Msgrcv id size mtype flags) deeds right all there = elim right.only [
+no_overflow (Msgrcv id size mtype flags) ops right all there = elim right.only [
   | inl is ↦ (let e = is.2 in absurd cc)
   | inr with_it ↦ not_with (ENOMSG ∷ E2BIG ∷ EACCES ∷ EIDRM ∷ EINVAL ∷ [])
       (λ e. absurd cc, (λ e. absurd cc, (λ e. absurd cc, (λ e. absurd cc, (λ e. absurd cc, tt))))) with_it
 ]
-no_overflow (Msgget key flags) deeds right all there = elim ((right.refused EOVERFLOW).0 refl) [
-  | inl is ↦ not_among IsProperAtRegistry unbound_by unbound_other deeds there is
+no_overflow (Msgget key flags) ops right all there = elim ((right.refused EOVERFLOW).0 refl) [
+  | inl is ↦ not_among IsProperAtRegistry unbound_by unbound_other ops there is
   | inr rest ↦ elim rest [
     | inl so ↦ (let e = so.0 in absurd cc)
     | inr more ↦ elim more [
@@ -277,72 +277,72 @@ no_overflow (Msgget key flags) deeds right all there = elim ((right.refused EOVE
     ]
   ]
 ]
-no_overflow (MsgctlStat id) deeds right all there = not_so (MsgctlStat id) deeds all ((right.refused EOVERFLOW).0 refl)
-no_overflow (MsgctlSet id to) deeds right all there =
-    not_so (MsgctlSet id to) deeds all ((right.refused EOVERFLOW).0 refl)
-no_overflow (MsgctlRmid id) deeds right all there = not_so (MsgctlRmid id) deeds all ((right.refused EOVERFLOW).0 refl)
+no_overflow (MsgctlStat id) ops right all there = not_so (MsgctlStat id) ops all ((right.refused EOVERFLOW).0 refl)
+no_overflow (MsgctlSet id to) ops right all there =
+    not_so (MsgctlSet id to) ops all ((right.refused EOVERFLOW).0 refl)
+no_overflow (MsgctlRmid id) ops right all there = not_so (MsgctlRmid id) ops all ((right.refused EOVERFLOW).0 refl)
 
 -- ---- what a call finds worn out is marked
 
-back_keeps : (phase : Phase) (before : Pass) (deeds : List Deed) (state : State) (after : Pass) →
-    TurnsBack phase before deeds state after → KeepsMarks before.seats after.seats
-back_keeps (AtInstall get id) before deeds state after back = elim back.1 [
+back_keeps : (phase : Phase) (before : Pass) (ops : List Op) (state : State) (after : Pass) →
+    TurnsBack phase before ops state after → KeepsMarks before.seats after.seats
+back_keeps (AtInstall get id) before ops state after back = elim back.1 [
   | inl f ↦ turn_keeps before.seats after.seats (AtRegistry (Forget id) (Changed f.0)) f.2.turn
   | inr f ↦ worn_keeps before.seats after.seats (OfRegistry (Forget id)) f.1
 ]
-back_keeps phase before deeds state after back = λ place is. subst (IsMarkedAt place) (sym back.2) is
+back_keeps phase before ops state after back = λ place is. subst (IsMarkedAt place) (sym back.2) is
 
 module _ (may : ℕ → Type 0) (from : State) (old : Pass) where
   -- The call found no gate worn out, or one that is marked.
-  found_at : (deeds : List Deed) (state : State) (new : Pass) (ran : Ran may from old deeds state new) →
+  found_at : (ops : List Op) (state : State) (new : Pass) (ran : Ran may from old ops state new) →
       FindsTurns ran ⊎ ((place : Place) × FindsWornAt place ran × IsMarkedAt place new.seats)
   found_at _ _ _ begins = inl tt
-  found_at _ _ _ (steps {deeds} {phase} {mid} state new ran step) = elim (found_at deeds (Goes phase) mid ran) [
+  found_at _ _ _ (steps {ops} {phase} {mid} state new ran step) = elim (found_at ops (Goes phase) mid ran) [
     | inl turns ↦ inl turns
-    | inr f ↦ inr (f.0, f.1, turn_keeps mid.seats new.seats step.deed step.makes.turn f.0 f.2)
+    | inr f ↦ inr (f.0, f.1, turn_keeps mid.seats new.seats step.op step.makes.turn f.0 f.2)
   ]
-  found_at _ _ _ (turns_back {deeds} {phase} {mid} state new ran step) =
+  found_at _ _ _ (turns_back {ops} {phase} {mid} state new ran step) =
       let place = place_of (asks phase step.now) in
       inr (
         place,
         inl refl,
-        back_keeps phase (record mid { seats = step.there }) step.deeds state new step.back place
+        back_keeps phase (record mid { seats = step.there }) step.ops state new step.back place
             (is_marked mid.seats step.there (asks phase step.now) step.worn),
       )
-  found_at _ _ _ (reads {deeds} {state} {mid} count value new ran r same) = elim (found_at deeds state mid ran) [
+  found_at _ _ _ (reads {ops} {state} {mid} count value new ran r same) = elim (found_at ops state mid ran) [
     | inl turns ↦ inl turns
     | inr f ↦ inr (f.0, f.1, read_keeps mid.seats new.seats count value r f.0 f.2)
   ]
-  found_at _ _ _ (resumes {deeds} {wait} {mid} value new ran reached r same) =
-      elim (found_at deeds (Waits wait) mid ran) [
+  found_at _ _ _ (resumes {ops} {wait} {mid} value new ran reached r same) =
+      elim (found_at ops (Waits wait) mid ran) [
         | inl turns ↦ inl turns
         | inr f ↦ inr (f.0, f.1, read_keeps mid.seats new.seats (awaited wait) value r f.0 f.2)
       ]
-  found_at _ _ _ (gives_up {deeds} {wait} {mid} value new ran below r same) =
+  found_at _ _ _ (gives_up {ops} {wait} {mid} value new ran below r same) =
       inr (place_of_count (awaited wait), inl refl, is_marked_by_wait mid.seats new.seats (awaited wait) value r)
 
 module _ (histories : SeenHistories) (lasts : OwnTurnsAreLast) (may : ℕ → Type 0) where
-  proper_for : (asked : SystemCall) (from : State) (old : Pass) (deeds : List Deed) (state : State) (new : Pass) →
-      IsOpenFor asked old.seats → (ran : Ran may from old deeds state new) → FindsTurns ran → IsProperFor asked deeds
-  proper_for (Msgget key flags) from old deeds state new opened ran found =
+  proper_for : (asked : SystemCall) (from : State) (old : Pass) (ops : List Op) (state : State) (new : Pass) →
+      IsOpenFor asked old.seats → (ran : Ran may from old ops state new) → FindsTurns ran → IsProperFor asked ops
+  proper_for (Msgget key flags) from old ops state new opened ran found =
       let fresh = subst (λ (g : Gateway Registry). RegistryStandsFor opened.0 [] g.opening) (sym opened.5.registry)
       opened.4.registry.0 in
-      (registry_turns histories lasts opened.0 may from old fresh deeds state new ran found).1
-  proper_for asked from old deeds state new opened ran found = tt
+      (registry_turns histories lasts opened.0 may from old fresh ops state new ran found).1
+  proper_for asked from old ops state new opened ran found = tt
 
 pub each_overflow : SeenHistories → OwnTurnsAreLast → EachAnswerIsRight → (may : ℕ → Type 0) →
     EachOverflowIsAtAWornGate may
-each_overflow histories lasts right may cred asked released old deeds new opened ran =
+each_overflow histories lasts right may cred asked released old ops new opened ran =
     let from = begin cred asked released in
     let over = Over (Refused EOVERFLOW) in
     let none : FindsTurns ran → ⊥ =
     λ found.
-    no_overflow asked deeds
-    (each_answers_right right may cred asked released old deeds (Refused EOVERFLOW) new ran found)
-    (slot_turns may from old deeds over new ran found)
-    (proper_for histories lasts may asked from old deeds over new opened ran found) in (
+    no_overflow asked ops
+    (each_answers_right right may cred asked released old ops (Refused EOVERFLOW) new ran found)
+    (slot_turns may from old ops over new ran found)
+    (proper_for histories lasts may asked from old ops over new opened ran found) in (
       none,
-      elim (found_at may from old deeds over new ran) [
+      elim (found_at may from old ops over new ran) [
         | inl turns ↦ absurd (none turns)
         | inr f ↦ f
       ],
@@ -376,12 +376,12 @@ module _ (id : ℤ) where
   kept_on worn (Over (Refused EOVERFLOW)) before after keeps is = (is.0, keeps (AtTheSlot (slot_of_id id)) is.1)
   kept_on worn state before after keeps is = is
 
-  after_row : (worn : Type 0) (phase : Phase) (deed : Deed) (seats : Seats) → IsRemoving id phase → (worn → ⊥) →
-      IsProperAtSlot deed → AfterRow id worn (next phase deed) seats
+  after_row : (worn : Type 0) (phase : Phase) (op : Op) (seats : Seats) → IsRemoving id phase → (worn → ⊥) →
+      IsProperAtSlot op → AfterRow id worn (next phase op) seats
   after_row worn (AtRemove cred at) (AtSlot slot call (Discarded messages)) seats is not_yet proper = (tt, not_yet)
   after_row worn (AtRemove cred at) (AtSlot slot call (IsRefusedFor EOVERFLOW)) seats is not_yet proper = absurd proper
   after_row worn (AtRemove cred at) (AtSlot slot call (IsRefusedFor why)) seats is not_yet proper = not_yet
-  after_row worn (AtRemove cred at) deed seats is not_yet proper = tt
+  after_row worn (AtRemove cred at) op seats is not_yet proper = tt
   after_row worn (AtForget at blocks) (AtRegistry call (Changed done)) seats is not_yet proper = (tt, not_yet)
   after_row worn (AtForget at blocks) (AtRegistry call reply) seats is not_yet proper = tt
   after_row worn (AtForget at blocks) (AtSlot slot call reply) seats is not_yet proper = tt
@@ -391,7 +391,7 @@ module _ (id : ℤ) where
   after_row worn (AtRemoveGiveback blocks) (AtPool call reply) seats is not_yet proper = tt
   after_row worn (AtRemoveGiveback blocks) (AtSlot slot call reply) seats is not_yet proper = tt
   after_row worn (AtRemoveGiveback blocks) (AtRegistry call reply) seats is not_yet proper = tt
-  after_row worn phase deed seats is not_yet proper = absurd is
+  after_row worn phase op seats is not_yet proper = absurd is
 
   -- The gate of the removal's slot was found worn out at this step, or before.
   abbrev OrBefore : Type 0 → Phase → ℕ → Type 0
@@ -402,10 +402,10 @@ module _ (id : ℤ) where
   not_here other not_yet (inl here) = other here
   not_here other not_yet (inr before) = not_yet before
 
-  after_back : (worn : Type 0) (phase : Phase) (now : ℕ) (before there : Pass) (deeds : List Deed) (state : State)
+  after_back : (worn : Type 0) (phase : Phase) (now : ℕ) (before there : Pass) (ops : List Op) (state : State)
       (after : Pass) → IsRemoving id phase → (worn → ⊥) → FindsWorn before.seats (asks phase now) there.seats →
-      TurnsBack phase there deeds state after → Removal id (OrBefore worn phase now) state after.seats
-  after_back worn (AtRemove cred at) now before there deeds state after is not_yet finds back =
+      TurnsBack phase there ops state after → Removal id (OrBefore worn phase now) state after.seats
+  after_back worn (AtRemove cred at) now before there ops state after is not_yet finds back =
       let marked : IsMarkedAt (AtTheSlot (slot_of_id at)) there.seats =
       is_marked before.seats there.seats (asks (AtRemove cred at) now) finds in
       let given : Removal id (OrBefore worn (AtRemove cred at) now) (Over (Refused EOVERFLOW)) after.seats = (
@@ -414,54 +414,54 @@ module _ (id : ℤ) where
             (subst (IsMarkedAt (AtTheSlot (slot_of_id at))) (sym back.2) marked),
       ) in
       subst (λ s. Removal id (OrBefore worn (AtRemove cred at) now) s after.seats) (sym back.0) given
-  after_back worn (AtForget at blocks) now before there deeds state after is not_yet finds back =
+  after_back worn (AtForget at blocks) now before there ops state after is not_yet finds back =
       subst (λ s. Removal id (OrBefore worn (AtForget at blocks) now) s after.seats) (sym back.0)
       (tt, not_here (λ e. absurd cc) not_yet)
-  after_back worn (AtRemoveGiveback blocks) now before there deeds state after is not_yet finds back =
+  after_back worn (AtRemoveGiveback blocks) now before there ops state after is not_yet finds back =
       subst (λ s. Removal id (OrBefore worn (AtRemoveGiveback blocks) now) s after.seats) (sym back.0)
       (not_here (λ e. absurd cc) not_yet)
-  after_back worn phase now before there deeds state after is not_yet finds back = absurd is
+  after_back worn phase now before there ops state after is not_yet finds back = absurd is
 
 module _ (may : ℕ → Type 0) (from : State) (old : Pass) where
-  run_keeps : (deeds : List Deed) (state : State) (new : Pass) → Ran may from old deeds state new →
+  run_keeps : (ops : List Op) (state : State) (new : Pass) → Ran may from old ops state new →
       KeepsMarks old.seats new.seats
   run_keeps _ _ _ begins = λ place is. is
-  run_keeps _ _ _ (steps {deeds} {phase} {mid} state new ran step) =
+  run_keeps _ _ _ (steps {ops} {phase} {mid} state new ran step) =
       λ place is.
-      turn_keeps mid.seats new.seats step.deed step.makes.turn place (run_keeps deeds (Goes phase) mid ran place is)
-  run_keeps _ _ _ (turns_back {deeds} {phase} {mid} state new ran step) =
-      λ place is. back_keeps phase (record mid { seats = step.there }) step.deeds state new step.back place
+      turn_keeps mid.seats new.seats step.op step.makes.turn place (run_keeps ops (Goes phase) mid ran place is)
+  run_keeps _ _ _ (turns_back {ops} {phase} {mid} state new ran step) =
+      λ place is. back_keeps phase (record mid { seats = step.there }) step.ops state new step.back place
       (worn_keeps mid.seats step.there (asks phase step.now) step.worn place
-      (run_keeps deeds (Goes phase) mid ran place is))
-  run_keeps _ _ _ (reads {deeds} {state} {mid} count value new ran r same) =
-      λ place is. read_keeps mid.seats new.seats count value r place (run_keeps deeds state mid ran place is)
-  run_keeps _ _ _ (resumes {deeds} {wait} {mid} value new ran reached r same) =
+      (run_keeps ops (Goes phase) mid ran place is))
+  run_keeps _ _ _ (reads {ops} {state} {mid} count value new ran r same) =
+      λ place is. read_keeps mid.seats new.seats count value r place (run_keeps ops state mid ran place is)
+  run_keeps _ _ _ (resumes {ops} {wait} {mid} value new ran reached r same) =
       λ place is.
-      read_keeps mid.seats new.seats (awaited wait) value r place (run_keeps deeds (Waits wait) mid ran place is)
-  run_keeps _ _ _ (gives_up {deeds} {wait} {mid} value new ran below r same) =
+      read_keeps mid.seats new.seats (awaited wait) value r place (run_keeps ops (Waits wait) mid ran place is)
+  run_keeps _ _ _ (gives_up {ops} {wait} {mid} value new ran below r same) =
       λ place is.
-      end_keeps mid.seats new.seats (awaited wait) value r place (run_keeps deeds (Waits wait) mid ran place is)
+      end_keeps mid.seats new.seats (awaited wait) value r place (run_keeps ops (Waits wait) mid ran place is)
 
-  removed_so : (id : ℤ) (deeds : List Deed) (state : State) (new : Pass) (ran : Ran may from old deeds state new) →
+  removed_so : (id : ℤ) (ops : List Op) (state : State) (new : Pass) (ran : Ran may from old ops state new) →
       Removal id ⊥ from old.seats →
       Removal id (FindsWornAt (AtTheSlot (slot_of_id id)) ran) state new.seats
   removed_so id _ _ _ begins is = is
-  removed_so id _ _ _ (steps {deeds} {phase} {mid} state new ran step) is =
-      let so = removed_so id deeds (Goes phase) mid ran is in
+  removed_so id _ _ _ (steps {ops} {phase} {mid} state new ran step) is =
+      let so = removed_so id ops (Goes phase) mid ran is in
       subst (λ o. AfterRow id (FindsWornAt (AtTheSlot (slot_of_id id)) ran) o new.seats) step.goes
-      (after_row id (FindsWornAt (AtTheSlot (slot_of_id id)) ran) phase step.deed new.seats so.0 so.1
-      (proper_at_slot mid.seats new.seats step.deed step.makes.turn))
-  removed_so id _ _ _ (turns_back {deeds} {phase} {mid} state new ran step) is =
-      let so = removed_so id deeds (Goes phase) mid ran is in
+      (after_row id (FindsWornAt (AtTheSlot (slot_of_id id)) ran) phase step.op new.seats so.0 so.1
+      (proper_at_slot mid.seats new.seats step.op step.makes.turn))
+  removed_so id _ _ _ (turns_back {ops} {phase} {mid} state new ran step) is =
+      let so = removed_so id ops (Goes phase) mid ran is in
       after_back id (FindsWornAt (AtTheSlot (slot_of_id id)) ran) phase step.now mid (record mid { seats = step.there })
-      step.deeds state new so.0 so.1 step.worn step.back
-  removed_so id _ _ _ (reads {deeds} {state} {mid} count value new ran r same) is =
+      step.ops state new so.0 so.1 step.worn step.back
+  removed_so id _ _ _ (reads {ops} {state} {mid} count value new ran r same) is =
       kept_on id (FindsWornAt (AtTheSlot (slot_of_id id)) ran) state mid.seats new.seats
-      (read_keeps mid.seats new.seats count value r) (removed_so id deeds state mid ran is)
-  removed_so id _ _ _ (resumes {deeds} {wait} {mid} value new ran reached r same) is =
-      absurd (removed_so id deeds (Waits wait) mid ran is)
-  removed_so id _ _ _ (gives_up {deeds} {wait} {mid} value new ran below r same) is =
-      absurd (removed_so id deeds (Waits wait) mid ran is)
+      (read_keeps mid.seats new.seats count value r) (removed_so id ops state mid ran is)
+  removed_so id _ _ _ (resumes {ops} {wait} {mid} value new ran reached r same) is =
+      absurd (removed_so id ops (Waits wait) mid ran is)
+  removed_so id _ _ _ (gives_up {ops} {wait} {mid} value new ran below r same) is =
+      absurd (removed_so id ops (Waits wait) mid ran is)
 
 begun : (id : ℤ) (b : Bool) (seats : Seats) →
     Removal id ⊥ (if b then Over (Refused EINVAL) else Goes (AtRemove superuser id)) seats

@@ -7,7 +7,7 @@ use mathlib.Core.Option.{some, some-injective, some-ne-none}
 use lib.ListN.{get_elem?}
 use Rattle.sysv_model.specs.declared.errno.Errno.TheVariants.{EOVERFLOW}
 use Rattle.sysv_model.specs.Registry.{Forget, Changed}
-use Rattle.sysv_model.specs.Turn.{Ask, OfSlot, OfRegistry, OfPool, Deed, AtSlot, AtRegistry, AtPool, asked_by}
+use Rattle.sysv_model.specs.Turn.{Ask, OfSlot, OfRegistry, OfPool, Op, AtSlot, AtRegistry, AtPool, asked_by}
 use Rattle.sysv_steps.specs.State.{Getting, Phase, AtInstall, Refused, State, Goes, Waits, Over}
 use Rattle.sysv_steps.specs.Asks.{asks}
 use Rattle.sysv_steps.specs.Resume.{Count, ArrivedOf, FreedOf, Settled, Released, awaited}
@@ -67,7 +67,7 @@ module _ (before after : Seats) where
   at_the_pool keeps slots registry AtTheRegistry is = ap (λ (s : RegistrySeat). s.worn) registry ∙ is
   at_the_pool keeps slots registry AtThePool is = keeps is
 
-  pub turn_keeps : (deed : Deed) → MakesTurnAt before deed after → KeepsMarks
+  pub turn_keeps : (op : Op) → MakesTurnAt before op after → KeepsMarks
   turn_keeps (AtSlot slot call reply) makes =
       at_a_slot slot (λ was is took marked. never (sym marked ∙ took.fresh)) makes.0 makes.1 makes.2
   turn_keeps (AtRegistry call reply) makes =
@@ -116,7 +116,7 @@ module _ (before after : Seats) where
   is_marked_by_wait Released value r = ap (λ (s : PoolSeat). s.worn) r.0.1
 
   -- No turn is made at a gate whose seat is marked.
-  not_there : (deed : Deed) → MakesTurnAt before deed after → IsMarkedAt (place_of (asked_by deed)) before → ⊥
+  not_there : (op : Op) → MakesTurnAt before op after → IsMarkedAt (place_of (asked_by op)) before → ⊥
   not_there (AtSlot slot call reply) makes is =
       let one : is.0 ≡ makes.0.was = some-injective is.0 makes.0.was (sym is.1 ∙ makes.0.at) in
       never (sym is.2 ∙ ap (λ (s : SlotSeat). s.worn) one ∙ makes.0.change.fresh)
@@ -126,50 +126,50 @@ module _ (before after : Seats) where
 -- ---- what is still to come
 
 -- At the gates that these seats found worn out no turn follows, and the marks stay.
-record Later (end mid : Seats) (more : List Deed) : Type 0 where
+record Later (end mid : Seats) (more : List Op) : Type 0 where
   elsewhere : (place : Place) → IsMarkedAt place mid → AreElsewhere place more
   marks : (place : Place) → IsMarkedAt place mid → IsMarkedAt place end
 
 -- The same before an action that makes no turn.
-earlier : (end mid new : Seats) (more : List Deed) → KeepsMarks mid new → Later end new more → Later end mid more
+earlier : (end mid new : Seats) (more : List Op) → KeepsMarks mid new → Later end new more → Later end mid more
 earlier end mid new more keeps later = record {
   elsewhere = λ place is. later.elsewhere place (keeps place is);
   marks = λ place is. later.marks place (keeps place is);
 }
 
 -- The same before a turn.
-earlier_turn : (end mid new : Seats) (deed : Deed) (more : List Deed) → MakesTurnAt mid deed new → Later end new more →
-    Later end mid (deed ∷ more)
-earlier_turn end mid new deed more makes later = record {
+earlier_turn : (end mid new : Seats) (op : Op) (more : List Op) → MakesTurnAt mid op new → Later end new more →
+    Later end mid (op ∷ more)
+earlier_turn end mid new op more makes later = record {
   elsewhere = λ place is. (
-    λ there. not_there mid new deed makes (subst (λ p. IsMarkedAt p mid) (sym there) is),
-    later.elsewhere place (turn_keeps mid new deed makes place is),
+    λ there. not_there mid new op makes (subst (λ p. IsMarkedAt p mid) (sym there) is),
+    later.elsewhere place (turn_keeps mid new op makes place is),
   );
-  marks = λ place is. later.marks place (turn_keeps mid new deed makes place is);
+  marks = λ place is. later.marks place (turn_keeps mid new op makes place is);
 }
 
-worn_there : (end mid : Seats) (more : List Deed) (place : Place) → Later end mid more → IsMarkedAt place mid →
+worn_there : (end mid : Seats) (more : List Op) (place : Place) → Later end mid more → IsMarkedAt place mid →
     IsWornAt place more end
 worn_there end mid more place later is = (later.elsewhere place is, later.marks place is)
 
 -- ---- a step whose gate was worn out
 
-module _ (end : Seats) (before after : Pass) (more : List Deed) (later : Later end after.seats more) where
+module _ (end : Seats) (before after : Pass) (more : List Op) (later : Later end after.seats more) where
   -- The turns that are left after the step, and what follows at the gates before it.
-  record Back (phase : Phase) (deeds : List Deed) (state : State) : Type 0 where
-    turns : TurnsBackOn end phase (deeds ++ more) state more
-    sooner : Later end before.seats (deeds ++ more)
+  record Back (phase : Phase) (ops : List Op) (state : State) : Type 0 where
+    turns : TurnsBackOn end phase (ops ++ more) state more
+    sooner : Later end before.seats (ops ++ more)
 
-  forgotten : (get : Getting) (id : ℤ) (deeds : List Deed) (state : State) → (state ≡ Over (Refused EOVERFLOW)) →
-      Forgets id before deeds after → Back (AtInstall get id) deeds state
-  forgotten get id deeds state is (inl f) =
-      let deed : Deed = AtRegistry (Forget id) (Changed f.0) in
-      let given : Back (AtInstall get id) (deed ∷ []) state = record {
+  forgotten : (get : Getting) (id : ℤ) (ops : List Op) (state : State) → (state ≡ Over (Refused EOVERFLOW)) →
+      Forgets id before ops after → Back (AtInstall get id) ops state
+  forgotten get id ops state is (inl f) =
+      let op : Op = AtRegistry (Forget id) (Changed f.0) in
+      let given : Back (AtInstall get id) (op ∷ []) state = record {
         turns = (is, inl (f.0, refl));
-        sooner = earlier_turn end before.seats after.seats deed more f.2.turn later;
+        sooner = earlier_turn end before.seats after.seats op more f.2.turn later;
       } in
       subst (λ ds. Back (AtInstall get id) ds state) (sym f.1) given
-  forgotten get id deeds state is (inr f) =
+  forgotten get id ops state is (inr f) =
       let sooner : Later end before.seats more = earlier end before.seats after.seats more
       (worn_keeps before.seats after.seats (OfRegistry (Forget id)) f.1) later in
       let marked : IsMarkedAt AtTheRegistry after.seats =
@@ -180,51 +180,51 @@ module _ (end : Seats) (before after : Pass) (more : List Deed) (later : Later e
       } in
       subst (λ ds. Back (AtInstall get id) ds state) (sym f.0) given
 
-  nothing_sooner : (deeds : List Deed) → deeds ≡ [] → after.seats ≡ before.seats →
-      Later end before.seats (deeds ++ more)
-  nothing_sooner deeds none same =
+  nothing_sooner : (ops : List Op) → ops ≡ [] → after.seats ≡ before.seats →
+      Later end before.seats (ops ++ more)
+  nothing_sooner ops none same =
       subst (λ ds. Later end before.seats (ds ++ more)) (sym none) (subst (λ s. Later end s more) same later)
 
-  back : (phase : Phase) (deeds : List Deed) (state : State) → TurnsBack phase before deeds state after →
-      Back phase deeds state
-  back (AtInstall get id) deeds state b = forgotten get id deeds state b.0 b.1
-  back phase deeds state b =
-      record { turns = (b.0, ap (λ ds. ds ++ more) (sym b.1)); sooner = nothing_sooner deeds b.1 b.2 }
+  back : (phase : Phase) (ops : List Op) (state : State) → TurnsBack phase before ops state after →
+      Back phase ops state
+  back (AtInstall get id) ops state b = forgotten get id ops state b.0 b.1
+  back phase ops state b =
+      record { turns = (b.0, ap (λ ds. ds ++ more) (sym b.1)); sooner = nothing_sooner ops b.1 b.2 }
 
 -- ---- a call
 
 module _ (may : ℕ → Type 0) (from : State) (old : Pass) (to : State) (end : Seats) where
-  abbrev Played : State → List Deed → Type 0
-  Played state deeds = PlaysWorn end to state deeds
+  abbrev Played : State → List Op → Type 0
+  Played state ops = PlaysWorn end to state ops
 
   -- The call up to this state, followed by its play from this state on.
-  joined : (deeds : List Deed) (state : State) (mid : Pass) (more : List Deed) → Ran may from old deeds state mid →
-      Later end mid.seats more → Played state more → Played from (deeds ++ more)
+  joined : (ops : List Op) (state : State) (mid : Pass) (more : List Op) → Ran may from old ops state mid →
+      Later end mid.seats more → Played state more → Played from (ops ++ more)
   joined _ _ _ more begins later rest = rest
-  joined _ _ _ more (steps {deeds} {phase} {mid} state new ran step) later rest =
-      subst (Played from) (sym (append_assoc deeds (step.deed ∷ []) more))
-      (joined deeds (Goes phase) mid (step.deed ∷ more) ran
-      (earlier_turn end mid.seats new.seats step.deed more step.makes.turn later)
-      (worn.takes_next step.deed step.now state more step.asked step.goes rest))
-  joined _ _ _ more (turns_back {deeds} {phase} {mid} state new ran step) later rest =
-      let b = back end (record mid { seats = step.there }) new more later phase step.deeds state step.back in
+  joined _ _ _ more (steps {ops} {phase} {mid} state new ran step) later rest =
+      subst (Played from) (sym (append_assoc ops (step.op ∷ []) more))
+      (joined ops (Goes phase) mid (step.op ∷ more) ran
+      (earlier_turn end mid.seats new.seats step.op more step.makes.turn later)
+      (worn.takes_next step.op step.now state more step.asked step.goes rest))
+  joined _ _ _ more (turns_back {ops} {phase} {mid} state new ran step) later rest =
+      let b = back end (record mid { seats = step.there }) new more later phase step.ops state step.back in
       let marked = is_marked mid.seats step.there (asks phase step.now) step.worn in
-      subst (Played from) (sym (append_assoc deeds step.deeds more))
-      (joined deeds (Goes phase) mid (step.deeds ++ more) ran
-      (earlier end mid.seats step.there (step.deeds ++ more)
+      subst (Played from) (sym (append_assoc ops step.ops more))
+      (joined ops (Goes phase) mid (step.ops ++ more) ran
+      (earlier end mid.seats step.there (step.ops ++ more)
       (worn_keeps mid.seats step.there (asks phase step.now) step.worn) b.sooner)
-      (worn.finds_worn step.now state (step.deeds ++ more) more
-      (worn_there end step.there (step.deeds ++ more) (place_of (asks phase step.now)) b.sooner marked) b.turns rest))
-  joined _ _ _ more (reads {deeds} {state} {mid} count value new ran r same) later rest =
-      joined deeds state mid more ran
+      (worn.finds_worn step.now state (step.ops ++ more) more
+      (worn_there end step.there (step.ops ++ more) (place_of (asks phase step.now)) b.sooner marked) b.turns rest))
+  joined _ _ _ more (reads {ops} {state} {mid} count value new ran r same) later rest =
+      joined ops state mid more ran
       (earlier end mid.seats new.seats more (read_keeps mid.seats new.seats count value r) later) rest
-  joined _ _ _ more (resumes {deeds} {wait} {mid} value new ran reached r same) later rest =
-      joined deeds (Waits wait) mid more ran
+  joined _ _ _ more (resumes {ops} {wait} {mid} value new ran reached r same) later rest =
+      joined ops (Waits wait) mid more ran
       (earlier end mid.seats new.seats more (read_keeps mid.seats new.seats (awaited wait) value r) later)
       (worn.waits_enough value more reached rest)
-  joined _ _ _ more (gives_up {deeds} {wait} {mid} value new ran below r same) later rest =
+  joined _ _ _ more (gives_up {ops} {wait} {mid} value new ran below r same) later rest =
       let marked = is_marked_by_wait mid.seats new.seats (awaited wait) value r in
-      joined deeds (Waits wait) mid more ran
+      joined ops (Waits wait) mid more ran
       (earlier end mid.seats new.seats more (end_keeps mid.seats new.seats (awaited wait) value r) later)
       (worn.gives_up more (worn_there end new.seats more (place_of_count (awaited wait)) later marked) rest)
 
@@ -233,8 +233,8 @@ no_turns_later : (end : Seats) → Later end end []
 no_turns_later end = record { elsewhere = λ place is. tt; marks = λ place is. is }
 
 -- The whole call is played.
-pub comes : (may : ℕ → Type 0) (from : State) (old : Pass) (deeds : List Deed) (state : State) (new : Pass) →
-    Ran may from old deeds state new → PlaysWorn new.seats state from deeds
-comes may from old deeds state new ran =
-    subst (PlaysWorn new.seats state from) (append-nil deeds)
-    (joined may from old state new.seats deeds state new [] ran (no_turns_later new.seats) worn.stands)
+pub comes : (may : ℕ → Type 0) (from : State) (old : Pass) (ops : List Op) (state : State) (new : Pass) →
+    Ran may from old ops state new → PlaysWorn new.seats state from ops
+comes may from old ops state new ran =
+    subst (PlaysWorn new.seats state from) (append-nil ops)
+    (joined may from old state new.seats ops state new [] ran (no_turns_later new.seats) worn.stands)

@@ -29,8 +29,8 @@ module _ (may : ℕ → Type 0) (from : State) (old : Pass) where
 
   pub comes_step : (phase : Phase) (mid : Pass) (state : State) (new : Pass) → Comes may from old (Goes phase) mid →
       StepsOn may phase mid state new → Comes may from old state new
-  comes_step phase mid state new ran (inl s) = (ran.0 ++ s.deed ∷ [], steps state new ran.1 s)
-  comes_step phase mid state new ran (inr s) = (ran.0 ++ s.deeds, turns_back state new ran.1 s)
+  comes_step phase mid state new ran (inl s) = (ran.0 ++ s.op ∷ [], steps state new ran.1 s)
+  comes_step phase mid state new ran (inr s) = (ran.0 ++ s.ops, turns_back state new ran.1 s)
 
   pub comes_wait : (wait : Wait) (mid : Pass) (state : State) (new : Pass) → Comes may from old (Waits wait) mid →
       EndsWait wait mid state new → Comes may from old state new

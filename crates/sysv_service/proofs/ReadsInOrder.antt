@@ -32,7 +32,7 @@ use Rattle.sysv_service.specs.Gated.{IsSlot, IsRegistry, IsPool, as_slot, as_reg
 use Rattle.sysv_service.specs.Gated.{gated_counts}
 use Rattle.sysv_service.specs.ObjectKinds.{turn_as, seat_as}
 use Rattle.sysv_service.specs.Seats.{SlotSeat, KnowWhatTheyRead, entries, slot_entry, registry_entry, pool_entry}
-use Rattle.sysv_service.specs.Order.{GatedPlaced, GatedPass, opening_at, deeds_of}
+use Rattle.sysv_service.specs.Order.{GatedPlaced, GatedPass, opening_at, ops_of}
 use Rattle.sysv_service.specs.Banked.{AreByKind, seats_at, seats_seen}
 use Rattle.sysv_service.proofs.ClosedParts.{opened_there}
 use Rattle.sysv_service.proofs.GateOfKind.{back_as, legal_as, counted_as}
@@ -50,8 +50,8 @@ There order place h = IsLegal (Moves GatedMoves gated_counts) h.gate.opening (tu
 module _ (order : List GatedPlaced) (gates : List (Gateway Gated)) where
   slot_read : (slot : ℕ) (h : Mark) → IsSlot h.gate.opening → opening_at gates (suc (suc slot)) ≡ h.gate.opening →
       There order (suc (suc slot)) h → SlotStandsFor [] (as_slot.object h.gate.opening) →
-      (h.read.0 ≤ arrived (slot_history slot (turns_of (deeds_of gates order))) + 1)
-      × (h.read.1 ≤ freed (slot_history slot (turns_of (deeds_of gates order))) + 1)
+      (h.read.0 ≤ arrived (slot_history slot (turns_of (ops_of gates order))) + 1)
+      × (h.read.1 ≤ freed (slot_history slot (turns_of (ops_of gates order))) + 1)
   slot_read slot h kind opens known stands =
       let o = h.gate.opening in
       let ts = turns_at (suc (suc slot)) order in
@@ -74,7 +74,7 @@ module _ (order : List GatedPlaced) (gates : List (Gateway Gated)) where
 
   registry_read : (generation : ℕ) (h : Mark) → IsRegistry h.gate.opening → opening_at gates 0 ≡ h.gate.opening →
       There order 0 h → RegistryStandsFor generation [] (as_registry.object h.gate.opening) →
-      h.read.0 ≤ settled (registry_history (turns_of (deeds_of gates order))) + 1
+      h.read.0 ≤ settled (registry_history (turns_of (ops_of gates order))) + 1
   registry_read generation h kind opens known stands =
       let o = h.gate.opening in
       let ts = turns_at 0 order in
@@ -93,7 +93,7 @@ module _ (order : List GatedPlaced) (gates : List (Gateway Gated)) where
 
   pool_read : (h : Mark) → IsPool h.gate.opening → opening_at gates 1 ≡ h.gate.opening → There order 1 h →
       PoolStandsFor [] (as_pool.object h.gate.opening) →
-      h.read.0 ≤ released (pool_history (turns_of (deeds_of gates order))) + 1
+      h.read.0 ≤ released (pool_history (turns_of (ops_of gates order))) + 1
   pool_read h kind opens known stands =
       let o = h.gate.opening in
       let ts = turns_at 1 order in
@@ -113,7 +113,7 @@ module _ (order : List GatedPlaced) (gates : List (Gateway Gated)) where
 each_read : (order : List GatedPlaced) (number : ℕ) (numbers shares : List ℕ) (seats : List Mark) →
     AreByKind (gates_of seats) → ((place : ℕ) (h : Mark) → get_elem? seats place ≡ some h → There order place h) →
     KnowWhatTheyRead (seats_at seats
-    (record { number = number; numbers = numbers; shares = shares; order = deeds_of (gates_of seats) order }))
+    (record { number = number; numbers = numbers; shares = shares; order = ops_of (gates_of seats) order }))
 each_read order number numbers shares [] kinds known = absurd kinds
 each_read order number numbers shares (r ∷ []) kinds known = absurd kinds
 each_read order number numbers shares (r ∷ p ∷ ss) kinds known =
@@ -123,8 +123,8 @@ each_read order number numbers shares (r ∷ p ∷ ss) kinds known =
           let s = back_as (seat_as as_slot) ss slot seat there in
           let kind = slots_at (gates_of ss) slot s.0.gate kinds.2 (at_map (λ (h : Mark). h.gate) ss slot s.0 s.1) in
           subst (λ (h : SlotSeat).
-          (h.read.0 ≤ arrived (slot_history slot (turns_of (deeds_of gates order))) + 1)
-          × (h.read.1 ≤ freed (slot_history slot (turns_of (deeds_of gates order))) + 1)) (sym s.2)
+          (h.read.0 ≤ arrived (slot_history slot (turns_of (ops_of gates order))) + 1)
+          × (h.read.1 ≤ freed (slot_history slot (turns_of (ops_of gates order))) + 1)) (sym s.2)
           (slot_read order gates slot s.0 kind (opened_there ss slot s.0 s.1) (known (suc (suc slot)) s.0 s.1)
           (subst (λ (h : SlotSeat). SlotStandsFor [] h.gate.opening) s.2 stands));
       registry = λ generation stands. registry_read order gates generation r kinds.0 refl (known 0 r refl) stands;

@@ -25,12 +25,12 @@ module _ (may : ℕ → Type 0) (from : State) (old : Pass) where
       let came_there = subst (λ x. ComesGiving may from old x text mid) is came in
       elim step [
         | inl on ↦ (
-          came_there.0 ++ on.0.deed ∷ [],
+          came_there.0 ++ on.0.op ∷ [],
           steps (receive_state kept out) new came_there.1 on.0,
           on.1 came_there.0 came_there.2,
         )
         | inr on ↦ (
-          came_there.0 ++ on.0.deeds,
+          came_there.0 ++ on.0.ops,
           turns_back (receive_state kept out) new came_there.1 on.0,
           on.1 came_there.0 came_there.2,
         )
@@ -45,7 +45,7 @@ module _ (may : ℕ → Type 0) (from : State) (old : Pass) where
       ComesGiving may from old s out new → IfOk told (λ given. HasGiven may from old given new)
   has_given s out new (Ok given) is came =
       let ended = subst (λ x. ComesGiving may from old x out new) is came in
-      record { ending = Got given.mtype out; deeds = ended.0; ran = ended.1; taken = ended.2 }
+      record { ending = Got given.mtype out; ops = ended.0; ran = ended.1; taken = ended.2 }
   has_given s out new (Err why) is came = tt
 
 -- A receive that begins has no message to return.

@@ -3,7 +3,7 @@ use Rattle.std.proofs.Common.{◌≡◌, ℕ, List, [], ◌∷◌, ◌++◌, fal
 use Rattle.sysv_model.specs.Turn.{AtSlot, AtRegistry, AtPool}
 use Rattle.sysv_model.specs.Members.{MakesTurn}
 use Rattle.sysv_queue.specs.Slot.{Slot}
-use Rattle.sysv_gate.specs.declared.view.Turn.{Turn}
+use Rattle.sysv_gate.specs.declared.table.view.Turn.{Turn}
 use Rattle.sysv_gate.specs.History.{Moves, IsLegal, after_all}
 use Rattle.sysv_gate.specs.Gates.{Holding, Answers, made, saw}
 use Rattle.sysv_bank.specs.Banks.{ChangesAt}

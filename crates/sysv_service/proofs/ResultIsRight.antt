@@ -6,5 +6,5 @@ use Rattle.sysv_service.specs.RightAnswers.{EachRunAnswersRight}
 use Rattle.sysv_service.proofs.PlaysOwnTurns.{plays}
 
 pub each_answers_right : EachAnswerIsRight → (may : ℕ → Type 0) → EachRunAnswersRight may
-each_answers_right right may cred asked released old deeds ending new ran found =
-    right cred asked released deeds ending (plays may _ old deeds (Over ending) new ran found)
+each_answers_right right may cred asked released old ops ending new ran found =
+    right cred asked released ops ending (plays may _ old ops (Over ending) new ran found)

@@ -6,7 +6,7 @@ use mathlib.Core.Option.{some, some-injective, some-ne-none}
 use lib.ListN.{get_elem?}
 use Rattle.sysv_model.specs.History.{Call}
 use Rattle.sysv_model.specs.Registry.{RegistryCall}
-use Rattle.sysv_model.specs.Turn.{OfSlot, OfRegistry, Deed, AtSlot, AtRegistry, asked_by}
+use Rattle.sysv_model.specs.Turn.{OfSlot, OfRegistry, Op, AtSlot, AtRegistry, asked_by}
 use Rattle.sysv_keys.specs.Identifier.{slot_of_id}
 use Rattle.sysv_steps.specs.Asks.{asks}
 use Rattle.sysv_steps.specs.Resume.{Count, ArrivedOf, FreedOf, Settled, Released, awaited, goal_of, resume}
@@ -138,9 +138,9 @@ module _ (before after : Seats) where
 
   -- ---- the next turn
 
-  turn_at_slot : (count : OfObject) (slot goal : ℕ) (call : Call) (deed : Deed) → asked_by deed ≡ OfSlot slot call →
+  turn_at_slot : (count : OfObject) (slot goal : ℕ) (call : Call) (op : Op) → asked_by op ≡ OfSlot slot call →
       ((seat : SlotSeat) → get_elem? before.slots slot ≡ some seat → goal ≤ of_count count seat.read) →
-      MakesTurnAt before deed after →
+      MakesTurnAt before op after →
       (seat : SlotSeat) → get_elem? after.slots slot ≡ some seat → goal ≤ count_found slot_counts count seat
   turn_at_slot count slot goal call (AtSlot at made reply) asked known makes seat there =
       let here : at ≡ slot = ap slot_asked asked in
@@ -152,14 +152,14 @@ module _ (before after : Seats) where
       let last : turn.is ≡ seat = some-injective turn.is seat (sym left ∙ there) in
       subst (λ (h : SlotSeat). goal ≤ count_found slot_counts count h) last
       (found_from _ slot_counts _ count goal _ turn.was turn.is (known turn.was found) turn.change)
-  turn_at_slot count slot goal call deed asked known makes seat there = absurd cc
+  turn_at_slot count slot goal call op asked known makes seat there = absurd cc
 
-  turn_at_registry : (goal : ℕ) (call : RegistryCall) (deed : Deed) → asked_by deed ≡ OfRegistry call →
-      goal ≤ of_count Arrived before.registry.read → MakesTurnAt before deed after →
+  turn_at_registry : (goal : ℕ) (call : RegistryCall) (op : Op) → asked_by op ≡ OfRegistry call →
+      goal ≤ of_count Arrived before.registry.read → MakesTurnAt before op after →
       goal ≤ count_found registry_counts Arrived after.registry
   turn_at_registry goal call (AtRegistry made reply) asked known makes =
       found_from _ registry_counts _ Arrived goal _ before.registry after.registry known makes.0
-  turn_at_registry goal call deed asked known makes = absurd cc
+  turn_at_registry goal call op asked known makes = absurd cc
 
 -- A call whose wait ended, and which has only read counts since, is at the step with which it goes
 -- on, and has read the count at the goal or above.
@@ -183,32 +183,32 @@ read_on (Some wait) state before after count value r is =
     }
 
 module _ (may : ℕ → Type 0) (from : State) (old : Pass) where
-  is_resumed : (deeds : List Deed) (state : State) (new : Pass) (ran : Ran may from old deeds state new) →
+  is_resumed : (ops : List Op) (state : State) (new : Pass) (ran : Ran may from old ops state new) →
       IsResumed (resumed ran) state new.seats
   is_resumed _ _ _ begins = tt
-  is_resumed _ _ _ (steps {deeds} {phase} {mid} state new ran step) = tt
-  is_resumed _ _ _ (turns_back {deeds} {phase} {mid} state new ran step) = tt
-  is_resumed _ _ _ (reads {deeds} {state} {mid} count value new ran r same) =
-      read_on (resumed ran) state mid.seats new.seats count value r (is_resumed deeds state mid ran)
-  is_resumed _ _ _ (resumes {deeds} {wait} {mid} value new ran reached r same) =
+  is_resumed _ _ _ (steps {ops} {phase} {mid} state new ran step) = tt
+  is_resumed _ _ _ (turns_back {ops} {phase} {mid} state new ran step) = tt
+  is_resumed _ _ _ (reads {ops} {state} {mid} count value new ran r same) =
+      read_on (resumed ran) state mid.seats new.seats count value r (is_resumed ops state mid ran)
+  is_resumed _ _ _ (resumes {ops} {wait} {mid} value new ran reached r same) =
       record {
         value = value;
         on = refl;
         known = at_its_goal mid.seats new.seats (awaited wait) value (goal_of wait) r reached;
       }
-  is_resumed _ _ _ (gives_up {deeds} {wait} {mid} value new ran below r same) = tt
+  is_resumed _ _ _ (gives_up {ops} {wait} {mid} value new ran below r same) = tt
 
-next_turn : (wait : Wait) (value now : ℕ) (before after : Seats) (deed : Deed) →
-    asked_by deed ≡ asks (resume wait value) now → HasReadTo (awaited wait) (goal_of wait) before →
-    MakesTurnAt before deed after →
+next_turn : (wait : Wait) (value now : ℕ) (before after : Seats) (op : Op) →
+    asked_by op ≡ asks (resume wait value) now → HasReadTo (awaited wait) (goal_of wait) before →
+    MakesTurnAt before op after →
     IsFoundAt (awaited wait) (goal_of wait) after
-next_turn (OnSettled goal get) value now before after deed asked known makes =
-    turn_at_registry before after goal _ deed asked known makes
-next_turn (OnFreed goal send) value now before after deed asked known makes =
-    turn_at_slot before after Freed (slot_of_id send.id) goal _ deed asked known makes
-next_turn (OnReleased goal send) value now before after deed asked known makes = tt
-next_turn (OnArrived goal receive) value now before after deed asked known makes =
-    turn_at_slot before after Arrived (slot_of_id receive.id) goal _ deed asked known makes
+next_turn (OnSettled goal get) value now before after op asked known makes =
+    turn_at_registry before after goal _ op asked known makes
+next_turn (OnFreed goal send) value now before after op asked known makes =
+    turn_at_slot before after Freed (slot_of_id send.id) goal _ op asked known makes
+next_turn (OnReleased goal send) value now before after op asked known makes = tt
+next_turn (OnArrived goal receive) value now before after op asked known makes =
+    turn_at_slot before after Arrived (slot_of_id receive.id) goal _ op asked known makes
 
 -- The step before which the call is.
 abbrev phase_or : Phase → State → Phase
@@ -216,9 +216,9 @@ phase_or other (Goes phase) = phase
 phase_or other state = other
 
 pub each_run_retries : (may : ℕ → Type 0) → EachRunRetriesAtItsGoal may
-each_run_retries may from old deeds phase mid state new ran step wait is =
+each_run_retries may from old ops phase mid state new ran step wait is =
     let so : Resumed wait (Goes phase) mid.seats =
-    subst (λ o. IsResumed o (Goes phase) mid.seats) is (is_resumed may from old deeds (Goes phase) mid ran) in
+    subst (λ o. IsResumed o (Goes phase) mid.seats) is (is_resumed may from old ops (Goes phase) mid ran) in
     let there : phase ≡ resume wait so.value = ap (phase_or phase) so.on in
-    next_turn wait so.value step.now mid.seats new.seats step.deed
-    (subst (λ p. asked_by step.deed ≡ asks p step.now) there step.asked) so.known step.makes.turn
+    next_turn wait so.value step.now mid.seats new.seats step.op
+    (subst (λ p. asked_by step.op ≡ asks p step.now) there step.asked) so.known step.makes.turn

@@ -4,7 +4,7 @@ use mathlib.Core.Option.{some, some-injective, some-ne-none}
 use lib.ListN.{get_elem?}
 use Rattle.sysv_model.specs.History.{Call}
 use Rattle.sysv_model.specs.Registry.{RegistryCall}
-use Rattle.sysv_model.specs.Turn.{Ask, OfSlot, OfRegistry, Deed, AtSlot, AtRegistry, asked_by}
+use Rattle.sysv_model.specs.Turn.{Ask, OfSlot, OfRegistry, Op, AtSlot, AtRegistry, asked_by}
 use Rattle.sysv_keys.specs.Identifier.{slot_of_id}
 use Rattle.sysv_steps.specs.State.{OnSettled, OnFreed, OnReleased, OnArrived}
 use Rattle.sysv_gate.specs.declared.count.Count.{Count as OfObject}
@@ -61,9 +61,9 @@ slot_asked (OfSlot slot call) = slot
 slot_asked ask = 0
 
 -- A turn at the slot whose count was read.
-at_slot : (count : OfObject) (slot goal value : ℕ) (call : Call) (waited read after : Seats) (deed : Deed) →
-    asked_by deed ≡ OfSlot slot call → goal ≤ value →
-    ChangesAt slot waited.slots read.slots (Finds slot_counts count value) → MakesTurnAt read deed after →
+at_slot : (count : OfObject) (slot goal value : ℕ) (call : Call) (waited read after : Seats) (op : Op) →
+    asked_by op ≡ OfSlot slot call → goal ≤ value →
+    ChangesAt slot waited.slots read.slots (Finds slot_counts count value) → MakesTurnAt read op after →
     (seat : SlotSeat) → get_elem? after.slots slot ≡ some seat → goal ≤ count_found slot_counts count seat
 at_slot count slot goal value call waited read after (AtSlot at made reply) asked reached reads makes seat there =
     let here : at ≡ slot = ap slot_asked asked in
@@ -78,24 +78,24 @@ at_slot count slot goal value call waited read after (AtSlot at made reply) aske
     subst (λ (h : SlotSeat). goal ≤ count_found slot_counts count h) last
     (found_at _ slot_counts _ count goal value _ reads.was turn.was turn.is reached (sym same ∙ reads.change.0)
     turn.change)
-at_slot count slot goal value call waited read after deed asked reached reads makes seat there = absurd cc
+at_slot count slot goal value call waited read after op asked reached reads makes seat there = absurd cc
 
-at_registry : (goal value : ℕ) (call : RegistryCall) (waited read after : Seats) (deed : Deed) →
-    asked_by deed ≡ OfRegistry call → goal ≤ value →
-    Finds registry_counts Arrived value waited.registry read.registry → MakesTurnAt read deed after →
+at_registry : (goal value : ℕ) (call : RegistryCall) (waited read after : Seats) (op : Op) →
+    asked_by op ≡ OfRegistry call → goal ≤ value →
+    Finds registry_counts Arrived value waited.registry read.registry → MakesTurnAt read op after →
     goal ≤ count_found registry_counts Arrived after.registry
 at_registry goal value call waited read after (AtRegistry made reply) asked reached reads makes =
     found_at _ registry_counts _ Arrived goal value _ waited.registry read.registry after.registry reached reads.0
     makes.0
-at_registry goal value call waited read after deed asked reached reads makes = absurd cc
+at_registry goal value call waited read after op asked reached reads makes = absurd cc
 
 pub each_retry : (may : ℕ → Type 0) → EachRetryIsAtItsGoal may
 each_retry may (OnSettled goal get) value waited read state after reached reads step =
-    at_registry goal value _ waited.seats read.seats after.seats step.deed step.asked reached reads.0 step.makes.turn
+    at_registry goal value _ waited.seats read.seats after.seats step.op step.asked reached reads.0 step.makes.turn
 each_retry may (OnFreed goal send) value waited read state after reached reads step =
-    at_slot Freed (slot_of_id send.id) goal value _ waited.seats read.seats after.seats step.deed step.asked reached
+    at_slot Freed (slot_of_id send.id) goal value _ waited.seats read.seats after.seats step.op step.asked reached
     reads.0 step.makes.turn
 each_retry may (OnReleased goal send) value waited read state after reached reads step = tt
 each_retry may (OnArrived goal receive) value waited read state after reached reads step =
-    at_slot Arrived (slot_of_id receive.id) goal value _ waited.seats read.seats after.seats step.deed step.asked
+    at_slot Arrived (slot_of_id receive.id) goal value _ waited.seats read.seats after.seats step.op step.asked
     reached reads.0 step.makes.turn

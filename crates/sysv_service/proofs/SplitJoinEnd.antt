@@ -7,7 +7,7 @@ use Rattle.atomic_table.proofs.Lists.{at_map}
 use Rattle.sysv_model.specs.Turns.{Numbered}
 use Rattle.sysv_model.specs.Members.{Member, AreWhole, Splits, Joins as MembersJoin, Closes as MemberCloses}
 use Rattle.sysv_queue.specs.Slot.{Slot}
-use Rattle.sysv_gate.specs.declared.closing.Closing.{Closing}
+use Rattle.sysv_gate.specs.declared.gate.closing.Closing.{Closing}
 use Rattle.sysv_gate.specs.History.{Moves}
 use Rattle.sysv_gate.specs.Gates.{Gateway, parted, IsSplit, Joins, KnowsItsOwn}
 use Rattle.sysv_gate.specs.Closings.{IsBack, Closes}

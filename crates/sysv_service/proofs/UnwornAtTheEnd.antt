@@ -13,8 +13,8 @@ use Rattle.sysv_model.specs.Turns.{turns_of}
 use Rattle.sysv_model.specs.Members.{AreWhole}
 use Rattle.sysv_keys.specs.declared.identifier.TheConstants.{SLOTS}
 use Rattle.sysv_queue.specs.Slot.{Slot}
-use Rattle.sysv_gate.specs.declared.closing.Closing.{Closing}
-use Rattle.sysv_gate.specs.declared.view.Turn.{Turn as GateTurn}
+use Rattle.sysv_gate.specs.declared.gate.closing.Closing.{Closing}
+use Rattle.sysv_gate.specs.declared.table.view.Turn.{Turn as GateTurn}
 use Rattle.sysv_gate.specs.History.{Moves}
 use Rattle.sysv_gate.specs.Gates.{Gateway, Holding}
 use Rattle.sysv_gate.specs.Closings.{IsBack, Closes}

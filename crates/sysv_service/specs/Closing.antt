@@ -2,7 +2,7 @@
 -- returned. This project's profile.
 use Rattle.std.specs.Prelude.{◌≡◌, ℕ, ◌+◌, ◌^◌, ◌&&◌, nat_lt, nat_le, List, [], ◌∷◌, length, Option, Some, None}
 use Rattle.std.specs.Prelude.{if◌then◌else◌}
-use Rattle.sysv_gate.specs.declared.closing.Closing.{Closing}
+use Rattle.sysv_gate.specs.declared.gate.closing.Closing.{Closing}
 use Rattle.sysv_service.specs.declared.opening.GatesClosed.{GatesClosed}
 use Rattle.sysv_service.specs.Seats.{Seats}
 use Rattle.sysv_service.specs.Sharing.{AllClose}

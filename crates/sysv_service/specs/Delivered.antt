@@ -1,7 +1,7 @@
 -- A receive that is over has taken, in one of its turns, the message that it returns (POSIX.1-2017,
 -- msgrcv).
 use Rattle.std.specs.Prelude.{ℕ, List}
-use Rattle.sysv_model.specs.Turn.{Deed}
+use Rattle.sysv_model.specs.Turn.{Op}
 use Rattle.sysv_queue.specs.Delivery.{Given}
 use Rattle.sysv_steps.specs.declared.receive.ReceiveStep.{ReceiveStep}
 use Rattle.sysv_steps.specs.Seen.{receive_state}
@@ -13,9 +13,9 @@ use Rattle.sysv_service.specs.Ran.{Pass, Ran}
 -- The call has made these turns, one of which took the message that it returns, and is over.
 pub record HasGiven (may : ℕ → Type 0) (from : State) (old : Pass) (given : Given) (new : Pass) : Type 0 where
   pub ending : Ending
-  pub deeds : List Deed
-  pub ran : Ran may from old deeds (Over ending) new
-  pub taken : HaveTaken given deeds
+  pub ops : List Op
+  pub ran : Ran may from old ops (Over ending) new
+  pub taken : HaveTaken given ops
 
 -- ---- on the way
 
@@ -28,4 +28,4 @@ StepsGiving may there text before kept out after =
 -- taken it.
 abbrev pub ComesGiving : (ℕ → Type 0) → State → Pass → ReceiveKept → List ℕ → Pass → Type 0
 ComesGiving may from old kept out new =
-    (deeds : List Deed) × Ran may from old deeds (receive_state kept out) new × HasWhatItGives kept deeds
+    (ops : List Op) × Ran may from old ops (receive_state kept out) new × HasWhatItGives kept ops

@@ -1,7 +1,7 @@
 -- The definitions of the service, with those of other crates that they use. This project's profile.
 pub use Rattle.sysv_model.specs.Turns
 pub use Rattle.sysv_model.specs.Members
-pub use Rattle.sysv_objects.specs.LegalDeed
+pub use Rattle.sysv_objects.specs.LegalOp
 pub use Rattle.sysv_model.specs.History
 pub use Rattle.sysv_model.specs.Registry
 pub use Rattle.sysv_model.specs.Pool

@@ -1,8 +1,8 @@
 -- One kind among the objects of a bank: how contracts see a gate, a seat and what a closed gate
 -- returns, if objects, calls and replies are seen as those of the kind. This project's profile.
 use Rattle.std.specs.Prelude.{◌≡◌, map, option_map, None}
-use Rattle.sysv_gate.specs.declared.view.Turn.{Turn}
-use Rattle.sysv_gate.specs.declared.closing.Closing.{Closing}
+use Rattle.sysv_gate.specs.declared.table.view.Turn.{Turn}
+use Rattle.sysv_gate.specs.declared.gate.closing.Closing.{Closing}
 use Rattle.sysv_gate.specs.Gates.{Gateway, Holding}
 
 -- How objects, calls and replies are seen as those of the kind.

@@ -2,11 +2,11 @@
 -- bank are in these terms. The registry is at place 0, the pool at place 1, and slot k at place k +
 -- 2. This project's profile.
 use Rattle.std.specs.Prelude.{ℕ, zero, suc, List, [], ◌∷◌, ◌++◌}
-use Rattle.sysv_model.specs.Turn.{Deed, AtSlot, AtRegistry, AtPool}
+use Rattle.sysv_model.specs.Turn.{Op, AtSlot, AtRegistry, AtPool}
 use Rattle.sysv_model.specs.Turns.{Numbered}
 use Rattle.sysv_model.specs.Members.{Member}
-use Rattle.sysv_gate.specs.declared.view.Turn.{Turn}
-use Rattle.sysv_gate.specs.declared.view.Placed.{Placed}
+use Rattle.sysv_gate.specs.declared.table.view.Turn.{Turn}
+use Rattle.sysv_gate.specs.declared.table.view.Placed.{Placed}
 use Rattle.sysv_gate.specs.History.{after_all}
 use Rattle.sysv_gate.specs.Gates.{Gateway}
 use Rattle.sysv_gate.specs.Orders.{turns_at}
@@ -46,28 +46,28 @@ opening_at (g ∷ gs) (suc place) = opening_at gs place
 abbrev pub object_at : List (Gateway Gated) → ℕ → List GatedPlaced → Gated
 object_at gates place order = after_all (opening_at gates place) (turns_at place order)
 
--- The deed that a turn at the place is in the world, if the object before it was `before`.
-abbrev pub deed_at : ℕ → Gated → GatedTurn → Deed
-deed_at zero before t =
+-- The operation that a turn at the place is in the world, if the object before it was `before`.
+abbrev pub op_at : ℕ → Gated → GatedTurn → Op
+op_at zero before t =
     AtRegistry (registry_call (registry_call_in t.call)) (registry_reply (registry_reply_in t.reply))
-deed_at (suc zero) before t = AtPool (pool_call (pool_call_in t.call)) (pool_reply (pool_reply_in t.reply))
-deed_at (suc (suc slot)) before t =
+op_at (suc zero) before t = AtPool (pool_call (pool_call_in t.call)) (pool_reply (pool_reply_in t.reply))
+op_at (suc (suc slot)) before t =
     AtSlot slot (slot_call (slot_call_in t.call)) (slot_reply (slot_in before) (slot_reply_in t.reply))
 
--- The deeds of the turns that come after the earlier ones.
-abbrev pub deeds_after : List (Gateway Gated) → List GatedPlaced → List GatedPlaced → List Numbered
-deeds_after gates earlier [] = []
-deeds_after gates earlier (t ∷ ts) =
-    record { by = t.turn.by; deed = deed_at t.place (object_at gates t.place earlier) t.turn }
-    ∷ deeds_after gates (earlier ++ t ∷ []) ts
+-- The operations of the turns that come after the earlier ones.
+abbrev pub ops_after : List (Gateway Gated) → List GatedPlaced → List GatedPlaced → List Numbered
+ops_after gates earlier [] = []
+ops_after gates earlier (t ∷ ts) =
+    record { by = t.turn.by; op = op_at t.place (object_at gates t.place earlier) t.turn }
+    ∷ ops_after gates (earlier ++ t ∷ []) ts
 
--- The deeds of all turns of the order, each with the number under which it was made.
-abbrev pub deeds_of : List (Gateway Gated) → List GatedPlaced → List Numbered
-deeds_of gates order = deeds_after gates [] order
+-- The operations of all turns of the order, each with the number under which it was made.
+abbrev pub ops_of : List (Gateway Gated) → List GatedPlaced → List Numbered
+ops_of gates order = ops_after gates [] order
 
 -- ---- passes
 
 -- A pass of the bank, as a member of a crew.
 abbrev pub member_of : List (Gateway Gated) → GatedPass → Member
 member_of gates pass =
-    record { number = pass.number; numbers = pass.numbers; shares = pass.shares; order = deeds_of gates pass.order }
+    record { number = pass.number; numbers = pass.numbers; shares = pass.shares; order = ops_of gates pass.order }

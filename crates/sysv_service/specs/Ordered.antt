@@ -3,11 +3,11 @@
 use Rattle.std.specs.Prelude.{◌≡◌, ℕ, false, List, [], ◌∷◌, ◌++◌, length}
 use mathlib.Core.Option.{some}
 use lib.ListN.{get_elem?}
-use Rattle.sysv_model.specs.Turn.{Deed}
+use Rattle.sysv_model.specs.Turn.{Op}
 use Rattle.sysv_model.specs.Turns.{turns_of}
 use Rattle.sysv_model.specs.Members.{first_with, SeesMore, MakesTurn, Splits, Joins, Closes}
-use Rattle.sysv_objects.specs.LegalDeed.{AreLegal}
-use Rattle.sysv_gate.specs.declared.closing.Closing.{Closing}
+use Rattle.sysv_objects.specs.LegalOp.{AreLegal}
+use Rattle.sysv_gate.specs.declared.gate.closing.Closing.{Closing}
 use Rattle.sysv_gate.specs.History.{Moves, IsLegal, after_all}
 use Rattle.sysv_gate.specs.Gates.{Gateway, Answers}
 use Rattle.sysv_gate.specs.Orders.{turns_at, AreBelow}
@@ -20,12 +20,12 @@ use Rattle.sysv_objects.specs.declared.object.ObjectReply.{ObjectReply}
 use Rattle.sysv_service.specs.Gated.{GatedMoves, gated_counts}
 use Rattle.sysv_service.specs.Opened.{AreOpen}
 use Rattle.sysv_service.specs.Banked.{AreByKind, gates_seen}
-use Rattle.sysv_service.specs.Order.{GatedPlaced, GatedPass, object_at, deed_at, deeds_of, member_of}
+use Rattle.sysv_service.specs.Order.{GatedPlaced, GatedPass, object_at, op_at, ops_of, member_of}
 
--- The deed of the turn that was added to the order.
-abbrev pub deed_added : (gates : List (Gateway Gated)) (place : ℕ) (before after : GatedPass) →
-    AddsToOrder place before after → Deed
-deed_added gates place before after adds = deed_at place (object_at gates place (before.order ++ adds.others)) adds.turn
+-- The operation of the turn that was added to the order.
+abbrev pub op_added : (gates : List (Gateway Gated)) (place : ℕ) (before after : GatedPass) →
+    AddsToOrder place before after → Op
+op_added gates place before after adds = op_at place (object_at gates place (before.order ++ adds.others)) adds.turn
 
 -- The object at the place has replied to the call, in a turn of the pass's own.
 abbrev pub AnswersAt : ℕ → GatedPass → ObjectCall → ObjectReply → GatedPass → Type 0
@@ -33,12 +33,12 @@ AnswersAt place before call reply after =
     ChangesAt place before.seats after.seats
     (λ b a. Answers (Moves GatedMoves gated_counts) gated_counts b call reply a × (b.worn ≡ false))
 
--- The deed of that turn.
-abbrev pub deed_answered : (place : ℕ) (before : GatedPass) (call : ObjectCall) (reply : ObjectReply)
-    (after : GatedPass) → AnswersAt place before call reply after → Deed
-deed_answered place before call reply after c =
+-- The operation of that turn.
+abbrev pub op_answered : (place : ℕ) (before : GatedPass) (call : ObjectCall) (reply : ObjectReply)
+    (after : GatedPass) → AnswersAt place before call reply after → Op
+op_answered place before call reply after c =
     let a = c.change.0 in
-    deed_at place (after_all c.was.gate.opening (c.was.seen ++ a.others))
+    op_at place (after_all c.was.gate.opening (c.was.seen ++ a.others))
     (record { by = c.was.number; call = call; reply = reply; after = a.object })
 
 -- Each turn of the order is one that the object at its place can make, and each is at a place with
@@ -57,18 +57,18 @@ pub record OrdersAreOfCrews : Type 0 where
       SeesMore (member_of gates before) (member_of gates after)
   pub makes : (gates : List (Gateway Gated)) (place : ℕ) (before after : GatedPass)
       (adds : AddsToOrder place before after) →
-      MakesTurn (member_of gates before) (deed_added gates place before after adds) (member_of gates after)
+      MakesTurn (member_of gates before) (op_added gates place before after adds) (member_of gates after)
   -- The turn that was added is the one that returned the reply.
   pub answered : (place : ℕ) (before after : GatedPass) (call : ObjectCall) (reply : ObjectReply)
       (adds : AddsToOrder place before after) (c : AnswersAt place before call reply after) →
-      deed_added (gates_of before.seats) place before after adds ≡ deed_answered place before call reply after c
+      op_added (gates_of before.seats) place before after adds ≡ op_answered place before call reply after c
   pub splits : (gates : List (Gateway Gated)) (before kept new : GatedPass) → SplitsOff before kept new →
       Splits (member_of gates before) (member_of gates kept) (member_of gates new)
   pub joins : (gates : List (Gateway Gated)) (one two after : GatedPass) → JoinsOrders one two after →
       Joins (member_of gates one) (member_of gates two) (member_of gates after)
   pub closes : (gates : List (Gateway Gated)) (last : GatedPass) (closings : List (Closing Gated)) →
       (closes : ClosesInOrder (Moves GatedMoves gated_counts) last closings) →
-      Closes (member_of gates last) (deeds_of gates closes.order)
+      Closes (member_of gates last) (ops_of gates closes.order)
   -- The order that is found when the bank is closed has legal turns.
   pub ends : (last : GatedPass) (closings : List (Closing Gated)) → length closings ≡ length last.seats →
       (closes : ClosesInOrder (Moves GatedMoves gated_counts) last closings) →
@@ -77,4 +77,4 @@ pub record OrdersAreOfCrews : Type 0 where
   -- legal.
   pub legal : (generation blocks first : ℕ) (gates : List (Gateway Gated)) (order : List GatedPlaced) →
       AreByKind gates → AreOpen generation blocks first (gates_seen gates) →
-      IsLegalOrder gates order → AreLegal generation blocks (turns_of (deeds_of gates order))
+      IsLegalOrder gates order → AreLegal generation blocks (turns_of (ops_of gates order))

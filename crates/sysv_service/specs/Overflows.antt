@@ -3,7 +3,7 @@
 use Rattle.std.specs.Prelude.{◌≡◌, ℕ, ◌⊎◌, ◌↔◌, ⊤, Bool, true, List}
 use Rattle.sysv_model.specs.declared.cred.Cred.{Cred}
 use Rattle.sysv_model.specs.declared.errno.Errno.TheVariants.{EOVERFLOW}
-use Rattle.sysv_model.specs.Turn.{Deed}
+use Rattle.sysv_model.specs.Turn.{Op}
 use Rattle.sysv_keys.specs.Identifier.{slot_of_id}
 use Rattle.sysv_steps.specs.Asks.{asks}
 use Rattle.sysv_steps.specs.Begin.{begin}
@@ -20,8 +20,8 @@ use Rattle.sysv_service.specs.Stopped as stopped
 -- ---- a call
 
 -- The call found the gate of this object worn out, at a step or in a wait.
-abbrev pub FindsWornAt : {may : ℕ → Type 0} {from : State} {old : Pass} {deeds : List Deed} {state : State}
-    {new : Pass} → Place → Ran may from old deeds state new → Type 0
+abbrev pub FindsWornAt : {may : ℕ → Type 0} {from : State} {old : Pass} {ops : List Op} {state : State}
+    {new : Pass} → Place → Ran may from old ops state new → Type 0
 FindsWornAt place begins = ⊥
 FindsWornAt place (steps state new ran step) = FindsWornAt place ran
 FindsWornAt place (turns_back {phase} state new ran step) =
@@ -41,9 +41,9 @@ IsOpenFor asked seats = ⊤
 -- A call that fails with EOVERFLOW has found the gate of an object worn out, and the pass's seat
 -- there is marked.
 abbrev pub EachOverflowIsAtAWornGate : (ℕ → Type 0) → Type 0
-EachOverflowIsAtAWornGate may = (cred : Cred) (asked : SystemCall) (released : ℕ) (old : Pass) (deeds : List Deed)
+EachOverflowIsAtAWornGate may = (cred : Cred) (asked : SystemCall) (released : ℕ) (old : Pass) (ops : List Op)
     (new : Pass) → IsOpenFor asked old.seats →
-    (ran : Ran may (begin cred asked released) old deeds (Over (Refused EOVERFLOW)) new) →
+    (ran : Ran may (begin cred asked released) old ops (Over (Refused EOVERFLOW)) new) →
     (FindsTurns ran → ⊥) × ((place : Place) × FindsWornAt place ran × IsMarkedAt place new.seats)
 
 -- ---- a stop

@@ -3,7 +3,7 @@
 -- state of the call, together with what the call does at a gate that it found worn out
 -- (POSIX.1-2017, msgget, msgsnd, msgrcv and msgctl; the order is this project's profile).
 use Rattle.std.specs.Prelude.{ℕ, List}
-use Rattle.sysv_model.specs.Turn.{Deed}
+use Rattle.sysv_model.specs.Turn.{Op}
 use Rattle.sysv_model.specs.Members.{Does}
 use Rattle.sysv_steps.specs.State.{State}
 use Rattle.sysv_steps.specs.Played.{Plays}
@@ -12,19 +12,19 @@ use Rattle.sysv_service.specs.PlayedWorn.{PlaysWorn}
 use Rattle.sysv_service.specs.Ran.{Pass, Ran, FindsTurns}
 
 -- What is known of the turns of one call.
-pub record PlaysItsOwn {may : ℕ → Type 0} {from : State} {old : Pass} {deeds : List Deed} {state : State} {new : Pass}
-    (ran : Ran may from old deeds state new) : Type 0 where
+pub record PlaysItsOwn {may : ℕ → Type 0} {from : State} {old : Pass} {ops : List Op} {state : State} {new : Pass}
+    (ran : Ran may from old ops state new) : Type 0 where
   -- The pass has made exactly the turns of the call, and has seen turns of others between them.
-  pub own : Does old.seats.member deeds new.seats.member
+  pub own : Does old.seats.member ops new.seats.member
   -- The call is played along its turns, with the steps and waits whose gate it found worn out. It
   -- finds a gate worn out only if it has no turn left there and the seat is marked.
-  pub comes : PlaysWorn new.seats state from deeds
+  pub comes : PlaysWorn new.seats state from ops
   -- If the call found no gate worn out, it is played by the step table alone.
-  pub plays : FindsTurns ran → Plays from deeds state
+  pub plays : FindsTurns ran → Plays from ops state
   -- If none of the pass's seats is marked, the call found no gate worn out.
   pub unmarked : IsUnmarked new.seats → FindsTurns ran
 
 -- This holds of each call.
 abbrev pub EachPlaysItsOwn : (ℕ → Type 0) → Type 0
-EachPlaysItsOwn may = (from : State) (old : Pass) (deeds : List Deed) (state : State) (new : Pass)
-    (ran : Ran may from old deeds state new) → PlaysItsOwn ran
+EachPlaysItsOwn may = (from : State) (old : Pass) (ops : List Op) (state : State) (new : Pass)
+    (ran : Ran may from old ops state new) → PlaysItsOwn ran

@@ -2,7 +2,7 @@
 use Rattle.std.proofs.Common.{ℕ, ℤ, inl, inr, List, [], ◌∷◌, ◌++◌, ◌⊎◌, Result, Ok, Err, IfOk, subst}
 use Rattle.std.specs.Prelude.{⊤}
 use Rattle.sysv_model.specs.declared.errno.Errno.{Errno}
-use Rattle.sysv_model.specs.Turn.{Deed}
+use Rattle.sysv_model.specs.Turn.{Op}
 use Rattle.sysv_queue.specs.Delivery.{Given}
 use Rattle.sysv_steps.specs.State.{Phase, State, Wait, Goes, Waits, Over}
 use Rattle.sysv_steps.specs.Resume.{awaited}
@@ -18,17 +18,17 @@ use Rattle.sysv_service.specs.UnderWay.{ReceivesOn, SendsOn, GetsOn, IsReached, 
 
 -- ---- what was taken was taken on the whole way
 
-taken_before : (given : Given) (deeds more : List Deed) → HaveTaken given deeds → HaveTaken given (deeds ++ more)
+taken_before : (given : Given) (ops more : List Op) → HaveTaken given ops → HaveTaken given (ops ++ more)
 taken_before given [] more has = absurd has
 taken_before given (d ∷ ds) more (inl takes) = inl takes
 taken_before given (d ∷ ds) more (inr has) = inr (taken_before given ds more has)
 
-taken_after : (given : Given) (deeds more : List Deed) → HaveTaken given more → HaveTaken given (deeds ++ more)
+taken_after : (given : Given) (ops more : List Op) → HaveTaken given more → HaveTaken given (ops ++ more)
 taken_after given [] more has = has
 taken_after given (d ∷ ds) more has = inr (taken_after given ds more has)
 
-taken_in_part : (given : Given) (deeds more : List Deed) → HaveTaken given (deeds ++ more) →
-    HaveTaken given deeds ⊎ HaveTaken given more
+taken_in_part : (given : Given) (ops more : List Op) → HaveTaken given (ops ++ more) →
+    HaveTaken given ops ⊎ HaveTaken given more
 taken_in_part given [] more has = inr has
 taken_in_part given (d ∷ ds) more (inl takes) = inl (inl takes)
 taken_in_part given (d ∷ ds) more (inr has) = elim (taken_in_part given ds more has) [
@@ -37,11 +37,11 @@ taken_in_part given (d ∷ ds) more (inr has) = elim (taken_in_part given ds mor
 ]
 
 -- What is taken in the second list is taken in the first.
-abbrev pub Keeps : List Deed → List Deed → Type 0
-Keeps all deeds = (given : Given) → HaveTaken given deeds → HaveTaken given all
+abbrev pub Keeps : List Op → List Op → Type 0
+Keeps all ops = (given : Given) → HaveTaken given ops → HaveTaken given all
 
-keeps_on : (all deeds more : List Deed) → Keeps all deeds → Keeps (all ++ more) (deeds ++ more)
-keeps_on all deeds more keeps = λ given has. elim (taken_in_part given deeds more has) [
+keeps_on : (all ops more : List Op) → Keeps all ops → Keeps (all ++ more) (ops ++ more)
+keeps_on all ops more keeps = λ given has. elim (taken_in_part given ops more has) [
   | inl here ↦ taken_before given all more (keeps given here)
   | inr there ↦ taken_after given all more there
 ]
@@ -50,26 +50,26 @@ keeps_on all deeds more keeps = λ given has. elim (taken_in_part given deeds mo
 
 module _ (may : ℕ → Type 0) (from : State) (old : Pass) (there : State) (here : Pass) where
   -- The whole way, with all turns that were made on it.
-  abbrev pub Whole : List Deed → State → Pass → Type 0
-  Whole deeds state new = (all : List Deed) × Ran may from old all state new × Keeps all deeds
+  abbrev pub Whole : List Op → State → Pass → Type 0
+  Whole ops state new = (all : List Op) × Ran may from old all state new × Keeps all ops
 
-  through : Comes may from old there here → (deeds : List Deed) (state : State) (new : Pass) →
-      Ran may there here deeds state new → Whole deeds state new
+  through : Comes may from old there here → (ops : List Op) (state : State) (new : Pass) →
+      Ran may there here ops state new → Whole ops state new
   through came _ _ _ begins = (came.0, came.1, λ given has. absurd has)
-  through came _ _ _ (steps {deeds} {phase} {mid} state new ran step) =
-      let before = through came deeds (Goes phase) mid ran in
-      (before.0 ++ step.deed ∷ [], steps state new before.1 step, keeps_on before.0 deeds (step.deed ∷ []) before.2)
-  through came _ _ _ (turns_back {deeds} {phase} {mid} state new ran step) =
-      let before = through came deeds (Goes phase) mid ran in
-      (before.0 ++ step.deeds, turns_back state new before.1 step, keeps_on before.0 deeds step.deeds before.2)
-  through came _ _ _ (reads {deeds} {state} {mid} count value new ran r same) =
-      let before = through came deeds state mid ran in
+  through came _ _ _ (steps {ops} {phase} {mid} state new ran step) =
+      let before = through came ops (Goes phase) mid ran in
+      (before.0 ++ step.op ∷ [], steps state new before.1 step, keeps_on before.0 ops (step.op ∷ []) before.2)
+  through came _ _ _ (turns_back {ops} {phase} {mid} state new ran step) =
+      let before = through came ops (Goes phase) mid ran in
+      (before.0 ++ step.ops, turns_back state new before.1 step, keeps_on before.0 ops step.ops before.2)
+  through came _ _ _ (reads {ops} {state} {mid} count value new ran r same) =
+      let before = through came ops state mid ran in
       (before.0, reads count value new before.1 r same, before.2)
-  through came _ _ _ (resumes {deeds} {wait} {mid} value new ran reached r same) =
-      let before = through came deeds (Waits wait) mid ran in
+  through came _ _ _ (resumes {ops} {wait} {mid} value new ran reached r same) =
+      let before = through came ops (Waits wait) mid ran in
       (before.0, resumes value new before.1 reached r same, before.2)
-  through came _ _ _ (gives_up {deeds} {wait} {mid} value new ran below r same) =
-      let before = through came deeds (Waits wait) mid ran in
+  through came _ _ _ (gives_up {ops} {wait} {mid} value new ran below r same) =
+      let before = through came ops (Waits wait) mid ran in
       (before.0, gives_up value new before.1 below r same, before.2)
 
   pub comes_on : (state : State) (new : Pass) → Comes may from old there here → Comes may there here state new →
@@ -81,8 +81,8 @@ module _ (may : ℕ → Type 0) (from : State) (old : Pass) (there : State) (her
   pub given_on : (given : Given) (new : Pass) → Comes may from old there here → HasGiven may there here given new →
       HasGiven may from old given new
   given_on given new came has =
-      let whole = through came has.deeds (Over has.ending) new has.ran in
-      record { ending = has.ending; deeds = whole.0; ran = whole.1; taken = whole.2 given has.taken }
+      let whole = through came has.ops (Over has.ending) new has.ran in
+      record { ending = has.ending; ops = whole.0; ran = whole.1; taken = whole.2 given has.taken }
 
   pub if_given : (told : Result Given Errno) (new : Pass) → Comes may from old there here →
       IfOk told (λ given. HasGiven may there here given new) → IfOk told (λ given. HasGiven may from old given new)

@@ -7,7 +7,7 @@ use mathlib.Core.Option.{some}
 use lib.ListN.{get_elem?}
 use Rattle.sysv_model.specs.declared.errno.Errno.TheVariants.{EOVERFLOW}
 use Rattle.sysv_model.specs.Registry.{Forget, Changed}
-use Rattle.sysv_model.specs.Turn.{Ask, OfSlot, OfRegistry, OfPool, Deed, AtRegistry, asked_by}
+use Rattle.sysv_model.specs.Turn.{Ask, OfSlot, OfRegistry, OfPool, Op, AtRegistry, asked_by}
 use Rattle.sysv_steps.specs.State.{Phase, AtInstall, Refused, Wait, State, Goes, Waits, Over}
 use Rattle.sysv_steps.specs.Asks.{asks}
 use Rattle.sysv_steps.specs.Next.{next}
@@ -37,8 +37,8 @@ place_of_count Released = AtThePool
 -- ---- a worn gate
 
 -- None of the turns is at the object.
-abbrev pub AreElsewhere : Place → List Deed → Type 0
-AreElsewhere place deeds = AllByRecursion (λ (deed : Deed). place_of (asked_by deed) ≢ place) deeds
+abbrev pub AreElsewhere : Place → List Op → Type 0
+AreElsewhere place ops = AllByRecursion (λ (op : Op). place_of (asked_by op) ≢ place) ops
 
 -- The seat at the object is marked.
 abbrev pub IsMarkedAt : Place → Seats → Type 0
@@ -48,36 +48,36 @@ IsMarkedAt AtThePool seats = seats.pool.worn ≡ true
 
 -- The gate of the object is worn out for the call: none of the turns that it has still to make is
 -- at the object, and the seat there is marked.
-abbrev pub IsWornAt : Place → List Deed → Seats → Type 0
-IsWornAt place deeds seats = AreElsewhere place deeds × IsMarkedAt place seats
+abbrev pub IsWornAt : Place → List Op → Seats → Type 0
+IsWornAt place ops seats = AreElsewhere place ops × IsMarkedAt place seats
 
 -- The state of a call after a step whose gate was worn out, and the turns that it has left then.
 -- The identifier of a queue that could not be installed is forgotten, if the registry's gate is not
 -- worn out too.
-abbrev pub TurnsBackOn : Seats → Phase → List Deed → State → List Deed → Type 0
-TurnsBackOn seats (AtInstall get id) deeds after rest = (after ≡ Over (Refused EOVERFLOW))
-    × (((done : Bool) × (deeds ≡ AtRegistry (Forget id) (Changed done) ∷ rest))
-    ⊎ ((rest ≡ deeds) × IsWornAt AtTheRegistry deeds seats))
-TurnsBackOn seats phase deeds after rest = (after ≡ when_worn phase) × (rest ≡ deeds)
+abbrev pub TurnsBackOn : Seats → Phase → List Op → State → List Op → Type 0
+TurnsBackOn seats (AtInstall get id) ops after rest = (after ≡ Over (Refused EOVERFLOW))
+    × (((done : Bool) × (ops ≡ AtRegistry (Forget id) (Changed done) ∷ rest))
+    ⊎ ((rest ≡ ops) × IsWornAt AtTheRegistry ops seats))
+TurnsBackOn seats phase ops after rest = (after ≡ when_worn phase) × (rest ≡ ops)
 
 -- ---- the play
 
 -- From this state the step table leads along these turns, all of them, to the state `to`. The seats
 -- are those of the pass afterwards.
-pub data PlaysWorn (seats : Seats) (to : State) : State → List Deed → Type 0 where
+pub data PlaysWorn (seats : Seats) (to : State) : State → List Op → Type 0 where
   -- The call is in the state `to`, and has no turn left.
   stands : PlaysWorn seats to to []
   -- The call makes the next turn.
-  takes_next : {phase : Phase} (deed : Deed) (now : ℕ) (after : State) (rest : List Deed) →
-      asked_by deed ≡ asks phase now → next phase deed ≡ Some after →
-      PlaysWorn seats to after rest → PlaysWorn seats to (Goes phase) (deed ∷ rest)
+  takes_next : {phase : Phase} (op : Op) (now : ℕ) (after : State) (rest : List Op) →
+      asked_by op ≡ asks phase now → next phase op ≡ Some after →
+      PlaysWorn seats to after rest → PlaysWorn seats to (Goes phase) (op ∷ rest)
   -- The wait of the call ends.
-  waits_enough : {wait : Wait} (value : ℕ) (deeds : List Deed) → goal_of wait ≤ value →
-      PlaysWorn seats to (Goes (resume wait value)) deeds → PlaysWorn seats to (Waits wait) deeds
+  waits_enough : {wait : Wait} (value : ℕ) (ops : List Op) → goal_of wait ≤ value →
+      PlaysWorn seats to (Goes (resume wait value)) ops → PlaysWorn seats to (Waits wait) ops
   -- The call finds the gate of the object of its next step worn out.
-  finds_worn : {phase : Phase} (now : ℕ) (after : State) (deeds rest : List Deed) →
-      IsWornAt (place_of (asks phase now)) deeds seats →
-      TurnsBackOn seats phase deeds after rest → PlaysWorn seats to after rest → PlaysWorn seats to (Goes phase) deeds
+  finds_worn : {phase : Phase} (now : ℕ) (after : State) (ops rest : List Op) →
+      IsWornAt (place_of (asks phase now)) ops seats →
+      TurnsBackOn seats phase ops after rest → PlaysWorn seats to after rest → PlaysWorn seats to (Goes phase) ops
   -- The call gives its wait up at a worn gate.
-  gives_up : {wait : Wait} (deeds : List Deed) → IsWornAt (place_of_count (awaited wait)) deeds seats →
-      PlaysWorn seats to (Over (Refused EOVERFLOW)) deeds → PlaysWorn seats to (Waits wait) deeds
+  gives_up : {wait : Wait} (ops : List Op) → IsWornAt (place_of_count (awaited wait)) ops seats →
+      PlaysWorn seats to (Over (Refused EOVERFLOW)) ops → PlaysWorn seats to (Waits wait) ops

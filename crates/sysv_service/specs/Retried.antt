@@ -5,7 +5,7 @@
 use Rattle.std.specs.Prelude.{◌≡◌, ℕ, ◌≤◌, List, [], ◌∷◌, Option, Some, None}
 use mathlib.Core.Option.{some}
 use lib.ListN.{get_elem?}
-use Rattle.sysv_model.specs.Turn.{Deed}
+use Rattle.sysv_model.specs.Turn.{Op}
 use Rattle.sysv_steps.specs.State.{State, Phase, Wait, Goes}
 use Rattle.sysv_steps.specs.Resume.{Count, ArrivedOf, FreedOf, Settled, Released, awaited, goal_of, resume}
 use Rattle.sysv_gate.specs.declared.count.Count.{Count as OfObject}
@@ -47,8 +47,8 @@ EachRetryIsAtItsGoal may = (wait : Wait) (value : ℕ) (waited read : Pass) (sta
     IsFoundAt (awaited wait) (goal_of wait) after.seats
 
 -- The wait of the call that ended last, if the call has only read counts since.
-abbrev pub resumed : {may : ℕ → Type 0} {from : State} {old : Pass} {deeds : List Deed} {state : State} {new : Pass} →
-    Ran may from old deeds state new → Option Wait
+abbrev pub resumed : {may : ℕ → Type 0} {from : State} {old : Pass} {ops : List Op} {state : State} {new : Pass} →
+    Ran may from old ops state new → Option Wait
 resumed begins = None
 resumed (steps state new ran step) = None
 resumed (turns_back state new ran step) = None
@@ -59,7 +59,7 @@ resumed (gives_up value new ran below read same) = None
 -- A call whose wait ended, and which has only read counts since, made its next turn.
 abbrev pub EachRunRetriesAtItsGoal : (ℕ → Type 0) → Type 0
 EachRunRetriesAtItsGoal may =
-    (from : State) (old : Pass) (deeds : List Deed) (phase : Phase) (mid : Pass) (state : State) (new : Pass)
-    (ran : Ran may from old deeds (Goes phase) mid) → Steps may phase mid state new → (wait : Wait) →
+    (from : State) (old : Pass) (ops : List Op) (phase : Phase) (mid : Pass) (state : State) (new : Pass)
+    (ran : Ran may from old ops (Goes phase) mid) → Steps may phase mid state new → (wait : Wait) →
     resumed ran ≡ Some wait →
     IsFoundAt (awaited wait) (goal_of wait) new.seats

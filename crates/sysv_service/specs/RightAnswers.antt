@@ -4,7 +4,7 @@
 -- (POSIX.1-2017, msgget, msgsnd, msgrcv and msgctl).
 use Rattle.std.specs.Prelude.{ℕ, List}
 use Rattle.sysv_model.specs.declared.cred.Cred.{Cred}
-use Rattle.sysv_model.specs.Turn.{Deed}
+use Rattle.sysv_model.specs.Turn.{Op}
 use Rattle.sysv_steps.specs.Call.{SystemCall}
 use Rattle.sysv_steps.specs.Begin.{begin}
 use Rattle.sysv_steps.specs.State.{Ending, Over}
@@ -14,6 +14,6 @@ use Rattle.sysv_service.specs.Ran.{Pass, Ran, FindsTurns}
 -- Each call that is over and found no gate worn out has the right result for its turns.
 abbrev pub EachRunAnswersRight : (ℕ → Type 0) → Type 0
 EachRunAnswersRight may =
-    (cred : Cred) (asked : SystemCall) (released : ℕ) (old : Pass) (deeds : List Deed) (ending : Ending) (new : Pass)
-    (ran : Ran may (begin cred asked released) old deeds (Over ending) new) → FindsTurns ran →
-    IsRightAnswer asked deeds ending
+    (cred : Cred) (asked : SystemCall) (released : ℕ) (old : Pass) (ops : List Op) (ending : Ending) (new : Pass)
+    (ran : Ran may (begin cred asked released) old ops (Over ending) new) → FindsTurns ran →
+    IsRightAnswer asked ops ending

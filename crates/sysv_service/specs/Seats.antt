@@ -6,7 +6,7 @@ use lib.ListN.{get_elem?}
 use Rattle.sysv_model.specs.History.{Seat, Entry, History, arrived, freed}
 use Rattle.sysv_model.specs.Registry.{RegistryEntry, RegistryHistory, settled}
 use Rattle.sysv_model.specs.Pool.{PoolEntry, PoolHistory, released}
-use Rattle.sysv_model.specs.Turn.{Ask, OfSlot, OfRegistry, OfPool, Deed, AtSlot, AtRegistry, AtPool, slot_history}
+use Rattle.sysv_model.specs.Turn.{Ask, OfSlot, OfRegistry, OfPool, Op, AtSlot, AtRegistry, AtPool, slot_history}
 use Rattle.sysv_model.specs.Turn.{registry_history, pool_history}
 use Rattle.sysv_model.specs.Turns.{turns_of}
 use Rattle.sysv_model.specs.Members.{Member, SeesMore, MakesTurn}
@@ -16,7 +16,7 @@ use Rattle.sysv_keys.specs.State.{Registry}
 use Rattle.sysv_keys.specs.StandsFor.{StandsFor as RegistryStandsFor}
 use Rattle.sysv_pool.specs.State.{State}
 use Rattle.sysv_pool.specs.StandsFor.{StandsFor as PoolStandsFor}
-use Rattle.sysv_gate.specs.declared.view.Turn.{Turn}
+use Rattle.sysv_gate.specs.declared.table.view.Turn.{Turn}
 use Rattle.sysv_gate.specs.History.{Moves, after_all}
 use Rattle.sysv_gate.specs.Gates.{Gateway, Holding, Answers, marked}
 use Rattle.sysv_bank.specs.Banks.{gates_of, ChangesAt}
@@ -131,7 +131,7 @@ pub record TakesTurn {O C R E : Type 0} (moves : O → C → R → O → Type 0)
 
 -- The turn was made at its object, and nothing was done at any other. It is the last of the order
 -- that was seen, and what was read of the counts is bounded by this order.
-abbrev pub MakesTurnAt : Seats → Deed → Seats → Type 0
+abbrev pub MakesTurnAt : Seats → Op → Seats → Type 0
 MakesTurnAt before (AtSlot slot call reply) after =
     ChangesAt slot before.slots after.slots
     (λ b a. TakesTurn SlotMoves slot_counts slot_entry (record { who = Seat b.number; call = call; reply = reply }) b a)

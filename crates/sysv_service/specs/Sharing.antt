@@ -7,10 +7,10 @@ use lib.ListN.{get_elem?}
 use Rattle.sysv_model.specs.Turn.{slot_history, registry_history, pool_history}
 use Rattle.sysv_model.specs.Turns.{Numbered, turns_of}
 use Rattle.sysv_model.specs.Members.{AreWhole, Splits, Joins as MembersJoin, Closes as MemberCloses}
-use Rattle.sysv_objects.specs.LegalDeed.{AreLegal}
+use Rattle.sysv_objects.specs.LegalOp.{AreLegal}
 use Rattle.sysv_queue.specs.Slot.{Slot}
-use Rattle.sysv_gate.specs.declared.closing.Closing.{Closing}
-use Rattle.sysv_gate.specs.declared.view.Turn.{Turn}
+use Rattle.sysv_gate.specs.declared.gate.closing.Closing.{Closing}
+use Rattle.sysv_gate.specs.declared.table.view.Turn.{Turn}
 use Rattle.sysv_gate.specs.History.{Moves}
 use Rattle.sysv_gate.specs.Gates.{Holding, parted, IsSplit, Joins}
 use Rattle.sysv_gate.specs.Closings.{IsBack, Closes}

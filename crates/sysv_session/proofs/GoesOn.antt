@@ -7,8 +7,8 @@ use Rattle.std.specs.Io.KnownBytes.{Appends, Consumes}
 use Rattle.std.proofs.KnownBytes.{Consumes-nil}
 use Rattle.sysv_model.specs.declared.cred.Cred.{Cred}
 use Rattle.sysv_queue.specs.Tally.{Tallied, taken_in}
-use Rattle.sysv_session.specs.declared.kernel.RequestOutcome.{RequestOutcome}
-use Rattle.sysv_session.specs.declared.kernel.RequestOutcome.TheVariants.{Reply, Got, Left as WasLeft}
+use Rattle.sysv_session.specs.declared.handler.RequestOutcome.{RequestOutcome}
+use Rattle.sysv_session.specs.declared.handler.RequestOutcome.TheVariants.{Reply, Got, Left as WasLeft}
 use Rattle.sysv_session.specs.declared.served.End.{End}
 use Rattle.sysv_session.specs.declared.served.End.TheVariants.{Ended, NoMemory, NoHello, Fault, Write, Bound, Left}
 use Rattle.sysv_session.specs.declared.served.End.TheVariants.{Reset}
@@ -162,7 +162,7 @@ module _ {K : Type 0} (Means : Meaning K) (slots : ℕ) where
       talk.unsent ≡ record { bytes = []; marks = [] } → Stands Means slots talk k k left left []
   opens talk k left caller tally counts unsent = record {
     replies = [];
-    under_way = inl (record { caller = caller; counts = counts; kernel = refl; reads = refl; gathered = refl });
+    under_way = inl (record { caller = caller; counts = counts; handler = refl; reads = refl; gathered = refl });
     gathers = regathered (only_lost 0) [] [] _ talk.unsent _ talk.session.tally unsent tally
         (gathers_none (only_lost 0));
   }
@@ -209,7 +209,7 @@ module _ {K : Type 0} (Means : Meaning K) (slots : ℕ) where
         known = hello.known;
         calls = [];
         are_calls = tt;
-        leads = hello.kernel;
+        leads = hello.handler;
         unread = unread;
         reads = subst (Consumes left unread) (sym (append-nil (hello_spelling version hello.cred))) hello.reads;
         ends = refl;
@@ -381,7 +381,7 @@ module _ {K : Type 0} (Means : Meaning K) (slots : ℕ) where
       (fresh : Fresh talk.session old now left unread stands.replies)
       → StopsBefore why unread rest → talk' ≡ talk → Stopped Means slots why talk' old now left rest taken
   stops_fresh why talk talk' old now left unread rest taken stands fresh ends same = inl (record {
-    kernel = fresh.kernel;
+    handler = fresh.handler;
     ends = subst (λ (l : Option (List ℕ)). StopsBefore why l rest) fresh.reads ends;
     gathers = subst (λ (l : List Gathered). Gathers (only_lost 0) l taken talk'.unsent talk'.session.tally)
         fresh.gathered
@@ -507,7 +507,7 @@ module _ {K : Type 0} (Means : Meaning K) (slots : ℕ) where
   same_way talk talk' old now left unread replies caller count (inl fresh) = inl (record {
     caller = caller ∙ fresh.caller;
     counts = count ∙ fresh.counts;
-    kernel = fresh.kernel;
+    handler = fresh.handler;
     reads = fresh.reads;
     gathered = fresh.gathered;
   })
@@ -570,7 +570,7 @@ module _ {K : Type 0} (Means : Meaning K) (slots : ℕ) where
       Stopped Means slots why talk old now left rest taken →
       Stopped Means slots why talk' old now left rest (taken ++ take n talk.unsent.bytes)
   sends_stopped why n talk talk' old now left rest taken fits is (inl before) = inl (record {
-    kernel = before.kernel;
+    handler = before.handler;
     ends = before.ends;
     gathers = gathers_sent 0 [] taken n talk talk' fits is before.gathers;
     counts = ap (λ (t : Talk). t.session.requests) is ∙ before.counts;
@@ -662,7 +662,7 @@ module _ {K : Type 0} (Means : Meaning K) (slots : ℕ) where
       let empty : talk.unsent.bytes ≡ [] =
       sym (ap (λ (l : List ℕ). l ++ talk.unsent.bytes) sent) ∙ nothing in
       inl (record {
-        kernel = none.kernel;
+        handler = none.handler;
         ends = subst (λ (l : List ℕ). StopsBefore (reported why l) left rest) (sym empty) none.ends;
         writes = subst (Appends before after) sent writes;
         tallies = none_at_end (is_reset why) talk.unsent.marks talk.session.tally

@@ -10,9 +10,9 @@ use Rattle.std.specs.List.{concat}
 use Rattle.sysv_model.specs.declared.cred.Cred.{Cred}
 use Rattle.sysv_model.specs.Writing.{AppendsPrefix}
 use Rattle.sysv_queue.specs.Tally.{Tallied, taken_in}
-use Rattle.sysv_session.specs.declared.kernel.RequestOutcome.{RequestOutcome}
-use Rattle.sysv_session.specs.declared.kernel.RequestOutcome.TheVariants.{Reply}
-use Rattle.sysv_session.specs.declared.kernel.RequestOutcome.TheVariants as outcomes
+use Rattle.sysv_session.specs.declared.handler.RequestOutcome.{RequestOutcome}
+use Rattle.sysv_session.specs.declared.handler.RequestOutcome.TheVariants.{Reply}
+use Rattle.sysv_session.specs.declared.handler.RequestOutcome.TheVariants as outcomes
 use Rattle.sysv_session.specs.declared.served.End.{End}
 use Rattle.sysv_session.specs.declared.served.End.TheVariants.{Ended, NoMemory, NoHello, Fault, Write, Bound, Left}
 use Rattle.sysv_session.specs.declared.served.End.TheVariants.{Reset}
@@ -100,7 +100,7 @@ module _ {K : Type 0} (Means : Meaning K) (slots : ℕ) (old : K) (left taken : 
       session.requests ≡ 0 → HandedOver Means slots session old old left left taken taken
   begins session caller tally counts = record {
     replies = [];
-    under_way = inl (record { caller = caller; counts = counts; kernel = refl; reads = refl; gathered = refl });
+    under_way = inl (record { caller = caller; counts = counts; handler = refl; reads = refl; gathered = refl });
     writes = Appends-nil taken;
     quiet = λ none. refl;
     tally = tally;
@@ -206,7 +206,7 @@ module _ {K : Type 0} (Means : Meaning K) (slots : ℕ) (old : K) (left taken : 
         let ends = subst (λ (c : Option (Version × Cred)). EndsHere c session.requests why unread rest text)
         fresh.caller here in
         inl (record {
-          kernel = fresh.kernel;
+          handler = fresh.handler;
           ends = subst (λ (l : Option (List ℕ)). EndsBefore why l rest) fresh.reads ends.0;
           writes = so_far.quiet fresh.gathered;
           tallies = so_far.tally
@@ -275,7 +275,7 @@ module _ {K : Type 0} (Means : Meaning K) (slots : ℕ) (old : K) (left taken : 
               known = hello.known;
               calls = [];
               are_calls = tt;
-              leads = hello.kernel;
+              leads = hello.handler;
               unread = rest;
               reads = subst (Consumes left rest) (sym (append-nil (hello_spelling version hello.cred))) hello.reads;
               ends = refl;

@@ -12,8 +12,8 @@ use Rattle.std.specs.Io.KnownBytes.{Appends}
 use Rattle.std.specs.List.{AllByRecursion, concat}
 use Rattle.sysv_queue.specs.Delivery.{Given}
 use Rattle.sysv_queue.specs.Tally.{Tallied}
-use Rattle.sysv_session.specs.declared.kernel.RequestOutcome.{RequestOutcome}
-use Rattle.sysv_session.specs.declared.kernel.RequestOutcome.TheVariants.{Reply, Got, Left as WasLeft}
+use Rattle.sysv_session.specs.declared.handler.RequestOutcome.{RequestOutcome}
+use Rattle.sysv_session.specs.declared.handler.RequestOutcome.TheVariants.{Reply, Got, Left as WasLeft}
 use Rattle.sysv_session.specs.declared.served.End.{End}
 use Rattle.sysv_session.specs.declared.served.End.TheVariants.{Ended, NoMemory, NoHello, Fault, Write, Bound, Left}
 use Rattle.sysv_session.specs.declared.served.End.TheVariants.{Reset}
@@ -81,7 +81,7 @@ calls_marks start (call ∷ calls) =
       more,
     )
 
--- The messages among the replies are those that the kernel returned.
+-- The messages among the replies are those that the handler returned.
 pub replies_messages : (version : Version) (slots : ℕ) (calls : List Call) →
     messages_among (replies_to version slots calls) ≡ messages_of calls
 replies_messages version slots calls = calls_marks (0 + length (hello_frame version slots)) calls
@@ -523,7 +523,7 @@ module _ {K : Type 0} where
 
   pub together : (Means : Meaning K) → AreTogether Means
   together Means slots served old new left rest taken more (inl stays) early = inl (record {
-    kernel = stays.kernel;
+    handler = stays.handler;
     ends = stops_before served.«end» left rest stays.ends;
     writes = subst (λ (m : Option (List ℕ)). Appends taken m []) (sym stays.writes) (Appends-nil taken);
     tallies = stays.tallies;

@@ -48,7 +48,7 @@ module _ {K : Type 0} (Means : Meaning K) (slots : ℕ) where
   hello_taken version session session' old now left unread rest text replies (inl fresh) takes = record {
     cred = takes.0;
     known = takes.2.0;
-    kernel = fresh.kernel;
+    handler = fresh.handler;
     reads = subst (λ (l : Option (List ℕ)). Consumes l rest (hello_spelling version takes.0)) fresh.reads takes.2.1;
     caller = ap (λ (s : Session). s.caller) takes.3;
     counts = ap (λ (s : Session). s.requests) takes.3;
@@ -68,7 +68,7 @@ module _ {K : Type 0} (Means : Meaning K) (slots : ℕ) where
     known = hello.known;
     calls = [];
     are_calls = tt;
-    leads = hello.kernel;
+    leads = hello.handler;
     reads = subst (Consumes left unread) (sym (append-nil (hello_spelling version hello.cred))) hello.reads;
     replied = tt;
     caller = caller ∙ hello.caller;

@@ -1,9 +1,9 @@
--- The requests that a kernel may receive and the outcomes that it may return (this project's
+-- The requests that a handler may receive and the outcomes that it may return (this project's
 -- profile).
 use Rattle.std.specs.Prelude.{◌≡◌, ◌≢◌, ◌≤◌, ⊤, ℕ, ℤ, Bool, true, false, List, [], length, cond}
 use Rattle.sysv_model.specs.declared.limits.TheConstants.{MESSAGE_BYTES}
-use Rattle.sysv_session.specs.declared.kernel.RequestOutcome.{RequestOutcome}
-use Rattle.sysv_session.specs.declared.kernel.RequestOutcome.TheVariants.{Reply, Got, Left}
+use Rattle.sysv_session.specs.declared.handler.RequestOutcome.{RequestOutcome}
+use Rattle.sysv_session.specs.declared.handler.RequestOutcome.TheVariants.{Reply, Got, Left}
 use Rattle.sysv_wire.specs.declared.frame.Op.TheVariants as op
 use Rattle.sysv_wire.specs.declared.frame.Version.{Version}
 use Rattle.sysv_wire.specs.declared.reply.ReplyContent.TheVariants.{Rcv}
@@ -23,7 +23,7 @@ IsAsked request text =
 abbrev pub IsAskedIn : Version → Request → List ℕ → Type 0
 IsAskedIn version request text = (request.version ≡ version) × IsAsked request text
 
--- A kernel may return this outcome. A reply has the version and the operation of its request, is a
+-- A handler may return this outcome. A reply has the version and the operation of its request, is a
 -- reply that the operation may have, and carries no message. Only a receive returns a message,
 -- which has the length of its body. In both cases the body has at most MESSAGE_BYTES bytes. A call
 -- that was left has no body.

@@ -1,4 +1,4 @@
--- What a session reads (this project's profile): a hello, the requests that the kernel receives,
+-- What a session reads (this project's profile): a hello, the requests that the handler receives,
 -- and then what ends the session.
 use Rattle.std.specs.Prelude.{◌≡◌, ◌≢◌, ◌⊎◌, ℕ, List, [], Option, None, Some, Result, Ok, Err, flat_map}
 use Rattle.std.specs.Io.KnownBytes.{Consumes, IsAtEnd}
@@ -23,7 +23,7 @@ hello_of version cred = record { version = version; ask = Hello cred }
 abbrev pub hello_spelling : Version → Cred → List ℕ
 hello_spelling version cred = request_spelling (hello_of version cred) []
 
--- The spellings of the requests that the kernel received, in order.
+-- The spellings of the requests that the handler received, in order.
 abbrev pub asked_spelling : List Call → List ℕ
 asked_spelling calls = flat_map (λ call. request_spelling call.request call.text) calls
 
@@ -47,7 +47,7 @@ LaterFault version BadOp taken = RequestFault BadOp taken ⊎ IsHello version ta
 LaterFault version BadField taken = RequestFault BadField taken ⊎ IsOfAnother version taken
 LaterFault version Read taken = RequestFault Read taken
 
--- The next request that the kernel receives is read, or there is none at the end of the input, or
+-- The next request that the handler receives is read, or there is none at the end of the input, or
 -- there is a fault.
 abbrev pub ReadsAsked : Version → Option (List ℕ) → Option (List ℕ) → Result (Option Request) Fault → List ℕ → Type 0
 ReadsAsked version old new (Ok (Some request)) text =

@@ -7,7 +7,7 @@ use Rattle.sysv_queue.specs.Tally.{Tallied, taken_in}
 use Rattle.sysv_session.specs.declared.served.End.{End}
 use Rattle.sysv_session.specs.declared.served.End.TheVariants.{Ended, NoMemory, NoHello, Fault, Write, Bound, Left}
 use Rattle.sysv_session.specs.declared.served.End.TheVariants.{Reset}
-use Rattle.sysv_session.specs.declared.kernel.RequestOutcome.TheVariants as outcomes
+use Rattle.sysv_session.specs.declared.handler.RequestOutcome.TheVariants as outcomes
 use Rattle.sysv_session.specs.Answers.{IsReplied, outcome_spelling}
 use Rattle.sysv_session.specs.Calls.{Call, messages_of}
 use Rattle.sysv_wire.specs.declared.frame.Op.TheVariants as op
@@ -87,7 +87,7 @@ answered Bound calls = calls
 answered Left calls = take (length calls - 1) calls
 answered Reset calls = calls
 
--- The tally states the number of messages that the kernel returned, and how many of them were
+-- The tally states the number of messages that the handler returned, and how many of them were
 -- written whole.
 abbrev pub Tallies : End → List Call → Tallied → Type 0
 Tallies why calls tally = (taken_in tally ≡ messages_of calls) × (tally.written ≡ messages_of (answered why calls))

@@ -1,5 +1,5 @@
 -- What a session does (this project's profile). It reads a hello and replies to it. It then reads
--- requests, passes each to the kernel and writes the kernel's outcome, until something ends it. A
+-- requests, passes each to the handler and writes the handler's outcome, until something ends it. A
 -- call that was left has no reply and ends it.
 use Rattle.std.specs.Prelude.{◌≡◌, ◌+◌, ◌<◌, ◌⊎◌, ⊤, ℕ, List, [], ◌∷◌, ◌++◌, Option, length}
 use Rattle.std.specs.List.{AllByRecursion}
@@ -33,15 +33,15 @@ module _ {K : Type 0} where
   -- A session without a hello makes no call and writes nothing.
   pub record Stays (why : End) (tally : Tallied) (requests : ℕ) (old new : K)
       (left rest taken more : Option (List ℕ)) : Type 0 where
-    pub kernel : new ≡ old
+    pub handler : new ≡ old
     pub ends : EndsBefore why left rest
     pub writes : more ≡ taken
     pub tallies : tally ≡ record { written = 0; lost = 0 }
     pub counts : requests ≡ 0
 
-  -- A session with a hello. Its calls of the kernel are one for each request of the hello's version
-  -- that was read after the hello, and it writes the frames of the replies to the hello and to
-  -- these calls. Each call has a reply, except a last one that was left. The reply to the hello
+  -- A session with a hello. Its calls of the handler are one for each request of the hello's
+  -- version that was read after the hello, and it writes the frames of the replies to the hello and
+  -- to these calls. Each call has a reply, except a last one that was left. The reply to the hello
   -- states this number of slots, if it is of version 2.
   pub record Talks (Means : Meaning K) (slots : ℕ) (why : End) (tally : Tallied) (requests : ℕ) (old new : K)
       (left rest taken more : Option (List ℕ)) : Type 0 where
@@ -67,7 +67,7 @@ module _ {K : Type 0} where
       Stays why tally requests old new left rest taken more
       ⊎ Talks Means slots why tally requests old new left rest taken more
 
-  -- What a session that reported this did to its kernel, to what its reader had left and to what
+  -- What a session that reported this did to its handler, to what its reader had left and to what
   -- its writer had taken.
   abbrev pub Serves : Meaning K → ℕ → Served → (old new : K) → (left rest taken more : Option (List ℕ)) → Type 0
   Serves Means slots served old new left rest taken more =

@@ -46,7 +46,7 @@ module _ {K : Type 0} where
   -- It stopped for this reason before a hello was taken up.
   pub record StoppedBefore (why : End) (talk : Talk) (old now : K) (left rest : Option (List ℕ)) (taken : List ℕ) :
       Type 0 where
-    pub kernel : now ≡ old
+    pub handler : now ≡ old
     pub ends : StopsBefore why left rest
     pub gathers : Gathers (only_lost 0) [] taken talk.unsent talk.session.tally
     pub counts : talk.session.requests ≡ 0

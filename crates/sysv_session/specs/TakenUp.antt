@@ -1,5 +1,6 @@
 -- What a session takes up next (this project's profile): its hello, and then one request after
--- another for the kernel, until what it reads ends it or it has had the maximum number of requests.
+-- another for the handler, until what it reads ends it or it has had the maximum number of
+-- requests.
 use Rattle.std.specs.Prelude.{◌≡◌, ◌<◌, ◌≤◌, ◌+◌, ◌⊎◌, ℕ, List, [], Option, None, Some, Result, Ok, Err}
 use Rattle.std.specs.Io.KnownBytes.{Consumes, IsAtEnd}
 use Rattle.sysv_model.specs.declared.cred.Cred.{Cred}
@@ -17,7 +18,8 @@ use Rattle.sysv_wire.specs.declared.request.Request.{Request}
 use Rattle.sysv_wire.specs.Faults.{Faults}
 use Rattle.sysv_wire.specs.Requests.{request_spelling}
 
--- A request of this version is read for the kernel; or the input is at its end; or there is a fault.
+-- A request of this version is read for the handler; or the input is at its end; or there is a
+-- fault.
 abbrev pub TakesRequest : Version → Result Request End → (left rest : Option (List ℕ)) → List ℕ → Type 0
 TakesRequest version (Ok request) left rest text =
     Consumes left rest (request_spelling request text) × IsAskedIn version request text
@@ -39,7 +41,7 @@ EndsHere (Some caller) requests why left rest text =
     ⊎ ((requests < SESSION_REQUESTS) × TakesRequest caller.0 (Err why) left rest text)
 
 -- A session takes up its hello if it has read none, and else a request of the hello's version for
--- the kernel, with the hello's credentials. Or it ends here, and is unchanged.
+-- the handler, with the hello's credentials. Or it ends here, and is unchanged.
 abbrev pub TakesUp : Session → Session → Result TakenUp End → (left rest : Option (List ℕ)) → List ℕ → Type 0
 TakesUp old new (Ok (Hello version)) left rest text = (cred : Cred) × (old.caller ≡ None)
     × Greets (Ok (version, cred)) left rest

@@ -8,7 +8,7 @@ use Rattle.std.specs.Io.KnownBytes.{Appends, Consumes}
 use Rattle.sysv_lists.specs.Prefix.{IsPrefixOf}
 use Rattle.sysv_model.specs.declared.cred.Cred.{Cred}
 use Rattle.sysv_queue.specs.Tally.{Tallied, taken_in}
-use Rattle.sysv_session.specs.declared.kernel.RequestOutcome.TheVariants as outcomes
+use Rattle.sysv_session.specs.declared.handler.RequestOutcome.TheVariants as outcomes
 use Rattle.sysv_session.specs.declared.served.End.{End}
 use Rattle.sysv_session.specs.declared.served.End.TheVariants.{Ended, NoMemory, NoHello, Fault, Write, Bound, Left}
 use Rattle.sysv_session.specs.declared.served.End.TheVariants.{Reset}
@@ -119,18 +119,18 @@ module _ {K : Type 0} where
   -- memory was refused.
   pub record StaysTogether (why : End) (tally : Tallied) (requests : ℕ) (old new : K)
       (left rest taken more : Option (List ℕ)) : Type 0 where
-    pub kernel : new ≡ old
+    pub handler : new ≡ old
     pub ends : StopsBefore why left rest
     pub writes : Appends taken more []
     pub tallies : tally ≡ record { written = 0; lost = 0 }
     pub counts : requests ≡ 0
 
-  -- A session with a hello. Its calls of the kernel are one for each request of the hello's version
-  -- that was taken up after the hello. The connection has taken a prefix of the frames of the
-  -- replies, and all of them unless the end is `Write`. The messages whose frames lie wholly in this
-  -- prefix count as written, and all others as lost. The one exception: if the client reset the
-  -- connection, it has not read the last byte of the prefix; if that is the last byte of a message's
-  -- frame, this message counts as lost.
+  -- A session with a hello. Its calls of the handler are one for each request of the hello's
+  -- version that was taken up after the hello. The connection has taken a prefix of the frames of
+  -- the replies, and all of them unless the end is `Write`. The messages whose frames lie wholly in
+  -- this prefix count as written, and all others as lost. The one exception: if the client reset
+  -- the connection, it has not read the last byte of the prefix; if that is the last byte of a
+  -- message's frame, this message counts as lost.
   pub record TalksTogether (Means : Meaning K) (slots : ℕ) (why : End) (tally : Tallied) (requests : ℕ) (old new : K)
       (left rest taken more : Option (List ℕ)) : Type 0 where
     pub version : Version

@@ -1,12 +1,12 @@
 -- What a session under way has done so far (this project's profile). Either it has taken up nothing, or
 -- it has taken up its hello and then calls, each of which has its reply, in order. A request for the
--- kernel may have been taken up whose outcome is not there yet.
+-- handler may have been taken up whose outcome is not there yet.
 use Rattle.std.specs.Prelude.{◌≡◌, ◌≤◌, ◌+◌, ◌⊎◌, ℕ, List, [], ◌∷◌, ◌++◌, Option, None, Some, length, map}
 use Rattle.std.specs.List.{AllByRecursion}
 use Rattle.std.specs.Io.KnownBytes.{Consumes}
 use Rattle.sysv_model.specs.declared.cred.Cred.{Cred}
-use Rattle.sysv_session.specs.declared.kernel.RequestOutcome.{RequestOutcome}
-use Rattle.sysv_session.specs.declared.kernel.RequestOutcome.TheVariants.{Reply, Got, Left}
+use Rattle.sysv_session.specs.declared.handler.RequestOutcome.{RequestOutcome}
+use Rattle.sysv_session.specs.declared.handler.RequestOutcome.TheVariants.{Reply, Got, Left}
 use Rattle.sysv_session.specs.declared.served.TheConstants.{SESSION_REQUESTS}
 use Rattle.sysv_session.specs.declared.session.Session.{Session}
 use Rattle.sysv_session.specs.Answers.{IsAskedIn}
@@ -44,7 +44,7 @@ module _ {K : Type 0} where
       Type 0 where
     pub caller : session.caller ≡ None
     pub counts : session.requests ≡ 0
-    pub kernel : now ≡ old
+    pub handler : now ≡ old
     pub reads : unread ≡ left
     pub gathered : replies ≡ []
 
@@ -76,14 +76,14 @@ module _ {K : Type 0} where
       (replies : List Gathered) : Type 0 where
     pub cred : Cred
     pub known : FitsRequest (hello_of version cred) []
-    pub kernel : now ≡ old
+    pub handler : now ≡ old
     pub reads : Consumes left unread (hello_spelling version cred)
     pub caller : session.caller ≡ Some (version, cred)
     pub counts : session.requests ≡ 1
     pub gathered : replies ≡ []
 
   -- This request with these credentials was taken up after other calls, and has no outcome yet: `now`
-  -- is the kernel before its call.
+  -- is the handler before its call.
   pub record Asking (Means : Meaning K) (slots : ℕ) (cred : Cred) (request : Request) (text : List ℕ)
       (session : Session) (old now : K) (left unread : Option (List ℕ)) (replies : List Gathered) : Type 0 where
     pub version : Version

@@ -10,7 +10,7 @@ ghost use Rattle.sysv_session.specs.Outbox.{with_frame};
 ghost use Rattle.sysv_session.specs.Output.{hello_frame};
 ghost use Rattle.sysv_session.specs.TakenUp.{TakesUp};
 
-use crate::kernel::RequestOutcome;
+use crate::handler::RequestOutcome;
 use crate::outbox::Outbox;
 use crate::served::{End, Served};
 use crate::session::{Session, TakenUp};

@@ -4,7 +4,7 @@ ghost use Rattle.sysv_session.specs.declared.served.TheConstants.{SESSION_REQUES
 ghost use Rattle.sysv_session.specs.Gathered.{BreaksOffWithin, ClosesAll, GathersMessage, GathersNone, GathersOn, GathersReply};
 ghost use Rattle.sysv_session.specs.Together.{AreTogether};
 
-use crate::kernel::Kernel;
+use crate::handler::Handler;
 
 /// States the maximum number of requests in a session.
 pub fn numeral_of_requests()
@@ -28,6 +28,6 @@ pub fn gathered_replies()
 
 /// States that a session of which the writer took one reply after another is one whose replies were
 /// gathered, if a writer that failed had not taken all of them.
-pub fn sessions_together<K: Kernel>()
+pub fn sessions_together<K: Handler>()
     ensures { AreTogether K.meaning }
 {}

@@ -56,11 +56,11 @@ impl From<WriteFault> for End {
 pub struct Served {
     /// Why the session ended.
     pub end: End,
-    /// The messages that the kernel returned: `written` counts those whose reply was written whole
+    /// The messages that the handler returned: `written` counts those whose reply was written whole
     /// and flushed, and `lost` the others.
     pub tally: Tally,
     /// The number of requests that were taken up, 0 to 4,294,967,295: the hello and the requests
-    /// that the kernel received, also the last one if its call was left. What ended the session
+    /// that the handler received, also the last one if its call was left. What ended the session
     /// otherwise is not counted.
     pub requests: u32,
 }

@@ -11,7 +11,7 @@ ghost use Rattle.sysv_session.specs.HandedOver.{HandedOver, Proceeds};
 ghost use Rattle.sysv_session.specs.TakenUp.{TakesUp};
 ghost use Rattle.sysv_session.specs.Turn.{Answers};
 
-use crate::kernel::{Kernel, RequestOutcome};
+use crate::handler::{Handler, RequestOutcome};
 use crate::served::{End, SESSION_REQUESTS, Served};
 use crate::turn::{deliver, hello_reply, read_asked, read_hello, send};
 use std::alloc::Global;
@@ -22,7 +22,7 @@ use sysv_wire::{Request, Version, one_answer_to_requests, one_request};
 
 /// Runs one session to its end, and returns what the session did.
 ///
-/// The session reads a hello and replies to it. It then reads requests, passes each to the kernel
+/// The session reads a hello and replies to it. It then reads requests, passes each to the handler
 /// with the credentials of the hello, and writes the replies in order. Each reply is flushed before
 /// the next request is read.
 ///
@@ -31,14 +31,14 @@ use sysv_wire::{Request, Version, one_answer_to_requests, one_request};
 /// session without a reply. So does a call that its client leaves while it waits.
 ///
 /// Memory for two bodies is allocated before anything is read. If it is refused, the session ends
-/// with `NoMemory`, and the reader, the writer and the kernel are unchanged.
-pub fn serve<R: Read, W: Write, K: Kernel>(
+/// with `NoMemory`, and the reader, the writer and the handler are unchanged.
+pub fn serve<R: Read, W: Write, K: Handler>(
     alloc: Global,
     reader: &mut R,
     writer: &mut W,
-    kernel: &mut K,
+    handler: &mut K,
 ) -> Served
-    ensures serves { Serves K.meaning (K.slots kernel.old) result kernel.old kernel.new
+    ensures serves { Serves K.meaning (K.slots handler.old) result handler.old handler.new
         (R.remaining reader.old) (R.remaining reader.new) (W.contents writer.old)
         (W.contents writer.new) }
     // The session ends as its input determines, unless it is cut short.
@@ -54,18 +54,18 @@ pub fn serve<R: Read, W: Write, K: Kernel>(
             requests: 0,
         };
     };
-    serve_with(&mut texts, reader, writer, kernel)
+    serve_with(&mut texts, reader, writer, handler)
 }
 
 /// Runs one session like `serve`, but with two bodies that exist already, whatever they hold.
 /// Allocates nothing.
-pub fn serve_with<R: Read, W: Write, K: Kernel>(
+pub fn serve_with<R: Read, W: Write, K: Handler>(
     texts: &mut Texts,
     reader: &mut R,
     writer: &mut W,
-    kernel: &mut K,
+    handler: &mut K,
 ) -> Served
-    ensures serves { Serves K.meaning (K.slots kernel.old) result kernel.old kernel.new
+    ensures serves { Serves K.meaning (K.slots handler.old) result handler.old handler.new
         (R.remaining reader.old) (R.remaining reader.new) (W.contents writer.old)
         (W.contents writer.new) }
     // The session ends as its input determines, unless it is cut short.
@@ -77,7 +77,7 @@ pub fn serve_with<R: Read, W: Write, K: Kernel>(
         texts,
         &mut Watched::new(reader),
         &mut Watched::new(writer),
-        kernel,
+        handler,
     )
 }
 
@@ -85,13 +85,13 @@ pub fn serve_with<R: Read, W: Write, K: Kernel>(
 ///
 /// The reader fails if and only if the session ends with `Fault(Read)`, and the writer fails if and
 /// only if it ends with `Write`.
-pub fn serve_watched<R: Read, W: Write, K: Kernel>(
+pub fn serve_watched<R: Read, W: Write, K: Handler>(
     texts: &mut Texts,
     reader: &mut Watched<'_, R>,
     writer: &mut Watched<'_, W>,
-    kernel: &mut K,
+    handler: &mut K,
 ) -> Served
-    ensures serves { Serves K.meaning (K.slots kernel.old) result kernel.old kernel.new
+    ensures serves { Serves K.meaning (K.slots handler.old) result handler.old handler.new
         (R.remaining (stream_of reader.old)) (R.remaining (stream_of reader.new))
         (W.contents (stream_of writer.old)) (W.contents (stream_of writer.new)) }
     // The session ends as its input determines, unless it is cut short.
@@ -105,30 +105,30 @@ pub fn serve_watched<R: Read, W: Write, K: Kernel>(
 {
     one_request();
     one_answer_to_requests();
-    let slots = kernel.slots();
+    let slots = handler.slots();
     let mut session = Session::open();
     loop {
-        if let Err(why) = serve_next(&mut session, slots, texts, reader, writer, kernel) {
+        if let Err(why) = serve_next(&mut session, slots, texts, reader, writer, handler) {
             return session.end(why);
         }
     }
 }
 
 /// Takes up what the input holds next, and answers it.
-fn serve_next<R: Read, W: Write, K: Kernel>(
+fn serve_next<R: Read, W: Write, K: Handler>(
     session: &mut Session,
     slots: u32,
     texts: &mut Texts,
     reader: &mut Watched<'_, R>,
     writer: &mut Watched<'_, W>,
-    kernel: &mut K,
+    handler: &mut K,
 ) -> Result<(), End>
     requires room { taken_in session.old.tally < 2 ^ 64 - 1 }
     // Wherever the session began, it serves on or has served.
     ensures serves { (start : K) (left taken : Option (List ℕ)) →
-        HandedOver K.meaning slots session.old start kernel.old left
+        HandedOver K.meaning slots session.old start handler.old left
         (R.remaining (stream_of reader.old)) taken (W.contents (stream_of writer.old)) →
-        Proceeds K.meaning slots result session.old.requests session.new start kernel.new left
+        Proceeds K.meaning slots result session.old.requests session.new start handler.new left
         (R.remaining (stream_of reader.new)) taken (W.contents (stream_of writer.new)) }
     ensures memory { IfErr result (λ why. why ≢ End.NoMemory) }
     ensures reader { KeepsStream reader.old reader.new (ends_by_read result) }
@@ -141,7 +141,7 @@ fn serve_next<R: Read, W: Write, K: Kernel>(
             session.answer(writer, version, outcome, &texts.given)
         }
         TakenUp::Request(cred, request) => {
-            let outcome = kernel.call(cred, &request, &texts.asked, &mut texts.given);
+            let outcome = handler.call(cred, &request, &texts.asked, &mut texts.given);
             session.answer(writer, request.version, outcome, &texts.given)
         }
     }
@@ -173,7 +173,7 @@ impl Texts {
 pub struct Session {
     /// The version and the credentials of the hello, once it was read.
     pub caller: Option<(Version, Cred)>,
-    /// The messages that the kernel returned, and what became of them.
+    /// The messages that the handler returned, and what became of them.
     pub tally: Tally,
     /// The number of requests that were taken up, 0 to 4,294,967,295, including the hello.
     pub requests: u32,
@@ -194,7 +194,7 @@ impl Session {
     }
 
     /// Takes up what the input holds next: the hello, and then one request after another for the
-    /// kernel. `text` is then the body of the request.
+    /// handler. `text` is then the body of the request.
     ///
     /// # Errors
     ///
@@ -291,6 +291,6 @@ impl Session {
 pub enum TakenUp {
     /// The hello, of this version.
     Hello(Version),
-    /// A request for the kernel, with the credentials of the hello.
+    /// A request for the handler, with the credentials of the hello.
     Request(Cred, Request),
 }

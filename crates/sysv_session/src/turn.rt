@@ -13,7 +13,7 @@ ghost use Rattle.sysv_wire.specs.Faults.{is_read_fault};
 ghost use Rattle.sysv_wire.specs.Replies.{IsAnswer, reply_spelling};
 ghost use Rattle.sysv_model.specs.Writing.{AppendsPrefix};
 
-use crate::kernel::RequestOutcome;
+use crate::handler::RequestOutcome;
 use crate::served::End;
 use std::io::{Read, Write};
 use sysv_model::{Body, Cred, Watched};
@@ -116,7 +116,7 @@ pub(crate) fn message_reply(version: Version, delivery: &Delivery) -> Reply
     }
 }
 
-/// Writes a message that the kernel returned, and spends its delivery: as written if the reply was
+/// Writes a message that the handler returned, and spends its delivery: as written if the reply was
 /// written whole and flushed, otherwise as lost.
 pub(crate) fn deliver<W: Write>(
     writer: &mut Watched<'_, W>,

@@ -1,6 +1,6 @@
--- Each of the three commands of msgctl that plays to its end has a right result. Each has one deed
--- at its slot; a removal then has one at the registry; and a set that was done and a removal have
--- one at the pool.
+-- Each of the three commands of msgctl that plays to its end has a right result. Each has one
+-- operation at its slot; a removal then has one at the registry; and a set that was done and a
+-- removal have one at the pool.
 use Rattle.std.proofs.Common.{◌≡◌, ℕ, ℤ, inl, inr, Bool, true, false, List, [], ◌∷◌, ◌++◌, Some, cond, refl, sym, ap}
 use Rattle.std.proofs.Common.{subst, ◌∙◌, arith}
 use Rattle.std.specs.List.{flat_map}
@@ -13,7 +13,7 @@ use Rattle.sysv_model.specs.Message.{Message}
 use Rattle.sysv_model.specs.History.{Call, Reply, Told as TellsStat, Done, Discarded, Refused as IsRefusedFor}
 use Rattle.sysv_model.specs.Registry.{RegistryCall, Forget, RegistryReply, Changed}
 use Rattle.sysv_model.specs.Pool.{PoolCall, PoolReply, Released, Foreign}
-use Rattle.sysv_model.specs.Turn.{Deed, AtSlot, AtRegistry, AtPool, asked_by}
+use Rattle.sysv_model.specs.Turn.{Op, AtSlot, AtRegistry, AtPool, asked_by}
 use Rattle.sysv_queue.specs.Blocks.{blocks_of}
 use Rattle.sysv_steps.specs.Call.{SystemCall, MsgctlStat, MsgctlSet, MsgctlRmid}
 use Rattle.sysv_steps.specs.State.{Phase, AtStat, AtSet, AtSetGiveback, AtRemove, AtForget, AtRemoveGiveback, Ending}
@@ -31,23 +31,23 @@ own_back : (asked : SystemCall) (why : Errno) → IsRefusedSo asked [] why → R
 own_back asked why (inl t) = ap Refused (sym t.0)
 own_back asked why (inr t) = absurd cc
 
-queue_back : (asked : SystemCall) (deeds : List Deed) (is why : Errno) → is_refused asked ≡ false →
-    flat_map refused_by deeds ≡ is ∷ [] → IsRefusedSo asked deeds why → Refused is ≡ Refused why
-queue_back asked deeds is why r f (inl t) = apart _ t.1 r
-queue_back asked deeds is why r f (inr t) = let e : is ∷ [] ≡ why ∷ [] = sym f ∙ t in cc
+queue_back : (asked : SystemCall) (ops : List Op) (is why : Errno) → is_refused asked ≡ false →
+    flat_map refused_by ops ≡ is ∷ [] → IsRefusedSo asked ops why → Refused is ≡ Refused why
+queue_back asked ops is why r f (inl t) = apart _ t.1 r
+queue_back asked ops is why r f (inr t) = let e : is ∷ [] ≡ why ∷ [] = sym f ∙ t in cc
 
-none_back : (asked : SystemCall) (deeds : List Deed) (ending : Ending) (why : Errno) → is_refused asked ≡ false →
-    flat_map refused_by deeds ≡ [] → IsRefusedSo asked deeds why → ending ≡ Refused why
-none_back asked deeds ending why r f (inl t) = apart _ t.1 r
-none_back asked deeds ending why r f (inr t) = let e : [] ≡ why ∷ [] = sym f ∙ t in absurd cc
+none_back : (asked : SystemCall) (ops : List Op) (ending : Ending) (why : Errno) → is_refused asked ≡ false →
+    flat_map refused_by ops ≡ [] → IsRefusedSo asked ops why → ending ≡ Refused why
+none_back asked ops ending why r f (inl t) = apart _ t.1 r
+none_back asked ops ending why r f (inr t) = let e : [] ≡ why ∷ [] = sym f ∙ t in absurd cc
 
 -- ---- IPC_STAT
 
 module _ (id : ℤ) where
-  abbrev StatAt : List Deed → State → Type 0
-  StatAt deeds (Goes (AtStat cred at)) = (is_refused (MsgctlStat id) ≡ false) × (deeds ≡ [])
-  StatAt deeds (Over ending) = IsRightStat (MsgctlStat id) deeds ending
-  StatAt deeds state = ⊥
+  abbrev StatAt : List Op → State → Type 0
+  StatAt ops (Goes (AtStat cred at)) = (is_refused (MsgctlStat id) ≡ false) × (ops ≡ [])
+  StatAt ops (Over ending) = IsRightStat (MsgctlStat id) ops ending
+  StatAt ops state = ⊥
 
   stat_started : (cred : Cred) (released : ℕ) (b : Bool) → is_refused (MsgctlStat id) ≡ b →
       StatAt [] (cond b (Over (Refused EINVAL)) (Goes (first cred (MsgctlStat id) released)))
@@ -87,30 +87,30 @@ module _ (id : ℤ) where
       subst (StatAt (AtSlot slot call (IsRefusedFor why) ∷ [])) e (stat_refused slot call why r)
   stat_step cred at slot call reply after r n = absurd cc
 
-  stat_more : (deeds : List Deed) (phase : Phase) (deed : Deed) (after : State) → StatAt deeds (Goes phase) →
-      next phase deed ≡ Some after → StatAt (deeds ++ deed ∷ []) after
-  stat_more deeds (AtStat cred at) (AtSlot slot call reply) after h n =
-      subst (λ (ds : List Deed). StatAt (ds ++ AtSlot slot call reply ∷ []) after) (sym h.1)
+  stat_more : (ops : List Op) (phase : Phase) (op : Op) (after : State) → StatAt ops (Goes phase) →
+      next phase op ≡ Some after → StatAt (ops ++ op ∷ []) after
+  stat_more ops (AtStat cred at) (AtSlot slot call reply) after h n =
+      subst (λ (ds : List Op). StatAt (ds ++ AtSlot slot call reply ∷ []) after) (sym h.1)
       (stat_step cred at slot call reply after h.0 n)
-  stat_more deeds (AtStat cred at) deed after h n = absurd cc
-  stat_more deeds phase deed after h n = absurd h
+  stat_more ops (AtStat cred at) op after h n = absurd cc
+  stat_more ops phase op after h n = absurd h
 
-  pub stat_at : (cred : Cred) (released : ℕ) (deeds : List Deed) (state : State) →
-      Plays (begin cred (MsgctlStat id) released) deeds state → StatAt deeds state
+  pub stat_at : (cred : Cred) (released : ℕ) (ops : List Op) (state : State) →
+      Plays (begin cred (MsgctlStat id) released) ops state → StatAt ops state
   stat_at cred released _ _ begins = stat_started cred released (is_refused (MsgctlStat id)) refl
-  stat_at cred released _ _ (steps {deeds} {phase} deed now after p asked n) =
-      stat_more deeds phase deed after (stat_at cred released deeds (Goes phase) p) n
-  stat_at cred released _ _ (resumes {deeds} {wait} value p least) = absurd (stat_at cred released deeds (Waits wait) p)
+  stat_at cred released _ _ (steps {ops} {phase} op now after p asked n) =
+      stat_more ops phase op after (stat_at cred released ops (Goes phase) p) n
+  stat_at cred released _ _ (resumes {ops} {wait} value p least) = absurd (stat_at cred released ops (Waits wait) p)
 
 -- ---- IPC_SET
 
 module _ (id : ℤ) (to : SetTo) where
-  abbrev SetAt : List Deed → State → Type 0
-  SetAt deeds (Goes (AtSet cred at what)) = (is_refused (MsgctlSet id to) ≡ false) × (deeds ≡ [])
-  SetAt deeds (Goes AtSetGiveback) =
-      (is_refused (MsgctlSet id to) ≡ false) × ((slot : ℕ) × (call : Call) × (deeds ≡ AtSlot slot call Done ∷ []))
-  SetAt deeds (Over ending) = IsRightSet (MsgctlSet id to) deeds ending
-  SetAt deeds state = ⊥
+  abbrev SetAt : List Op → State → Type 0
+  SetAt ops (Goes (AtSet cred at what)) = (is_refused (MsgctlSet id to) ≡ false) × (ops ≡ [])
+  SetAt ops (Goes AtSetGiveback) =
+      (is_refused (MsgctlSet id to) ≡ false) × ((slot : ℕ) × (call : Call) × (ops ≡ AtSlot slot call Done ∷ []))
+  SetAt ops (Over ending) = IsRightSet (MsgctlSet id to) ops ending
+  SetAt ops state = ⊥
 
   set_started : (cred : Cred) (released : ℕ) (b : Bool) → is_refused (MsgctlSet id to) ≡ b →
       SetAt [] (cond b (Over (Refused EINVAL)) (Goes (first cred (MsgctlSet id to) released)))
@@ -166,39 +166,39 @@ module _ (id : ℤ) (to : SetTo) where
       subst (SetAt (AtSlot slot call Done ∷ AtPool giveback Foreign ∷ [])) e (set_done slot call giveback Foreign r)
   set_giveback slot call giveback reply after r n = absurd cc
 
-  set_more : (deeds : List Deed) (phase : Phase) (deed : Deed) (after : State) → SetAt deeds (Goes phase) →
-      next phase deed ≡ Some after → SetAt (deeds ++ deed ∷ []) after
-  set_more deeds (AtSet cred at what) (AtSlot slot call reply) after h n =
-      subst (λ (ds : List Deed). SetAt (ds ++ AtSlot slot call reply ∷ []) after) (sym h.1)
+  set_more : (ops : List Op) (phase : Phase) (op : Op) (after : State) → SetAt ops (Goes phase) →
+      next phase op ≡ Some after → SetAt (ops ++ op ∷ []) after
+  set_more ops (AtSet cred at what) (AtSlot slot call reply) after h n =
+      subst (λ (ds : List Op). SetAt (ds ++ AtSlot slot call reply ∷ []) after) (sym h.1)
       (set_step cred at what slot call reply after h.0 n)
-  set_more deeds AtSetGiveback (AtPool giveback reply) after h n =
-      subst (λ (ds : List Deed). SetAt (ds ++ AtPool giveback reply ∷ []) after) (sym h.1.2)
+  set_more ops AtSetGiveback (AtPool giveback reply) after h n =
+      subst (λ (ds : List Op). SetAt (ds ++ AtPool giveback reply ∷ []) after) (sym h.1.2)
       (set_giveback h.1.0 h.1.1 giveback reply after h.0 n)
-  set_more deeds (AtSet cred at what) deed after h n = absurd cc
-  set_more deeds AtSetGiveback deed after h n = absurd cc
-  set_more deeds phase deed after h n = absurd h
+  set_more ops (AtSet cred at what) op after h n = absurd cc
+  set_more ops AtSetGiveback op after h n = absurd cc
+  set_more ops phase op after h n = absurd h
 
-  pub set_at : (cred : Cred) (released : ℕ) (deeds : List Deed) (state : State) →
-      Plays (begin cred (MsgctlSet id to) released) deeds state → SetAt deeds state
+  pub set_at : (cred : Cred) (released : ℕ) (ops : List Op) (state : State) →
+      Plays (begin cred (MsgctlSet id to) released) ops state → SetAt ops state
   set_at cred released _ _ begins = set_started cred released (is_refused (MsgctlSet id to)) refl
-  set_at cred released _ _ (steps {deeds} {phase} deed now after p asked n) =
-      set_more deeds phase deed after (set_at cred released deeds (Goes phase) p) n
-  set_at cred released _ _ (resumes {deeds} {wait} value p least) = absurd (set_at cred released deeds (Waits wait) p)
+  set_at cred released _ _ (steps {ops} {phase} op now after p asked n) =
+      set_more ops phase op after (set_at cred released ops (Goes phase) p) n
+  set_at cred released _ _ (resumes {ops} {wait} value p least) = absurd (set_at cred released ops (Waits wait) p)
 
 -- ---- IPC_RMID
 
 module _ (id : ℤ) where
-  abbrev RemovalAt : List Deed → State → Type 0
-  RemovalAt deeds (Goes (AtRemove cred at)) = (is_refused (MsgctlRmid id) ≡ false) × (deeds ≡ [])
-  RemovalAt deeds (Goes (AtForget at blocks)) =
+  abbrev RemovalAt : List Op → State → Type 0
+  RemovalAt ops (Goes (AtRemove cred at)) = (is_refused (MsgctlRmid id) ≡ false) × (ops ≡ [])
+  RemovalAt ops (Goes (AtForget at blocks)) =
       (is_refused (MsgctlRmid id) ≡ false)
-      × ((slot : ℕ) × (call : Call) × (messages : List Message) × (deeds ≡ AtSlot slot call (Discarded messages) ∷ []))
-  RemovalAt deeds (Goes (AtRemoveGiveback blocks)) =
+      × ((slot : ℕ) × (call : Call) × (messages : List Message) × (ops ≡ AtSlot slot call (Discarded messages) ∷ []))
+  RemovalAt ops (Goes (AtRemoveGiveback blocks)) =
       (is_refused (MsgctlRmid id) ≡ false)
       × ((slot : ℕ) × (call : Call) × (messages : List Message) × (at : ℤ) × (reply : RegistryReply)
-      × (deeds ≡ AtSlot slot call (Discarded messages) ∷ AtRegistry (Forget at) reply ∷ []))
-  RemovalAt deeds (Over ending) = IsRightRemoval (MsgctlRmid id) deeds ending
-  RemovalAt deeds state = ⊥
+      × (ops ≡ AtSlot slot call (Discarded messages) ∷ AtRegistry (Forget at) reply ∷ []))
+  RemovalAt ops (Over ending) = IsRightRemoval (MsgctlRmid id) ops ending
+  RemovalAt ops state = ⊥
 
   removal_started : (cred : Cred) (released : ℕ) (b : Bool) → is_refused (MsgctlRmid id) ≡ b →
       RemovalAt [] (cond b (Over (Refused EINVAL)) (Goes (first cred (MsgctlRmid id) released)))
@@ -275,29 +275,29 @@ module _ (id : ℤ) where
       ∷ [])) e (removed slot call messages at reply giveback Foreign r)
   removal_giveback slot call messages at reply blocks giveback back after r n = absurd cc
 
-  removal_more : (deeds : List Deed) (phase : Phase) (deed : Deed) (now : ℕ) (after : State) →
-      RemovalAt deeds (Goes phase) → asked_by deed ≡ asks phase now → next phase deed ≡ Some after →
-      RemovalAt (deeds ++ deed ∷ []) after
-  removal_more deeds (AtRemove cred at) (AtSlot slot call reply) now after h is n =
-      subst (λ (ds : List Deed). RemovalAt (ds ++ AtSlot slot call reply ∷ []) after) (sym h.1)
+  removal_more : (ops : List Op) (phase : Phase) (op : Op) (now : ℕ) (after : State) →
+      RemovalAt ops (Goes phase) → asked_by op ≡ asks phase now → next phase op ≡ Some after →
+      RemovalAt (ops ++ op ∷ []) after
+  removal_more ops (AtRemove cred at) (AtSlot slot call reply) now after h is n =
+      subst (λ (ds : List Op). RemovalAt (ds ++ AtSlot slot call reply ∷ []) after) (sym h.1)
       (remove_step cred at slot call reply after h.0 n)
-  removal_more deeds (AtForget at blocks) (AtRegistry call reply) now after h is n =
+  removal_more ops (AtForget at blocks) (AtRegistry call reply) now after h is n =
       let c : Forget at ≡ call = cc in
-      subst (λ (k : RegistryCall). RemovalAt (deeds ++ AtRegistry k reply ∷ []) after) c
-      (subst (λ (ds : List Deed). RemovalAt (ds ++ AtRegistry (Forget at) reply ∷ []) after) (sym h.1.3)
+      subst (λ (k : RegistryCall). RemovalAt (ops ++ AtRegistry k reply ∷ []) after) c
+      (subst (λ (ds : List Op). RemovalAt (ds ++ AtRegistry (Forget at) reply ∷ []) after) (sym h.1.3)
       (forget_step h.1.0 h.1.1 h.1.2 at at blocks reply after h.0 n))
-  removal_more deeds (AtRemoveGiveback blocks) (AtPool giveback back) now after h is n =
-      subst (λ (ds : List Deed). RemovalAt (ds ++ AtPool giveback back ∷ []) after) (sym h.1.5)
+  removal_more ops (AtRemoveGiveback blocks) (AtPool giveback back) now after h is n =
+      subst (λ (ds : List Op). RemovalAt (ds ++ AtPool giveback back ∷ []) after) (sym h.1.5)
       (removal_giveback h.1.0 h.1.1 h.1.2 h.1.3 h.1.4 blocks giveback back after h.0 n)
-  removal_more deeds (AtRemove cred at) deed now after h is n = absurd cc
-  removal_more deeds (AtForget at blocks) deed now after h is n = absurd cc
-  removal_more deeds (AtRemoveGiveback blocks) deed now after h is n = absurd cc
-  removal_more deeds phase deed now after h is n = absurd h
+  removal_more ops (AtRemove cred at) op now after h is n = absurd cc
+  removal_more ops (AtForget at blocks) op now after h is n = absurd cc
+  removal_more ops (AtRemoveGiveback blocks) op now after h is n = absurd cc
+  removal_more ops phase op now after h is n = absurd h
 
-  pub removal_at : (cred : Cred) (released : ℕ) (deeds : List Deed) (state : State) →
-      Plays (begin cred (MsgctlRmid id) released) deeds state → RemovalAt deeds state
+  pub removal_at : (cred : Cred) (released : ℕ) (ops : List Op) (state : State) →
+      Plays (begin cred (MsgctlRmid id) released) ops state → RemovalAt ops state
   removal_at cred released _ _ begins = removal_started cred released (is_refused (MsgctlRmid id)) refl
-  removal_at cred released _ _ (steps {deeds} {phase} deed now after p asked n) =
-      removal_more deeds phase deed now after (removal_at cred released deeds (Goes phase) p) asked n
-  removal_at cred released _ _ (resumes {deeds} {wait} value p least) =
-      absurd (removal_at cred released deeds (Waits wait) p)
+  removal_at cred released _ _ (steps {ops} {phase} op now after p asked n) =
+      removal_more ops phase op now after (removal_at cred released ops (Goes phase) p) asked n
+  removal_at cred released _ _ (resumes {ops} {wait} value p least) =
+      absurd (removal_at cred released ops (Waits wait) p)

@@ -1,4 +1,4 @@
--- Each deed of a play requests what the arguments of the call name.
+-- Each operation of a play requests what the arguments of the call name.
 use Rattle.std.proofs.Common.{◌≡◌, ℕ, ℤ, ◌+◌, inl, inr, Bool, true, false, List, [], ◌∷◌, ◌++◌, Option, Some, None}
 use Rattle.std.proofs.Common.{cond, length, refl, sym, ap, subst, arith}
 use Rattle.std.proofs.lemmas.List.Elements.{All-push}
@@ -10,7 +10,7 @@ use Rattle.sysv_model.specs.declared.attributes.SetTo.{SetTo}
 use Rattle.sysv_model.specs.History.{Reply, Gone, Full, Fits, NoMatch, Installed, Discarded, Install, Probe}
 use Rattle.sysv_model.specs.Registry.{Begin, Forget, RegistryReply, Found, Made, Busy, Changed}
 use Rattle.sysv_model.specs.Pool.{Reserve, PoolReply, Reserved, TooFew, Released, Foreign}
-use Rattle.sysv_model.specs.Turn.{OfSlot, OfRegistry, OfPool, Deed, AtSlot, AtRegistry, AtPool, asked_by}
+use Rattle.sysv_model.specs.Turn.{OfSlot, OfRegistry, OfPool, Op, AtSlot, AtRegistry, AtPool, asked_by}
 use Rattle.sysv_keys.specs.Identifier.{slot_of_id}
 use Rattle.sysv_steps.specs.Call.{SystemCall, Msgget, Msgsnd, Msgrcv, MsgctlStat, MsgctlSet, MsgctlRmid}
 use Rattle.sysv_steps.specs.State.{Getting, Sending, Receiving, Wait, OnSettled, OnFreed, OnReleased, OnArrived}
@@ -87,14 +87,14 @@ module _ (cred : Cred) where
   unmake_keeps key flags (Changed done) = tt
   unmake_keeps key flags reply = tt
 
-  got : (key : ℤ) (flags : Flags) (phase : Phase) (deed : Deed) → PhaseHolds cred (Msgget key flags) phase →
-      NextOf cred (Msgget key flags) (next phase deed)
+  got : (key : ℤ) (flags : Flags) (phase : Phase) (op : Op) → PhaseHolds cred (Msgget key flags) phase →
+      NextOf cred (Msgget key flags) (next phase op)
   got key flags (AtBegin get) (AtRegistry call reply) h = begin_keeps key flags get reply h
   got key flags (AtInstall get id) (AtSlot slot call reply) h = install_keeps key flags id reply
   got key flags (AtSettle id) (AtRegistry call reply) h = settle_keeps key flags id reply
   got key flags (AtProbe get id settled) (AtSlot slot call reply) h = probe_keeps key flags get id settled reply h
   got key flags (AtUnmake id) (AtRegistry call reply) h = unmake_keeps key flags reply
-  got key flags phase deed h = search h
+  got key flags phase op h = search h
 
   -- msgsnd
   module _ (id mtype : ℤ) (flags : Flags) (text : List ℕ) where
@@ -133,13 +133,13 @@ module _ (cred : Cred) where
     giveback_keeps (WaitsOn wait) Foreign h = h
     giveback_keeps (WaitsOn wait) reply h = tt
 
-    sent : (phase : Phase) (deed : Deed) → PhaseHolds cred (Msgsnd id mtype flags text) phase →
-        NextOf cred (Msgsnd id mtype flags text) (next phase deed)
+    sent : (phase : Phase) (op : Op) → PhaseHolds cred (Msgsnd id mtype flags text) phase →
+        NextOf cred (Msgsnd id mtype flags text) (next phase op)
     sent (AtLook send) (AtSlot slot call reply) h = look_keeps send reply h
     sent (AtReserve send) (AtPool call reply) h = reserve_keeps send reply h
     sent (AtPlace send blocks) (AtSlot slot call reply) h = place_keeps send blocks reply h
     sent (AtSendGiveback blocks afterwards) (AtPool call reply) h = giveback_keeps afterwards reply h
-    sent phase deed h = search h
+    sent phase op h = search h
 
   -- msgrcv
   take_keeps : (id : ℤ) (size : ℕ) (mtype : ℤ) (flags : Flags) (receive : Receiving) (reply : Reply) →
@@ -155,13 +155,13 @@ module _ (cred : Cred) where
   over_keeps asked ending Released = tt
   over_keeps asked ending reply = tt
 
-  received : (id : ℤ) (size : ℕ) (mtype : ℤ) (flags : Flags) (phase : Phase) (deed : Deed) →
-      PhaseHolds cred (Msgrcv id size mtype flags) phase → NextOf cred (Msgrcv id size mtype flags) (next phase deed)
+  received : (id : ℤ) (size : ℕ) (mtype : ℤ) (flags : Flags) (phase : Phase) (op : Op) →
+      PhaseHolds cred (Msgrcv id size mtype flags) phase → NextOf cred (Msgrcv id size mtype flags) (next phase op)
   received id size mtype flags (AtTake receive) (AtSlot slot call reply) h =
       take_keeps id size mtype flags receive reply h
   received id size mtype flags (AtReceiveGiveback blocks type text) (AtPool call reply) h =
       over_keeps (Msgrcv id size mtype flags) (Got type text) reply
-  received id size mtype flags phase deed h = search h
+  received id size mtype flags phase op h = search h
 
   -- msgctl
   stat_keeps : (id : ℤ) (reply : Reply) → NextOf cred (MsgctlStat id) (after_stat reply)
@@ -180,32 +180,32 @@ module _ (cred : Cred) where
   forget_keeps id blocks (Changed done) = tt
   forget_keeps id blocks reply = tt
 
-  told : (id : ℤ) (phase : Phase) (deed : Deed) → PhaseHolds cred (MsgctlStat id) phase →
-      NextOf cred (MsgctlStat id) (next phase deed)
+  told : (id : ℤ) (phase : Phase) (op : Op) → PhaseHolds cred (MsgctlStat id) phase →
+      NextOf cred (MsgctlStat id) (next phase op)
   told id (AtStat by at) (AtSlot slot call reply) h = stat_keeps id reply
-  told id phase deed h = search h
+  told id phase op h = search h
 
-  set : (id : ℤ) (to : SetTo) (phase : Phase) (deed : Deed) → PhaseHolds cred (MsgctlSet id to) phase →
-      NextOf cred (MsgctlSet id to) (next phase deed)
+  set : (id : ℤ) (to : SetTo) (phase : Phase) (op : Op) → PhaseHolds cred (MsgctlSet id to) phase →
+      NextOf cred (MsgctlSet id to) (next phase op)
   set id to (AtSet by at what) (AtSlot slot call reply) h = set_keeps id to reply
   set id to AtSetGiveback (AtPool call reply) h = over_keeps (MsgctlSet id to) Zero reply
-  set id to phase deed h = search h
+  set id to phase op h = search h
 
-  removed : (id : ℤ) (phase : Phase) (deed : Deed) → PhaseHolds cred (MsgctlRmid id) phase →
-      NextOf cred (MsgctlRmid id) (next phase deed)
+  removed : (id : ℤ) (phase : Phase) (op : Op) → PhaseHolds cred (MsgctlRmid id) phase →
+      NextOf cred (MsgctlRmid id) (next phase op)
   removed id (AtRemove by at) (AtSlot slot call reply) h = remove_keeps id at reply h.1
   removed id (AtForget at blocks) (AtRegistry call reply) h = forget_keeps id blocks reply
   removed id (AtRemoveGiveback blocks) (AtPool call reply) h = over_keeps (MsgctlRmid id) Zero reply
-  removed id phase deed h = search h
+  removed id phase op h = search h
 
-  keeps : (asked : SystemCall) (phase : Phase) (deed : Deed) → PhaseHolds cred asked phase →
-      NextOf cred asked (next phase deed)
-  keeps (Msgget key flags) phase deed h = got key flags phase deed h
-  keeps (Msgsnd id mtype flags text) phase deed h = sent id mtype flags text phase deed h
-  keeps (Msgrcv id size mtype flags) phase deed h = received id size mtype flags phase deed h
-  keeps (MsgctlStat id) phase deed h = told id phase deed h
-  keeps (MsgctlSet id to) phase deed h = set id to phase deed h
-  keeps (MsgctlRmid id) phase deed h = removed id phase deed h
+  keeps : (asked : SystemCall) (phase : Phase) (op : Op) → PhaseHolds cred asked phase →
+      NextOf cred asked (next phase op)
+  keeps (Msgget key flags) phase op h = got key flags phase op h
+  keeps (Msgsnd id mtype flags text) phase op h = sent id mtype flags text phase op h
+  keeps (Msgrcv id size mtype flags) phase op h = received id size mtype flags phase op h
+  keeps (MsgctlStat id) phase op h = told id phase op h
+  keeps (MsgctlSet id to) phase op h = set id to phase op h
+  keeps (MsgctlRmid id) phase op h = removed id phase op h
 
   resumes_so : (asked : SystemCall) (wait : Wait) (value : ℕ) → WaitHolds cred asked wait →
       PhaseHolds cred asked (resume wait value)
@@ -246,34 +246,34 @@ module _ (cred : Cred) where
 
 -- ---- along a play
 
-record Asked (cred : Cred) (asked : SystemCall) (deeds : List Deed) (state : State) : Type 0 where
+record Asked (cred : Cred) (asked : SystemCall) (ops : List Op) (state : State) : Type 0 where
   holds : Holds cred asked state
-  all : AllAskFor cred asked deeds
+  all : AllAskFor cred asked ops
 
-after_one : (cred : Cred) (asked : SystemCall) (phase : Phase) (deed : Deed) (now : ℕ) (after : State)
-    (deeds : List Deed) →
-    asked_by deed ≡ asks phase now → next phase deed ≡ Some after → Asked cred asked deeds (Goes phase) →
-    Asked cred asked (deeds ++ deed ∷ []) after
-after_one cred asked phase deed now after deeds is n a = record {
-  holds = subst (NextOf cred asked) n (keeps cred asked phase deed a.holds);
-  all = All-push (λ (d : Deed). AsksFor cred asked (asked_by d)) deeds deed a.all
+after_one : (cred : Cred) (asked : SystemCall) (phase : Phase) (op : Op) (now : ℕ) (after : State)
+    (ops : List Op) →
+    asked_by op ≡ asks phase now → next phase op ≡ Some after → Asked cred asked ops (Goes phase) →
+    Asked cred asked (ops ++ op ∷ []) after
+after_one cred asked phase op now after ops is n a = record {
+  holds = subst (NextOf cred asked) n (keeps cred asked phase op a.holds);
+  all = All-push (λ (d : Op). AsksFor cred asked (asked_by d)) ops op a.all
       (subst (AsksFor cred asked) (sym is) (asks_so cred asked phase now a.holds));
 }
 
-along : (cred : Cred) (asked : SystemCall) (released : ℕ) (deeds : List Deed) (state : State) →
-    Plays (begin cred asked released) deeds state → Asked cred asked deeds state
+along : (cred : Cred) (asked : SystemCall) (released : ℕ) (ops : List Op) (state : State) →
+    Plays (begin cred asked released) ops state → Asked cred asked ops state
 along cred asked released _ _ begins =
     record { holds = begun_of cred asked released (is_refused asked); all = λ k d low. absurd (omega (arith, low)) }
-along cred asked released _ _ (steps {deeds} {phase} deed now after p is n) =
-    after_one cred asked phase deed now after deeds is n (along cred asked released deeds (Goes phase) p)
-along cred asked released _ _ (resumes {deeds} {wait} value p least) =
-    let before = along cred asked released deeds (Waits wait) p in
+along cred asked released _ _ (steps {ops} {phase} op now after p is n) =
+    after_one cred asked phase op now after ops is n (along cred asked released ops (Goes phase) p)
+along cred asked released _ _ (resumes {ops} {wait} value p least) =
+    let before = along cred asked released ops (Waits wait) p in
     record { holds = resumes_so cred asked wait value before.holds; all = before.all }
 
-pub each_asked : (cred : Cred) (asked : SystemCall) (released : ℕ) (deeds : List Deed) (state : State) →
-    Plays (begin cred asked released) deeds state → AllAskFor cred asked deeds
-each_asked cred asked released deeds state p = (along cred asked released deeds state p).all
+pub each_asked : (cred : Cred) (asked : SystemCall) (released : ℕ) (ops : List Op) (state : State) →
+    Plays (begin cred asked released) ops state → AllAskFor cred asked ops
+each_asked cred asked released ops state p = (along cred asked released ops state p).all
 
-pub each_holds_asked : (cred : Cred) (asked : SystemCall) (released : ℕ) (deeds : List Deed) (state : State) →
-    Plays (begin cred asked released) deeds state → Holds cred asked state
-each_holds_asked cred asked released deeds state p = (along cred asked released deeds state p).holds
+pub each_holds_asked : (cred : Cred) (asked : SystemCall) (released : ℕ) (ops : List Op) (state : State) →
+    Plays (begin cred asked released) ops state → Holds cred asked state
+each_holds_asked cred asked released ops state p = (along cred asked released ops state p).holds

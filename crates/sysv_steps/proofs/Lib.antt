@@ -11,7 +11,7 @@ pub mod TendedByStep
 pub mod Patience
 pub mod OneEffect
 pub mod WorkedPlays
-pub mod HeldAfterDeed
+pub mod HeldAfterOp
 pub mod SendKeepsRead
 pub mod StepFromReply
 pub mod ReceiveGivesTaken

@@ -10,7 +10,7 @@ use Rattle.sysv_model.specs.declared.cred.Cred.{Cred}
 use Rattle.sysv_model.specs.History.{Call, Reply, Installed, Gone}
 use Rattle.sysv_model.specs.Registry.{RegistryCall, RegistryReply, Changed}
 use Rattle.sysv_model.specs.Pool.{PoolCall, PoolReply, Released}
-use Rattle.sysv_model.specs.Turn.{Deed, AtSlot, AtRegistry, AtPool}
+use Rattle.sysv_model.specs.Turn.{Op, AtSlot, AtRegistry, AtPool}
 use Rattle.sysv_steps.specs.Call.{SystemCall}
 use Rattle.sysv_steps.specs.State.{Wait, OnSettled, OnFreed, OnReleased, OnArrived, Phase, AtBegin, AtInstall, AtSettle}
 use Rattle.sysv_steps.specs.State.{AtProbe, AtUnmake, AtLook, AtReserve, AtPlace, AtSendGiveback, AtTake}
@@ -23,11 +23,11 @@ use Rattle.sysv_steps.specs.Played.{Plays, begins, steps, resumes}
 use Rattle.sysv_steps.specs.Answers.{made_by, was_accepted, taken_by, was_changed, was_removed}
 use Rattle.sysv_steps.specs.Effects.{effects}
 
--- The number of effects of one deed.
-abbrev effect : Deed → ℕ
-effect deed =
-    length (made_by deed) + cond {A = ℕ} (was_accepted deed) 1 0 + length (taken_by deed)
-    + cond {A = ℕ} (was_changed deed) 1 0 + cond {A = ℕ} (was_removed deed) 1 0
+-- The number of effects of one operation.
+abbrev effect : Op → ℕ
+effect op =
+    length (made_by op) + cond {A = ℕ} (was_accepted op) 1 0 + length (taken_by op)
+    + cond {A = ℕ} (was_changed op) 1 0 + cond {A = ℕ} (was_removed op) 1 0
 
 -- The number of effects that a call in this state may still have.
 abbrev left : State → ℕ
@@ -57,7 +57,7 @@ abbrev left_of : Option State → ℕ
 left_of None = 2
 left_of (Some state) = left state
 
--- ---- one deed
+-- ---- one operation
 
 at_slot : (phase : Phase) (slot : ℕ) (call : Call) (reply : Reply) (after : State) →
     next_of_slot phase reply ≡ Some after → effect (AtSlot slot call reply) + left after ≤ left (Goes phase)
@@ -106,8 +106,8 @@ at_pool (AtRemoveGiveback blocks) call Released after n = omega (arith, ap left_
 at_pool (AtRemoveGiveback blocks) call reply after n = omega (arith, ap left_of n, one_at_most after)
 at_pool phase call reply after n = absurd cc
 
-one_step : (phase : Phase) (deed : Deed) (after : State) → next phase deed ≡ Some after →
-    effect deed + left after ≤ left (Goes phase)
+one_step : (phase : Phase) (op : Op) (after : State) → next phase op ≡ Some after →
+    effect op + left after ≤ left (Goes phase)
 one_step phase (AtSlot slot call reply) after n = at_slot phase slot call reply after n
 one_step phase (AtRegistry call reply) after n = at_registry phase call reply after n
 one_step phase (AtPool call reply) after n = at_pool phase call reply after n
@@ -120,36 +120,36 @@ one_wait (OnArrived goal receive) value = omega arith
 
 -- ---- all of them
 
-counted : (p : Deed → Bool) (deeds : List Deed) (deed : Deed) →
-    count_by p (deeds ++ deed ∷ []) ≡ count_by p deeds + cond {A = ℕ} (p deed) 1 0
-counted p deeds deed = omega (arith, sum_by-append (λ (d : Deed). cond {A = ℕ} (p d) 1 0) deeds (deed ∷ []))
+counted : (p : Op → Bool) (ops : List Op) (op : Op) →
+    count_by p (ops ++ op ∷ []) ≡ count_by p ops + cond {A = ℕ} (p op) 1 0
+counted p ops op = omega (arith, sum_by-append (λ (d : Op). cond {A = ℕ} (p d) 1 0) ops (op ∷ []))
 
-gathered : {A : Type 0} (f : Deed → List A) (deeds : List Deed) (deed : Deed) →
-    length (flat_map f (deeds ++ deed ∷ [])) ≡ length (flat_map f deeds) + length (f deed)
-gathered f deeds deed =
-    ap length (flat_map-append f deeds (deed ∷ []) ∙ ap (λ l. flat_map f deeds ++ l) (append-nil (f deed)))
-    ∙ length-append (flat_map f deeds) (f deed)
+gathered : {A : Type 0} (f : Op → List A) (ops : List Op) (op : Op) →
+    length (flat_map f (ops ++ op ∷ [])) ≡ length (flat_map f ops) + length (f op)
+gathered f ops op =
+    ap length (flat_map-append f ops (op ∷ []) ∙ ap (λ l. flat_map f ops ++ l) (append-nil (f op)))
+    ∙ length-append (flat_map f ops) (f op)
 
-one_more : (deeds : List Deed) (deed : Deed) → effects (deeds ++ deed ∷ []) ≡ effects deeds + effect deed
-one_more deeds deed =
+one_more : (ops : List Op) (op : Op) → effects (ops ++ op ∷ []) ≡ effects ops + effect op
+one_more ops op =
     omega (
       arith,
-      gathered made_by deeds deed,
-      counted was_accepted deeds deed,
-      gathered taken_by deeds deed,
-      counted was_changed deeds deed,
-      counted was_removed deeds deed,
+      gathered made_by ops op,
+      counted was_accepted ops op,
+      gathered taken_by ops op,
+      counted was_changed ops op,
+      counted was_removed ops op,
     )
 
-along : (from : State) (deeds : List Deed) (state : State) → Plays from deeds state →
-    effects deeds + left state ≤ left from
+along : (from : State) (ops : List Op) (state : State) → Plays from ops state →
+    effects ops + left state ≤ left from
 along from _ _ begins = omega arith
-along from _ _ (steps {deeds} {phase} deed now after p asked n) =
-    omega (arith, one_more deeds deed, one_step phase deed after n, along from deeds (Goes phase) p)
-along from _ _ (resumes {deeds} {wait} value p least) =
-    omega (arith, one_wait wait value, along from deeds (Waits wait) p)
+along from _ _ (steps {ops} {phase} op now after p asked n) =
+    omega (arith, one_more ops op, one_step phase op after n, along from ops (Goes phase) p)
+along from _ _ (resumes {ops} {wait} value p least) =
+    omega (arith, one_wait wait value, along from ops (Waits wait) p)
 
-pub one_effect : (cred : Cred) (asked : SystemCall) (released : ℕ) (deeds : List Deed) (state : State) →
-    Plays (begin cred asked released) deeds state → effects deeds ≤ 1
-one_effect cred asked released deeds state p =
-    omega (arith, along (begin cred asked released) deeds state p, one_at_most (begin cred asked released))
+pub one_effect : (cred : Cred) (asked : SystemCall) (released : ℕ) (ops : List Op) (state : State) →
+    Plays (begin cred asked released) ops state → effects ops ≤ 1
+one_effect cred asked released ops state p =
+    omega (arith, along (begin cred asked released) ops state p, one_at_most (begin cred asked released))

@@ -1,5 +1,5 @@
--- Two plays of the same deeds lead to the same state, except for the released count that a send has
--- read, and for a wait that one of them has ended. So they end alike.
+-- Two plays of the same operations lead to the same state, except for the released count that a
+-- send has read, and for a wait that one of them has ended. So they end alike.
 use Rattle.std.proofs.Common.{◌≡◌, ℕ, ◌+◌, Bool, true, false, List, [], ◌∷◌, ◌++◌, Option, Some, None, cond, refl, sym}
 use Rattle.std.proofs.Common.{ap, ◌∙◌}
 use Rattle.sysv_model.specs.declared.cred.Cred.{Cred}
@@ -8,7 +8,7 @@ use Rattle.sysv_model.specs.declared.errno.Errno.TheVariants.{EAGAIN, EINVAL}
 use Rattle.sysv_model.specs.History.{Reply, Full, Fits}
 use Rattle.sysv_model.specs.Registry.{RegistryReply}
 use Rattle.sysv_model.specs.Pool.{PoolReply, TooFew, Released, Foreign}
-use Rattle.sysv_model.specs.Turn.{Deed, AtSlot, AtRegistry, AtPool}
+use Rattle.sysv_model.specs.Turn.{Op, AtSlot, AtRegistry, AtPool}
 use Rattle.sysv_steps.specs.Call.{SystemCall, Msgget, Msgsnd, Msgrcv, MsgctlStat, MsgctlSet, MsgctlRmid}
 use Rattle.sysv_steps.specs.State.{Sending, Wait, OnSettled, OnFreed, OnReleased, OnArrived, Afterwards, IsRefused}
 use Rattle.sysv_steps.specs.State.{WaitsOn, Phase, AtBegin, AtLook, AtReserve, AtPlace, AtSendGiveback, Ending, Refused}
@@ -118,10 +118,10 @@ of_pool (AtReserve send) reply = reserve_core send reply
 of_pool (AtSendGiveback blocks afterwards) reply = giveback_core afterwards reply
 of_pool phase reply = refl
 
-of_deed : (phase : Phase) (deed : Deed) → core_of (next (bare_phase phase) deed) ≡ core_of (next phase deed)
-of_deed phase (AtSlot slot call reply) = of_slot phase reply
-of_deed phase (AtRegistry call reply) = of_registry phase reply
-of_deed phase (AtPool call reply) = of_pool phase reply
+of_op : (phase : Phase) (op : Op) → core_of (next (bare_phase phase) op) ≡ core_of (next phase op)
+of_op phase (AtSlot slot call reply) = of_slot phase reply
+of_op phase (AtRegistry call reply) = of_registry phase reply
+of_op phase (AtPool call reply) = of_pool phase reply
 
 resumed : (wait : Wait) (value : ℕ) → bare_phase (resume wait 0) ≡ bare_phase (resume wait value)
 resumed (OnSettled goal get) value = refl
@@ -129,29 +129,29 @@ resumed (OnFreed goal send) value = refl
 resumed (OnReleased goal send) value = refl
 resumed (OnArrived goal receive) value = refl
 
--- ---- the table along deeds
+-- ---- the table along operations
 
-abbrev one_more : Option State → Deed → Option State
-one_more (Some (Goes phase)) deed = core_of (next phase deed)
-one_more state deed = None
+abbrev one_more : Option State → Op → Option State
+one_more (Some (Goes phase)) op = core_of (next phase op)
+one_more state op = None
 
-abbrev along : Option State → List Deed → Option State
+abbrev along : Option State → List Op → Option State
 along state [] = state
-along state (deed ∷ deeds) = along (one_more state deed) deeds
+along state (op ∷ ops) = along (one_more state op) ops
 
-along_more : (state : Option State) (deeds : List Deed) (deed : Deed) →
-    along state (deeds ++ deed ∷ []) ≡ one_more (along state deeds) deed
-along_more state [] deed = refl
-along_more state (d ∷ deeds) deed = along_more (one_more state d) deeds deed
+along_more : (state : Option State) (ops : List Op) (op : Op) →
+    along state (ops ++ op ∷ []) ≡ one_more (along state ops) op
+along_more state [] op = refl
+along_more state (d ∷ ops) op = along_more (one_more state d) ops op
 
-leads : (from : State) (deeds : List Deed) (state : State) → Plays from deeds state →
-    along (Some (core from)) deeds ≡ Some (core state)
+leads : (from : State) (ops : List Op) (state : State) → Plays from ops state →
+    along (Some (core from)) ops ≡ Some (core state)
 leads from _ _ begins = refl
-leads from _ _ (steps {deeds} {phase} deed now after p asked n) =
-    along_more (Some (core from)) deeds deed
-    ∙ (ap (λ s. one_more s deed) (leads from deeds (Goes phase) p) ∙ (of_deed phase deed ∙ ap core_of n))
-leads from _ _ (resumes {deeds} {wait} value p least) =
-    leads from deeds (Waits wait) p ∙ ap (λ ph. Some (Goes ph)) (resumed wait value)
+leads from _ _ (steps {ops} {phase} op now after p asked n) =
+    along_more (Some (core from)) ops op
+    ∙ (ap (λ s. one_more s op) (leads from ops (Goes phase) p) ∙ (of_op phase op ∙ ap core_of n))
+leads from _ _ (resumes {ops} {wait} value p least) =
+    leads from ops (Waits wait) p ∙ ap (λ ph. Some (Goes ph)) (resumed wait value)
 
 -- ---- one beginning, and one end
 
@@ -166,11 +166,11 @@ begun_alike cred (MsgctlStat id) released later false = refl
 begun_alike cred (MsgctlSet id to) released later false = refl
 begun_alike cred (MsgctlRmid id) released later false = refl
 
-pub one_end : (cred : Cred) (asked : SystemCall) (released later : ℕ) (deeds : List Deed) (one other : Ending) →
-    Plays (begin cred asked released) deeds (Over one) → Plays (begin cred asked later) deeds (Over other) → one ≡ other
-one_end cred asked released later deeds one other p q =
-    let here = leads (begin cred asked released) deeds (Over one) p in
-    let there = leads (begin cred asked later) deeds (Over other) q in
-    let alike = ap (λ s. along (Some s) deeds) (begun_alike cred asked released later (is_refused asked)) in
+pub one_end : (cred : Cred) (asked : SystemCall) (released later : ℕ) (ops : List Op) (one other : Ending) →
+    Plays (begin cred asked released) ops (Over one) → Plays (begin cred asked later) ops (Over other) → one ≡ other
+one_end cred asked released later ops one other p q =
+    let here = leads (begin cred asked released) ops (Over one) p in
+    let there = leads (begin cred asked later) ops (Over other) q in
+    let alike = ap (λ s. along (Some s) ops) (begun_alike cred asked released later (is_refused asked)) in
     let same : Some (Over one) ≡ Some (Over other) = sym here ∙ (alike ∙ there) in
     cc

@@ -13,7 +13,7 @@ use Rattle.sysv_model.specs.HasFlag.{has_flag}
 use Rattle.sysv_model.specs.Message.{Message}
 use Rattle.sysv_model.specs.History.{Call, Reply, Gone, Denied, NoMatch, TooLong, Taken}
 use Rattle.sysv_model.specs.Pool.{PoolCall, PoolReply, Released, Foreign, blocks_for}
-use Rattle.sysv_model.specs.Turn.{Deed, AtSlot, AtPool}
+use Rattle.sysv_model.specs.Turn.{Op, AtSlot, AtPool}
 use Rattle.sysv_steps.specs.Call.{Msgrcv}
 use Rattle.sysv_steps.specs.State.{Receiving, Wait, OnArrived, Phase, AtTake, AtReceiveGiveback, Ending, Got, Refused}
 use Rattle.sysv_steps.specs.State.{State, Goes, Waits, Over}
@@ -35,33 +35,33 @@ same_got : (size : ℕ) (m n : Message) (mtype : ℤ) (text : List ℕ) → m �
     Got m.mtype (take size m.bytes) ≡ Got mtype text
 same_got size m n mtype text e a b = cc
 
-taken_with : (deeds : List Deed) (deed : Deed) (ms : List Message) → flat_map taken_by deeds ≡ [] →
-    flat_map taken_by (deed ∷ []) ≡ ms → flat_map taken_by (deeds ++ deed ∷ []) ≡ ms
-taken_with deeds deed ms e m =
-    flat_map-append taken_by deeds (deed ∷ []) ∙ (ap (λ (l : List Message). l ++ flat_map taken_by (deed ∷ [])) e ∙ m)
+taken_with : (ops : List Op) (op : Op) (ms : List Message) → flat_map taken_by ops ≡ [] →
+    flat_map taken_by (op ∷ []) ≡ ms → flat_map taken_by (ops ++ op ∷ []) ≡ ms
+taken_with ops op ms e m =
+    flat_map-append taken_by ops (op ∷ []) ∙ (ap (λ (l : List Message). l ++ flat_map taken_by (op ∷ [])) e ∙ m)
 
 module _ (id : ℤ) (size : ℕ) (mtype : ℤ) (flags : Flags) where
-  abbrev IsRight : List Deed → Ending → Type 0
-  IsRight deeds ending = IsRightReceive (Msgrcv id size mtype flags) size flags deeds ending
+  abbrev IsRight : List Op → Ending → Type 0
+  IsRight ops ending = IsRightReceive (Msgrcv id size mtype flags) size flags ops ending
 
-  pub record UnderWay (receive : Receiving) (deeds : List Deed) : Type 0 where
+  pub record UnderWay (receive : Receiving) (ops : List Op) : Type 0 where
     pub allowed : is_refused (Msgrcv id size mtype flags) ≡ false
     pub nowait : receive.nowait ≡ has_flag IPC_NOWAIT flags
     pub wanted : receive.size ≡ size
-    pub taken : flat_map taken_by deeds ≡ []
-    pub none : receive.nowait ≡ true → list_any found_none deeds ≡ false
-    pub long : list_any was_too_long deeds ≡ false
-    pub denied : list_any was_denied deeds ≡ false
-    pub gone : list_any found_gone deeds ≡ false
-    pub live : list_any found_live deeds ≡ receive.seen
+    pub taken : flat_map taken_by ops ≡ []
+    pub none : receive.nowait ≡ true → list_any found_none ops ≡ false
+    pub long : list_any was_too_long ops ≡ false
+    pub denied : list_any was_denied ops ≡ false
+    pub gone : list_any found_gone ops ≡ false
+    pub live : list_any found_live ops ≡ receive.seen
 
-  -- What is known of a receive in this state after these deeds.
-  abbrev pub ReceiveAt : List Deed → State → Type 0
-  ReceiveAt deeds (Goes (AtTake receive)) = UnderWay receive deeds
-  ReceiveAt deeds (Goes (AtReceiveGiveback blocks type text)) = IsRight deeds (Got type text)
-  ReceiveAt deeds (Waits (OnArrived goal receive)) = UnderWay receive deeds
-  ReceiveAt deeds (Over ending) = IsRight deeds ending
-  ReceiveAt deeds state = ⊥
+  -- What is known of a receive in this state after these operations.
+  abbrev pub ReceiveAt : List Op → State → Type 0
+  ReceiveAt ops (Goes (AtTake receive)) = UnderWay receive ops
+  ReceiveAt ops (Goes (AtReceiveGiveback blocks type text)) = IsRight ops (Got type text)
+  ReceiveAt ops (Waits (OnArrived goal receive)) = UnderWay receive ops
+  ReceiveAt ops (Over ending) = IsRight ops ending
+  ReceiveAt ops state = ⊥
 
   refused_at_once : is_refused (Msgrcv id size mtype flags) ≡ true → IsRight [] (Refused EINVAL)
   refused_at_once r = record {
@@ -91,21 +91,21 @@ module _ (id : ℤ) (size : ℕ) (mtype : ℤ) (flags : Flags) where
         live = refl;
       }
 
-  module _ (receive : Receiving) (deeds : List Deed) (u : UnderWay receive deeds) (slot : ℕ) (call : Call) where
-    abbrev with : Reply → List Deed
-    with reply = deeds ++ AtSlot slot call reply ∷ []
+  module _ (receive : Receiving) (ops : List Op) (u : UnderWay receive ops) (slot : ℕ) (call : Call) where
+    abbrev with : Reply → List Op
+    with reply = ops ++ AtSlot slot call reply ∷ []
 
-    gone_right : (seen : Bool) → list_any found_live deeds ≡ seen → IsRight (with Gone) (Refused (gone seen))
+    gone_right : (seen : Bool) → list_any found_live ops ≡ seen → IsRight (with Gone) (Refused (gone seen))
     gone_right true l =
-        let m : flat_map taken_by (with Gone) ≡ [] = taken_with deeds (AtSlot slot call Gone) [] u.taken refl in
-        let n : list_any found_none (with Gone) ≡ list_any found_none deeds =
-        kept found_none deeds (AtSlot slot call Gone) refl in
+        let m : flat_map taken_by (with Gone) ≡ [] = taken_with ops (AtSlot slot call Gone) [] u.taken refl in
+        let n : list_any found_none (with Gone) ≡ list_any found_none ops =
+        kept found_none ops (AtSlot slot call Gone) refl in
         let z : list_any was_too_long (with Gone) ≡ false =
-        kept was_too_long deeds (AtSlot slot call Gone) refl ∙ u.long in
+        kept was_too_long ops (AtSlot slot call Gone) refl ∙ u.long in
         let d : list_any was_denied (with Gone) ≡ false =
-        kept was_denied deeds (AtSlot slot call Gone) refl ∙ u.denied in
-        let g : list_any found_gone (with Gone) ≡ true = found found_gone deeds (AtSlot slot call Gone) refl in
-        let k : list_any found_live (with Gone) ≡ true = kept found_live deeds (AtSlot slot call Gone) refl ∙ l in
+        kept was_denied ops (AtSlot slot call Gone) refl ∙ u.denied in
+        let g : list_any found_gone (with Gone) ≡ true = found found_gone ops (AtSlot slot call Gone) refl in
+        let k : list_any found_live (with Gone) ≡ true = kept found_live ops (AtSlot slot call Gone) refl ∙ l in
         record {
           got = λ mtype text. (λ e. cc, λ t. absurd (never (sym m ∙ t.1)));
           once = omega (arith, ap length m);
@@ -117,15 +117,15 @@ module _ (id : ℤ) (size : ℕ) (mtype : ℤ) (flags : Flags) where
           only = inr (inr (inr (inr (inl refl))));
         }
     gone_right false l =
-        let m : flat_map taken_by (with Gone) ≡ [] = taken_with deeds (AtSlot slot call Gone) [] u.taken refl in
-        let n : list_any found_none (with Gone) ≡ list_any found_none deeds =
-        kept found_none deeds (AtSlot slot call Gone) refl in
+        let m : flat_map taken_by (with Gone) ≡ [] = taken_with ops (AtSlot slot call Gone) [] u.taken refl in
+        let n : list_any found_none (with Gone) ≡ list_any found_none ops =
+        kept found_none ops (AtSlot slot call Gone) refl in
         let z : list_any was_too_long (with Gone) ≡ false =
-        kept was_too_long deeds (AtSlot slot call Gone) refl ∙ u.long in
+        kept was_too_long ops (AtSlot slot call Gone) refl ∙ u.long in
         let d : list_any was_denied (with Gone) ≡ false =
-        kept was_denied deeds (AtSlot slot call Gone) refl ∙ u.denied in
-        let g : list_any found_gone (with Gone) ≡ true = found found_gone deeds (AtSlot slot call Gone) refl in
-        let k : list_any found_live (with Gone) ≡ false = kept found_live deeds (AtSlot slot call Gone) refl ∙ l in
+        kept was_denied ops (AtSlot slot call Gone) refl ∙ u.denied in
+        let g : list_any found_gone (with Gone) ≡ true = found found_gone ops (AtSlot slot call Gone) refl in
+        let k : list_any found_live (with Gone) ≡ false = kept found_live ops (AtSlot slot call Gone) refl ∙ l in
         record {
           got = λ mtype text. (λ e. cc, λ t. absurd (never (sym m ∙ t.1)));
           once = omega (arith, ap length m);
@@ -139,14 +139,14 @@ module _ (id : ℤ) (size : ℕ) (mtype : ℤ) (flags : Flags) where
 
     denied_right : IsRight (with Denied) (Refused EACCES)
     denied_right =
-        let m : flat_map taken_by (with Denied) ≡ [] = taken_with deeds (AtSlot slot call Denied) [] u.taken refl in
-        let n : list_any found_none (with Denied) ≡ list_any found_none deeds =
-        kept found_none deeds (AtSlot slot call Denied) refl in
+        let m : flat_map taken_by (with Denied) ≡ [] = taken_with ops (AtSlot slot call Denied) [] u.taken refl in
+        let n : list_any found_none (with Denied) ≡ list_any found_none ops =
+        kept found_none ops (AtSlot slot call Denied) refl in
         let z : list_any was_too_long (with Denied) ≡ false =
-        kept was_too_long deeds (AtSlot slot call Denied) refl ∙ u.long in
-        let d : list_any was_denied (with Denied) ≡ true = found was_denied deeds (AtSlot slot call Denied) refl in
+        kept was_too_long ops (AtSlot slot call Denied) refl ∙ u.long in
+        let d : list_any was_denied (with Denied) ≡ true = found was_denied ops (AtSlot slot call Denied) refl in
         let g : list_any found_gone (with Denied) ≡ false =
-        kept found_gone deeds (AtSlot slot call Denied) refl ∙ u.gone in
+        kept found_gone ops (AtSlot slot call Denied) refl ∙ u.gone in
         record {
           got = λ mtype text. (λ e. cc, λ t. absurd (never (sym m ∙ t.1)));
           once = omega (arith, ap length m);
@@ -161,15 +161,15 @@ module _ (id : ℤ) (size : ℕ) (mtype : ℤ) (flags : Flags) where
     none_right : (arrived : ℕ) → receive.nowait ≡ true → IsRight (with (NoMatch arrived)) (Refused ENOMSG)
     none_right arrived nowait =
         let m : flat_map taken_by (with (NoMatch arrived)) ≡ [] =
-        taken_with deeds (AtSlot slot call (NoMatch arrived)) [] u.taken refl in
+        taken_with ops (AtSlot slot call (NoMatch arrived)) [] u.taken refl in
         let n : list_any found_none (with (NoMatch arrived)) ≡ true =
-        found found_none deeds (AtSlot slot call (NoMatch arrived)) refl in
+        found found_none ops (AtSlot slot call (NoMatch arrived)) refl in
         let z : list_any was_too_long (with (NoMatch arrived)) ≡ false =
-        kept was_too_long deeds (AtSlot slot call (NoMatch arrived)) refl ∙ u.long in
+        kept was_too_long ops (AtSlot slot call (NoMatch arrived)) refl ∙ u.long in
         let d : list_any was_denied (with (NoMatch arrived)) ≡ false =
-        kept was_denied deeds (AtSlot slot call (NoMatch arrived)) refl ∙ u.denied in
+        kept was_denied ops (AtSlot slot call (NoMatch arrived)) refl ∙ u.denied in
         let g : list_any found_gone (with (NoMatch arrived)) ≡ false =
-        kept found_gone deeds (AtSlot slot call (NoMatch arrived)) refl ∙ u.gone in
+        kept found_gone ops (AtSlot slot call (NoMatch arrived)) refl ∙ u.gone in
         record {
           got = λ mtype text. (λ e. cc, λ t. absurd (never (sym m ∙ t.1)));
           once = omega (arith, ap length m);
@@ -187,12 +187,12 @@ module _ (id : ℤ) (size : ℕ) (mtype : ℤ) (flags : Flags) where
       allowed = u.allowed;
       nowait = u.nowait;
       wanted = u.wanted;
-      taken = taken_with deeds (AtSlot slot call (NoMatch arrived)) [] u.taken refl;
+      taken = taken_with ops (AtSlot slot call (NoMatch arrived)) [] u.taken refl;
       none = λ t. apart _ t nowait;
-      long = kept was_too_long deeds (AtSlot slot call (NoMatch arrived)) refl ∙ u.long;
-      denied = kept was_denied deeds (AtSlot slot call (NoMatch arrived)) refl ∙ u.denied;
-      gone = kept found_gone deeds (AtSlot slot call (NoMatch arrived)) refl ∙ u.gone;
-      live = found found_live deeds (AtSlot slot call (NoMatch arrived)) refl;
+      long = kept was_too_long ops (AtSlot slot call (NoMatch arrived)) refl ∙ u.long;
+      denied = kept was_denied ops (AtSlot slot call (NoMatch arrived)) refl ∙ u.denied;
+      gone = kept found_gone ops (AtSlot slot call (NoMatch arrived)) refl ∙ u.gone;
+      live = found found_live ops (AtSlot slot call (NoMatch arrived)) refl;
     }
 
     none_goes : (arrived : ℕ) (b : Bool) → receive.nowait ≡ b →
@@ -203,15 +203,15 @@ module _ (id : ℤ) (size : ℕ) (mtype : ℤ) (flags : Flags) where
 
     long_right : IsRight (with TooLong) (Refused E2BIG)
     long_right =
-        let m : flat_map taken_by (with TooLong) ≡ [] = taken_with deeds (AtSlot slot call TooLong) [] u.taken refl in
-        let n : list_any found_none (with TooLong) ≡ list_any found_none deeds =
-        kept found_none deeds (AtSlot slot call TooLong) refl in
+        let m : flat_map taken_by (with TooLong) ≡ [] = taken_with ops (AtSlot slot call TooLong) [] u.taken refl in
+        let n : list_any found_none (with TooLong) ≡ list_any found_none ops =
+        kept found_none ops (AtSlot slot call TooLong) refl in
         let z : list_any was_too_long (with TooLong) ≡ true =
-        found was_too_long deeds (AtSlot slot call TooLong) refl in
+        found was_too_long ops (AtSlot slot call TooLong) refl in
         let d : list_any was_denied (with TooLong) ≡ false =
-        kept was_denied deeds (AtSlot slot call TooLong) refl ∙ u.denied in
+        kept was_denied ops (AtSlot slot call TooLong) refl ∙ u.denied in
         let g : list_any found_gone (with TooLong) ≡ false =
-        kept found_gone deeds (AtSlot slot call TooLong) refl ∙ u.gone in
+        kept found_gone ops (AtSlot slot call TooLong) refl ∙ u.gone in
         record {
           got = λ mtype text. (λ e. cc, λ t. absurd (never (sym m ∙ t.1)));
           once = omega (arith, ap length m);
@@ -226,15 +226,15 @@ module _ (id : ℤ) (size : ℕ) (mtype : ℤ) (flags : Flags) where
     taken_right : (m : Message) → IsRight (with (Taken m)) (Got m.mtype (take size m.bytes))
     taken_right m =
         let l : flat_map taken_by (with (Taken m)) ≡ m ∷ [] =
-        taken_with deeds (AtSlot slot call (Taken m)) (m ∷ []) u.taken refl in
-        let n : list_any found_none (with (Taken m)) ≡ list_any found_none deeds =
-        kept found_none deeds (AtSlot slot call (Taken m)) refl in
+        taken_with ops (AtSlot slot call (Taken m)) (m ∷ []) u.taken refl in
+        let n : list_any found_none (with (Taken m)) ≡ list_any found_none ops =
+        kept found_none ops (AtSlot slot call (Taken m)) refl in
         let z : list_any was_too_long (with (Taken m)) ≡ false =
-        kept was_too_long deeds (AtSlot slot call (Taken m)) refl ∙ u.long in
+        kept was_too_long ops (AtSlot slot call (Taken m)) refl ∙ u.long in
         let d : list_any was_denied (with (Taken m)) ≡ false =
-        kept was_denied deeds (AtSlot slot call (Taken m)) refl ∙ u.denied in
+        kept was_denied ops (AtSlot slot call (Taken m)) refl ∙ u.denied in
         let g : list_any found_gone (with (Taken m)) ≡ false =
-        kept found_gone deeds (AtSlot slot call (Taken m)) refl ∙ u.gone in
+        kept found_gone ops (AtSlot slot call (Taken m)) refl ∙ u.gone in
         record {
           got = λ mtype text.
               (λ e. (m, l, cc, cc), λ t. same_got size m t.0 mtype text (only m t.0 (sym l ∙ t.1)) t.2 t.3);
@@ -247,7 +247,7 @@ module _ (id : ℤ) (size : ℕ) (mtype : ℤ) (flags : Flags) where
           only = inl (m.mtype, take size m.bytes, refl);
         }
 
-    -- One more deed at a take.
+    -- One more operation at a take.
     take_step : (reply : Reply) (after : State) → next (AtTake receive) (AtSlot slot call reply) ≡ Some after →
         ReceiveAt (with reply) after
     take_step Gone after n =
@@ -269,15 +269,15 @@ module _ (id : ℤ) (size : ℕ) (mtype : ℤ) (flags : Flags) where
         ∙ e) (taken_right m)
     take_step reply after n = absurd cc
 
-  right_still : (deeds : List Deed) (deed : Deed) (ending : Ending) (call : PoolCall) (reply : PoolReply) →
-      deed ≡ AtPool call reply → IsRight deeds ending → IsRight (deeds ++ deed ∷ []) ending
-  right_still deeds deed ending call reply is r =
-      let t = gave taken_by deeds deed (ap taken_by is) in
-      let n = kept found_none deeds deed (ap found_none is) in
-      let z = kept was_too_long deeds deed (ap was_too_long is) in
-      let d = kept was_denied deeds deed (ap was_denied is) in
-      let g = kept found_gone deeds deed (ap found_gone is) in
-      let l = kept found_live deeds deed (ap found_live is) in
+  right_still : (ops : List Op) (op : Op) (ending : Ending) (call : PoolCall) (reply : PoolReply) →
+      op ≡ AtPool call reply → IsRight ops ending → IsRight (ops ++ op ∷ []) ending
+  right_still ops op ending call reply is r =
+      let t = gave taken_by ops op (ap taken_by is) in
+      let n = kept found_none ops op (ap found_none is) in
+      let z = kept was_too_long ops op (ap was_too_long is) in
+      let d = kept was_denied ops op (ap was_denied is) in
+      let g = kept found_gone ops op (ap found_gone is) in
+      let l = kept found_live ops op (ap found_live is) in
       record {
         got = λ type text. (
           λ e. let w = (r.got type text).0 e in (w.0, t ∙ w.1, w.2, w.3),
@@ -295,52 +295,52 @@ module _ (id : ℤ) (size : ℕ) (mtype : ℤ) (flags : Flags) where
         only = r.only;
       }
 
-  giveback_step : (deeds : List Deed) (blocks : ℕ) (type : ℤ) (text : List ℕ) (call : PoolCall) (reply : PoolReply)
-      (after : State) → IsRight deeds (Got type text) →
+  giveback_step : (ops : List Op) (blocks : ℕ) (type : ℤ) (text : List ℕ) (call : PoolCall) (reply : PoolReply)
+      (after : State) → IsRight ops (Got type text) →
       next (AtReceiveGiveback blocks type text) (AtPool call reply) ≡ Some after →
-      ReceiveAt (deeds ++ AtPool call reply ∷ []) after
-  giveback_step deeds blocks type text call Released after r n =
+      ReceiveAt (ops ++ AtPool call reply ∷ []) after
+  giveback_step ops blocks type text call Released after r n =
       let e : Over (Got type text) ≡ after = cc in
-      subst (ReceiveAt (deeds ++ AtPool call Released ∷ [])) e
-      (right_still deeds (AtPool call Released) (Got type text) call Released refl r)
-  giveback_step deeds blocks type text call Foreign after r n =
+      subst (ReceiveAt (ops ++ AtPool call Released ∷ [])) e
+      (right_still ops (AtPool call Released) (Got type text) call Released refl r)
+  giveback_step ops blocks type text call Foreign after r n =
       let e : Over (Got type text) ≡ after = cc in
-      subst (ReceiveAt (deeds ++ AtPool call Foreign ∷ [])) e
-      (right_still deeds (AtPool call Foreign) (Got type text) call Foreign refl r)
-  giveback_step deeds blocks type text call reply after r n = absurd cc
+      subst (ReceiveAt (ops ++ AtPool call Foreign ∷ [])) e
+      (right_still ops (AtPool call Foreign) (Got type text) call Foreign refl r)
+  giveback_step ops blocks type text call reply after r n = absurd cc
 
-  one_step : (deeds : List Deed) (phase : Phase) (deed : Deed) (after : State) → ReceiveAt deeds (Goes phase) →
-      next phase deed ≡ Some after → ReceiveAt (deeds ++ deed ∷ []) after
-  one_step deeds (AtTake receive) (AtSlot slot call reply) after at n =
-      take_step receive deeds at slot call reply after n
-  one_step deeds (AtReceiveGiveback blocks type text) (AtPool call reply) after at n =
-      giveback_step deeds blocks type text call reply after at n
-  one_step deeds (AtTake receive) deed after at n = absurd cc
-  one_step deeds (AtReceiveGiveback blocks type text) deed after at n = absurd cc
-  one_step deeds phase deed after at n = absurd at
+  one_step : (ops : List Op) (phase : Phase) (op : Op) (after : State) → ReceiveAt ops (Goes phase) →
+      next phase op ≡ Some after → ReceiveAt (ops ++ op ∷ []) after
+  one_step ops (AtTake receive) (AtSlot slot call reply) after at n =
+      take_step receive ops at slot call reply after n
+  one_step ops (AtReceiveGiveback blocks type text) (AtPool call reply) after at n =
+      giveback_step ops blocks type text call reply after at n
+  one_step ops (AtTake receive) op after at n = absurd cc
+  one_step ops (AtReceiveGiveback blocks type text) op after at n = absurd cc
+  one_step ops phase op after at n = absurd at
 
-  one_wait : (deeds : List Deed) (wait : Wait) (value : ℕ) → ReceiveAt deeds (Waits wait) →
-      ReceiveAt deeds (Goes (resume wait value))
-  one_wait deeds (OnArrived goal receive) value at = at
-  one_wait deeds wait value at = absurd at
+  one_wait : (ops : List Op) (wait : Wait) (value : ℕ) → ReceiveAt ops (Waits wait) →
+      ReceiveAt ops (Goes (resume wait value))
+  one_wait ops (OnArrived goal receive) value at = at
+  one_wait ops wait value at = absurd at
 
-  pub receive_at : (cred : Cred) (released : ℕ) (deeds : List Deed) (state : State) →
-      Plays (begin cred (Msgrcv id size mtype flags) released) deeds state → ReceiveAt deeds state
+  pub receive_at : (cred : Cred) (released : ℕ) (ops : List Op) (state : State) →
+      Plays (begin cred (Msgrcv id size mtype flags) released) ops state → ReceiveAt ops state
   receive_at cred released _ _ begins = started cred released (is_refused (Msgrcv id size mtype flags)) refl
-  receive_at cred released _ _ (steps {deeds} {phase} deed now after p asked n) =
-      one_step deeds phase deed after (receive_at cred released deeds (Goes phase) p) n
-  receive_at cred released _ _ (resumes {deeds} {wait} value p least) =
-      one_wait deeds wait value (receive_at cred released deeds (Waits wait) p)
+  receive_at cred released _ _ (steps {ops} {phase} op now after p asked n) =
+      one_step ops phase op after (receive_at cred released ops (Goes phase) p) n
+  receive_at cred released _ _ (resumes {ops} {wait} value p least) =
+      one_wait ops wait value (receive_at cred released ops (Waits wait) p)
 
-  none_gone : (deeds : List Deed) (phase : Phase) (reply : Reply) (after : State) → ReceiveAt deeds (Goes phase) →
-      next_of_slot phase reply ≡ Some after → list_any found_gone deeds ≡ false
-  none_gone deeds (AtTake receive) reply after at n = at.gone
-  none_gone deeds (AtReceiveGiveback blocks type text) reply after at n = absurd cc
-  none_gone deeds phase reply after at n = absurd at
+  none_gone : (ops : List Op) (phase : Phase) (reply : Reply) (after : State) → ReceiveAt ops (Goes phase) →
+      next_of_slot phase reply ≡ Some after → list_any found_gone ops ≡ false
+  none_gone ops (AtTake receive) reply after at n = at.gone
+  none_gone ops (AtReceiveGiveback blocks type text) reply after at n = absurd cc
+  none_gone ops phase reply after at n = absurd at
 
   -- A receive that comes to a slot has not found its identifier gone before.
-  pub receive_goes_on : (cred : Cred) (released : ℕ) (deeds : List Deed) (phase : Phase) (reply : Reply)
-      (after : State) → Plays (begin cred (Msgrcv id size mtype flags) released) deeds (Goes phase) →
-      next_of_slot phase reply ≡ Some after → list_any found_gone deeds ≡ false
-  receive_goes_on cred released deeds phase reply after p n =
-      none_gone deeds phase reply after (receive_at cred released deeds (Goes phase) p) n
+  pub receive_goes_on : (cred : Cred) (released : ℕ) (ops : List Op) (phase : Phase) (reply : Reply)
+      (after : State) → Plays (begin cred (Msgrcv id size mtype flags) released) ops (Goes phase) →
+      next_of_slot phase reply ≡ Some after → list_any found_gone ops ≡ false
+  receive_goes_on cred released ops phase reply after p n =
+      none_gone ops phase reply after (receive_at cred released ops (Goes phase) p) n

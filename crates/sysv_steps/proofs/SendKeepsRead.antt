@@ -6,7 +6,7 @@ use Rattle.sysv_model.specs.declared.errno.Errno.TheVariants.{EAGAIN, EINVAL, EN
 use Rattle.sysv_model.specs.History.{Reply, Installed, Gone, Full, Fits, NoMatch, Done, Discarded}
 use Rattle.sysv_model.specs.Registry.{RegistryReply, Changed}
 use Rattle.sysv_model.specs.Pool.{PoolReply, Reserved, TooFew, Released, Foreign}
-use Rattle.sysv_model.specs.Turn.{Deed, AtSlot, AtRegistry, AtPool}
+use Rattle.sysv_model.specs.Turn.{Op, AtSlot, AtRegistry, AtPool}
 use Rattle.sysv_steps.specs.Call.{SystemCall, Msgget, Msgsnd, Msgrcv, MsgctlStat, MsgctlSet, MsgctlRmid}
 use Rattle.sysv_steps.specs.State.{Getting, Sending, Receiving, Wait, OnSettled, OnFreed, OnReleased, OnArrived}
 use Rattle.sysv_steps.specs.State.{Afterwards, IsRefused, WaitsOn, Phase, AtBegin, AtInstall, AtSettle, AtProbe}
@@ -161,7 +161,7 @@ at_pool read AtSetGiveback reply h = last_giveback_row read Zero reply
 at_pool read (AtRemoveGiveback blocks) reply h = last_giveback_row read Zero reply
 at_pool read phase reply h = tt
 
-one_row : (read : ℕ) (phase : Phase) (deed : Deed) → Knows read (Goes phase) → KnowsIf read (next phase deed)
+one_row : (read : ℕ) (phase : Phase) (op : Op) → Knows read (Goes phase) → KnowsIf read (next phase op)
 one_row read phase (AtSlot slot call reply) h = at_slot read phase reply h
 one_row read phase (AtRegistry call reply) h = at_registry read phase reply
 one_row read phase (AtPool call reply) h = at_pool read phase reply h
@@ -185,19 +185,19 @@ resumed read (OnFreed goal send) value h = h
 resumed read (OnReleased goal send) value h = refl
 resumed read (OnArrived goal receive) value h = tt
 
-along : (cred : Cred) (asked : SystemCall) (released : ℕ) (deeds : List Deed) (state : State)
-    (play : Plays (begin cred asked released) deeds state) →
-    Knows (read_last released (begin cred asked released) deeds state play) state
+along : (cred : Cred) (asked : SystemCall) (released : ℕ) (ops : List Op) (state : State)
+    (play : Plays (begin cred asked released) ops state) →
+    Knows (read_last released (begin cred asked released) ops state play) state
 along cred asked released _ _ begins = started cred asked released (is_refused asked)
-along cred asked released _ _ (steps {deeds} {phase} deed now after p is n) =
-    let read = read_last released (begin cred asked released) deeds (Goes phase) p in
-    subst (KnowsIf read) n (one_row read phase deed (along cred asked released deeds (Goes phase) p))
-along cred asked released _ _ (resumes {deeds} {wait} value p least) =
-    resumed (read_last released (begin cred asked released) deeds (Waits wait) p) wait value
-    (along cred asked released deeds (Waits wait) p)
+along cred asked released _ _ (steps {ops} {phase} op now after p is n) =
+    let read = read_last released (begin cred asked released) ops (Goes phase) p in
+    subst (KnowsIf read) n (one_row read phase op (along cred asked released ops (Goes phase) p))
+along cred asked released _ _ (resumes {ops} {wait} value p least) =
+    resumed (read_last released (begin cred asked released) ops (Waits wait) p) wait value
+    (along cred asked released ops (Waits wait) p)
 
-pub each_read : (cred : Cred) (asked : SystemCall) (released : ℕ) (deeds : List Deed) (goal : ℕ) (send : Sending)
-    (play : Plays (begin cred asked released) deeds (Waits (OnReleased goal send))) →
-    goal ≡ read_last released (begin cred asked released) deeds (Waits (OnReleased goal send)) play + 1
-each_read cred asked released deeds goal send play =
-    (along cred asked released deeds (Waits (OnReleased goal send)) play).1
+pub each_read : (cred : Cred) (asked : SystemCall) (released : ℕ) (ops : List Op) (goal : ℕ) (send : Sending)
+    (play : Plays (begin cred asked released) ops (Waits (OnReleased goal send))) →
+    goal ≡ read_last released (begin cred asked released) ops (Waits (OnReleased goal send)) play + 1
+each_read cred asked released ops goal send play =
+    (along cred asked released ops (Waits (OnReleased goal send)) play).1

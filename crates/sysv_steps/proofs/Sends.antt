@@ -11,7 +11,7 @@ use Rattle.sysv_model.specs.declared.flags.TheConstants.Flags.{IPC_NOWAIT}
 use Rattle.sysv_model.specs.HasFlag.{has_flag}
 use Rattle.sysv_model.specs.History.{Call, Reply, Gone, Denied, Full, Fits, Accepted}
 use Rattle.sysv_model.specs.Pool.{PoolCall, PoolReply, Reserved, TooFew, Released, Foreign}
-use Rattle.sysv_model.specs.Turn.{Deed, AtSlot, AtPool}
+use Rattle.sysv_model.specs.Turn.{Op, AtSlot, AtPool}
 use Rattle.sysv_steps.specs.Call.{Msgsnd}
 use Rattle.sysv_steps.specs.State.{Sending, Wait, OnFreed, OnReleased, Afterwards, IsRefused, WaitsOn, Phase, AtLook}
 use Rattle.sysv_steps.specs.State.{AtReserve, AtPlace, AtSendGiveback, Ending, Zero, Refused, State, Goes, Waits, Over}
@@ -23,34 +23,34 @@ use Rattle.sysv_steps.specs.Answers.{was_accepted, was_full, was_denied, found_g
 use Rattle.sysv_steps.proofs.Among.{apart, kept, found, once_at_most, once_still}
 
 module _ (id mtype : ℤ) (flags : Flags) (text : List ℕ) where
-  abbrev IsRight : List Deed → Ending → Type 0
-  IsRight deeds ending = IsRightSend (Msgsnd id mtype flags text) flags deeds ending
+  abbrev IsRight : List Op → Ending → Type 0
+  IsRight ops ending = IsRightSend (Msgsnd id mtype flags text) flags ops ending
 
-  pub record UnderWay (send : Sending) (deeds : List Deed) : Type 0 where
+  pub record UnderWay (send : Sending) (ops : List Op) : Type 0 where
     pub allowed : is_refused (Msgsnd id mtype flags text) ≡ false
     pub nowait : send.nowait ≡ has_flag IPC_NOWAIT flags
-    pub accepted : list_any was_accepted deeds ≡ false
-    pub full : send.nowait ≡ true → list_any was_full deeds ≡ false
-    pub denied : list_any was_denied deeds ≡ false
-    pub gone : list_any found_gone deeds ≡ false
-    pub live : list_any found_live deeds ≡ send.seen
+    pub accepted : list_any was_accepted ops ≡ false
+    pub full : send.nowait ≡ true → list_any was_full ops ≡ false
+    pub denied : list_any was_denied ops ≡ false
+    pub gone : list_any found_gone ops ≡ false
+    pub live : list_any found_live ops ≡ send.seen
 
   -- What is known of a send that has yet to release its chain.
-  abbrev pub AfterAt : List Deed → Afterwards → Type 0
-  AfterAt deeds (IsRefused why) = IsRight deeds (Refused why)
-  AfterAt deeds (WaitsOn (OnFreed goal send)) = UnderWay send deeds
-  AfterAt deeds (WaitsOn wait) = ⊥
+  abbrev pub AfterAt : List Op → Afterwards → Type 0
+  AfterAt ops (IsRefused why) = IsRight ops (Refused why)
+  AfterAt ops (WaitsOn (OnFreed goal send)) = UnderWay send ops
+  AfterAt ops (WaitsOn wait) = ⊥
 
-  -- What is known of a send in this state after these deeds.
-  abbrev pub SendAt : List Deed → State → Type 0
-  SendAt deeds (Goes (AtLook send)) = UnderWay send deeds
-  SendAt deeds (Goes (AtReserve send)) = UnderWay send deeds
-  SendAt deeds (Goes (AtPlace send blocks)) = UnderWay send deeds
-  SendAt deeds (Goes (AtSendGiveback blocks afterwards)) = AfterAt deeds afterwards
-  SendAt deeds (Waits (OnFreed goal send)) = UnderWay send deeds
-  SendAt deeds (Waits (OnReleased goal send)) = UnderWay send deeds
-  SendAt deeds (Over ending) = IsRight deeds ending
-  SendAt deeds state = ⊥
+  -- What is known of a send in this state after these operations.
+  abbrev pub SendAt : List Op → State → Type 0
+  SendAt ops (Goes (AtLook send)) = UnderWay send ops
+  SendAt ops (Goes (AtReserve send)) = UnderWay send ops
+  SendAt ops (Goes (AtPlace send blocks)) = UnderWay send ops
+  SendAt ops (Goes (AtSendGiveback blocks afterwards)) = AfterAt ops afterwards
+  SendAt ops (Waits (OnFreed goal send)) = UnderWay send ops
+  SendAt ops (Waits (OnReleased goal send)) = UnderWay send ops
+  SendAt ops (Over ending) = IsRight ops ending
+  SendAt ops state = ⊥
 
   refused_at_once : is_refused (Msgsnd id mtype flags text) ≡ true → IsRight [] (Refused EINVAL)
   refused_at_once r = record {
@@ -69,25 +69,25 @@ module _ (id mtype : ℤ) (flags : Flags) (text : List ℕ) where
   started cred released false r =
       record { allowed = r; nowait = refl; accepted = refl; full = λ n. refl; denied = refl; gone = refl; live = refl }
 
-  -- A deed about which no line of the law says anything.
-  record IsQuiet (deed : Deed) : Type 0 where
-    accepted : was_accepted deed ≡ false
-    full : was_full deed ≡ false
-    denied : was_denied deed ≡ false
-    gone : found_gone deed ≡ false
-    live : found_live deed ≡ false
+  -- An operation about which no line of the law says anything.
+  record IsQuiet (op : Op) : Type 0 where
+    accepted : was_accepted op ≡ false
+    full : was_full op ≡ false
+    denied : was_denied op ≡ false
+    gone : found_gone op ≡ false
+    live : found_live op ≡ false
 
-  right_still : (deeds : List Deed) (deed : Deed) (ending : Ending) → IsQuiet deed → IsRight deeds ending →
-      IsRight (deeds ++ deed ∷ []) ending
-  right_still deeds deed ending q r =
-      let a = kept was_accepted deeds deed q.accepted in
-      let f = kept was_full deeds deed q.full in
-      let d = kept was_denied deeds deed q.denied in
-      let g = kept found_gone deeds deed q.gone in
-      let l = kept found_live deeds deed q.live in
+  right_still : (ops : List Op) (op : Op) (ending : Ending) → IsQuiet op → IsRight ops ending →
+      IsRight (ops ++ op ∷ []) ending
+  right_still ops op ending q r =
+      let a = kept was_accepted ops op q.accepted in
+      let f = kept was_full ops op q.full in
+      let d = kept was_denied ops op q.denied in
+      let g = kept found_gone ops op q.gone in
+      let l = kept found_live ops op q.live in
       record {
         zero = (λ e. a ∙ r.zero.0 e, λ t. r.zero.1 (sym a ∙ t));
-        once = once_still was_accepted deeds deed q.accepted r.once;
+        once = once_still was_accepted ops op q.accepted r.once;
         again = (λ e. ((r.again.0 e).0, f ∙ (r.again.0 e).1), λ t. r.again.1 (t.0, sym f ∙ t.1));
         denied = (λ e. d ∙ r.denied.0 e, λ t. r.denied.1 (sym d ∙ t));
         removed = (λ e. (g ∙ (r.removed.0 e).0, l ∙ (r.removed.0 e).1), λ t. r.removed.1 (sym g ∙ t.0, sym l ∙ t.1));
@@ -98,34 +98,34 @@ module _ (id mtype : ℤ) (flags : Flags) (text : List ℕ) where
         only = r.only;
       }
 
-  under_way_still : (send : Sending) (deeds : List Deed) (deed : Deed) → IsQuiet deed → UnderWay send deeds →
-      UnderWay send (deeds ++ deed ∷ [])
-  under_way_still send deeds deed q u = record {
+  under_way_still : (send : Sending) (ops : List Op) (op : Op) → IsQuiet op → UnderWay send ops →
+      UnderWay send (ops ++ op ∷ [])
+  under_way_still send ops op q u = record {
     allowed = u.allowed;
     nowait = u.nowait;
-    accepted = kept was_accepted deeds deed q.accepted ∙ u.accepted;
-    full = λ t. kept was_full deeds deed q.full ∙ u.full t;
-    denied = kept was_denied deeds deed q.denied ∙ u.denied;
-    gone = kept found_gone deeds deed q.gone ∙ u.gone;
-    live = kept found_live deeds deed q.live ∙ u.live;
+    accepted = kept was_accepted ops op q.accepted ∙ u.accepted;
+    full = λ t. kept was_full ops op q.full ∙ u.full t;
+    denied = kept was_denied ops op q.denied ∙ u.denied;
+    gone = kept found_gone ops op q.gone ∙ u.gone;
+    live = kept found_live ops op q.live ∙ u.live;
   }
 
   -- ---- its turns at the pool
 
-  module _ (send : Sending) (deeds : List Deed) (u : UnderWay send deeds) (call : PoolCall) where
-    few_right : send.nowait ≡ true → IsRight (deeds ++ AtPool call TooFew ∷ []) (Refused EAGAIN)
+  module _ (send : Sending) (ops : List Op) (u : UnderWay send ops) (call : PoolCall) where
+    few_right : send.nowait ≡ true → IsRight (ops ++ AtPool call TooFew ∷ []) (Refused EAGAIN)
     few_right n =
-        let a : list_any was_accepted (deeds ++ AtPool call TooFew ∷ []) ≡ false =
-        kept was_accepted deeds (AtPool call TooFew) refl ∙ u.accepted in
-        let f : list_any was_full (deeds ++ AtPool call TooFew ∷ []) ≡ true =
-        found was_full deeds (AtPool call TooFew) refl in
-        let d : list_any was_denied (deeds ++ AtPool call TooFew ∷ []) ≡ false =
-        kept was_denied deeds (AtPool call TooFew) refl ∙ u.denied in
-        let g : list_any found_gone (deeds ++ AtPool call TooFew ∷ []) ≡ false =
-        kept found_gone deeds (AtPool call TooFew) refl ∙ u.gone in
+        let a : list_any was_accepted (ops ++ AtPool call TooFew ∷ []) ≡ false =
+        kept was_accepted ops (AtPool call TooFew) refl ∙ u.accepted in
+        let f : list_any was_full (ops ++ AtPool call TooFew ∷ []) ≡ true =
+        found was_full ops (AtPool call TooFew) refl in
+        let d : list_any was_denied (ops ++ AtPool call TooFew ∷ []) ≡ false =
+        kept was_denied ops (AtPool call TooFew) refl ∙ u.denied in
+        let g : list_any found_gone (ops ++ AtPool call TooFew ∷ []) ≡ false =
+        kept found_gone ops (AtPool call TooFew) refl ∙ u.gone in
         record {
           zero = (λ e. cc, λ t. apart _ t a);
-          once = once_at_most was_accepted deeds (AtPool call TooFew) u.accepted;
+          once = once_at_most was_accepted ops (AtPool call TooFew) u.accepted;
           again = (λ e. (sym u.nowait ∙ n, f), λ t. refl);
           denied = (λ e. cc, λ t. apart _ t d);
           removed = (λ e. cc, λ t. apart _ t.0 g);
@@ -133,75 +133,75 @@ module _ (id mtype : ℤ) (flags : Flags) (text : List ℕ) where
           only = inr (inl refl);
         }
 
-    few_waits : send.nowait ≡ false → UnderWay send (deeds ++ AtPool call TooFew ∷ [])
+    few_waits : send.nowait ≡ false → UnderWay send (ops ++ AtPool call TooFew ∷ [])
     few_waits n = record {
       allowed = u.allowed;
       nowait = u.nowait;
-      accepted = kept was_accepted deeds (AtPool call TooFew) refl ∙ u.accepted;
+      accepted = kept was_accepted ops (AtPool call TooFew) refl ∙ u.accepted;
       full = λ t. apart _ t n;
-      denied = kept was_denied deeds (AtPool call TooFew) refl ∙ u.denied;
-      gone = kept found_gone deeds (AtPool call TooFew) refl ∙ u.gone;
-      live = kept found_live deeds (AtPool call TooFew) refl ∙ u.live;
+      denied = kept was_denied ops (AtPool call TooFew) refl ∙ u.denied;
+      gone = kept found_gone ops (AtPool call TooFew) refl ∙ u.gone;
+      live = kept found_live ops (AtPool call TooFew) refl ∙ u.live;
     }
 
     few_goes : (b : Bool) → send.nowait ≡ b →
-        SendAt (deeds ++ AtPool call TooFew ∷ []) (goes_on (waits_or b (OnReleased (send.released + 1) send) EAGAIN))
+        SendAt (ops ++ AtPool call TooFew ∷ []) (goes_on (waits_or b (OnReleased (send.released + 1) send) EAGAIN))
     few_goes true n = few_right n
     few_goes false n = few_waits n
 
     reserve_step : (reply : PoolReply) (after : State) → next (AtReserve send) (AtPool call reply) ≡ Some after →
-        SendAt (deeds ++ AtPool call reply ∷ []) after
+        SendAt (ops ++ AtPool call reply ∷ []) after
     reserve_step (Reserved blocks) after n =
         let e : Goes (AtPlace send blocks) ≡ after = cc in
-        subst (SendAt (deeds ++ AtPool call (Reserved blocks) ∷ [])) e
-        (under_way_still send deeds (AtPool call (Reserved blocks))
+        subst (SendAt (ops ++ AtPool call (Reserved blocks) ∷ [])) e
+        (under_way_still send ops (AtPool call (Reserved blocks))
         record { accepted = refl; full = refl; denied = refl; gone = refl; live = refl } u)
     reserve_step TooFew after n =
         let e : goes_on (waits_or send.nowait (OnReleased (send.released + 1) send) EAGAIN) ≡ after = cc in
-        subst (SendAt (deeds ++ AtPool call TooFew ∷ [])) e (few_goes send.nowait refl)
+        subst (SendAt (ops ++ AtPool call TooFew ∷ [])) e (few_goes send.nowait refl)
     reserve_step reply after n = absurd cc
 
-  given_back : (deeds : List Deed) (afterwards : Afterwards) (deed : Deed) → IsQuiet deed → AfterAt deeds afterwards →
-      SendAt (deeds ++ deed ∷ []) (goes_on afterwards)
-  given_back deeds (IsRefused why) deed q at = right_still deeds deed (Refused why) q at
-  given_back deeds (WaitsOn (OnFreed goal send)) deed q at = under_way_still send deeds deed q at
-  given_back deeds (WaitsOn wait) deed q at = absurd at
+  given_back : (ops : List Op) (afterwards : Afterwards) (op : Op) → IsQuiet op → AfterAt ops afterwards →
+      SendAt (ops ++ op ∷ []) (goes_on afterwards)
+  given_back ops (IsRefused why) op q at = right_still ops op (Refused why) q at
+  given_back ops (WaitsOn (OnFreed goal send)) op q at = under_way_still send ops op q at
+  given_back ops (WaitsOn wait) op q at = absurd at
 
-  giveback_step : (deeds : List Deed) (blocks : ℕ) (afterwards : Afterwards) (call : PoolCall) (reply : PoolReply)
-      (after : State) → AfterAt deeds afterwards →
+  giveback_step : (ops : List Op) (blocks : ℕ) (afterwards : Afterwards) (call : PoolCall) (reply : PoolReply)
+      (after : State) → AfterAt ops afterwards →
       next (AtSendGiveback blocks afterwards) (AtPool call reply) ≡ Some after →
-      SendAt (deeds ++ AtPool call reply ∷ []) after
-  giveback_step deeds blocks afterwards call Released after at n =
+      SendAt (ops ++ AtPool call reply ∷ []) after
+  giveback_step ops blocks afterwards call Released after at n =
       let e : goes_on afterwards ≡ after = cc in
-      subst (SendAt (deeds ++ AtPool call Released ∷ [])) e
-      (given_back deeds afterwards (AtPool call Released)
+      subst (SendAt (ops ++ AtPool call Released ∷ [])) e
+      (given_back ops afterwards (AtPool call Released)
       record { accepted = refl; full = refl; denied = refl; gone = refl; live = refl } at)
-  giveback_step deeds blocks afterwards call Foreign after at n =
+  giveback_step ops blocks afterwards call Foreign after at n =
       let e : goes_on afterwards ≡ after = cc in
-      subst (SendAt (deeds ++ AtPool call Foreign ∷ [])) e
-      (given_back deeds afterwards (AtPool call Foreign)
+      subst (SendAt (ops ++ AtPool call Foreign ∷ [])) e
+      (given_back ops afterwards (AtPool call Foreign)
       record { accepted = refl; full = refl; denied = refl; gone = refl; live = refl } at)
-  giveback_step deeds blocks afterwards call reply after at n = absurd cc
+  giveback_step ops blocks afterwards call reply after at n = absurd cc
 
   -- ---- and those at its queue
 
-  module _ (send : Sending) (deeds : List Deed) (u : UnderWay send deeds) (slot : ℕ) (call : Call) where
-    abbrev with : Reply → List Deed
-    with reply = deeds ++ AtSlot slot call reply ∷ []
+  module _ (send : Sending) (ops : List Op) (u : UnderWay send ops) (slot : ℕ) (call : Call) where
+    abbrev with : Reply → List Op
+    with reply = ops ++ AtSlot slot call reply ∷ []
 
-    gone_right : (seen : Bool) → list_any found_live deeds ≡ seen → IsRight (with Gone) (Refused (gone seen))
+    gone_right : (seen : Bool) → list_any found_live ops ≡ seen → IsRight (with Gone) (Refused (gone seen))
     gone_right true l =
         let a : list_any was_accepted (with Gone) ≡ false =
-        kept was_accepted deeds (AtSlot slot call Gone) refl ∙ u.accepted in
-        let f : list_any was_full (with Gone) ≡ list_any was_full deeds =
-        kept was_full deeds (AtSlot slot call Gone) refl in
+        kept was_accepted ops (AtSlot slot call Gone) refl ∙ u.accepted in
+        let f : list_any was_full (with Gone) ≡ list_any was_full ops =
+        kept was_full ops (AtSlot slot call Gone) refl in
         let d : list_any was_denied (with Gone) ≡ false =
-        kept was_denied deeds (AtSlot slot call Gone) refl ∙ u.denied in
-        let g : list_any found_gone (with Gone) ≡ true = found found_gone deeds (AtSlot slot call Gone) refl in
-        let k : list_any found_live (with Gone) ≡ true = kept found_live deeds (AtSlot slot call Gone) refl ∙ l in
+        kept was_denied ops (AtSlot slot call Gone) refl ∙ u.denied in
+        let g : list_any found_gone (with Gone) ≡ true = found found_gone ops (AtSlot slot call Gone) refl in
+        let k : list_any found_live (with Gone) ≡ true = kept found_live ops (AtSlot slot call Gone) refl ∙ l in
         record {
           zero = (λ e. cc, λ t. apart _ t a);
-          once = once_at_most was_accepted deeds (AtSlot slot call Gone) u.accepted;
+          once = once_at_most was_accepted ops (AtSlot slot call Gone) u.accepted;
           again = (λ e. cc, λ t. apart _ t.1 (f ∙ u.full (u.nowait ∙ t.0)));
           denied = (λ e. cc, λ t. apart _ t d);
           removed = (λ e. (g, k), λ t. refl);
@@ -210,16 +210,16 @@ module _ (id mtype : ℤ) (flags : Flags) (text : List ℕ) where
         }
     gone_right false l =
         let a : list_any was_accepted (with Gone) ≡ false =
-        kept was_accepted deeds (AtSlot slot call Gone) refl ∙ u.accepted in
-        let f : list_any was_full (with Gone) ≡ list_any was_full deeds =
-        kept was_full deeds (AtSlot slot call Gone) refl in
+        kept was_accepted ops (AtSlot slot call Gone) refl ∙ u.accepted in
+        let f : list_any was_full (with Gone) ≡ list_any was_full ops =
+        kept was_full ops (AtSlot slot call Gone) refl in
         let d : list_any was_denied (with Gone) ≡ false =
-        kept was_denied deeds (AtSlot slot call Gone) refl ∙ u.denied in
-        let g : list_any found_gone (with Gone) ≡ true = found found_gone deeds (AtSlot slot call Gone) refl in
-        let k : list_any found_live (with Gone) ≡ false = kept found_live deeds (AtSlot slot call Gone) refl ∙ l in
+        kept was_denied ops (AtSlot slot call Gone) refl ∙ u.denied in
+        let g : list_any found_gone (with Gone) ≡ true = found found_gone ops (AtSlot slot call Gone) refl in
+        let k : list_any found_live (with Gone) ≡ false = kept found_live ops (AtSlot slot call Gone) refl ∙ l in
         record {
           zero = (λ e. cc, λ t. apart _ t a);
-          once = once_at_most was_accepted deeds (AtSlot slot call Gone) u.accepted;
+          once = once_at_most was_accepted ops (AtSlot slot call Gone) u.accepted;
           again = (λ e. cc, λ t. apart _ t.1 (f ∙ u.full (u.nowait ∙ t.0)));
           denied = (λ e. cc, λ t. apart _ t d);
           removed = (λ e. cc, λ t. apart _ t.1 k);
@@ -230,15 +230,15 @@ module _ (id mtype : ℤ) (flags : Flags) (text : List ℕ) where
     denied_right : IsRight (with Denied) (Refused EACCES)
     denied_right =
         let a : list_any was_accepted (with Denied) ≡ false =
-        kept was_accepted deeds (AtSlot slot call Denied) refl ∙ u.accepted in
-        let f : list_any was_full (with Denied) ≡ list_any was_full deeds =
-        kept was_full deeds (AtSlot slot call Denied) refl in
-        let d : list_any was_denied (with Denied) ≡ true = found was_denied deeds (AtSlot slot call Denied) refl in
+        kept was_accepted ops (AtSlot slot call Denied) refl ∙ u.accepted in
+        let f : list_any was_full (with Denied) ≡ list_any was_full ops =
+        kept was_full ops (AtSlot slot call Denied) refl in
+        let d : list_any was_denied (with Denied) ≡ true = found was_denied ops (AtSlot slot call Denied) refl in
         let g : list_any found_gone (with Denied) ≡ false =
-        kept found_gone deeds (AtSlot slot call Denied) refl ∙ u.gone in
+        kept found_gone ops (AtSlot slot call Denied) refl ∙ u.gone in
         record {
           zero = (λ e. cc, λ t. apart _ t a);
-          once = once_at_most was_accepted deeds (AtSlot slot call Denied) u.accepted;
+          once = once_at_most was_accepted ops (AtSlot slot call Denied) u.accepted;
           again = (λ e. cc, λ t. apart _ t.1 (f ∙ u.full (u.nowait ∙ t.0)));
           denied = (λ e. d, λ t. refl);
           removed = (λ e. cc, λ t. apart _ t.0 g);
@@ -249,16 +249,16 @@ module _ (id mtype : ℤ) (flags : Flags) (text : List ℕ) where
     full_right : (freed : ℕ) → send.nowait ≡ true → IsRight (with (Full freed)) (Refused EAGAIN)
     full_right freed n =
         let a : list_any was_accepted (with (Full freed)) ≡ false =
-        kept was_accepted deeds (AtSlot slot call (Full freed)) refl ∙ u.accepted in
+        kept was_accepted ops (AtSlot slot call (Full freed)) refl ∙ u.accepted in
         let f : list_any was_full (with (Full freed)) ≡ true =
-        found was_full deeds (AtSlot slot call (Full freed)) refl in
+        found was_full ops (AtSlot slot call (Full freed)) refl in
         let d : list_any was_denied (with (Full freed)) ≡ false =
-        kept was_denied deeds (AtSlot slot call (Full freed)) refl ∙ u.denied in
+        kept was_denied ops (AtSlot slot call (Full freed)) refl ∙ u.denied in
         let g : list_any found_gone (with (Full freed)) ≡ false =
-        kept found_gone deeds (AtSlot slot call (Full freed)) refl ∙ u.gone in
+        kept found_gone ops (AtSlot slot call (Full freed)) refl ∙ u.gone in
         record {
           zero = (λ e. cc, λ t. apart _ t a);
-          once = once_at_most was_accepted deeds (AtSlot slot call (Full freed)) u.accepted;
+          once = once_at_most was_accepted ops (AtSlot slot call (Full freed)) u.accepted;
           again = (λ e. (sym u.nowait ∙ n, f), λ t. refl);
           denied = (λ e. cc, λ t. apart _ t d);
           removed = (λ e. cc, λ t. apart _ t.0 g);
@@ -270,11 +270,11 @@ module _ (id mtype : ℤ) (flags : Flags) (text : List ℕ) where
     full_waits freed n = record {
       allowed = u.allowed;
       nowait = u.nowait;
-      accepted = kept was_accepted deeds (AtSlot slot call (Full freed)) refl ∙ u.accepted;
+      accepted = kept was_accepted ops (AtSlot slot call (Full freed)) refl ∙ u.accepted;
       full = λ t. apart _ t n;
-      denied = kept was_denied deeds (AtSlot slot call (Full freed)) refl ∙ u.denied;
-      gone = kept found_gone deeds (AtSlot slot call (Full freed)) refl ∙ u.gone;
-      live = found found_live deeds (AtSlot slot call (Full freed)) refl;
+      denied = kept was_denied ops (AtSlot slot call (Full freed)) refl ∙ u.denied;
+      gone = kept found_gone ops (AtSlot slot call (Full freed)) refl ∙ u.gone;
+      live = found found_live ops (AtSlot slot call (Full freed)) refl;
     }
 
     full_goes : (freed : ℕ) (b : Bool) → send.nowait ≡ b →
@@ -291,26 +291,26 @@ module _ (id mtype : ℤ) (flags : Flags) (text : List ℕ) where
     fits_goes = record {
       allowed = u.allowed;
       nowait = u.nowait;
-      accepted = kept was_accepted deeds (AtSlot slot call Fits) refl ∙ u.accepted;
-      full = λ t. kept was_full deeds (AtSlot slot call Fits) refl ∙ u.full t;
-      denied = kept was_denied deeds (AtSlot slot call Fits) refl ∙ u.denied;
-      gone = kept found_gone deeds (AtSlot slot call Fits) refl ∙ u.gone;
-      live = found found_live deeds (AtSlot slot call Fits) refl;
+      accepted = kept was_accepted ops (AtSlot slot call Fits) refl ∙ u.accepted;
+      full = λ t. kept was_full ops (AtSlot slot call Fits) refl ∙ u.full t;
+      denied = kept was_denied ops (AtSlot slot call Fits) refl ∙ u.denied;
+      gone = kept found_gone ops (AtSlot slot call Fits) refl ∙ u.gone;
+      live = found found_live ops (AtSlot slot call Fits) refl;
     }
 
     placed_right : (number : ℕ) → IsRight (with (Accepted number)) Zero
     placed_right number =
         let a : list_any was_accepted (with (Accepted number)) ≡ true =
-        found was_accepted deeds (AtSlot slot call (Accepted number)) refl in
-        let f : list_any was_full (with (Accepted number)) ≡ list_any was_full deeds =
-        kept was_full deeds (AtSlot slot call (Accepted number)) refl in
+        found was_accepted ops (AtSlot slot call (Accepted number)) refl in
+        let f : list_any was_full (with (Accepted number)) ≡ list_any was_full ops =
+        kept was_full ops (AtSlot slot call (Accepted number)) refl in
         let d : list_any was_denied (with (Accepted number)) ≡ false =
-        kept was_denied deeds (AtSlot slot call (Accepted number)) refl ∙ u.denied in
+        kept was_denied ops (AtSlot slot call (Accepted number)) refl ∙ u.denied in
         let g : list_any found_gone (with (Accepted number)) ≡ false =
-        kept found_gone deeds (AtSlot slot call (Accepted number)) refl ∙ u.gone in
+        kept found_gone ops (AtSlot slot call (Accepted number)) refl ∙ u.gone in
         record {
           zero = (λ e. a, λ t. refl);
-          once = once_at_most was_accepted deeds (AtSlot slot call (Accepted number)) u.accepted;
+          once = once_at_most was_accepted ops (AtSlot slot call (Accepted number)) u.accepted;
           again = (λ e. cc, λ t. apart _ t.1 (f ∙ u.full (u.nowait ∙ t.0)));
           denied = (λ e. cc, λ t. apart _ t d);
           removed = (λ e. cc, λ t. apart _ t.0 g);
@@ -318,7 +318,7 @@ module _ (id mtype : ℤ) (flags : Flags) (text : List ℕ) where
           only = inl refl;
         }
 
-    -- One more deed at a look, and at a place.
+    -- One more operation at a look, and at a place.
     look_step : (reply : Reply) (after : State) → next (AtLook send) (AtSlot slot call reply) ≡ Some after →
         SendAt (with reply) after
     look_step Gone after n =
@@ -347,23 +347,23 @@ module _ (id mtype : ℤ) (flags : Flags) (text : List ℕ) where
         let e : Over Zero ≡ after = cc in subst (SendAt (with (Accepted number))) e (placed_right number)
     place_step blocks reply after n = absurd cc
 
-  one_step : (deeds : List Deed) (phase : Phase) (deed : Deed) (after : State) → SendAt deeds (Goes phase) →
-      next phase deed ≡ Some after → SendAt (deeds ++ deed ∷ []) after
-  one_step deeds (AtLook send) (AtSlot slot call reply) after at n = look_step send deeds at slot call reply after n
-  one_step deeds (AtReserve send) (AtPool call reply) after at n = reserve_step send deeds at call reply after n
-  one_step deeds (AtPlace send blocks) (AtSlot slot call reply) after at n =
-      place_step send deeds at slot call blocks reply after n
-  one_step deeds (AtSendGiveback blocks afterwards) (AtPool call reply) after at n =
-      giveback_step deeds blocks afterwards call reply after at n
-  one_step deeds (AtLook send) deed after at n = absurd cc
-  one_step deeds (AtReserve send) deed after at n = absurd cc
-  one_step deeds (AtPlace send blocks) deed after at n = absurd cc
-  one_step deeds (AtSendGiveback blocks afterwards) deed after at n = absurd cc
-  one_step deeds phase deed after at n = absurd at
+  one_step : (ops : List Op) (phase : Phase) (op : Op) (after : State) → SendAt ops (Goes phase) →
+      next phase op ≡ Some after → SendAt (ops ++ op ∷ []) after
+  one_step ops (AtLook send) (AtSlot slot call reply) after at n = look_step send ops at slot call reply after n
+  one_step ops (AtReserve send) (AtPool call reply) after at n = reserve_step send ops at call reply after n
+  one_step ops (AtPlace send blocks) (AtSlot slot call reply) after at n =
+      place_step send ops at slot call blocks reply after n
+  one_step ops (AtSendGiveback blocks afterwards) (AtPool call reply) after at n =
+      giveback_step ops blocks afterwards call reply after at n
+  one_step ops (AtLook send) op after at n = absurd cc
+  one_step ops (AtReserve send) op after at n = absurd cc
+  one_step ops (AtPlace send blocks) op after at n = absurd cc
+  one_step ops (AtSendGiveback blocks afterwards) op after at n = absurd cc
+  one_step ops phase op after at n = absurd at
 
-  started_again : (send : Sending) (released : ℕ) (deeds : List Deed) → UnderWay send deeds →
-      UnderWay (record send { released = released }) deeds
-  started_again send released deeds u =
+  started_again : (send : Sending) (released : ℕ) (ops : List Op) → UnderWay send ops →
+      UnderWay (record send { released = released }) ops
+  started_again send released ops u =
       record {
         allowed = u.allowed;
         nowait = u.nowait;
@@ -374,31 +374,31 @@ module _ (id mtype : ℤ) (flags : Flags) (text : List ℕ) where
         live = u.live;
       }
 
-  one_wait : (deeds : List Deed) (wait : Wait) (value : ℕ) → SendAt deeds (Waits wait) →
-      SendAt deeds (Goes (resume wait value))
-  one_wait deeds (OnFreed goal send) value at = at
-  one_wait deeds (OnReleased goal send) value at = started_again send value deeds at
-  one_wait deeds wait value at = absurd at
+  one_wait : (ops : List Op) (wait : Wait) (value : ℕ) → SendAt ops (Waits wait) →
+      SendAt ops (Goes (resume wait value))
+  one_wait ops (OnFreed goal send) value at = at
+  one_wait ops (OnReleased goal send) value at = started_again send value ops at
+  one_wait ops wait value at = absurd at
 
-  pub send_at : (cred : Cred) (released : ℕ) (deeds : List Deed) (state : State) →
-      Plays (begin cred (Msgsnd id mtype flags text) released) deeds state → SendAt deeds state
+  pub send_at : (cred : Cred) (released : ℕ) (ops : List Op) (state : State) →
+      Plays (begin cred (Msgsnd id mtype flags text) released) ops state → SendAt ops state
   send_at cred released _ _ begins = started cred released (is_refused (Msgsnd id mtype flags text)) refl
-  send_at cred released _ _ (steps {deeds} {phase} deed now after p asked n) =
-      one_step deeds phase deed after (send_at cred released deeds (Goes phase) p) n
-  send_at cred released _ _ (resumes {deeds} {wait} value p least) =
-      one_wait deeds wait value (send_at cred released deeds (Waits wait) p)
+  send_at cred released _ _ (steps {ops} {phase} op now after p asked n) =
+      one_step ops phase op after (send_at cred released ops (Goes phase) p) n
+  send_at cred released _ _ (resumes {ops} {wait} value p least) =
+      one_wait ops wait value (send_at cred released ops (Waits wait) p)
 
-  none_gone : (deeds : List Deed) (phase : Phase) (reply : Reply) (after : State) → SendAt deeds (Goes phase) →
-      next_of_slot phase reply ≡ Some after → list_any found_gone deeds ≡ false
-  none_gone deeds (AtLook send) reply after at n = at.gone
-  none_gone deeds (AtPlace send blocks) reply after at n = at.gone
-  none_gone deeds (AtReserve send) reply after at n = absurd cc
-  none_gone deeds (AtSendGiveback blocks afterwards) reply after at n = absurd cc
-  none_gone deeds phase reply after at n = absurd at
+  none_gone : (ops : List Op) (phase : Phase) (reply : Reply) (after : State) → SendAt ops (Goes phase) →
+      next_of_slot phase reply ≡ Some after → list_any found_gone ops ≡ false
+  none_gone ops (AtLook send) reply after at n = at.gone
+  none_gone ops (AtPlace send blocks) reply after at n = at.gone
+  none_gone ops (AtReserve send) reply after at n = absurd cc
+  none_gone ops (AtSendGiveback blocks afterwards) reply after at n = absurd cc
+  none_gone ops phase reply after at n = absurd at
 
   -- A send that comes to a slot has not found its identifier gone before.
-  pub send_goes_on : (cred : Cred) (released : ℕ) (deeds : List Deed) (phase : Phase) (reply : Reply) (after : State) →
-      Plays (begin cred (Msgsnd id mtype flags text) released) deeds (Goes phase) →
-      next_of_slot phase reply ≡ Some after → list_any found_gone deeds ≡ false
-  send_goes_on cred released deeds phase reply after p n =
-      none_gone deeds phase reply after (send_at cred released deeds (Goes phase) p) n
+  pub send_goes_on : (cred : Cred) (released : ℕ) (ops : List Op) (phase : Phase) (reply : Reply) (after : State) →
+      Plays (begin cred (Msgsnd id mtype flags text) released) ops (Goes phase) →
+      next_of_slot phase reply ≡ Some after → list_any found_gone ops ≡ false
+  send_goes_on cred released ops phase reply after p n =
+      none_gone ops phase reply after (send_at cred released ops (Goes phase) p) n

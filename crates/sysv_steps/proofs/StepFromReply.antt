@@ -3,7 +3,7 @@ use Rattle.std.specs.Prelude.{⊤}
 use Rattle.std.proofs.Common.{◌≡◌, ℕ, ◌+◌, inl, inr, true, false, [], Some, Result, refl, sym, subst, ◌∙◌, arith}
 use Rattle.sysv_model.specs.Pool.{Release}
 use Rattle.sysv_model.specs.Registry.{Forget, Changed}
-use Rattle.sysv_model.specs.Turn.{Ask, Deed, AtRegistry, AtPool, OfPool, OfRegistry, asked_by}
+use Rattle.sysv_model.specs.Turn.{Ask, Op, AtRegistry, AtPool, OfPool, OfRegistry, asked_by}
 use Rattle.sysv_pool.specs.Chain.{Chained}
 use Rattle.sysv_pool.specs.Replies.{release_reply}
 use Rattle.sysv_steps.specs.State.{Phase, State}
@@ -12,14 +12,14 @@ use Rattle.sysv_steps.specs.Next.{next}
 use Rattle.sysv_steps.specs.Stepping.{is_stamped, refused_blocks, StepsOn, TurnsBack, GivesBack}
 use Rattle.sysv_steps.specs.Stepping.{AsksToForget}
 
-module _ {P : Type 0} (takes : P → Deed → P → Type 0) (misses : P → Ask → P → Type 0) where
+module _ {P : Type 0} (takes : P → Op → P → Type 0) (misses : P → Ask → P → Type 0) where
   module _ (may : ℕ → Type 0) (phase : Phase) (before : P) (state : State) (after : P) where
     -- The turn of the step was made.
-    pub stepped : (deed : Deed) (now : ℕ) → (is_stamped phase ≡ true → may now) → asked_by deed ≡ asks phase now →
-        next phase deed ≡ Some state → takes before deed after → refused_blocks deed ≡ 0 →
+    pub stepped : (op : Op) (now : ℕ) → (is_stamped phase ≡ true → may now) → asked_by op ≡ asks phase now →
+        next phase op ≡ Some state → takes before op after → refused_blocks op ≡ 0 →
         (kept : ℕ) → StepsOn takes misses may phase before kept state after kept
-    stepped deed now moment asked goes made none kept = inl (record {
-      deed = deed;
+    stepped op now moment asked goes made none kept = inl (record {
+      op = op;
       now = now;
       moment = moment;
       asked = asked;
@@ -32,7 +32,7 @@ module _ {P : Type 0} (takes : P → Deed → P → Type 0) (misses : P → Ask 
         (kept : ℕ) → TurnsBack takes misses phase there kept [] state after kept →
         StepsOn takes misses may phase before kept state after kept
     met now moment there worn kept back =
-        inr (record { deeds = []; now = now; moment = moment; there = there; worn = worn; back = back })
+        inr (record { ops = []; now = now; moment = moment; there = there; worn = worn; back = back })
 
     -- The step requested the registry to forget an identifier.
     pub forgot : (id : _) → is_stamped phase ≡ false → asks phase 0 ≡ OfRegistry (Forget id) →
@@ -55,7 +55,7 @@ module _ {P : Type 0} (takes : P → Deed → P → Type 0) (misses : P → Ask 
         StepsOn takes misses may phase before kept state after keeps
     given blocks kept keeps unstamped asks_it goes back (inl done) =
         inl (record {
-          deed = AtPool (Release blocks) (release_reply done.0);
+          op = AtPool (Release blocks) (release_reply done.0);
           now = 0;
           moment = λ e. let no : true ≡ false = sym e ∙ unstamped in absurd cc;
           asked = sym asks_it;
@@ -64,7 +64,7 @@ module _ {P : Type 0} (takes : P → Deed → P → Type 0) (misses : P → Ask 
         })
     given blocks kept keeps unstamped asks_it goes back (inr worn) =
         inr (record {
-          deeds = [];
+          ops = [];
           now = 0;
           moment = λ e. let no : true ≡ false = sym e ∙ unstamped in absurd cc;
           there = after;

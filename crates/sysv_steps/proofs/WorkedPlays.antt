@@ -6,7 +6,7 @@ use Rattle.sysv_model.specs.declared.flags.TheConstants.Flags.{IPC_CREAT, IPC_NO
 use Rattle.sysv_model.specs.declared.selector.Selector.TheVariants.{Any}
 use Rattle.sysv_model.specs.History.{Take}
 use Rattle.sysv_model.specs.Registry.{Forget, RegistryReply}
-use Rattle.sysv_model.specs.Turn.{Deed, AtRegistry}
+use Rattle.sysv_model.specs.Turn.{Op, AtRegistry}
 use Rattle.sysv_steps.specs.State.{OnSettled, OnArrived, AtInstall, AtSettle, AtProbe, AtReceiveGiveback, AtForget}
 use Rattle.sysv_steps.specs.State.{AtRemoveGiveback, Id, Zero, Refused, Goes, Waits, Over}
 use Rattle.sysv_steps.specs.Played.{begins, steps, resumes}
@@ -65,10 +65,10 @@ invalid_there : IsInvalid receives (finds_none ∷ finds_it_gone ∷ []) → ⊥
 invalid_there (inl t) = cc
 invalid_there (inr t) = let e = t.1 in cc
 
-alone : (front after : List Deed) (one deed : Deed) → one ∷ [] ≡ front ++ deed ∷ after → one ≡ deed
-alone [] after one deed e = cc
-alone (x ∷ []) after one deed e = absurd cc
-alone (x ∷ y ∷ front) after one deed e = absurd cc
+alone : (front after : List Op) (one op : Op) → one ∷ [] ≡ front ++ op ∷ after → one ≡ op
+alone [] after one op e = cc
+alone (x ∷ []) after one op e = absurd cc
+alone (x ∷ y ∷ front) after one op e = absurd cc
 
 another_goal : WaitsFor (OnArrived 4 waiting) (finds_none ∷ []) → ⊥
 another_goal w =

@@ -7,7 +7,7 @@ use Rattle.std.specs.List.{list_any}
 use Rattle.sysv_model.specs.declared.cred.Cred.{Cred}
 use Rattle.sysv_model.specs.declared.errno.Errno.TheVariants.{EIDRM, EINVAL}
 use Rattle.sysv_model.specs.History.{Call, Gone}
-use Rattle.sysv_model.specs.Turn.{Deed, AtSlot}
+use Rattle.sysv_model.specs.Turn.{Op, AtSlot}
 use Rattle.sysv_steps.specs.Call.{SystemCall, Msgsnd, Msgrcv}
 use Rattle.sysv_steps.specs.State.{Ending, Refused, Over}
 use Rattle.sysv_steps.specs.Begin.{begin}
@@ -20,16 +20,17 @@ SendsOrReceives (Msgsnd id mtype flags text) = Unit {0}
 SendsOrReceives (Msgrcv id size mtype flags) = Unit {0}
 SendsOrReceives asked = ⊥
 
--- What a call that found its identifier gone reports, by its deeds before that one and after it:
--- EIDRM if one of the earlier deeds was at a slot, EINVAL if none was. No later deed is at a slot.
-pub record IsToldOfRemoval (before after : List Deed) (ending : Ending) : Type 0 where
+-- What a call that found its identifier gone reports, by its operations before that one and after
+-- it: EIDRM if one of the earlier operations was at a slot, EINVAL if none was. No later operation
+-- is at a slot.
+pub record IsToldOfRemoval (before after : List Op) (ending : Ending) : Type 0 where
   pub removed : some is_at_slot before → ending ≡ Refused EIDRM
   pub absent : list_any is_at_slot before ≡ false → ending ≡ Refused EINVAL
   pub last : list_any is_at_slot after ≡ false
 
 -- Each send or receive that plays to its end and found its identifier gone reports that.
 abbrev pub EachIsToldOfRemoval : Type 0
-EachIsToldOfRemoval = (cred : Cred) (asked : SystemCall) (released : ℕ) (deeds : List Deed) (ending : Ending) →
-    SendsOrReceives asked → Plays (begin cred asked released) deeds (Over ending) →
-    (before after : List Deed) (slot : ℕ) (call : Call) → deeds ≡ before ++ AtSlot slot call Gone ∷ after →
+EachIsToldOfRemoval = (cred : Cred) (asked : SystemCall) (released : ℕ) (ops : List Op) (ending : Ending) →
+    SendsOrReceives asked → Plays (begin cred asked released) ops (Over ending) →
+    (before after : List Op) (slot : ℕ) (call : Call) → ops ≡ before ++ AtSlot slot call Gone ∷ after →
     IsToldOfRemoval before after ending

@@ -10,7 +10,7 @@ use Rattle.sysv_model.specs.Selector.{selector_for}
 use Rattle.sysv_model.specs.History.{Install, Probe, Look, Place, Take, ReadStat, Set, Remove}
 use Rattle.sysv_model.specs.Registry.{Begin, Settle, Forget}
 use Rattle.sysv_model.specs.Pool.{Reserve, Release}
-use Rattle.sysv_model.specs.Turn.{Ask, OfSlot, OfRegistry, OfPool, Deed, asked_by}
+use Rattle.sysv_model.specs.Turn.{Ask, OfSlot, OfRegistry, OfPool, Op, asked_by}
 use Rattle.sysv_keys.specs.Identifier.{slot_of_id}
 use Rattle.sysv_steps.specs.Call.{SystemCall, Msgget, Msgsnd, Msgrcv, MsgctlStat, MsgctlSet, MsgctlRmid}
 use Rattle.sysv_steps.specs.State.{State}
@@ -43,11 +43,11 @@ AsksFor cred (MsgctlSet id to) ask = ((now : ℕ) × (ask ≡ OfSlot (slot_of_id
 AsksFor cred (MsgctlRmid id) ask =
     (ask ≡ OfSlot (slot_of_id id) (Remove id cred)) ⊎ (ask ≡ OfRegistry (Forget id)) ⊎ GivesBack ask
 
--- The call may make the request of each of these deeds.
-abbrev pub AllAskFor : Cred → SystemCall → List Deed → Type 0
-AllAskFor cred asked deeds = All (λ (deed : Deed). AsksFor cred asked (asked_by deed)) deeds
+-- The call may make the request of each of these operations.
+abbrev pub AllAskFor : Cred → SystemCall → List Op → Type 0
+AllAskFor cred asked ops = All (λ (op : Op). AsksFor cred asked (asked_by op)) ops
 
--- Each deed of a call makes such a request, in every state of the call.
-abbrev pub EachDeedIsAskedFor : Type 0
-EachDeedIsAskedFor = (cred : Cred) (asked : SystemCall) (released : ℕ) (deeds : List Deed) (state : State) →
-    Plays (begin cred asked released) deeds state → AllAskFor cred asked deeds
+-- Each operation of a call makes such a request, in every state of the call.
+abbrev pub EachOpIsAskedFor : Type 0
+EachOpIsAskedFor = (cred : Cred) (asked : SystemCall) (released : ℕ) (ops : List Op) (state : State) →
+    Plays (begin cred asked released) ops state → AllAskFor cred asked ops

@@ -6,7 +6,7 @@ use Rattle.std.specs.Prelude.{◌≡◌, ℕ, ◌+◌, List, [], ◌∷◌, Some
 use Rattle.sysv_model.specs.declared.cred.Cred.{Cred}
 use Rattle.sysv_model.specs.History.{Call, Place, Accepted, Taken, Discarded}
 use Rattle.sysv_model.specs.Pool.{blocks_for, PoolCall, Reserve, Release, Reserved, Released, Foreign}
-use Rattle.sysv_model.specs.Turn.{Deed, AtSlot, AtPool, asked_by}
+use Rattle.sysv_model.specs.Turn.{Op, AtSlot, AtPool, asked_by}
 use Rattle.sysv_queue.specs.Blocks.{blocks_of}
 use Rattle.sysv_steps.specs.Call.{SystemCall}
 use Rattle.sysv_steps.specs.State.{Phase, AtPlace, AtSendGiveback, AtReceiveGiveback, AtForget, AtRemoveGiveback, State}
@@ -25,12 +25,12 @@ held (Goes (AtForget id blocks)) = blocks
 held (Goes (AtRemoveGiveback blocks)) = blocks
 held state = 0
 
--- The number of blocks that the call received by this deed.
-abbrev pub given_by : Deed → ℕ
+-- The number of blocks that the call received by this operation.
+abbrev pub given_by : Op → ℕ
 given_by (AtPool call (Reserved blocks)) = blocks
 given_by (AtSlot slot call (Taken message)) = blocks_for (length message.bytes)
 given_by (AtSlot slot call (Discarded messages)) = blocks_of messages
-given_by deed = 0
+given_by op = 0
 
 -- The number of blocks of the body that the request places.
 abbrev pub placed_by : Call → ℕ
@@ -42,12 +42,12 @@ abbrev pub released_by : PoolCall → ℕ
 released_by (Release blocks) = blocks
 released_by (Reserve size) = 0
 
--- The number of blocks that left the call by this deed.
-abbrev pub left_by : Deed → ℕ
+-- The number of blocks that left the call by this operation.
+abbrev pub left_by : Op → ℕ
 left_by (AtSlot slot call (Accepted number)) = placed_by call
 left_by (AtPool call Released) = released_by call
 left_by (AtPool call Foreign) = released_by call
-left_by deed = 0
+left_by op = 0
 
 -- A send before its place holds the number of blocks that its body needs.
 abbrev pub HasItsBlocks : State → Type 0
@@ -56,25 +56,25 @@ HasItsBlocks state = Unit {0}
 
 -- Each reservation that the pool grants has the number of blocks that a body of the requested size
 -- needs.
-abbrev pub GivesWhatIsAsked : List Deed → Type 0
-GivesWhatIsAsked deeds =
-    (size blocks : ℕ) → Contains deeds (AtPool (Reserve size) (Reserved blocks)) → blocks ≡ blocks_for size
+abbrev pub GivesWhatIsAsked : List Op → Type 0
+GivesWhatIsAsked ops =
+    (size blocks : ℕ) → Contains ops (AtPool (Reserve size) (Reserved blocks)) → blocks ≡ blocks_for size
 
 -- What the call holds and what left it are what it received, and a send before its place has its
 -- blocks.
-pub record HoldsItsBlocks (deeds : List Deed) (state : State) : Type 0 where
-  pub balance : held state + sum_by left_by deeds ≡ sum_by given_by deeds
+pub record HoldsItsBlocks (ops : List Op) (state : State) : Type 0 where
+  pub balance : held state + sum_by left_by ops ≡ sum_by given_by ops
   pub at_place : HasItsBlocks state
 
 -- This holds in each state to which a call plays, if the pool grants what is requested.
 abbrev pub EachHoldsItsBlocks : Type 0
-EachHoldsItsBlocks = (cred : Cred) (asked : SystemCall) (released : ℕ) (deeds : List Deed) (state : State) →
-    Plays (begin cred asked released) deeds state → GivesWhatIsAsked deeds → HoldsItsBlocks deeds state
+EachHoldsItsBlocks = (cred : Cred) (asked : SystemCall) (released : ℕ) (ops : List Op) (state : State) →
+    Plays (begin cred asked released) ops state → GivesWhatIsAsked ops → HoldsItsBlocks ops state
 
 -- It also holds at each step: what the call held before and received is what left it and what it
 -- holds afterwards.
 abbrev pub EachStepKeepsItsBlocks : Type 0
 EachStepKeepsItsBlocks =
-    (phase : Phase) (deed : Deed) (now : ℕ) (after : State) → HasItsBlocks (Goes phase) → GivesWhatIsAsked (deed ∷ []) →
-    asked_by deed ≡ asks phase now → next phase deed ≡ Some after →
-    held after + left_by deed ≡ held (Goes phase) + given_by deed
+    (phase : Phase) (op : Op) (now : ℕ) (after : State) → HasItsBlocks (Goes phase) → GivesWhatIsAsked (op ∷ []) →
+    asked_by op ≡ asks phase now → next phase op ≡ Some after →
+    held after + left_by op ≡ held (Goes phase) + given_by op

@@ -6,7 +6,7 @@ use Rattle.sysv_model.specs.declared.flags.Flags.{Flags}
 use Rattle.sysv_model.specs.declared.flags.TheConstants.Flags.{MSG_NOERROR}
 use Rattle.sysv_model.specs.HasFlag.{has_flag}
 use Rattle.sysv_model.specs.Selector.{selector_for}
-use Rattle.sysv_model.specs.Turn.{Deed}
+use Rattle.sysv_model.specs.Turn.{Op}
 use Rattle.sysv_steps.specs.Call.{SystemCall, Msgget, Msgsnd, Msgrcv, MsgctlStat, MsgctlSet, MsgctlRmid}
 use Rattle.sysv_steps.specs.State.{Getting, Sending, Receiving, Wait, OnSettled, OnFreed, OnReleased, OnArrived}
 use Rattle.sysv_steps.specs.State.{Afterwards, IsRefused, WaitsOn, Phase, AtBegin, AtInstall, AtSettle, AtProbe}
@@ -78,5 +78,5 @@ Holds cred asked (Over ending) = Unit {0}
 
 -- This holds in each state to which a call plays.
 abbrev pub EachHoldsWhatItWasAsked : Type 0
-EachHoldsWhatItWasAsked = (cred : Cred) (asked : SystemCall) (released : ℕ) (deeds : List Deed) (state : State) →
-    Plays (begin cred asked released) deeds state → Holds cred asked state
+EachHoldsWhatItWasAsked = (cred : Cred) (asked : SystemCall) (released : ℕ) (ops : List Op) (state : State) →
+    Plays (begin cred asked released) ops state → Holds cred asked state

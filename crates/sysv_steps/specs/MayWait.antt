@@ -3,7 +3,7 @@
 -- project's profile). A msgctl never waits.
 use Rattle.std.specs.Prelude.{◌≡◌, ℕ, false, List}
 use Rattle.sysv_model.specs.declared.cred.Cred.{Cred}
-use Rattle.sysv_model.specs.Turn.{Deed}
+use Rattle.sysv_model.specs.Turn.{Op}
 use Rattle.sysv_steps.specs.Call.{SystemCall, Msgget, Msgsnd, Msgrcv, MsgctlStat, MsgctlSet, MsgctlRmid}
 use Rattle.sysv_steps.specs.State.{Wait, Waits}
 use Rattle.sysv_steps.specs.Begin.{begin}
@@ -21,5 +21,5 @@ MayWait (MsgctlRmid id) = ⊥
 
 -- Each call that plays to a wait may wait.
 abbrev pub EachWaitsWhereItMay : Type 0
-EachWaitsWhereItMay = (cred : Cred) (asked : SystemCall) (released : ℕ) (deeds : List Deed) (wait : Wait) →
-    Plays (begin cred asked released) deeds (Waits wait) → MayWait asked
+EachWaitsWhereItMay = (cred : Cred) (asked : SystemCall) (released : ℕ) (ops : List Op) (wait : Wait) →
+    Plays (begin cred asked released) ops (Waits wait) → MayWait asked

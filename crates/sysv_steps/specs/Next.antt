@@ -13,7 +13,7 @@ use Rattle.sysv_model.specs.History.{Reply, Installed, Gone, Denied, Granted, Fu
 use Rattle.sysv_model.specs.History.{Taken, Told as TellsStat, Done, Discarded, Refused as IsRefusedFor}
 use Rattle.sysv_model.specs.Registry.{RegistryReply, Found, Made, Busy, Unbound, Changed}
 use Rattle.sysv_model.specs.Pool.{PoolReply, Reserved, TooFew, Released, Foreign, blocks_for}
-use Rattle.sysv_model.specs.Turn.{Deed, AtSlot, AtRegistry, AtPool}
+use Rattle.sysv_model.specs.Turn.{Op, AtSlot, AtRegistry, AtPool}
 use Rattle.sysv_queue.specs.Blocks.{blocks_of}
 use Rattle.sysv_steps.specs.State.{Getting, Sending, Receiving, Wait, OnSettled, OnFreed, OnReleased, OnArrived}
 use Rattle.sysv_steps.specs.State.{Afterwards, IsRefused, WaitsOn, Phase, AtBegin, AtInstall, AtSettle, AtProbe}
@@ -185,8 +185,9 @@ next_of_pool AtSetGiveback reply = after_giveback (Over Zero) reply
 next_of_pool (AtRemoveGiveback blocks) reply = after_giveback (Over Zero) reply
 next_of_pool phase reply = None
 
--- The whole table: the state of a call after this deed, if the deed has a row in this phase.
-abbrev pub next : Phase → Deed → Option State
+-- The whole table: the state of a call after this operation, if the operation has a row in this
+-- phase.
+abbrev pub next : Phase → Op → Option State
 next phase (AtSlot slot call reply) = next_of_slot phase reply
 next phase (AtRegistry call reply) = next_of_registry phase reply
 next phase (AtPool call reply) = next_of_pool phase reply

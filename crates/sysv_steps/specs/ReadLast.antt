@@ -3,7 +3,7 @@
 -- meantime, while the send looked or waited for room, ends the wait.
 use Rattle.std.specs.Prelude.{◌≡◌, ℕ, ◌+◌, List}
 use Rattle.sysv_model.specs.declared.cred.Cred.{Cred}
-use Rattle.sysv_model.specs.Turn.{Deed}
+use Rattle.sysv_model.specs.Turn.{Op}
 use Rattle.sysv_steps.specs.Call.{SystemCall}
 use Rattle.sysv_steps.specs.State.{Sending, Wait, OnReleased, State, Goes, Waits}
 use Rattle.sysv_steps.specs.Begin.{begin}
@@ -15,16 +15,16 @@ read_then (OnReleased goal send) value before = value
 read_then wait value before = before
 
 -- The value that was read last along a play, if the call read `began` at its start.
-abbrev pub read_last : (began : ℕ) (from : State) (deeds : List Deed) (state : State) → Plays from deeds state → ℕ
+abbrev pub read_last : (began : ℕ) (from : State) (ops : List Op) (state : State) → Plays from ops state → ℕ
 read_last began from _ _ begins = began
-read_last began from _ _ (steps {deeds} {phase} deed now after play asked row) =
-    read_last began from deeds (Goes phase) play
-read_last began from _ _ (resumes {deeds} {wait} value play least) =
-    read_then wait value (read_last began from deeds (Waits wait) play)
+read_last began from _ _ (steps {ops} {phase} op now after play asked row) =
+    read_last began from ops (Goes phase) play
+read_last began from _ _ (resumes {ops} {wait} value play least) =
+    read_then wait value (read_last began from ops (Waits wait) play)
 
 -- The goal of each wait for blocks is one more than that value.
 abbrev pub EachWaitsAboveWhatItRead : Type 0
 EachWaitsAboveWhatItRead =
-    (cred : Cred) (asked : SystemCall) (released : ℕ) (deeds : List Deed) (goal : ℕ) (send : Sending) →
-    (play : Plays (begin cred asked released) deeds (Waits (OnReleased goal send))) →
-    goal ≡ read_last released (begin cred asked released) deeds (Waits (OnReleased goal send)) play + 1
+    (cred : Cred) (asked : SystemCall) (released : ℕ) (ops : List Op) (goal : ℕ) (send : Sending) →
+    (play : Plays (begin cred asked released) ops (Waits (OnReleased goal send))) →
+    goal ≡ read_last released (begin cred asked released) ops (Waits (OnReleased goal send)) play + 1

@@ -6,7 +6,7 @@ use Rattle.std.proofs.Common.{inl, inr}
 use Rattle.sysv_model.specs.declared.errno.Errno.TheVariants.{EOVERFLOW, ENOSPC}
 use Rattle.sysv_model.specs.Pool.{Release, Foreign}
 use Rattle.sysv_model.specs.Registry.{Forget, Changed}
-use Rattle.sysv_model.specs.Turn.{Ask, Deed, AtRegistry, AtPool, OfRegistry, OfPool, asked_by}
+use Rattle.sysv_model.specs.Turn.{Ask, Op, AtRegistry, AtPool, OfRegistry, OfPool, asked_by}
 use Rattle.sysv_pool.specs.Chain.{Chained}
 use Rattle.sysv_pool.specs.Replies.{release_reply}
 use Rattle.sysv_steps.specs.State.{IsRefused, Phase, AtInstall, AtUnmake, AtPlace, AtSendGiveback, AtTake}
@@ -29,9 +29,9 @@ no_moment now = ⊥
 
 -- The blocks that remain with the caller after a turn: those of a chain that the pool refused as
 -- foreign.
-abbrev pub refused_blocks : Deed → ℕ
+abbrev pub refused_blocks : Op → ℕ
 refused_blocks (AtPool (Release blocks) Foreign) = blocks
-refused_blocks deed = 0
+refused_blocks op = 0
 
 -- ---- where a gate is worn out
 
@@ -57,47 +57,47 @@ kept_when_worn phase = 0
 
 -- ---- a step
 
-module _ {P : Type 0} (takes : P → Deed → P → Type 0) (misses : P → Ask → P → Type 0) where
+module _ {P : Type 0} (takes : P → Op → P → Type 0) (misses : P → Ask → P → Type 0) where
   -- The turn was made, and a chain that it left is kept.
-  pub record Makes (before : P) (kept : ℕ) (deed : Deed) (after : P) (keeps : ℕ) : Type 0 where
-    pub turn : takes before deed after
-    pub held : keeps ≡ kept + refused_blocks deed
+  pub record Makes (before : P) (kept : ℕ) (op : Op) (after : P) (keeps : ℕ) : Type 0 where
+    pub turn : takes before op after
+    pub held : keeps ≡ kept + refused_blocks op
 
   -- One step of a call: a turn at the object of the step. If the step uses the time, that is one
   -- that the clock may return.
   pub record Steps (may : ℕ → Type 0) (phase : Phase) (before : P) (kept : ℕ) (state : State) (after : P)
       (keeps : ℕ) : Type 0 where
-    pub deed : Deed
+    pub op : Op
     pub now : ℕ
     pub moment : is_stamped phase ≡ true → may now
-    pub asked : asked_by deed ≡ asks phase now
-    pub goes : next phase deed ≡ Some state
-    pub makes : Makes before kept deed after keeps
+    pub asked : asked_by op ≡ asks phase now
+    pub goes : next phase op ≡ Some state
+    pub makes : Makes before kept op after keeps
 
   -- The identifier is forgotten, or the gate of the registry is worn out too and no turn is made.
-  abbrev pub Forgets : ℤ → P → ℕ → List Deed → P → ℕ → Type 0
-  Forgets id before kept deeds after keeps =
-      ((done : Bool) × (deeds ≡ AtRegistry (Forget id) (Changed done) ∷ [])
+  abbrev pub Forgets : ℤ → P → ℕ → List Op → P → ℕ → Type 0
+  Forgets id before kept ops after keeps =
+      ((done : Bool) × (ops ≡ AtRegistry (Forget id) (Changed done) ∷ [])
       × Makes before kept (AtRegistry (Forget id) (Changed done)) after keeps)
-      ⊎ ((deeds ≡ []) × misses before (OfRegistry (Forget id)) after × (keeps ≡ kept))
+      ⊎ ((ops ≡ []) × misses before (OfRegistry (Forget id)) after × (keeps ≡ kept))
 
   -- What a call does after it found the gate of a step worn out. If a queue could not be installed,
   -- its identifier is forgotten.
-  abbrev pub TurnsBack : Phase → P → ℕ → List Deed → State → P → ℕ → Type 0
-  TurnsBack (AtInstall get id) before kept deeds state after keeps =
-      (state ≡ Over (Refused EOVERFLOW)) × Forgets id before kept deeds after keeps
-  TurnsBack phase before kept deeds state after keeps =
-      (state ≡ when_worn phase) × (deeds ≡ []) × (after ≡ before) × (keeps ≡ kept + kept_when_worn phase)
+  abbrev pub TurnsBack : Phase → P → ℕ → List Op → State → P → ℕ → Type 0
+  TurnsBack (AtInstall get id) before kept ops state after keeps =
+      (state ≡ Over (Refused EOVERFLOW)) × Forgets id before kept ops after keeps
+  TurnsBack phase before kept ops state after keeps =
+      (state ≡ when_worn phase) × (ops ≡ []) × (after ≡ before) × (keeps ≡ kept + kept_when_worn phase)
 
   -- A step of a call at a worn-out gate, with the turns that it made at other gates.
   pub record FindsNoTurn (may : ℕ → Type 0) (phase : Phase) (before : P) (kept : ℕ) (state : State) (after : P)
       (keeps : ℕ) : Type 0 where
-    pub deeds : List Deed
+    pub ops : List Op
     pub now : ℕ
     pub moment : is_stamped phase ≡ true → may now
     pub there : P
     pub worn : misses before (asks phase now) there
-    pub back : TurnsBack phase there kept deeds state after keeps
+    pub back : TurnsBack phase there kept ops state after keeps
 
   -- One step of a call, whether or not its gate is worn out.
   abbrev pub StepsOn : (ℕ → Type 0) → Phase → P → ℕ → State → P → ℕ → Type 0
@@ -125,7 +125,7 @@ module _ {P : Type 0} (takes : P → Deed → P → Type 0) (misses : P → Ask 
   pub lifts : (may : ℕ → Type 0) (phase : Phase) (before : P) (kept : ℕ) (state : State) (after : P) (keeps : ℕ) →
       StepsOn no_moment phase before kept state after keeps → StepsOn may phase before kept state after keeps
   lifts may phase before kept state after keeps (inl s) = inl (record {
-    deed = s.deed;
+    op = s.op;
     now = s.now;
     moment = λ e. absurd (s.moment e);
     asked = s.asked;
@@ -133,7 +133,7 @@ module _ {P : Type 0} (takes : P → Deed → P → Type 0) (misses : P → Ask 
     makes = s.makes;
   })
   lifts may phase before kept state after keeps (inr w) = inr (record {
-    deeds = w.deeds;
+    ops = w.ops;
     now = w.now;
     moment = λ e. absurd (w.moment e);
     there = w.there;

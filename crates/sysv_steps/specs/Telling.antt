@@ -1,6 +1,6 @@
 -- What a reply of some kind states about its turn.
 use Rattle.std.proofs.Common.{◌≡◌, ap, subst, ◌∙◌}
-use Rattle.sysv_model.specs.Turn.{Deed, AtSlot, AtRegistry}
+use Rattle.sysv_model.specs.Turn.{Op, AtSlot, AtRegistry}
 use Rattle.sysv_queue.specs.Slot.{Slot}
 use Rattle.sysv_objects.specs.declared.slot.SlotCall.{SlotCall}
 use Rattle.sysv_objects.specs.declared.slot.SlotReply.{SlotReply}
@@ -13,7 +13,7 @@ use Rattle.sysv_objects.specs.SlotTurns.{slot_asked, slot_call, slot_reply, Fits
 use Rattle.sysv_objects.specs.RegistryTurns.{registry_call, registry_reply}
 use Rattle.sysv_objects.specs.Turns.{Takes}
 
-module _ {P : Type 0} (takes : P → Deed → P → Type 0) (before after : P) where
+module _ {P : Type 0} (takes : P → Op → P → Type 0) (before after : P) where
   pub slot_told : (call : SlotCall) (r : ObjectReply) (s reply : SlotReply) → r ≡ told.Slot s → s ≡ reply →
       Takes takes before (called.Slot call) r after →
       (slot : Slot) × takes before (AtSlot (slot_asked call) (slot_call call) (slot_reply slot reply)) after

@@ -12,7 +12,7 @@ use Rattle.sysv_model.specs.History.{Install, Probe, Look, Take, Remove, Install
 use Rattle.sysv_model.specs.History.{Discarded}
 use Rattle.sysv_model.specs.Registry.{Begin, Settle, Forget, Found, Made, Busy, Changed}
 use Rattle.sysv_model.specs.Pool.{Release, Released}
-use Rattle.sysv_model.specs.Turn.{Deed, AtSlot, AtRegistry, AtPool}
+use Rattle.sysv_model.specs.Turn.{Op, AtSlot, AtRegistry, AtPool}
 use Rattle.sysv_steps.specs.Call.{SystemCall, Msgget, Msgsnd, Msgrcv, MsgctlRmid}
 use Rattle.sysv_steps.specs.State.{Getting, Receiving, OnArrived, AtReceiveGiveback, AtForget, Ending, Id, Zero}
 use Rattle.sysv_steps.specs.State.{Refused, State, Goes, Waits, Over}
@@ -27,32 +27,32 @@ use Rattle.sysv_steps.specs.Tended.{IsTended}
 abbrev pub caller : Cred
 caller = record { uid = 1000; gid = 1000; pid = 101 }
 
--- The call of this caller plays these deeds to this state.
-abbrev pub PlaysTo : SystemCall → List Deed → State → Type 0
-PlaysTo asked deeds state = Plays (begin caller asked 0) deeds state
+-- The call of this caller plays these operations to this state.
+abbrev pub PlaysTo : SystemCall → List Op → State → Type 0
+PlaysTo asked ops state = Plays (begin caller asked 0) ops state
 
--- The call of this caller plays these deeds to this end.
-abbrev pub EndsIn : SystemCall → List Deed → Ending → Type 0
-EndsIn asked deeds ending = PlaysTo asked deeds (Over ending)
+-- The call of this caller plays these operations to this end.
+abbrev pub EndsIn : SystemCall → List Op → Ending → Type 0
+EndsIn asked ops ending = PlaysTo asked ops (Over ending)
 
 -- Another call is making the queue of key 7, and the settled count is 4. Later the registry makes
 -- identifier 259 for this call, in slot 3.
 abbrev pub makes : SystemCall
 makes = Msgget (pos 7) IPC_CREAT
 
-abbrev pub finds_it_busy : Deed
+abbrev pub finds_it_busy : Op
 finds_it_busy = AtRegistry (Begin (pos 7) IPC_CREAT) (Busy 4)
 
-abbrev pub is_given_one : Deed
+abbrev pub is_given_one : Op
 is_given_one = AtRegistry (Begin (pos 7) IPC_CREAT) (Made (pos 259))
 
-abbrev pub installs : Deed
+abbrev pub installs : Op
 installs = AtSlot 3 (Install (pos 259) (pos 7) caller 512 90) (Installed true)
 
-abbrev pub settles : Deed
+abbrev pub settles : Op
 settles = AtRegistry (Settle (pos 259)) (Changed true)
 
-abbrev pub is_made : List Deed
+abbrev pub is_made : List Op
 is_made = finds_it_busy ∷ is_given_one ∷ installs ∷ settles ∷ []
 
 abbrev pub making : Getting
@@ -65,27 +65,27 @@ new_alone = record { 0 = 1536 }
 abbrev pub wants_a_new_one : SystemCall
 wants_a_new_one = Msgget (pos 7) new_alone
 
-abbrev pub finds_one : Deed
+abbrev pub finds_one : Op
 finds_one = AtRegistry (Begin (pos 7) new_alone) (Found (pos 259) 5)
 
-abbrev pub is_denied : Deed
+abbrev pub is_denied : Op
 is_denied = AtSlot 3 (Probe (pos 259) caller new_alone) Denied
 
-abbrev pub is_there : List Deed
+abbrev pub is_there : List Op
 is_there = finds_one ∷ is_denied ∷ []
 
 -- No message is queued, two have arrived, and then the queue is removed.
 abbrev pub receives : SystemCall
 receives = Msgrcv (pos 259) 9 (pos 0) MSG_NOERROR
 
-abbrev pub finds_none : Deed
+abbrev pub finds_none : Op
 finds_none = AtSlot 3 (Take (pos 259) caller Any 9 true 90) (NoMatch 2)
 
-abbrev pub finds_it_gone : Deed
+abbrev pub finds_it_gone : Op
 finds_it_gone = AtSlot 3 (Take (pos 259) caller Any 9 true 91) Gone
 
 -- Instead, a message of one byte is queued.
-abbrev pub takes_it : Deed
+abbrev pub takes_it : Op
 takes_it = AtSlot 3 (Take (pos 259) caller Any 9 true 90)
     (Taken record { number = 0; sender = 101; mtype = pos 5; bytes = 104 ∷ [] })
 
@@ -96,7 +96,7 @@ waiting = record { cred = caller; id = pos 259; selector = Any; size = 9; noerro
 abbrev pub sends : Flags → SystemCall
 sends flags = Msgsnd (pos 259) (pos 5) flags (104 ∷ [])
 
-abbrev pub finds_it_full : Deed
+abbrev pub finds_it_full : Op
 finds_it_full = AtSlot 3 (Look (pos 259) caller 1) (Full 6)
 
 -- One message of one byte is discarded, then the identifier is forgotten, and then its block is
@@ -104,14 +104,14 @@ finds_it_full = AtSlot 3 (Look (pos 259) caller 1) (Full 6)
 abbrev pub removes : SystemCall
 removes = MsgctlRmid (pos 259)
 
-abbrev pub discards : Deed
+abbrev pub discards : Op
 discards = AtSlot 3 (Remove (pos 259) caller)
     (Discarded (record { number = 0; sender = 101; mtype = pos 5; bytes = 104 ∷ [] } ∷ []))
 
-abbrev pub forgets : Deed
+abbrev pub forgets : Op
 forgets = AtRegistry (Forget (pos 259)) (Changed true)
 
-abbrev pub releases : Deed
+abbrev pub releases : Op
 releases = AtPool (Release 1) Released
 
 -- What these calls can end with, and what they cannot.

@@ -2,7 +2,7 @@
 
 ghost use Rattle.sysv_steps.specs.AfterRemoval.{EachIsToldOfRemoval};
 ghost use Rattle.sysv_steps.specs.Answers.{EachAnswerIsRight};
-ghost use Rattle.sysv_steps.specs.AsksFor.{EachDeedIsAskedFor};
+ghost use Rattle.sysv_steps.specs.AsksFor.{EachOpIsAskedFor};
 ghost use Rattle.sysv_steps.specs.Effects.{EachHasOneEffect};
 ghost use Rattle.sysv_steps.specs.HeldBlocks.{EachHoldsItsBlocks, EachStepKeepsItsBlocks};
 ghost use Rattle.sysv_steps.specs.HoldsAsked.{EachHoldsWhatItWasAsked};
@@ -70,8 +70,8 @@ pub fn each_holds_what_it_was_asked()
 {}
 
 /// States that each turn of a call requests what the arguments of the call name, and nothing else.
-pub fn each_deed_is_asked_for()
-    ensures { EachDeedIsAskedFor }
+pub fn each_op_is_asked_for()
+    ensures { EachOpIsAskedFor }
 {}
 
 /// States that the same call with the same turns has one result, whatever the released count was at

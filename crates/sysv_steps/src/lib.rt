@@ -23,8 +23,8 @@ pub use call::Call;
 pub use clock::Clock;
 pub use get::{GetState, GetStep, GetWait, Getting, get_step};
 pub use laws::{
-    after_removal, each_answer_is_right, each_deed_is_asked_for, each_has_one_effect,
-    each_holds_its_blocks, each_holds_what_it_was_asked, each_is_tended, one_answer,
+    after_removal, each_answer_is_right, each_has_one_effect, each_holds_its_blocks,
+    each_holds_what_it_was_asked, each_is_tended, each_op_is_asked_for, one_answer,
     waits_above_what_it_read, waits_for_its_refusal, waits_where_it_may, worked_plays,
 };
 pub use outcome::Outcome;

@@ -17,7 +17,7 @@ use Rattle.sysv_keys.specs.Identifier.{slot_of_id}
 use Rattle.sysv_keys.specs.Rows.{Row, IsRow}
 use Rattle.sysv_steps.specs.State.{State, Goes, Waits, Over}
 use Rattle.sysv_steps.specs.Tended.{HasToSettle, HasToForget}
-use Rattle.sysv_core.specs.World.{World, Started, Doing, doing_in, opening}
+use Rattle.sysv_core.specs.World.{World, Invocation, Doing, doing_in, opening}
 use Rattle.sysv_core.specs.Conserved.{blocks_waiting, blocks_in_call, blocks_in_calls}
 use Rattle.sysv_core.specs.Tending.{IsTended}
 use Rattle.sysv_model.specs.Turns.{turns_of}
@@ -33,7 +33,7 @@ use Rattle.sysv_thread_laws.proofs.LegalWhoever.{Acts, held_alike, free_alike, r
 
 same_acts : (rs : List Renamed) → Acts (map renamed_turn rs) (turns_of (map (λ (r : Renamed). r.turn) rs))
 same_acts [] = refl
-same_acts (r ∷ rs) = ap (λ ds. r.turn.deed ∷ ds) (same_acts rs)
+same_acts (r ∷ rs) = ap (λ ds. r.turn.op ∷ ds) (same_acts rs)
 
 -- ---- no block is with a call
 
@@ -58,7 +58,7 @@ no_blocks start (c ∷ cs) rest =
 
 -- ---- no row is tended
 
-no_tender : (call : Started) (state : State) (d : Doing) (id : ℤ) → Rests state → doing_in call state ≡ Some d →
+no_tender : (call : Invocation) (state : State) (d : Doing) (id : ℤ) → Rests state → doing_in call state ≡ Some d →
     ¬ (HasToSettle d.state id ⊎ HasToForget d.state id)
 no_tender call (Goes phase) d id r is t = absurd r
 no_tender call (Waits wait) d id r is (inl t) =
@@ -131,13 +131,14 @@ pub orders_at_rest : EveryOrderIsARun → OrdersAtRest
 orders_at_rest law generation blocks order calls legal all rest =
     let r = law generation blocks order calls legal all in
     let same : Acts r.world.turns (turns_of order) =
-    ap (map (λ (t : Turn). t.deed)) (sym r.turns.in_world)
-    ∙ (same_acts r.turns.renamed ∙ ap (λ ts. map (λ (t : Turn). t.deed) (turns_of ts)) r.turns.in_order) in
+    ap (map (λ (t : Turn). t.op)) (sym r.turns.in_world)
+    ∙ (same_acts r.turns.renamed ∙ ap (λ ts. map (λ (t : Turn). t.op) (turns_of ts)) r.turns.in_order) in
     let at_each : (place : ℕ) (c : Called) → slice_get calls place ≡ Some c → Rests c.state =
     λ place c there.
     subst (λ (x : Called). Rests x.state) (get_or_from_slice_get calls place c c there)
     (rest place c (slice_get_within calls place c there)) in
-    let opened = (leads_opened (opening (opening_for generation blocks calls)) r.world r.moments r.given r.leads).0 in
+    let opened =
+    (leads_opened (opening (opening_for generation blocks calls)) r.world r.moments r.responses r.leads).0 in
     record {
       whole = all_back blocks (turns_of order) r.world calls same r.standing at_each r.obeys.objects.conserved.whole;
       rows = λ row is. settled_row blocks (turns_of order) r.world calls same r.standing at_each row

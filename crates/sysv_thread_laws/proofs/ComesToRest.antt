@@ -6,13 +6,13 @@ use Rattle.std.proofs.lemmas.List.{append-nil}
 use Rattle.std.proofs.lemmas.List.Elements.{All-contains}
 use Rattle.sysv_model.specs.declared.limits.TheConstants.{WORN}
 use Rattle.sysv_model.specs.History.{Actor}
-use Rattle.sysv_model.specs.Turn.{Deed, deeds_of}
+use Rattle.sysv_model.specs.Turn.{Op, ops_of}
 use Rattle.sysv_steps.specs.State.{Phase, AtBegin, AtInstall, AtSettle, AtProbe, AtUnmake, AtLook, AtReserve, AtPlace}
 use Rattle.sysv_steps.specs.State.{AtSendGiveback, AtTake, AtReceiveGiveback, AtStat, AtSet, AtSetGiveback, AtRemove}
 use Rattle.sysv_steps.specs.State.{AtForget, AtRemoveGiveback, State, Goes, Waits, Over}
 use Rattle.sysv_steps.specs.Played.{Plays}
 use Rattle.sysv_core.specs.declared.event.Event.TheVariants as event
-use Rattle.sysv_core.specs.World.{World, Started, Doing, Given, Happening, Step, opening, given_in}
+use Rattle.sysv_core.specs.World.{World, Invocation, Doing, Response, Happening, Step, opening, response_in}
 use Rattle.sysv_core.specs.World.{in_state, with_turn, begun, Turns, StepsAt, Makes}
 use Rattle.sysv_core.specs.Run.{Leads}
 use Rattle.sysv_core.specs.Sound.{IsSound, OpensSound, StaysSound}
@@ -45,25 +45,26 @@ some_left (AtRemoveGiveback blocks) = omega arith
 
 -- ---- one step after another
 
-leads_sound : StaysSound → (w after : World) (xs : List Happening) (given : List Given) → IsSound w →
-    Leads w xs given after → IsSound after
-leads_sound stays w after [] given s l = subst IsSound (sym l.1) s
-leads_sound stays w after (x ∷ xs) given s l =
+leads_sound : StaysSound → (w after : World) (xs : List Happening) (responses : List Response) → IsSound w →
+    Leads w xs responses after → IsSound after
+leads_sound stays w after [] responses s l = subst IsSound (sym l.1) s
+leads_sound stays w after (x ∷ xs) responses s l =
     leads_sound stays l.0 after xs l.2 (stays w l.0 x l.1 s l.3) l.4
 
-module _ (place : ℕ) (call : Started) where
+module _ (place : ℕ) (call : Invocation) where
   abbrev Stands : World → State → Type 0
   Stands w state = slice_get w.actors place ≡ Some (Some record { call = call; state = state })
 
   -- The call rests after the one step, or goes on from there.
-  after_turn : (w after : World) (phase : Phase) (now : ℕ) (times : List ℕ) (deed : Deed) (one : List Given)
-      (state : State) → Stands w (Goes phase) → Makes w (Step (suc place) now) one after → one ≡ given_in call state →
-      after ≡ in_state (with_turn w call.who deed) (suc place) call state →
+  after_turn : (w after : World) (phase : Phase) (now : ℕ) (times : List ℕ) (op : Op) (one : List Response)
+      (state : State) → Stands w (Goes phase) → Makes w (Step (suc place) now) one after →
+      one ≡ response_in call state →
+      after ≡ in_state (with_turn w call.who op) (suc place) call state →
       IsLess (left_at phase) (most_at phase) state →
       ((on : Phase) → state ≡ Goes on → Stands after (Goes on) →
       ComesToRest after (suc place) call (left_at on) times) →
       ComesToRest w (suc place) call (left_at phase) (now ∷ times)
-  after_turn w after phase now times deed one (Goes on) there makes gave is less again =
+  after_turn w after phase now times op one (Goes on) there makes gave is less again =
       let stands : Stands after (Goes on) =
       subst (λ (v : World). Stands v (Goes on)) (sym is)
       (get_set_same w.actors place (Some record { call = call; state = Goes on })
@@ -74,15 +75,15 @@ module _ (place : ℕ) (call : Started) where
       record {
         count = suc r.count;
         few = omega (arith, few, fewer);
-        given = r.given;
+        responses = r.responses;
         after = r.after;
-        leads = (after, one, r.given, makes, r.leads, sym (ap (λ gs. gs ++ r.given) gave));
+        leads = (after, one, r.responses, makes, r.leads, sym (ap (λ gs. gs ++ r.responses) gave));
         rests = r.rests;
       }
-  after_turn w after phase now times deed one (Waits wait) there makes gave is less again = record {
+  after_turn w after phase now times op one (Waits wait) there makes gave is less again = record {
     count = 1;
     few = some_left phase;
-    given = one;
+    responses = one;
     after = after;
     leads = (after, one, [], makes, (refl, refl), sym (append-nil one));
     rests = inr (
@@ -92,10 +93,10 @@ module _ (place : ℕ) (call : Started) where
           (Some record { call = call; state = Goes phase }) there),
     );
   }
-  after_turn w after phase now times deed one (Over ending) there makes gave is less again = record {
+  after_turn w after phase now times op one (Over ending) there makes gave is less again = record {
     count = 1;
     few = some_left phase;
-    given = one;
+    responses = one;
     after = after;
     leads = (after, one, [], makes, (refl, refl), sym (append-nil one));
     rests = inl (
@@ -105,7 +106,7 @@ module _ (place : ℕ) (call : Started) where
   }
 
   -- The step is a turn, since the world is not worn out.
-  turned : (w after : World) (one : List Given) (phase : Phase) (now : ℕ) → Stands w (Goes phase) →
+  turned : (w after : World) (one : List Response) (phase : Phase) (now : ℕ) → Stands w (Goes phase) →
       w.steps + left_at phase ≤ WORN → Makes w (Step (suc place) now) one after →
       Turns w (suc place) call phase now one after
   turned w after one phase now there young (inl worn) =
@@ -138,36 +139,36 @@ its_state (Goes phase) state e = cc
 its_state (Waits wait) state e = cc
 its_state (Over ending) state e = absurd cc
 
-plays_there : (w : World) (given : List Given) (place start : ℕ) (d : Doing) → Fate w given d.call →
+plays_there : (w : World) (responses : List Response) (place start : ℕ) (d : Doing) → Fate w responses d.call →
     d.call.who ≡ Actor (suc place) start → slice_get w.actors place ≡ Some (Some d) →
-    Plays (begun d.call) (deeds_of d.call.who w.turns) d.state
-plays_there w given place start d fate who there =
+    Plays (begun d.call) (ops_of d.call.who w.turns) d.state
+plays_there w responses place start d fate who there =
     let named : standing_of d.call.who w.actors ≡ Some d.state =
     at_actor d.call.who place start w.actors who
     ∙ (ap (stands_in d.call.who) there
     ∙ ap (λ b. cond b (Some d.state) None) (same_itself place start d.call.who who)) in
-    subst (Plays (begun d.call) (deeds_of d.call.who w.turns)) (its_state fate.state d.state (sym fate.stands ∙ named))
+    subst (Plays (begun d.call) (ops_of d.call.who w.turns)) (its_state fate.state d.state (sym fate.stands ∙ named))
     fate.plays
 
 pub comes_to_rest : OpensSound → StaysSound → SomeStep → EveryRunObeys → EachCallComesToRest
-comes_to_rest opens stays some law o list given w led zero d phase there is young times long = absurd cc
-comes_to_rest opens stays some law o list given w led (suc place) d phase there is young times long =
-    let lawful = (law o list given w led).lawful in
+comes_to_rest opens stays some law o list responses w led zero d phase there is young times long = absurd cc
+comes_to_rest opens stays some law o list responses w led (suc place) d phase there is young times long =
+    let lawful = (law o list responses w led).lawful in
     let own = lawful.calls.under_way place d there in
-    let fate : Fate w given d.call = All-contains (Fate w given) w.calls d.call lawful.calls.fates own.0 in
-    let play = plays_there w given place own.1.0 d fate own.1.1 there in
+    let fate : Fate w responses d.call = All-contains (Fate w responses) w.calls d.call lawful.calls.fates own.0 in
+    let play = plays_there w responses place own.1.0 d fate own.1.1 there in
     let left : left_at phase ≤ most_turns d.call.asked =
     subst (λ st. left_in st ≤ most_turns d.call.asked) is
-    (left_few d.call.cred d.call.asked d.call.released (deeds_of d.call.who w.turns) d.state play) in
+    (left_few d.call.cred d.call.asked d.call.released (ops_of d.call.who w.turns) d.state play) in
     let here : slice_get w.actors place ≡ Some (Some record { call = d.call; state = Goes phase }) =
     there ∙ ap (λ st. Some (Some record { call = d.call; state = st })) is in
-    let r = reach place d.call some times w phase (leads_sound stays (opening o) w list given (opens o) led) here
+    let r = reach place d.call some times w phase (leads_sound stays (opening o) w list responses (opens o) led) here
     (omega (arith, left, long)) (omega (arith, left, young)) in
     let few = r.few in
     record {
       count = r.count;
       few = omega (arith, few, left);
-      given = r.given;
+      responses = r.responses;
       after = r.after;
       leads = r.leads;
       rests = r.rests;

@@ -8,7 +8,7 @@ use Rattle.sysv_model.specs.History.{Reply, Installed, Gone, Denied, Granted, Fu
 use Rattle.sysv_model.specs.History.{Taken, Told, Done, Discarded, Refused as IsRefusedFor}
 use Rattle.sysv_model.specs.Registry.{RegistryReply, Found, Made, Busy, Unbound, Changed}
 use Rattle.sysv_model.specs.Pool.{PoolReply, Reserved, TooFew, Released, Foreign}
-use Rattle.sysv_model.specs.Turn.{Deed, AtSlot, AtRegistry, AtPool}
+use Rattle.sysv_model.specs.Turn.{Op, AtSlot, AtRegistry, AtPool}
 use Rattle.sysv_steps.specs.Call.{SystemCall, Msgget, Msgsnd, Msgrcv, MsgctlStat, MsgctlSet, MsgctlRmid}
 use Rattle.sysv_steps.specs.State.{Getting, Sending, Receiving, Wait, OnSettled, OnFreed, OnReleased, OnArrived}
 use Rattle.sysv_steps.specs.State.{Afterwards, IsRefused, WaitsOn, Phase, AtBegin, AtInstall, AtSettle, AtProbe}
@@ -193,7 +193,7 @@ giveback_less most follow Released less = less
 giveback_less most follow Foreign less = less
 giveback_less most follow reply less = tt
 
-next_less : (phase : Phase) (deed : Deed) → IsLessIf (left_at phase) (most_at phase) (next phase deed)
+next_less : (phase : Phase) (op : Op) → IsLessIf (left_at phase) (most_at phase) (next phase op)
 next_less (AtBegin get) (AtRegistry call reply) = begin_less get reply
 next_less (AtInstall get id) (AtSlot slot call reply) = install_less id reply
 next_less (AtSettle id) (AtRegistry call reply) = settle_less id reply
@@ -215,11 +215,11 @@ next_less (AtRemove cred id) (AtSlot slot call reply) = remove_less id reply
 next_less (AtForget id blocks) (AtRegistry call reply) = forget_less blocks reply
 next_less (AtRemoveGiveback blocks) (AtPool call reply) =
     giveback_less 3 (Over Zero) reply (record { fewer = omega arith; kept = omega arith })
-next_less phase deed = tt
+next_less phase op = tt
 
-pub goes_less : (phase : Phase) (deed : Deed) (state : State) → next phase deed ≡ Some state →
+pub goes_less : (phase : Phase) (op : Op) (state : State) → next phase op ≡ Some state →
     IsLess (left_at phase) (most_at phase) state
-goes_less phase deed state row = subst (IsLessIf (left_at phase) (most_at phase)) row (next_less phase deed)
+goes_less phase op state row = subst (IsLessIf (left_at phase) (most_at phase)) row (next_less phase op)
 
 -- ---- where the call is
 
@@ -283,24 +283,24 @@ step_within asked made phase state less within =
 -- ---- along the step table
 
 module _ (cred : Cred) (asked : SystemCall) (released : ℕ) where
-  within : (deeds : List Deed) (state : State) (play : Plays (begin cred asked released) deeds state) →
-      IsWithin asked (turns_since (begin cred asked released) deeds state play) state
+  within : (ops : List Op) (state : State) (play : Plays (begin cred asked released) ops state) →
+      IsWithin asked (turns_since (begin cred asked released) ops state play) state
   within _ _ begins = begun_within cred asked released (is_refused asked)
-  within _ _ (steps {deeds} {phase} deed now after play is row) =
-      step_within asked (turns_since (begin cred asked released) deeds (Goes phase) play) phase after
-      (goes_less phase deed after row) (within deeds (Goes phase) play)
-  within _ _ (resumes {deeds} {wait} value play least) =
-      resumed_within asked (turns_since (begin cred asked released) deeds (Waits wait) play) wait value
-      (within deeds (Waits wait) play)
+  within _ _ (steps {ops} {phase} op now after play is row) =
+      step_within asked (turns_since (begin cred asked released) ops (Goes phase) play) phase after
+      (goes_less phase op after row) (within ops (Goes phase) play)
+  within _ _ (resumes {ops} {wait} value play least) =
+      resumed_within asked (turns_since (begin cred asked released) ops (Waits wait) play) wait value
+      (within ops (Waits wait) play)
 
   -- The steps that are left are few, too.
-  pub left_few : (deeds : List Deed) (state : State) → Plays (begin cred asked released) deeds state →
+  pub left_few : (ops : List Op) (state : State) → Plays (begin cred asked released) ops state →
       left_in state ≤ most_turns asked
-  left_few deeds state play = let few = (within deeds state play).few in omega (arith, few)
+  left_few ops state play = let few = (within ops state play).few in omega (arith, few)
 
 pub few_turns : EachCallMakesFewTurns
-few_turns cred asked released deeds state play =
-    let few = (within cred asked released deeds state play).few in omega (arith, few)
+few_turns cred asked released ops state play =
+    let few = (within cred asked released ops state play).few in omega (arith, few)
 
 -- ---- on threads
 
@@ -334,29 +334,29 @@ worn_less (AtRemoveGiveback blocks) = record { fewer = omega arith; kept = omega
 as_when_worn : (phase : Phase) (state : State) → state ≡ when_worn phase → IsLessWorn phase state
 as_when_worn phase state is = subst (IsLessWorn phase) (sym is) (worn_less phase)
 
-back_less : (phase : Phase) (before : Pass) (deeds : List Deed) (state : State) (after : Pass) →
-    TurnsBack phase before deeds state after → IsLessWorn phase state
-back_less (AtInstall get id) before deeds state after back =
+back_less : (phase : Phase) (before : Pass) (ops : List Op) (state : State) (after : Pass) →
+    TurnsBack phase before ops state after → IsLessWorn phase state
+back_less (AtInstall get id) before ops state after back =
     subst (IsLessWorn (AtInstall get id)) (sym back.0) (record { fewer = omega arith; kept = omega arith })
-back_less (AtBegin get) before deeds state after back = as_when_worn (AtBegin get) state back.0
-back_less (AtSettle id) before deeds state after back = as_when_worn (AtSettle id) state back.0
-back_less (AtProbe get id settled) before deeds state after back =
+back_less (AtBegin get) before ops state after back = as_when_worn (AtBegin get) state back.0
+back_less (AtSettle id) before ops state after back = as_when_worn (AtSettle id) state back.0
+back_less (AtProbe get id settled) before ops state after back =
     as_when_worn (AtProbe get id settled) state back.0
-back_less (AtUnmake id) before deeds state after back = as_when_worn (AtUnmake id) state back.0
-back_less (AtLook send) before deeds state after back = as_when_worn (AtLook send) state back.0
-back_less (AtReserve send) before deeds state after back = as_when_worn (AtReserve send) state back.0
-back_less (AtPlace send blocks) before deeds state after back = as_when_worn (AtPlace send blocks) state back.0
-back_less (AtSendGiveback blocks afterwards) before deeds state after back =
+back_less (AtUnmake id) before ops state after back = as_when_worn (AtUnmake id) state back.0
+back_less (AtLook send) before ops state after back = as_when_worn (AtLook send) state back.0
+back_less (AtReserve send) before ops state after back = as_when_worn (AtReserve send) state back.0
+back_less (AtPlace send blocks) before ops state after back = as_when_worn (AtPlace send blocks) state back.0
+back_less (AtSendGiveback blocks afterwards) before ops state after back =
     as_when_worn (AtSendGiveback blocks afterwards) state back.0
-back_less (AtTake receive) before deeds state after back = as_when_worn (AtTake receive) state back.0
-back_less (AtReceiveGiveback blocks mtype text) before deeds state after back =
+back_less (AtTake receive) before ops state after back = as_when_worn (AtTake receive) state back.0
+back_less (AtReceiveGiveback blocks mtype text) before ops state after back =
     as_when_worn (AtReceiveGiveback blocks mtype text) state back.0
-back_less (AtStat cred id) before deeds state after back = as_when_worn (AtStat cred id) state back.0
-back_less (AtSet cred id to) before deeds state after back = as_when_worn (AtSet cred id to) state back.0
-back_less AtSetGiveback before deeds state after back = as_when_worn AtSetGiveback state back.0
-back_less (AtRemove cred id) before deeds state after back = as_when_worn (AtRemove cred id) state back.0
-back_less (AtForget id blocks) before deeds state after back = as_when_worn (AtForget id blocks) state back.0
-back_less (AtRemoveGiveback blocks) before deeds state after back =
+back_less (AtStat cred id) before ops state after back = as_when_worn (AtStat cred id) state back.0
+back_less (AtSet cred id to) before ops state after back = as_when_worn (AtSet cred id to) state back.0
+back_less AtSetGiveback before ops state after back = as_when_worn AtSetGiveback state back.0
+back_less (AtRemove cred id) before ops state after back = as_when_worn (AtRemove cred id) state back.0
+back_less (AtForget id blocks) before ops state after back = as_when_worn (AtForget id blocks) state back.0
+back_less (AtRemoveGiveback blocks) before ops state after back =
     as_when_worn (AtRemoveGiveback blocks) state back.0
 
 worn_within : (asked : SystemCall) (made : ℕ) (phase : Phase) (state : State) → IsLessWorn phase state →
@@ -372,23 +372,23 @@ module _ (may : ℕ → Type 0) (cred : Cred) (asked : SystemCall) (released : �
   abbrev from : State
   from = begin cred asked released
 
-  run_within : (deeds : List Deed) (state : State) (new : Pass) (run : Ran may from old deeds state new) →
-      IsWithin asked (gates_since may from old deeds state new run) state
+  run_within : (ops : List Op) (state : State) (new : Pass) (run : Ran may from old ops state new) →
+      IsWithin asked (gates_since may from old ops state new run) state
   run_within _ _ _ ran.begins = begun_within cred asked released (is_refused asked)
-  run_within _ _ _ (ran.steps {deeds} {phase} {mid} state new run step) =
-      step_within asked (gates_since may from old deeds (Goes phase) mid run) phase state
-      (goes_less phase step.deed state step.goes) (run_within deeds (Goes phase) mid run)
-  run_within _ _ _ (ran.turns_back {deeds} {phase} {mid} state new run step) =
-      worn_within asked (gates_since may from old deeds (Goes phase) mid run) phase state
-      (back_less phase (record { seats = step.there; held = mid.held }) step.deeds state new step.back)
-      (run_within deeds (Goes phase) mid run)
-  run_within _ _ _ (ran.reads {deeds} {state} {mid} count value new run read same) = run_within deeds state mid run
-  run_within _ _ _ (ran.resumes {deeds} {wait} {mid} value new run reached read same) =
-      resumed_within asked (gates_since may from old deeds (Waits wait) mid run) wait value
-      (run_within deeds (Waits wait) mid run)
-  run_within _ _ _ (ran.gives_up {deeds} {wait} {mid} value new run below read same) =
+  run_within _ _ _ (ran.steps {ops} {phase} {mid} state new run step) =
+      step_within asked (gates_since may from old ops (Goes phase) mid run) phase state
+      (goes_less phase step.op state step.goes) (run_within ops (Goes phase) mid run)
+  run_within _ _ _ (ran.turns_back {ops} {phase} {mid} state new run step) =
+      worn_within asked (gates_since may from old ops (Goes phase) mid run) phase state
+      (back_less phase (record { seats = step.there; held = mid.held }) step.ops state new step.back)
+      (run_within ops (Goes phase) mid run)
+  run_within _ _ _ (ran.reads {ops} {state} {mid} count value new run read same) = run_within ops state mid run
+  run_within _ _ _ (ran.resumes {ops} {wait} {mid} value new run reached read same) =
+      resumed_within asked (gates_since may from old ops (Waits wait) mid run) wait value
+      (run_within ops (Waits wait) mid run)
+  run_within _ _ _ (ran.gives_up {ops} {wait} {mid} value new run below read same) =
       record { few = omega arith; kept = omega arith }
 
 pub few_gates : (may : ℕ → Type 0) → EachCallComesToFewGates may
-few_gates may cred asked released old deeds state new run =
-    let few = (run_within may cred asked released old deeds state new run).few in omega (arith, few)
+few_gates may cred asked released old ops state new run =
+    let few = (run_within may cred asked released old ops state new run).few in omega (arith, few)

@@ -15,7 +15,7 @@ use Rattle.sysv_model.specs.Waiting.{has_number, waiting, waiting_on, held}
 use Rattle.sysv_model.specs.Registry.{RegistryCall, RegistryReply, RegistryEntry, RegistryHistory}
 use Rattle.sysv_model.specs.Registry.{changes_row}
 use Rattle.sysv_model.specs.Pool.{PoolCall, PoolReply, PoolEntry, PoolHistory, frees as frees_blocks, released}
-use Rattle.sysv_model.specs.Turn.{Deed, AtSlot, AtRegistry, AtPool, Turn, slot_entry, registry_entry, pool_entry}
+use Rattle.sysv_model.specs.Turn.{Op, AtSlot, AtRegistry, AtPool, Turn, slot_entry, registry_entry, pool_entry}
 use Rattle.sysv_model.specs.Turn.{slot_history, registry_history, pool_history}
 use Rattle.sysv_pool.specs.State.{State, free_after, state_of, reserved_by, returned_by, reserved, returned}
 use Rattle.sysv_pool.specs.LegalReply.{Legal as LegalInPool}
@@ -25,7 +25,7 @@ use Rattle.sysv_keys.specs.declared.registry.Place.{Place}
 use Rattle.sysv_keys.specs.State.{State as Registry, places_after, opened, state_of as registry_of}
 use Rattle.sysv_keys.specs.Rows.{Row, HasRow, IsRow}
 use Rattle.sysv_keys.specs.LegalReply.{Legal as LegalAtRegistry}
-use Rattle.sysv_objects.specs.LegalDeed.{IsLegalDeed}
+use Rattle.sysv_objects.specs.LegalOp.{IsLegalOp}
 
 -- ---- what reads no more than a part of each element
 
@@ -69,7 +69,7 @@ module _ {E A : Type 0} (part : E → A) where
 -- ---- what was done, without who did it
 
 abbrev pub Acts : List Turn → List Turn → Type 0
-Acts turns others = map (λ (t : Turn). t.deed) turns ≡ map (λ (t : Turn). t.deed) others
+Acts turns others = map (λ (t : Turn). t.op) turns ≡ map (λ (t : Turn). t.op) others
 
 abbrev in_slot : Entry → Call × Reply
 in_slot e = (e.call, e.reply)
@@ -80,8 +80,8 @@ in_registry e = (e.call, e.reply)
 abbrev in_pool : PoolEntry → PoolCall × PoolReply
 in_pool e = (e.call, e.reply)
 
-slot_entry_alike : (slot : ℕ) (who other : Who) (deed : Deed) →
-    map in_slot (slot_entry slot who deed) ≡ map in_slot (slot_entry slot other deed)
+slot_entry_alike : (slot : ℕ) (who other : Who) (op : Op) →
+    map in_slot (slot_entry slot who op) ≡ map in_slot (slot_entry slot other op)
 slot_entry_alike slot who other (AtSlot at call reply) = by_test (at == slot)
   where
     by_test : (b : Bool) →
@@ -92,35 +92,35 @@ slot_entry_alike slot who other (AtSlot at call reply) = by_test (at == slot)
 slot_entry_alike slot who other (AtRegistry call reply) = refl
 slot_entry_alike slot who other (AtPool call reply) = refl
 
-registry_entry_alike : (who other : Who) (deed : Deed) →
-    map in_registry (registry_entry who deed) ≡ map in_registry (registry_entry other deed)
+registry_entry_alike : (who other : Who) (op : Op) →
+    map in_registry (registry_entry who op) ≡ map in_registry (registry_entry other op)
 registry_entry_alike who other (AtSlot at call reply) = refl
 registry_entry_alike who other (AtRegistry call reply) = refl
 registry_entry_alike who other (AtPool call reply) = refl
 
-pool_entry_alike : (who other : Who) (deed : Deed) →
-    map in_pool (pool_entry who deed) ≡ map in_pool (pool_entry other deed)
+pool_entry_alike : (who other : Who) (op : Op) →
+    map in_pool (pool_entry who op) ≡ map in_pool (pool_entry other op)
 pool_entry_alike who other (AtSlot at call reply) = refl
 pool_entry_alike who other (AtRegistry call reply) = refl
 pool_entry_alike who other (AtPool call reply) = refl
 
 -- The entries of all turns.
-module _ {E A : Type 0} (part : E → A) (entry : Who → Deed → List E)
-    (alike : (who other : Who) (deed : Deed) → map part (entry who deed) ≡ map part (entry other deed)) where
+module _ {E A : Type 0} (part : E → A) (entry : Who → Op → List E)
+    (alike : (who other : Who) (op : Op) → map part (entry who op) ≡ map part (entry other op)) where
   entries_alike : (turns others : List Turn) → Acts turns others →
-      map part (flat_map (λ (t : Turn). entry t.who t.deed) turns)
-      ≡ map part (flat_map (λ (t : Turn). entry t.who t.deed) others)
+      map part (flat_map (λ (t : Turn). entry t.who t.op) turns)
+      ≡ map part (flat_map (λ (t : Turn). entry t.who t.op) others)
   entries_alike [] [] same = refl
   entries_alike [] (u ∷ us) same = absurd cc
   entries_alike (t ∷ ts) [] same = absurd cc
   entries_alike (t ∷ ts) (u ∷ us) same =
-      let first : t.deed ≡ u.deed = cc in
+      let first : t.op ≡ u.op = cc in
       let rest : Acts ts us = cc in
-      map-append part (entry t.who t.deed) (flat_map (λ (x : Turn). entry x.who x.deed) ts)
-      ∙ (ap (λ es. es ++ map part (flat_map (λ (x : Turn). entry x.who x.deed) ts))
-      (alike t.who u.who t.deed ∙ ap (λ d. map part (entry u.who d)) first)
-      ∙ (ap (λ es. map part (entry u.who u.deed) ++ es) (entries_alike ts us rest)
-      ∙ sym (map-append part (entry u.who u.deed) (flat_map (λ (x : Turn). entry x.who x.deed) us))))
+      map-append part (entry t.who t.op) (flat_map (λ (x : Turn). entry x.who x.op) ts)
+      ∙ (ap (λ es. es ++ map part (flat_map (λ (x : Turn). entry x.who x.op) ts))
+      (alike t.who u.who t.op ∙ ap (λ d. map part (entry u.who d)) first)
+      ∙ (ap (λ es. map part (entry u.who u.op) ++ es) (entries_alike ts us rest)
+      ∙ sym (map-append part (entry u.who u.op) (flat_map (λ (x : Turn). entry x.who x.op) us))))
 
 -- ---- a slot
 
@@ -188,8 +188,8 @@ registry_alike h k same opening = λ j. record {
 
 -- ---- any object
 
-pub legal_alike : (gen blocks : ℕ) (turns others : List Turn) (deed : Deed) → Acts turns others →
-    IsLegalDeed gen blocks turns deed → IsLegalDeed gen blocks others deed
+pub legal_alike : (gen blocks : ℕ) (turns others : List Turn) (op : Op) → Acts turns others →
+    IsLegalOp gen blocks turns op → IsLegalOp gen blocks others op
 legal_alike gen blocks turns others (AtSlot slot call reply) same l =
     subst (λ (s : Slot). Legal s call reply)
     (slot_alike (slot_history slot turns) (slot_history slot others)

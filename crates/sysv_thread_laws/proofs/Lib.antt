@@ -5,8 +5,8 @@ pub mod NextCall
 pub mod OrderLeadsOn
 pub mod RowsApart
 pub mod SharesAreWhole
-pub mod PassDeedsAreCalls
-pub mod StartedFirst
+pub mod PassOpsAreCalls
+pub mod InvokedFirst
 pub mod AtRestHoldsNone
 pub mod WorkedOrder
 pub mod WorkedCrew

@@ -5,9 +5,9 @@ use Rattle.std.proofs.Common.{sym, ap, ◌∙◌, map, slice_get, slice_set}
 use Rattle.std.specs.List.{flat_map}
 use Rattle.std.proofs.lemmas.Bool.Decides.{eqb_tells}
 use Rattle.sysv_model.specs.History.{Who}
-use Rattle.sysv_model.specs.Turn.{Deed, Turn}
+use Rattle.sysv_model.specs.Turn.{Op, Turn}
 use Rattle.sysv_steps.specs.State.{State}
-use Rattle.sysv_core.specs.World.{Started, Doing, doing_in}
+use Rattle.sysv_core.specs.World.{Invocation, Doing, doing_in}
 use Rattle.sysv_thread_laws.specs.OrderIsRun.{turn_as, name_at}
 use Rattle.sysv_thread_laws.proofs.Places.{number_same, number_other}
 use Rattle.sysv_thread_laws.proofs.PlayedCallGoesOn.{PlaysOn, IsSettled}
@@ -16,9 +16,9 @@ use Rattle.sysv_thread_laws.proofs.PlayedCallGoesOn.{PlaysOn, IsSettled}
 -- it then reaches.
 pub record Underway : Type 0 where
   pub by : ℕ
-  pub call : Started
+  pub call : Invocation
   pub state : State
-  pub rest : List Deed
+  pub rest : List Op
   pub to : State
 
 abbrev pub doing_of : Underway → Option Doing
@@ -39,23 +39,23 @@ left_of number u = cond (u.by == number) (map (turn_as u.call.who) u.rest) []
 abbrev pub left_in : ℕ → List Underway → List Turn
 left_in number us = flat_map (left_of number) us
 
-abbrev pub deeds : List Turn → List Deed
-deeds turns = map (λ (t : Turn). t.deed) turns
+abbrev pub ops : List Turn → List Op
+ops turns = map (λ (t : Turn). t.op) turns
 
 -- The call at a place makes the next turn of its pass.
-pub record Picked (number : ℕ) (deed : Deed) (us : List Underway) : Type 0 where
+pub record Picked (number : ℕ) (op : Op) (us : List Underway) : Type 0 where
   pub place : ℕ
   pub u : Underway
-  pub rest : List Deed
+  pub rest : List Op
   pub there : slice_get us place ≡ Some u
   pub by : u.by ≡ number
-  pub first : u.rest ≡ deed ∷ rest
+  pub first : u.rest ≡ op ∷ rest
   pub next : (v : Underway) → v.by ≡ number → v.call ≡ u.call → v.rest ≡ rest →
-      left_in number us ≡ turn_as u.call.who deed ∷ left_in number (slice_set us place v)
+      left_in number us ≡ turn_as u.call.who op ∷ left_in number (slice_set us place v)
   pub others : (v : Underway) → v.by ≡ number → (other : ℕ) → other ≢ number →
       left_in other (slice_set us place v) ≡ left_in other us
 
-module _ (number : ℕ) (deed : Deed) where
+module _ (number : ℕ) (op : Op) where
   -- What is left of one call.
   of_its_pass : (u : Underway) → u.by ≡ number → left_of number u ≡ map (turn_as u.call.who) u.rest
   of_its_pass u by =
@@ -64,8 +64,8 @@ module _ (number : ℕ) (deed : Deed) where
   of_another : (u : Underway) (other : ℕ) → u.by ≢ other → left_of other u ≡ []
   of_another u other apart = ap (λ b. cond b (map (turn_as u.call.who) u.rest) []) (number_other u.by other apart)
 
-  here : (u : Underway) (us : List Underway) (rest : List Deed) → u.by ≡ number → u.rest ≡ deed ∷ rest →
-      Picked number deed (u ∷ us)
+  here : (u : Underway) (us : List Underway) (rest : List Op) → u.by ≡ number → u.rest ≡ op ∷ rest →
+      Picked number op (u ∷ us)
   here u us rest by first = record {
     place = zero;
     u = u;
@@ -74,20 +74,20 @@ module _ (number : ℕ) (deed : Deed) where
     by = by;
     first = first;
     next = λ v its call remains.
-        let now : left_of number u ≡ turn_as u.call.who deed ∷ map (turn_as u.call.who) rest =
+        let now : left_of number u ≡ turn_as u.call.who op ∷ map (turn_as u.call.who) rest =
         of_its_pass u by ∙ ap (map (turn_as u.call.who)) first in
         let then_left : left_of number v ≡ map (turn_as u.call.who) rest =
         of_its_pass v its
-        ∙ (ap (λ (c : Started). map (turn_as c.who) v.rest) call ∙ ap (map (turn_as u.call.who)) remains) in
+        ∙ (ap (λ (c : Invocation). map (turn_as c.who) v.rest) call ∙ ap (map (turn_as u.call.who)) remains) in
         ap (λ ts. ts ++ left_in number us) now
-        ∙ ap (λ ts. turn_as u.call.who deed ∷ (ts ++ left_in number us)) (sym then_left);
+        ∙ ap (λ ts. turn_as u.call.who op ∷ (ts ++ left_in number us)) (sym then_left);
     others = λ v its other apart.
         ap (λ ts. ts ++ left_in other us)
         (of_another v other (λ e. apart (sym e ∙ its)) ∙ sym (of_another u other (λ e. apart (sym e ∙ by))));
   }
 
-  later : (u : Underway) (us : List Underway) → left_of number u ≡ [] → Picked number deed us →
-      Picked number deed (u ∷ us)
+  later : (u : Underway) (us : List Underway) → left_of number u ≡ [] → Picked number op us →
+      Picked number op (u ∷ us)
   later u us none p = record {
     place = suc p.place;
     u = p.u;
@@ -98,46 +98,46 @@ module _ (number : ℕ) (deed : Deed) where
     next = λ v its call remains.
         ap (λ ts. ts ++ left_in number us) none
         ∙ (p.next v its call remains
-        ∙ ap (λ ts. turn_as p.u.call.who deed ∷ (ts ++ left_in number (slice_set us p.place v))) (sym none));
+        ∙ ap (λ ts. turn_as p.u.call.who op ∷ (ts ++ left_in number (slice_set us p.place v))) (sym none));
     others = λ v its other apart. ap (λ ts. left_of other u ++ ts) (p.others v its other apart);
   }
 
   -- The two cases of what is left of the first call.
-  by_rest : (u : Underway) (us : List Underway) (ds : List Deed) (remains : List Deed) → u.by ≡ number →
-      u.rest ≡ remains → deeds (left_in number (u ∷ us)) ≡ deed ∷ ds →
-      (deeds (left_in number us) ≡ deed ∷ ds → Picked number deed us) → Picked number deed (u ∷ us)
+  by_rest : (u : Underway) (us : List Underway) (ds : List Op) (remains : List Op) → u.by ≡ number →
+      u.rest ≡ remains → ops (left_in number (u ∷ us)) ≡ op ∷ ds →
+      (ops (left_in number us) ≡ op ∷ ds → Picked number op us) → Picked number op (u ∷ us)
   by_rest u us ds [] by none more again =
       let nothing : left_of number u ≡ [] = of_its_pass u by ∙ ap (map (turn_as u.call.who)) none in
-      later u us nothing (again (ap (λ ts. deeds (ts ++ left_in number us)) (sym nothing) ∙ more))
+      later u us nothing (again (ap (λ ts. ops (ts ++ left_in number us)) (sym nothing) ∙ more))
   by_rest u us ds (d ∷ remains) by some more again =
       let its : left_of number u ≡ turn_as u.call.who d ∷ map (turn_as u.call.who) remains =
       of_its_pass u by ∙ ap (map (turn_as u.call.who)) some in
-      let whole : d ∷ deeds (map (turn_as u.call.who) remains ++ left_in number us) ≡ deed ∷ ds =
-      ap (λ ts. deeds (ts ++ left_in number us)) (sym its) ∙ more in
-      let same : d ≡ deed = cc in
+      let whole : d ∷ ops (map (turn_as u.call.who) remains ++ left_in number us) ≡ op ∷ ds =
+      ap (λ ts. ops (ts ++ left_in number us)) (sym its) ∙ more in
+      let same : d ≡ op = cc in
       here u us remains by (some ∙ ap (λ x. x ∷ remains) same)
 
-  pub pick : (us : List Underway) (ds : List Deed) → deeds (left_in number us) ≡ deed ∷ ds → Picked number deed us
+  pub pick : (us : List Underway) (ds : List Op) → ops (left_in number us) ≡ op ∷ ds → Picked number op us
   pick [] ds more = absurd cc
   pick (u ∷ us) ds more = elim (eqb_tells u.by number) [
     | inl same ↦ by_rest u us ds u.rest same.1 refl more (pick us ds)
     | inr other ↦
         let nothing : left_of number u ≡ [] = of_another u number other.1 in
-        later u us nothing (pick us ds (ap (λ ts. deeds (ts ++ left_in number us)) (sym nothing) ∙ more))
+        later u us nothing (pick us ds (ap (λ ts. ops (ts ++ left_in number us)) (sym nothing) ∙ more))
   ]
 
 -- ---- nothing is left
 
-none_of_both : (xs ys : List Turn) → deeds (xs ++ ys) ≡ [] → (xs ≡ []) × (deeds ys ≡ [])
+none_of_both : (xs ys : List Turn) → ops (xs ++ ys) ≡ [] → (xs ≡ []) × (ops ys ≡ [])
 none_of_both [] ys none = (refl, none)
 none_of_both (x ∷ xs) ys none = absurd cc
 
-nothing_mapped : (who : Who) (ds : List Deed) → map (turn_as who) ds ≡ [] → ds ≡ []
+nothing_mapped : (who : Who) (ds : List Op) → map (turn_as who) ds ≡ [] → ds ≡ []
 nothing_mapped who [] none = refl
 nothing_mapped who (d ∷ ds) none = absurd cc
 
 -- If no pass has a turn left to make in calls, no call has one.
-pub none_left : (us : List Underway) → ((number : ℕ) → deeds (left_in number us) ≡ []) → (place : ℕ) (u : Underway) →
+pub none_left : (us : List Underway) → ((number : ℕ) → ops (left_in number us) ≡ []) → (place : ℕ) (u : Underway) →
     slice_get us place ≡ Some u → u.rest ≡ []
 none_left [] none place u there = absurd cc
 none_left (v ∷ us) none zero u there =

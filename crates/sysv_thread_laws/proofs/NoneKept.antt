@@ -10,11 +10,11 @@ use Rattle.sysv_model.specs.declared.attributes.Row.{Row}
 use Rattle.sysv_model.specs.declared.errno.Errno.{Errno}
 use Rattle.sysv_model.specs.History.{Who}
 use Rattle.sysv_model.specs.Pool.{Release, Foreign, PoolEntry}
-use Rattle.sysv_model.specs.Turn.{Deed, AtPool, pool_entry, pool_history}
+use Rattle.sysv_model.specs.Turn.{Op, AtPool, pool_entry, pool_history}
 use Rattle.sysv_steps.specs.State.{State, Goes, Waits}
 use Rattle.sysv_steps.specs.Begin.{begin}
 use Rattle.sysv_model.specs.Turns.{Numbered}
-use Rattle.sysv_thread_laws.specs.Order.{Called, is_in_call_of, deeds_by, deeds_in}
+use Rattle.sysv_thread_laws.specs.Order.{Called, is_in_call_of, ops_by, ops_in}
 use Rattle.sysv_thread_laws.specs.OrderIsRun.{Renamed, renamed_turn}
 use Rattle.sysv_thread_laws.specs.Crew.{IsServed}
 use Rattle.sysv_service.specs.Seats.{Gates}
@@ -26,11 +26,11 @@ use Rattle.sysv_thread_laws.specs.Life.{any_moment, call_of, Lives}
 
 -- ---- what turns leave with the passes
 
-abbrev left_in : List Deed → ℕ
-left_in deeds = sum_by refused_blocks deeds
+abbrev left_in : List Op → ℕ
+left_in ops = sum_by refused_blocks ops
 
 abbrev left_by_call : Called → ℕ
-left_by_call c = left_in c.deeds
+left_by_call c = left_in c.ops
 
 abbrev left_in_all : List Called → ℕ
 left_in_all calls = sum_by left_by_call calls
@@ -51,24 +51,24 @@ none_held : held_by [] ≡ 0
 none_held = refl
 
 module _ (from : State) (old : Pass) where
-  call_keeps : (deeds : List Deed) (state : State) (new : Pass) (ran : Ran any_moment from old deeds state new) →
-      FindsTurns ran → new.held ≡ old.held + left_in deeds
+  call_keeps : (ops : List Op) (state : State) (new : Pass) (ran : Ran any_moment from old ops state new) →
+      FindsTurns ran → new.held ≡ old.held + left_in ops
   call_keeps _ _ _ begins found = omega (arith, none_left)
-  call_keeps _ _ _ (steps {deeds} {phase} {mid} state new ran step) found =
+  call_keeps _ _ _ (steps {ops} {phase} {mid} state new ran step) found =
       omega (
         arith,
-        call_keeps deeds (Goes phase) mid ran found,
+        call_keeps ops (Goes phase) mid ran found,
         step.makes.held,
-        sum_by-append refused_blocks deeds (step.deed ∷ []),
-        sum_by-cons refused_blocks step.deed [],
+        sum_by-append refused_blocks ops (step.op ∷ []),
+        sum_by-cons refused_blocks step.op [],
         none_left,
       )
-  call_keeps _ _ _ (turns_back {deeds} {phase} {mid} state new ran step) found = absurd found
-  call_keeps _ _ _ (reads {deeds} {state} {mid} count value new ran r same) found =
-      same ∙ call_keeps deeds state mid ran found
-  call_keeps _ _ _ (resumes {deeds} {wait} {mid} value new ran reached r same) found =
-      same ∙ call_keeps deeds (Waits wait) mid ran found
-  call_keeps _ _ _ (gives_up {deeds} {wait} {mid} value new ran below r same) found = absurd found
+  call_keeps _ _ _ (turns_back {ops} {phase} {mid} state new ran step) found = absurd found
+  call_keeps _ _ _ (reads {ops} {state} {mid} count value new ran r same) found =
+      same ∙ call_keeps ops state mid ran found
+  call_keeps _ _ _ (resumes {ops} {wait} {mid} value new ran reached r same) found =
+      same ∙ call_keeps ops (Waits wait) mid ran found
+  call_keeps _ _ _ (gives_up {ops} {wait} {mid} value new ran below r same) found = absurd found
 
 row_keeps : (slot : ℕ) (one : Pass) (result : Result (Option Row) Errno) (after : Pass) →
     TellsRow slot one result after → after.held ≡ one.held
@@ -80,9 +80,9 @@ module _ (generation blocks first : ℕ) (gates : Gates) where
   passes_keep : (passes : List Pass) (made : List Called) → Lives generation blocks first gates passes made →
       held_by passes ≡ left_in_all made
   passes_keep _ _ (life.opens fresh) = refl
-  passes_keep _ _ (life.calls {one} {rest} {made} cred asked released deeds state after lives ran found) =
-      let call : Called = call_of one cred asked released deeds state in
-      let last = call_keeps (begin cred asked released) one deeds state after ran found in
+  passes_keep _ _ (life.calls {one} {rest} {made} cred asked released ops state after lives ran found) =
+      let call : Called = call_of one cred asked released ops state in
+      let last = call_keeps (begin cred asked released) one ops state after ran found in
       omega (
         arith,
         last,
@@ -152,13 +152,13 @@ all_back : (xs ys : List PoolEntry) → All IsTaken (xs ++ ys) → All IsTaken y
 all_back [] ys a = a
 all_back (x ∷ xs) ys a = all_back xs ys (All-tail IsTaken x (xs ++ ys) a)
 
-not_refused : (who : Who) (deed : Deed) → All IsTaken (pool_entry who deed) → refused_blocks deed ≡ 0
+not_refused : (who : Who) (op : Op) → All IsTaken (pool_entry who op) → refused_blocks op ≡ 0
 not_refused who (AtPool (Release blocks) Foreign) a =
     absurd (All-head IsTaken (record { who = who; call = Release blocks; reply = Foreign }) [] a refl)
-not_refused who deed a = refl
+not_refused who op a = refl
 
 abbrev left_by_turn : Numbered → ℕ
-left_by_turn t = refused_blocks t.deed
+left_by_turn t = refused_blocks t.op
 
 abbrev turn_in : Renamed → Numbered
 turn_in r = r.turn
@@ -168,40 +168,40 @@ none_refused : (rs : List Renamed) → All IsTaken (pool_history (map renamed_tu
 none_refused [] a = refl
 none_refused (r ∷ rs) a =
     let here =
-    not_refused r.name r.turn.deed (all_front (pool_entry r.name r.turn.deed) (pool_history (map renamed_turn rs)) a) in
-    let rest = none_refused rs (all_back (pool_entry r.name r.turn.deed) (pool_history (map renamed_turn rs)) a) in
+    not_refused r.name r.turn.op (all_front (pool_entry r.name r.turn.op) (pool_history (map renamed_turn rs)) a) in
+    let rest = none_refused rs (all_back (pool_entry r.name r.turn.op) (pool_history (map renamed_turn rs)) a) in
     omega (arith, here, rest, sum_by-cons left_by_turn r.turn (map turn_in rs))
 
 -- ---- so the calls leave none
 
-abbrev deed_in : Numbered → Deed
-deed_in t = t.deed
+abbrev op_in : Numbered → Op
+op_in t = t.op
 
-one_or_none : (t : Numbered) (kept : List Numbered) (b : Bool) → refused_blocks t.deed ≡ 0 →
-    left_in (map deed_in kept) ≡ 0 → left_in (map deed_in (cond b (t ∷ kept) kept)) ≡ 0
-one_or_none t kept true here rest = omega (arith, here, rest, sum_by-cons refused_blocks t.deed (map deed_in kept))
+one_or_none : (t : Numbered) (kept : List Numbered) (b : Bool) → refused_blocks t.op ≡ 0 →
+    left_in (map op_in kept) ≡ 0 → left_in (map op_in (cond b (t ∷ kept) kept)) ≡ 0
+one_or_none t kept true here rest = omega (arith, here, rest, sum_by-cons refused_blocks t.op (map op_in kept))
 one_or_none t kept false here rest = rest
 
-none_by : (number : ℕ) (order : List Numbered) → sum_by left_by_turn order ≡ 0 → left_in (deeds_by number order) ≡ 0
+none_by : (number : ℕ) (order : List Numbered) → sum_by left_by_turn order ≡ 0 → left_in (ops_by number order) ≡ 0
 none_by number [] none = refl
 none_by number (t ∷ ts) none =
     let parts = sum_by-cons left_by_turn t ts in
     one_or_none t (filter (is_in_call_of number) ts) (is_in_call_of number t) (omega (arith, none, parts))
     (none_by number ts (omega (arith, none, parts)))
 
-abbrev own_deeds : Called → ℕ → List Deed
-own_deeds c number = if c.by == number then c.deeds else []
+abbrev own_ops : Called → ℕ → List Op
+own_ops c number = if c.by == number then c.ops else []
 
-none_in : (calls : List Called) → ((number : ℕ) → left_in (deeds_in number calls) ≡ 0) → left_in_all calls ≡ 0
+none_in : (calls : List Called) → ((number : ℕ) → left_in (ops_in number calls) ≡ 0) → left_in_all calls ≡ 0
 none_in [] each = refl
 none_in (c ∷ cs) each =
     let parts : (number : ℕ) →
-    left_in (deeds_in number (c ∷ cs)) ≡ left_in (own_deeds c number) + left_in (deeds_in number cs) = λ number.
-    sum_by-append refused_blocks (own_deeds c number) (deeds_in number cs) in
+    left_in (ops_in number (c ∷ cs)) ≡ left_in (own_ops c number) + left_in (ops_in number cs) = λ number.
+    sum_by-append refused_blocks (own_ops c number) (ops_in number cs) in
     let rest = none_in cs (λ number. omega (arith, each number, parts number)) in
     let same : (c.by == c.by) ≡ true = grind (arith, nat_tests) in
-    let own : left_in (own_deeds c c.by) ≡ 0 = omega (arith, each c.by, parts c.by) in
-    let its : left_in c.deeds ≡ 0 = subst (λ (b : Bool). left_in (if b then c.deeds else []) ≡ 0) same own in
+    let own : left_in (own_ops c c.by) ≡ 0 = omega (arith, each c.by, parts c.by) in
+    let its : left_in c.ops ≡ 0 = subst (λ (b : Bool). left_in (if b then c.ops else []) ≡ 0) same own in
     omega (arith, its, rest, sum_by-cons left_by_call c cs)
 
 pub none_kept : (generation blocks first : ℕ) (gates : Gates) (last : Pass) (calls : List Called)

@@ -8,16 +8,16 @@ use Rattle.sysv_model.specs.declared.cred.Cred.{Cred}
 use Rattle.sysv_model.specs.History.{Who}
 use Rattle.sysv_model.specs.Pool.{Reserve, TooFew}
 use Rattle.sysv_model.specs.Pool.{released}
-use Rattle.sysv_model.specs.Turn.{AtPool, pool_history, deeds_of}
+use Rattle.sysv_model.specs.Turn.{AtPool, pool_history, ops_of}
 use Rattle.sysv_queue.specs.StaysRight.{NoMatchStays, FullStays, FullStaysForLook, CountsNeverFall}
-use Rattle.sysv_objects.specs.LegalDeed.{AreLegal}
+use Rattle.sysv_objects.specs.LegalOp.{AreLegal}
 use Rattle.sysv_steps.specs.Call.{SystemCall, Msgget, Msgsnd, Msgrcv}
 use Rattle.sysv_steps.specs.State.{Sending, Wait, OnSettled, OnFreed, OnReleased, OnArrived, State, Goes, Waits, Over}
 use Rattle.sysv_steps.specs.Tended.{HasToSettle, HasToForget}
 use Rattle.sysv_steps.specs.Played.{Plays}
 use Rattle.sysv_steps.specs.HoldsAsked.{WaitHolds, EachHoldsWhatItWasAsked}
 use Rattle.sysv_steps.specs.WaitsFor.{WaitsFor, EachWaitsForItsRefusal}
-use Rattle.sysv_core.specs.World.{World, Opening, Started, Doing, Given, opening, doing_in, begun}
+use Rattle.sysv_core.specs.World.{World, Opening, Invocation, Doing, Response, opening, doing_in, begun}
 use Rattle.sysv_core.specs.Parked.{IsToBeWoken, HasTooFewBlocks, IsBeingChanged, HasReason, IsParked, AreParkedRightly}
 use Rattle.sysv_core.specs.Tending.{AreTended}
 use Rattle.sysv_core.proofs.LifeGoesOn.{EachObeys}
@@ -32,7 +32,7 @@ use Rattle.sysv_thread_laws.specs.OnThreads.{IsRowRead, ObeysOnThreads, EveryThr
 use Rattle.sysv_thread_laws.specs.ParkedOnThreads.{HadReleased, HasReasonOnThreads, EveryThreadedRunParksRightly}
 use Rattle.sysv_thread_laws.specs.ParkedOnThreads.{EveryOrderParksRightly}
 use Rattle.sysv_thread_laws.specs.OrderIsRun.{opening_for, started_at}
-use Rattle.sysv_thread_laws.proofs.StartedFirst.{standing_at}
+use Rattle.sysv_thread_laws.proofs.InvokedFirst.{standing_at}
 use Rattle.sysv_thread_laws.proofs.PoolLater.{short_at}
 use Rattle.sysv_thread_laws.proofs.SendIsTold.{told_so}
 
@@ -126,7 +126,7 @@ module _ (w : World) where
   }
 
   -- A reason in the calmed world is one in the world.
-  same_reason : (call : Started) (asked : SystemCall) (wait : Wait) → IsCalm (Waits wait) →
+  same_reason : (call : Invocation) (asked : SystemCall) (wait : Wait) → IsCalm (Waits wait) →
       HasReason (calmed w) call.cred asked wait → HasReason w call.cred asked wait
   same_reason call (Msgrcv id size mtype flags) (OnArrived goal receive) calm r = r
   same_reason call (Msgsnd id mtype flags text) (OnFreed goal send) calm r = r
@@ -137,14 +137,14 @@ module _ (w : World) where
 -- ---- a send that waits for blocks
 
 short_of : (w : World) → AreLegal w.generation w.blocks w.turns → (who : Who) (goal : ℕ) (send : Sending) →
-    WaitsFor (OnReleased goal send) (deeds_of who w.turns) → released (pool_history w.turns) < goal →
+    WaitsFor (OnReleased goal send) (ops_of who w.turns) → released (pool_history w.turns) < goal →
     HadReleased w who send.released → HasTooFewBlocks w (length send.text)
 short_of w legal who goal send (is, (front, ends)) below had =
-    let deed = AtPool (Reserve (length send.text)) TooFew in
-    let m = made_at who w.turns front deed [] ends in
-    let own : w.turns ≡ m.before ++ turn_of who deed ∷ m.after =
-    m.whole ∙ ap (λ by. m.before ++ turn_of by deed ∷ m.after) (sym (same_who who m.by m.own)) in
-    let read = had m.before m.after deed own m.later_is in
+    let op = AtPool (Reserve (length send.text)) TooFew in
+    let m = made_at who w.turns front op [] ends in
+    let own : w.turns ≡ m.before ++ turn_of who op ∷ m.after =
+    m.whole ∙ ap (λ by. m.before ++ turn_of by op ∷ m.after) (sym (same_who who m.by m.own)) in
+    let read = had m.before m.after op own m.later_is in
     short_at w.generation w.blocks w.turns legal m.before m.after who (length send.text) own
     (omega (arith, below, is, read))
 
@@ -171,11 +171,11 @@ pub record StaysRight : Type 0 where
   pub refused : EachWaitsForItsRefusal
   pub holds : EachHoldsWhatItWasAsked
 
-module _ (stays : StaysRight) (o : Opening) (w : World) (given : List Given) (i : Inv IsRowRead w given)
-    (lawful : ObeysOnThreads o w given) where
+module _ (stays : StaysRight) (o : Opening) (w : World) (responses : List Response) (i : Inv IsRowRead w responses)
+    (lawful : ObeysOnThreads o w responses) where
   played : (place : ℕ) (d : Doing) → slice_get w.actors place ≡ Some (Some d) →
-      Plays (begun d.call) (deeds_of d.call.who w.turns) d.state
-  played place d there = (stands_there w given i place d there).plays
+      Plays (begun d.call) (ops_of d.call.who w.turns) d.state
+  played place d there = (stands_there w responses i place d there).plays
 
   none_for_blocks : (place goal : ℕ) (d : Doing) (send : Sending) →
       slice_get (calmed w).actors place ≡ Some (Some d) → d.state ≡ Waits (OnReleased goal send) → ⊥
@@ -201,25 +201,26 @@ module _ (stays : StaysRight) (o : Opening) (w : World) (given : List Given) (i 
 
   reason : (place : ℕ) (d : Doing) (wait : Wait) → IsParked w place d wait → HasReasonOnThreads w d.call wait
   reason place d (OnReleased goal send) p =
-      let deeds = deeds_of d.call.who w.turns in
-      let play = subst (Plays (begun d.call) deeds) p.waits (played place d p.there) in
-      let why = stays.refused d.call.cred d.call.asked d.call.released deeds (OnReleased goal send) play in
-      let holds = stays.holds d.call.cred d.call.asked d.call.released deeds (Waits (OnReleased goal send)) play in
+      let ops = ops_of d.call.who w.turns in
+      let play = subst (Plays (begun d.call) ops) p.waits (played place d p.there) in
+      let why = stays.refused d.call.cred d.call.asked d.call.released ops (OnReleased goal send) play in
+      let holds = stays.holds d.call.cred d.call.asked d.call.released ops (Waits (OnReleased goal send)) play in
       record {
         short = λ had. short_of w i.sound.legal d.call.who goal send why p.below had;
         whole = λ had. as_asked w d.call.cred d.call.asked goal send holds
-            (told_so o w given i lawful d.call goal send play why p.below had);
+            (told_so o w responses i lawful d.call goal send play why p.below had);
       }
   reason place d (OnSettled goal get) p = calm_reason place d (OnSettled goal get) tt p
   reason place d (OnFreed goal send) p = calm_reason place d (OnFreed goal send) tt p
   reason place d (OnArrived goal receive) p = calm_reason place d (OnArrived goal receive) tt p
 
 pub parked_on_threads : StaysRight → EveryThreadedRunObeys →
-    ((o : Opening) (list : List Moment) (given : List Given) (w : World) → LeadsOnThreads (opening o) list given w →
-    Inv IsRowRead w given) →
+    ((o : Opening) (list : List Moment) (responses : List Response) (w : World) →
+    LeadsOnThreads (opening o) list responses w →
+    Inv IsRowRead w responses) →
     EveryThreadedRunParksRightly
-parked_on_threads stays law keeps o list given w led place d wait p =
-    reason stays o w given (keeps o list given w led) (law o list given w led) place d wait p
+parked_on_threads stays law keeps o list responses w led place d wait p =
+    reason stays o w responses (keeps o list responses w led) (law o list responses w led) place d wait p
 
 pub parked_in_order : EveryThreadedRunParksRightly → EveryOrderParksRightly
 parked_in_order law generation blocks order calls run place c wait there waits below =
@@ -229,5 +230,5 @@ parked_in_order law generation blocks order calls run place c wait there waits b
     ap (λ xs. slice_get xs place) run.standing
     ∙ (standing_at 0 calls place c there
     ∙ (ap (λ n. Some (doing_in (started_at n c) c.state)) (omega arith) ∙ ap (λ s. Some (doing_in call s)) waits)) in
-    law (opening_for generation blocks calls) run.moments run.given run.world run.leads place d wait
+    law (opening_for generation blocks calls) run.moments run.responses run.world run.leads place d wait
     (record { there = stands; waits = refl; below = below })

@@ -26,29 +26,29 @@ module _ (may : ℕ → Type 0) where
   abbrev step_at : (phase : Phase) (before : Pass) (state : State) (after : Pass) → Steps may phase before state after →
       Steps any_moment phase before state after
   step_at phase before state after s =
-      record { deed = s.deed; now = s.now; moment = λ e. tt; asked = s.asked; goes = s.goes; makes = s.makes }
+      record { op = s.op; now = s.now; moment = λ e. tt; asked = s.asked; goes = s.goes; makes = s.makes }
 
   abbrev back_at : (phase : Phase) (before : Pass) (state : State) (after : Pass) →
       FindsNoTurn may phase before state after → FindsNoTurn any_moment phase before state after
   back_at phase before state after s =
-      record { deeds = s.deeds; now = s.now; moment = λ e. tt; there = s.there; worn = s.worn; back = s.back }
+      record { ops = s.ops; now = s.now; moment = λ e. tt; there = s.there; worn = s.worn; back = s.back }
 
   pub at_any : EachRunIsAtAnyMoment may
   at_any from old _ _ _ begins = (begins, λ found. tt)
-  at_any from old _ _ _ (steps {deeds} {phase} {mid} state new ran step) =
-      let so = at_any from old deeds (Goes phase) mid ran in
+  at_any from old _ _ _ (steps {ops} {phase} {mid} state new ran step) =
+      let so = at_any from old ops (Goes phase) mid ran in
       (steps state new so.0 (step_at phase mid state new step), so.1)
-  at_any from old _ _ _ (turns_back {deeds} {phase} {mid} state new ran step) =
-      let so = at_any from old deeds (Goes phase) mid ran in
+  at_any from old _ _ _ (turns_back {ops} {phase} {mid} state new ran step) =
+      let so = at_any from old ops (Goes phase) mid ran in
       (turns_back state new so.0 (back_at phase mid state new step), λ found. absurd found)
-  at_any from old _ _ _ (reads {deeds} {state} {mid} count value new ran r same) =
-      let so = at_any from old deeds state mid ran in
+  at_any from old _ _ _ (reads {ops} {state} {mid} count value new ran r same) =
+      let so = at_any from old ops state mid ran in
       (reads count value new so.0 r same, so.1)
-  at_any from old _ _ _ (resumes {deeds} {wait} {mid} value new ran reached r same) =
-      let so = at_any from old deeds (Waits wait) mid ran in
+  at_any from old _ _ _ (resumes {ops} {wait} {mid} value new ran reached r same) =
+      let so = at_any from old ops (Waits wait) mid ran in
       (resumes value new so.0 reached r same, so.1)
-  at_any from old _ _ _ (gives_up {deeds} {wait} {mid} value new ran below r same) =
-      let so = at_any from old deeds (Waits wait) mid ran in
+  at_any from old _ _ _ (gives_up {ops} {wait} {mid} value new ran below r same) =
+      let so = at_any from old ops (Waits wait) mid ran in
       (gives_up value new so.0 below r same, λ found. absurd found)
 
 -- ---- the passes
@@ -73,10 +73,10 @@ module _ (generation blocks first : ℕ) (gates : Gates) where
   pub crew_of : (passes : List Pass) (made : List Called) → Lives generation blocks first gates passes made →
       IsCrew (members passes) made
   crew_of _ _ (life.opens fresh) = crew.opens 0
-  crew_of _ _ (life.calls {one} {rest} {made} cred asked released deeds state after lives ran found) =
-      crew.calls (call_of one cred asked released deeds state) after.seats.member (crew_of (one ∷ rest) made lives) refl
-      (plays any_moment (begin cred asked released) one deeds state after ran found)
-      (does any_moment (begin cred asked released) one deeds state after ran)
+  crew_of _ _ (life.calls {one} {rest} {made} cred asked released ops state after lives ran found) =
+      crew.calls (call_of one cred asked released ops state) after.seats.member (crew_of (one ∷ rest) made lives) refl
+      (plays any_moment (begin cred asked released) one ops state after ran found)
+      (does any_moment (begin cred asked released) one ops state after ran)
   crew_of _ _ (life.reads_count {one} {rest} {made} count value after lives r same) =
       crew.goes_on after.seats.member (crew_of (one ∷ rest) made lives)
       (read_is_seen one.seats after.seats count value r)
@@ -95,7 +95,7 @@ module _ (generation blocks first : ℕ) (gates : Gates) where
   pub opened_so : (passes : List Pass) (made : List Called) → Lives generation blocks first gates passes made →
       AreOpen generation blocks first gates
   opened_so _ _ (life.opens fresh) = fresh
-  opened_so _ _ (life.calls {one} {rest} {made} cred asked released deeds state after lives ran found) =
+  opened_so _ _ (life.calls {one} {rest} {made} cred asked released ops state after lives ran found) =
       opened_so (one ∷ rest) made lives
   opened_so _ _ (life.reads_count {one} {rest} {made} count value after lives r same) =
       opened_so (one ∷ rest) made lives

@@ -8,12 +8,12 @@ use Rattle.sysv_model.specs.HasFlag.{has_flag}
 use Rattle.sysv_model.specs.Selector.{selector_for}
 use Rattle.sysv_model.specs.History.{Call, Install, Probe, Look, Place, Take, ReadStat, Set, Remove, Reply}
 use Rattle.sysv_model.specs.History.{Granted, Accepted, Taken, Told, Done, Discarded, History}
-use Rattle.sysv_model.specs.Turn.{Deed, AtSlot, AtRegistry, AtPool, OfSlot, slot_history, deeds_of, asked_by}
+use Rattle.sysv_model.specs.Turn.{Op, AtSlot, AtRegistry, AtPool, OfSlot, slot_history, ops_of, asked_by}
 use Rattle.sysv_model.specs.Turns.{turns_of}
 use Rattle.sysv_queue.specs.LegalReply.{IsLegalReply, IsLegalHistory}
 use Rattle.sysv_steps.specs.Call.{SystemCall, Msgget, Msgsnd, Msgrcv, MsgctlStat, MsgctlSet, MsgctlRmid}
-use Rattle.sysv_steps.specs.AsksFor.{AsksFor, AllAskFor, EachDeedIsAskedFor}
-use Rattle.sysv_core.specs.World.{Started}
+use Rattle.sysv_steps.specs.AsksFor.{AsksFor, AllAskFor, EachOpIsAskedFor}
+use Rattle.sysv_core.specs.World.{Invocation}
 use Rattle.sysv_core.specs.Headline.{EveryRunObeys}
 use Rattle.sysv_thread_laws.specs.OnThreads.{EveryThreadedRunObeys}
 use Rattle.sysv_thread_laws.specs.Order.{Called}
@@ -65,41 +65,41 @@ under_at_slot cred (MsgctlRmid id) slot call (inl e) =
 under_at_slot cred (MsgctlRmid id) slot call (inr (inl e)) = absurd cc
 under_at_slot cred (MsgctlRmid id) slot call (inr (inr (blocks, e))) = absurd cc
 
-is_under : (cred : Cred) (asked : SystemCall) (deed : Deed) → AsksFor cred asked (asked_by deed) → IsUnder cred deed
+is_under : (cred : Cred) (asked : SystemCall) (op : Op) → AsksFor cred asked (asked_by op) → IsUnder cred op
 is_under cred asked (AtSlot slot call reply) asks = under_at_slot cred asked slot call asks
 is_under cred asked (AtRegistry call reply) asks = tt
 is_under cred asked (AtPool call reply) asks = tt
 
-all_under : (cred : Cred) (asked : SystemCall) (deeds : List Deed) → AllAskFor cred asked deeds →
-    All (IsUnder cred) deeds
-all_under cred asked deeds all k d low = is_under cred asked (get_or deeds k d) (all k d low)
+all_under : (cred : Cred) (asked : SystemCall) (ops : List Op) → AllAskFor cred asked ops →
+    All (IsUnder cred) ops
+all_under cred asked ops all k d low = is_under cred asked (get_or ops k d) (all k d low)
 
 -- ---- the laws
 
 pub each_run : EveryRunObeys → EveryRunIsPermitted
-each_run law o list given w led =
-    let lawful = (law o list given w led).lawful in
+each_run law o list responses w led =
+    let lawful = (law o list responses w led).lawful in
     record {
       allowed = λ slot. are_allowed (slot_history slot w.turns) (lawful.objects.queues slot).legal;
       own = λ k d low.
-          let c : Started = get_or w.calls k d in
-          all_under c.cred c.asked (deeds_of c.who w.turns) (lawful.calls.asked k d low);
+          let c : Invocation = get_or w.calls k d in
+          all_under c.cred c.asked (ops_of c.who w.turns) (lawful.calls.asked k d low);
     }
 
 pub each_threaded_run : EveryThreadedRunObeys → EveryThreadedRunIsPermitted
-each_threaded_run law o list given w led =
-    let lawful = law o list given w led in
+each_threaded_run law o list responses w led =
+    let lawful = law o list responses w led in
     record {
       allowed = λ slot. are_allowed (slot_history slot w.turns) (lawful.objects.queues slot).legal;
       own = λ k d low.
-          let c : Started = get_or w.calls k d in
-          all_under c.cred c.asked (deeds_of c.who w.turns) (lawful.calls.asked k d low);
+          let c : Invocation = get_or w.calls k d in
+          all_under c.cred c.asked (ops_of c.who w.turns) (lawful.calls.asked k d low);
     }
 
-pub each_order : EachDeedIsAskedFor → EveryOrderIsPermitted
+pub each_order : EachOpIsAskedFor → EveryOrderIsPermitted
 each_order asks generation blocks order calls legal all = record {
   allowed = λ slot. are_allowed (slot_history slot (turns_of order)) (legal.slots slot);
   own = λ k d low.
       let c : Called = get_or calls k d in
-      all_under c.cred c.asked c.deeds (asks c.cred c.asked c.released c.deeds c.state (all.played k d low));
+      all_under c.cred c.asked c.ops (asks c.cred c.asked c.released c.ops c.state (all.played k d low));
 }

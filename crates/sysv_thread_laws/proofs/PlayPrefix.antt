@@ -1,11 +1,11 @@
--- A play up to one of its deeds, and the turn of that deed.
+-- A play up to one of its operations, and the turn of that operation.
 use Rattle.std.proofs.Common.{◌≡◌, ◌⊎◌, inl, inr, ℕ, Bool, true, false, cond, List, [], ◌∷◌, ◌++◌, map, refl, sym, ap}
 use Rattle.std.proofs.Common.{subst, ◌∙◌}
 use Rattle.std.specs.List.{All, filter, list_any}
 use Rattle.std.proofs.lemmas.List.{map-append}
 use Rattle.std.proofs.lemmas.List.Elements.{All-head, All-tail, filter-append}
 use Rattle.sysv_model.specs.History.{Who}
-use Rattle.sysv_model.specs.Turn.{Deed, asked_by, Turn, is_same, deeds_of}
+use Rattle.sysv_model.specs.Turn.{Op, asked_by, Turn, is_same, ops_of}
 use Rattle.sysv_steps.specs.State.{Phase, State, Goes, Waits}
 use Rattle.sysv_steps.specs.Asks.{asks}
 use Rattle.sysv_steps.specs.Played.{Plays, begins, steps, resumes}
@@ -42,18 +42,18 @@ all_at P (y ∷ front) x back all = all_at P front x back (All-tail P y (front +
 
 -- ---- a play
 
--- The call was before a step that requests what the deed requests.
-pub record IsBeforeDeed (from : State) (front : List Deed) (deed : Deed) : Type 0 where
+-- The call was before a step that requests what the operation requests.
+pub record IsBeforeOp (from : State) (front : List Op) (op : Op) : Type 0 where
   pub phase : Phase
   pub now : ℕ
   pub play : Plays from front (Goes phase)
-  pub asked : asked_by deed ≡ asks phase now
+  pub asked : asked_by op ≡ asks phase now
 
-pub play_before : (from : State) (deeds : List Deed) (state : State) → Plays from deeds state → (front : List Deed)
-    (deed : Deed) (back : List Deed) → deeds ≡ front ++ deed ∷ back → IsBeforeDeed from front deed
-play_before from _ _ begins front deed back e = absurd (no_nil front deed back e)
-play_before from _ _ (steps {deeds} {phase} last now after play asked row) front deed back e =
-    elim (last_or_before deeds last front deed back e) [
+pub play_before : (from : State) (ops : List Op) (state : State) → Plays from ops state → (front : List Op)
+    (op : Op) (back : List Op) → ops ≡ front ++ op ∷ back → IsBeforeOp from front op
+play_before from _ _ begins front op back e = absurd (no_nil front op back e)
+play_before from _ _ (steps {ops} {phase} last now after play asked row) front op back e =
+    elim (last_or_before ops last front op back e) [
       | inl here ↦
           record {
             phase = phase;
@@ -61,35 +61,35 @@ play_before from _ _ (steps {deeds} {phase} last now after play asked row) front
             play = subst (λ ds. Plays from ds (Goes phase)) (sym here.0) play;
             asked = ap asked_by here.1 ∙ asked;
           }
-      | inr more ↦ play_before from deeds (Goes phase) play front deed more.0 more.1
+      | inr more ↦ play_before from ops (Goes phase) play front op more.0 more.1
     ]
-play_before from _ _ (resumes {deeds} {wait} value play least) front deed back e =
-    play_before from deeds (Waits wait) play front deed back e
+play_before from _ _ (resumes {ops} {wait} value play least) front op back e =
+    play_before from ops (Waits wait) play front op back e
 
 -- ---- turns
 
-abbrev deed_in : Turn → Deed
-deed_in t = t.deed
+abbrev op_in : Turn → Op
+op_in t = t.op
 
--- The deeds of a call around one of its turns.
-pub deeds_around : (who : Who) (before : List Turn) (t : Turn) (after : List Turn) → is_same who t.who ≡ true →
-    deeds_of who (before ++ t ∷ after) ≡ deeds_of who before ++ t.deed ∷ deeds_of who after
-deeds_around who before t after same =
+-- The operations of a call around one of its turns.
+pub ops_around : (who : Who) (before : List Turn) (t : Turn) (after : List Turn) → is_same who t.who ≡ true →
+    ops_of who (before ++ t ∷ after) ≡ ops_of who before ++ t.op ∷ ops_of who after
+ops_around who before t after same =
     let own = λ (x : Turn). is_same who x.who in
-    ap (map deed_in) (filter-append own before (t ∷ after))
-    ∙ (map-append deed_in (filter own before) (filter own (t ∷ after))
-    ∙ ap (λ b. deeds_of who before ++ map deed_in (cond b (t ∷ filter own after) (filter own after))) same)
+    ap (map op_in) (filter-append own before (t ∷ after))
+    ∙ (map-append op_in (filter own before) (filter own (t ∷ after))
+    ∙ ap (λ b. ops_of who before ++ map op_in (cond b (t ∷ filter own after) (filter own after))) same)
 
--- A turn whose deed passes the test.
-pub record HasTurn (test : Deed → Bool) (who : Who) (turns : List Turn) : Type 0 where
+-- A turn whose operation passes the test.
+pub record HasTurn (test : Op → Bool) (who : Who) (turns : List Turn) : Type 0 where
   pub before : List Turn
   pub turn : Turn
   pub after : List Turn
   pub whole : turns ≡ before ++ turn ∷ after
   pub own : is_same who turn.who ≡ true
-  pub passes : test turn.deed ≡ true
+  pub passes : test turn.op ≡ true
 
-later_turn : (test : Deed → Bool) (who : Who) (t : Turn) (turns : List Turn) → HasTurn test who turns →
+later_turn : (test : Op → Bool) (who : Who) (t : Turn) (turns : List Turn) → HasTurn test who turns →
     HasTurn test who (t ∷ turns)
 later_turn test who t turns h = record {
   before = t ∷ h.before;
@@ -100,19 +100,19 @@ later_turn test who t turns h = record {
   passes = h.passes;
 }
 
-first_turn : (test : Deed → Bool) (who : Who) (t : Turn) (turns : List Turn) →
-    (list_any test (deeds_of who turns) ≡ true → HasTurn test who turns) → (b : Bool) → is_same who t.who ≡ b →
-    list_any test (map deed_in (cond b (t ∷ filter (λ (x : Turn). is_same who x.who) turns)
+first_turn : (test : Op → Bool) (who : Who) (t : Turn) (turns : List Turn) →
+    (list_any test (ops_of who turns) ≡ true → HasTurn test who turns) → (b : Bool) → is_same who t.who ≡ b →
+    list_any test (map op_in (cond b (t ∷ filter (λ (x : Turn). is_same who x.who) turns)
     (filter (λ (x : Turn). is_same who x.who) turns))) ≡ true →
     HasTurn test who (t ∷ turns)
 first_turn test who t turns rest true own some =
-    elim (one_of (test t.deed) (list_any test (deeds_of who turns)) some) [
+    elim (one_of (test t.op) (list_any test (ops_of who turns)) some) [
       | inl here ↦ record { before = []; turn = t; after = turns; whole = refl; own = own; passes = here }
       | inr more ↦ later_turn test who t turns (rest more)
     ]
 first_turn test who t turns rest false own some = later_turn test who t turns (rest some)
 
-pub has_turn : (test : Deed → Bool) (who : Who) (turns : List Turn) → list_any test (deeds_of who turns) ≡ true →
+pub has_turn : (test : Op → Bool) (who : Who) (turns : List Turn) → list_any test (ops_of who turns) ≡ true →
     HasTurn test who turns
 has_turn test who [] some = absurd cc
 has_turn test who (t ∷ turns) some =

@@ -3,26 +3,27 @@
 use Rattle.std.proofs.Common.{◌≡◌, ℕ, suc, ◌≤◌, List, [], ◌∷◌, ◌++◌, Some, refl, sym, ap, subst, ◌∙◌, append_assoc}
 use Rattle.std.proofs.Common.{slice_get, slice_set}
 use Rattle.std.proofs.lemmas.List.{append-nil, set-set}
-use Rattle.sysv_model.specs.Turn.{Deed, asked_by}
-use Rattle.sysv_objects.specs.LegalDeed.{IsLegalDeed}
+use Rattle.sysv_model.specs.Turn.{Op, asked_by}
+use Rattle.sysv_objects.specs.LegalOp.{IsLegalOp}
 use Rattle.sysv_steps.specs.State.{Phase, Wait, State, Goes, Waits, Over}
 use Rattle.sysv_steps.specs.Asks.{asks}
 use Rattle.sysv_steps.specs.Next.{next}
 use Rattle.sysv_steps.specs.Resume.{goal_of, resume}
 use Rattle.sysv_steps.specs.Played.{Plays, begins, steps, resumes}
-use Rattle.sysv_core.specs.World.{World, Started, Given, doing_in, given_in, in_state, with_turn}
+use Rattle.sysv_core.specs.World.{World, Invocation, Response, doing_in, response_in, in_state, with_turn}
 use Rattle.sysv_thread_laws.specs.FreeRun.{Moment, TakesTurn, Wakes, LeadsOnThreads}
 use Rattle.sysv_thread_laws.specs.OrderIsRun.{turn_as}
 use Rattle.sysv_thread_laws.proofs.Places.{get_set_same}
 
 -- ---- lists of moments
 
-pub leads_more : (xs ys : List Moment) (w mid after : World) (given more : List Given) → LeadsOnThreads w xs given mid →
-    LeadsOnThreads mid ys more after → LeadsOnThreads w (xs ++ ys) (given ++ more) after
-leads_more [] ys w mid after given more (none, same) led =
+pub leads_more : (xs ys : List Moment) (w mid after : World) (responses more : List Response) →
+    LeadsOnThreads w xs responses mid →
+    LeadsOnThreads mid ys more after → LeadsOnThreads w (xs ++ ys) (responses ++ more) after
+leads_more [] ys w mid after responses more (none, same) led =
     subst (λ gs. LeadsOnThreads w ys (gs ++ more) after) (sym none)
     (subst (λ (v : World). LeadsOnThreads v ys more after) same led)
-leads_more (x ∷ xs) ys w mid after given more (then_w, one, rest, brings, leads, whole) led = (
+leads_more (x ∷ xs) ys w mid after responses more (then_w, one, rest, brings, leads, whole) led = (
   then_w,
   one,
   rest ++ more,
@@ -34,25 +35,25 @@ leads_more (x ∷ xs) ys w mid after given more (then_w, one, rest, brings, lead
 -- ---- what a call has still to do
 
 -- From this state the step table, taken along these turns, leads to `to`.
-pub data PlaysOn (to : State) : State → List Deed → Type 0 where
+pub data PlaysOn (to : State) : State → List Op → Type 0 where
   is_there : PlaysOn to to []
-  turns : {phase : Phase} {rest : List Deed} (deed : Deed) (now : ℕ) (after : State) →
-      asked_by deed ≡ asks phase now → next phase deed ≡ Some after → PlaysOn to after rest →
-      PlaysOn to (Goes phase) (deed ∷ rest)
-  wakes : {wait : Wait} {rest : List Deed} (value : ℕ) →
+  turns : {phase : Phase} {rest : List Op} (op : Op) (now : ℕ) (after : State) →
+      asked_by op ≡ asks phase now → next phase op ≡ Some after → PlaysOn to after rest →
+      PlaysOn to (Goes phase) (op ∷ rest)
+  wakes : {wait : Wait} {rest : List Op} (value : ℕ) →
       goal_of wait ≤ value → PlaysOn to (Goes (resume wait value)) rest → PlaysOn to (Waits wait) rest
 
-pub plays_on : {from mid : State} {deeds : List Deed} (to : State) (rest : List Deed) → Plays from deeds mid →
-    PlaysOn to mid rest → PlaysOn to from (deeds ++ rest)
+pub plays_on : {from mid : State} {ops : List Op} (to : State) (rest : List Op) → Plays from ops mid →
+    PlaysOn to mid rest → PlaysOn to from (ops ++ rest)
 plays_on to rest begins on = on
-plays_on {from} to rest (steps {deeds = deeds} deed now after plays asked goes) on =
-    subst (PlaysOn to from) (sym (append_assoc deeds (deed ∷ []) rest))
-    (plays_on to (deed ∷ rest) plays (turns deed now after asked goes on))
+plays_on {from} to rest (steps {ops = ops} op now after plays asked goes) on =
+    subst (PlaysOn to from) (sym (append_assoc ops (op ∷ []) rest))
+    (plays_on to (op ∷ rest) plays (turns op now after asked goes on))
 plays_on to rest (resumes value plays reached) on = plays_on to rest plays (wakes value reached on)
 
 -- A call that waits with nothing more to do remains there for good. A call that has more to do is
 -- woken at once.
-abbrev pub IsSettled : State → State → List Deed → Type 0
+abbrev pub IsSettled : State → State → List Op → Type 0
 IsSettled to (Goes phase) rest = Unit {0}
 IsSettled to (Waits wait) rest = (to ≡ Waits wait) × (rest ≡ [])
 IsSettled to (Over ending) rest = Unit {0}
@@ -63,14 +64,14 @@ settled_there (Waits wait) = (refl, refl)
 settled_there (Over ending) = tt
 
 -- The call is settled, or it is to be woken.
-data Standing (to : State) : State → List Deed → Type 0 where
-  stays : {state : State} {rest : List Deed} → PlaysOn to state rest → IsSettled to state rest → Standing to state rest
-  is_woken : {wait : Wait} {rest : List Deed} (value : ℕ) → goal_of wait ≤ value →
+data Standing (to : State) : State → List Op → Type 0 where
+  stays : {state : State} {rest : List Op} → PlaysOn to state rest → IsSettled to state rest → Standing to state rest
+  is_woken : {wait : Wait} {rest : List Op} (value : ℕ) → goal_of wait ≤ value →
       PlaysOn to (Goes (resume wait value)) rest → Standing to (Waits wait) rest
 
-standing_so : {to state : State} {rest : List Deed} → PlaysOn to state rest → Standing to state rest
+standing_so : {to state : State} {rest : List Op} → PlaysOn to state rest → Standing to state rest
 standing_so {to} is_there = stays is_there (settled_there to)
-standing_so (turns deed now after asked goes on) = stays (turns deed now after asked goes on) tt
+standing_so (turns op now after asked goes on) = stays (turns op now after asked goes on) tt
 standing_so (wakes value reached on) = is_woken value reached on
 
 -- A call that has nothing left to do is in the state `to`.
@@ -81,13 +82,13 @@ is_at_its_end (wakes value reached on) s = sym s.0
 -- ---- its next turn in the world
 
 -- The call has made the turn, and is in a state from which it can continue.
-pub record Makes (w : World) (place : ℕ) (call : Started) (to : State) (deed : Deed) (rest : List Deed) : Type 0 where
+pub record Makes (w : World) (place : ℕ) (call : Invocation) (to : State) (op : Op) (rest : List Op) : Type 0 where
   pub moments : List Moment
-  pub given : List Given
+  pub responses : List Response
   pub mid : World
   pub state : State
-  pub leads : LeadsOnThreads w moments given mid
-  pub turns : mid.turns ≡ w.turns ++ turn_as call.who deed ∷ []
+  pub leads : LeadsOnThreads w moments responses mid
+  pub turns : mid.turns ≡ w.turns ++ turn_as call.who op ∷ []
   pub actors : mid.actors ≡ slice_set w.actors place (doing_in call state)
   pub calls : mid.calls ≡ w.calls
   pub generation : mid.generation ≡ w.generation
@@ -95,27 +96,27 @@ pub record Makes (w : World) (place : ℕ) (call : Started) (to : State) (deed :
   pub plays : PlaysOn to state rest
   pub settled : IsSettled to state rest
 
-module _ (w : World) (place : ℕ) (call : Started) (to : State) (deed : Deed) (rest : List Deed)
-    (legal : IsLegalDeed w.generation w.blocks w.turns deed) where
+module _ (w : World) (place : ℕ) (call : Invocation) (to : State) (op : Op) (rest : List Op)
+    (legal : IsLegalOp w.generation w.blocks w.turns op) where
   abbrev then_at : State → World
-  then_at state = in_state (with_turn w call.who deed) (suc place) call state
+  then_at state = in_state (with_turn w call.who op) (suc place) call state
 
   makes_then : (phase : Phase) (now : ℕ) (after : State) →
       slice_get w.actors place ≡ Some (Some record { call = call; state = Goes phase }) →
-      asked_by deed ≡ asks phase now → next phase deed ≡ Some after →
-      Standing to after rest → Makes w place call to deed rest
+      asked_by op ≡ asks phase now → next phase op ≡ Some after →
+      Standing to after rest → Makes w place call to op rest
   makes_then phase now after there asked goes (stays on settled) = record {
     moments = TakesTurn (suc place) now ∷ [];
-    given = given_in call after;
+    responses = response_in call after;
     mid = then_at after;
     state = after;
     leads = (
       then_at after,
-      given_in call after,
+      response_in call after,
       [],
-      (call, phase, there, (deed, after, asked, legal, goes, refl, refl)),
+      (call, phase, there, (op, after, asked, legal, goes, refl, refl)),
       (refl, refl),
-      sym (append-nil (given_in call after)),
+      sym (append-nil (response_in call after)),
     );
     turns = refl;
     actors = refl;
@@ -131,14 +132,14 @@ module _ (w : World) (place : ℕ) (call : Started) (to : State) (deed : Deed) (
       get_set_same w.actors place _ _ there in
       record {
         moments = TakesTurn (suc place) now ∷ Wakes (suc place) value ∷ [];
-        given = [];
+        responses = [];
         mid = in_state (then_at (Waits wait)) (suc place) call (Goes (resume wait value));
         state = Goes (resume wait value);
         leads = (
           then_at (Waits wait),
           [],
           [],
-          (call, phase, there, (deed, Waits wait, asked, legal, goes, refl, refl)),
+          (call, phase, there, (op, Waits wait, asked, legal, goes, refl, refl)),
           (
             in_state (then_at (Waits wait)) (suc place) call (Goes (resume wait value)),
             [],
@@ -159,7 +160,7 @@ module _ (w : World) (place : ℕ) (call : Started) (to : State) (deed : Deed) (
       }
 
   pub makes_turn : (state : State) → slice_get w.actors place ≡ Some (doing_in call state) →
-      PlaysOn to state (deed ∷ rest) → IsSettled to state (deed ∷ rest) → Makes w place call to deed rest
-  makes_turn state there (turns {phase = phase} deed now after asked goes on) settled =
+      PlaysOn to state (op ∷ rest) → IsSettled to state (op ∷ rest) → Makes w place call to op rest
+  makes_turn state there (turns {phase = phase} op now after asked goes on) settled =
       makes_then phase now after there asked goes (standing_so on)
   makes_turn state there (wakes value reached on) settled = let bad = settled.1 in absurd cc

@@ -7,7 +7,7 @@ use Rattle.sysv_model.specs.Pool.{PoolCall, Reserve, Release, PoolReply, Reserve
 use Rattle.sysv_model.specs.History.{Who}
 use Rattle.sysv_model.specs.Pool.{PoolHistory, frees, released, blocks_for}
 use Rattle.sysv_model.specs.Turn.{AtPool, Turn, pool_entry, pool_history}
-use Rattle.sysv_objects.specs.LegalDeed.{AreLegal}
+use Rattle.sysv_objects.specs.LegalOp.{AreLegal}
 use Rattle.sysv_pool.specs.State.{returned_by, free_after}
 use Rattle.sysv_core.proofs.Histories.{turn_of, one, released_more, returned_more, reserved_more}
 
@@ -67,7 +67,7 @@ short_at generation blocks turns legal before after who size whole low =
     let more = pool_history after in
     let entries : pool_history turns ≡ h ++ e ∷ more =
     ap pool_history whole
-    ∙ flat_map-append (λ (t : Turn). pool_entry t.who t.deed) before
+    ∙ flat_map-append (λ (t : Turn). pool_entry t.who t.op) before
     (turn_of who (AtPool (Reserve size) TooFew) ∷ after) in
     let few : free_after blocks h < blocks_for size = legal.pool h e more entries in
     let now = (later blocks h (e ∷ more)).no_more_free (subst (λ k. released k ≤ released h) entries low) in

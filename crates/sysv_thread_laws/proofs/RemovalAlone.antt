@@ -14,7 +14,7 @@ use Rattle.sysv_model.specs.declared.errno.Errno.TheVariants.{EINVAL, EPERM}
 use Rattle.sysv_model.specs.History.{Who, Seat, Call, Install, Place, Take, Set, Remove, ReadRow, Reply, Installed}
 use Rattle.sysv_model.specs.History.{Accepted, Taken, Done, Discarded, Refused as IsRefusedFor, Entry, History}
 use Rattle.sysv_model.specs.Live.{live, live_after, HasId}
-use Rattle.sysv_model.specs.Turn.{Deed, AtSlot, AtRegistry, AtPool, asked_by, Turn, slot_entry, slot_history}
+use Rattle.sysv_model.specs.Turn.{Op, AtSlot, AtRegistry, AtPool, asked_by, Turn, slot_entry, slot_history}
 use Rattle.sysv_model.specs.Turns.{Numbered, turns_of}
 use Rattle.sysv_model.specs.Turns.{turn_of as turn_at}
 use Rattle.sysv_model.specs.Members.{Member, AreOwn, AreOfOthers, SeesMore, MakesTurn, Does, starts, sees, makes}
@@ -24,7 +24,7 @@ use Rattle.sysv_keys.specs.Identifier.{slot_of_id}
 use Rattle.sysv_steps.specs.Call.{MsgctlRmid}
 use Rattle.sysv_steps.specs.State.{Ending, Zero, Over}
 use Rattle.sysv_steps.specs.Begin.{begin}
-use Rattle.sysv_steps.specs.AsksFor.{AsksFor, EachDeedIsAskedFor}
+use Rattle.sysv_steps.specs.AsksFor.{AsksFor, EachOpIsAskedFor}
 use Rattle.sysv_steps.specs.Answers.{is_at_slot, was_removed, refused_by, EachAnswerIsRight}
 use Rattle.sysv_steps.specs.Played.{Plays}
 use Rattle.sysv_core.proofs.Histories.{slot_more, live_more}
@@ -35,17 +35,17 @@ use Rattle.sysv_service.specs.Stopped.{superuser}
 abbrev pub history : ℕ → List Numbered → History
 history slot order = slot_history slot (turns_of order)
 
--- The turns that were made under the number, with these deeds.
-abbrev pub done_by : ℕ → List Deed → List Numbered
-done_by number deeds = map (λ (d : Deed). record { by = number; deed = d }) deeds
+-- The turns that were made under the number, with these operations.
+abbrev pub done_by : ℕ → List Op → List Numbered
+done_by number ops = map (λ (d : Op). record { by = number; op = d }) ops
 
 -- ---- identifiers of queues
 
--- If the deed made a queue, its identifier belongs to the slot and is not negative.
-abbrev pub IsWellInstalled : Deed → Type 0
+-- If the operation made a queue, its identifier belongs to the slot and is not negative.
+abbrev pub IsWellInstalled : Op → Type 0
 IsWellInstalled (AtSlot slot (Install id key cred mode now) (Installed true)) =
     (slot_of_id id ≡ slot) × (int_lt id (pos 0) ≡ false)
-IsWellInstalled deed = Unit {0}
+IsWellInstalled op = Unit {0}
 
 -- The same of a queue that is live in the slot.
 abbrev pub IsWell : ℕ → Option Attributes → Type 0
@@ -81,21 +81,21 @@ module _ (slot : ℕ) (rest : History)
         (well_after slot o call reply well (subst (λ s. IsWellInstalled (AtSlot s call reply)) same installed))
     well_entry o who at call reply false is well installed = after o well
 
-    well_turn : (o : Option Attributes) (who : Who) (deed : Deed) → IsWell slot o → IsWellInstalled deed →
-        IsWell slot (fold then_live o (slot_entry slot who deed ++ rest))
+    well_turn : (o : Option Attributes) (who : Who) (op : Op) → IsWell slot o → IsWellInstalled op →
+        IsWell slot (fold then_live o (slot_entry slot who op ++ rest))
     well_turn o who (AtSlot at call reply) well installed =
         well_entry o who at call reply (at == slot) refl well installed
     well_turn o who (AtRegistry call reply) well installed = after o well
     well_turn o who (AtPool call reply) well installed = after o well
 
 abbrev IsWellTurn : Numbered → Type 0
-IsWellTurn t = IsWellInstalled t.deed
+IsWellTurn t = IsWellInstalled t.op
 
 well_from : (slot : ℕ) (order : List Numbered) → All IsWellTurn order → (o : Option Attributes) → IsWell slot o →
     IsWell slot (fold then_live o (history slot order))
 well_from slot [] all o well = well
 well_from slot (t ∷ order) all o well =
-    well_turn slot (history slot order) (well_from slot order (All-tail IsWellTurn t order all)) o (Seat t.by) t.deed
+    well_turn slot (history slot order) (well_from slot order (All-tail IsWellTurn t order all)) o (Seat t.by) t.op
     well
     (All-head IsWellTurn t order all)
 
@@ -114,7 +114,7 @@ pub record IsFine (numbers : List ℕ) (order : List Numbered) : Type 0 where
 history_append : (slot : ℕ) (xs ys : List Numbered) → history slot (xs ++ ys) ≡ history slot xs ++ history slot ys
 history_append slot xs ys =
     ap (slot_history slot) (map-append turn_at xs ys)
-    ∙ flat_map-append (λ (t : Turn). slot_entry slot t.who t.deed) (turns_of xs) (turns_of ys)
+    ∙ flat_map-append (λ (t : Turn). slot_entry slot t.who t.op) (turns_of xs) (turns_of ys)
 
 module _ (P : Numbered → Type 0) where
   all_front : (xs ys : List Numbered) → All P (xs ++ ys) → All P xs
@@ -164,52 +164,52 @@ sees_none before after s fine =
     let more = ap order_of s.goes_on in
     more ∙ own_others before.numbers before.order s.others (subst (IsFine before.numbers) more fine) s.apart
 
-pub turns_alone : (before after : Member) (deed : Deed) → MakesTurn before deed after →
-    IsFine before.numbers after.order → after.order ≡ before.order ++ done_by before.number (deed ∷ [])
-turns_alone before after deed m fine =
-    let own = record { by = before.number; deed = deed } ∷ [] in
+pub turns_alone : (before after : Member) (op : Op) → MakesTurn before op after →
+    IsFine before.numbers after.order → after.order ≡ before.order ++ done_by before.number (op ∷ [])
+turns_alone before after op m fine =
+    let own = record { by = before.number; op = op } ∷ [] in
     let more = ap order_of m.goes_on in
     let known = fine_front before.numbers (before.order ++ m.others) own (subst (IsFine before.numbers) more fine) in
     more ∙ ap (λ os. os ++ own) (own_others before.numbers before.order m.others known m.apart)
 
-pub number_stays : (start : Member) (deeds : List Deed) (after : Member) → Does start deeds after →
+pub number_stays : (start : Member) (ops : List Op) (after : Member) → Does start ops after →
     (after.number ≡ start.number) × (after.numbers ≡ start.numbers)
 number_stays start _ _ starts = (refl, refl)
-number_stays start _ _ (sees {deeds} {mid} after does s) =
-    let rest = number_stays start deeds mid does in (
+number_stays start _ _ (sees {ops} {mid} after does s) =
+    let rest = number_stays start ops mid does in (
       ap (λ (m : Member). m.number) s.goes_on ∙ rest.0,
       ap (λ (m : Member). m.numbers) s.goes_on ∙ rest.1,
     )
-number_stays start _ _ (makes {deeds} {mid} deed after does m) =
-    let rest = number_stays start deeds mid does in (
+number_stays start _ _ (makes {ops} {mid} op after does m) =
+    let rest = number_stays start ops mid does in (
       ap (λ (x : Member). x.number) m.goes_on ∙ rest.0,
       ap (λ (x : Member). x.numbers) m.goes_on ∙ rest.1,
     )
 
-pub does_alone : (start : Member) (deeds : List Deed) (after : Member) → Does start deeds after →
-    IsFine start.numbers after.order → after.order ≡ start.order ++ done_by start.number deeds
+pub does_alone : (start : Member) (ops : List Op) (after : Member) → Does start ops after →
+    IsFine start.numbers after.order → after.order ≡ start.order ++ done_by start.number ops
 does_alone start _ _ starts fine = sym (append-nil start.order)
-does_alone start _ _ (sees {deeds} {mid} after does s) fine =
-    let same = number_stays start deeds mid does in
+does_alone start _ _ (sees {ops} {mid} after does s) fine =
+    let same = number_stays start ops mid does in
     let seen = sees_none mid after s (subst (λ ns. IsFine ns after.order) (sym same.1) fine) in
-    seen ∙ does_alone start deeds mid does (subst (IsFine start.numbers) seen fine)
-does_alone start _ _ (makes {deeds} {mid} deed after does m) fine =
-    let same = number_stays start deeds mid does in
-    let own : List Numbered = done_by mid.number (deed ∷ []) in
-    let made = turns_alone mid after deed m (subst (λ ns. IsFine ns after.order) (sym same.1) fine) in
+    seen ∙ does_alone start ops mid does (subst (IsFine start.numbers) seen fine)
+does_alone start _ _ (makes {ops} {mid} op after does m) fine =
+    let same = number_stays start ops mid does in
+    let own : List Numbered = done_by mid.number (op ∷ []) in
+    let made = turns_alone mid after op m (subst (λ ns. IsFine ns after.order) (sym same.1) fine) in
     let rest =
-    does_alone start deeds mid does (fine_front start.numbers mid.order own (subst (IsFine start.numbers) made fine)) in
+    does_alone start ops mid does (fine_front start.numbers mid.order own (subst (IsFine start.numbers) made fine)) in
     made
     ∙ (ap (λ os. os ++ own) rest
-    ∙ (ap (λ n. (start.order ++ done_by start.number deeds) ++ done_by n (deed ∷ [])) same.0
-    ∙ (append_assoc start.order (done_by start.number deeds) (done_by start.number (deed ∷ []))
+    ∙ (ap (λ n. (start.order ++ done_by start.number ops) ++ done_by n (op ∷ [])) same.0
+    ∙ (append_assoc start.order (done_by start.number ops) (done_by start.number (op ∷ []))
     ∙ ap (λ os. start.order ++ os)
-    (sym (map-append (λ (d : Deed). record { by = start.number; deed = d }) deeds (deed ∷ []))))))
+    (sym (map-append (λ (d : Op). record { by = start.number; op = d }) ops (op ∷ []))))))
 
 -- ---- one more turn
 
 history_more : (slot : ℕ) (order : List Numbered) (t : Numbered) →
-    history slot (order ++ t ∷ []) ≡ history slot order ++ slot_entry slot (Seat t.by) t.deed
+    history slot (order ++ t ∷ []) ≡ history slot order ++ slot_entry slot (Seat t.by) t.op
 history_more slot order t =
     ap (slot_history slot) (map-append turn_at order (t ∷ [])) ∙ slot_more slot (turns_of order) (turn_at t)
 
@@ -217,7 +217,7 @@ history_more slot order t =
 pub row_leaves : (slot at number : ℕ) (order : List Numbered) (reply : Reply) →
     live (history slot (order ++ done_by number (AtSlot at ReadRow reply ∷ []))) ≡ live (history slot order)
 row_leaves slot at number order reply =
-    ap live (history_more slot order (record { by = number; deed = AtSlot at ReadRow reply })) ∙ by_slot (at == slot)
+    ap live (history_more slot order (record { by = number; op = AtSlot at ReadRow reply })) ∙ by_slot (at == slot)
   where
     by_slot : (b : Bool) →
         live (history slot order ++ cond b (record { who = Seat number; call = ReadRow; reply = reply } ∷ []) [])
@@ -228,11 +228,11 @@ row_leaves slot at number order reply =
 -- ---- the turns of a removal
 
 module _ (id : ℤ) where
-  -- The deed is one that a removal of this queue by the superuser requests.
-  abbrev Asks : Deed → Type 0
-  Asks deed = AsksFor superuser (MsgctlRmid id) (asked_by deed)
+  -- The operation is one that a removal of this queue by the superuser requests.
+  abbrev Asks : Op → Type 0
+  Asks op = AsksFor superuser (MsgctlRmid id) (asked_by op)
 
-  abbrev removal : Reply → Deed
+  abbrev removal : Reply → Op
   removal reply = AtSlot (slot_of_id id) (Remove id superuser) reply
 
   at_slot_is : (slot : ℕ) (call : Call) (reply : Reply) → Asks (AtSlot slot call reply) →
@@ -252,7 +252,7 @@ module _ (id : ℤ) where
   removal_leaves : (slot number : ℕ) (order : List Numbered) (reply : Reply) → live (history slot order) ≡ None →
       live (history slot (order ++ done_by number (removal reply ∷ []))) ≡ None
   removal_leaves slot number order reply none =
-      ap live (history_more slot order (record { by = number; deed = removal reply })) ∙ by_slot (slot_of_id id == slot)
+      ap live (history_more slot order (record { by = number; op = removal reply })) ∙ by_slot (slot_of_id id == slot)
     where
       by_slot : (b : Bool) →
           live (history slot order
@@ -263,30 +263,30 @@ module _ (id : ℤ) where
           ∙ (ap (λ o. live_after o (Remove id superuser) reply) none ∙ still_none reply)
       by_slot false = ap live (append-nil (history slot order)) ∙ none
 
-  one_leaves : (slot number : ℕ) (order : List Numbered) (deed : Deed) → Asks deed →
-      live (history slot order) ≡ None → live (history slot (order ++ done_by number (deed ∷ []))) ≡ None
+  one_leaves : (slot number : ℕ) (order : List Numbered) (op : Op) → Asks op →
+      live (history slot order) ≡ None → live (history slot (order ++ done_by number (op ∷ []))) ≡ None
   one_leaves slot number order (AtSlot at call reply) asks none =
-      subst (λ (d : Deed). live (history slot (order ++ done_by number (d ∷ []))) ≡ None)
+      subst (λ (d : Op). live (history slot (order ++ done_by number (d ∷ []))) ≡ None)
       (sym (at_slot_is at call reply asks)) (removal_leaves slot number order reply none)
   one_leaves slot number order (AtRegistry call reply) asks none =
-      ap live (history_more slot order (record { by = number; deed = AtRegistry call reply })
+      ap live (history_more slot order (record { by = number; op = AtRegistry call reply })
       ∙ append-nil (history slot order)) ∙ none
   one_leaves slot number order (AtPool call reply) asks none =
-      ap live (history_more slot order (record { by = number; deed = AtPool call reply })
+      ap live (history_more slot order (record { by = number; op = AtPool call reply })
       ∙ append-nil (history slot order)) ∙ none
 
   -- The turns of an order, one of them first.
-  one_first : (number : ℕ) (order : List Numbered) (deed : Deed) (deeds : List Deed) →
-      (order ++ done_by number (deed ∷ [])) ++ done_by number deeds ≡ order ++ done_by number (deed ∷ deeds)
-  one_first number order deed deeds = append_assoc order (done_by number (deed ∷ [])) (done_by number deeds)
+  one_first : (number : ℕ) (order : List Numbered) (op : Op) (ops : List Op) →
+      (order ++ done_by number (op ∷ [])) ++ done_by number ops ≡ order ++ done_by number (op ∷ ops)
+  one_first number order op ops = append_assoc order (done_by number (op ∷ [])) (done_by number ops)
 
-  all_leave : (slot number : ℕ) (order : List Numbered) (deeds : List Deed) → All Asks deeds →
-      live (history slot order) ≡ None → live (history slot (order ++ done_by number deeds)) ≡ None
+  all_leave : (slot number : ℕ) (order : List Numbered) (ops : List Op) → All Asks ops →
+      live (history slot order) ≡ None → live (history slot (order ++ done_by number ops)) ≡ None
   all_leave slot number order [] asks none = ap (λ os. live (history slot os)) (append-nil order) ∙ none
-  all_leave slot number order (deed ∷ deeds) asks none =
-      subst (λ os. live (history slot os) ≡ None) (one_first number order deed deeds)
-      (all_leave slot number (order ++ done_by number (deed ∷ [])) deeds (All-tail Asks deed deeds asks)
-      (one_leaves slot number order deed (All-head Asks deed deeds asks) none))
+  all_leave slot number order (op ∷ ops) asks none =
+      subst (λ os. live (history slot os) ≡ None) (one_first number order op ops)
+      (all_leave slot number (order ++ done_by number (op ∷ [])) ops (All-tail Asks op ops asks)
+      (one_leaves slot number order op (All-head Asks op ops asks) none))
 
   -- ---- the queue is removed
 
@@ -302,120 +302,120 @@ module _ (id : ℤ) where
   is_discarded h (IsRefusedFor why) has legal = absurd legal
   is_discarded h reply has legal = absurd legal
 
-  -- The queue is gone after the deeds, and one of them removed it.
-  record IsGone (number : ℕ) (order : List Numbered) (deeds : List Deed) : Type 0 where
-    vacant : live (history (slot_of_id id) (order ++ done_by number deeds)) ≡ None
-    removed : list_any was_removed deeds ≡ true
+  -- The queue is gone after the operations, and one of them removed it.
+  record IsGone (number : ℕ) (order : List Numbered) (ops : List Op) : Type 0 where
+    vacant : live (history (slot_of_id id) (order ++ done_by number ops)) ≡ None
+    removed : list_any was_removed ops ≡ true
 
-  removed_now : (numbers : List ℕ) (number : ℕ) (order : List Numbered) (reply : Reply) (deeds : List Deed) →
-      All Asks deeds → IsFine numbers (order ++ done_by number (removal reply ∷ deeds)) →
-      HasId (live (history (slot_of_id id) order)) id → IsGone number order (removal reply ∷ deeds)
-  removed_now numbers number order reply deeds asks fine has =
+  removed_now : (numbers : List ℕ) (number : ℕ) (order : List Numbered) (reply : Reply) (ops : List Op) →
+      All Asks ops → IsFine numbers (order ++ done_by number (removal reply ∷ ops)) →
+      HasId (live (history (slot_of_id id) order)) id → IsGone number order (removal reply ∷ ops)
+  removed_now numbers number order reply ops asks fine has =
       let slot = slot_of_id id in
       let h = history slot order in
       let e : Entry = record { who = Seat number; call = Remove id superuser; reply = reply } in
-      let whole : history slot (order ++ done_by number (removal reply ∷ deeds))
-      ≡ h ++ e ∷ history slot (done_by number deeds) =
-      ap (slot_history slot) (map-append turn_at order (done_by number (removal reply ∷ deeds)))
-      ∙ slot_around slot (turns_of order) (turns_of (done_by number deeds)) (Seat number) (Remove id superuser) reply in
-      let legal = fine.legal slot h e (history slot (done_by number deeds)) whole in
+      let whole : history slot (order ++ done_by number (removal reply ∷ ops))
+      ≡ h ++ e ∷ history slot (done_by number ops) =
+      ap (slot_history slot) (map-append turn_at order (done_by number (removal reply ∷ ops)))
+      ∙ slot_around slot (turns_of order) (turns_of (done_by number ops)) (Seat number) (Remove id superuser) reply in
+      let legal = fine.legal slot h e (history slot (done_by number ops)) whole in
       let gone = is_discarded h reply has legal in
       let now : live (history slot (order ++ done_by number (removal reply ∷ []))) ≡ None =
       ap live (ap (slot_history slot) (map-append turn_at order (done_by number (removal reply ∷ [])))
       ∙ slot_around slot (turns_of order) [] (Seat number) (Remove id superuser) reply)
       ∙ (live_more h e ∙ gone.0) in
       record {
-        vacant = subst (λ os. live (history slot os) ≡ None) (one_first number order (removal reply) deeds)
-            (all_leave slot number (order ++ done_by number (removal reply ∷ [])) deeds asks now);
-        removed = ap (λ b. b || list_any was_removed deeds) gone.1;
+        vacant = subst (λ os. live (history slot os) ≡ None) (one_first number order (removal reply) ops)
+            (all_leave slot number (order ++ done_by number (removal reply ∷ [])) ops asks now);
+        removed = ap (λ b. b || list_any was_removed ops) gone.1;
       }
 
-  later : (number : ℕ) (order : List Numbered) (deed : Deed) (deeds : List Deed) →
-      was_removed deed ≡ false → IsGone number (order ++ done_by number (deed ∷ [])) deeds →
-      IsGone number order (deed ∷ deeds)
-  later number order deed deeds none gone = record {
-    vacant = subst (λ os. live (history (slot_of_id id) os) ≡ None) (one_first number order deed deeds) gone.vacant;
-    removed = ap (λ b. b || list_any was_removed deeds) none ∙ gone.removed;
+  later : (number : ℕ) (order : List Numbered) (op : Op) (ops : List Op) →
+      was_removed op ≡ false → IsGone number (order ++ done_by number (op ∷ [])) ops →
+      IsGone number order (op ∷ ops)
+  later number order op ops none gone = record {
+    vacant = subst (λ os. live (history (slot_of_id id) os) ≡ None) (one_first number order op ops) gone.vacant;
+    removed = ap (λ b. b || list_any was_removed ops) none ∙ gone.removed;
   }
 
-  still_has : (number : ℕ) (order : List Numbered) (deed : Deed) →
-      slot_entry (slot_of_id id) (Seat number) deed ≡ [] → HasId (live (history (slot_of_id id) order)) id →
-      HasId (live (history (slot_of_id id) (order ++ done_by number (deed ∷ [])))) id
-  still_has number order deed none has =
+  still_has : (number : ℕ) (order : List Numbered) (op : Op) →
+      slot_entry (slot_of_id id) (Seat number) op ≡ [] → HasId (live (history (slot_of_id id) order)) id →
+      HasId (live (history (slot_of_id id) (order ++ done_by number (op ∷ [])))) id
+  still_has number order op none has =
       let slot = slot_of_id id in
-      let same : history slot (order ++ done_by number (deed ∷ [])) ≡ history slot order =
-      history_more slot order (record { by = number; deed = deed })
+      let same : history slot (order ++ done_by number (op ∷ [])) ≡ history slot order =
+      history_more slot order (record { by = number; op = op })
       ∙ (ap (λ es. history slot order ++ es) none ∙ append-nil (history slot order)) in
       subst (λ (h : History). HasId (live h) id) (sym same) has
 
-  removes_it : (numbers : List ℕ) (number : ℕ) (order : List Numbered) (deeds : List Deed) → All Asks deeds →
-      IsFine numbers (order ++ done_by number deeds) → HasId (live (history (slot_of_id id) order)) id →
-      list_any is_at_slot deeds ≡ true → IsGone number order deeds
+  removes_it : (numbers : List ℕ) (number : ℕ) (order : List Numbered) (ops : List Op) → All Asks ops →
+      IsFine numbers (order ++ done_by number ops) → HasId (live (history (slot_of_id id) order)) id →
+      list_any is_at_slot ops ≡ true → IsGone number order ops
   removes_it numbers number order [] asks fine has some = absurd cc
-  removes_it numbers number order (AtSlot slot call reply ∷ deeds) asks fine has some =
-      let deed = AtSlot slot call reply in
-      let is = at_slot_is slot call reply (All-head Asks deed deeds asks) in
-      subst (λ (d : Deed). IsGone number order (d ∷ deeds)) (sym is)
-      (removed_now numbers number order reply deeds (All-tail Asks deed deeds asks)
-      (subst (λ (d : Deed). IsFine numbers (order ++ done_by number (d ∷ deeds))) is fine) has)
-  removes_it numbers number order (AtRegistry call reply ∷ deeds) asks fine has some =
-      let deed = AtRegistry call reply in
-      later number order deed deeds refl
-      (removes_it numbers number (order ++ done_by number (deed ∷ [])) deeds (All-tail Asks deed deeds asks)
-      (subst (IsFine numbers) (sym (one_first number order deed deeds)) fine)
-      (still_has number order deed refl has) some)
-  removes_it numbers number order (AtPool call reply ∷ deeds) asks fine has some =
-      let deed = AtPool call reply in
-      later number order deed deeds refl
-      (removes_it numbers number (order ++ done_by number (deed ∷ [])) deeds (All-tail Asks deed deeds asks)
-      (subst (IsFine numbers) (sym (one_first number order deed deeds)) fine)
-      (still_has number order deed refl has) some)
+  removes_it numbers number order (AtSlot slot call reply ∷ ops) asks fine has some =
+      let op = AtSlot slot call reply in
+      let is = at_slot_is slot call reply (All-head Asks op ops asks) in
+      subst (λ (d : Op). IsGone number order (d ∷ ops)) (sym is)
+      (removed_now numbers number order reply ops (All-tail Asks op ops asks)
+      (subst (λ (d : Op). IsFine numbers (order ++ done_by number (d ∷ ops))) is fine) has)
+  removes_it numbers number order (AtRegistry call reply ∷ ops) asks fine has some =
+      let op = AtRegistry call reply in
+      later number order op ops refl
+      (removes_it numbers number (order ++ done_by number (op ∷ [])) ops (All-tail Asks op ops asks)
+      (subst (IsFine numbers) (sym (one_first number order op ops)) fine)
+      (still_has number order op refl has) some)
+  removes_it numbers number order (AtPool call reply ∷ ops) asks fine has some =
+      let op = AtPool call reply in
+      later number order op ops refl
+      (removes_it numbers number (order ++ done_by number (op ∷ [])) ops (All-tail Asks op ops asks)
+      (subst (IsFine numbers) (sym (one_first number order op ops)) fine)
+      (still_has number order op refl has) some)
 
 -- ---- the call comes to the slot
 
-removal_at_slot : (deeds : List Deed) → list_any was_removed deeds ≡ true → list_any is_at_slot deeds ≡ true
+removal_at_slot : (ops : List Op) → list_any was_removed ops ≡ true → list_any is_at_slot ops ≡ true
 removal_at_slot [] some = some
-removal_at_slot (AtSlot slot call reply ∷ deeds) some = refl
-removal_at_slot (AtRegistry call reply ∷ deeds) some = removal_at_slot deeds some
-removal_at_slot (AtPool call reply ∷ deeds) some = removal_at_slot deeds some
+removal_at_slot (AtSlot slot call reply ∷ ops) some = refl
+removal_at_slot (AtRegistry call reply ∷ ops) some = removal_at_slot ops some
+removal_at_slot (AtPool call reply ∷ ops) some = removal_at_slot ops some
 
-refusal_at_slot : (deeds : List Deed) (why : Errno) → flat_map refused_by deeds ≡ why ∷ [] →
-    list_any is_at_slot deeds ≡ true
+refusal_at_slot : (ops : List Op) (why : Errno) → flat_map refused_by ops ≡ why ∷ [] →
+    list_any is_at_slot ops ≡ true
 refusal_at_slot [] why some = absurd cc
-refusal_at_slot (AtSlot slot call reply ∷ deeds) why some = refl
-refusal_at_slot (AtRegistry call reply ∷ deeds) why some = refusal_at_slot deeds why some
-refusal_at_slot (AtPool call reply ∷ deeds) why some = refusal_at_slot deeds why some
+refusal_at_slot (AtSlot slot call reply ∷ ops) why some = refl
+refusal_at_slot (AtRegistry call reply ∷ ops) why some = refusal_at_slot ops why some
+refusal_at_slot (AtPool call reply ∷ ops) why some = refusal_at_slot ops why some
 
 -- What a removal of a live queue does while no other pass makes turns.
 pub record Removes (id : ℤ) (before after : Member) (ending : Ending) : Type 0 where
-  pub deeds : List Deed
-  pub whole : after.order ≡ before.order ++ done_by before.number deeds
+  pub ops : List Op
+  pub whole : after.order ≡ before.order ++ done_by before.number ops
   pub vacant : live (history (slot_of_id id) after.order) ≡ None
   pub leaves : (slot : ℕ) → live (history slot before.order) ≡ None → live (history slot after.order) ≡ None
   pub zero : ending ≡ Zero
 
-pub removes_alone : EachAnswerIsRight → EachDeedIsAskedFor → (id : ℤ) (before after : Member) (deeds : List Deed)
-    (ending : Ending) → int_lt id (pos 0) ≡ false → Plays (begin superuser (MsgctlRmid id) 0) deeds (Over ending) →
-    Does before deeds after → IsFine before.numbers after.order →
+pub removes_alone : EachAnswerIsRight → EachOpIsAskedFor → (id : ℤ) (before after : Member) (ops : List Op)
+    (ending : Ending) → int_lt id (pos 0) ≡ false → Plays (begin superuser (MsgctlRmid id) 0) ops (Over ending) →
+    Does before ops after → IsFine before.numbers after.order →
     HasId (live (history (slot_of_id id) before.order)) id → Removes id before after ending
-removes_alone right asked id before after deeds ending whole play does fine has =
-    let order = does_alone before deeds after does fine in
-    let asks : All (Asks id) deeds = asked superuser (MsgctlRmid id) 0 deeds (Over ending) play in
-    let answer = right superuser (MsgctlRmid id) 0 deeds ending play in
-    let there : list_any is_at_slot deeds ≡ true = elim answer.only [
-      | inl zero ↦ removal_at_slot deeds (answer.zero.0 zero)
+removes_alone right asked id before after ops ending whole play does fine has =
+    let order = does_alone before ops after does fine in
+    let asks : All (Asks id) ops = asked superuser (MsgctlRmid id) 0 ops (Over ending) play in
+    let answer = right superuser (MsgctlRmid id) 0 ops ending play in
+    let there : list_any is_at_slot ops ≡ true = elim answer.only [
+      | inl zero ↦ removal_at_slot ops (answer.zero.0 zero)
       | inr (why, refused) ↦ elim ((answer.refused why).0 refused) [
         | inl own ↦ let bad : false ≡ true = sym whole ∙ own.1 in absurd cc
-        | inr told ↦ refusal_at_slot deeds why told
+        | inr told ↦ refusal_at_slot ops why told
       ]
     ] in
-    let gone = removes_it id before.numbers before.number before.order deeds asks
+    let gone = removes_it id before.numbers before.number before.order ops asks
     (subst (IsFine before.numbers) order fine) has there in
     record {
-      deeds = deeds;
+      ops = ops;
       whole = order;
       vacant = subst (λ os. live (history (slot_of_id id) os) ≡ None) (sym order) gone.vacant;
       leaves = λ slot none. subst (λ os. live (history slot os) ≡ None) (sym order)
-          (all_leave id slot before.number before.order deeds asks none);
+          (all_leave id slot before.number before.order ops asks none);
       zero = answer.zero.1 gone.removed;
     }

@@ -9,7 +9,7 @@ use Rattle.std.proofs.lemmas.List.Elements.{All-push}
 use Rattle.sysv_model.specs.History.{Who, Actor, ReadRow, Reply, Entry}
 use Rattle.sysv_model.specs.Waiting.{held as waiting_in}
 use Rattle.sysv_model.specs.Pool.{Foreign, PoolEntry, PoolHistory}
-use Rattle.sysv_model.specs.Turn.{Deed, AtSlot, Turn, registry_history, pool_history, slot_history, deeds_of}
+use Rattle.sysv_model.specs.Turn.{Op, AtSlot, Turn, registry_history, pool_history, slot_history, ops_of}
 use Rattle.sysv_pool.specs.State.{free_after}
 use Rattle.sysv_queue.specs.Slot.{slot_of}
 use Rattle.sysv_queue.specs.Blocks.{blocks_of}
@@ -17,9 +17,9 @@ use Rattle.sysv_queue.specs.BlocksKept.{TurnKeepsBlocks}
 use Rattle.sysv_queue.specs.LegalReply.{Legal, IsLegalHistory}
 use Rattle.sysv_keys.specs.declared.identifier.TheConstants.{SLOTS}
 use Rattle.sysv_keys.specs.Identifier.{slot_of_id}
-use Rattle.sysv_objects.specs.LegalDeed.{IsLegalDeed, AreLegal}
+use Rattle.sysv_objects.specs.LegalOp.{IsLegalOp, AreLegal}
 use Rattle.sysv_steps.specs.Played.{Plays}
-use Rattle.sysv_core.specs.World.{World, Started, Doing, Given, begun}
+use Rattle.sysv_core.specs.World.{World, Invocation, Doing, Response, begun}
 use Rattle.sysv_core.specs.Conserved.{blocks_waiting, blocks_in_calls, AreConserved}
 use Rattle.sysv_core.specs.Sound.{IsSound, IsMadeIn}
 use Rattle.sysv_core.proofs.Histories.{turn_of, slot_more, registry_more, pool_stays}
@@ -28,22 +28,22 @@ use Rattle.sysv_core.proofs.SoundStays.{all_made, still_made}
 use Rattle.sysv_core.proofs.Life.{does, jobs_of, not_both, no_job}
 use Rattle.sysv_core.proofs.LifeGoesOn.{life_apart}
 use Rattle.sysv_core.proofs.WorldsObey.{HasMaker, Inv}
-use Rattle.sysv_core.proofs.PartsOfOneCall.{not_same, other_deed}
+use Rattle.sysv_core.proofs.PartsOfOneCall.{not_same, other_op}
 use Rattle.sysv_thread_laws.specs.FreeRun.{nobody}
 use Rattle.sysv_thread_laws.specs.OnThreads.{IsRowRead}
 
 module _ (turns : List Turn) (slot : ℕ) (reply : Reply) where
-  abbrev pub row_deed : Deed
-  row_deed = AtSlot slot ReadRow reply
+  abbrev pub row_op : Op
+  row_op = AtSlot slot ReadRow reply
 
   abbrev pub with_row : List Turn
-  with_row = turns ++ turn_of nobody row_deed ∷ []
+  with_row = turns ++ turn_of nobody row_op ∷ []
 
   same_registry : registry_history with_row ≡ registry_history turns
-  same_registry = registry_more turns (turn_of nobody row_deed) ∙ append-nil (registry_history turns)
+  same_registry = registry_more turns (turn_of nobody row_op) ∙ append-nil (registry_history turns)
 
   same_pool : pool_history with_row ≡ pool_history turns
-  same_pool = pool_stays turns nobody row_deed refl
+  same_pool = pool_stays turns nobody row_op refl
 
   -- No block moves in a slot.
   module _ (kept : TurnKeepsBlocks) (slots : (other : ℕ) → IsLegalHistory (slot_history other turns))
@@ -63,7 +63,7 @@ module _ (turns : List Turn) (slot : ℕ) (reply : Reply) where
 
     each_slot : (other : ℕ) → waiting_at with_row other ≡ waiting_at turns other
     each_slot other =
-        ap (λ h. blocks_of (waiting_in h)) (slot_more other turns (turn_of nobody row_deed))
+        ap (λ h. blocks_of (waiting_in h)) (slot_more other turns (turn_of nobody row_op))
         ∙ in_slot other (eqb slot other) (λ e. eqb-true slot other e)
 
     same_waiting : blocks_waiting with_row ≡ blocks_waiting turns
@@ -80,8 +80,8 @@ module _ (turns : List Turn) (slot : ℕ) (reply : Reply) where
     }
 
 module _
-    (more : (generation blocks : ℕ) (turns : List Turn) (who : Who) (deed : Deed) → AreLegal generation blocks turns →
-    IsLegalDeed generation blocks turns deed → AreLegal generation blocks (turns ++ turn_of who deed ∷ []))
+    (more : (generation blocks : ℕ) (turns : List Turn) (who : Who) (op : Op) → AreLegal generation blocks turns →
+    IsLegalOp generation blocks turns op → AreLegal generation blocks (turns ++ turn_of who op ∷ []))
     (kept : TurnKeepsBlocks)
     (w : World) (slot : ℕ) (reply : Reply) (legal : Legal (slot_of (slot_history slot w.turns)) ReadRow reply) where
   abbrev pub read : World
@@ -101,8 +101,8 @@ module _
       still at m = still_made w.turns (turn_of nobody (AtSlot slot ReadRow reply)) at m
 
   -- The calls remain in their states.
-  pub row_keeps : (given : List Given) → Inv IsRowRead w given → Inv IsRowRead read given
-  row_keeps given i = record {
+  pub row_keeps : (responses : List Response) → Inv IsRowRead w responses → Inv IsRowRead read responses
+  row_keeps responses i = record {
     sound = row_sound i.sound;
     life = life_apart w.turns nobody (AtSlot slot ReadRow reply) (jobs_of w.actors) i.life (record {
       seemly = (tt, tt, tt);
@@ -127,7 +127,7 @@ module _
     doing = i.doing;
   }
     where
-      same : (c : Started) → Contains w.calls c → deeds_of c.who (with_row w.turns slot reply) ≡ deeds_of c.who w.turns
-      same c has = other_deed c.who w.turns (turn_of nobody (AtSlot slot ReadRow reply))
+      same : (c : Invocation) → Contains w.calls c → ops_of c.who (with_row w.turns slot reply) ≡ ops_of c.who w.turns
+      same c has = other_op c.who w.turns (turn_of nobody (AtSlot slot ReadRow reply))
           (not_same c.who nobody
           (λ e. let b = i.before c has in let bad : Actor (suc b.0) b.1 ≡ Actor 0 0 = sym b.2 ∙ e in cc))

@@ -3,7 +3,7 @@ use Rattle.std.proofs.Common.{◌≡◌, ℕ, Bool, true, false, List, refl, sym
 use Rattle.std.specs.List.{All}
 use Rattle.std.proofs.lemmas.List.Elements.{All-push, All-nil}
 use Rattle.sysv_model.specs.History.{ReadRow}
-use Rattle.sysv_model.specs.Turn.{Deed, OfSlot, asked_by}
+use Rattle.sysv_model.specs.Turn.{Op, OfSlot, asked_by}
 use Rattle.sysv_steps.specs.State.{Phase, State, AtBegin, AtInstall, AtSettle, AtProbe, AtUnmake, AtLook, AtReserve}
 use Rattle.sysv_steps.specs.State.{AtPlace, AtSendGiveback, AtTake, AtReceiveGiveback, AtStat, AtSet, AtSetGiveback}
 use Rattle.sysv_steps.specs.State.{AtRemove, AtForget, AtRemoveGiveback}
@@ -12,8 +12,8 @@ use Rattle.sysv_steps.specs.Played.{Plays, begins, steps, resumes}
 use Rattle.sysv_thread_laws.specs.Order.{shows_row, NoCallReadsARow}
 use Rattle.sysv_thread_laws.proofs.OrderLeadsOn.{row_form}
 
-abbrev IsQuiet : Deed → Type 0
-IsQuiet deed = shows_row deed ≡ false
+abbrev IsQuiet : Op → Type 0
+IsQuiet op = shows_row op ≡ false
 
 no_step : (phase : Phase) (now slot : ℕ) → ¬ (OfSlot slot ReadRow ≡ asks phase now)
 no_step (AtBegin get) now slot e = cc
@@ -34,17 +34,17 @@ no_step (AtRemove cred id) now slot e = cc
 no_step (AtForget id blocks) now slot e = cc
 no_step (AtRemoveGiveback blocks) now slot e = cc
 
-quiet_step : (deed : Deed) (phase : Phase) (now : ℕ) (b : Bool) → asked_by deed ≡ asks phase now → shows_row deed ≡ b →
+quiet_step : (op : Op) (phase : Phase) (now : ℕ) (b : Bool) → asked_by op ≡ asks phase now → shows_row op ≡ b →
     b ≡ false
-quiet_step deed phase now false asked shows = refl
-quiet_step deed phase now true asked shows =
-    let form = row_form deed shows in
+quiet_step op phase now false asked shows = refl
+quiet_step op phase now true asked shows =
+    let form = row_form op shows in
     absurd (no_step phase now form.0 (sym (ap asked_by form.2) ∙ asked))
 
-quiet_play : {from state : State} {deeds : List Deed} → Plays from deeds state → All IsQuiet deeds
+quiet_play : {from state : State} {ops : List Op} → Plays from ops state → All IsQuiet ops
 quiet_play begins = All-nil IsQuiet
-quiet_play (steps {deeds = deeds} {phase = phase} deed now after plays asked goes) =
-    All-push IsQuiet deeds deed (quiet_play plays) (quiet_step deed phase now (shows_row deed) asked refl)
+quiet_play (steps {ops = ops} {phase = phase} op now after plays asked goes) =
+    All-push IsQuiet ops op (quiet_play plays) (quiet_step op phase now (shows_row op) asked refl)
 quiet_play (resumes value plays reached) = quiet_play plays
 
 pub no_call_reads_a_row : NoCallReadsARow

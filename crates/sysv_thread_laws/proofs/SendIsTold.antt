@@ -22,14 +22,14 @@ use Rattle.sysv_model.specs.Live.{live, live_after, sent_to, received_from, HasI
 use Rattle.sysv_model.specs.Registry.{Changed, Found, Made, Busy, Unbound}
 use Rattle.sysv_model.specs.Pool.{Reserve, Release, PoolReply, Reserved, TooFew, Released, Foreign, PoolEntry}
 use Rattle.sysv_model.specs.Pool.{PoolHistory, frees, released}
-use Rattle.sysv_model.specs.Turn.{OfSlot, OfPool, Deed, AtSlot, AtRegistry, AtPool, asked_by, Turn, slot_entry}
-use Rattle.sysv_model.specs.Turn.{pool_entry, slot_history, pool_history, is_same, deeds_of}
+use Rattle.sysv_model.specs.Turn.{OfSlot, OfPool, Op, AtSlot, AtRegistry, AtPool, asked_by, Turn, slot_entry}
+use Rattle.sysv_model.specs.Turn.{pool_entry, slot_history, pool_history, is_same, ops_of}
 use Rattle.sysv_pool.specs.LegalReply.{IsLegalReply as IsLegalPoolReply}
 use Rattle.sysv_queue.specs.Blocks.{blocks_of}
 use Rattle.sysv_queue.specs.Granted.{MayWrite}
 use Rattle.sysv_queue.specs.LegalReply.{IsLegalReply}
 use Rattle.sysv_keys.specs.Identifier.{slot_of_id}
-use Rattle.sysv_objects.specs.LegalDeed.{AreLegal}
+use Rattle.sysv_objects.specs.LegalOp.{AreLegal}
 use Rattle.sysv_steps.specs.Call.{SystemCall, Msgget, Msgsnd, Msgrcv, MsgctlStat, MsgctlSet, MsgctlRmid}
 use Rattle.sysv_steps.specs.State.{Sending, Wait, OnSettled, OnFreed, OnReleased, OnArrived, IsRefused, WaitsOn, Phase}
 use Rattle.sysv_steps.specs.State.{AtBegin, AtSettle, AtUnmake, AtLook, AtReserve, AtSendGiveback, AtTake, AtSet}
@@ -43,7 +43,7 @@ use Rattle.sysv_steps.specs.Played.{Plays, begins, steps, resumes}
 use Rattle.sysv_steps.specs.Answers.{is_at_slot}
 use Rattle.sysv_steps.specs.AsksFor.{AsksFor, AllAskFor}
 use Rattle.sysv_steps.specs.WaitsFor.{WaitsFor}
-use Rattle.sysv_core.specs.World.{World, Opening, Started, Doing, Given, begun}
+use Rattle.sysv_core.specs.World.{World, Opening, Invocation, Doing, Response, begun}
 use Rattle.sysv_core.specs.AnswerLaw.{Fate, stands_in, standing, standing_of, AsksAsItWasAsked}
 use Rattle.sysv_core.specs.Parked.{HasTooFewBlocks, HasChangeToTell, IsToBeWoken, HasToGiveBack}
 use Rattle.sysv_core.proofs.Life.{or_left, or_right}
@@ -54,7 +54,7 @@ use Rattle.sysv_core.proofs.TurnInHistory.{made_at, slot_around}
 use Rattle.sysv_core.proofs.WorldsObey.{Inv}
 use Rattle.sysv_thread_laws.specs.OnThreads.{IsRowRead, IsMadeOrRead, ObeysOnThreads}
 use Rattle.sysv_thread_laws.specs.ParkedOnThreads.{HadReleasedAtSlot}
-use Rattle.sysv_thread_laws.proofs.PlayPrefix.{no_nil, last_or_before, all_at, deeds_around, has_turn}
+use Rattle.sysv_thread_laws.proofs.PlayPrefix.{no_nil, last_or_before, all_at, ops_around, has_turn}
 use Rattle.sysv_thread_laws.proofs.PoolLater.{later, short_at}
 
 -- ---- the last turns of the send
@@ -70,19 +70,19 @@ reserve_phase (AtReserve s) now size goal send a row = ap AtReserve (waits_so s.
 reserve_phase phase now size goal send a row = absurd cc
 
 module _ (from : State) (goal size : ℕ) (send : Sending) where
-  before_reserve : (deeds : List Deed) (state : State) → Plays from deeds state → state ≡ Waits (OnReleased goal send) →
-      (front : List Deed) → deeds ≡ front ++ AtPool (Reserve size) TooFew ∷ [] →
+  before_reserve : (ops : List Op) (state : State) → Plays from ops state → state ≡ Waits (OnReleased goal send) →
+      (front : List Op) → ops ≡ front ++ AtPool (Reserve size) TooFew ∷ [] →
       Plays from front (Goes (AtReserve send))
   before_reserve _ _ begins is front e = absurd (no_nil front (AtPool (Reserve size) TooFew) [] e)
-  before_reserve _ _ (resumes {deeds} {wait} value play least) is front e = absurd cc
-  before_reserve _ _ (steps {deeds} {phase} deed now after play a row) is front e =
-      elim (last_or_before deeds deed front (AtPool (Reserve size) TooFew) [] e) [
-        | inr more ↦ absurd (no_nil more.0 deed [] more.2)
+  before_reserve _ _ (resumes {ops} {wait} value play least) is front e = absurd cc
+  before_reserve _ _ (steps {ops} {phase} op now after play a row) is front e =
+      elim (last_or_before ops op front (AtPool (Reserve size) TooFew) [] e) [
+        | inr more ↦ absurd (no_nil more.0 op [] more.2)
         | inl here ↦
             let at = reserve_phase phase now size goal send (ap asked_by here.1 ∙ a)
             (ap (next phase) here.1 ∙ (row ∙ ap (λ s. Some s) is)) in
             subst (λ ds. Plays from ds (Goes (AtReserve send))) (sym here.0)
-            (subst (λ p. Plays from deeds (Goes p)) at play)
+            (subst (λ p. Plays from ops (Goes p)) at play)
       ]
 
 -- The state is not before a reserve.
@@ -95,11 +95,11 @@ held_up true wait why = tt
 held_up false wait why = tt
 
 -- The look that found room.
-abbrev IsFitting : Phase → Deed → Type 0
-IsFitting phase deed =
-    (s : Sending) × (slot : ℕ) × (c : Call) × (phase ≡ AtLook s) × (deed ≡ AtSlot slot c Fits)
+abbrev IsFitting : Phase → Op → Type 0
+IsFitting phase op =
+    (s : Sending) × (slot : ℕ) × (c : Call) × (phase ≡ AtLook s) × (op ≡ AtSlot slot c Fits)
 
-elsewhere : (phase : Phase) (deed : Deed) → Elsewhere (next phase deed) ⊎ IsFitting phase deed
+elsewhere : (phase : Phase) (op : Op) → Elsewhere (next phase op) ⊎ IsFitting phase op
 elsewhere (AtLook send) (AtSlot slot c Fits) = inr (send, slot, c, refl, refl)
 elsewhere (AtLook send) (AtSlot slot c (Full freed)) = inl (held_up send.nowait _ _)
 elsewhere (AtLook send) (AtSlot slot c reply) = inl tt
@@ -141,7 +141,7 @@ resumed_elsewhere (OnFreed goal send) value = tt
 resumed_elsewhere (OnReleased goal send) value = tt
 resumed_elsewhere (OnArrived goal receive) value = tt
 
-abbrev look_of : Sending → Deed
+abbrev look_of : Sending → Op
 look_of send = AtSlot (slot_of_id send.id) (Look send.id send.cred (length send.text)) Fits
 
 is_look : (send s : Sending) (slot : ℕ) (c : Call) (now : ℕ) (after : State) → OfSlot slot c ≡ asks (AtLook s) now →
@@ -155,27 +155,27 @@ is_look send s slot c now after a row is =
     ∙ (ap (λ x. AtSlot (slot_of_id s.id) x Fits) call ∙ ap look_of kept)
 
 module _ (cred : Cred) (asked : SystemCall) (read : ℕ) (send : Sending) where
-  after_look : (deeds : List Deed) (state : State) → Plays (begin cred asked read) deeds state →
-      state ≡ Goes (AtReserve send) → (front : List Deed) × (deeds ≡ front ++ look_of send ∷ [])
+  after_look : (ops : List Op) (state : State) → Plays (begin cred asked read) ops state →
+      state ≡ Goes (AtReserve send) → (front : List Op) × (ops ≡ front ++ look_of send ∷ [])
   after_look _ _ begins is =
       absurd (subst Elsewhere (ap (λ s. Some s) is) (begun_elsewhere cred asked read (is_refused asked)))
-  after_look _ _ (resumes {deeds} {wait} value play least) is =
+  after_look _ _ (resumes {ops} {wait} value play least) is =
       absurd (subst Elsewhere (ap (λ s. Some s) is) (resumed_elsewhere wait value))
-  after_look _ _ (steps {deeds} {phase} deed now after play a row) is = elim (elsewhere phase deed) [
+  after_look _ _ (steps {ops} {phase} op now after play a row) is = elim (elsewhere phase op) [
     | inl far ↦ absurd (subst Elsewhere (row ∙ ap (λ s. Some s) is) far)
     | inr f ↦
         let same = is_look send f.0 f.1 f.2 now after (ap asked_by (sym f.4) ∙ (a ∙ ap (λ p. asks p now) f.3))
         (ap (λ p. next p (AtSlot f.1 f.2 Fits)) (sym f.3) ∙ (ap (next phase) (sym f.4) ∙ row)) is in
-        (deeds, ap (λ d. deeds ++ d ∷ []) (f.4 ∙ same))
+        (ops, ap (λ d. ops ++ d ∷ []) (f.4 ∙ same))
   ]
 
 -- ---- a queue stays open, or it is changed
 
 -- A set or a removal of the queue.
-abbrev IsChange : ℤ → Deed → Type 0
-IsChange id deed =
-    ((slot : ℕ) × (by : Cred) × (to : SetTo) × (now : ℕ) × (deed ≡ AtSlot slot (Set id by to now) Done))
-    ⊎ ((slot : ℕ) × (by : Cred) × (messages : List Message) × (deed ≡ AtSlot slot (Remove id by) (Discarded messages)))
+abbrev IsChange : ℤ → Op → Type 0
+IsChange id op =
+    ((slot : ℕ) × (by : Cred) × (to : SetTo) × (now : ℕ) × (op ≡ AtSlot slot (Set id by to now) Done))
+    ⊎ ((slot : ℕ) × (by : Cred) × (messages : List Message) × (op ≡ AtSlot slot (Remove id by) (Discarded messages)))
 
 module _ (id : ℤ) (cred : Cred) where
   abbrev IsOpen : Option Attributes → Type 0
@@ -215,7 +215,7 @@ module _ (id : ℤ) (cred : Cred) where
     abbrev OpenAfter : List Turn → Type 0
     OpenAfter turns = IsOpen (live (slot_history slot_of_it turns))
 
-    elsewhere_open : (turns : List Turn) (t : Turn) → slot_entry slot_of_it t.who t.deed ≡ [] → OpenAfter turns →
+    elsewhere_open : (turns : List Turn) (t : Turn) → slot_entry slot_of_it t.who t.op ≡ [] → OpenAfter turns →
         OpenAfter (turns ++ t ∷ [])
     elsewhere_open turns t none opens =
         subst (λ (h : History). IsOpen (live h))
@@ -239,8 +239,8 @@ module _ (id : ℤ) (cred : Cred) where
           | inr change ↦ inr change
         ]
 
-    one_open : (turns rest : List Turn) (who : Who) (deed : Deed) → w.turns ≡ turns ++ turn_of who deed ∷ rest →
-        OpenAfter turns → OpenAfter (turns ++ turn_of who deed ∷ []) ⊎ IsChange id deed
+    one_open : (turns rest : List Turn) (who : Who) (op : Op) → w.turns ≡ turns ++ turn_of who op ∷ rest →
+        OpenAfter turns → OpenAfter (turns ++ turn_of who op ∷ []) ⊎ IsChange id op
     one_open turns rest who (AtRegistry call reply) whole opens =
         inl (elsewhere_open turns (turn_of who (AtRegistry call reply)) refl opens)
     one_open turns rest who (AtPool call reply) whole opens =
@@ -260,20 +260,20 @@ module _ (id : ℤ) (cred : Cred) where
     record IsChanged (turns : List Turn) : Type 0 where
       more : List Turn
       who : Who
-      deed : Deed
+      op : Op
       rest : List Turn
-      whole : w.turns ≡ (turns ++ more) ++ turn_of who deed ∷ rest
-      change : IsChange id deed
+      whole : w.turns ≡ (turns ++ more) ++ turn_of who op ∷ rest
+      change : IsChange id op
 
     open_still : (turns rest : List Turn) → w.turns ≡ turns ++ rest → OpenAfter turns →
         OpenAfter w.turns ⊎ IsChanged turns
     open_still turns [] whole opens = inl (subst OpenAfter (sym (whole ∙ append-nil turns)) opens)
-    open_still turns (t ∷ rest) whole opens = elim (one_open turns rest t.who t.deed whole opens) [
+    open_still turns (t ∷ rest) whole opens = elim (one_open turns rest t.who t.op whole opens) [
       | inr change ↦
           inr record {
             more = [];
             who = t.who;
-            deed = t.deed;
+            op = t.op;
             rest = rest;
             whole = whole ∙ ap (λ ts. ts ++ t ∷ rest) (sym (append-nil turns));
             change = change;
@@ -285,9 +285,9 @@ module _ (id : ℤ) (cred : Cred) where
                 inr record {
                   more = t ∷ c.more;
                   who = c.who;
-                  deed = c.deed;
+                  op = c.op;
                   rest = c.rest;
-                  whole = c.whole ∙ ap (λ ts. ts ++ turn_of c.who c.deed ∷ c.rest) (append_assoc turns (t ∷ []) c.more);
+                  whole = c.whole ∙ ap (λ ts. ts ++ turn_of c.who c.op ∷ c.rest) (append_assoc turns (t ∷ []) c.more);
                   change = c.change;
                 }
           ]
@@ -295,24 +295,24 @@ module _ (id : ℤ) (cred : Cred) where
 
 -- ---- a change is told
 
--- The deed releases a chain.
-abbrev releases : Deed → Bool
+-- The operation releases a chain.
+abbrev releases : Op → Bool
 releases (AtPool (Release blocks) reply) = true
-releases deed = false
+releases op = false
 
-releases_it : (deed : Deed) (blocks : ℕ) → asked_by deed ≡ OfPool (Release blocks) → releases deed ≡ true
+releases_it : (op : Op) (blocks : ℕ) → asked_by op ≡ OfPool (Release blocks) → releases op ≡ true
 releases_it (AtPool (Release n) reply) blocks a = refl
 releases_it (AtPool (Reserve n) reply) blocks a = absurd cc
 releases_it (AtSlot slot call reply) blocks a = absurd cc
 releases_it (AtRegistry call reply) blocks a = absurd cc
 
-some_before : (rest : List Deed) (last : Deed) → list_any releases rest ≡ true →
+some_before : (rest : List Op) (last : Op) → list_any releases rest ≡ true →
     list_any releases (rest ++ last ∷ []) ≡ true
 some_before rest last some =
     list_any-append releases rest (last ∷ [])
     ∙ or_left (list_any releases rest) (list_any releases (last ∷ [])) some
 
-some_last : (rest : List Deed) (last : Deed) → releases last ≡ true → list_any releases (rest ++ last ∷ []) ≡ true
+some_last : (rest : List Op) (last : Op) → releases last ≡ true → list_any releases (rest ++ last ∷ []) ≡ true
 some_last rest last some =
     list_any-append releases rest (last ∷ [])
     ∙ or_right (list_any releases rest) (list_any releases (last ∷ [])) (or_left (releases last) false some)
@@ -345,11 +345,11 @@ removal_leads slot id x by messages now (AtRemove c i) after a row =
 removal_leads slot id x by messages now phase after a row = absurd cc
 
 -- The next turn of a call that is telling a change.
-tells_on : (asked : SystemCall) (phase : Phase) (deed : Deed) (now : ℕ) (after : State) →
-    IsTelling asked (Goes phase) → asked_by deed ≡ asks phase now → next phase deed ≡ Some after →
-    IsTelling asked after ⊎ (releases deed ≡ true)
-tells_on (MsgctlSet id to) AtSetGiveback deed now after telling a row = inr (releases_it deed 0 a)
-tells_on (MsgctlRmid id) (AtRemoveGiveback blocks) deed now after telling a row = inr (releases_it deed blocks a)
+tells_on : (asked : SystemCall) (phase : Phase) (op : Op) (now : ℕ) (after : State) →
+    IsTelling asked (Goes phase) → asked_by op ≡ asks phase now → next phase op ≡ Some after →
+    IsTelling asked after ⊎ (releases op ≡ true)
+tells_on (MsgctlSet id to) AtSetGiveback op now after telling a row = inr (releases_it op 0 a)
+tells_on (MsgctlRmid id) (AtRemoveGiveback blocks) op now after telling a row = inr (releases_it op blocks a)
 tells_on (MsgctlRmid id) (AtForget removed blocks) (AtRegistry call (Changed done)) now after telling a row =
     let is : Goes (AtRemoveGiveback blocks) ≡ after = cc in inl (subst (IsTelling (MsgctlRmid id)) is tt)
 tells_on (MsgctlRmid id) (AtForget removed blocks) (AtRegistry call (Found x settled)) now after telling a row =
@@ -359,7 +359,7 @@ tells_on (MsgctlRmid id) (AtForget removed blocks) (AtRegistry call (Busy settle
 tells_on (MsgctlRmid id) (AtForget removed blocks) (AtRegistry call (Unbound why)) now after telling a row = absurd cc
 tells_on (MsgctlRmid id) (AtForget removed blocks) (AtSlot slot call reply) now after telling a row = absurd cc
 tells_on (MsgctlRmid id) (AtForget removed blocks) (AtPool call reply) now after telling a row = absurd cc
-tells_on asked phase deed now after telling a row = absurd telling
+tells_on asked phase op now after telling a row = absurd telling
 
 waits_not : (asked : SystemCall) (wait : Wait) → IsTelling asked (Waits wait) → ⊥
 waits_not (MsgctlSet id to) wait t = t
@@ -369,27 +369,27 @@ waits_not (Msgsnd id mtype flags text) wait t = t
 waits_not (Msgrcv id size mtype flags) wait t = t
 waits_not (MsgctlStat id) wait t = t
 
-module _ (cred : Cred) (asked : SystemCall) (read : ℕ) (change : Deed)
+module _ (cred : Cred) (asked : SystemCall) (read : ℕ) (change : Op)
     (leads : (phase : Phase) (now : ℕ) (after : State) → asked_by change ≡ asks phase now →
     next phase change ≡ Some after → IsTelling asked after) where
-  tells : (deeds : List Deed) (state : State) → Plays (begin cred asked read) deeds state → (front later : List Deed) →
-      deeds ≡ front ++ change ∷ later → IsTelling asked state ⊎ (list_any releases later ≡ true)
+  tells : (ops : List Op) (state : State) → Plays (begin cred asked read) ops state → (front later : List Op) →
+      ops ≡ front ++ change ∷ later → IsTelling asked state ⊎ (list_any releases later ≡ true)
   tells _ _ begins front later e = absurd (no_nil front change later e)
-  tells _ _ (resumes {deeds} {wait} value play least) front later e =
-      elim (tells deeds (Waits wait) play front later e) [
+  tells _ _ (resumes {ops} {wait} value play least) front later e =
+      elim (tells ops (Waits wait) play front later e) [
         | inl telling ↦ absurd (waits_not asked wait telling)
         | inr told ↦ inr told
       ]
-  tells _ _ (steps {deeds} {phase} deed now after play a row) front later e =
-      elim (last_or_before deeds deed front change later e) [
+  tells _ _ (steps {ops} {phase} op now after play a row) front later e =
+      elim (last_or_before ops op front change later e) [
         | inl here ↦ inl (leads phase now after (ap asked_by here.1 ∙ a) (ap (next phase) here.1 ∙ row))
         | inr more ↦
-            elim (tells deeds (Goes phase) play front more.0 more.1) [
-              | inr told ↦ inr (ap (list_any releases) more.2 ∙ some_before more.0 deed told)
+            elim (tells ops (Goes phase) play front more.0 more.1) [
+              | inr told ↦ inr (ap (list_any releases) more.2 ∙ some_before more.0 op told)
               | inl telling ↦
-                  elim (tells_on asked phase deed now after telling a row) [
+                  elim (tells_on asked phase op now after telling a row) [
                     | inl still ↦ inl still
-                    | inr now_told ↦ inr (ap (list_any releases) more.2 ∙ some_last more.0 deed now_told)
+                    | inr now_told ↦ inr (ap (list_any releases) more.2 ∙ some_last more.0 op now_told)
                   ]
             ]
       ]
@@ -438,12 +438,12 @@ removal_asked id cred by (MsgctlSet at what) slot (inl (stamp, e)) = absurd cc
 removal_asked id cred by (MsgctlSet at what) slot (inr (blocks, e)) = absurd cc
 
 -- What the call of a change is, and what its change leads to.
-record IsChanging (id : ℤ) (asked : SystemCall) (change : Deed) : Type 0 where
+record IsChanging (id : ℤ) (asked : SystemCall) (change : Op) : Type 0 where
   changes : Changes id asked
   leads : (phase : Phase) (now : ℕ) (after : State) → asked_by change ≡ asks phase now →
       next phase change ≡ Some after → IsTelling asked after
 
-changing : (id : ℤ) (cred : Cred) (asked : SystemCall) (change : Deed) → IsChange id change →
+changing : (id : ℤ) (cred : Cred) (asked : SystemCall) (change : Op) → IsChange id change →
     AsksFor cred asked (asked_by change) → IsChanging id asked change
 changing id cred asked change (inl (slot, by, to, stamp, is)) a =
     let what = set_asked id cred by asked slot to stamp (subst (λ d. AsksFor cred asked (asked_by d)) is a) in
@@ -474,16 +474,16 @@ telling_goes (MsgctlRmid id) (Goes (AtRemoveGiveback blocks)) telling = refl
 telling_goes asked state telling = absurd telling
 
 -- A turn that changed a queue belongs to a call.
-change_owner : (calls : List Started) (who : Who) (id : ℤ) (deed : Deed) → IsMadeOrRead calls (turn_of who deed) →
-    IsChange id deed → (call : Started) × Contains calls call × (who ≡ call.who)
-change_owner calls who id deed (inr by) change = by
-change_owner calls who id deed (inl (nobody_did, (slot, reply, e))) (inl (at, by, to, now, is)) = absurd cc
-change_owner calls who id deed (inl (nobody_did, (slot, reply, e))) (inr (at, by, messages, is)) = absurd cc
+change_owner : (calls : List Invocation) (who : Who) (id : ℤ) (op : Op) → IsMadeOrRead calls (turn_of who op) →
+    IsChange id op → (call : Invocation) × Contains calls call × (who ≡ call.who)
+change_owner calls who id op (inr by) change = by
+change_owner calls who id op (inl (nobody_did, (slot, reply, e))) (inl (at, by, to, now, is)) = absurd cc
+change_owner calls who id op (inl (nobody_did, (slot, reply, e))) (inr (at, by, messages, is)) = absurd cc
 
 -- ---- who is in a call
 
 -- The actor of the call is in it, in this state.
-record IsInCall (w : World) (call : Started) (state : State) : Type 0 where
+record IsInCall (w : World) (call : Invocation) (state : State) : Type 0 where
   place : ℕ
   doing : Doing
   there : slice_get w.actors place ≡ Some (Some doing)
@@ -504,9 +504,9 @@ stands_so who (Some (Some d)) state e =
 
 -- ---- the law
 
-module _ (o : Opening) (w : World) (given : List Given) (i : Inv IsRowRead w given)
-    (lawful : ObeysOnThreads o w given) where
-  in_call : (call : Started) → Contains w.calls call → (state : State) →
+module _ (o : Opening) (w : World) (responses : List Response) (i : Inv IsRowRead w responses)
+    (lawful : ObeysOnThreads o w responses) where
+  in_call : (call : Invocation) → Contains w.calls call → (state : State) →
       standing_of call.who w.actors ≡ Some state → IsInCall w call state
   in_call call has state e =
       let name = i.before call has in
@@ -523,7 +523,7 @@ module _ (o : Opening) (w : World) (given : List Given) (i : Inv IsRowRead w giv
   -- ---- what was released
 
   pool_both : (xs ys : List Turn) → pool_history (xs ++ ys) ≡ pool_history xs ++ pool_history ys
-  pool_both xs ys = flat_map-append (λ (t : Turn). pool_entry t.who t.deed) xs ys
+  pool_both xs ys = flat_map-append (λ (t : Turn). pool_entry t.who t.op) xs ys
 
   never_less : (xs ys : List Turn) → released (pool_history xs) ≤ released (pool_history (xs ++ ys))
   never_less xs ys =
@@ -536,8 +536,8 @@ module _ (o : Opening) (w : World) (given : List Given) (i : Inv IsRowRead w giv
   is_released h blocks Foreign legal own = absurd (own refl)
   is_released h blocks reply legal own = absurd legal
 
-  released_at : (turns rest : List Turn) (who : Who) (deed : Deed) → w.turns ≡ turns ++ turn_of who deed ∷ rest →
-      releases deed ≡ true → released (pool_history turns) + 1 ≤ released (pool_history w.turns)
+  released_at : (turns rest : List Turn) (who : Who) (op : Op) → w.turns ≡ turns ++ turn_of who op ∷ rest →
+      releases op ≡ true → released (pool_history turns) + 1 ≤ released (pool_history w.turns)
   released_at turns rest who (AtPool (Release blocks) reply) whole is =
       let h = pool_history turns in
       let e : PoolEntry = record { who = who; call = Release blocks; reply = reply } in
@@ -558,43 +558,43 @@ module _ (o : Opening) (w : World) (given : List Given) (i : Inv IsRowRead w giv
   released_at turns rest who (AtRegistry call reply) whole is = absurd cc
 
   came_back : (turns rest : List Turn) (who : Who) → w.turns ≡ turns ++ rest →
-      list_any releases (deeds_of who rest) ≡ true →
+      list_any releases (ops_of who rest) ≡ true →
       released (pool_history turns) + 1 ≤ released (pool_history w.turns)
   came_back turns rest who whole some =
       let h = has_turn releases who rest some in
       let there : w.turns ≡ (turns ++ h.before) ++ h.turn ∷ h.after =
       whole ∙ (ap (λ ts. turns ++ ts) h.whole ∙ sym (append_assoc turns h.before (h.turn ∷ h.after))) in
-      let more = released_at (turns ++ h.before) h.after h.turn.who h.turn.deed there h.passes in
+      let more = released_at (turns ++ h.before) h.after h.turn.who h.turn.op there h.passes in
       let never = never_less turns h.before in
       omega (arith, more, never)
 
   -- ---- the send
 
-  module _ (id : ℤ) (turns more rest : List Turn) (who : Who) (deed : Deed)
-      (whole : w.turns ≡ (turns ++ more) ++ turn_of who deed ∷ rest) (change : IsChange id deed) where
+  module _ (id : ℤ) (turns more rest : List Turn) (who : Who) (op : Op)
+      (whole : w.turns ≡ (turns ++ more) ++ turn_of who op ∷ rest) (change : IsChange id op) where
     -- The change is still to be told, or a chain came back after it.
     change_told : HasChangeToTell w id ⊎ (released (pool_history turns) + 1 ≤ released (pool_history w.turns))
     change_told =
-        let t = turn_of who deed in
-        let by = change_owner w.calls who id deed
+        let t = turn_of who op in
+        let by = change_owner w.calls who id op
         (all_at (IsMadeOrRead w.calls) (turns ++ more) t rest
         (subst (All (IsMadeOrRead w.calls)) whole lawful.calls.made)) change in
         let call = by.0 in
         let name = i.before call by.1 in
         let same : is_same call.who who ≡ true =
         ap (is_same call.who) by.2 ∙ same_itself name.0 name.1 call.who name.2 in
-        let front = deeds_of call.who (turns ++ more) in
-        let back = deeds_of call.who rest in
-        let deeds_are : deeds_of call.who w.turns ≡ front ++ deed ∷ back =
-        ap (deeds_of call.who) whole ∙ deeds_around call.who (turns ++ more) t rest same in
-        let asks_all : AllAskFor call.cred call.asked (deeds_of call.who w.turns) =
+        let front = ops_of call.who (turns ++ more) in
+        let back = ops_of call.who rest in
+        let ops_are : ops_of call.who w.turns ≡ front ++ op ∷ back =
+        ap (ops_of call.who) whole ∙ ops_around call.who (turns ++ more) t rest same in
+        let asks_all : AllAskFor call.cred call.asked (ops_of call.who w.turns) =
         All-contains (AsksAsItWasAsked w) w.calls call lawful.calls.asked by.1 in
-        let asks_it = all_at (λ (d : Deed). AsksFor call.cred call.asked (asked_by d)) front deed back
-        (subst (All (λ (d : Deed). AsksFor call.cred call.asked (asked_by d))) deeds_are asks_all) in
-        let c = changing id call.cred call.asked deed change asks_it in
-        let fate : Fate w given call = i.fates call by.1 in
-        elim (tells call.cred call.asked call.released deed c.leads (deeds_of call.who w.turns) fate.state fate.plays
-        front back deeds_are) [
+        let asks_it = all_at (λ (d : Op). AsksFor call.cred call.asked (asked_by d)) front op back
+        (subst (All (λ (d : Op). AsksFor call.cred call.asked (asked_by d))) ops_are asks_all) in
+        let c = changing id call.cred call.asked op change asks_it in
+        let fate : Fate w responses call = i.fates call by.1 in
+        elim (tells call.cred call.asked call.released op c.leads (ops_of call.who w.turns) fate.state fate.plays
+        front back ops_are) [
           | inl telling ↦
               let at = in_call call by.1 fate.state
               (fate.stands ∙ telling_goes call.asked fate.state telling) in
@@ -602,7 +602,7 @@ module _ (o : Opening) (w : World) (given : List Given) (i : Inv IsRowRead w giv
                 place = at.place;
                 doing = at.doing;
                 there = at.there;
-                gives = subst (λ (x : Started). HasToGiveBack x.asked at.doing.state id) at.call_is
+                gives = subst (λ (x : Invocation). HasToGiveBack x.asked at.doing.state id) at.call_is
                     (subst (λ s. HasToGiveBack call.asked s id) at.state_is
                     (gives_it id call.asked fate.state c.changes telling));
               }
@@ -626,15 +626,15 @@ module _ (o : Opening) (w : World) (given : List Given) (i : Inv IsRowRead w giv
       elim (open_still send.id send.cred w i.sound.legal before rest own opens) [
         | inl still ↦ inl record { lives = still.0; may_write = still.1 }
         | inr c ↦
-            elim (change_told send.id before c.more c.rest c.who c.deed c.whole c.change) [
+            elim (change_told send.id before c.more c.rest c.who c.op c.whole c.change) [
               | inl telling ↦ inr telling
               | inr back ↦ absurd (omega (arith, back, low))
             ]
       ]
 
-  pub told_so : (call : Started) (goal : ℕ) (send : Sending) →
-      Plays (begun call) (deeds_of call.who w.turns) (Waits (OnReleased goal send)) →
-      WaitsFor (OnReleased goal send) (deeds_of call.who w.turns) → released (pool_history w.turns) < goal →
+  pub told_so : (call : Invocation) (goal : ℕ) (send : Sending) →
+      Plays (begun call) (ops_of call.who w.turns) (Waits (OnReleased goal send)) →
+      WaitsFor (OnReleased goal send) (ops_of call.who w.turns) → released (pool_history w.turns) < goal →
       HadReleasedAtSlot w call.who send.released →
       HasTooFewBlocks w (length send.text) × IsToBeWoken w send.id send.cred
   told_so call goal send play (is, (front, ends)) below had =
@@ -643,14 +643,14 @@ module _ (o : Opening) (w : World) (given : List Given) (i : Inv IsRowRead w giv
       let look = Look send.id send.cred size in
       let reserve = AtPool (Reserve size) TooFew in
       let before_it =
-      before_reserve (begun call) goal size send (deeds_of call.who w.turns) (Waits (OnReleased goal send))
+      before_reserve (begun call) goal size send (ops_of call.who w.turns) (Waits (OnReleased goal send))
       play refl front ends in
       let first_look =
       after_look call.cred call.asked call.released send front (Goes (AtReserve send)) before_it refl in
-      let deeds_are : deeds_of call.who w.turns ≡ first_look.0 ++ look_of send ∷ reserve ∷ [] =
+      let ops_are : ops_of call.who w.turns ≡ first_look.0 ++ look_of send ∷ reserve ∷ [] =
       ends
       ∙ (ap (λ ds. ds ++ reserve ∷ []) first_look.1 ∙ append_assoc first_look.0 (look_of send ∷ []) (reserve ∷ [])) in
-      let m = made_at call.who w.turns first_look.0 (look_of send) (reserve ∷ []) deeds_are in
+      let m = made_at call.who w.turns first_look.0 (look_of send) (reserve ∷ []) ops_are in
       let t = turn_of call.who (look_of send) in
       let own : w.turns ≡ m.before ++ t ∷ m.after =
       m.whole ∙ ap (λ by. m.before ++ turn_of by (look_of send) ∷ m.after) (sym (same_who call.who m.by m.own)) in

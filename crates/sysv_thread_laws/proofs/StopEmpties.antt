@@ -28,10 +28,10 @@ use Rattle.sysv_keys.specs.Identifier.{slot_of_id}
 use Rattle.sysv_steps.specs.Call.{MsgctlRmid}
 use Rattle.sysv_steps.specs.State.{Over}
 use Rattle.sysv_steps.specs.Begin.{begin}
-use Rattle.sysv_steps.specs.AsksFor.{EachDeedIsAskedFor}
+use Rattle.sysv_steps.specs.AsksFor.{EachOpIsAskedFor}
 use Rattle.sysv_steps.specs.Answers.{EachAnswerIsRight}
 use Rattle.sysv_steps.specs.Stepping.{no_moment}
-use Rattle.sysv_gate.specs.declared.closing.Closing.{Closing}
+use Rattle.sysv_gate.specs.declared.gate.closing.Closing.{Closing}
 use Rattle.sysv_gate.specs.History.{Moves, after_all}
 use Rattle.sysv_gate.specs.Gates.{Gateway}
 use Rattle.sysv_gate.specs.Closings.{Closes}
@@ -51,7 +51,7 @@ use Rattle.sysv_service.specs.Told.{TellsRow}
 use Rattle.sysv_service.proofs.DoneByPass.{turn_is_made, worn_is_seen, does}
 use Rattle.sysv_service.proofs.MarkStays.{finds_turns, no_mark_by_row, not_worn}
 use Rattle.sysv_service.proofs.PlaysOwnTurns.{plays}
-use Rattle.sysv_core.specs.World.{World, Opening, Given, opening}
+use Rattle.sysv_core.specs.World.{World, Opening, Response, opening}
 use Rattle.sysv_core.proofs.Life.{Facts}
 use Rattle.sysv_core.proofs.Lists.{same_place}
 use Rattle.sysv_core.proofs.TurnInHistory.{slot_around}
@@ -91,18 +91,18 @@ record ReadsAlone (slot : ℕ) (row : Option Row) (before after : Pass) : Type 0
 reads_alone : (slot : ℕ) (row : Option Row) (before after : Pass) → TellsRow slot before (Ok row) after →
     IsFine (member before).numbers (order_of after) → ReadsAlone slot row before after
 reads_alone slot row before after told fine =
-    let deed = AtSlot slot ReadRow (Shown row) in
-    let made = turn_is_made before.seats after.seats deed told.1.turn in
+    let op = AtSlot slot ReadRow (Shown row) in
+    let made = turn_is_made before.seats after.seats op told.1.turn in
     let number = (member before).number in
     let numbers = (member before).numbers in
-    let more = turns_alone (member before) (member after) deed made fine in
+    let more = turns_alone (member before) (member after) op made fine in
     let known = subst (IsFine numbers) more fine in
     let legal : IsLegalReply (history slot (order_of before)) ReadRow (Shown row) =
     known.legal slot (history slot (order_of before)) (record { who = _; call = ReadRow; reply = Shown row }) []
-    (ap (slot_history slot) (map-append turn_at (order_of before) (done_by number (deed ∷ [])))
+    (ap (slot_history slot) (map-append turn_at (order_of before) (done_by number (op ∷ [])))
     ∙ slot_around slot (turns_of (order_of before)) [] _ ReadRow (Shown row)) in
     record {
-      fine = fine_front numbers (order_of before) (done_by number (deed ∷ [])) known;
+      fine = fine_front numbers (order_of before) (done_by number (op ∷ [])) known;
       same = λ k. ap (λ os. live (history k os)) more ∙ row_leaves k slot number (order_of before) (Shown row);
       told = (held (history slot (order_of before)), legal);
     }
@@ -158,7 +158,7 @@ some_row slot row (Some a) messages well is =
       whole = ap (λ i. int_lt i (pos 0)) id ∙ well.1;
     }
 
-module _ (right : EachAnswerIsRight) (asked : EachDeedIsAskedFor) where
+module _ (right : EachAnswerIsRight) (asked : EachOpIsAskedFor) where
   stops_at : (slot here : ℕ) (found : Bool) (before after : Pass) → StopsAt slot before here found after →
       IsUnmarked after.seats → IsFine (member before).numbers (order_of after) → StopsAlone slot before after found
   stops_at slot _ _ before _ (stop.is_vacant after told) none fine =
@@ -253,11 +253,11 @@ works_more : (old : Pass) (made : List Called) (mid : Pass) (more : List Called)
     Works mid more new → Works old (made ++ more) new
 works_more old made mid _ _ first working.begins = subst (λ cs. Works old cs mid) (sym (append-nil made)) first
 works_more old made mid _ _ first
-    (working.calls {made = more} {mid = last} cred asked released deeds state new works ran)
+    (working.calls {made = more} {mid = last} cred asked released ops state new works ran)
     =
-    let call = call_of last cred asked released deeds state in
+    let call = call_of last cred asked released ops state in
     subst (λ cs. Works old cs new) (append_assoc made more (call ∷ []))
-    (working.calls cred asked released deeds state new (works_more old made mid more last first works) ran)
+    (working.calls cred asked released ops state new (works_more old made mid more last first works) ran)
 works_more old made mid _ _ first (working.reads_count {made = more} {mid = last} count value new works r same) =
     working.reads_count count value new (works_more old made mid more last first works) r same
 works_more old made mid _ _ first (working.asks_row {made = more} {mid = last} slot result new works told) =
@@ -267,20 +267,20 @@ works_more old made mid _ _ first (working.asks_row {made = more} {mid = last} s
 
 -- What the turns of every free run say of the identifiers.
 abbrev HasFacts : Type 0
-HasFacts = (o : Opening) (list : List Moment) (given : List Given) (w : World) →
-    LeadsOnThreads (opening o) list given w → Facts w.turns
+HasFacts = (o : Opening) (list : List Moment) (responses : List Response) (w : World) →
+    LeadsOnThreads (opening o) list responses w → Facts w.turns
 
 well_order : HasFacts → (generation blocks : ℕ) (order : List Numbered) (calls : List Called) →
-    IsServed generation blocks order calls → All (λ (t : Numbered). IsWellInstalled t.deed) order
+    IsServed generation blocks order calls → All (λ (t : Numbered). IsWellInstalled t.op) order
 well_order facts generation blocks order calls served =
     let run = served.run in
-    let known = facts (opening_for generation blocks calls) run.moments run.given run.world run.leads in
+    let known = facts (opening_for generation blocks calls) run.moments run.responses run.world run.leads in
     let all = all_well generation run.world.turns known run.obeys.objects.registry in
-    subst (All (λ (t : Numbered). IsWellInstalled t.deed)) run.turns.in_order
-    (all_renamed run.turns.renamed (subst (All (λ (t : Turn). IsWellInstalled t.deed)) (sym run.turns.in_world) all))
+    subst (All (λ (t : Numbered). IsWellInstalled t.op)) run.turns.in_order
+    (all_renamed run.turns.renamed (subst (All (λ (t : Turn). IsWellInstalled t.op)) (sym run.turns.in_world) all))
 
 pub stop_empties : SeenHistories → EveryHiringObeys → EveryStopRemoves → NoMarkWithTurnsLeft → EachAnswerIsRight →
-    EachDeedIsAskedFor → HasFacts → EveryStopEmpties
+    EachOpIsAskedFor → HasFacts → EveryStopEmpties
 stop_empties histories hiring stopping no_mark right asked facts generation blocks first gates theirs left home before
     last each calls removed worn closed opened hires works more stops fits end turns_left =
     let removals = stopping SLOTS removed worn before last stops in

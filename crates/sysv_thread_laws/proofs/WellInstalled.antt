@@ -8,7 +8,7 @@ use Rattle.std.proofs.lemmas.Bool.Decides.{nat_tests}
 use Rattle.std.proofs.lemmas.List.Elements.{All-nil, All-cons, All-head, All-tail}
 use Rattle.std.proofs.lemmas.List.Folds.{list_any_at}
 use Rattle.sysv_model.specs.History.{Install, Installed}
-use Rattle.sysv_model.specs.Turn.{Deed, AtSlot, Turn, registry_history}
+use Rattle.sysv_model.specs.Turn.{Op, AtSlot, Turn, registry_history}
 use Rattle.sysv_model.specs.Turns.{Numbered}
 use Rattle.sysv_keys.specs.RegistryLaw.{RegistryLaw}
 use Rattle.sysv_core.specs.Removed.{IsInItsSlot}
@@ -29,25 +29,25 @@ module _ (generation : ℕ) (turns : List Turn) (f : Facts turns)
       let whole = law.whole id made.0 made.1 in
       subst (λ i. int_lt i (pos 0) ≡ false) (sym whole.whole) (below_none whole.number)
 
-  one_well : (k : ℕ) (d : Turn) (deed : Deed) → k < length turns → (get_or turns k d).deed ≡ deed →
-      IsInItsSlot deed → IsWellInstalled deed
+  one_well : (k : ℕ) (d : Turn) (op : Op) → k < length turns → (get_or turns k d).op ≡ op →
+      IsInItsSlot op → IsWellInstalled op
   one_well k d (AtSlot slot (Install id key cred mode now) (Installed true)) low is home = (
     sym home,
-    not_negative id (list_any_at (λ (t : Turn). does (installing id) t.deed) turns k d low
+    not_negative id (list_any_at (λ (t : Turn). does (installing id) t.op) turns k d low
         (ap (does (installing id)) is ∙ same_int id)),
   )
-  one_well k d deed low is home = tt
+  one_well k d op low is home = tt
 
-  pub all_well : All (λ (t : Turn). IsWellInstalled t.deed) turns
-  all_well k d low = one_well k d (get_or turns k d).deed low refl (f.home k d low)
+  pub all_well : All (λ (t : Turn). IsWellInstalled t.op) turns
+  all_well k d low = one_well k d (get_or turns k d).op low refl (f.home k d low)
 
 -- ---- in the order
 
 abbrev IsWellTurn : Turn → Type 0
-IsWellTurn t = IsWellInstalled t.deed
+IsWellTurn t = IsWellInstalled t.op
 
 abbrev IsWellNumbered : Numbered → Type 0
-IsWellNumbered t = IsWellInstalled t.deed
+IsWellNumbered t = IsWellInstalled t.op
 
 pub all_renamed : (rs : List Renamed) → All IsWellTurn (map renamed_turn rs) →
     All IsWellNumbered (map (λ (r : Renamed). r.turn) rs)

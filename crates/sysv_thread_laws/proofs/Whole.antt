@@ -43,8 +43,8 @@ row_shares slot before (Err why) after (inr worn) =
 
 works_shares : (old : Pass) (made : List Called) (new : Pass) → Works old made new → shares new ≡ shares old
 works_shares old _ _ working.begins = refl
-works_shares old _ _ (working.calls {made} {mid} cred asked released deeds state new works ran) =
-    does_shares (does any_moment (begin cred asked released) mid deeds state new ran) ∙ works_shares old made mid works
+works_shares old _ _ (working.calls {made} {mid} cred asked released ops state new works ran) =
+    does_shares (does any_moment (begin cred asked released) mid ops state new ran) ∙ works_shares old made mid works
 works_shares old _ _ (working.reads_count {made} {mid} count value new works r same) =
     ap share_in (read_is_seen mid.seats new.seats count value r).goes_on ∙ works_shares old made mid works
 works_shares old _ _ (working.asks_row {made} {mid} slot result new works told) =
@@ -99,8 +99,8 @@ pub last_is_whole : (gates : Gates) (theirs left : List Pass) (home last : Pass)
     Hires (first_pass gates) theirs left home → Each3 Works theirs each left → Works home calls last →
     AreWhole last.seats.member.shares
 last_is_whole gates theirs left home last each calls hires works more =
-    let given = given_whole theirs [] (first_pass gates) hires.kept hires.gives all_at_first in
-    let worked = worked_whole theirs each left [] hires.kept works given in
+    let responses = given_whole theirs [] (first_pass gates) hires.kept hires.gives all_at_first in
+    let worked = worked_whole theirs each left [] hires.kept works responses in
     let back = taken_whole (reverse left) hires.kept home hires.takes
     (subst (λ ps. AreWhole (all_shares (hires.kept ∷ ps))) (append-nil (reverse left)) worked) in
     subst AreWhole (sym (works_shares home calls last more)) (subst AreWhole (append-nil (shares home)) back)

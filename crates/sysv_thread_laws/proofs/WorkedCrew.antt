@@ -6,8 +6,8 @@ use Rattle.std.proofs.lemmas.List.Elements.{All-cons, All-nil, All-from_recursio
 use Rattle.sysv_lists.specs.Numbers.{times, NoneTwice}
 use Rattle.sysv_lists.proofs.Counting.{the-one, times-append}
 use Rattle.sysv_model.specs.History.{Shown}
-use Rattle.sysv_model.specs.Turn.{Deed}
-use Rattle.sysv_objects.specs.LegalDeed.{AreLegal}
+use Rattle.sysv_model.specs.Turn.{Op}
+use Rattle.sysv_objects.specs.LegalOp.{AreLegal}
 use Rattle.sysv_steps.specs.State.{Got, Over}
 use Rattle.sysv_steps.specs.Played.{begins}
 use Rattle.sysv_model.specs.Turns.{Numbered, turns_of}
@@ -32,16 +32,16 @@ of_others numbers turns each = All-from_recursion (λ (t : Numbered). times t.by
 
 -- ---- pass 0
 
-zero_by : (by_one : Numbered) → times by_one.by (0 ∷ []) ≡ 0 → (deed : Deed) (count next : ℕ) →
-    seen 0 2 next ≡ record (seen 0 2 count) { order = (take count the_order ++ by_one ∷ []) ++ by 0 deed ∷ [] } →
-    MakesTurn (seen 0 2 count) deed (seen 0 2 next)
-zero_by t apart deed count next is =
+zero_by : (by_one : Numbered) → times by_one.by (0 ∷ []) ≡ 0 → (op : Op) (count next : ℕ) →
+    seen 0 2 next ≡ record (seen 0 2 count) { order = (take count the_order ++ by_one ∷ []) ++ by 0 op ∷ [] } →
+    MakesTurn (seen 0 2 count) op (seen 0 2 next)
+zero_by t apart op count next is =
     record { others = t ∷ []; apart = of_others (0 ∷ []) (t ∷ []) (apart, tt); goes_on = is }
 
-zero_next : (deed : Deed) (count next : ℕ) →
-    seen 0 2 next ≡ record (seen 0 2 count) { order = (take count the_order ++ []) ++ by 0 deed ∷ [] } →
-    MakesTurn (seen 0 2 count) deed (seen 0 2 next)
-zero_next deed count next is = record { others = []; apart = of_others (0 ∷ []) [] tt; goes_on = is }
+zero_next : (op : Op) (count next : ℕ) →
+    seen 0 2 next ≡ record (seen 0 2 count) { order = (take count the_order ++ []) ++ by 0 op ∷ [] } →
+    MakesTurn (seen 0 2 count) op (seen 0 2 next)
+zero_next op count next is = record { others = []; apart = of_others (0 ∷ []) [] tt; goes_on = is }
 
 does_get : Does (seen 0 2 0) (makes_queue ∷ installs ∷ settles ∷ []) (seen 0 2 3)
 does_get =
@@ -67,10 +67,10 @@ does_removal =
 
 -- ---- pass 1
 
-one_after : (others : List Numbered) → AreOfOthers (1 ∷ []) others → (deed : Deed) (count next : ℕ) →
-    seen 1 1 next ≡ record (seen 1 1 count) { order = (take count the_order ++ others) ++ by 1 deed ∷ [] } →
-    MakesTurn (seen 1 1 count) deed (seen 1 1 next)
-one_after others apart deed count next is = record { others = others; apart = apart; goes_on = is }
+one_after : (others : List Numbered) → AreOfOthers (1 ∷ []) others → (op : Op) (count next : ℕ) →
+    seen 1 1 next ≡ record (seen 1 1 count) { order = (take count the_order ++ others) ++ by 1 op ∷ [] } →
+    MakesTurn (seen 1 1 count) op (seen 1 1 next)
+one_after others apart op count next is = record { others = others; apart = apart; goes_on = is }
 
 before_none : AreOfOthers (1 ∷ []) (by 0 makes_queue ∷ by 0 installs ∷ by 0 settles ∷ [])
 before_none = of_others (1 ∷ []) (by 0 makes_queue ∷ by 0 installs ∷ by 0 settles ∷ []) (refl, (refl, (refl, tt)))

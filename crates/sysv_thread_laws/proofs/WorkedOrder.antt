@@ -8,14 +8,14 @@ use Rattle.std.specs.List.{All, list_all}
 use Rattle.std.proofs.lemmas.List.Elements.{All-cons, All-nil}
 use Rattle.sysv_steps.specs.Answers.{EachAnswerIsRight}
 use Rattle.sysv_model.specs.History.{Who, Seat, Take, Taken}
-use Rattle.sysv_model.specs.Turn.{Deed, Turn, slot_history}
+use Rattle.sysv_model.specs.Turn.{Op, Turn, slot_history}
 use Rattle.sysv_queue.specs.Named.{IsNamed}
-use Rattle.sysv_objects.specs.LegalDeed.{IsLegalDeed, AreLegal}
+use Rattle.sysv_objects.specs.LegalOp.{IsLegalOp, AreLegal}
 use Rattle.sysv_steps.specs.State.{Goes, Waits, Over, Id, Zero, Got, Refused, OnArrived, AtInstall, AtSettle, AtReserve}
 use Rattle.sysv_steps.specs.State.{AtPlace, AtReceiveGiveback, AtForget, AtRemoveGiveback}
 use Rattle.sysv_steps.specs.Played.{begins, steps, resumes}
 use Rattle.sysv_model.specs.Turns.{Numbered, turns_of}
-use Rattle.sysv_thread_laws.specs.Order.{Called, IsPlayed, AreAll, shows_row, deeds_by, deeds_in}
+use Rattle.sysv_thread_laws.specs.Order.{Called, IsPlayed, AreAll, shows_row, ops_by, ops_in}
 use Rattle.sysv_thread_laws.specs.OrderIsRun.{EveryOrderIsARun}
 use Rattle.sysv_thread_laws.specs.AtRest.{Rests, OrdersAtRest}
 use Rattle.sysv_thread_laws.proofs.Places.{number_other}
@@ -31,7 +31,7 @@ use Rattle.sysv_thread_laws.specs.WorkedOrder.{the_refused, the_removal, calls_w
 abbrev after : ℕ → List Turn
 after count = turns_of (take count the_order)
 
-legal_makes : IsLegalDeed 0 128 (after 0) makes
+legal_makes : IsLegalOp 0 128 (after 0) makes
 legal_makes = (
   inl refl,
   (
@@ -44,10 +44,10 @@ legal_makes = (
   ),
 )
 
-legal_installs : IsLegalDeed 0 128 (after 1) installs
+legal_installs : IsLegalOp 0 128 (after 1) installs
 legal_installs = refl
 
-legal_settles : IsLegalDeed 0 128 (after 2) settles
+legal_settles : IsLegalOp 0 128 (after 2) settles
 legal_settles = (pos 0, refl)
 
 first_is_named : (m : Message) (ms : List Message) → IsNamed Any (m ∷ ms) 0
@@ -56,49 +56,49 @@ first_is_named m ms = ((omega arith, tt), λ earlier below q. omega arith)
 none_is_named : (place : ℕ) → ¬ IsNamed Any [] place
 none_is_named place named = let below : place < 0 = named.0.0 in omega arith
 
-legal_none : IsLegalDeed 0 128 (after 3) finds_none
+legal_none : IsLegalOp 0 128 (after 3) finds_none
 legal_none = (refl, inr (inl (inl refl, λ none. cc)), none_is_named, refl)
 
-legal_looks : IsLegalDeed 0 128 (after 4) looks
+legal_looks : IsLegalOp 0 128 (after 4) looks
 legal_looks = (refl, inr (inl (inl refl, λ none. cc)), (omega arith, omega arith))
 
-legal_reserves : IsLegalDeed 0 128 (after 5) reserves
+legal_reserves : IsLegalOp 0 128 (after 5) reserves
 legal_reserves = (omega arith, refl)
 
-legal_row : IsLegalDeed 0 128 (after 6) reads_row
+legal_row : IsLegalOp 0 128 (after 6) reads_row
 legal_row = refl
 
-legal_places : IsLegalDeed 0 128 (after 7) places
+legal_places : IsLegalOp 0 128 (after 7) places
 legal_places = (refl, inr (inl (inl refl, λ none. cc)), (omega arith, omega arith), refl)
 
-legal_takes : IsLegalDeed 0 128 (after 8) takes
+legal_takes : IsLegalOp 0 128 (after 8) takes
 legal_takes = (refl, inr (inl (inl refl, λ none. cc)), (0, first_is_named hello_message [], refl), inl (omega arith))
 
-legal_no_other : IsLegalDeed 0 128 (after 9) finds_no_other
+legal_no_other : IsLegalOp 0 128 (after 9) finds_no_other
 legal_no_other = (refl, inr (inl (inl refl, λ none. cc)), none_is_named, refl)
 
-legal_last_row : IsLegalDeed 0 128 (after 10) reads_row
+legal_last_row : IsLegalOp 0 128 (after 10) reads_row
 legal_last_row = refl
 
-legal_back : IsLegalDeed 0 128 (after 11) gives_back
+legal_back : IsLegalOp 0 128 (after 11) gives_back
 legal_back = omega arith
 
-legal_discards : IsLegalDeed 0 128 (after 12) discards
+legal_discards : IsLegalOp 0 128 (after 12) discards
 legal_discards = (refl, inl refl, refl)
 
-legal_forgets : IsLegalDeed 0 128 (after 13) forgets
+legal_forgets : IsLegalOp 0 128 (after 13) forgets
 legal_forgets = (record { id = pos 0; key = pos 0; live = true }, refl, refl)
 
-legal_back_none : IsLegalDeed 0 128 (after 14) gives_back_none
+legal_back_none : IsLegalOp 0 128 (after 14) gives_back_none
 legal_back_none = omega arith
 
 module _ (none : AreLegal 0 128 [])
-    (more : (generation blocks : ℕ) (turns : List Turn) (who : Who) (deed : Deed) → AreLegal generation blocks turns →
-    IsLegalDeed generation blocks turns deed →
-    AreLegal generation blocks (turns ++ record { who = who; deed = deed } ∷ [])) where
-  with_more : (turns : List Turn) (number : ℕ) (deed : Deed) → AreLegal 0 128 turns → IsLegalDeed 0 128 turns deed →
-      AreLegal 0 128 (turns ++ record { who = Seat number; deed = deed } ∷ [])
-  with_more turns number deed = more 0 128 turns (Seat number) deed
+    (more : (generation blocks : ℕ) (turns : List Turn) (who : Who) (op : Op) → AreLegal generation blocks turns →
+    IsLegalOp generation blocks turns op →
+    AreLegal generation blocks (turns ++ record { who = who; op = op } ∷ [])) where
+  with_more : (turns : List Turn) (number : ℕ) (op : Op) → AreLegal 0 128 turns → IsLegalOp 0 128 turns op →
+      AreLegal 0 128 (turns ++ record { who = Seat number; op = op } ∷ [])
+  with_more turns number op = more 0 128 turns (Seat number) op
 
   legal_queue : AreLegal 0 128 (after 3)
   legal_queue =
@@ -218,22 +218,22 @@ both_true true false e = absurd cc
 both_true false b e = absurd cc
 
 none_by : (m : ℕ) (order : List Numbered) → list_all (λ (t : Numbered). low t.by) order ≡ true →
-    deeds_by (suc (suc (suc m))) order ≡ []
+    ops_by (suc (suc (suc m))) order ≡ []
 none_by m [] e = refl
 none_by m (t ∷ order) e =
     let both = both_true (low t.by) (list_all (λ (x : Numbered). low x.by) order) e in
     let apart : (t.by == suc (suc (suc m))) ≡ false = number_other t.by (suc (suc (suc m))) (low_apart t.by m both.0) in
-    by_another (suc (suc (suc m))) t order (ap (λ b. b && not (shows_row t.deed)) apart) ∙ none_by m order both.1
+    by_another (suc (suc (suc m))) t order (ap (λ b. b && not (shows_row t.op)) apart) ∙ none_by m order both.1
 
 none_in : (m : ℕ) (calls : List Called) → list_all (λ (c : Called). low c.by) calls ≡ true →
-    deeds_in (suc (suc (suc m))) calls ≡ []
+    ops_in (suc (suc (suc m))) calls ≡ []
 none_in m [] e = refl
 none_in m (c ∷ calls) e =
     let both = both_true (low c.by) (list_all (λ (x : Called). low x.by) calls) e in
     let apart : (c.by == suc (suc (suc m))) ≡ false = number_other c.by (suc (suc (suc m))) (low_apart c.by m both.0) in
-    ap (λ b. cond b c.deeds [] ++ deeds_in (suc (suc (suc m))) calls) apart ∙ none_in m calls both.1
+    ap (λ b. cond b c.ops [] ++ ops_in (suc (suc (suc m))) calls) apart ∙ none_in m calls both.1
 
-all_whole : (number : ℕ) → deeds_by number the_order ≡ deeds_in number the_calls
+all_whole : (number : ℕ) → ops_by number the_order ≡ ops_in number the_calls
 unfolding low
 all_whole zero = refl
 all_whole (suc zero) = refl
@@ -249,7 +249,7 @@ no_other_answer : EachAnswerIsRight → ¬ AreAll the_order (calls_with (Over (R
 no_other_answer right a =
     let p : IsPlayed (the_receive (Over (Refused ENOMSG))) = a.played 1 the_get (omega arith) in
     let r =
-    (right receiver (the_receive (Over Zero)).asked 0 (the_receive (Over Zero)).deeds (Refused ENOMSG) p).none in
+    (right receiver (the_receive (Over Zero)).asked 0 (the_receive (Over Zero)).ops (Refused ENOMSG) p).none in
     let bad = (r.0 refl).0 in
     absurd cc
 
@@ -268,9 +268,9 @@ not_early l =
     none_is_named t.2.0 t.2.1
 
 pub worked_order : AreLegal 0 128 [] →
-    ((generation blocks : ℕ) (turns : List Turn) (who : Who) (deed : Deed) → AreLegal generation blocks turns →
-    IsLegalDeed generation blocks turns deed →
-    AreLegal generation blocks (turns ++ record { who = who; deed = deed } ∷ [])) →
+    ((generation blocks : ℕ) (turns : List Turn) (who : Who) (op : Op) → AreLegal generation blocks turns →
+    IsLegalOp generation blocks turns op →
+    AreLegal generation blocks (turns ++ record { who = who; op = op } ∷ [])) →
     EachAnswerIsRight → EveryOrderIsARun → OrdersAtRest → WorkedOrder
 worked_order none more right law rest = record {
   legal = legal_order none more;

@@ -34,9 +34,9 @@ use Rattle.sysv_thread_laws.proofs.Whole.{last_is_whole}
 unmarked_before : (old : Pass) (made : List Called) (new : Pass) → Works old made new → IsUnmarked new.seats →
     IsUnmarked old.seats
 unmarked_before old _ _ working.begins none = none
-unmarked_before old _ _ (working.calls {made} {mid} cred asked released deeds state new works ran) none =
+unmarked_before old _ _ (working.calls {made} {mid} cred asked released ops state new works ran) none =
     unmarked_before old made mid works
-    (finds_turns any_moment (begin cred asked released) mid deeds state new ran none).1
+    (finds_turns any_moment (begin cred asked released) mid ops state new ran none).1
 unmarked_before old _ _ (working.reads_count {made} {mid} count value new works r same) none =
     unmarked_before old made mid works (no_mark_by_read mid.seats new.seats none count value r)
 unmarked_before old _ _ (working.asks_row {made} {mid} slot result new works told) none =
@@ -70,13 +70,13 @@ module _ (generation blocks first : ℕ) (gates : Gates) where
         IsUnmarked after.seats → Live (before ++ one ∷ rest) made → Live (before ++ after ∷ rest) (made ++ calls)
     works_there made one _ _ working.begins none lives =
         subst (Live (before ++ one ∷ rest)) (sym (append-nil made)) lives
-    works_there made one _ _ (working.calls {made = calls} {mid} cred asked released deeds state new works ran) none
+    works_there made one _ _ (working.calls {made = calls} {mid} cred asked released ops state new works ran) none
         lives =
-        let found = finds_turns any_moment (begin cred asked released) mid deeds state new ran none in
-        let call = call_of mid cred asked released deeds state in
+        let found = finds_turns any_moment (begin cred asked released) mid ops state new ran none in
+        let call = call_of mid cred asked released ops state in
         subst (Live (before ++ new ∷ rest)) (append_assoc made calls (call ∷ []))
         (anywhere (made ++ calls) ((made ++ calls) ++ call ∷ []) mid new
-        (λ here. life.calls cred asked released deeds state new here ran found.0)
+        (λ here. life.calls cred asked released ops state new here ran found.0)
         (works_there made one calls mid works found.1 lives))
     works_there made one _ _ (working.reads_count {made = calls} {mid} count value new works r same) none lives =
         anywhere (made ++ calls) (made ++ calls) mid new (λ here. life.reads_count count value new here r same)
@@ -153,9 +153,9 @@ hired generation blocks first gates theirs left home last each calls opened hire
     let at_home = unmarked_before home calls last removes none in
     let taken = taken_unmarked (reverse left) hires.kept home hires.takes at_home in
     let fresh = all_reversed (λ (p : Pass). IsUnmarked p.seats) left taken.1 in
-    let given =
+    let responses =
     gives_all generation blocks first gates theirs [] (first_pass gates) hires.kept hires.gives (life.opens opened) in
-    let worked = works_all generation blocks first gates theirs each left [] hires.kept [] works fresh given in
+    let worked = works_all generation blocks first gates theirs each left [] hires.kept [] works fresh responses in
     let back = takes_all generation blocks first gates (all_of each) (reverse left) hires.kept home hires.takes
     (subst (λ ps. Lives generation blocks first gates (hires.kept ∷ ps) (all_of each)) (append-nil (reverse left))
     worked) in

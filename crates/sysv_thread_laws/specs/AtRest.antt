@@ -7,7 +7,7 @@ use Rattle.sysv_model.specs.Turn.{Turn, slot_history, registry_history, pool_his
 use Rattle.sysv_pool.specs.State.{free_after}
 use Rattle.sysv_keys.specs.Identifier.{slot_of_id}
 use Rattle.sysv_keys.specs.Rows.{Row, IsRow}
-use Rattle.sysv_objects.specs.LegalDeed.{AreLegal}
+use Rattle.sysv_objects.specs.LegalOp.{AreLegal}
 use Rattle.sysv_steps.specs.State.{State, Goes, Waits, Over}
 use Rattle.sysv_core.specs.Conserved.{blocks_waiting}
 use Rattle.sysv_model.specs.Turns.{Numbered, turns_of}

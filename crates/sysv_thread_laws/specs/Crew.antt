@@ -6,7 +6,7 @@ use Rattle.sysv_model.specs.History.{ReadRow, Reply}
 use Rattle.sysv_model.specs.Turn.{AtSlot}
 use Rattle.sysv_model.specs.Turns.{Numbered, turns_of}
 use Rattle.sysv_model.specs.Members.{Member, AreWhole, first_with, SeesMore, MakesTurn, Does, Splits, Joins, Closes}
-use Rattle.sysv_objects.specs.LegalDeed.{AreLegal}
+use Rattle.sysv_objects.specs.LegalOp.{AreLegal}
 use Rattle.sysv_thread_laws.specs.Order.{Called, IsPlayed, AreAll}
 use Rattle.sysv_thread_laws.specs.OrderIsRun.{IsRunWith}
 use Rattle.sysv_thread_laws.specs.AtRest.{Rests, AreAtRest}
@@ -21,7 +21,7 @@ pub data IsCrew : List Member → List Called → Type 0 where
   -- The first pass made a call, which is over, was left at a wait, or is still under way.
   calls : {one : Member} {rest : List Member} {made : List Called} (call : Called) (after : Member) →
       IsCrew (one ∷ rest) made →
-      call.by ≡ one.number → IsPlayed call → Does one call.deeds after → IsCrew (after ∷ rest) (made ++ call ∷ [])
+      call.by ≡ one.number → IsPlayed call → Does one call.ops after → IsCrew (after ∷ rest) (made ++ call ∷ [])
   -- The first pass read the row of a slot, which is no call.
   reads : {one : Member} {rest : List Member} {made : List Called} (slot : ℕ) (reply : Reply) (after : Member) →
       IsCrew (one ∷ rest) made →

@@ -7,7 +7,7 @@ pub use Rattle.sysv_queue.specs.QueueLaw
 pub use Rattle.sysv_keys.specs.RegistryLaw
 pub use Rattle.sysv_model.specs.Turns
 pub use Rattle.sysv_model.specs.Members
-pub use Rattle.sysv_objects.specs.LegalDeed
+pub use Rattle.sysv_objects.specs.LegalOp
 pub use Rattle.sysv_steps.specs.Call
 pub use Rattle.sysv_steps.specs.State
 pub use Rattle.sysv_steps.specs.Resume

@@ -5,7 +5,7 @@ use Rattle.std.specs.Prelude.{◌≡◌, ◌+◌, ⊤, ℕ, List, [], ◌∷◌,
 use Rattle.sysv_model.specs.declared.attributes.Row.{Row}
 use Rattle.sysv_model.specs.declared.cred.Cred.{Cred}
 use Rattle.sysv_model.specs.declared.errno.Errno.{Errno}
-use Rattle.sysv_model.specs.Turn.{Deed}
+use Rattle.sysv_model.specs.Turn.{Op}
 use Rattle.sysv_steps.specs.Call.{SystemCall}
 use Rattle.sysv_steps.specs.State.{State}
 use Rattle.sysv_steps.specs.Begin.{begin}
@@ -30,21 +30,21 @@ any_moment now = ⊤
 -- The steps of a call hold too if nothing is stated of its clock. So the calls of a service may
 -- have several clocks.
 abbrev pub EachRunIsAtAnyMoment : (ℕ → Type 0) → Type 0
-EachRunIsAtAnyMoment may = (from : State) (old : Pass) (deeds : List Deed) (state : State) (new : Pass)
-    (ran : Ran may from old deeds state new) →
-    (at : Ran any_moment from old deeds state new) × (FindsTurns ran → FindsTurns at)
+EachRunIsAtAnyMoment may = (from : State) (old : Pass) (ops : List Op) (state : State) (new : Pass)
+    (ran : Ran may from old ops state new) →
+    (at : Ran any_moment from old ops state new) × (FindsTurns ran → FindsTurns at)
 
 -- ---- the life
 
 -- The call that this pass makes.
-abbrev pub call_of : Pass → Cred → SystemCall → ℕ → List Deed → State → Called
-call_of one cred asked released deeds state =
+abbrev pub call_of : Pass → Cred → SystemCall → ℕ → List Op → State → Called
+call_of one cred asked released ops state =
     record {
       by = one.seats.member.number;
       cred = cred;
       asked = asked;
       released = released;
-      deeds = deeds;
+      ops = ops;
       state = state;
     }
 
@@ -56,10 +56,10 @@ pub data Lives (generation blocks first : ℕ) (gates : Gates) : List Pass → L
       Lives generation blocks first gates (record { seats = all_opened gates; held = 0 } ∷ []) []
   -- The pass made a call, which is over or was left at a wait, and which found no gate worn out.
   calls : {one : Pass} {rest : List Pass} {made : List Called} (cred : Cred) (asked : SystemCall) (released : ℕ)
-      (deeds : List Deed) (state : State) (after : Pass) →
+      (ops : List Op) (state : State) (after : Pass) →
       Lives generation blocks first gates (one ∷ rest) made →
-      (ran : Ran any_moment (begin cred asked released) one deeds state after) → FindsTurns ran →
-      Lives generation blocks first gates (after ∷ rest) (made ++ call_of one cred asked released deeds state ∷ [])
+      (ran : Ran any_moment (begin cred asked released) one ops state after) → FindsTurns ran →
+      Lives generation blocks first gates (after ∷ rest) (made ++ call_of one cred asked released ops state ∷ [])
   -- The pass read a count, as each send does before it starts.
   reads_count : {one : Pass} {rest : List Pass} {made : List Called} (count : Count) (value : ℕ) (after : Pass) →
       Lives generation blocks first gates (one ∷ rest) made → Reads count value one.seats after.seats →

@@ -10,30 +10,30 @@
 use Rattle.std.specs.Prelude.{◌≡◌, ◌⊎◌, ℕ, List, Contains}
 use Rattle.sysv_model.specs.History.{ReadRow, Reply}
 use Rattle.sysv_model.specs.Turn.{AtSlot, Turn}
-use Rattle.sysv_core.specs.World.{World, Opening, Started, Given, opening}
+use Rattle.sysv_core.specs.World.{World, Opening, Invocation, Response, opening}
 use Rattle.sysv_core.specs.Forgotten.{AllTakeTheirRows}
 use Rattle.sysv_core.specs.Headline.{IsLawful}
 use Rattle.sysv_thread_laws.specs.FreeRun.{nobody, Moment, LeadsOnThreads}
 
 -- The turn reads a row and belongs to no call.
 abbrev pub IsRowRead : Turn → Type 0
-IsRowRead t = (t.who ≡ nobody) × ((slot : ℕ) × (reply : Reply) × (t.deed ≡ AtSlot slot ReadRow reply))
+IsRowRead t = (t.who ≡ nobody) × ((slot : ℕ) × (reply : Reply) × (t.op ≡ AtSlot slot ReadRow reply))
 
 -- The turn belongs to a call that was started, or reads a row.
-abbrev pub IsMadeOrRead : List Started → Turn → Type 0
-IsMadeOrRead calls t = IsRowRead t ⊎ ((call : Started) × Contains calls call × (t.who ≡ call.who))
+abbrev pub IsMadeOrRead : List Invocation → Turn → Type 0
+IsMadeOrRead calls t = IsRowRead t ⊎ ((call : Invocation) × Contains calls call × (t.who ≡ call.who))
 
 -- The laws of the headline but for that of waits. Each turn is made by one of the calls, or reads a
 -- row.
-abbrev pub ObeysOnThreads : Opening → World → List Given → Type 0
-ObeysOnThreads o w given = IsLawful IsMadeOrRead o w given
+abbrev pub ObeysOnThreads : Opening → World → List Response → Type 0
+ObeysOnThreads o w responses = IsLawful IsMadeOrRead o w responses
 
 -- Every list of moments leads from every opening only to worlds that obey these laws.
 abbrev pub EveryThreadedRunObeys : Type 0
-EveryThreadedRunObeys = (o : Opening) (list : List Moment) (given : List Given) (w : World) →
-    LeadsOnThreads (opening o) list given w → ObeysOnThreads o w given
+EveryThreadedRunObeys = (o : Opening) (list : List Moment) (responses : List Response) (w : World) →
+    LeadsOnThreads (opening o) list responses w → ObeysOnThreads o w responses
 
 -- In every free run each forget takes a row away: that of the identifier that was removed.
 abbrev pub EachForgetTakesItsRow : Type 0
-EachForgetTakesItsRow = (o : Opening) (list : List Moment) (given : List Given) (w : World) →
-    LeadsOnThreads (opening o) list given w → AllTakeTheirRows w.turns
+EachForgetTakesItsRow = (o : Opening) (list : List Moment) (responses : List Response) (w : World) →
+    LeadsOnThreads (opening o) list responses w → AllTakeTheirRows w.turns

@@ -7,12 +7,12 @@
 use Rattle.std.specs.Prelude.{◌≡◌, ◌⊎◌, ℕ, ◌+◌, ◌≤◌, false, List, length, map, take, Contains, Some}
 use Rattle.sysv_model.specs.declared.cred.Cred.{Cred}
 use Rattle.sysv_model.specs.declared.limits.TheConstants.{WORN}
-use Rattle.sysv_model.specs.Turn.{Deed}
+use Rattle.sysv_model.specs.Turn.{Op}
 use Rattle.sysv_steps.specs.Call.{SystemCall, Msgget, Msgsnd, Msgrcv, MsgctlStat, MsgctlSet, MsgctlRmid}
 use Rattle.sysv_steps.specs.State.{Phase, AtInstall, Wait, Ending, State, Goes, Waits}
 use Rattle.sysv_steps.specs.Begin.{is_refused, begin}
 use Rattle.sysv_steps.specs.Played.{Plays, begins, steps, resumes}
-use Rattle.sysv_core.specs.World.{World, Opening, Started, Doing, Given, Happening, Step, opening, actor_at}
+use Rattle.sysv_core.specs.World.{World, Opening, Invocation, Doing, Response, Happening, Step, opening, actor_at}
 use Rattle.sysv_core.specs.Run.{Leads}
 use Rattle.sysv_service.specs.Ran as ran
 use Rattle.sysv_service.specs.Ran.{Pass, Ran}
@@ -30,22 +30,22 @@ most_turns (MsgctlRmid id) = 3
 -- ---- along the step table
 
 -- The number of turns that a call has made since its start, or since the end of its last wait.
-abbrev pub turns_since : (from : State) (deeds : List Deed) (state : State) → Plays from deeds state → ℕ
+abbrev pub turns_since : (from : State) (ops : List Op) (state : State) → Plays from ops state → ℕ
 turns_since from _ _ begins = 0
-turns_since from _ _ (steps {deeds} {phase} deed now after play asked row) =
-    turns_since from deeds (Goes phase) play + 1
-turns_since from _ _ (resumes {deeds} {wait} value play least) = 0
+turns_since from _ _ (steps {ops} {phase} op now after play asked row) =
+    turns_since from ops (Goes phase) play + 1
+turns_since from _ _ (resumes {ops} {wait} value play least) = 0
 
 -- No call makes more turns than that, whatever it was told.
 abbrev pub EachCallMakesFewTurns : Type 0
-EachCallMakesFewTurns = (cred : Cred) (asked : SystemCall) (released : ℕ) (deeds : List Deed) (state : State) →
-    (play : Plays (begin cred asked released) deeds state) →
-    turns_since (begin cred asked released) deeds state play ≤ most_turns asked
+EachCallMakesFewTurns = (cred : Cred) (asked : SystemCall) (released : ℕ) (ops : List Op) (state : State) →
+    (play : Plays (begin cred asked released) ops state) →
+    turns_since (begin cred asked released) ops state play ≤ most_turns asked
 
 -- From this state the call can make this number of turns without a wait.
 abbrev pub IsReached : State → ℕ → Type 0
-IsReached from number = (deeds : List Deed) × (state : State) × (play : Plays from deeds state)
-    × (turns_since from deeds state play ≡ number)
+IsReached from number = (ops : List Op) × (state : State) × (play : Plays from ops state)
+    × (turns_since from ops state play ≡ number)
 
 -- The step table has plays with that number of turns, for all arguments that are not refused. So no
 -- smaller number would do.
@@ -63,23 +63,23 @@ gates_when_worn phase = 1
 
 -- The number of times that a call has come to a gate since its start, or since the end of its last
 -- wait. Each time it made a turn there or found the gate worn out.
-abbrev pub gates_since : (may : ℕ → Type 0) (from : State) (old : Pass) (deeds : List Deed) (state : State)
-    (new : Pass) → Ran may from old deeds state new → ℕ
+abbrev pub gates_since : (may : ℕ → Type 0) (from : State) (old : Pass) (ops : List Op) (state : State)
+    (new : Pass) → Ran may from old ops state new → ℕ
 gates_since may from old _ _ _ ran.begins = 0
-gates_since may from old _ _ _ (ran.steps {deeds} {phase} {mid} state new run step) =
-    gates_since may from old deeds (Goes phase) mid run + 1
-gates_since may from old _ _ _ (ran.turns_back {deeds} {phase} {mid} state new run step) =
-    gates_since may from old deeds (Goes phase) mid run + gates_when_worn phase
-gates_since may from old _ _ _ (ran.reads {deeds} {state} {mid} count value new run read same) =
-    gates_since may from old deeds state mid run
-gates_since may from old _ _ _ (ran.resumes {deeds} {wait} {mid} value new run reached read same) = 0
-gates_since may from old _ _ _ (ran.gives_up {deeds} {wait} {mid} value new run below read same) = 0
+gates_since may from old _ _ _ (ran.steps {ops} {phase} {mid} state new run step) =
+    gates_since may from old ops (Goes phase) mid run + 1
+gates_since may from old _ _ _ (ran.turns_back {ops} {phase} {mid} state new run step) =
+    gates_since may from old ops (Goes phase) mid run + gates_when_worn phase
+gates_since may from old _ _ _ (ran.reads {ops} {state} {mid} count value new run read same) =
+    gates_since may from old ops state mid run
+gates_since may from old _ _ _ (ran.resumes {ops} {wait} {mid} value new run reached read same) = 0
+gates_since may from old _ _ _ (ran.gives_up {ops} {wait} {mid} value new run below read same) = 0
 
 -- No call of a pass comes to a gate more often than that.
 abbrev pub EachCallComesToFewGates : (ℕ → Type 0) → Type 0
-EachCallComesToFewGates may = (cred : Cred) (asked : SystemCall) (released : ℕ) (old : Pass) (deeds : List Deed)
-    (state : State) (new : Pass) → (run : Ran may (begin cred asked released) old deeds state new) →
-    gates_since may (begin cred asked released) old deeds state new run ≤ most_turns asked
+EachCallComesToFewGates may = (cred : Cred) (asked : SystemCall) (released : ℕ) (old : Pass) (ops : List Op)
+    (state : State) (new : Pass) → (run : Ran may (begin cred asked released) old ops state new) →
+    gates_since may (begin cred asked released) old ops state new run ≤ most_turns asked
 
 -- ---- in a world
 
@@ -88,26 +88,26 @@ abbrev pub steps_at : ℕ → List ℕ → List Happening
 steps_at actor times = map (Step actor) times
 
 -- The call is over, or its actor waits in it.
-abbrev pub IsOverOrWaits : World → List Given → ℕ → Started → Type 0
-IsOverOrWaits w given actor call =
-    ((ending : Ending) × Contains given (record { call = call; ending = ending }))
+abbrev pub IsOverOrWaits : World → List Response → ℕ → Invocation → Type 0
+IsOverOrWaits w responses actor call =
+    ((ending : Ending) × Contains responses (record { call = call; ending = ending }))
     ⊎ ((wait : Wait) × (actor_at w.actors actor ≡ Some (Some record { call = call; state = Waits wait })))
 
 -- The first of these steps of the actor, at most `most` of them, lead to a world in which the call
 -- is over or waits.
-pub record ComesToRest (w : World) (actor : ℕ) (call : Started) (most : ℕ) (times : List ℕ) : Type 0 where
+pub record ComesToRest (w : World) (actor : ℕ) (call : Invocation) (most : ℕ) (times : List ℕ) : Type 0 where
   pub count : ℕ
   pub few : count ≤ most
-  pub given : List Given
+  pub responses : List Response
   pub after : World
-  pub leads : Leads w (steps_at actor (take count times)) given after
-  pub rests : IsOverOrWaits after given actor call
+  pub leads : Leads w (steps_at actor (take count times)) responses after
+  pub rests : IsOverOrWaits after responses actor call
 
 -- A call that is before a step is over or waits after at most that number of steps of its actor, if
 -- no other actor makes a step between them and the world is not worn out before.
 abbrev pub EachCallComesToRest : Type 0
-EachCallComesToRest = (o : Opening) (list : List Happening) (given : List Given) (w : World) →
-    Leads (opening o) list given w → (actor : ℕ) (d : Doing) (phase : Phase) →
+EachCallComesToRest = (o : Opening) (list : List Happening) (responses : List Response) (w : World) →
+    Leads (opening o) list responses w → (actor : ℕ) (d : Doing) (phase : Phase) →
     actor_at w.actors actor ≡ Some (Some d) → d.state ≡ Goes phase → w.steps + most_turns d.call.asked ≤ WORN →
     (times : List ℕ) → most_turns d.call.asked ≤ length times →
     ComesToRest w actor d.call (most_turns d.call.asked) times

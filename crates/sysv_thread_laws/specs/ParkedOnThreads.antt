@@ -9,12 +9,12 @@ use Rattle.std.specs.Prelude.{◌≡◌, ◌<◌, ◌≤◌, ℕ, List, [], ◌�
 use Rattle.std.specs.List.{list_any}
 use Rattle.sysv_model.specs.History.{Who, Call, Reply}
 use Rattle.sysv_model.specs.Pool.{released}
-use Rattle.sysv_model.specs.Turn.{Deed, AtSlot, Turn, pool_history, deeds_of}
+use Rattle.sysv_model.specs.Turn.{Op, AtSlot, Turn, pool_history, ops_of}
 use Rattle.sysv_model.specs.Turns.{Numbered}
 use Rattle.sysv_steps.specs.State.{Sending, Wait, OnReleased, Waits}
 use Rattle.sysv_steps.specs.Resume.{awaited, goal_of}
 use Rattle.sysv_steps.specs.Answers.{is_at_slot}
-use Rattle.sysv_core.specs.World.{World, Opening, Started, Doing, Given, opening, value_of}
+use Rattle.sysv_core.specs.World.{World, Opening, Invocation, Doing, Response, opening, value_of}
 use Rattle.sysv_core.specs.Parked.{HasTooFewBlocks, HasReason, IsParked}
 use Rattle.sysv_thread_laws.specs.FreeRun.{Moment, LeadsOnThreads}
 use Rattle.sysv_thread_laws.specs.Order.{Called}
@@ -22,18 +22,18 @@ use Rattle.sysv_thread_laws.specs.OrderIsRun.{started_at, IsRunWith}
 
 -- The released count was at least this when the call made its last turn.
 abbrev pub HadReleased : World → Who → ℕ → Type 0
-HadReleased w who count = (before after : List Turn) (deed : Deed) →
-    w.turns ≡ before ++ record { who = who; deed = deed } ∷ after → deeds_of who after ≡ [] →
+HadReleased w who count = (before after : List Turn) (op : Op) →
+    w.turns ≡ before ++ record { who = who; op = op } ∷ after → ops_of who after ≡ [] →
     count ≤ released (pool_history before)
 
 -- The same when the call made its last turn at a slot.
 abbrev pub HadReleasedAtSlot : World → Who → ℕ → Type 0
 HadReleasedAtSlot w who count = (before after : List Turn) (slot : ℕ) (call : Call) (reply : Reply) →
-    w.turns ≡ before ++ record { who = who; deed = AtSlot slot call reply } ∷ after →
-    list_any is_at_slot (deeds_of who after) ≡ false → count ≤ released (pool_history before)
+    w.turns ≡ before ++ record { who = who; op = AtSlot slot call reply } ∷ after →
+    list_any is_at_slot (ops_of who after) ≡ false → count ≤ released (pool_history before)
 
 -- What is stated of a send that waits for blocks, by what it had read of the released count.
-pub record WaitsForBlocks (w : World) (call : Started) (goal : ℕ) (send : Sending) : Type 0 where
+pub record WaitsForBlocks (w : World) (call : Invocation) (goal : ℕ) (send : Sending) : Type 0 where
   -- Too few blocks are free, if it had read no more than there was at its last turn, which is the
   -- reserve that was refused.
   pub short : HadReleased w call.who send.released → HasTooFewBlocks w (length send.text)
@@ -41,14 +41,14 @@ pub record WaitsForBlocks (w : World) (call : Started) (goal : ℕ) (send : Send
   pub whole : HadReleasedAtSlot w call.who send.released → HasReason w call.cred call.asked (OnReleased goal send)
 
 -- The reason for which the call waits.
-abbrev pub HasReasonOnThreads : World → Started → Wait → Type 0
+abbrev pub HasReasonOnThreads : World → Invocation → Wait → Type 0
 HasReasonOnThreads w call (OnReleased goal send) = WaitsForBlocks w call goal send
 HasReasonOnThreads w call wait = HasReason w call.cred call.asked wait
 
 -- Each call of a free run that waits below its goal has its reason.
 abbrev pub EveryThreadedRunParksRightly : Type 0
-EveryThreadedRunParksRightly = (o : Opening) (list : List Moment) (given : List Given) (w : World) →
-    LeadsOnThreads (opening o) list given w → (place : ℕ) (d : Doing) (wait : Wait) → IsParked w place d wait →
+EveryThreadedRunParksRightly = (o : Opening) (list : List Moment) (responses : List Response) (w : World) →
+    LeadsOnThreads (opening o) list responses w → (place : ℕ) (d : Doing) (wait : Wait) → IsParked w place d wait →
     HasReasonOnThreads w d.call wait
 
 -- The same of the calls of an order of turns that were left at a wait, or are in one, in each run

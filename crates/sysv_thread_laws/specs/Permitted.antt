@@ -8,11 +8,11 @@ use Rattle.sysv_model.specs.declared.cred.Cred.{Cred}
 use Rattle.sysv_model.specs.History.{Call, Install, Probe, Look, Place, Take, ReadStat, Set, Remove, ReadRow, Reply}
 use Rattle.sysv_model.specs.History.{Granted, Accepted, Taken, Told, Done, Discarded, Entry, History}
 use Rattle.sysv_model.specs.Live.{live, IsLive}
-use Rattle.sysv_model.specs.Turn.{Deed, AtSlot, Turn, slot_history, deeds_of}
+use Rattle.sysv_model.specs.Turn.{Op, AtSlot, Turn, slot_history, ops_of}
 use Rattle.sysv_model.specs.Turns.{Numbered, turns_of}
 use Rattle.sysv_queue.specs.Granted.{MayRead, MayWrite, MayAsAsked, MayControl, MayLimit}
-use Rattle.sysv_objects.specs.LegalDeed.{AreLegal}
-use Rattle.sysv_core.specs.World.{World, Opening, Started, Happening, Given, opening}
+use Rattle.sysv_objects.specs.LegalOp.{AreLegal}
+use Rattle.sysv_core.specs.World.{World, Opening, Invocation, Happening, Response, opening}
 use Rattle.sysv_core.specs.Run.{Leads}
 use Rattle.sysv_thread_laws.specs.FreeRun.{Moment, LeadsOnThreads}
 use Rattle.sysv_thread_laws.specs.Order.{Called, AreAll}
@@ -52,33 +52,33 @@ credentials_of (Set id cred to now) = Some cred
 credentials_of (Remove id cred) = Some cred
 credentials_of ReadRow = None
 
--- A deed at a slot was requested with these credentials.
-abbrev pub IsUnder : Cred → Deed → Type 0
+-- An operation at a slot was requested with these credentials.
+abbrev pub IsUnder : Cred → Op → Type 0
 IsUnder cred (AtSlot slot call reply) = credentials_of call ≡ Some cred
-IsUnder cred deed = Unit {0}
+IsUnder cred op = Unit {0}
 
 -- ---- the law
 
 -- What holds of the turns of these calls: each turn at a slot was allowed, and the turns of a call
 -- were requested with the credentials of that call.
-pub record ArePermitted (calls : List Started) (turns : List Turn) : Type 0 where
+pub record ArePermitted (calls : List Invocation) (turns : List Turn) : Type 0 where
   pub allowed : (slot : ℕ) → AreAllowed (slot_history slot turns)
-  pub own : All (λ (c : Started). All (IsUnder c.cred) (deeds_of c.who turns)) calls
+  pub own : All (λ (c : Invocation). All (IsUnder c.cred) (ops_of c.who turns)) calls
 
 -- This holds of every world to which a run leads.
 abbrev pub EveryRunIsPermitted : Type 0
-EveryRunIsPermitted = (o : Opening) (list : List Happening) (given : List Given) (w : World) →
-    Leads (opening o) list given w → ArePermitted w.calls w.turns
+EveryRunIsPermitted = (o : Opening) (list : List Happening) (responses : List Response) (w : World) →
+    Leads (opening o) list responses w → ArePermitted w.calls w.turns
 
 -- The same of a free run.
 abbrev pub EveryThreadedRunIsPermitted : Type 0
-EveryThreadedRunIsPermitted = (o : Opening) (list : List Moment) (given : List Given) (w : World) →
-    LeadsOnThreads (opening o) list given w → ArePermitted w.calls w.turns
+EveryThreadedRunIsPermitted = (o : Opening) (list : List Moment) (responses : List Response) (w : World) →
+    LeadsOnThreads (opening o) list responses w → ArePermitted w.calls w.turns
 
 -- The same of an order of turns with the calls that its passes made.
 pub record IsPermittedOrder (order : List Numbered) (calls : List Called) : Type 0 where
   pub allowed : (slot : ℕ) → AreAllowed (slot_history slot (turns_of order))
-  pub own : All (λ (c : Called). All (IsUnder c.cred) c.deeds) calls
+  pub own : All (λ (c : Called). All (IsUnder c.cred) c.ops) calls
 
 -- This holds of every order of turns with legal replies.
 abbrev pub EveryOrderIsPermitted : Type 0

@@ -3,9 +3,9 @@
 -- that waits below its goal has its reason. So the law of waits holds all along an order, and not
 -- only at its end (this project's profile).
 use Rattle.std.specs.Prelude.{◌≡◌, ◌<◌, ◌⊎◌, ℕ, List, [], ◌∷◌, ◌++◌, Some, slice_get}
-use Rattle.sysv_model.specs.Turn.{Deed}
+use Rattle.sysv_model.specs.Turn.{Op}
 use Rattle.sysv_model.specs.Turns.{Numbered, turns_of}
-use Rattle.sysv_objects.specs.LegalDeed.{AreLegal}
+use Rattle.sysv_objects.specs.LegalOp.{AreLegal}
 use Rattle.sysv_steps.specs.State.{Phase, Wait, State, Waits}
 use Rattle.sysv_steps.specs.Begin.{begin}
 use Rattle.sysv_steps.specs.Next.{next}
@@ -16,13 +16,13 @@ use Rattle.sysv_thread_laws.specs.Order.{Called, AreAll}
 use Rattle.sysv_thread_laws.specs.OrderIsRun.{started_at, IsRunWith}
 use Rattle.sysv_thread_laws.specs.ParkedOnThreads.{HasReasonOnThreads}
 
--- The state is the one to which the last of the deeds led, or the first one if there is none. A
--- call that waited then has not gone on.
-abbrev pub IsJustAfter : State → List Deed → State → Type 0
-IsJustAfter from deeds state =
-    ((deeds ≡ []) × (state ≡ from))
-    ⊎ ((before : List Deed) × (phase : Phase) × (deed : Deed) × (deeds ≡ before ++ deed ∷ [])
-    × (next phase deed ≡ Some state))
+-- The state is the one to which the last of the operations led, or the first one if there is none.
+-- A call that waited then has not gone on.
+abbrev pub IsJustAfter : State → List Op → State → Type 0
+IsJustAfter from ops state =
+    ((ops ≡ []) × (state ≡ from))
+    ⊎ ((before : List Op) × (phase : Phase) × (op : Op) × (ops ≡ before ++ op ∷ [])
+    × (next phase op ≡ Some state))
 
 -- The call as it was just after some of its turns.
 pub record IsCut (call now : Called) : Type 0 where
@@ -30,9 +30,9 @@ pub record IsCut (call now : Called) : Type 0 where
   pub cred : now.cred ≡ call.cred
   pub asked : now.asked ≡ call.asked
   pub released : now.released ≡ call.released
-  pub rest : List Deed
-  pub deeds : call.deeds ≡ now.deeds ++ rest
-  pub state : IsJustAfter (begin call.cred call.asked call.released) now.deeds now.state
+  pub rest : List Op
+  pub ops : call.ops ≡ now.ops ++ rest
+  pub state : IsJustAfter (begin call.cred call.asked call.released) now.ops now.state
 
 -- What holds after this part of an order with these calls.
 pub record IsPoint (generation blocks : ℕ) (front : List Numbered) (calls : List Called) : Type 0 where

@@ -17,8 +17,8 @@ use Rattle.sysv_model.specs.History.{Install, Look, Place, Take, Remove, ReadRow
 use Rattle.sysv_model.specs.History.{Taken, Discarded, Shown}
 use Rattle.sysv_model.specs.Registry.{Begin, Settle, Forget, Made, Changed}
 use Rattle.sysv_model.specs.Pool.{Reserve, Release, Reserved, Released}
-use Rattle.sysv_model.specs.Turn.{Deed, AtSlot, AtRegistry, AtPool}
-use Rattle.sysv_objects.specs.LegalDeed.{AreLegal}
+use Rattle.sysv_model.specs.Turn.{Op, AtSlot, AtRegistry, AtPool}
+use Rattle.sysv_objects.specs.LegalOp.{AreLegal}
 use Rattle.sysv_steps.specs.Call.{Msgget, Msgsnd, Msgrcv, MsgctlRmid}
 use Rattle.sysv_steps.specs.State.{Receiving, OnArrived, Id, Zero, Got, Refused, State, Waits, Over}
 use Rattle.sysv_model.specs.Turns.{Numbered, turns_of}
@@ -47,54 +47,54 @@ creating = record { 0 = 896 }
 
 -- ---- the turns
 
-abbrev pub makes : Deed
+abbrev pub makes : Op
 makes = AtRegistry (Begin IPC_PRIVATE creating) (Made (pos 0))
 
-abbrev pub installs : Deed
+abbrev pub installs : Op
 installs = AtSlot 0 (Install (pos 0) IPC_PRIVATE sender 896 10) (Installed true)
 
-abbrev pub settles : Deed
+abbrev pub settles : Op
 settles = AtRegistry (Settle (pos 0)) (Changed true)
 
-abbrev pub finds_none : Deed
+abbrev pub finds_none : Op
 finds_none = AtSlot 0 (Take (pos 0) receiver Any 100 true 11) (NoMatch 0)
 
-abbrev pub looks : Deed
+abbrev pub looks : Op
 looks = AtSlot 0 (Look (pos 0) sender 5) Fits
 
-abbrev pub reserves : Deed
+abbrev pub reserves : Op
 reserves = AtPool (Reserve 5) (Reserved 1)
 
 abbrev pub the_row : Row
 the_row = record { id = pos 0; key = IPC_PRIVATE; uid = 1000; mode = 384; cbytes = 0; qnum = 0 }
 
-abbrev pub reads_row : Deed
+abbrev pub reads_row : Op
 reads_row = AtSlot 0 ReadRow (Shown (Some the_row))
 
-abbrev pub places : Deed
+abbrev pub places : Op
 places = AtSlot 0 (Place (pos 0) sender (pos 5) hello 12) (Accepted 0)
 
-abbrev pub takes : Deed
+abbrev pub takes : Op
 takes = AtSlot 0 (Take (pos 0) receiver Any 100 true 13) (Taken hello_message)
 
-abbrev pub finds_no_other : Deed
+abbrev pub finds_no_other : Op
 finds_no_other = AtSlot 0 (Take (pos 0) sender Any 100 true 14) (NoMatch 1)
 
-abbrev pub gives_back : Deed
+abbrev pub gives_back : Op
 gives_back = AtPool (Release 1) Released
 
-abbrev pub discards : Deed
+abbrev pub discards : Op
 discards = AtSlot 0 (Remove (pos 0) superuser) (Discarded [])
 
-abbrev pub forgets : Deed
+abbrev pub forgets : Op
 forgets = AtRegistry (Forget (pos 0)) (Changed true)
 
-abbrev pub gives_back_none : Deed
+abbrev pub gives_back_none : Op
 gives_back_none = AtPool (Release 0) Released
 
 -- A turn made under this number.
-abbrev pub by : ℕ → Deed → Numbered
-by number deed = record { by = number; deed = deed }
+abbrev pub by : ℕ → Op → Numbered
+by number op = record { by = number; op = op }
 
 -- The order of all turns.
 abbrev pub the_order : List Numbered
@@ -117,7 +117,7 @@ the_get = record {
   cred = sender;
   asked = Msgget IPC_PRIVATE creating;
   released = 0;
-  deeds = makes ∷ installs ∷ settles ∷ [];
+  ops = makes ∷ installs ∷ settles ∷ [];
   state = Over (Id (pos 0));
 }
 
@@ -127,7 +127,7 @@ the_send = record {
   cred = sender;
   asked = Msgsnd (pos 0) (pos 5) IPC_NOWAIT hello;
   released = 0;
-  deeds = looks ∷ reserves ∷ places ∷ [];
+  ops = looks ∷ reserves ∷ places ∷ [];
   state = Over Zero;
 }
 
@@ -138,7 +138,7 @@ the_receive state = record {
   cred = receiver;
   asked = Msgrcv (pos 0) 100 (pos 0) MSG_NOERROR;
   released = 0;
-  deeds = finds_none ∷ takes ∷ gives_back ∷ [];
+  ops = finds_none ∷ takes ∷ gives_back ∷ [];
   state = state;
 }
 
@@ -149,7 +149,7 @@ the_refused = record {
   cred = receiver;
   asked = Msgsnd (pos 0) (pos 0) IPC_NOWAIT hello;
   released = 0;
-  deeds = [];
+  ops = [];
   state = Over (Refused EINVAL);
 }
 
@@ -163,7 +163,7 @@ the_left = record {
   cred = sender;
   asked = Msgrcv (pos 0) 100 (pos 0) MSG_NOERROR;
   released = 0;
-  deeds = finds_no_other ∷ [];
+  ops = finds_no_other ∷ [];
   state = Waits (OnArrived 2 left_at);
 }
 
@@ -173,7 +173,7 @@ the_removal = record {
   cred = superuser;
   asked = MsgctlRmid (pos 0);
   released = 0;
-  deeds = discards ∷ forgets ∷ gives_back_none ∷ [];
+  ops = discards ∷ forgets ∷ gives_back_none ∷ [];
   state = Over Zero;
 }
 

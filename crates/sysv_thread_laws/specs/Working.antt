@@ -4,7 +4,7 @@ use Rattle.std.specs.Prelude.{◌≡◌, ℕ, List, [], ◌∷◌, ◌++◌, Opt
 use Rattle.sysv_model.specs.declared.attributes.Row.{Row}
 use Rattle.sysv_model.specs.declared.cred.Cred.{Cred}
 use Rattle.sysv_model.specs.declared.errno.Errno.{Errno}
-use Rattle.sysv_model.specs.Turn.{Deed}
+use Rattle.sysv_model.specs.Turn.{Op}
 use Rattle.sysv_steps.specs.Call.{SystemCall}
 use Rattle.sysv_steps.specs.State.{State}
 use Rattle.sysv_steps.specs.Begin.{begin}
@@ -20,10 +20,10 @@ pub data Works (old : Pass) : List Called → Pass → Type 0 where
   -- It has done nothing.
   begins : Works old [] old
   -- It made one more call.
-  calls : {made : List Called} {mid : Pass} (cred : Cred) (asked : SystemCall) (released : ℕ) (deeds : List Deed)
+  calls : {made : List Called} {mid : Pass} (cred : Cred) (asked : SystemCall) (released : ℕ) (ops : List Op)
       (state : State) (new : Pass) →
-      Works old made mid → Ran any_moment (begin cred asked released) mid deeds state new →
-      Works old (made ++ call_of mid cred asked released deeds state ∷ []) new
+      Works old made mid → Ran any_moment (begin cred asked released) mid ops state new →
+      Works old (made ++ call_of mid cred asked released ops state ∷ []) new
   -- It read a count, as each send does before it starts.
   reads_count : {made : List Called} {mid : Pass} (count : Count) (value : ℕ) (new : Pass) →
       Works old made mid → Reads count value mid.seats new.seats → new.held ≡ mid.held → Works old made new

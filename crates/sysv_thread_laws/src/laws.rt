@@ -26,8 +26,8 @@ use sysv_pool::pool_law;
 use sysv_queue::{blocks_kept, queue_law, removed_for_good, stays_right};
 use sysv_service::seen_histories;
 use sysv_steps::{
-    Clock, after_removal, each_answer_is_right, each_deed_is_asked_for, each_has_one_effect,
-    each_holds_its_blocks, each_holds_what_it_was_asked, one_answer, waits_for_its_refusal,
+    Clock, after_removal, each_answer_is_right, each_has_one_effect, each_holds_its_blocks,
+    each_holds_what_it_was_asked, each_op_is_asked_for, one_answer, waits_for_its_refusal,
 };
 
 /// States the headline of threads: every list of moments leads from every opening only to worlds
@@ -44,7 +44,7 @@ pub fn every_threaded_run_obeys()
     each_holds_its_blocks();
     queue_law();
     registry_law();
-    each_deed_is_asked_for();
+    each_op_is_asked_for();
     each_answer_is_right();
     each_has_one_effect();
     removed_for_good();
@@ -179,7 +179,7 @@ pub fn each_effect_is_permitted()
 {
     every_run_obeys();
     every_threaded_run_obeys();
-    each_deed_is_asked_for();
+    each_op_is_asked_for();
 }
 
 /// States that a call makes at most four turns from its start, or from the end of a wait, to its
@@ -221,7 +221,7 @@ pub fn every_stop_empties()
     each_holds_its_blocks();
     queue_law();
     registry_law();
-    each_deed_is_asked_for();
+    each_op_is_asked_for();
     each_answer_is_right();
     each_has_one_effect();
     removed_for_good();
@@ -245,7 +245,7 @@ pub fn every_threaded_run_parks_rightly()
     each_holds_its_blocks();
     queue_law();
     registry_law();
-    each_deed_is_asked_for();
+    each_op_is_asked_for();
     each_answer_is_right();
     each_has_one_effect();
     removed_for_good();

@@ -19,8 +19,8 @@ use Rattle.sysv_model.specs.declared.cred.Cred.{Cred}
 use Rattle.sysv_model.specs.declared.limits.TheConstants.{BODY_ROOM}
 use Rattle.sysvmsg.specs.declared.asked.How.{How}
 use Rattle.sysvmsg.specs.Bodies.{with_text}
-use Rattle.sysvmsg.specs.declared.several.Way.{Way}
-use Rattle.sysvmsg.specs.declared.several.Way.TheVariants.{Stream, Lines, Clear, Once}
+use Rattle.sysvmsg.specs.declared.batches.Way.{Way}
+use Rattle.sysvmsg.specs.declared.batches.Way.TheVariants.{Stream, Lines, Clear, Once}
 
 -- A client ran this command and ended with this status.
 abbrev pub HasRun : Command → ℤ → (left taken shown after : Option (List ℕ)) → Type 0

@@ -10,8 +10,8 @@ use Rattle.sysv_clients.specs.declared.command.Task.TheVariants.{List as Table, 
 use Rattle.sysv_clients.specs.declared.stream.Receiving.{Receiving}
 use Rattle.sysv_model.specs.declared.cred.Cred.{Cred}
 use Rattle.sysvmsg.specs.declared.asked.How.{How}
-use Rattle.sysvmsg.specs.declared.several.Way.{Way}
-use Rattle.sysvmsg.specs.declared.several.Way.TheVariants.{Stream, Lines, Clear, Once}
+use Rattle.sysvmsg.specs.declared.batches.Way.{Way}
+use Rattle.sysvmsg.specs.declared.batches.Way.TheVariants.{Stream, Lines, Clear, Once}
 
 -- The number of messages by the number that is stated, if one is, and whether all are wanted.
 abbrev pub count_by : Option ℕ → Bool → ℕ

@@ -8,10 +8,10 @@ ghost use Rattle.sysvmsg.specs.Several.{way_by};
 ghost use Rattle.sysvmsg.specs.Ends.{Succeeds, SucceedsIf, SucceedsOnlyIf};
 
 use crate::asked::How;
+use crate::batches::{Way, receive_at, remove_at, send_at, way_of};
 use crate::input::{Unread, read_body};
 use crate::leaver::{Leaver, bound};
 use crate::place::{Leave, Place};
-use crate::several::{Way, receive_at, remove_at, send_at, way_of};
 use crate::teller::Teller;
 use crate::{FAULT, TIMED_OUT};
 use std::alloc::Global;

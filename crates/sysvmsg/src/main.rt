@@ -4,6 +4,7 @@
 ghost use Rattle.sysvmsg.specs.Ends.{Succeeds};
 
 mod asked;
+mod batches;
 mod commands;
 mod connection;
 mod input;
@@ -13,7 +14,6 @@ mod plain;
 mod room;
 mod scripts;
 mod serving;
-mod several;
 mod socket;
 mod stats;
 mod teller;

@@ -1,5 +1,5 @@
-//! Tests of the engine of a server, over connections in memory, and of its clients and kernels over a
-//! service, with frames worked out by hand.
+//! Tests of the engine of a server, over connections in memory, and of its clients and handlers
+//! over a service, with frames worked out by hand.
 #![tactic(auto)]
 
 #[cfg(test)]

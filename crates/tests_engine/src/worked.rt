@@ -4,7 +4,7 @@ ghost use Rattle.std.specs.Prelude.{◌≡◌};
 ghost use Rattle.sysv_service.specs.Seats.{AreOf};
 
 mod client;
-mod kernel;
+mod handler;
 
 use std::alloc::Global;
 use std::process::Abort;

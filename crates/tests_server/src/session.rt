@@ -8,6 +8,6 @@ mod growths;
 mod pieces;
 mod served;
 mod serving;
-mod shelf;
+mod test_handler;
 mod waiting;
 mod worked;

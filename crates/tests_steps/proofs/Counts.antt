@@ -2,7 +2,7 @@
 use Rattle.std.proofs.Common.{◌≡◌, ℕ, ◌+◌, ◌≤◌, Some, slice_get, arith}
 use Rattle.sysv_model.specs.History.{Call, Install, Probe, Look, Place, Take, ReadStat, Set, Remove, ReadRow}
 use Rattle.sysv_model.specs.Pool.{PoolCall, Reserve, Release}
-use Rattle.sysv_model.specs.Turn.{Deed}
+use Rattle.sysv_model.specs.Turn.{Op}
 use Rattle.sysv_queue.specs.Slot.{Slot}
 use Rattle.sysv_objects.specs.declared.object.ObjectCall.{ObjectCall}
 use Rattle.sysv_objects.specs.declared.object.ObjectCall.TheVariants as asked
@@ -34,9 +34,9 @@ releases_one : (call : PoolCall) → pool_raises call ≤ 1
 releases_one (Reserve size) = omega arith
 releases_one (Release blocks) = omega arith
 
-rise : (n : ℕ) (old new : Objects) (deed : Deed) → MakesTurn old deed new → CountsUpTo n old → raises_by deed ≤ 1 →
+rise : (n : ℕ) (old new : Objects) (op : Op) → MakesTurn old op new → CountsUpTo n old → raises_by op ≤ 1 →
     CountsUpTo (n + 1) new
-rise n old new deed turn low one = weaker (n + raises_by deed) (n + 1) new (omega (arith, one)) (turn.counts n low)
+rise n old new op turn low one = weaker (n + raises_by op) (n + 1) new (omega (arith, one)) (turn.counts n low)
 
 -- No turn raises a count by more than one.
 pub rises : (n : ℕ) (old new : Objects) (call : ObjectCall) (reply : ObjectReply) → Takes MakesTurn old call reply new →

@@ -65,7 +65,7 @@ impl Turns for AtObjects {
 
     ghost stays = { λ _ at. CountsUpTo at.raised at.objects };
 
-    ghost takes = { λ old deed new. MakesTurn old.objects deed new.objects };
+    ghost takes = { λ old op new. MakesTurn old.objects op new.objects };
 
     ghost misses = { λ _ _ _. ⊥ };
 

@@ -8,7 +8,7 @@ use super::{
 use std::alloc::Global;
 use std::process::Abort;
 use std::sync::Wait;
-use sysv_seats::{Client, MemoryStream, Replies, ServiceKernel, Step, Tools, ZERO, Zero};
+use sysv_seats::{Client, MemoryStream, Replies, ServiceHandler, Step, Tools, ZERO, Zero};
 use sysv_service::Closed;
 use sysv_session::{End, Served};
 use sysv_wire::Fault;
@@ -30,18 +30,18 @@ const STEPS: usize = 256;
 /// Has the client take turns until it is over. In each turn it reads once, and the connection is
 /// given the replies.
 fn take_turns<R: Wait>(
-    kernel: &mut ServiceKernel<'_, Zero, R>,
+    handler: &mut ServiceHandler<'_, Zero, R>,
     tools: &mut Tools,
     client: &mut Client<MemoryStream<'_>>,
 )
-    ensures { kernel.new.service ≡ kernel.old.service }
+    ensures { handler.new.service ≡ handler.old.service }
 {
     for _ in 0..TURNS {
         if client.is_over() {
             return;
         }
         client.note_readable();
-        client.take_turn(kernel, tools);
+        client.take_turn(handler, tools);
         drain_often(client);
     }
 }
@@ -75,14 +75,14 @@ fn served<R: Abort + Wait>(
         writes,
     } = stream;
     let (service, pass) = opened(rt, alloc);
-    let mut kernel = ServiceKernel::new(rt, &service, &ZERO, pass);
+    let mut handler = ServiceHandler::new(rt, &service, &ZERO, pass);
     let mut tools = Tools::open(alloc).expect(rt, "memory");
     let connection = MemoryStream::new(alloc, input, ROOM, reads, writes).expect(rt, "memory");
     let mut client = Client::open(alloc, connection);
-    take_turns(&mut kernel, &mut tools, &mut client);
+    take_turns(&mut handler, &mut tools, &mut client);
     assert!(rt; client.is_over());
     let told = client.close(book);
-    let pass = kernel.into_pass();
+    let pass = handler.into_pass();
     (told, service.close(pass))
 }
 

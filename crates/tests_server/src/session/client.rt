@@ -7,7 +7,7 @@ use crate::parts::opened;
 use std::alloc::Global;
 use std::process::Abort;
 use std::sync::Wait;
-use sysv_seats::{Client, MemoryStream, News, Replies, ServiceKernel, Step, Tools, ZERO, Zero};
+use sysv_seats::{Client, MemoryStream, News, Replies, ServiceHandler, Step, Tools, ZERO, Zero};
 use sysv_service::{Pass, Service};
 use sysv_session::{End, Served};
 use tests_kit::worked::{ANSWERS, SESSION};
@@ -139,14 +139,14 @@ fn assert_news(rt: &impl Abort, tools: &mut Tools, expected: &[News]) {
 /// Reports that there may be something to read, has the client take a turn, and gives its connection
 /// the replies.
 fn turn<R: Abort + Wait>(
-    kernel: &mut ServiceKernel<'_, Zero, R>,
+    handler: &mut ServiceHandler<'_, Zero, R>,
     tools: &mut Tools,
     client: &mut Client<MemoryStream<'_>>,
 )
-    ensures { kernel.new.service ≡ kernel.old.service }
+    ensures { handler.new.service ≡ handler.old.service }
 {
     client.note_readable();
-    client.take_turn(kernel, tools);
+    client.take_turn(handler, tools);
     client.drain();
 }
 
@@ -199,14 +199,14 @@ fn assert_served(rt: &impl Abort, served: &Served, end: End, counts: (u32, u64, 
 fn the_session_of_one_client(rt: HostRuntime) {
     let alloc = rt.alloc();
     let (service, pass) = opened(&rt, alloc, 128, 0);
-    let mut kernel = ServiceKernel::new(&rt, &service, &ZERO, pass);
+    let mut handler = ServiceHandler::new(&rt, &service, &ZERO, pass);
     let mut tools = tools(&rt, alloc);
     let mut client = client(&rt, alloc, SESSION, &[]);
-    turn(&mut kernel, &mut tools, &mut client);
-    turn(&mut kernel, &mut tools, &mut client);
+    turn(&mut handler, &mut tools, &mut client);
+    turn(&mut handler, &mut tools, &mut client);
     assert!(rt; client.is_over());
     assert_closed(&rt, alloc, client, End::Ended, (5, 1, 0), ANSWERS);
-    let pass = kernel.into_pass();
+    let pass = handler.into_pass();
     ended(&rt, service, pass, 0);
 }
 
@@ -215,7 +215,7 @@ fn the_session_of_one_client(rt: HostRuntime) {
 fn the_counts_of_a_client_in_pieces(rt: HostRuntime) {
     let alloc = rt.alloc();
     let (service, pass) = opened(&rt, alloc, 128, 0);
-    let mut kernel = ServiceKernel::new(&rt, &service, &ZERO, pass);
+    let mut handler = ServiceHandler::new(&rt, &service, &ZERO, pass);
     let mut tools = tools(&rt, alloc);
     let reads = [
         Step::AtMost(10),
@@ -225,23 +225,23 @@ fn the_counts_of_a_client_in_pieces(rt: HostRuntime) {
     ];
     let mut client = paced(&rt, alloc, SESSION, &reads, &[]);
     assert_counts(&rt, &client, (0, 0), false, true);
-    turn(&mut kernel, &mut tools, &mut client);
+    turn(&mut handler, &mut tools, &mut client);
     assert_counts(&rt, &client, (0, 0), true, false);
-    turn(&mut kernel, &mut tools, &mut client);
+    turn(&mut handler, &mut tools, &mut client);
     assert_counts(&rt, &client, (0, 0), true, false);
-    turn(&mut kernel, &mut tools, &mut client);
+    turn(&mut handler, &mut tools, &mut client);
     assert_counts(&rt, &client, (1, 7), false, false);
-    turn(&mut kernel, &mut tools, &mut client);
+    turn(&mut handler, &mut tools, &mut client);
     assert_counts(&rt, &client, (3, 25), true, false);
     client.note_readable();
     assert!(rt; client.has_more() && !client.is_over());
-    turn(&mut kernel, &mut tools, &mut client);
+    turn(&mut handler, &mut tools, &mut client);
     assert_counts(&rt, &client, (5, 49), false, false);
-    turn(&mut kernel, &mut tools, &mut client);
+    turn(&mut handler, &mut tools, &mut client);
     assert_counts(&rt, &client, (5, 49), false, false);
     assert!(rt; client.is_over());
     assert_closed(&rt, alloc, client, End::Ended, (5, 1, 0), ANSWERS);
-    let pass = kernel.into_pass();
+    let pass = handler.into_pass();
     ended(&rt, service, pass, 0);
 }
 
@@ -250,7 +250,7 @@ fn the_counts_of_a_client_in_pieces(rt: HostRuntime) {
 fn a_client_with_more_than_a_share(rt: HostRuntime) {
     let alloc = rt.alloc();
     let (service, pass) = opened(&rt, alloc, 128, 0);
-    let mut kernel = ServiceKernel::new(&rt, &service, &ZERO, pass);
+    let mut handler = ServiceHandler::new(&rt, &service, &ZERO, pass);
     let mut tools = tools(&rt, alloc);
     let mut input = Vec::new(alloc);
     append(&rt, &mut input, &SESSION[..18]);
@@ -258,18 +258,18 @@ fn a_client_with_more_than_a_share(rt: HostRuntime) {
         append(&rt, &mut input, &SESSION[18..32]);
     }
     let mut client = paced(&rt, alloc, &input, &[], &[]);
-    turn(&mut kernel, &mut tools, &mut client);
+    turn(&mut handler, &mut tools, &mut client);
     assert_counts(&rt, &client, (64, 7 + 63 * 11), true, true);
-    client.take_turn(&mut kernel, &mut tools);
+    client.take_turn(&mut handler, &mut tools);
     assert_counts(&rt, &client, (71, 7 + 63 * 11), false, false);
     assert!(rt; client.has_unsent() && !client.is_over());
-    turn(&mut kernel, &mut tools, &mut client);
+    turn(&mut handler, &mut tools, &mut client);
     assert_counts(&rt, &client, (71, 7 + 70 * 11), false, false);
     assert!(rt; client.is_over());
     let served = closed_early(&rt, alloc, client);
     assert_served(&rt, &served, End::Ended, (71, 0, 0));
     assert_news(&rt, &mut tools, &[]);
-    let pass = kernel.into_pass();
+    let pass = handler.into_pass();
     ended(&rt, service, pass, 0);
 }
 
@@ -277,22 +277,22 @@ fn a_client_with_more_than_a_share(rt: HostRuntime) {
 fn the_news_of_a_send_and_a_receive(rt: HostRuntime) {
     let alloc = rt.alloc();
     let (service, pass) = opened(&rt, alloc, 128, 0);
-    let mut kernel = ServiceKernel::new(&rt, &service, &ZERO, pass);
+    let mut handler = ServiceHandler::new(&rt, &service, &ZERO, pass);
     let mut tools = tools(&rt, alloc);
     let mut client = paced(&rt, alloc, SESSION, &[Step::AtMost(56)], &[]);
-    turn(&mut kernel, &mut tools, &mut client);
+    turn(&mut handler, &mut tools, &mut client);
     assert!(rt; !tools.has_taken(5));
     assert_news(&rt, &mut tools, &[ARRIVED]);
-    turn(&mut kernel, &mut tools, &mut client);
+    turn(&mut handler, &mut tools, &mut client);
     assert!(rt; tools.has_taken(5) && !tools.has_taken(4));
     assert_eq!(rt; tools.take_news(), Some(News::Released));
     assert!(rt; tools.has_taken(5));
     assert_news(&rt, &mut tools, &[FREED]);
     assert!(rt; !tools.has_taken(5));
-    turn(&mut kernel, &mut tools, &mut client);
+    turn(&mut handler, &mut tools, &mut client);
     assert_news(&rt, &mut tools, &[]);
     assert_closed(&rt, alloc, client, End::Ended, (5, 1, 0), ANSWERS);
-    let pass = kernel.into_pass();
+    let pass = handler.into_pass();
     ended(&rt, service, pass, 0);
 }
 
@@ -302,7 +302,7 @@ fn the_news_of_a_send_and_a_receive(rt: HostRuntime) {
 fn the_news_of_a_set_a_refused_send_and_a_removal(rt: HostRuntime) {
     let alloc = rt.alloc();
     let (service, pass) = opened(&rt, alloc, 128, 0);
-    let mut kernel = ServiceKernel::new(&rt, &service, &ZERO, pass);
+    let mut handler = ServiceHandler::new(&rt, &service, &ZERO, pass);
     let mut tools = tools(&rt, alloc);
     let mut client = paced(
         &rt,
@@ -311,15 +311,15 @@ fn the_news_of_a_set_a_refused_send_and_a_removal(rt: HostRuntime) {
         &[Step::AtMost(58), Step::AtMost(25)],
         &[],
     );
-    turn(&mut kernel, &mut tools, &mut client);
+    turn(&mut handler, &mut tools, &mut client);
     assert_news(&rt, &mut tools, &[News::Released, CHANGED]);
-    turn(&mut kernel, &mut tools, &mut client);
+    turn(&mut handler, &mut tools, &mut client);
     assert_news(&rt, &mut tools, &[News::Released]);
-    turn(&mut kernel, &mut tools, &mut client);
+    turn(&mut handler, &mut tools, &mut client);
     assert_news(&rt, &mut tools, &[News::Released, CHANGED]);
-    turn(&mut kernel, &mut tools, &mut client);
+    turn(&mut handler, &mut tools, &mut client);
     assert_closed(&rt, alloc, client, End::Ended, (6, 0, 0), CONTROLS);
-    let pass = kernel.into_pass();
+    let pass = handler.into_pass();
     ended(&rt, service, pass, 0);
 }
 
@@ -328,23 +328,23 @@ fn the_news_of_a_set_a_refused_send_and_a_removal(rt: HostRuntime) {
 fn the_news_of_calls_that_wait(rt: HostRuntime) {
     let alloc = rt.alloc();
     let (service, pass) = opened(&rt, alloc, 128, 0);
-    let mut kernel = ServiceKernel::new(&rt, &service, &ZERO, pass);
+    let mut handler = ServiceHandler::new(&rt, &service, &ZERO, pass);
     let mut tools = tools(&rt, alloc);
     let mut receives = client(&rt, alloc, WAITING, &[]);
-    turn(&mut kernel, &mut tools, &mut receives);
+    turn(&mut handler, &mut tools, &mut receives);
     assert!(rt; receives.waiting().is_some() && receives.is_within_request());
     assert_news(&rt, &mut tools, &[]);
     let mut sends = paced(&rt, alloc, CROWDED, &[Step::AtMost(58)], &[]);
-    turn(&mut kernel, &mut tools, &mut sends);
+    turn(&mut handler, &mut tools, &mut sends);
     assert_news(&rt, &mut tools, &[News::Released, CHANGED]);
-    turn(&mut kernel, &mut tools, &mut sends);
+    turn(&mut handler, &mut tools, &mut sends);
     assert!(rt; sends.waiting().is_some());
     assert_news(&rt, &mut tools, &[News::Released]);
     let sent = closed_early(&rt, alloc, sends);
     assert_served(&rt, &sent, End::Left, (4, 0, 0));
     let received = closed_early(&rt, alloc, receives);
     assert_served(&rt, &received, End::Left, (3, 0, 0));
-    let pass = kernel.into_pass();
+    let pass = handler.into_pass();
     ended(&rt, service, pass, 0);
 }
 
@@ -354,13 +354,13 @@ fn a_parked_receive_goes_on(rt: HostRuntime) {
     let alloc = rt.alloc();
     let (service, mut pass) = opened(&rt, alloc, 128, 0);
     let other = split(&rt, alloc, &service, &mut pass);
-    let mut kernel = ServiceKernel::new(&rt, &service, &ZERO, pass);
-    let mut theirs = ServiceKernel::new(&rt, &service, &ZERO, other);
+    let mut handler = ServiceHandler::new(&rt, &service, &ZERO, pass);
+    let mut theirs = ServiceHandler::new(&rt, &service, &ZERO, other);
     let mut tools = tools(&rt, alloc);
     let mut waits = client(&rt, alloc, WAITING, &[]);
-    turn(&mut kernel, &mut tools, &mut waits);
+    turn(&mut handler, &mut tools, &mut waits);
     assert!(rt; waits.waiting().is_some() && !waits.has_more());
-    waits.go_on(&mut kernel, &mut tools);
+    waits.go_on(&mut handler, &mut tools);
     assert!(rt; waits.waiting().is_some());
     let mut sends = client(&rt, alloc, &SESSION[..56], &[]);
     turn(&mut theirs, &mut tools, &mut sends);
@@ -372,14 +372,14 @@ fn a_parked_receive_goes_on(rt: HostRuntime) {
         (3, 0, 0),
         &ANSWERS[..25],
     );
-    waits.go_on(&mut kernel, &mut tools);
+    waits.go_on(&mut handler, &mut tools);
     waits.drain();
     assert!(rt; waits.waiting().is_none() && !waits.has_more());
     waits.note_readable();
-    turn(&mut kernel, &mut tools, &mut waits);
+    turn(&mut handler, &mut tools, &mut waits);
     assert!(rt; waits.is_over());
     assert_closed(&rt, alloc, waits, End::Ended, (3, 1, 0), RECEIVED);
-    let mut pass = kernel.into_pass();
+    let mut pass = handler.into_pass();
     service.join_pass(&mut pass, theirs.into_pass());
     ended(&rt, service, pass, 0);
 }
@@ -388,14 +388,14 @@ fn a_parked_receive_goes_on(rt: HostRuntime) {
 fn a_parked_receive_is_left(rt: HostRuntime) {
     let alloc = rt.alloc();
     let (service, pass) = opened(&rt, alloc, 128, 0);
-    let mut kernel = ServiceKernel::new(&rt, &service, &ZERO, pass);
+    let mut handler = ServiceHandler::new(&rt, &service, &ZERO, pass);
     let mut tools = tools(&rt, alloc);
     let mut client = loose(&rt, alloc, WAITING, &[]);
-    turn(&mut kernel, &mut tools, &mut client);
+    turn(&mut handler, &mut tools, &mut client);
     client.leave();
     assert!(rt; client.waiting().is_none() && client.is_over());
     assert_closed(&rt, alloc, client, End::Left, (3, 0, 0), GREETED);
-    let pass = kernel.into_pass();
+    let pass = handler.into_pass();
     ended(&rt, service, pass, 0);
 }
 
@@ -404,10 +404,10 @@ fn a_parked_receive_is_left(rt: HostRuntime) {
 fn a_client_that_stays(rt: HostRuntime) {
     let alloc = rt.alloc();
     let (service, pass) = opened(&rt, alloc, 128, 0);
-    let mut kernel = ServiceKernel::new(&rt, &service, &ZERO, pass);
+    let mut handler = ServiceHandler::new(&rt, &service, &ZERO, pass);
     let mut tools = tools(&rt, alloc);
     let mut stays = client(&rt, alloc, WAITING, &[]);
-    turn(&mut kernel, &mut tools, &mut stays);
+    turn(&mut handler, &mut tools, &mut stays);
     assert!(rt; !stays.may_be_cut() && !stays.may_close());
     stays.leave();
     stays.cut();
@@ -423,7 +423,7 @@ fn a_client_that_stays(rt: HostRuntime) {
         (0, 0, 0),
         &[],
     );
-    let pass = kernel.into_pass();
+    let pass = handler.into_pass();
     ended(&rt, service, pass, 0);
 }
 
@@ -433,18 +433,18 @@ fn a_client_that_stays(rt: HostRuntime) {
 fn a_client_that_is_cut(rt: HostRuntime) {
     let alloc = rt.alloc();
     let (service, pass) = opened(&rt, alloc, 128, 0);
-    let mut kernel = ServiceKernel::new(&rt, &service, &ZERO, pass);
+    let mut handler = ServiceHandler::new(&rt, &service, &ZERO, pass);
     let mut tools = tools(&rt, alloc);
     let steps = [Step::AtMost(20), Step::AtMost(0), Step::AtMost(0)];
     let mut client = loose(&rt, alloc, SESSION, &steps);
-    turn(&mut kernel, &mut tools, &mut client);
-    turn(&mut kernel, &mut tools, &mut client);
+    turn(&mut handler, &mut tools, &mut client);
+    turn(&mut handler, &mut tools, &mut client);
     assert!(rt; client.has_unsent() && !client.is_over());
     assert_eq!(rt; client.sent_bytes(), 20);
     client.cut();
     assert!(rt; client.is_over());
     assert_closed(&rt, alloc, client, End::Write, (5, 0, 1), &ANSWERS[..20]);
-    let pass = kernel.into_pass();
+    let pass = handler.into_pass();
     ended(&rt, service, pass, 0);
 }
 

@@ -3,11 +3,11 @@ ghost use Rattle.std.specs.Prelude.{◌≡◌, ◌≤◌, ◌<◌, ◌+◌, leng
 ghost use Rattle.sysv_queue.specs.Tally.{taken_in};
 
 use super::served::counts_of;
-use super::shelf::Shelf;
+use super::test_handler::TestHandler;
 use std::alloc::Global;
 use std::process::Abort;
 use sysv_model::{Body, Watched};
-use sysv_session::{Conversation, End, Kernel, RequestOutcome, TakenUp};
+use sysv_session::{Conversation, End, Handler, RequestOutcome, TakenUp};
 use sysv_wire::Version;
 use tests_kit::worked::{ANSWERS, SESSION};
 use tests_kit::{Pieces, open_body};
@@ -33,7 +33,11 @@ impl Talking {
     }
 
     /// Takes up what the input holds next, and gathers its reply.
-    fn step(&mut self, reader: &mut Watched<'_, Pieces<'_>>, kernel: &mut Shelf) -> Result<(), End>
+    fn step(
+        &mut self,
+        reader: &mut Watched<'_, Pieces<'_>>,
+        handler: &mut TestHandler,
+    ) -> Result<(), End>
         requires room { taken_in self.old.conversation.session.tally
             + length self.old.conversation.unsent.marks < 9 }
         ensures more { taken_in self.new.conversation.session.tally
@@ -46,10 +50,10 @@ impl Talking {
         match taken {
             TakenUp::Hello(version) => {
                 self.conversation
-                    .greet(version, kernel.slots(), &self.given)
+                    .greet(version, handler.slots(), &self.given)
             }
             TakenUp::Request(cred, request) => {
-                let outcome = kernel.call(cred, &request, &self.text, &mut self.given);
+                let outcome = handler.call(cred, &request, &self.text, &mut self.given);
                 self.conversation.put(request.version, outcome, &self.given)
             }
         }
@@ -57,7 +61,7 @@ impl Talking {
 
     /// Takes up the five requests of the session whose bytes were worked out by hand, and its end.
     /// Ends earlier if memory is refused.
-    fn talk(&mut self, kernel: &mut Shelf) -> Result<(), End>
+    fn talk(&mut self, handler: &mut TestHandler) -> Result<(), End>
         requires none { taken_in self.old.conversation.session.tally
             + length self.old.conversation.unsent.marks ≡ 0 }
         ensures few { taken_in self.new.conversation.session.tally
@@ -65,24 +69,24 @@ impl Talking {
     {
         let mut pieces = Pieces::new(SESSION, usize::MAX);
         let mut reader = Watched::new(&mut pieces);
-        self.step(&mut reader, kernel)?;
-        self.step(&mut reader, kernel)?;
-        self.step(&mut reader, kernel)?;
-        self.step(&mut reader, kernel)?;
-        self.step(&mut reader, kernel)?;
-        self.step(&mut reader, kernel)
+        self.step(&mut reader, handler)?;
+        self.step(&mut reader, handler)?;
+        self.step(&mut reader, handler)?;
+        self.step(&mut reader, handler)?;
+        self.step(&mut reader, handler)?;
+        self.step(&mut reader, handler)
     }
 }
 
 /// Holds the session whose bytes were worked out by hand, with a connection that takes nothing yet.
 /// Returns `None` if memory was refused: the session then ended.
-fn gathered(rt: &impl Abort, alloc: Global, kernel: &mut Shelf) -> Option<Conversation>
+fn gathered(rt: &impl Abort, alloc: Global, handler: &mut TestHandler) -> Option<Conversation>
     ensures { IfSome result (λ conversation. taken_in conversation.session.tally
         + length conversation.unsent.marks ≤ 6) }
 {
     let mut talking = Talking::open(rt, alloc);
     assert!(rt; talking.conversation.is_empty());
-    let end = talking.talk(kernel);
+    let end = talking.talk(handler);
     let Talking {
         conversation,
         text: _,
@@ -122,8 +126,8 @@ fn take(rt: &impl Abort, conversation: &mut Conversation, left: &[u8], count: us
 // All replies are gathered before the connection takes any of them.
 #[test]
 fn the_replies_of_a_session_are_gathered(rt: HostRuntime) {
-    let mut kernel = Shelf::open(&rt, rt.alloc());
-    if let Some(mut conversation) = gathered(&rt, rt.alloc(), &mut kernel) {
+    let mut handler = TestHandler::open(&rt, rt.alloc());
+    if let Some(mut conversation) = gathered(&rt, rt.alloc(), &mut handler) {
         assert_eq!(rt; conversation.waiting_bytes(), 49);
         take(&rt, &mut conversation, ANSWERS, 49);
         assert!(rt; conversation.is_empty());
@@ -133,15 +137,15 @@ fn the_replies_of_a_session_are_gathered(rt: HostRuntime) {
             (End::Ended, (5, 1, 1, 0))
         );
     }
-    assert_eq!(rt; kernel.end(), 128);
+    assert_eq!(rt; handler.end(), 128);
 }
 
 // The message is written with the last byte of its frame, the 42nd.
 #[test]
 fn the_connection_takes_one_byte_after_another(rt: HostRuntime) {
     for count in 0..50 {
-        let mut kernel = Shelf::open(&rt, rt.alloc());
-        if let Some(mut conversation) = gathered(&rt, rt.alloc(), &mut kernel) {
+        let mut handler = TestHandler::open(&rt, rt.alloc());
+        if let Some(mut conversation) = gathered(&rt, rt.alloc(), &mut handler) {
             take_bytes(&rt, &mut conversation, count);
             let served = conversation.end(End::Ended);
             let end = if count < 49 { End::Write } else { End::Ended };
@@ -152,7 +156,7 @@ fn the_connection_takes_one_byte_after_another(rt: HostRuntime) {
                 "{count}"
             );
         }
-        assert_eq!(rt; kernel.end(), 128);
+        assert_eq!(rt; handler.end(), 128);
     }
 }
 
@@ -161,8 +165,8 @@ fn the_connection_takes_one_byte_after_another(rt: HostRuntime) {
 #[test]
 fn the_connection_is_reset_after_each_byte(rt: HostRuntime) {
     for count in 0..50 {
-        let mut kernel = Shelf::open(&rt, rt.alloc());
-        if let Some(mut conversation) = gathered(&rt, rt.alloc(), &mut kernel) {
+        let mut handler = TestHandler::open(&rt, rt.alloc());
+        if let Some(mut conversation) = gathered(&rt, rt.alloc(), &mut handler) {
             take_bytes(&rt, &mut conversation, count);
             let served = conversation.end(End::Reset);
             let end = if count < 49 { End::Write } else { End::Reset };
@@ -173,18 +177,18 @@ fn the_connection_is_reset_after_each_byte(rt: HostRuntime) {
                 "{count}"
             );
         }
-        assert_eq!(rt; kernel.end(), 128);
+        assert_eq!(rt; handler.end(), 128);
     }
 }
 
 // The last call is left: it has no reply.
 #[test]
 fn a_call_that_was_left_has_no_reply(rt: HostRuntime) {
-    let mut kernel = Shelf::open(&rt, rt.alloc());
+    let mut handler = TestHandler::open(&rt, rt.alloc());
     let mut talking = Talking::open(&rt, rt.alloc());
     let mut pieces = Pieces::new(SESSION, usize::MAX);
     let mut reader = Watched::new(&mut pieces);
-    let hello = talking.step(&mut reader, &mut kernel);
+    let hello = talking.step(&mut reader, &mut handler);
     let Talking {
         mut conversation,
         text: _,
@@ -197,5 +201,5 @@ fn a_call_that_was_left_has_no_reply(rt: HostRuntime) {
     take(&rt, &mut conversation, gathered, gathered.len());
     let served = conversation.end(End::Left);
     assert_eq!(rt; (served.end, counts_of(&served)), (End::Left, (1, 0, 0, 0)));
-    assert_eq!(rt; kernel.end(), 128);
+    assert_eq!(rt; handler.end(), 128);
 }

@@ -7,12 +7,12 @@ ghost use Rattle.sysv_wire.specs.Replies.{IsAnswer};
 ghost use Rattle.sysv_wire.specs.Requests.{op_of};
 
 use super::served::counts_of;
-use super::shelf::Shelf;
+use super::test_handler::TestHandler;
 use std::alloc::{AllocFailed, Global};
 use std::process::Abort;
 use sysv_model::{Body, Watched};
 use sysv_queue::{Delivery, Tally};
-use sysv_session::{End, Kernel, Outbox, RequestOutcome, Session, TakenUp, hello_reply};
+use sysv_session::{End, Handler, Outbox, RequestOutcome, Session, TakenUp, hello_reply};
 use sysv_wire::{Ask, Op, Reply, ReplyContent, Request, Version};
 use tests_kit::worked::{ANSWERS, SESSION};
 use tests_kit::{Pieces, USER, creating, flags, open_body};
@@ -27,12 +27,12 @@ const GATHERED: &[u8] = &[
 ];
 
 /// Makes a request that has a reply without a message.
-fn asked(rt: &impl Abort, kernel: &mut Shelf, ask: Ask, text: &Body, given: &mut Body)
+fn asked(rt: &impl Abort, handler: &mut TestHandler, ask: Ask, text: &Body, given: &mut Body)
     requires { op_of ask ≢ Op.Hello }
 {
     given.clear();
     let version = Version::One;
-    match kernel.call(USER, &Request { version, ask }, text, given) {
+    match handler.call(USER, &Request { version, ask }, text, given) {
         RequestOutcome::Reply(_) => {}
         RequestOutcome::Got(_delivery) => panic!(rt; "only a receive returns a message"),
         RequestOutcome::Left => panic!(rt; "nothing waits"),
@@ -40,12 +40,12 @@ fn asked(rt: &impl Abort, kernel: &mut Shelf, ask: Ask, text: &Body, given: &mut
 }
 
 /// Sends `text` with type 5 to queue 0 and receives it. Its body is then in `given`.
-fn received(rt: &impl Abort, kernel: &mut Shelf, text: &Body, given: &mut Body) -> Delivery
+fn received(rt: &impl Abort, handler: &mut TestHandler, text: &Body, given: &mut Body) -> Delivery
     ensures { length given.new ≤ MESSAGE_BYTES }
 {
     let flags = flags(0);
     let (id, mtype) = (0, 5);
-    asked(rt, kernel, Ask::Snd { id, mtype, flags }, text, given);
+    asked(rt, handler, Ask::Snd { id, mtype, flags }, text, given);
     given.clear();
     let request = Request {
         version: Version::One,
@@ -56,7 +56,7 @@ fn received(rt: &impl Abort, kernel: &mut Shelf, text: &Body, given: &mut Body) 
             flags,
         },
     };
-    match kernel.call(USER, &request, text, given) {
+    match handler.call(USER, &request, text, given) {
         RequestOutcome::Got(delivery) => delivery,
         RequestOutcome::Reply(_) => panic!(rt; "a message is queued"),
         RequestOutcome::Left => panic!(rt; "nothing waits"),
@@ -116,7 +116,7 @@ fn take(
 }
 
 /// Returns an outbox with the reply to a send and two replies to receives of `hi` with type 5.
-fn with_two_messages(rt: &impl Abort, alloc: Global, kernel: &mut Shelf) -> Outbox
+fn with_two_messages(rt: &impl Abort, alloc: Global, handler: &mut TestHandler) -> Outbox
     ensures { length result.marks ≡ 2 }
 {
     let mut text = open_body(alloc).expect(rt, "a second try");
@@ -125,7 +125,7 @@ fn with_two_messages(rt: &impl Abort, alloc: Global, kernel: &mut Shelf) -> Outb
         key: 7,
         flags: creating(),
     };
-    asked(rt, kernel, get, &text, &mut given);
+    asked(rt, handler, get, &text, &mut given);
     text.push_piece(b"hi");
     let mut outbox = Outbox::open(alloc);
     let sent = Reply {
@@ -134,9 +134,9 @@ fn with_two_messages(rt: &impl Abort, alloc: Global, kernel: &mut Shelf) -> Outb
         result: ReplyContent::Snd,
     };
     put(rt, &mut outbox, &sent, &text);
-    let first = received(rt, kernel, &text, &mut given);
+    let first = received(rt, handler, &text, &mut given);
     put_message(rt, &mut outbox, Version::One, first, &given);
-    let second = received(rt, kernel, &text, &mut given);
+    let second = received(rt, handler, &text, &mut given);
     put_message(rt, &mut outbox, Version::One, second, &given);
     outbox
 }
@@ -144,9 +144,9 @@ fn with_two_messages(rt: &impl Abort, alloc: Global, kernel: &mut Shelf) -> Outb
 // The first message is written once a byte after its frame was taken, and the second is lost.
 #[test]
 fn a_message_is_written_once_a_byte_after_it_was_taken(rt: HostRuntime) {
-    let mut kernel = Shelf::open(&rt, rt.alloc());
+    let mut handler = TestHandler::open(&rt, rt.alloc());
     let mut tally = Tally::open();
-    let mut outbox = with_two_messages(&rt, rt.alloc(), &mut kernel);
+    let mut outbox = with_two_messages(&rt, rt.alloc(), &mut handler);
     assert_eq!(rt; outbox.unsent(), GATHERED);
     take(&rt, &mut outbox, 7, &mut tally, &GATHERED[7..], 0);
     take(&rt, &mut outbox, 16, &mut tally, &GATHERED[23..], 0);
@@ -155,15 +155,15 @@ fn a_message_is_written_once_a_byte_after_it_was_taken(rt: HostRuntime) {
     take(&rt, &mut outbox, 15, &mut tally, &GATHERED[40..], 1);
     outbox.end(false, &mut tally);
     assert_eq!(rt; (tally.written(), tally.lost()), (1, 1));
-    assert_eq!(rt; kernel.end(), 128);
+    assert_eq!(rt; handler.end(), 128);
 }
 
 /// Lets the connection take this number of bytes, ends the outbox, and asserts how many messages were
 /// written. The others are lost.
 fn assert_written(rt: &impl Abort, alloc: Global, taken: usize, is_reset: bool, written: u64) {
-    let mut kernel = Shelf::open(rt, alloc);
+    let mut handler = TestHandler::open(rt, alloc);
     let mut tally = Tally::open();
-    let mut outbox = with_two_messages(rt, alloc, &mut kernel);
+    let mut outbox = with_two_messages(rt, alloc, &mut handler);
     let count = taken.min(outbox.unsent().len());
     outbox.sent(count, &mut tally);
     outbox.end(is_reset, &mut tally);
@@ -172,7 +172,7 @@ fn assert_written(rt: &impl Abort, alloc: Global, taken: usize, is_reset: bool, 
         (written, 2),
         "{taken} {is_reset}"
     );
-    assert_eq!(rt; kernel.end(), 128);
+    assert_eq!(rt; handler.end(), 128);
 }
 
 // The frames of the messages end with bytes 24 and 41.
@@ -216,7 +216,7 @@ impl Gathering {
         &mut self,
         rt: &impl Abort,
         reader: &mut Watched<'_, Pieces<'_>>,
-        kernel: &mut Shelf,
+        handler: &mut TestHandler,
     ) -> Result<(), End>
         ensures tally { self.new.session.tally ≡ self.old.session.tally }
         ensures marks { length self.new.outbox.marks ≤ length self.old.outbox.marks + 1 }
@@ -225,11 +225,11 @@ impl Gathering {
         self.given.clear();
         match taken {
             TakenUp::Hello(version) => {
-                let reply = hello_reply(version, kernel.slots());
+                let reply = hello_reply(version, handler.slots());
                 put(rt, &mut self.outbox, &reply, &self.given);
             }
             TakenUp::Request(cred, request) => {
-                let outcome = kernel.call(cred, &request, &self.text, &mut self.given);
+                let outcome = handler.call(cred, &request, &self.text, &mut self.given);
                 self.answer(rt, request.version, outcome);
             }
         }
@@ -240,7 +240,7 @@ impl Gathering {
 // All replies are gathered before the connection takes any of them.
 #[test]
 fn a_session_is_taken_up_step_by_step(rt: HostRuntime) {
-    let mut kernel = Shelf::open(&rt, rt.alloc());
+    let mut handler = TestHandler::open(&rt, rt.alloc());
     let mut pieces = Pieces::new(SESSION, usize::MAX);
     let mut reader = Watched::new(&mut pieces);
     let mut gathering = Gathering {
@@ -249,12 +249,12 @@ fn a_session_is_taken_up_step_by_step(rt: HostRuntime) {
         text: open_body(rt.alloc()).expect(&rt, "a second try"),
         given: open_body(rt.alloc()).expect(&rt, "a second try"),
     };
-    assert_eq!(rt; gathering.step(&rt, &mut reader, &mut kernel), Ok(()));
-    assert_eq!(rt; gathering.step(&rt, &mut reader, &mut kernel), Ok(()));
-    assert_eq!(rt; gathering.step(&rt, &mut reader, &mut kernel), Ok(()));
-    assert_eq!(rt; gathering.step(&rt, &mut reader, &mut kernel), Ok(()));
-    assert_eq!(rt; gathering.step(&rt, &mut reader, &mut kernel), Ok(()));
-    let end = gathering.step(&rt, &mut reader, &mut kernel);
+    assert_eq!(rt; gathering.step(&rt, &mut reader, &mut handler), Ok(()));
+    assert_eq!(rt; gathering.step(&rt, &mut reader, &mut handler), Ok(()));
+    assert_eq!(rt; gathering.step(&rt, &mut reader, &mut handler), Ok(()));
+    assert_eq!(rt; gathering.step(&rt, &mut reader, &mut handler), Ok(()));
+    assert_eq!(rt; gathering.step(&rt, &mut reader, &mut handler), Ok(()));
+    let end = gathering.step(&rt, &mut reader, &mut handler);
     assert_eq!(rt; end, Err(End::Ended));
     let Gathering {
         mut session,
@@ -268,5 +268,5 @@ fn a_session_is_taken_up_step_by_step(rt: HostRuntime) {
     outbox.end(false, &mut session.tally);
     let served = session.end(End::Ended);
     assert_eq!(rt; counts_of(&served), (5, 1, 1, 0));
-    assert_eq!(rt; kernel.end(), 128);
+    assert_eq!(rt; handler.end(), 128);
 }

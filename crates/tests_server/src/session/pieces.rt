@@ -14,7 +14,7 @@ use std::process::Abort;
 use std::sync::Wait;
 use sysv_model::{Body, Errno, Flags, MESSAGE_BYTES, Selector, SetTo};
 use sysv_queue::Tally;
-use sysv_seats::{Awaited, ServiceKernel, Waiting, snd_text};
+use sysv_seats::{Awaited, ServiceHandler, Waiting, snd_text};
 use sysv_service::{Pass, Progress, Service};
 use sysv_session::RequestOutcome;
 use sysv_wire::{Ask, Op, Reply, ReplyContent, Request, Version};
@@ -128,15 +128,15 @@ fn assert_got(
 fn make<R: Abort + Wait>(
     rt: &R,
     alloc: Global,
-    kernel: &mut ServiceKernel<'_, Still, R>,
+    handler: &mut ServiceHandler<'_, Still, R>,
     ask: Ask,
     content: ReplyContent,
 )
     requires { op_of ask ≢ Op.Hello }
-    ensures { kernel.new.service ≡ kernel.old.service }
+    ensures { handler.new.service ≡ handler.old.service }
 {
     let (empty, mut given) = (empty_body(rt, alloc), empty_body(rt, alloc));
-    let begun = kernel.begin(USER, &request(ask), &empty, &mut given);
+    let begun = handler.begin(USER, &request(ask), &empty, &mut given);
     assert_replied(rt, begun, ask.op(), content);
     assert_eq!(rt; given.len(), 0);
 }
@@ -145,15 +145,15 @@ fn make<R: Abort + Wait>(
 fn send<R: Abort + Wait>(
     rt: &R,
     alloc: Global,
-    kernel: &mut ServiceKernel<'_, Still, R>,
+    handler: &mut ServiceHandler<'_, Still, R>,
     request: &Request,
     bytes: &[u8],
 )
     requires { op_of request.now.ask ≢ Op.Hello }
-    ensures { kernel.new.service ≡ kernel.old.service }
+    ensures { handler.new.service ≡ handler.old.service }
 {
     let (text, mut given) = (body_of(rt, alloc, bytes), empty_body(rt, alloc));
-    let begun = kernel.begin(USER, request, &text, &mut given);
+    let begun = handler.begin(USER, request, &text, &mut given);
     assert_replied(rt, begun, Op::Snd, ReplyContent::Snd);
 }
 
@@ -161,11 +161,11 @@ fn send<R: Abort + Wait>(
 fn take<R: Abort + Wait>(
     rt: &R,
     alloc: Global,
-    kernel: &mut ServiceKernel<'_, Still, R>,
+    handler: &mut ServiceHandler<'_, Still, R>,
     id: i32,
     length: usize,
 )
-    ensures { kernel.new.service ≡ kernel.old.service }
+    ensures { handler.new.service ≡ handler.old.service }
 {
     let (empty, mut given) = (empty_body(rt, alloc), empty_body(rt, alloc));
     let receive = request(Ask::Rcv {
@@ -174,7 +174,7 @@ fn take<R: Abort + Wait>(
         mtype: 5,
         flags: Flags::IPC_NOWAIT,
     });
-    let begun = kernel.begin(USER, &receive, &empty, &mut given);
+    let begun = handler.begin(USER, &receive, &empty, &mut given);
     assert_got(rt, begun, 5, length);
     assert_eq!(rt; given.len(), length);
 }
@@ -183,17 +183,17 @@ fn take<R: Abort + Wait>(
 fn make_queue<R: Abort + Wait>(
     rt: &R,
     alloc: Global,
-    kernel: &mut ServiceKernel<'_, Still, R>,
+    handler: &mut ServiceHandler<'_, Still, R>,
     key: i32,
     id: i32,
 )
-    ensures { kernel.new.service ≡ kernel.old.service }
+    ensures { handler.new.service ≡ handler.old.service }
 {
     let flags = creating();
     make(
         rt,
         alloc,
-        kernel,
+        handler,
         Ask::Get { key, flags },
         ReplyContent::Get { id },
     );
@@ -203,11 +203,11 @@ fn make_queue<R: Abort + Wait>(
 fn receive_on<R: Abort + Wait>(
     rt: &R,
     alloc: Global,
-    kernel: &mut ServiceKernel<'_, Still, R>,
+    handler: &mut ServiceHandler<'_, Still, R>,
     given: &mut Body,
     waiting: Waiting,
 ) -> Progress<Waiting, RequestOutcome>
-    ensures { kernel.new.service ≡ kernel.old.service }
+    ensures { handler.new.service ≡ handler.old.service }
 {
     assert_eq!(rt; given.len(), 0);
     given.clear();
@@ -216,25 +216,25 @@ fn receive_on<R: Abort + Wait>(
     };
     let receive = request(receiving());
     let empty = empty_body(rt, alloc);
-    kernel.go_on(&receive, &empty, given, Waiting::Receive(wait))
+    handler.go_on(&receive, &empty, given, Waiting::Receive(wait))
 }
 
 /// Continues the send of `text` with type 5 to queue 0.
 fn send_on<R: Abort + Wait>(
     rt: &R,
     alloc: Global,
-    kernel: &mut ServiceKernel<'_, Still, R>,
+    handler: &mut ServiceHandler<'_, Still, R>,
     text: &Body,
     waiting: Waiting,
 ) -> Progress<Waiting, RequestOutcome>
     requires { length text.now ≤ MESSAGE_BYTES }
-    ensures { kernel.new.service ≡ kernel.old.service }
+    ensures { handler.new.service ≡ handler.old.service }
 {
     let mut given = empty_body(rt, alloc);
     let Waiting::Send(wait) = waiting else {
         panic!(rt; "a receive waits")
     };
-    kernel.go_on(&sending(0, 5), text, &mut given, Waiting::Send(wait))
+    handler.go_on(&sending(0, 5), text, &mut given, Waiting::Send(wait))
 }
 
 /// Opens a service, with two passes.
@@ -261,8 +261,8 @@ fn close(rt: &impl Abort, service: Service, mut pass: Pass, other: Pass, queued:
 fn a_parked_receive_goes_on_after_a_send(rt: HostRuntime) {
     let alloc = rt.alloc();
     let (service, pass, other) = two_passes(&rt, alloc);
-    let mut receiver = ServiceKernel::new(&rt, &service, &CLOCK, pass);
-    let mut sender = ServiceKernel::new(&rt, &service, &CLOCK, other);
+    let mut receiver = ServiceHandler::new(&rt, &service, &CLOCK, pass);
+    let mut sender = ServiceHandler::new(&rt, &service, &CLOCK, other);
     make_queue(&rt, alloc, &mut receiver, 7, 0);
     let (empty, mut given) = (empty_body(&rt, alloc), empty_body(&rt, alloc));
     let receive = request(receiving());
@@ -289,8 +289,8 @@ fn a_parked_receive_goes_on_after_a_send(rt: HostRuntime) {
 fn a_parked_send_goes_on_after_a_receive(rt: HostRuntime) {
     let alloc = rt.alloc();
     let (service, pass, other) = two_passes(&rt, alloc);
-    let mut sender = ServiceKernel::new(&rt, &service, &CLOCK, pass);
-    let mut receiver = ServiceKernel::new(&rt, &service, &CLOCK, other);
+    let mut sender = ServiceHandler::new(&rt, &service, &CLOCK, pass);
+    let mut receiver = ServiceHandler::new(&rt, &service, &CLOCK, other);
     make_queue(&rt, alloc, &mut sender, 7, 0);
     let to = SetTo {
         uid: 1000,
@@ -324,8 +324,8 @@ fn a_parked_send_goes_on_after_a_receive(rt: HostRuntime) {
 fn a_parked_send_goes_on_after_blocks_were_released(rt: HostRuntime) {
     let alloc = rt.alloc();
     let (service, pass, other) = two_passes(&rt, alloc);
-    let mut sender = ServiceKernel::new(&rt, &service, &CLOCK, pass);
-    let mut receiver = ServiceKernel::new(&rt, &service, &CLOCK, other);
+    let mut sender = ServiceHandler::new(&rt, &service, &CLOCK, pass);
+    let mut receiver = ServiceHandler::new(&rt, &service, &CLOCK, other);
     make_queue(&rt, alloc, &mut sender, 7, 0);
     make_queue(&rt, alloc, &mut sender, 8, 1);
     send(&rt, alloc, &mut sender, &sending(1, 5), &[b'x'; 8192]);
@@ -345,8 +345,8 @@ fn a_parked_send_goes_on_after_blocks_were_released(rt: HostRuntime) {
 fn a_parked_receive_ends_with_its_queue(rt: HostRuntime) {
     let alloc = rt.alloc();
     let (service, pass, other) = two_passes(&rt, alloc);
-    let mut receiver = ServiceKernel::new(&rt, &service, &CLOCK, pass);
-    let mut remover = ServiceKernel::new(&rt, &service, &CLOCK, other);
+    let mut receiver = ServiceHandler::new(&rt, &service, &CLOCK, pass);
+    let mut remover = ServiceHandler::new(&rt, &service, &CLOCK, other);
     make_queue(&rt, alloc, &mut receiver, 7, 0);
     let (empty, mut given) = (empty_body(&rt, alloc), empty_body(&rt, alloc));
     let receive = request(receiving());
@@ -371,8 +371,8 @@ fn a_parked_receive_ends_with_its_queue(rt: HostRuntime) {
 fn a_parked_receive_may_be_dropped(rt: HostRuntime) {
     let alloc = rt.alloc();
     let (service, pass, other) = two_passes(&rt, alloc);
-    let mut first = ServiceKernel::new(&rt, &service, &CLOCK, pass);
-    let mut second = ServiceKernel::new(&rt, &service, &CLOCK, other);
+    let mut first = ServiceHandler::new(&rt, &service, &CLOCK, pass);
+    let mut second = ServiceHandler::new(&rt, &service, &CLOCK, other);
     make_queue(&rt, alloc, &mut first, 7, 0);
     let (empty, mut given) = (empty_body(&rt, alloc), empty_body(&rt, alloc));
     let begun = first.begin(USER, &request(receiving()), &empty, &mut given);
@@ -388,27 +388,27 @@ fn a_parked_receive_may_be_dropped(rt: HostRuntime) {
 fn requests_that_do_not_wait_are_over_at_once(rt: HostRuntime) {
     let alloc = rt.alloc();
     let (service, pass, other) = two_passes(&rt, alloc);
-    let mut kernel = ServiceKernel::new(&rt, &service, &CLOCK, pass);
+    let mut handler = ServiceHandler::new(&rt, &service, &CLOCK, pass);
     make(
         &rt,
         alloc,
-        &mut kernel,
+        &mut handler,
         receiving(),
         ReplyContent::Refused(Errno::EINVAL),
     );
     make(
         &rt,
         alloc,
-        &mut kernel,
+        &mut handler,
         Ask::Row { slot: 0 },
         ReplyContent::Row(None),
     );
     let stat = ReplyContent::Refused(Errno::EINVAL);
-    make(&rt, alloc, &mut kernel, Ask::Stat { id: 0 }, stat);
-    make_queue(&rt, alloc, &mut kernel, 7, 0);
-    send(&rt, alloc, &mut kernel, &sending(0, 5), b"ping");
-    take(&rt, alloc, &mut kernel, 0, 4);
-    let pass = kernel.into_pass();
+    make(&rt, alloc, &mut handler, Ask::Stat { id: 0 }, stat);
+    make_queue(&rt, alloc, &mut handler, 7, 0);
+    send(&rt, alloc, &mut handler, &sending(0, 5), b"ping");
+    take(&rt, alloc, &mut handler, 0, 4);
+    let pass = handler.into_pass();
     close(&rt, service, pass, other, 0);
 }
 

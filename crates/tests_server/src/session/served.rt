@@ -1,5 +1,5 @@
 //! Sessions over readers and writers, and their results.
-use super::shelf::Shelf;
+use super::test_handler::TestHandler;
 use std::alloc::Global;
 use std::process::Abort;
 use sysv_session::{End, Served, serve};
@@ -29,39 +29,39 @@ pub(super) fn assert_served(
     assert_eq!(rt; page.written(), answers);
 }
 
-/// Serves one session on this kernel. Tolerates one refusal of memory, after which nothing was read
-/// or written.
+/// Serves one session on this handler. Tolerates one refusal of memory, after which nothing was
+/// read or written.
 pub(super) fn served_on(
     rt: &impl Abort,
     alloc: Global,
     reader: &mut Pieces<'_>,
     writer: &mut Page,
-    kernel: &mut Shelf,
+    handler: &mut TestHandler,
 ) -> Served {
     let all = (reader.front.len(), reader.rest.len());
-    let served = serve(alloc, reader, writer, kernel);
+    let served = serve(alloc, reader, writer, handler);
     if served.end != End::NoMemory {
         return served;
     }
     assert_eq!(rt; counts_of(&served), (0, 0, 0, 0));
     assert_eq!(rt; (reader.front.len(), reader.rest.len()), all);
     assert_eq!(rt; (writer.written().len(), writer.flushed().len()), (0, 0));
-    assert_eq!(rt; kernel.asked, 0);
-    let again = serve(alloc, reader, writer, kernel);
+    assert_eq!(rt; handler.asked, 0);
+    let again = serve(alloc, reader, writer, handler);
     assert!(rt; again.end != End::NoMemory);
     again
 }
 
-/// Serves one session on a new kernel, and asserts that all its blocks are free at the end.
+/// Serves one session on a new handler, and asserts that all its blocks are free at the end.
 pub(super) fn served(
     rt: &impl Abort,
     alloc: Global,
     reader: &mut Pieces<'_>,
     writer: &mut Page,
 ) -> Served {
-    let mut kernel = Shelf::open(rt, alloc);
-    let served = served_on(rt, alloc, reader, writer, &mut kernel);
-    assert_eq!(rt; kernel.asked.saturating_add(1), served.requests.max(1));
-    assert_eq!(rt; kernel.end(), 128);
+    let mut handler = TestHandler::open(rt, alloc);
+    let served = served_on(rt, alloc, reader, writer, &mut handler);
+    assert_eq!(rt; handler.asked.saturating_add(1), served.requests.max(1));
+    assert_eq!(rt; handler.end(), 128);
     served
 }

@@ -6,7 +6,7 @@ use crate::parts::{CLOCK, Still, closed, opened};
 use std::alloc::Global;
 use std::process::Abort;
 use std::sync::Wait;
-use sysv_seats::ServiceKernel;
+use sysv_seats::ServiceHandler;
 use sysv_service::{Pass, Service};
 use sysv_session::{End, Served};
 use tests_kit::worked::{ANSWERS, SESSION};
@@ -26,16 +26,16 @@ fn talked<R: Abort + Wait>(
     alloc: Global,
     reader: &mut Pieces<'_>,
     page: &mut Page,
-    kernel: &mut ServiceKernel<'_, Still, R>,
+    handler: &mut ServiceHandler<'_, Still, R>,
 ) -> Served
-    ensures { kernel.new.service ≡ kernel.old.service }
+    ensures { handler.new.service ≡ handler.old.service }
 {
-    let served = kernel.serve(alloc, reader, page);
+    let served = handler.serve(alloc, reader, page);
     if served.end != End::NoMemory {
         return served;
     }
     assert_eq!(rt; (page.written().len(), page.flushed().len()), (0, 0));
-    kernel.serve(alloc, reader, page)
+    handler.serve(alloc, reader, page)
 }
 
 /// Serves one session on a new service at time 7, and asserts that this number of messages is left
@@ -48,9 +48,9 @@ fn served<R: Abort + Wait>(
     waiting: u64,
 ) -> Served {
     let (service, pass) = opened(rt, alloc, 128, 0);
-    let mut kernel = ServiceKernel::new(rt, &service, &CLOCK, pass);
-    let told = talked(rt, alloc, reader, page, &mut kernel);
-    let pass = kernel.into_pass();
+    let mut handler = ServiceHandler::new(rt, &service, &CLOCK, pass);
+    let told = talked(rt, alloc, reader, page, &mut handler);
+    let pass = handler.into_pass();
     ended(rt, service, pass, waiting);
     told
 }

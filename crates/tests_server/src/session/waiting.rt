@@ -1,8 +1,8 @@
-//! A kernel that waits for a lock in each of its calls.
+//! A handler that waits for a lock in each of its calls.
 use super::served::counts_of;
 use std::sync::{Mutex, Wait};
 use sysv_model::{Body, Cred, Errno};
-use sysv_session::{End, Kernel, RequestOutcome, serve};
+use sysv_session::{End, Handler, RequestOutcome, serve};
 use sysv_wire::{Reply, ReplyContent, Request};
 use tests_kit::worked::SESSION;
 use tests_kit::{Page, Pieces};
@@ -14,7 +14,7 @@ struct Locked<'a, R: Wait> {
     asked: &'a Mutex<u32>,
 }
 
-impl<R: Wait> Kernel for Locked<'_, R> {
+impl<R: Wait> Handler for Locked<'_, R> {
     ghost use Rattle.std.specs.Prelude.{⊤};
 
     ghost meaning = { λ _ _ _ _ _ _ _. ⊤ };
@@ -43,15 +43,15 @@ impl<R: Wait> Kernel for Locked<'_, R> {
 }
 
 #[test]
-fn a_kernel_may_wait(rt: HostRuntime) {
+fn a_handler_may_wait(rt: HostRuntime) {
     let asked = Mutex::new(0);
-    let mut kernel = Locked {
+    let mut handler = Locked {
         rt: &rt,
         asked: &asked,
     };
     let mut reader = Pieces::new(SESSION, usize::MAX);
     let mut page = Page::new();
-    let told = serve(rt.alloc(), &mut reader, &mut page, &mut kernel);
+    let told = serve(rt.alloc(), &mut reader, &mut page, &mut handler);
     if told.end == End::NoMemory {
         assert_eq!(rt; counts_of(&told), (0, 0, 0, 0));
         assert_eq!(rt; reader.front.len(), 108);

@@ -6,7 +6,7 @@ use Rattle.sysv_session.proofs.session.serve_watched.Given as goal
 
 abbrev pub invariant-loop-why : goal.invariant-loop-why
 invariant-loop-why g l = record {
-  so_far : HandedOver g.K.Kernel.meaning l.slots l.session l.initial.kernel l.kernel
+  so_far : HandedOver g.K.Handler.meaning l.slots l.session l.initial.handler l.handler
       (g.R.Read.remaining (stream_of l.initial.reader)) (g.R.Read.remaining (stream_of l.reader))
       (g.W.Write.contents (stream_of l.initial.writer)) (g.W.Write.contents (stream_of l.writer));
   same_reader : stream_name l.reader ≡ stream_name l.initial.reader;

@@ -17,7 +17,7 @@ returns-in-Err-clause-steps g c = λ kept.
     let asks = simp to_z-of_z at asked in
     elim asks [
       | inl done ↦ inr (record {
-        deeds = AtRegistry (Forget c.args.id) (Changed done.0) ∷ [];
+        ops = AtRegistry (Forget c.args.id) (Changed done.0) ∷ [];
         now = c.now.result;
         moment = λ e. c.now.ensures;
         there = c.make.new.at;
@@ -25,7 +25,7 @@ returns-in-Err-clause-steps g c = λ kept.
         back = (ends, inl (done.0, refl, record { turn = done.1; held = omega arith }));
       })
       | inr missed ↦ inr (record {
-        deeds = [];
+        ops = [];
         now = c.now.result;
         moment = λ e. c.now.ensures;
         there = c.make.new.at;

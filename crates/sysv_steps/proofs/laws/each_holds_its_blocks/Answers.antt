@@ -1,4 +1,4 @@
-use Rattle.sysv_steps.proofs.HeldAfterDeed.{each_holds, each_step_keeps}
+use Rattle.sysv_steps.proofs.HeldAfterOp.{each_holds, each_step_keeps}
 use Rattle.sysv_steps.proofs.laws.each_holds_its_blocks.Goals as goal
 
 pub returns : goal.returns

@@ -32,8 +32,8 @@ returns-in-Giveback-clause-steps g c =
     StepsGiving g.T.Turns.takes g.T.Turns.misses may p out c.args.at.now before c.given_back.result out
     c.give_back.new.at after) (sym c.in-Giveback.is)
     (gives_still g.T.Turns.takes g.T.Turns.misses may (step.Giveback chain delivery) out c.args.at.now before
-    c.given_back.result out c.give_back.new.at after delivery (λ deeds has. has)
-    (λ deeds has. subst (λ s. HasWhatItGives s deeds) (sym c.given_back.ensures.kept) has) goes)
+    c.given_back.result out c.give_back.new.at after delivery (λ ops has. has)
+    (λ ops has. subst (λ s. HasWhatItGives s ops) (sym c.given_back.ensures.kept) has) goes)
 
 pub returns-in-Giveback-clause-sized : goal.returns-in-Giveback-clause-sized
 returns-in-Giveback-clause-sized g c = λ was.

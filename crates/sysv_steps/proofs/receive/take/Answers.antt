@@ -34,14 +34,14 @@ returns-in-Ok-Slot-Taken-Ok-clause-steps g c = λ kept.
     took g.T.Turns.takes g.T.Turns.misses may (step.Take r) c.args.out.now c.args.at.now kept c.given.result out
     c.make.new.at kept
     (record {
-      deed = AtSlot (slot_of_id r.id) (Take r.id r.cred r.selector r.size r.noerror c.now.result) (Taken taken);
+      op = AtSlot (slot_of_id r.id) (Take r.id r.cred r.selector r.size r.noerror c.now.result) (Taken taken);
       now = c.now.result;
       moment = λ e. c.now.ensures;
       asked = refl;
       goes = goes;
       makes = record { turn = turn; held = search rules };
     })
-    c.finish-delivery.result.0 (λ deeds has. subst (λ s. HasWhatItGives s deeds) (sym c.given.ensures.kept) has)
+    c.finish-delivery.result.0 (λ ops has. subst (λ s. HasWhatItGives s ops) (sym c.given.ensures.kept) has)
     (gives.mtype, gives.sender, gives.number)
 
 pub returns-in-Ok-Slot-Taken-Err-clause-sized : goal.returns-in-Ok-Slot-Taken-Err-clause-sized

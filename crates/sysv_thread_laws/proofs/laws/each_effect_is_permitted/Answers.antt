@@ -8,4 +8,4 @@ pub returns-clause-threads : goal.returns-clause-threads
 returns-clause-threads c = each_threaded_run c.every_threaded_run_obeys.ensures
 
 pub returns-clause-orders : goal.returns-clause-orders
-returns-clause-orders c = each_order c.each_deed_is_asked_for.ensures
+returns-clause-orders c = each_order c.each_op_is_asked_for.ensures

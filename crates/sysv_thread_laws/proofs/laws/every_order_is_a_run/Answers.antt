@@ -1,4 +1,4 @@
-use Rattle.sysv_thread_laws.proofs.StartedFirst as run
+use Rattle.sysv_thread_laws.proofs.InvokedFirst as run
 use Rattle.sysv_thread_laws.proofs.laws.every_order_is_a_run.Goals as goal
 
 pub returns : goal.returns

@@ -1,4 +1,4 @@
-use Rattle.sysv_thread_laws.proofs.PassDeedsAreCalls as home
+use Rattle.sysv_thread_laws.proofs.PassOpsAreCalls as home
 use Rattle.sysv_thread_laws.proofs.laws.every_service_that_came_home_is_a_run.Goals as goal
 
 pub returns-clause-whole : goal.returns-clause-whole

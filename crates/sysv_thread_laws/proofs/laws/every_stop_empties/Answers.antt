@@ -16,7 +16,7 @@ returns c =
       registry = c.registry_law.ensures;
       pool = c.pool_law.ensures;
       for_good = c.removed_for_good.ensures.for_good;
-      asked = c.each_deed_is_asked_for.ensures;
+      asked = c.each_op_is_asked_for.ensures;
       right = c.each_answer_is_right.ensures;
       one_effect = c.each_has_one_effect.ensures;
       told = c.after_removal.ensures;
@@ -24,6 +24,6 @@ returns c =
     stop_empties c.seen_histories.ensures c.every_hiring_obeys.ensures.obeys c.every_hiring_obeys.ensures.stops
     c.every_hiring_obeys.ensures.unmarked
     c.each_answer_is_right.ensures
-    c.each_deed_is_asked_for.ensures
-    (λ o list given w led.
-    (run_keeps c.legal_turns.ensures.more blocks laws c.legal_turns.ensures.none o list given w led).life.facts)
+    c.each_op_is_asked_for.ensures
+    (λ o list responses w led.
+    (run_keeps c.legal_turns.ensures.more blocks laws c.legal_turns.ensures.none o list responses w led).life.facts)

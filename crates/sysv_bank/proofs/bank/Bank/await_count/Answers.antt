@@ -1,7 +1,7 @@
 use Rattle.std.proofs.Common.{arith}
 use Rattle.sysv_gate.specs.History.{Moves}
-use Rattle.sysv_gate.specs.Halls.{me_at}
-use Rattle.sysv_bank.proofs.Passes.{door_there, door_of, is_at, idles, rests_there, gates_after, changes, goes_on}
+use Rattle.sysv_gate.specs.Tables.{me_at}
+use Rattle.sysv_bank.proofs.Passes.{lock_there, lock_of, is_at, idles, rests_there, gates_after, changes, goes_on}
 use Rattle.sysv_bank.proofs.Passes.{rests_after}
 use Rattle.sysv_gate.proofs.SeenAfterCall.{bare, await_rests, waited}
 use Rattle.sysv_bank.proofs.PassAfterCall.{stays_waited}
@@ -9,12 +9,12 @@ use Rattle.sysv_bank.proofs.bank.Bank.await_count.Goals as goal
 
 pub index-requires : goal.index-requires
 index-requires g c =
-    let there = door_there _ _ _ _ c.self.invariant c.self.view_is c.requires.place in
-    let long = c.self.inside.doors.ok.0 in
+    let there = lock_there _ _ _ _ c.self.invariant c.self.view_is c.requires.place in
+    let long = c.self.inside.locks.ok.0 in
     omega arith
 
-pub await_count-requires-clause-door : goal.await_count-requires-clause-door
-await_count-requires-clause-door g c = door_of _ _ _ _ _ _ c.self.invariant c.seat.invariant c.self.view_is
+pub await_count-requires-clause-lock : goal.await_count-requires-clause-lock
+await_count-requires-clause-lock g c = lock_of _ _ _ _ _ _ c.self.invariant c.seat.invariant c.self.view_is
     c.seat.view_is c.requires.seat _ _ c.requires.place c.index.ensures
 
 pub await_count-requires-clause-at : goal.await_count-requires-clause-at

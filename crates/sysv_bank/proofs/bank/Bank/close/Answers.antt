@@ -8,7 +8,7 @@ use Rattle.std.specs.Mem.Slots.{slots_len, slots_items, slots_filled, IsFull}
 use Rattle.atomic_table.specs.Table.{Final, Seen}
 use Rattle.sysv_gate.specs.History.{Moves}
 use Rattle.sysv_gate.specs.Closings.{Closes}
-use Rattle.sysv_gate.specs.Halls.{InOrder}
+use Rattle.sysv_gate.specs.Tables.{InOrder}
 use Rattle.sysv_gate.specs.Ending.{IsReadAt}
 use Rattle.sysv_bank.specs.Banks.{Each2}
 use Rattle.sysv_bank.specs.Closing.{ClosesInOrder}

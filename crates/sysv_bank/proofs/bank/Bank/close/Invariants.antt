@@ -4,7 +4,7 @@ use mathlib.Core.Option.{some}
 use lib.ListN.{get_elem?}
 use Rattle.std.specs.Mem.Slots.{slots_len, slots_items, slots_filled}
 use Rattle.sysv_gate.specs.Ending.{IsReadAt}
-use Rattle.sysv_gate.specs.declared.closing.Closing.{Closing}
+use Rattle.sysv_gate.specs.declared.gate.closing.Closing.{Closing}
 use Rattle.sysv_bank.proofs.bank.Bank.close.Given as goal
 
 -- The places before this one were closed.

@@ -1,7 +1,7 @@
 use Rattle.std.proofs.Common.{ap, sym, subst, ◌∙◌, ◌≤◌, length, arith}
 use Rattle.sysv_gate.specs.History.{Moves}
 use Rattle.sysv_gate.specs.Gates.{Joins}
-use Rattle.sysv_gate.specs.Doors.{KnowsAll}
+use Rattle.sysv_gate.specs.Locks.{KnowsAll}
 use Rattle.sysv_gate.specs.Plays.{both_of, Merges}
 use Rattle.sysv_bank.specs.Banks.{Each3, gates_of}
 use Rattle.sysv_bank.specs.Passes.{JoinsOrders}
@@ -41,7 +41,7 @@ join_pass-requires-clause-other_rest g c =
     let u = other.0 in
     let same = same_table _ _ _ _ _ _ c.self.invariant c.seat.invariant c.self.view_is c.seat.view_is c.requires.seat in
     let theirs = same_table moves _ _ u _ _ c.self.invariant other.2 c.self.view_is other.1 c.requires.other in
-    subst (λ t. KnowsAll c.self.inside.hall.shared.key.openings.value.items t.me.0) other.3
+    subst (λ t. KnowsAll c.self.inside.table.shared.key.openings.value.items t.me.0) other.3
     (subst (λ os. KnowsAll os u.token.me.0) (theirs.2 ∙ ap (λ k. k.openings.value.items) (sym c.self.invariant.key))
     (knows_all _ u other.2))
 

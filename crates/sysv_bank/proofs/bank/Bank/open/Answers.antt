@@ -1,8 +1,8 @@
 use Rattle.std.proofs.Common.{rules, [], ap, sym, subst, ◌∙◌, length, map, arith}
 use Rattle.std.proofs.lemmas.List.{length-map}
 use Rattle.sysv_gate.specs.Rule.{start}
-use Rattle.sysv_gate.specs.Halls.{outset}
-use Rattle.sysv_gate.specs.Laying.{AreDoorsUpTo}
+use Rattle.sysv_gate.specs.Tables.{outset}
+use Rattle.sysv_gate.specs.Laying.{AreLocksUpTo}
 use Rattle.sysv_bank.specs.Banks.{AreOpened, gates_of}
 use Rattle.sysv_bank.specs.Passes.{holdings}
 use Rattle.sysv_bank.specs.Resting.{gateways}
@@ -13,11 +13,11 @@ use Rattle.sysv_bank.proofs.bank.Bank.open.Goals as goal
 pub invariant_of-bank : goal.invariant_of-bank
 invariant_of-bank g c =
     let new = c.in-Some.ensures.some in
-    let doors = c.in-Some.ensures.doors in
+    let locks = c.in-Some.ensures.locks in
     let items = ap (λ v. v.items) c.of.ensures in
     let many = ap length items in
     let some_place = c.requires.some in
-    let few = doors.1 in
+    let few = locks.1 in
     let counted = c.len.ensures in
     let long = c.args.objects.ok.0 in
     let capacity = c.in-Ok.ensures.capacity in
@@ -27,7 +27,7 @@ invariant_of-bank g c =
       slots = new.slots;
       some_place = omega arith;
       few = omega arith;
-      doors = subst (λ os. AreDoorsUpTo os (length os) c.in-Some.doors.items) (sym items) doors.0;
+      locks = subst (λ os. AreLocksUpTo os (length os) c.in-Some.locks.items) (sym items) locks.0;
       none_yet = c.in-Ok.ensures.items;
       room = omega arith;
     }
@@ -42,7 +42,7 @@ returns-in-Some-clause-ok g c =
     let first = c.args.first in
     let items = ap (λ v. v.items) c.of.ensures in
     let os = c.of.result.value.items in
-    let table = c.in-Some.hall.shared.table_id in (
+    let table = c.in-Some.table.shared.table_id in (
       subst (λ xs. AreOpened xs first (gateways table first os)) items (first_opened table first os),
       ap (λ k. holdings c.in-Some.token.table_id k.first k.openings.value.items c.in-Some.token.me.0.views)
           c.of-in-Some.ensures

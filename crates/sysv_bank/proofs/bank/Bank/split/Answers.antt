@@ -1,7 +1,7 @@
 use Rattle.std.proofs.Common.{ap, sym, subst, ◌∙◌, ◌≤◌, map, length, arith}
 use Rattle.sysv_gate.specs.History.{Moves}
 use Rattle.sysv_gate.specs.Gates.{parted, IsSplit}
-use Rattle.sysv_gate.specs.Doors.{KnowsAll}
+use Rattle.sysv_gate.specs.Locks.{KnowsAll}
 use Rattle.sysv_bank.specs.Banks.{Each2, gates_of}
 use Rattle.sysv_bank.specs.Passes.{SplitsOff}
 use Rattle.sysv_bank.specs.Resting.{pass_of}

@@ -2,12 +2,12 @@ use Rattle.std.proofs.Common.{arith, ◌≡◌, false}
 use Rattle.sysv_gate.specs.History.{Moves}
 use Rattle.sysv_gate.specs.Gates.{Answers}
 use Rattle.sysv_gate.specs.Refusals.{Refuses}
-use Rattle.sysv_gate.specs.Halls.{me_at}
+use Rattle.sysv_gate.specs.Tables.{me_at}
 use Rattle.sysv_bank.specs.Banks.{ChangesAt}
 use Rattle.sysv_bank.specs.Passes.{GoesOn, AddsToOrder, KnowsItsReads}
 use Rattle.sysv_bank.specs.Resting.{pass_of}
 use Rattle.sysv_bank.proofs.Places.{if_ok, if_err, on_ok, both_ok, on_err}
-use Rattle.sysv_bank.proofs.Passes.{door_there, door_of, is_at, idles, accepted, rests_there, gates_after, changes}
+use Rattle.sysv_bank.proofs.Passes.{lock_there, lock_of, is_at, idles, accepted, rests_there, gates_after, changes}
 use Rattle.sysv_bank.proofs.Passes.{goes_on, rests_after, adds_to_order, knows_reads}
 use Rattle.sysv_gate.proofs.SeenAfterCall.{bare, try_rests, answers, refused}
 use Rattle.sysv_bank.proofs.PassAfterCall.{try_names, adds, stays_tried}
@@ -15,12 +15,12 @@ use Rattle.sysv_bank.proofs.bank.Bank.try_call.Goals as goal
 
 pub index-requires : goal.index-requires
 index-requires g c =
-    let there = door_there _ _ _ _ c.self.invariant c.self.view_is c.requires.place in
-    let long = c.self.inside.doors.ok.0 in
+    let there = lock_there _ _ _ _ c.self.invariant c.self.view_is c.requires.place in
+    let long = c.self.inside.locks.ok.0 in
     omega arith
 
-pub try_call-requires-clause-door : goal.try_call-requires-clause-door
-try_call-requires-clause-door g c = door_of _ _ _ _ _ _ c.self.invariant c.seat.invariant c.self.view_is c.seat.view_is
+pub try_call-requires-clause-lock : goal.try_call-requires-clause-lock
+try_call-requires-clause-lock g c = lock_of _ _ _ _ _ _ c.self.invariant c.seat.invariant c.self.view_is c.seat.view_is
     c.requires.seat _ _ c.requires.place c.index.ensures
 
 pub try_call-requires-clause-at : goal.try_call-requires-clause-at

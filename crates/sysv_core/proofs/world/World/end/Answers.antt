@@ -24,4 +24,4 @@ returns c =
     o.pool.free + (blocks_in o.slots + n) ≤ o.pool.size → c.end.result ≡ o.pool.free + (blocks_in o.slots + n))
     c.end_all.ensures c.end.ensures.own in
     subst (λ v. AreAllFree v c.end.result) c.self.view_is
-    (λ opened list given s. all_free opened list given seen c.end.result freed s)
+    (λ opened list responses s. all_free opened list responses seen c.end.result freed s)

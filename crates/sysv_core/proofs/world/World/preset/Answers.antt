@@ -17,8 +17,8 @@ returns-then-not-is_unused-clause-single c = λ w s.
     (λ u. let bad : IsTrue false = subst IsTrue c.if-not-is_unused.true (test.1 u) in search rules)
 
 pub returns-then-not-is_unused-clause-stands : goal.returns-then-not-is_unused-clause-stands
-returns-then-not-is_unused-clause-stands c = λ o es given s.
-    stands_preset o es given c.args.self.now c.args.self.now false s (returns-then-not-is_unused-clause-single c)
+returns-then-not-is_unused-clause-stands c = λ o es responses s.
+    stands_preset o es responses c.args.self.now c.args.self.now false s (returns-then-not-is_unused-clause-single c)
 
 pub returns-clause-single : goal.returns-clause-single
 returns-clause-single c = λ w s.
@@ -37,8 +37,8 @@ returns-clause-single c = λ w s.
     ) made
 
 pub returns-clause-stands : goal.returns-clause-stands
-returns-clause-stands c = λ o es given s.
-    stands_preset o es given c.args.self.now _ c.preset_queue.result s (returns-clause-single c)
+returns-clause-stands c = λ o es responses s.
+    stands_preset o es responses c.args.self.now _ c.preset_queue.result s (returns-clause-single c)
 
 pub invariant_of-self : goal.invariant_of-self
 invariant_of-self c =

@@ -53,12 +53,12 @@ invariant_of-self c =
     let was = c.self.invariant.2 in
     let now = returns-clause-single c was.0 (subst (IsSeenAs was.0) c.self.view_is was.1) in
     let steps = ap (λ (v : Seen). v.steps) c.self.view_is in
-    let given =
+    let responses =
     subst (λ r. messages_given r ≤ 1) (sym c.settle.ensures.told) (given_at_most c.args.actor c.begin-led.result) in (
       omega arith,
       weaker c.self.inside.steps (c.self.inside.steps + 1) c.self.inside.objects (omega arith) c.self.invariant.1,
       (now.0, now.2),
-      omega (arith, c.self.invariant.3, given, c.settle.ensures.written, c.settle.ensures.lost),
+      omega (arith, c.self.invariant.3, responses, c.settle.ensures.written, c.settle.ensures.lost),
     )
 
 pub returns-clause-written : goal.returns-clause-written

@@ -68,7 +68,7 @@ invariant_of-self-2 c =
     let up = counts_on c.self.inside.objects (doing_state d) c.args.now c.advance-led.result
     c.advance-led.new.objects c.self.inside.steps c.advance-led.ensures c.self.invariant.1 in
     let least = c.counted.ensures.least in
-    let given = subst (λ r. messages_given r ≤ counted_led c.advance-led.result) (sym c.settle.ensures.told)
+    let responses = subst (λ r. messages_given r ≤ counted_led c.advance-led.result) (sym c.settle.ensures.told)
     (given_counted c.args.actor c.advance-led.result) in (
       omega arith,
       subst (λ n. CountsUpTo (c.self.inside.steps + n) c.advance-led.new.objects) (sym c.counted.ensures.counted) up,
@@ -76,7 +76,7 @@ invariant_of-self-2 c =
       omega (
         arith,
         c.self.invariant.3,
-        given,
+        responses,
         c.counted.ensures.counted,
         c.settle.ensures.written,
         c.settle.ensures.lost,

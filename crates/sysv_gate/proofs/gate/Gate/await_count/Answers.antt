@@ -1,10 +1,10 @@
 use Rattle.sysv_gate.specs.History.{Moves}
-use Rattle.sysv_gate.proofs.OneDoor.{door_of, is_at, idles, gate_after, has_waited}
+use Rattle.sysv_gate.proofs.OneLock.{lock_of, is_at, idles, gate_after, has_waited}
 use Rattle.sysv_gate.proofs.gate.Gate.await_count.Goals as goal
 
-pub await_count-requires-clause-door : goal.await_count-requires-clause-door
-await_count-requires-clause-door g c =
-    door_of _ c.self.inside _ _ _ c.self.invariant c.seat.invariant c.self.view_is c.seat.view_is c.requires
+pub await_count-requires-clause-lock : goal.await_count-requires-clause-lock
+await_count-requires-clause-lock g c =
+    lock_of _ c.self.inside _ _ _ c.self.invariant c.seat.invariant c.self.view_is c.seat.view_is c.requires
 
 pub await_count-requires-clause-at : goal.await_count-requires-clause-at
 await_count-requires-clause-at g c =

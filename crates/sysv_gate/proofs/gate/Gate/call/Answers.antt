@@ -1,10 +1,10 @@
 use Rattle.sysv_gate.specs.History.{Moves}
-use Rattle.sysv_gate.proofs.OneDoor.{door_of, is_at, idles, accepted, gate_after, called}
+use Rattle.sysv_gate.proofs.OneLock.{lock_of, is_at, idles, accepted, gate_after, called}
 use Rattle.sysv_gate.proofs.gate.Gate.call.Goals as goal
 
-pub call-requires-clause-door : goal.call-requires-clause-door
-call-requires-clause-door g c =
-    door_of _ c.self.inside _ _ _ c.self.invariant c.seat.invariant c.self.view_is c.seat.view_is c.requires.gate
+pub call-requires-clause-lock : goal.call-requires-clause-lock
+call-requires-clause-lock g c =
+    lock_of _ c.self.inside _ _ _ c.self.invariant c.seat.invariant c.self.view_is c.seat.view_is c.requires.gate
 
 pub call-requires-clause-at : goal.call-requires-clause-at
 call-requires-clause-at g c =

@@ -1,5 +1,5 @@
 use Rattle.sysv_gate.specs.History.{Moves}
-use Rattle.sysv_gate.proofs.OneDoor.{closes, served_first}
+use Rattle.sysv_gate.proofs.OneLock.{closes, served_first}
 use Rattle.sysv_gate.proofs.gate.Gate.close.Goals as goal
 
 pub close_place-closing-requires-clause-served : goal.close_place-closing-requires-clause-served

@@ -1,10 +1,10 @@
 use Rattle.sysv_gate.specs.History.{Moves}
-use Rattle.sysv_gate.proofs.OneDoor.{door_of, is_at, idles, gate_after, has_read}
+use Rattle.sysv_gate.proofs.OneLock.{lock_of, is_at, idles, gate_after, has_read}
 use Rattle.sysv_gate.proofs.gate.Gate.count.Goals as goal
 
-pub count-requires-clause-door : goal.count-requires-clause-door
-count-requires-clause-door g c =
-    door_of _ c.self.inside _ _ _ c.self.invariant c.seat.invariant c.self.view_is c.seat.view_is c.requires
+pub count-requires-clause-lock : goal.count-requires-clause-lock
+count-requires-clause-lock g c =
+    lock_of _ c.self.inside _ _ _ c.self.invariant c.seat.invariant c.self.view_is c.seat.view_is c.requires
 
 pub count-requires-clause-at : goal.count-requires-clause-at
 count-requires-clause-at g c =

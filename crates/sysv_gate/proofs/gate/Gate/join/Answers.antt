@@ -1,4 +1,4 @@
-use Rattle.sysv_gate.proofs.OneDoor.{joined_rests, joins}
+use Rattle.sysv_gate.proofs.OneLock.{joined_rests, joins}
 use Rattle.sysv_gate.proofs.gate.Gate.join.Goals as goal
 
 pub invariant_of-seat : goal.invariant_of-seat

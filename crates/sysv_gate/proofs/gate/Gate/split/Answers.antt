@@ -1,4 +1,4 @@
-use Rattle.sysv_gate.proofs.OneDoor.{parted_rests, split_rests, split_new}
+use Rattle.sysv_gate.proofs.OneLock.{parted_rests, split_rests, split_new}
 use Rattle.sysv_gate.proofs.gate.Gate.split.Goals as goal
 
 pub invariant_of-seat : goal.invariant_of-seat

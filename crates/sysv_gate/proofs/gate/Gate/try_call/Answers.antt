@@ -1,10 +1,10 @@
 use Rattle.sysv_gate.specs.History.{Moves}
-use Rattle.sysv_gate.proofs.OneDoor.{door_of, is_at, idles, accepted, gate_after, tried}
+use Rattle.sysv_gate.proofs.OneLock.{lock_of, is_at, idles, accepted, gate_after, tried}
 use Rattle.sysv_gate.proofs.gate.Gate.try_call.Goals as goal
 
-pub try_call-requires-clause-door : goal.try_call-requires-clause-door
-try_call-requires-clause-door g c =
-    door_of _ c.self.inside _ _ _ c.self.invariant c.seat.invariant c.self.view_is c.seat.view_is c.requires.gate
+pub try_call-requires-clause-lock : goal.try_call-requires-clause-lock
+try_call-requires-clause-lock g c =
+    lock_of _ c.self.inside _ _ _ c.self.invariant c.seat.invariant c.self.view_is c.seat.view_is c.requires.gate
 
 pub try_call-requires-clause-at : goal.try_call-requires-clause-at
 try_call-requires-clause-at g c =

@@ -7,6 +7,6 @@ settle-requires-clause-replied g c = begun_replied _ _ _ _ _ _ _ _ _ c.begin-pro
 
 pub returns-clause-keeps : goal.returns-clause-keeps
 returns-clause-keeps g c = λ start origin asked.
-    c.settle.ensures.keeps start c.args.kernel.now.pass c.begin-progress.new.self.pass origin c.args.tools.now.text
+    c.settle.ensures.keeps start c.args.handler.now.pass c.begin-progress.new.self.pass origin c.args.tools.now.text
     asked
     c.begin-progress.ensures.begun

@@ -50,7 +50,8 @@ returns-in-Over-Reset g c = record {
 pub returns-in-Over-Failed : goal.returns-in-Over-Failed
 returns-in-Over-Failed g c = record {
   keeps = filled_not g.T.NonBlocking.incoming g.T.NonBlocking.outgoing (Fault Read)
-      (stops_reading g.T.NonBlocking.incoming g.T.NonBlocking.outgoing) _ _ c.stop-in-Over-Failed.new.self c.fill.new.self _
+      (stops_reading g.T.NonBlocking.incoming g.T.NonBlocking.outgoing) _ _ c.stop-in-Over-Failed.new.self
+      c.fill.new.self _
       c.self.view_is c.requires.free c.in-Over-Failed.ensures.bytes.0 c.fill.ensures.untold c.fill.ensures.written
       c.stop-in-Over-Failed.ensures;
   handles = (refl, refl);

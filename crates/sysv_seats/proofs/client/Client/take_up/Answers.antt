@@ -31,7 +31,7 @@ returns-in-Ok-Hello-clause-keeps g c = λ start origin sits.
     } in s) c.greet.new.self)
     (sym (drop-drop c.read_next-size.result.0 c.self.inside.start c.self.inside.input.items))
     c.greet.ensures.greets in
-    greets_next g.T.NonBlocking.incoming g.T.NonBlocking.outgoing start c.args.kernel.now.pass origin c.args.self.now _
+    greets_next g.T.NonBlocking.incoming g.T.NonBlocking.outgoing start c.args.handler.now.pass origin c.args.self.now _
     c.read_next-size.result.0 c.read_next-size.result.1 c.read_next-size.new.text c.requires.free reads sits
     c.in-Ok-Hello.version c.greet.new.self is greets
 
@@ -43,8 +43,8 @@ returns-in-Ok-Request-clause-keeps g c = λ start origin sits.
     c.ask.ensures.keeps start origin
     (subst (λ (s : Sitting g.row.T.Denot). HasAsked g.T.NonBlocking.incoming g.T.NonBlocking.outgoing start origin s
     c.in-Ok-Request.cred c.in-Ok-Request.request c.read_next-size.new.text c.read_next-size.result.0
-    c.args.kernel.now.pass) (sym c.self.view_is)
-    (asks_next g.T.NonBlocking.incoming g.T.NonBlocking.outgoing start c.args.kernel.now.pass origin c.args.self.now
+    c.args.handler.now.pass) (sym c.self.view_is)
+    (asks_next g.T.NonBlocking.incoming g.T.NonBlocking.outgoing start c.args.handler.now.pass origin c.args.self.now
     c.read_next-size.new.self c.read_next-size.result.0 c.read_next-size.result.1 c.read_next-size.new.text
     c.requires.free c.read_next-size.ensures.takes sits c.in-Ok-Request.cred c.in-Ok-Request.request is))
 
@@ -64,7 +64,7 @@ returns-in-Err-2-clause-keeps g c = λ start origin sits.
     let late = subst (λ (e : End). is_early e c.args.is_end ≡ false)
     (one_end c.read_next-size.result.1 c.in-Err.why c.in-Err-2.why c.in-Err.is c.in-Err-2.is)
     (sym c.is_early.ensures ∙ c.if-is_early.false) in
-    stops_next g.T.NonBlocking.incoming g.T.NonBlocking.outgoing start c.args.kernel.now.pass origin
+    stops_next g.T.NonBlocking.incoming g.T.NonBlocking.outgoing start c.args.handler.now.pass origin
     c.args.self.now _ c.read_next-size.result.0 c.read_next-size.result.1 c.read_next-size.new.text
     c.requires.free reads sits c.in-Err-2.why c.stop.new.self c.in-Err-2.is
     (settled_late c.in-Err-2.why _ c.args.is_end late c.requires.end) c.stop.ensures

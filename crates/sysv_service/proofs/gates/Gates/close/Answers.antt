@@ -5,7 +5,7 @@ use Rattle.sysv_bank.specs.Banks.{Each2}
 use Rattle.sysv_service.specs.Sharing.{AllClose}
 use Rattle.sysv_service.proofs.ClosedPlaces.{as_long}
 use Rattle.sysv_bank.specs.Banks.{gates_of}
-use Rattle.sysv_service.specs.Order.{deeds_of}
+use Rattle.sysv_service.specs.Order.{ops_of}
 use Rattle.sysv_service.specs.Banked.{seats_seen}
 use Rattle.sysv_service.proofs.Ordered.{whole, closes}
 use Rattle.sysv_service.proofs.OrderedHistories.{order_legal}
@@ -77,7 +77,7 @@ returns-clause-closed c =
     AllClose s
     (record { slots = c.reverse.new.self; registry = c.registry_closing.result; pool = c.pool_closing.result }))
     c.seats.view_is
-    (all_close seats (seats_seen last).member (deeds_of (gates_of seats) order.order)
+    (all_close seats (seats_seen last).member (ops_of (gates_of seats) order.order)
     (closes (gates_of seats) last c.close-closings.result.items order)
     (order_legal last c.close-closings.result.items c.seats.invariant
     (sym (as_long _ _ _ c.close-closings.ensures.closed)) order) _ parts

@@ -1,6 +1,6 @@
 use Rattle.std.proofs.Common.{◌≡◌, ◌≤◌, ◌+◌, ◌++◌, List, length, reverse, vec_capacity}
 use Rattle.sysv_keys.specs.declared.identifier.TheConstants.{SLOTS}
-use Rattle.sysv_gate.specs.declared.closing.Closing.{Closing}
+use Rattle.sysv_gate.specs.declared.gate.closing.Closing.{Closing}
 use Rattle.sysv_bank.specs.Banks.{Each2}
 use Rattle.sysv_service.specs.declared.kinds.Gated.{Gated}
 use Rattle.sysv_service.proofs.SplitJoinEnd.{GivenBack}

@@ -2,7 +2,7 @@
 use Rattle.std.proofs.Common.{◌≡◌, ℕ, ap, sym, add-zero}
 use Rattle.std.proofs.lemmas.Result.{err_from_is_err_and}
 use Rattle.sysv_queue.specs.Tally.{Tallied}
-use Rattle.sysv_session.specs.declared.kernel.RequestOutcome.TheVariants.{Reply}
+use Rattle.sysv_session.specs.declared.handler.RequestOutcome.TheVariants.{Reply}
 use Rattle.sysv_session.specs.Turn.{one_lost}
 use Rattle.sysv_wire.specs.declared.reply.Reply.{Reply as Answer}
 use Rattle.sysv_session.proofs.session.Session.answer.Goals as goal

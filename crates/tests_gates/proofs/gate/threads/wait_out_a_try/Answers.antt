@@ -6,7 +6,7 @@ use denote.Ref.{ShrRef}
 use denote.Struct.Field.{u8-field, u64-field}
 use denote.Param.Send.{IsSend, param_send, shr_send}
 use Rattle.sysv_gate.specs.contracts.gate.Gate as gate
-use Rattle.sysv_gate.specs.contracts.seat.Seat as seat
+use Rattle.sysv_gate.specs.contracts.gate.seat.Seat as seat
 use Rattle.tests_gates.specs.contracts.gate.threads.Slow as slow
 use Rattle.tests_gates.specs.contracts.gate.threads.SlowObject.TheImpl as object
 use Rattle.tests_gates.proofs.gate.threads.Slow.TheSendSync.{the_send as slow_send}

@@ -1,0 +1,488 @@
+//! What the workers of a server share with one another and with the thread that accepts
+//! connections.
+ghost use Rattle.std.specs.Prelude.{◌≡◌, ◌≤◌, IfSome, vec_len};
+ghost use Rattle.sysv_keys.specs.declared.identifier.TheConstants.{SLOTS as slot_count};
+ghost use Rattle.sysv_engine.specs.Counting.{IsNothing};
+
+use crate::bell::Bell;
+use crate::counts::{Counted, Counts, Moved, SlotCounts, zeros};
+use crate::moment::{Moment, NO_DESCRIPTOR, await_bell};
+use crate::terms::Patience;
+use crossbeam_queue::ArrayQueue;
+use std::alloc::Global;
+use std::sync::Wait;
+use std::sync::atomic::{AtomicBool, AtomicU64, Ordering};
+use sysv_keys::SLOTS;
+use sysv_queue::Tally;
+use sysv_seats::News;
+
+/// The word of the sends that wait for blocks. Before it are the words of the receives at each
+/// slot, and then those of the sends at each slot.
+pub(crate) const BLOCKS_WORD: usize = 2 * SLOTS;
+
+/// The number of words that say which workers have parked calls.
+pub(crate) const WORDS: usize = BLOCKS_WORD + 1;
+
+/// The number of bits in a word, and so of workers that a word can name.
+const BITS: usize = 64;
+
+/// The number of letters that a worker's mailbox holds.
+const LETTERS: usize = 512;
+
+/// News for other workers.
+#[derive(Clone, Copy)]
+pub(crate) struct Letter {
+    pub(crate) news: News,
+    /// The workers that have not had it, a bit for each. The receiver of a letter passes it on.
+    pub(crate) rest: u64,
+    /// The length of the shortest frame of a send that has already found no room.
+    pub(crate) least: usize,
+}
+
+/// How a worker is reached.
+#[derive(Drop)]
+struct Post {
+    bell: Bell,
+    /// Whether the worker may be asleep.
+    asleep: AtomicBool,
+    /// Whether something came for the worker since it looked.
+    rung: AtomicBool,
+    letters: ArrayQueue<Letter>,
+    /// Whether letters were lost, so that all parked calls are to be looked at.
+    everything: AtomicBool,
+    /// The number of connections that the worker was told to take.
+    coming: AtomicU64,
+    /// The number of clients of the worker that were closed.
+    closed: AtomicU64,
+    counts: Counts,
+}
+
+/// What the workers share.
+///
+/// A worker that is not there has no bell and no letters. Nothing comes for it, and it may not
+/// sleep.
+#[derive(Drop)]
+pub struct ServerState {
+    posts: Vec<Post>,
+    /// Which workers have parked calls, a bit for each worker.
+    words: Vec<AtomicU64>,
+    /// The maximum number of clients at once.
+    at_once: u64,
+    patience: Patience,
+    /// The number of seconds after which an orderly end cuts sessions off, 0 for never.
+    drain: u32,
+    /// Whether no more connections come.
+    finished: AtomicBool,
+    /// The number of connections that were returned to the workers, and of those that they have
+    /// taken.
+    dealt: AtomicU64,
+    taken: AtomicU64,
+    /// Whether all clients are to be closed.
+    is_cut: AtomicBool,
+    /// The number of sessions that are over.
+    over: AtomicU64,
+    /// Whether the memory of a session was refused.
+    starved: AtomicBool,
+    /// Whether the accepting thread waits for a session to be over.
+    is_awaited: AtomicBool,
+    /// Rung at each session that is over while the accepting thread waits for that, and when the
+    /// memory of a session was refused.
+    turn: Bell,
+}
+
+impl ServerState {
+    /// Returns what `workers` workers, at most 64, share before the first connection. Returns
+    /// `None` if memory or a descriptor is refused.
+    ///
+    /// At most `at_once` clients are served at once. After `drain` seconds an orderly end cuts
+    /// sessions off, or never for 0.
+    pub fn open(
+        alloc: Global,
+        workers: usize,
+        at_once: usize,
+        patience: Patience,
+        drain: u32,
+    ) -> Option<ServerState>
+        ensures workers { IfSome result (λ server. vec_len server.posts ≡ workers) }
+        ensures at_once { IfSome result (λ server. server.at_once ≡ at_once) }
+    {
+        let turn = Bell::open()?;
+        let posts = open_posts(alloc, workers)?;
+        let words = zeros(alloc, WORDS)?;
+        Some(ServerState {
+            posts,
+            words,
+            at_once: at_once as u64,
+            patience,
+            drain,
+            finished: AtomicBool::new(false),
+            dealt: AtomicU64::new(0),
+            taken: AtomicU64::new(0),
+            is_cut: AtomicBool::new(false),
+            over: AtomicU64::new(0),
+            starved: AtomicBool::new(false),
+            is_awaited: AtomicBool::new(false),
+            turn,
+        })
+    }
+
+    /// Returns the number of workers.
+    pub(crate) fn workers(&self) -> usize
+        ensures { result ≡ vec_len self.now.posts }
+    {
+        self.posts.len()
+    }
+
+    /// Returns how long a client may take.
+    pub(crate) fn patience(&self) -> Patience {
+        self.patience
+    }
+
+    /// Returns the descriptor of a worker's bell, or a negative number.
+    pub fn bell_of(&self, worker: usize) -> i32 {
+        match self.posts.get(worker) {
+            Some(post) => post.bell.fd(),
+            None => NO_DESCRIPTOR,
+        }
+    }
+
+    /// Has a worker look for what came for it.
+    fn ring(&self, worker: usize) {
+        if let Some(post) = self.posts.get(worker) {
+            post.ring();
+        }
+    }
+
+    /// Has all workers look for what came for them.
+    fn ring_all(&self) {
+        for post in &self.posts {
+            post.ring();
+        }
+    }
+
+    /// Says that a worker is about to sleep. Returns whether it may: nothing came for it.
+    pub(crate) fn fall_asleep(&self, worker: usize) -> bool {
+        match self.posts.get(worker) {
+            Some(post) => post.fall_asleep(),
+            None => false,
+        }
+    }
+
+    /// Says that a worker is awake. Returns whether something came for it.
+    pub(crate) fn wake_up(&self, worker: usize) -> bool {
+        match self.posts.get(worker) {
+            Some(post) => post.wake_up(),
+            None => false,
+        }
+    }
+
+    /// Returns the next letter of a worker.
+    pub(crate) fn letter(&self, rt: &impl Wait, worker: usize) -> Option<Letter> {
+        self.posts.get(worker)?.letters.pop(rt)
+    }
+
+    /// Returns whether letters of the worker were lost since the last call.
+    pub(crate) fn has_lost(&self, worker: usize) -> bool {
+        match self.posts.get(worker) {
+            Some(post) => post.has_lost(),
+            None => false,
+        }
+    }
+
+    /// Gives a worker a letter. If its mailbox is full, it looks at all its parked calls, and the
+    /// result is `false`: the letter is still to be passed on. So is one to a worker that is not
+    /// there.
+    pub(crate) fn send(&self, rt: &impl Wait, worker: usize, letter: Letter) -> bool {
+        match self.posts.get(worker) {
+            Some(post) => post.send(rt, letter),
+            None => false,
+        }
+    }
+
+    /// Has all workers look at all their parked calls.
+    pub(crate) fn send_everything(&self) {
+        for post in &self.posts {
+            post.send_everything();
+        }
+    }
+
+    /// Returns which workers have calls parked under this word.
+    pub(crate) fn word(&self, word: usize) -> u64 {
+        match self.words.get(word) {
+            Some(workers) => workers.load(Ordering::SeqCst),
+            None => 0,
+        }
+    }
+
+    /// Says that the worker has calls parked under this word.
+    pub(crate) fn mark(&self, word: usize, worker: usize) {
+        let Some(workers) = self.words.get(word) else {
+            return;
+        };
+        if workers.load(Ordering::SeqCst) & bit(worker) == 0 {
+            workers.fetch_or(bit(worker), Ordering::SeqCst);
+        }
+    }
+
+    /// Says that the worker has no calls parked under this word.
+    pub(crate) fn unmark(&self, word: usize, worker: usize) {
+        if let Some(workers) = self.words.get(word) {
+            workers.fetch_and(!bit(worker), Ordering::SeqCst);
+        }
+    }
+
+    /// Takes note of the number of the worker's calls that are parked under this word.
+    pub(crate) fn set_parked(&self, worker: usize, word: usize, count: usize) {
+        if let Some(post) = self.posts.get(worker) {
+            post.counts.set_parked(word, count as u64);
+        }
+    }
+
+    /// Counts messages that moved by calls of the worker.
+    pub(crate) fn count(&self, worker: usize, moved: Moved) {
+        if let Some(post) = self.posts.get(worker) {
+            post.counts.count(moved);
+        }
+    }
+
+    /// Returns what the workers have counted at a slot, and nothing if there is no such slot. The
+    /// numbers are read one after another, while the workers go on.
+    pub fn at_slot(&self, slot: usize) -> SlotCounts
+        ensures { slot_count ≤ slot → IsNothing result }
+    {
+        if slot >= SLOTS {
+            return SlotCounts::NONE;
+        }
+        let mut sum = SlotCounts::NONE;
+        for post in &self.posts {
+            post.counts.add_slot(slot, &mut sum);
+        }
+        sum
+    }
+
+    /// Returns what the workers have counted. The numbers are read one after another, while the
+    /// workers go on.
+    pub fn counted(&self) -> Counted
+        ensures at_once { result.at_once ≡ self.now.at_once }
+    {
+        let mut sum = Counted {
+            over: self.over.load(Ordering::SeqCst),
+            at_once: 0,
+            slots: SlotCounts::NONE,
+            for_blocks: 0,
+            written: 0,
+            lost: 0,
+        };
+        for post in &self.posts {
+            post.counts.add_all(&mut sum);
+        }
+        sum.at_once = self.at_once;
+        sum
+    }
+
+    /// Tells a worker to take one more connection.
+    pub(crate) fn call(&self, worker: usize) {
+        if let Some(post) = self.posts.get(worker) {
+            post.coming.fetch_add(1, Ordering::SeqCst);
+            post.ring();
+        }
+    }
+
+    /// Returns the number of connections that the worker was told to take.
+    pub(crate) fn coming(&self, worker: usize) -> u64 {
+        match self.posts.get(worker) {
+            Some(post) => post.coming.load(Ordering::SeqCst),
+            None => 0,
+        }
+    }
+
+    /// Returns the number of clients of the worker that were closed.
+    pub(crate) fn closed(&self, worker: usize) -> u64 {
+        match self.posts.get(worker) {
+            Some(post) => post.closed.load(Ordering::SeqCst),
+            None => 0,
+        }
+    }
+
+    /// Counts a connection that is returned to the workers.
+    pub(crate) fn deal(&self) {
+        self.dealt.fetch_add(1, Ordering::SeqCst);
+    }
+
+    /// Counts a connection that a worker has taken.
+    pub(crate) fn take(&self) {
+        self.taken.fetch_add(1, Ordering::SeqCst);
+        if self.finished.load(Ordering::SeqCst) {
+            self.ring_all();
+        }
+    }
+
+    /// Tells all workers that no more connections come.
+    pub fn finish(&self) {
+        self.finished.store(true, Ordering::SeqCst);
+        self.ring_all();
+    }
+
+    /// Returns whether no more connections come, and the workers have taken all of them. Until
+    /// then, a worker that was not told to take one leaves it to the worker that was: that one
+    /// would find none, and end with its clients.
+    pub(crate) fn is_finished(&self) -> bool {
+        self.finished.load(Ordering::SeqCst)
+            && self.taken.load(Ordering::SeqCst) >= self.dealt.load(Ordering::SeqCst)
+    }
+
+    /// Returns whether all clients are to be closed.
+    pub(crate) fn is_cut(&self) -> bool {
+        self.is_cut.load(Ordering::SeqCst)
+    }
+
+    /// Counts a session of a worker that is over.
+    pub(crate) fn close(&self, worker: usize, tally: &Tally) {
+        if let Some(post) = self.posts.get(worker) {
+            post.counts.end(tally);
+            post.closed.fetch_add(1, Ordering::SeqCst);
+        }
+        self.over.fetch_add(1, Ordering::SeqCst);
+        if self.is_awaited.load(Ordering::SeqCst) {
+            self.turn.ring();
+        }
+    }
+
+    /// Says that the memory of a session was refused.
+    pub(crate) fn starve(&self) {
+        self.starved.store(true, Ordering::SeqCst);
+        self.turn.ring();
+    }
+
+    /// Returns whether the memory of a session was refused.
+    pub fn is_starved(&self) -> bool {
+        self.starved.load(Ordering::SeqCst)
+    }
+
+    /// Returns the descriptor of the bell for the accepting thread, or a negative number.
+    pub fn bell(&self) -> i32 {
+        self.turn.fd()
+    }
+
+    /// Ends the ringing of that bell.
+    pub fn hush(&self) {
+        self.turn.hush();
+    }
+
+    /// Returns whether one more client may be accepted, of which this many were.
+    pub fn has_room(&self, accepted: u64) -> bool {
+        accepted.saturating_sub(self.over.load(Ordering::SeqCst)) < self.at_once
+    }
+
+    /// Returns whether all sessions are over, of which this many were accepted.
+    fn is_empty(&self, accepted: u64) -> bool {
+        self.over.load(Ordering::SeqCst) >= accepted
+    }
+
+    /// Says whether the accepting thread waits from now on for a session to be over.
+    pub fn await_turn(&self, awaits: bool) {
+        self.is_awaited.store(awaits, Ordering::SeqCst);
+    }
+
+    /// Waits for the sessions, of which this many were accepted, and cuts those off that are still
+    /// there when the time for an orderly end is over. Returns whether it cut any off.
+    pub fn drain(&self, accepted: u64) -> bool {
+        let Some(deadline) = Moment::after(self.drain) else {
+            return false;
+        };
+        self.await_turn(true);
+        for _ in 0..u64::MAX {
+            self.hush();
+            if self.is_empty(accepted) {
+                return false;
+            }
+            if deadline.left() == 0 {
+                break;
+            }
+            await_bell(self.bell(), Some(deadline));
+        }
+        self.is_cut.store(true, Ordering::SeqCst);
+        self.ring_all();
+        true
+    }
+}
+
+impl Post {
+    /// Opens the post of a worker. Returns `None` if memory or a descriptor is refused.
+    fn open(alloc: Global) -> Option<Post> {
+        let bell = Bell::open()?;
+        Some(Post {
+            bell,
+            asleep: AtomicBool::new(false),
+            rung: AtomicBool::new(false),
+            letters: ArrayQueue::new(alloc, LETTERS).ok()?,
+            everything: AtomicBool::new(false),
+            coming: AtomicU64::new(0),
+            closed: AtomicU64::new(0),
+            counts: Counts::open(alloc)?,
+        })
+    }
+
+    /// Has the worker look for what came for it.
+    fn ring(&self) {
+        self.rung.store(true, Ordering::SeqCst);
+        if self.asleep.swap(false, Ordering::SeqCst) {
+            self.bell.ring();
+        }
+    }
+
+    /// Says that the worker is about to sleep. Returns whether it may: nothing came for it.
+    fn fall_asleep(&self) -> bool {
+        self.asleep.store(true, Ordering::SeqCst);
+        !self.rung.load(Ordering::SeqCst)
+    }
+
+    /// Says that the worker is awake. Returns whether something came for it.
+    fn wake_up(&self) -> bool {
+        self.asleep.store(false, Ordering::SeqCst);
+        self.rung.swap(false, Ordering::SeqCst)
+    }
+
+    /// Returns whether letters were lost since the last call.
+    fn has_lost(&self) -> bool {
+        self.everything.load(Ordering::SeqCst) && self.everything.swap(false, Ordering::SeqCst)
+    }
+
+    /// Gives the worker a letter. Returns whether there was room for it. If there was none, the
+    /// worker looks at all its parked calls.
+    fn send(&self, rt: &impl Wait, letter: Letter) -> bool {
+        let kept = self.letters.push(rt, letter).is_ok();
+        if !kept {
+            self.everything.store(true, Ordering::SeqCst);
+        }
+        self.ring();
+        kept
+    }
+
+    /// Has the worker look at all its parked calls.
+    fn send_everything(&self) {
+        self.everything.store(true, Ordering::SeqCst);
+        self.ring();
+    }
+}
+
+/// Opens the posts of this number of workers. Returns `None` if memory or a descriptor is refused.
+fn open_posts(alloc: Global, workers: usize) -> Option<Vec<Post>>
+    ensures { IfSome result (λ posts. vec_len posts ≡ workers) }
+{
+    let mut posts = Vec::with_capacity(alloc, workers).ok()?;
+    for _ in 0..workers {
+        posts.push(Post::open(alloc)?).ok()?;
+    }
+    Some(posts)
+}
+
+/// Returns the word of the sends that wait for room at a slot.
+pub(crate) fn room_word(slot: usize) -> usize {
+    SLOTS.saturating_add(slot)
+}
+
+/// Returns the bit of a worker.
+pub(crate) fn bit(worker: usize) -> u64 {
+    1 << (worker % BITS)
+}

@@ -1,0 +1,216 @@
+//! The calls of a handler in pieces.
+
+ghost use Rattle.std.specs.Prelude.{◌≡◌, ◌≢◌, ◌≤◌, ℕ, List, [], length};
+ghost use Rattle.sysv_model.specs.declared.limits.TheConstants.{MESSAGE_BYTES};
+ghost use Rattle.sysv_service.specs.Ran.{Pass as Seen};
+ghost use Rattle.sysv_wire.specs.Requests.{op_of};
+ghost use Rattle.sysv_seats.specs.Parked.{GoesOn, HasBegun, IsParked, IsWaitOf, MayProgress, receive_progress, send_progress};
+
+use crate::handler::{ServiceHandler, reply};
+use crate::waiting::Waiting;
+use std::sync::Wait;
+use sysv_model::{Body, Cred, Errno, Flags};
+use sysv_queue::Delivery;
+use sysv_service::{Clock, Progress, ReceiveWait, SendWait};
+use sysv_session::{Handler, RequestOutcome};
+use sysv_wire::{Ask, Op, ReplyContent, Request, Version};
+
+impl<'a, C: Clock, R: Wait> ServiceHandler<'a, C, R> {
+    ghost use Rattle.sysv_seats.specs.HandlesKept.{KeepsHandles};
+
+    /// Begins a request. A send and a receive make their steps until they wait or are over, and
+    /// never sleep until a count changes. Any other request is carried out as by `call`.
+    ///
+    /// `cred`, `text` and `given` are those of `call`. If the request waits, `given` is empty, and
+    /// `go_on` continues it with the same `request` and `text`. To give it up, drop the wait.
+    ///
+    /// # Conditions
+    ///
+    /// - `request` is not a hello.
+    /// - `given` is empty.
+    pub fn begin(
+        &mut self,
+        cred: Cred,
+        request: &Request,
+        text: &Body,
+        given: &mut Body,
+    ) -> Progress<Waiting, RequestOutcome>
+        requires asked { op_of request.now.ask ≢ Op.Hello }
+        requires empty { given.old ≡ [] }
+        ensures begun { HasBegun (C.may self.old.clock.now) request.now.version cred request.now.ask
+            text.now self.old.pass result given.new self.new.pass }
+        ensures answer { MayProgress request.now.version request.now.ask result given.new }
+        ensures handles { KeepsHandles self.old self.new }
+    {
+        let version = request.version;
+        match request.ask {
+            Ask::Snd { id, mtype, flags } => self.begin_send(version, cred, id, mtype, flags, text),
+            Ask::Rcv {
+                id,
+                size,
+                mtype,
+                flags,
+            } => self.begin_receive(version, cred, id, size, mtype, flags, given),
+            _whole => Progress::Over(self.call(cred, request, text, given)),
+        }
+    }
+
+    /// Begins a `msgsnd` of the body.
+    fn begin_send(
+        &mut self,
+        version: Version,
+        cred: Cred,
+        id: i32,
+        mtype: i64,
+        flags: Flags,
+        text: &Body,
+    ) -> Progress<Waiting, RequestOutcome>
+        ensures begun { HasBegun (C.may self.old.clock.now) version cred (Ask.Snd id mtype flags)
+            text.now self.old.pass result [] self.new.pass }
+        ensures answer { MayProgress version (Ask.Snd id mtype flags) result [] }
+        ensures handles { KeepsHandles self.old self.new }
+    {
+        let pass = &mut self.pass;
+        let came = self
+            .service
+            .msgsnd_begin(self.rt, pass, self.clock, cred, id, mtype, text, flags);
+        send_came(version, came)
+    }
+
+    /// Begins a `msgrcv` into `given`.
+    fn begin_receive(
+        &mut self,
+        version: Version,
+        cred: Cred,
+        id: i32,
+        size: u32,
+        mtype: i64,
+        flags: Flags,
+        given: &mut Body,
+    ) -> Progress<Waiting, RequestOutcome>
+        ensures begun { (text : List ℕ) → HasBegun (C.may self.old.clock.now) version cred
+            (Ask.Rcv id size mtype flags) text self.old.pass result given.new self.new.pass }
+        ensures answer { MayProgress version (Ask.Rcv id size mtype flags) result given.new }
+        ensures handles { KeepsHandles self.old self.new }
+    {
+        let pass = &mut self.pass;
+        let came = self.service.msgrcv_begin(
+            self.rt, pass, self.clock, cred, id, given, size, mtype, flags,
+        );
+        receive_came(version, came)
+    }
+
+    /// Continues a request that waits, if its wait is over. Looks once at the count for which the
+    /// request waits, and returns `waiting` again if the request still waits. Otherwise the call
+    /// makes its steps until it waits again or is over, and never sleeps until a count changes.
+    ///
+    /// # Conditions
+    ///
+    /// - `waiting` is a wait of a request of this kind, from `begin` or `go_on`. The contract says
+    ///   what becomes of the request if `request` and `text` are those with which it was begun, and
+    ///   this handler's pass is the one with which it waits.
+    /// - `text` has at most 8,192 bytes, as the body of every send that waits.
+    /// - `given` is empty.
+    pub fn go_on(
+        &mut self,
+        request: &Request,
+        text: &Body,
+        given: &mut Body,
+        waiting: Waiting,
+    ) -> Progress<Waiting, RequestOutcome>
+        requires kind { IsWaitOf request.now.ask waiting }
+        requires short { length text.now ≤ MESSAGE_BYTES }
+        requires empty { given.old ≡ [] }
+        ensures begun { (start : Seen) (cred : Cred) →
+            IsParked (C.may self.old.clock.now) cred request.now.ask text.now start waiting
+            self.old.pass →
+            HasBegun (C.may self.old.clock.now) request.now.version cred request.now.ask text.now
+            start result given.new self.new.pass }
+        // The count is read in each case.
+        ensures looks { GoesOn (C.may self.old.clock.now) request.now.version waiting text.now
+            self.old.pass result given.new self.new.pass }
+        ensures answer { MayProgress request.now.version request.now.ask result given.new }
+        ensures handles { KeepsHandles self.old self.new }
+    {
+        match waiting {
+            Waiting::Send(wait) => self.send_on(request.version, text, wait),
+            Waiting::Receive(wait) => self.receive_on(request.version, given, wait),
+        }
+    }
+
+    /// Continues a `msgsnd` of the body.
+    fn send_on(
+        &mut self,
+        version: Version,
+        text: &Body,
+        wait: SendWait,
+    ) -> Progress<Waiting, RequestOutcome>
+        requires { length text.now ≤ MESSAGE_BYTES }
+        ensures looks { GoesOn (C.may self.old.clock.now) version (Waiting.Send wait) text.now
+            self.old.pass result [] self.new.pass }
+        ensures handles { KeepsHandles self.old self.new }
+    {
+        let pass = &mut self.pass;
+        let Some(send) = self.service.msgsnd_look(pass, &wait) else {
+            return Progress::Waits(Waiting::Send(wait));
+        };
+        let came = self
+            .service
+            .msgsnd_go_on(self.rt, pass, self.clock, text, send);
+        send_came(version, came)
+    }
+
+    /// Continues a `msgrcv` into `given`.
+    fn receive_on(
+        &mut self,
+        version: Version,
+        given: &mut Body,
+        wait: ReceiveWait,
+    ) -> Progress<Waiting, RequestOutcome>
+        requires { given.old ≡ [] }
+        ensures looks { (text : List ℕ) → GoesOn (C.may self.old.clock.now) version
+            (Waiting.Receive wait) text self.old.pass result given.new self.new.pass }
+        ensures handles { KeepsHandles self.old self.new }
+    {
+        let pass = &mut self.pass;
+        let Some(receive) = self.service.msgrcv_look(pass, &wait) else {
+            return Progress::Waits(Waiting::Receive(wait));
+        };
+        let came = self
+            .service
+            .msgrcv_go_on(self.rt, pass, self.clock, given, receive);
+        receive_came(version, came)
+    }
+}
+
+/// Returns how far the request of a send has come.
+fn send_came(
+    version: Version,
+    came: Progress<SendWait, Result<(), Errno>>,
+) -> Progress<Waiting, RequestOutcome>
+    ensures { result ≡ send_progress version came }
+{
+    match came {
+        Progress::Waits(wait) => Progress::Waits(Waiting::Send(wait)),
+        Progress::Over(Ok(())) => Progress::Over(reply(version, Op::Snd, ReplyContent::Snd)),
+        Progress::Over(Err(why)) => {
+            Progress::Over(reply(version, Op::Snd, ReplyContent::Refused(why)))
+        }
+    }
+}
+
+/// Returns how far the request of a receive has come.
+fn receive_came(
+    version: Version,
+    came: Progress<ReceiveWait, Result<Delivery, Errno>>,
+) -> Progress<Waiting, RequestOutcome>
+    ensures { result ≡ receive_progress version came }
+{
+    match came {
+        Progress::Waits(wait) => Progress::Waits(Waiting::Receive(wait)),
+        Progress::Over(Ok(delivery)) => Progress::Over(RequestOutcome::Got(delivery)),
+        Progress::Over(Err(why)) => {
+            Progress::Over(reply(version, Op::Rcv, ReplyContent::Refused(why)))
+        }
+    }
+}

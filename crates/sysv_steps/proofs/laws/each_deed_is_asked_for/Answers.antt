@@ -1,5 +1,0 @@
-use Rattle.sysv_steps.proofs.EachAsked.{each_asked}
-use Rattle.sysv_steps.proofs.laws.each_deed_is_asked_for.Goals as goal
-
-pub returns : goal.returns
-returns c = each_asked
