@@ -107,9 +107,7 @@ impl<O: Object> Bank<O> {
         }
     }
 
-    /// Returns a new seat. The new seat has seen the same as `seat` at each place and of the order.
-    /// It has a number of its own, under which none of the turns that it has seen was made. Each of
-    /// the two seats has half of the share that `seat` had.
+    /// Returns a new seat, like `split_off`.
     ///
     /// # Errors
     ///
@@ -126,11 +124,29 @@ impl<O: Object> Bank<O> {
         ensures order { IfOk result (λ s. SplitsOff seat.old seat.new s) }
         ensures always { IsOk result }
     {
+        Ok(self.split_off(seat))
+    }
+
+    /// Returns a new seat. The new seat has seen the same as `seat` at each place and of the order.
+    /// It has a number of its own, under which none of the turns that it has seen was made. Each of
+    /// the two seats has half of the share that `seat` had. It allocates nothing.
+    ///
+    /// # Conditions
+    ///
+    /// - `seat` is a seat of this bank.
+    pub fn split_off(&self, seat: &mut BankSeat<O>) -> BankSeat<O>
+        requires { gates_of seat.old.seats ≡ self.now }
+        ensures gates { gates_of seat.new.seats ≡ self.now }
+        ensures seats { (gates_of result.seats ≡ self.now)
+            × (seat.new.seats ≡ map parted seat.old.seats)
+            × Each2 IsSplit seat.old.seats result.seats }
+        ensures order { SplitsOff seat.old seat.new result }
+    {
         let token = split_pass(&self.table, &mut seat.token);
-        Ok(BankSeat {
+        BankSeat {
             token,
             key: Snapshot::of(&self.key),
-        })
+        }
     }
 
     /// Merges `other` into `seat`: what both have seen at each place and of the order, their turns,

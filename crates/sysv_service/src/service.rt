@@ -86,7 +86,7 @@ impl Service {
     /// # Conditions
     ///
     /// - `pass` is a pass of this service.
-    pub fn split_pass(&self, alloc: Global, pass: &mut Pass) -> Result<Pass, NoMemory>
+    pub fn split_pass(&self, _alloc: Global, pass: &mut Pass) -> Result<Pass, NoMemory>
         requires { AreOf self.now pass.old.seats }
         ensures pass { AreOf self.now pass.new.seats }
         ensures ok { IfOk result (λ other. AreOf self.now other.seats
@@ -94,11 +94,8 @@ impl Service {
         ensures always { IsOk result }
         ensures held { pass.new.held ≡ pass.old.held }
     {
-        let Ok(seats) = self.gates.split(alloc, &mut pass.seats) else {
-            unreachable!()
-        };
         Ok(Pass {
-            seats,
+            seats: self.gates.split(&mut pass.seats),
             held: Chain::empty(),
         })
     }

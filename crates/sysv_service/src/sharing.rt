@@ -1,6 +1,6 @@
 //! Sharing the gates among threads: splitting and joining seats, and closing the gates.
 
-ghost use Rattle.std.specs.Prelude.{◌≡◌, length, IfOk, IsOk, IfSome, option_map};
+ghost use Rattle.std.specs.Prelude.{◌≡◌, length, IfSome, option_map};
 ghost use Rattle.sysv_keys.specs.declared.identifier.TheConstants.{SLOTS};
 ghost use Rattle.sysv_service.specs.ObjectKinds.{IsClosingAs};
 ghost use Rattle.sysv_service.specs.Gated.{IsSlot, IsRegistry, IsPool, slot_in, registry_in, pool_in, as_slot, as_registry, as_pool};
@@ -12,10 +12,8 @@ use crate::kinds::Gated;
 use crate::object::SharedObject;
 use crate::opening::GatesClosed;
 use crate::seats::Seats;
-use std::alloc::Global;
 use sysv_gate::Closing;
 use sysv_keys::{Registry, SLOTS};
-use sysv_model::NoMemory;
 use sysv_pool::Pool;
 use sysv_queue::QueueSlot;
 
@@ -23,24 +21,16 @@ impl Gates {
     /// Returns new seats, which may move to another thread. Each has seen what the seat at the same
     /// object has seen, and has made none of these turns.
     ///
-    /// # Errors
-    ///
-    /// `NoMemory` is never returned: this implementation allocates nothing here.
-    ///
     /// # Conditions
     ///
     /// - `seats` are seats of these gates.
-    pub fn split(&self, alloc: Global, seats: &mut Seats) -> Result<Seats, NoMemory>
+    pub fn split(&self, seats: &mut Seats) -> Seats
         requires { AreOf self.now seats.old }
         ensures seats { AreOf self.now seats.new }
-        ensures ok { IfOk result (λ other. AreOf self.now other
-            × AreSplit seats.old seats.new other) }
-        ensures always { IsOk result }
+        ensures other { AreOf self.now result × AreSplit seats.old seats.new result }
     {
-        let Ok(seat) = self.bank.split(alloc, &mut seats.seat) else {
-            unreachable!()
-        };
-        Ok(Seats { seat })
+        let seat = self.bank.split_off(&mut seats.seat);
+        Seats { seat }
     }
 
     /// Merges `other` into `seats`, object by object: what both have seen, and the turns of both.

@@ -307,7 +307,7 @@ fn a_queue_is_told_changed_and_removed(rt: HostRuntime) {
 #[test]
 fn seats_are_split_and_joined(rt: HostRuntime) {
     let (gates, mut seats) = gates_at(&rt, rt.alloc(), 100);
-    let mut other = gates.split(rt.alloc(), &mut seats).expect(&rt, "a split");
+    let mut other = gates.split(&mut seats);
     let made = install(&rt, &gates, &mut other, 0, 7, USER, 0o600, 50);
     assert_is(&rt, made, Ok(true));
     let again = install(&rt, &gates, &mut seats, 0, 7, USER, 0o600, 50);

@@ -8,7 +8,7 @@ use Rattle.sysv_bank.specs.Resting.{pass_of}
 use Rattle.sysv_bank.proofs.Passes.{same_table, gates_same}
 use Rattle.sysv_bank.proofs.SeatsMade.{knows_all, parted_now, parted_rests, split_now, split_rests, split_order}
 use Rattle.sysv_bank.proofs.SeatsMade.{rests_key, seats_key}
-use Rattle.sysv_bank.proofs.bank.Bank.split.Goals as goal
+use Rattle.sysv_bank.proofs.bank.Bank.split_off.Goals as goal
 
 pub split_pass-token-requires-clause-table : goal.split_pass-token-requires-clause-table
 split_pass-token-requires-clause-table g c =
@@ -45,8 +45,8 @@ invariant_of-result g c =
     split_rests (Moves g.O.Object.meaning g.O.Object.counted) c.seat.inside c.seat.invariant token new.0 new.1 in
     rests_key _ (record { token = token; key = c.seat.inside.key }) c.of.result first os rest
 
-pub returns-clause-ok : goal.returns-clause-ok
-returns-clause-ok g c =
+pub returns-clause-seats : goal.returns-clause-seats
+returns-clause-seats g c =
     let same = same_table _ _ _ _ _ _ c.self.invariant c.seat.invariant c.self.view_is c.seat.view_is c.requires in
     let token = c.split_pass-token.result in
     let new = c.split_pass-token.ensures.new in
