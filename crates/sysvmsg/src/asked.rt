@@ -215,13 +215,13 @@ fn task_of<'a>(matches: &ArgMatches<'a>) -> Result<Asked<'a>, Bad>
     match name {
         "script" => Ok(Asked::Script),
         "serve" => Ok(Asked::Serve(server(words)?)),
-        "stats" => Ok(Asked::Look(looking(words)?)),
+        "stats" => Ok(Asked::Look(look_of(words)?)),
         _ => client(name, words),
     }
 }
 
 /// Returns the request of a `stats`.
-fn looking<'a>(words: &ArgMatches<'a>) -> Result<Looking<'a>, Bad>
+fn look_of<'a>(words: &ArgMatches<'a>) -> Result<Looking<'a>, Bad>
     ensures { IsRead result (AsksToLook (words_in words.now)) }
 {
     Ok(Looking {
