@@ -56,16 +56,16 @@ HasRoom path None = ⊤
 
 -- A `serve` with these words has a socket file at this path with this mode, and removes a stale one
 -- or does not.
-pub record AsksForFileAt (words : List Row) (path : List ℕ) (file : SocketFile) : Type 0 where
-  pub path : file.path.now ≡ path
+pub record AsksForFileAt (words : List Row) (at : List ℕ) (file : SocketFile) : Type 0 where
+  pub path : file.path.now ≡ at
   pub mode : IsMode (word_of words (codes "mode")) file.mode
-  pub room : HasRoom path file.mode
+  pub room : HasRoom at file.mode
   pub replace : HasFlag words (codes "replace") file.replace
 
 -- A `serve` with these words has this socket file.
-pub record AsksForFile (words : List Row) (file : SocketFile) : Type 0 where
-  pub path : HasPath words file.path.now
-  pub file : AsksForFileAt words file.path.now file
+pub record AsksForFile (words : List Row) (served : SocketFile) : Type 0 where
+  pub path : HasPath words served.path.now
+  pub file : AsksForFileAt words served.path.now served
 
 -- A `serve` with these words shows its state at this socket file, which is not at its own path, or
 -- shows it nowhere.
