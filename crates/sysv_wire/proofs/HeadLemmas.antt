@@ -28,16 +28,3 @@ pub head_broken : (least most n : ℕ) (fault : Fault) (a b c : Option (List ℕ
 head_broken least most n fault a b c low high first second =
     Faults-after (Breaks (IsShorter least)) (HeadFault least most) fault a b c (u32_bytes n) first second
     (breaks_head least most n fault low high)
-
-breaks_after : (fault : Fault) (done taken : List ℕ) → Breaks (λ _. ⊥) fault taken → Breaks (λ _. ⊥) fault (done ++ taken)
-breaks_after Truncated done taken why = absurd why
-breaks_after Read done taken why = tt
-breaks_after TooLong done taken why = absurd why
-breaks_after BadOp done taken why = absurd why
-breaks_after BadField done taken why = absurd why
-
--- Some bytes were taken, and then the reader failed.
-pub fill_broken : (fault : Fault) (a b c : Option (List ℕ)) (done : List ℕ) → Consumes a b done →
-    Faults (Breaks (λ _. ⊥)) fault b c → Faults (Breaks (λ _. ⊥)) fault a c
-fill_broken fault a b c done first second =
-    Faults-after (Breaks (λ _. ⊥)) (Breaks (λ _. ⊥)) fault a b c done first second (λ taken why. breaks_after fault done taken why)

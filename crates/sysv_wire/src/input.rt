@@ -11,38 +11,7 @@ use std::io::Read;
 use sysv_model::{BLOCK_BYTES, BODY_ROOM, Body, Watched};
 
 /// Reads until `bytes` is full or the input ends. Returns the number of bytes read.
-///
-/// A single read is enough if the reader has all bytes in memory.
 pub(crate) fn fill<R: Read>(reader: &mut Watched<'_, R>, bytes: &mut [u8]) -> Result<usize, Fault>
-    ensures taken { IfOk result (λ count.
-        Consumes (R.remaining (stream_of reader.old)) (R.remaining (stream_of reader.new))
-        (take count bytes.new)) }
-    ensures bound { IfOk result (λ count. count ≤ length bytes.new) }
-    ensures end { IfOk result (λ count. count < length bytes.new →
-        IsAtEnd (R.remaining (stream_of reader.new))) }
-    ensures fault { IfErr result (λ fault.
-        Faults (Breaks (λ _. ⊥)) fault (R.remaining (stream_of reader.old))
-        (R.remaining (stream_of reader.new))) }
-    ensures stream { KeepsStream reader.old reader.new (is_read_fault result) }
-{
-    if bytes.is_empty() {
-        return Ok(0);
-    }
-    match reader.read(bytes) {
-        Ok(count) if count == bytes.len() => Ok(count),
-        Ok(0) => Ok(0),
-        Ok(count) => {
-            let more = fill_rest(reader, &mut bytes[count..])?;
-            Ok(count + more)
-        }
-        Err(_) => Err(Fault::Read),
-    }
-}
-
-/// Reads like `fill`, with any number of reads.
-#[cold]
-#[inline(never)]
-fn fill_rest<R: Read>(reader: &mut Watched<'_, R>, bytes: &mut [u8]) -> Result<usize, Fault>
     ensures taken { IfOk result (λ count.
         Consumes (R.remaining (stream_of reader.old)) (R.remaining (stream_of reader.new))
         (take count bytes.new)) }

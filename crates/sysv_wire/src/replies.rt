@@ -318,7 +318,6 @@ fn len_of(content: &ReplyContent) -> usize
 
 /// Writes the length, version, operation, error and fields of a reply into an empty frame. The body
 /// of the reply has `text_len` bytes.
-#[inline(always)]
 fn put_head(frame: &mut Fields, reply: &Reply, text_len: usize)
     requires empty { frame.old ≡ [] }
     requires text { text_len ≤ MESSAGE_BYTES }

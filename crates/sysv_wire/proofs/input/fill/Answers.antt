@@ -1,20 +1,18 @@
-use Rattle.std.proofs.Common.{sym, subst}
+use Rattle.std.proofs.Common.{◌≤◌, length, sym, subst, ◌∙◌}
 use Rattle.std.specs.Io.KnownBytes.{Consumes}
 use Rattle.std.proofs.KnownBytes.{Consumes-trans}
-use Rattle.std.proofs.lemmas.Result.{err_from_is_err_and}
-use Rattle.sysv_wire.proofs.HeadLemmas.{fill_broken}
-use Rattle.sysv_wire.proofs.StreamLemmas.{came}
+use Rattle.sysv_wire.proofs.StreamLemmas.{came, length_came}
 use Rattle.sysv_wire.proofs.input.fill.Goals as goal
 
-pub returns-in_err-more-in-Ok-2-clause-fault : goal.returns-in_err-more-in-Ok-2-clause-fault
-returns-in_err-more-in-Ok-2-clause-fault g c =
-    let p = err_from_is_err_and c.from_residual.result c.from_residual.ensures.1 in
-    rw (p.1, p.2)
-    (fill_broken _ _ _ _ _ c.in-Ok.ensures.bytes.0 c.in_err-more-in-Ok-2.ensures.fault)
-
-pub returns-in_ok-more-in-Ok-2-clause-taken : goal.returns-in_ok-more-in-Ok-2-clause-taken
-returns-in_ok-more-in-Ok-2-clause-taken g c =
-    subst (Consumes _ _)
-    (sym (came c.in-Ok.count c.in_ok-more-in-Ok-2.more _ c.read.new.buf c.fill_rest.new.bytes c.in-Ok.ensures.bound.0
-    c.in_ok-more-in-Ok-2.ensures.bound))
-    (Consumes-trans _ _ _ _ _ c.in-Ok.ensures.bytes.0 c.in_ok-more-in-Ok-2.ensures.taken)
+pub loop-count-preserved : goal.loop-count-preserved
+loop-count-preserved g c =
+    let bytes = c.loop-count.bytes in
+    let fits : c.in-Ok.more ≤ length c.read.new.buf = c.in-Ok.ensures.bound.0 in
+    record {
+      within = length_came c.loop-count.count c.in-Ok.more _ bytes c.read.new.buf c.loop-count.invariant.within fits;
+      so_far = subst (Consumes _ _)
+          (sym (came c.loop-count.count c.in-Ok.more _ bytes c.read.new.buf c.loop-count.invariant.within fits))
+          (Consumes-trans _ _ _ _ _ c.loop-count.invariant.so_far c.in-Ok.ensures.bytes.0);
+      same = c.in-Ok.ensures.same ∙ c.loop-count.invariant.same;
+      failed = c.in-Ok.ensures.failed ∙ c.loop-count.invariant.failed;
+    }
