@@ -14,14 +14,14 @@ use Rattle.sysv_clients.specs.Asks.{flags_to_create, flags_to_wait, request_of}
 use Rattle.sysv_clients.specs.Calls.{BreaksPlan, Call, Each, FollowsPlan, IsCallDone, Plan, id_in, read_by, written_by}
 use Rattle.sysv_clients.specs.Faults.{fault_line}
 use Rattle.sysv_clients.specs.Lines.{HasNone, IsNext, IsTooLong}
-use Rattle.sysv_clients.specs.Talk.{HasNoReply}
+use Rattle.sysv_clients.specs.Dialogue.{HasNoReply}
 use Rattle.sysv_model.specs.declared.errno.Errno.{Errno}
 use Rattle.sysv_model.specs.Writing.{AppendsPrefix}
 use Rattle.sysv_wire.specs.declared.reply.ReplyContent.{ReplyContent}
 use Rattle.sysv_wire.specs.declared.reply.ReplyContent.TheVariants as content
 use Rattle.sysv_wire.specs.declared.request.Ask.{Ask}
 use Rattle.sysv_wire.specs.declared.request.Ask.TheVariants.{Hello, Get, Snd}
-use Rattle.sysv_wire.specs.Requests.{request_spelling}
+use Rattle.sysv_wire.specs.Requests.{request_encoding}
 
 -- The request that finds the queue.
 abbrev pub find_to_send : Sending → Ask
@@ -52,7 +52,7 @@ bodies_of calls = map (λ call. call.text) calls
 
 -- The frames of this request with these bodies, in order.
 abbrev pub frames_of : Ask → List (List ℕ) → List ℕ
-frames_of ask texts = flat_map (λ text. request_spelling (request_of ask) text) texts
+frames_of ask texts = flat_map (λ text. request_encoding (request_of ask) text) texts
 
 -- The call was refused with this error.
 abbrev pub Refuses : Errno → Call → Type 0

@@ -26,9 +26,9 @@ use Rattle.sysv_core.specs.Removed.{AreRemovedForGood}
 use Rattle.sysv_core.specs.Tending.{AreTended}
 use Rattle.sysv_core.proofs.Histories.{turn_of, live_more, one}
 use Rattle.sysv_core.proofs.TurnInHistory.{Made, made_at, slot_around, registry_around}
-use Rattle.sysv_core.proofs.Life.{any_more, or_no, or_left, passing, lived}
-use Rattle.sysv_core.proofs.LifeGoesOn.{EachObeys}
-use Rattle.sysv_core.proofs.LifeLaws.{SettledOnceInstalled}
+use Rattle.sysv_core.proofs.Lifetime.{any_more, or_no, or_left, passing, lived}
+use Rattle.sysv_core.proofs.LifetimeGoesOn.{EachObeys}
+use Rattle.sysv_core.proofs.LifetimeLaws.{SettledOnceInstalled}
 
 -- ---- rows stay while the settled count does
 

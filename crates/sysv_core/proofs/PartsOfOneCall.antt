@@ -12,7 +12,7 @@ use Rattle.sysv_model.specs.Turn.{Turn, is_same, ops_of}
 use Rattle.sysv_steps.specs.State.{State, Goes, Waits, Over}
 use Rattle.sysv_core.specs.World.{Invocation, Doing, Response, doing_in, response_in}
 use Rattle.sysv_core.specs.AnswerLaw.{endings_of, stands_in, standing_of, ended, standing}
-use Rattle.sysv_core.proofs.Life.{both_true}
+use Rattle.sysv_core.proofs.Lifetime.{both_true}
 use Rattle.sysv_core.proofs.Lists.{get_set_same, get_set_other, same_place}
 
 -- ---- names

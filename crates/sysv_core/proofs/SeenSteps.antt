@@ -1,4 +1,4 @@
--- One happening in a world of the definitions, from what the world of the code is seen as.
+-- One transition in a world of the definitions, from what the world of the code is seen as.
 use Rattle.std.proofs.Common.{◌≡◌, ℕ, zero, suc, ◌+◌, ◌<◌, ◌⊎◌, inl, inr, Bool, false, List, [], ◌∷◌, ◌++◌, Option}
 use Rattle.std.proofs.Common.{None, Some, refl, sym, ap, subst, ◌∙◌, arith, add-zero, length, map, slice_get, slice_set}
 use Rattle.std.proofs.Common.{option_map}
@@ -14,7 +14,7 @@ use Rattle.sysv_keys.specs.Unused.{UnusedSlots}
 use Rattle.sysv_queue.specs.Tally.{Tallied}
 use Rattle.sysv_objects.specs.LegalOp.{IsLegalOp, AreLegal}
 use Rattle.sysv_objects.specs.Objects.{Objects}
-use Rattle.sysv_objects.specs.StandsFor.{StandsFor as ObjectsStandFor}
+use Rattle.sysv_objects.specs.Represents.{Represents as ObjectsStandFor}
 use Rattle.sysv_steps.specs.State.{Phase, Wait, Ending, State, Goes, Waits, Over}
 use Rattle.sysv_steps.specs.Resume.{awaited, resume}
 use Rattle.sysv_steps.specs.Begin.{begin}
@@ -64,7 +64,7 @@ stands_on : {S W : Type 0} (phase : S → Phase) (wait : W → Wait) (k : Standi
 stands_on phase wait (standing.At step) ending e = cc
 stands_on phase wait (standing.Waits w) ending e = cc
 
--- A call under way is not over.
+-- A call pending is not over.
 never_over : (ending : Ending) (d : DoingKept) → Over ending ≡ doing_state d → ⊥
 never_over ending (doing.Get at) e = stands_on _ _ at ending e
 never_over ending (doing.Send sent) e = stands_on _ _ sent.at ending e

@@ -48,7 +48,7 @@ use Rattle.sysv_core.proofs.Histories.{preset_pool, released_more}
 use Rattle.sysv_core.proofs.SoundStays.{moved, other, does, none_busy}
 use Rattle.sysv_core.proofs.TurnInHistory.{slot_around}
 use Rattle.sysv_core.proofs.Told.{told, told_is}
-use Rattle.sysv_core.proofs.Life.{either, not_both, one_id, IsLegalAtSlot, legal_at_slot}
+use Rattle.sysv_core.proofs.Lifetime.{either, not_both, one_id, IsLegalAtSlot, legal_at_slot}
 use Rattle.sysv_core.proofs.WaitsForBlocks.{read_by, IsRight, AreRight, IsShort, AllRight, Comes, followed}
 use Rattle.sysv_core.proofs.WaitsForBlocks.{move_right}
 use Rattle.sysv_core.proofs.Moves.{Move, stood, began, turned, awoke, preset_made}
@@ -190,7 +190,7 @@ gives_now : (id : ℤ) (actors : List (Option Doing)) (place : ℕ) (was : Optio
 gives_now id actors place was call state there p = record {
   place = place;
   doing = record { call = call; state = state };
-  there = get_set_same actors place (doing_in call state) was there ∙ ap (λ x. Some x) (under_way state p);
+  there = get_set_same actors place (doing_in call state) was there ∙ ap (λ x. Some x) (pending state p);
   gives = p;
 }
   where
@@ -198,11 +198,11 @@ gives_now id actors place was call state there p = record {
     never (MsgctlSet at to) ending q = q
     never asked ending q = q
 
-    under_way : (st : State) → HasToGiveBack call.asked st id →
+    pending : (st : State) → HasToGiveBack call.asked st id →
         doing_in call st ≡ Some record { call = call; state = st }
-    under_way (Goes phase) q = refl
-    under_way (Waits wait) q = refl
-    under_way (Over ending) q = absurd (never call.asked ending q)
+    pending (Goes phase) q = refl
+    pending (Waits wait) q = refl
+    pending (Over ending) q = absurd (never call.asked ending q)
 
 -- ---- why a send that reserves may wait
 

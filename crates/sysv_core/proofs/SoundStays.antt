@@ -1,4 +1,4 @@
--- Each happening in a sound world leaves a sound world.
+-- Each transition in a sound world leaves a sound world.
 use Rattle.std.proofs.Common.{◌≡◌, ◌⊎◌, inl, inr, ℕ, zero, suc, ℤ, pos, ◌&&◌, Bool, true, false, cond, ◌+◌, List, []}
 use Rattle.std.proofs.Common.{◌∷◌, ◌++◌, Option, None, Some, refl, sym, ap, subst, ◌∙◌, slice_get, slice_set, replicate}
 use Rattle.std.proofs.Math.Dec.{eqb}
@@ -38,7 +38,7 @@ use Rattle.sysv_core.specs.Sound.{IsToCaller, AreOwn, IsMadeIn, IsSound, StaysSo
 use Rattle.sysv_core.proofs.Lists.{get_set_same, get_set_other, same_place}
 use Rattle.sysv_core.proofs.Histories.{turn_of, slot_more, registry_more, live_by, live_turn}
 use Rattle.sysv_core.proofs.Told.{told, told_is}
-use Rattle.sysv_core.proofs.Life.{installing, job_at, begun_none, resumed_none, or_left, or_right, same_int}
+use Rattle.sysv_core.proofs.Lifetime.{installing, job_at, begun_none, resumed_none, or_left, or_right, same_int}
 use Rattle.sysv_core.proofs.BlocksConserved.{BlockLaws, turn_conserves, stands_conserves, resumed_holds, begun_holds}
 use Rattle.sysv_core.proofs.BlocksConserved.{preset_conserves, opening_conserves}
 use Rattle.sysv_core.proofs.Moves.{Move, stood, began, turned, awoke, preset_made, moves}

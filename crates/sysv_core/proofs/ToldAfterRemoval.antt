@@ -26,11 +26,11 @@ use Rattle.sysv_steps.specs.AsksFor.{AsksFor, AllAskFor}
 use Rattle.sysv_steps.specs.Answers.{is_at_slot, found_gone, some}
 use Rattle.sysv_steps.specs.AfterRemoval.{SendsOrReceives, IsToldOfRemoval, EachIsToldOfRemoval}
 use Rattle.sysv_core.specs.World.{World, Invocation, Response, begun}
-use Rattle.sysv_core.specs.AnswerLaw.{endings_of, ended, Fate}
+use Rattle.sysv_core.specs.AnswerLaw.{endings_of, ended, Outcome}
 use Rattle.sysv_core.specs.Removed.{AreRemovedForGood}
 use Rattle.sysv_core.specs.LastWords.{IsOfQueue, IsRemoval, IsToldSo}
 use Rattle.sysv_core.proofs.Histories.{turn_of}
-use Rattle.sysv_core.proofs.Life.{Passes, passing, or_left}
+use Rattle.sysv_core.proofs.Lifetime.{Passes, passing, or_left}
 use Rattle.sysv_core.proofs.TurnInHistory.{made_at, slot_around}
 
 -- ---- lists
@@ -112,7 +112,7 @@ is_gone : (op : Op) → found_gone op ≡ true → (slot : ℕ) × (call : Call)
 is_gone (AtSlot slot call Gone) e = (slot, call, refl)
 is_gone op e = absurd cc
 
-module _ (w : World) (responses : List Response) (call : Invocation) (fate : Fate w responses call)
+module _ (w : World) (responses : List Response) (call : Invocation) (outcome : Outcome w responses call)
     (told : EachIsToldOfRemoval)
     (all : AllAskFor call.cred call.asked (ops_of call.who w.turns)) (good : AreRemovedForGood w.turns)
     (id : ℤ) (before after : List Turn) (t : Turn) (whole : w.turns ≡ before ++ t ∷ after)
@@ -217,8 +217,8 @@ module _ (w : World) (responses : List Response) (call : Invocation) (fate : Fat
     all_endings : (why : Errno) →
         ((ending : Ending) → Plays (begun call) (ops_of call.who w.turns) (Over ending) → ending ≡ Refused why) →
         All (λ (ending : Ending). ending ≡ Refused why) (endings_of call.who responses)
-    all_endings why f = subst (All (λ (ending : Ending). ending ≡ Refused why)) (sym fate.answered)
-        (each_ending why f fate.state fate.plays)
+    all_endings why f = subst (All (λ (ending : Ending). ending ≡ Refused why)) (sym outcome.answered)
+        (each_ending why f outcome.state outcome.plays)
 
     was_there : some is_at_slot earlier →
         All (λ (ending : Ending). ending ≡ Refused EIDRM) (endings_of call.who responses)

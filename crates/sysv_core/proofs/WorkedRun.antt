@@ -1,4 +1,4 @@
--- The worked run, with one lemma for each of its happenings, and the replies that are not legal at
+-- The worked run, with one lemma for each of its transitions, and the replies that are not legal at
 -- its turns.
 use Rattle.std.proofs.Common.{◌≡◌, ℕ, ℤ, pos, zero, suc, ◌+◌, ◌<◌, ◌≤◌, ◌||◌, inl, inr, true, false, List, [], ◌∷◌}
 use Rattle.std.proofs.Common.{◌++◌, length, None, Some, refl, sym, ap, ◌∙◌, arith, slice_get, take, replicate, nat_lt}
@@ -16,10 +16,10 @@ use Rattle.sysv_queue.specs.LegalReply.{IsLegalReply}
 use Rattle.sysv_steps.specs.State.{Phase, AtLook, AtReserve, AtPlace, AtTake, AtReceiveGiveback, Zero, Got, Refused}
 use Rattle.sysv_steps.specs.State.{Goes, Over}
 use Rattle.sysv_steps.specs.Begin.{is_refused}
-use Rattle.sysv_core.specs.World.{World, Invocation, Response, Happening, Preset, opening, with_actor, Makes}
+use Rattle.sysv_core.specs.World.{World, Invocation, Response, Transition, Preset, opening, with_actor, Makes}
 use Rattle.sysv_core.specs.Run.{Leads}
 use Rattle.sysv_core.specs.WorkedRun.{sender, receiver, hello, receive_up_to_100, send_hello, send_nothing, one_starts}
-use Rattle.sysv_core.specs.WorkedRun.{two_starts, steps, the_happenings, send_typeless, one_calls, two_calls, the_calls}
+use Rattle.sysv_core.specs.WorkedRun.{two_starts, steps, the_transitions, send_typeless, one_calls, two_calls, the_calls}
 use Rattle.sysv_core.specs.WorkedRun.{the_answers, the_turns, of_16, one_ends, two_ends, last_ends, hello_message}
 use Rattle.sysv_core.specs.WorkedRun.{empty_message, take_by, look_for, place_hello, place_nothing, WorkedRun}
 use Rattle.sysv_core.specs.WorkedRun.{after_turns, NoWrongReply, start_of, ExactFit}
@@ -108,13 +108,13 @@ abbrev take_of : Cred → Phase
 take_of cred =
     AtTake record { cred = cred; id = pos 0; selector = Any; size = 100; noerror = false; nowait = true; seen = false }
 
--- ---- the happenings
+-- ---- the transitions
 
 -- As records, so that what they are about is inferred from them.
-record Went (w : World) (x : Happening) (one : List Response) (mid : World) : Type 0 where
+record Went (w : World) (x : Transition) (one : List Response) (mid : World) : Type 0 where
   pub goes : Makes w x one mid
 
-record Led (w : World) (xs : List Happening) (responses : List Response) (after : World) : Type 0 where
+record Led (w : World) (xs : List Transition) (responses : List Response) (after : World) : Type 0 where
   pub leads : Leads w xs responses after
 
 goes_preset : Went (opening of_16) Preset [] (idle_at 1 0 0)
@@ -264,7 +264,7 @@ goes_typeless = record { goes = inr (omega arith, (refl, refl)) }
 
 -- ---- the run
 
-on : {w mid after : World} {x : Happening} {xs : List Happening} {one rest : List Response} → Went w x one mid →
+on : {w mid after : World} {x : Transition} {xs : List Transition} {one rest : List Response} → Went w x one mid →
     Led mid xs rest after → Led w (x ∷ xs) (one ++ rest) after
 on {w} {mid} {after} {x} {xs} {one} {rest} went led = record { leads = (mid, one, rest, went.goes, led.leads, refl) }
 
@@ -282,7 +282,7 @@ receives_then = on begins_second_take
 
 pub worked_run : WorkedRun
 worked_run =
-    let all : Led (opening of_16) the_happenings the_answers (idle_at 13 7 19) =
+    let all : Led (opening of_16) the_transitions the_answers (idle_at 13 7 19) =
     on goes_preset (on begins_none (on goes_none
     (on begins_hello (on goes_look (on goes_reserve (on goes_place
     (on begins_nothing (on goes_second_look (on goes_second_reserve (on goes_second_place

@@ -22,7 +22,7 @@ use Rattle.sysv_queue.specs.LegalReply.{IsLegalReply}
 use Rattle.sysv_steps.specs.Call.{SystemCall, Msgsnd, Msgrcv}
 use Rattle.sysv_steps.specs.State.{Ending, Zero, Got, Refused}
 use Rattle.sysv_steps.specs.Begin.{is_refused}
-use Rattle.sysv_core.specs.World.{World, Opening, Invocation, Response, Happening, Preset, Start, Step, opening}
+use Rattle.sysv_core.specs.World.{World, Opening, Invocation, Response, Transition, Preset, Start, Step, opening}
 use Rattle.sysv_core.specs.World.{preset_cred}
 use Rattle.sysv_core.specs.World.{preset_flags, with_preset_turns}
 use Rattle.sysv_core.specs.Run.{Leads}
@@ -54,17 +54,17 @@ send_typeless = Msgsnd (pos 0) (pos 0) nowait hello
 
 -- What happens: each call has its start and its steps. A receive has one step, or two if it takes a
 -- message; a send has three.
-abbrev pub one_starts : SystemCall → Happening
+abbrev pub one_starts : SystemCall → Transition
 one_starts call = Start 1 sender call
 
-abbrev pub two_starts : SystemCall → Happening
+abbrev pub two_starts : SystemCall → Transition
 two_starts call = Start 2 receiver call
 
-abbrev pub steps : ℕ → Happening
+abbrev pub steps : ℕ → Transition
 steps actor = Step actor 0
 
-abbrev pub the_happenings : List Happening
-the_happenings =
+abbrev pub the_transitions : List Transition
+the_transitions =
     Preset
     ∷ one_starts receive_up_to_100 ∷ steps 1
     ∷ one_starts send_hello ∷ steps 1 ∷ steps 1 ∷ steps 1
@@ -185,11 +185,11 @@ the_turns = with_preset_turns [] ++ the_later_turns
 abbrev pub of_16 : Opening
 of_16 = record { actors = 16; blocks = 128; first = 0; generation = 0 }
 
--- The happenings lead from the opening world to a world with these calls and turns, with these
+-- The transitions lead from the opening world to a world with these calls and turns, with these
 -- endings.
 abbrev pub WorkedRun : Type 0
 WorkedRun =
-    (w : World) × Leads (opening of_16) the_happenings the_answers w × (w.calls ≡ the_calls) × (w.turns ≡ the_turns)
+    (w : World) × Leads (opening of_16) the_transitions the_answers w × (w.calls ≡ the_calls) × (w.turns ≡ the_turns)
 
 -- The slot's history after this number of turns of the run at the slot.
 abbrev pub after_turns : ℕ → History

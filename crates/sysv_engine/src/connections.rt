@@ -7,10 +7,10 @@ ghost use Rattle.sysv_engine.specs.Added.{IsBalanced};
 ghost use Rattle.sysv_engine.specs.Headline.{ServesConnections};
 ghost use Rattle.sysv_engine.specs.Serving.{FaultOf, HasLived, HiredFrom, LeavesConnections, WorkedFrom};
 
-use crate::crew::{dismiss, hire};
+use crate::team::{dismiss, hire};
 use crate::dealing::{Dealing, shares};
 use crate::fault::ServeFault;
-use crate::laws::each_life_is_one_run;
+use crate::laws::each_lifetime_is_one_run;
 use crate::rounds::Serving;
 use crate::server_state::ServerState;
 use crate::staff::{discard, gather, kits, staff};
@@ -123,7 +123,7 @@ where
     );
     let removed = service.stop(rt, &mut pass);
     let closed = service.close(pass);
-    each_life_is_one_run();
+    each_lifetime_is_one_run();
     match outcome {
         Ok((sums, refused)) => Ok(Ended {
             sums,

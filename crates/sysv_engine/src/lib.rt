@@ -11,10 +11,10 @@
 #![tactic(auto)]
 
 mod arrivals;
-mod bell;
+mod doorbell;
 mod connections;
 mod counts;
-mod crew;
+mod team;
 mod dealing;
 mod fault;
 mod laws;
@@ -36,7 +36,7 @@ pub use arrivals::Arrivals;
 pub use connections::{serve_all, serve_connections};
 pub use counts::{Counted, SlotCounts};
 pub use fault::ServeFault;
-pub use laws::{each_life_is_one_run, each_session_makes_calls};
+pub use laws::{each_lifetime_is_one_run, each_session_makes_calls};
 pub use moment::Moment;
 pub use rows::Rows;
 pub use seeing::serve_arrivals;

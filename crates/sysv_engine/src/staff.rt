@@ -3,7 +3,7 @@ ghost use Rattle.std.specs.Prelude.{◌≡◌, ◌≤◌, ◌+◌, ◌++◌, rev
 ghost use Rattle.std.specs.List.{All, flat_map, sum_by};
 ghost use Rattle.sysv_engine.specs.Places.{KeepsAll};
 
-use crate::crew::vacate;
+use crate::team::vacate;
 use crate::place::Place;
 use crate::watch::Watch;
 use crate::worker::{Kit, Worker};

@@ -5,13 +5,13 @@ ghost use Rattle.sysv_engine.specs.Places.{AdoptsOne, IsVacantAt, KeepsAll};
 use crate::moment::Moment;
 use crate::parked_calls::{Key, Lines};
 use crate::place::Place;
-use crate::server_state::Letter;
+use crate::server_state::Envelope;
 use crate::terms::Patience;
 use crate::watch::{Ready, Watch};
 use std::alloc::Global;
 use std::collections::VecDeque;
 use std::sync::Wait;
-use sysv_seats::{News, NonBlocking, Tools};
+use sysv_seats::{Notification, NonBlocking, Tools};
 use sysv_session::Served;
 
 /// Of this number of letters about room, one goes to another worker first.
@@ -36,7 +36,7 @@ pub(crate) struct Worker<'a, R: Wait, T: NonBlocking, W> {
     /// The places that have more to do.
     pub(crate) turns: VecDeque<usize>,
     /// What calls may have changed, and was not looked at yet.
-    pub(crate) letters: VecDeque<Letter>,
+    pub(crate) envelopes: VecDeque<Envelope>,
     pub(crate) tools: Tools,
     /// The number of connections for which the worker has left its clients.
     pub(crate) answered: u64,
@@ -54,7 +54,7 @@ pub(crate) struct Kit<'a, R: Wait, T: NonBlocking, W> {
     ready: Vec<Ready>,
     lines: Lines,
     turns: VecDeque<usize>,
-    letters: VecDeque<Letter>,
+    envelopes: VecDeque<Envelope>,
     tools: Tools,
     watch: W,
 }
@@ -78,7 +78,7 @@ impl<'a, R: Wait, T: NonBlocking, W: Drop> Kit<'a, R, T, W> {
             ready,
             lines,
             turns,
-            letters: VecDeque::new(alloc),
+            envelopes: VecDeque::new(alloc),
             tools,
             watch,
         })
@@ -96,7 +96,7 @@ impl<R: Wait, T: NonBlocking, W: Drop> Kit<'_, R, T, W> {
             ready: _,
             lines: _,
             turns: _,
-            letters: _,
+            envelopes: _,
             tools: _,
             watch: _,
         } = self;
@@ -123,7 +123,7 @@ impl<'a, R: Wait, T: NonBlocking, W: Watch<T>> Worker<'a, R, T, W> {
             ready,
             lines,
             turns,
-            letters,
+            envelopes,
             tools,
             watch,
         } = kit;
@@ -136,7 +136,7 @@ impl<'a, R: Wait, T: NonBlocking, W: Watch<T>> Worker<'a, R, T, W> {
             ready,
             lines,
             turns,
-            letters,
+            envelopes,
             tools,
             answered: 0,
             check: None,
@@ -159,7 +159,7 @@ impl<'a, R: Wait, T: NonBlocking, W: Watch<T>> Worker<'a, R, T, W> {
             ready: _,
             lines: _,
             turns: _,
-            letters: _,
+            envelopes: _,
             tools,
             answered: _,
             check: _,
@@ -171,19 +171,19 @@ impl<'a, R: Wait, T: NonBlocking, W: Watch<T>> Worker<'a, R, T, W> {
 
     /// Counts a letter that this worker writes. Returns whose turn it is to look first, counted on
     /// from turn to turn, or `None` for its own.
-    pub(crate) fn next_first(&mut self, news: &News) -> Option<usize>
+    pub(crate) fn next_first(&mut self, notification: &Notification) -> Option<usize>
         ensures { self.new.places ≡ self.old.places }
     {
-        match news {
-            News::Freed { .. } | News::Released => {
+        match notification {
+            Notification::Freed { .. } | Notification::Released => {
                 self.rooms = self.rooms.wrapping_add(1);
                 turn(self.rooms, SHARE_OF_ROOM)
             }
-            News::Arrived { .. } => {
+            Notification::Arrived { .. } => {
                 self.messages = self.messages.wrapping_add(1);
                 turn(self.messages, SHARE_OF_MESSAGES)
             }
-            News::Changed { .. } => None,
+            Notification::Changed { .. } => None,
         }
     }
 
@@ -204,7 +204,7 @@ impl<'a, R: Wait, T: NonBlocking, W: Watch<T>> Worker<'a, R, T, W> {
         }
     }
 
-    /// Gives a vacant place to the client of a connection, and has its connection watched.
+    /// Gives a vacant place to the client of a connection, and has its connection instrumented.
     #[tactic(auto, using(crate::proofs::PlaceLists::adopts_at))]
     pub(crate) fn adopt(&mut self, place: usize, alloc: Global, connection: T)
         requires { IsVacantAt place self.old.places.items }

@@ -15,7 +15,7 @@ mod laws;
 mod limits;
 mod no_memory;
 mod selector;
-mod watched;
+mod instrumented;
 
 pub use attributes::{Attributes, Perm, Row, SetTo, Stat};
 pub use body::Body;
@@ -29,4 +29,4 @@ pub use limits::{
 };
 pub use no_memory::NoMemory;
 pub use selector::Selector;
-pub use watched::{Watched, WriteFault};
+pub use instrumented::{Instrumented, WriteFault};

@@ -3,7 +3,7 @@
 ghost use Rattle.std.specs.Prelude.{◌≡◌, ◌+◌, ◌-◌, ◌^◌, ◌<◌, ◌≤◌, ◌⊎◌, ◌↔◌, [], IfOk, IfSome, Err, MatchOption, MatchResult};
 ghost use Rattle.sysv_model.specs.declared.limits.TheConstants.{MESSAGE_BYTES as most_bytes, MIN_BLOCKS as least_blocks, MAX_BLOCKS as most_blocks};
 ghost use Rattle.sysv_model.specs.Pool.{blocks_for, Reserve, Release};
-ghost use Rattle.sysv_pool.specs.StandsFor.{StandsFor, MakesTurn};
+ghost use Rattle.sysv_pool.specs.Represents.{Represents, MakesTurn};
 ghost use Rattle.sysv_pool.specs.Replies.{reserve_reply, release_reply};
 
 use crate::chain::Chain;
@@ -56,7 +56,7 @@ impl Pool {
     /// - `BadSize` if `blocks` is not in this range.
     /// - `NoMemory` if allocation fails.
     pub fn open(alloc: Global, blocks: u32) -> Result<Pool, PoolRefused>
-        ensures opened { IfOk result (λ pool. (pool.size ≡ blocks) × StandsFor [] pool) }
+        ensures opened { IfOk result (λ pool. (pool.size ≡ blocks) × Represents [] pool) }
         ensures bad_size { (result ≡ Err PoolRefused.BadSize)
             ↔ ((blocks < least_blocks) ⊎ (most_blocks < blocks)) }
     {

@@ -325,12 +325,12 @@ impl<H: Host> Acceptor<'_, '_, H> {
         arrived
     }
 
-    /// Waits until the input, the listener or the bell can be read, or something happens at the
-    /// desk, for at most `limit` milliseconds, and hushes the bell.
+    /// Waits until the input, the listener or the doorbell can be read, or something happens at the
+    /// desk, for at most `limit` milliseconds, and hushes the doorbell.
     fn arrived(&self, input: i32, listener: i32, desk: &Desk, limit: i32) -> Arrived {
         let server = self.view.server;
-        let [input, listener, bell] = [input, listener, server.bell()].map(readable);
-        let mut asked = [input, listener, bell, desk.asking()];
+        let [input, listener, doorbell] = [input, listener, server.doorbell()].map(readable);
+        let mut asked = [input, listener, doorbell, desk.asking()];
         let any = poll(&mut asked, limit) > 0;
         if any && asked[2].revents != 0 {
             server.hush();

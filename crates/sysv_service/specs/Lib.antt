@@ -31,7 +31,7 @@ pub mod Stopped
 pub mod Closing
 pub mod RightAnswers
 pub mod Delivered
-pub mod UnderWay
+pub mod Pending
 pub mod Pieces
 pub mod Retried
 pub mod Marks

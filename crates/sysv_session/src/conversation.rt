@@ -1,6 +1,6 @@
 //! A session whose replies are gathered.
 ghost use Rattle.std.specs.Prelude.{◌≡◌, ◌≤◌, ◌<◌, ◌+◌, ◌-◌, ◌^◌, ◌==◌, [], None, false, length, IfErr, OnErr, OnOk};
-ghost use Rattle.sysv_model.specs.Watched.{stream_of, KeepsStream};
+ghost use Rattle.sysv_model.specs.Instrumented.{stream_of, KeepsStream};
 ghost use Rattle.sysv_model.specs.declared.limits.TheConstants.{MESSAGE_BYTES};
 ghost use Rattle.sysv_queue.specs.Tally.{taken_in};
 ghost use Rattle.sysv_session.specs.Answers.{HasAnswer};
@@ -18,10 +18,10 @@ use crate::turn::hello_reply;
 use std::alloc::{AllocFailed, Global};
 use std::io::Read;
 use std::marker::Model;
-use sysv_model::{Body, NoMemory, Watched};
+use sysv_model::{Body, NoMemory, Instrumented};
 use sysv_wire::Version;
 
-/// A session under way, and the replies that its connection has not taken yet.
+/// A session pending, and the replies that its connection has not taken yet.
 ///
 /// It takes up requests from what has arrived of the input. Give `unsent` to the connection, and
 /// report with `sent` how many bytes it took.
@@ -33,9 +33,9 @@ pub struct Conversation {
 }
 
 impl Model for Conversation {
-    ghost use Rattle.sysv_session.specs.Conversation.{Talk};
+    ghost use Rattle.sysv_session.specs.Conversation.{Dialogue};
 
-    ghost Value = { Talk };
+    ghost Value = { Dialogue };
 
     ghost view = { λ c. record { session = c.session; unsent = c.outbox } };
 }
@@ -62,7 +62,7 @@ impl Conversation {
     /// Those of `Session::take_up`. The conversation is unchanged.
     pub fn take_up<R: Read>(
         &mut self,
-        reader: &mut Watched<'_, R>,
+        reader: &mut Instrumented<'_, R>,
         text: &mut Body,
     ) -> Result<TakenUp, End>
         ensures takes { TakesUp self.old.session self.new.session result

@@ -5,13 +5,13 @@ ghost use Rattle.sysv_queue.specs.Tally.{taken_in};
 ghost use Rattle.sysv_session.specs.Answers.{message_reply as the_reply};
 ghost use Rattle.sysv_session.specs.Layout.{IsAscending, begins_passed as is_begun, unspent};
 ghost use Rattle.sysv_session.specs.Outbox.{at_end, more_lost, more_written, nearer, passed, with_frame, with_message, without};
-ghost use Rattle.sysv_wire.specs.Replies.{IsAnswer, reply_spelling};
+ghost use Rattle.sysv_wire.specs.Replies.{IsAnswer, reply_encoding};
 
 use crate::turn::message_reply;
 use std::alloc::{AllocFailed, Global};
 use std::collections::VecDeque;
 use std::marker::Model;
-use sysv_model::{Body, NoMemory, Watched};
+use sysv_model::{Body, NoMemory, Instrumented};
 use sysv_queue::{Delivery, Tally};
 use sysv_wire::{Reply, Version, WriteFault, write_reply};
 
@@ -101,7 +101,7 @@ impl Outbox {
         requires answer { IsAnswer reply.now.version reply.now.op reply.now.result }
         requires text { length text.now ≤ MESSAGE_BYTES }
         ensures ok { OnOk result
-            (self.new ≡ with_frame (reply_spelling reply.now text.now) self.old) }
+            (self.new ≡ with_frame (reply_encoding reply.now text.now) self.old) }
         ensures err { OnErr result (self.new ≡ self.old) }
     {
         append(&mut self.bytes, reply, text)
@@ -124,7 +124,7 @@ impl Outbox {
         given: &Body,
     ) -> Result<(), AllocFailed<Delivery>>
         requires text { length given.now ≤ MESSAGE_BYTES }
-        ensures ok { OnOk result (self.new ≡ with_message (reply_spelling
+        ensures ok { OnOk result (self.new ≡ with_message (reply_encoding
             (the_reply version delivery.mtype) given.now) delivery self.old) }
         ensures err { OnErr result (self.new ≡ self.old) }
         ensures returned { IfErr result (λ failed. failed.value ≡ delivery) }
@@ -288,11 +288,11 @@ fn append(bytes: &mut Vec<u8>, reply: &Reply, text: &Body) -> Result<(), NoMemor
     requires answer { IsAnswer reply.now.version reply.now.op reply.now.result }
     requires text { length text.now ≤ MESSAGE_BYTES }
     ensures ok { OnOk result
-        (bytes.new.items ≡ bytes.old.items ++ reply_spelling reply.now text.now) }
+        (bytes.new.items ≡ bytes.old.items ++ reply_encoding reply.now text.now) }
     ensures err { OnErr result (bytes.new.items ≡ bytes.old.items) }
 {
     let before = bytes.len();
-    match write_reply(&mut Watched::new(bytes), reply, text) {
+    match write_reply(&mut Instrumented::new(bytes), reply, text) {
         Ok(()) => Ok(()),
         Err(WriteFault) => {
             bytes.truncate(before);

@@ -9,7 +9,7 @@ use Rattle.sysv_model.specs.Turn.{Op, asked_by, Turn, is_same, ops_of}
 use Rattle.sysv_steps.specs.State.{Phase, State, Goes, Waits}
 use Rattle.sysv_steps.specs.Asks.{asks}
 use Rattle.sysv_steps.specs.Played.{Plays, begins, steps, resumes}
-use Rattle.sysv_core.proofs.Life.{one_of}
+use Rattle.sysv_core.proofs.Lifetime.{one_of}
 
 -- ---- lists
 

@@ -10,7 +10,7 @@ use Rattle.sysv_service.specs.Seats.{Gates, AreOf}
 use Rattle.sysv_service.specs.declared.closing.Closed.{Closed}
 use Rattle.sysv_service.specs.Closing.{IsCounted}
 use Rattle.sysv_thread_laws.specs.Hiring.{first_pass, Hires, all_of}
-use Rattle.sysv_thread_laws.specs.Life.{Lives}
+use Rattle.sysv_thread_laws.specs.Lifetime.{Lives}
 use Rattle.sysv_service.specs.Ran.{Pass}
 use Rattle.sysv_service.specs.TurnsLeft.{EachGateHasTurnsLeft}
 use Rattle.sysv_thread_laws.specs.Working.{Works}

@@ -2,7 +2,7 @@
 //! items that it takes, with a state of its own.
 #![tactic(auto)]
 
-mod crew;
+mod team;
 mod feed;
 mod job;
 mod laws;

@@ -3,12 +3,12 @@ ghost use Rattle.std.specs.Prelude.{◌≡◌, ◌+◌, ◌-◌, ◌^◌, ◌<�
 ghost use Rattle.std.specs.List.{All};
 ghost use Rattle.std.specs.Mem.{manually_drop_value};
 ghost use Rattle.std.specs.Thread.{IsSync};
-ghost use Rattle.sysv_workers.specs.Crews.{AreOn, CanStart, HasDone};
+ghost use Rattle.sysv_workers.specs.Teams.{AreOn, CanStart, HasDone};
 ghost use Rattle.sysv_workers.specs.Causes.{Told, HasCause, FailsBy};
 ghost use Rattle.sysv_workers.specs.Running.{RunsAll, GivesBack, GivesUp, LeavesSource, Ends, Fails};
 ghost use Rattle.sysv_workers.specs.declared.workers.TheConstants.{MAX_WORKERS};
 
-use crate::crew::{Handle, Tally, collect, join_all, start_all};
+use crate::team::{Handle, Tally, collect, join_all, start_all};
 use crate::feed::{Feed, WEAR, put_all, put_marks};
 use crate::job::Job;
 use crate::refusals::{WorkersFault, WorkersRefused};

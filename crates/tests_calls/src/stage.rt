@@ -1,7 +1,7 @@
 //! A stage on which lines run.
 
 use std::alloc::Global;
-use sysv_model::{NoMemory, Watched};
+use sysv_model::{NoMemory, Instrumented};
 use sysv_script::{Output, Stage, line_of};
 use tests_kit::mark;
 
@@ -50,7 +50,7 @@ fn a_message_goes_through_the_stage(rt: HostRuntime) {
     }
     assert_eq!(rt; understood, Ok(true));
     assert_eq!(rt; late, Ok(false));
-    let mut writer = Watched::new(&mut written);
+    let mut writer = Instrumented::new(&mut written);
     assert!(rt; output.write_to(&mut writer).is_ok());
     assert!(rt; written.as_slice() == b"1 snd = 0\n2 rcv = 5 type 5 =hello\n".as_slice());
 }

@@ -1,4 +1,4 @@
-//! Tests of the words of all calls, of the rules, of watched streams, of frames and of clients.
+//! Tests of the words of all calls, of the rules, of instrumented streams, of frames and of clients.
 #![tactic(auto)]
 
 #[cfg(test)]
@@ -12,6 +12,6 @@ mod parts;
 #[cfg(test)]
 mod rules;
 #[cfg(test)]
-mod watched;
+mod instrumented;
 #[cfg(test)]
 mod wire;

@@ -2,7 +2,7 @@
 
 mod ask;
 mod board;
-mod crew;
+mod team;
 mod crowd;
 mod example;
 mod one_pass;

@@ -1,6 +1,6 @@
 //! The figures.
 use crate::figures::{show, show_ratio};
-use crate::service::crew::run;
+use crate::service::team::run;
 use crate::service::pairs::Pairs;
 use crate::service::part::Part;
 use crate::service::rounds::Player;

@@ -8,7 +8,7 @@ use super::{
 use std::alloc::Global;
 use std::process::Abort;
 use std::sync::Wait;
-use sysv_model::Watched;
+use sysv_model::Instrumented;
 use sysv_seats::{ServiceHandler, ZERO, Zero};
 use sysv_session::{End, Served, Texts};
 use sysv_wire::Fault;
@@ -34,9 +34,9 @@ fn serve<R: Abort + Wait>(
     handler.serve(alloc, reader, page)
 }
 
-/// Runs the session by `serve_watched`, and asserts that each stream has failed if and only if the
+/// Runs the session by `serve_instrumented`, and asserts that each stream has failed if and only if the
 /// end says so.
-fn serve_watched<R: Abort + Wait>(
+fn serve_instrumented<R: Abort + Wait>(
     rt: &R,
     alloc: Global,
     reader: &mut Pieces<'_>,
@@ -49,9 +49,9 @@ fn serve_watched<R: Abort + Wait>(
         Ok(texts) => texts,
         Err(_) => Texts::open(alloc).expect(rt, "a second try"),
     };
-    let mut reader = Watched::new(reader);
-    let mut page = Watched::new(page);
-    let told = handler.serve_watched(&mut texts, &mut reader, &mut page);
+    let mut reader = Instrumented::new(reader);
+    let mut page = Instrumented::new(page);
+    let told = handler.serve_instrumented(&mut texts, &mut reader, &mut page);
     let failures = (reader.failures(), page.failures());
     let wanted = match told.end {
         End::Fault(Fault::Read) => (1, 0),
@@ -62,12 +62,12 @@ fn serve_watched<R: Abort + Wait>(
     told
 }
 
-/// Serves the session on a new service, by `serve_watched` or else by `serve`, and asserts what it
+/// Serves the session on a new service, by `serve_instrumented` or else by `serve`, and asserts what it
 /// did and left.
 fn assert_served<R: Abort + Wait>(
     rt: &R,
     alloc: Global,
-    is_watched: bool,
+    is_instrumented: bool,
     mut reader: Pieces<'_>,
     mut page: Page,
     wanted: &Wanted<'_>,
@@ -75,8 +75,8 @@ fn assert_served<R: Abort + Wait>(
 ) {
     let (service, pass) = opened(rt, alloc);
     let mut handler = ServiceHandler::new(rt, &service, &ZERO, pass);
-    let told = if is_watched {
-        serve_watched(rt, alloc, &mut reader, &mut page, &mut handler)
+    let told = if is_instrumented {
+        serve_instrumented(rt, alloc, &mut reader, &mut page, &mut handler)
     } else {
         serve(rt, alloc, &mut reader, &mut page, &mut handler)
     };
@@ -91,9 +91,9 @@ const WAYS: [bool; 2] = [false, true];
 #[test]
 fn the_session_cut_after_each_byte(rt: HostRuntime) {
     for cut in 0..SESSION.len() + 1 {
-        for watched in WAYS {
+        for instrumented in WAYS {
             let reader = Pieces::both(&SESSION[..cut], &SESSION[cut..]);
-            assert_served(&rt, rt.alloc(), watched, reader, Page::new(), &WHOLE, cut);
+            assert_served(&rt, rt.alloc(), instrumented, reader, Page::new(), &WHOLE, cut);
         }
     }
 }
@@ -101,10 +101,10 @@ fn the_session_cut_after_each_byte(rt: HostRuntime) {
 #[test]
 fn the_session_by_pieces(rt: HostRuntime) {
     for piece in [1, 2, 3, 7, 64] {
-        for watched in WAYS {
+        for instrumented in WAYS {
             let reader = Pieces::new(SESSION, piece);
             let page = Page::taking(piece, usize::MAX, false);
-            assert_served(&rt, rt.alloc(), watched, reader, page, &WHOLE, piece);
+            assert_served(&rt, rt.alloc(), instrumented, reader, page, &WHOLE, piece);
         }
     }
 }
@@ -118,9 +118,9 @@ fn the_session_ended_after_each_byte(rt: HostRuntime) {
             End::Fault(Fault::Truncated)
         };
         let wanted = wanted_after(whole_requests(cut), end);
-        for watched in WAYS {
+        for instrumented in WAYS {
             let reader = Pieces::new(&SESSION[..cut], usize::MAX);
-            assert_served(&rt, rt.alloc(), watched, reader, Page::new(), &wanted, cut);
+            assert_served(&rt, rt.alloc(), instrumented, reader, Page::new(), &wanted, cut);
         }
     }
 }
@@ -129,10 +129,10 @@ fn the_session_ended_after_each_byte(rt: HostRuntime) {
 fn the_reader_fails_after_each_byte(rt: HostRuntime) {
     for good in 0..SESSION.len() + 1 {
         let wanted = wanted_after(whole_requests(good), End::Fault(Fault::Read));
-        for watched in WAYS {
+        for instrumented in WAYS {
             let mut reader = Pieces::new(SESSION, usize::MAX);
             reader.good = good;
-            assert_served(&rt, rt.alloc(), watched, reader, Page::new(), &wanted, good);
+            assert_served(&rt, rt.alloc(), instrumented, reader, Page::new(), &wanted, good);
         }
     }
 }
@@ -141,11 +141,11 @@ fn the_reader_fails_after_each_byte(rt: HostRuntime) {
 fn the_writer_fails_after_each_byte(rt: HostRuntime) {
     for room in 0..ANSWERS.len() {
         let wanted = wanted_at_failure(room);
-        for watched in WAYS {
+        for instrumented in WAYS {
             for stalls in [false, true] {
                 let reader = Pieces::new(SESSION, usize::MAX);
                 let page = Page::taking(5, room, stalls);
-                assert_served(&rt, rt.alloc(), watched, reader, page, &wanted, room);
+                assert_served(&rt, rt.alloc(), instrumented, reader, page, &wanted, room);
             }
         }
     }
@@ -167,11 +167,11 @@ fn the_writer_cannot_be_flushed(rt: HostRuntime) {
             counts: counts[flushes],
             ..wanted_after(flushes + 1, End::Write)
         };
-        for watched in WAYS {
+        for instrumented in WAYS {
             let reader = Pieces::new(SESSION, usize::MAX);
             let mut page = Page::new();
             page.flushes = flushes;
-            assert_served(&rt, rt.alloc(), watched, reader, page, &wanted, flushes);
+            assert_served(&rt, rt.alloc(), instrumented, reader, page, &wanted, flushes);
         }
     }
 }

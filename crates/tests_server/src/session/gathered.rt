@@ -10,7 +10,7 @@ use super::served::counts_of;
 use super::test_handler::TestHandler;
 use std::alloc::{AllocFailed, Global};
 use std::process::Abort;
-use sysv_model::{Body, Watched};
+use sysv_model::{Body, Instrumented};
 use sysv_queue::{Delivery, Tally};
 use sysv_session::{End, Handler, Outbox, RequestOutcome, Session, TakenUp, hello_reply};
 use sysv_wire::{Ask, Op, Reply, ReplyContent, Request, Version};
@@ -215,7 +215,7 @@ impl Gathering {
     fn step(
         &mut self,
         rt: &impl Abort,
-        reader: &mut Watched<'_, Pieces<'_>>,
+        reader: &mut Instrumented<'_, Pieces<'_>>,
         handler: &mut TestHandler,
     ) -> Result<(), End>
         ensures tally { self.new.session.tally ≡ self.old.session.tally }
@@ -242,7 +242,7 @@ impl Gathering {
 fn a_session_is_taken_up_step_by_step(rt: HostRuntime) {
     let mut handler = TestHandler::open(&rt, rt.alloc());
     let mut pieces = Pieces::new(SESSION, usize::MAX);
-    let mut reader = Watched::new(&mut pieces);
+    let mut reader = Instrumented::new(&mut pieces);
     let mut gathering = Gathering {
         session: Session::open(),
         outbox: Outbox::open(rt.alloc()),

@@ -21,7 +21,7 @@ pub(super) fn ended(rt: &impl Abort, service: Service, pass: Pass, waiting: u64)
 }
 
 /// Serves one session. Tolerates one refusal of memory, after which nothing was read or written.
-fn talked<R: Abort + Wait>(
+fn conversed<R: Abort + Wait>(
     rt: &R,
     alloc: Global,
     reader: &mut Pieces<'_>,
@@ -49,7 +49,7 @@ fn served<R: Abort + Wait>(
 ) -> Served {
     let (service, pass) = opened(rt, alloc, 128, 0);
     let mut handler = ServiceHandler::new(rt, &service, &CLOCK, pass);
-    let told = talked(rt, alloc, reader, page, &mut handler);
+    let told = conversed(rt, alloc, reader, page, &mut handler);
     let pass = handler.into_pass();
     ended(rt, service, pass, waiting);
     told

@@ -2,7 +2,7 @@
 
 use super::ask::{Ask, Told};
 use super::board::{Board, Moment};
-use super::crew::run;
+use super::team::run;
 use super::part::{Part, Turn, add, told_of};
 use crate::parts::closed;
 use std::alloc::Global;

@@ -10,10 +10,10 @@ use std::test::Fail;
 use sysv_gate::{Gate, Seat};
 use tests_kit::mark;
 
-/// The number of calls that follow. It is above the number of bells for turns.
+/// The number of calls that follow. It is above the number of doorbells for turns.
 const CALLS: u64 = 64;
 
-// A thread has slept at each of the bells for counts.
+// A thread has slept at each of the doorbells for counts.
 #[test]
 fn counts(rt: HostRuntime) -> Result<(), Fail> {
     let (gate, mut seat) = opened(&rt, 0).ok_or("no memory")?;

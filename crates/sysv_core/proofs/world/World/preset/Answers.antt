@@ -1,5 +1,5 @@
 use Rattle.std.proofs.Common.{◌≡◌, IsTrue, true, false, sym, ap, subst, ◌∙◌, rules}
-use Rattle.sysv_objects.specs.StandsFor.{StandsFor}
+use Rattle.sysv_objects.specs.Represents.{Represents}
 use Rattle.sysv_core.specs.Seen.{Seen, IsSeenAs}
 use Rattle.sysv_core.specs.Preset.{MakesPreset}
 use Rattle.sysv_core.proofs.SoundStays.{vacant_there}
@@ -9,8 +9,8 @@ use Rattle.sysv_core.proofs.world.World.preset.Goals as goal
 
 pub returns-then-not-is_unused-clause-single : goal.returns-then-not-is_unused-clause-single
 returns-then-not-is_unused-clause-single c = λ w s.
-    let stands : StandsFor w.generation w.turns c.self.inside.objects =
-    subst (λ (v : Seen). StandsFor w.generation w.turns v.objects) (sym c.self.view_is) s.objects in
+    let stands : Represents w.generation w.turns c.self.inside.objects =
+    subst (λ (v : Seen). Represents w.generation w.turns v.objects) (sym c.self.view_is) s.objects in
     let test = c.is_unused.ensures w.generation w.turns stands in
     preset_used w c.args.self.now s c.each_world_is_sound.ensures.stays c.legal_turns.ensures.more
     c.unused_slots.ensures
@@ -22,8 +22,8 @@ returns-then-not-is_unused-clause-stands c = λ o es responses s.
 
 pub returns-clause-single : goal.returns-clause-single
 returns-clause-single c = λ w s.
-    let stands : StandsFor w.generation w.turns c.self.inside.objects =
-    subst (λ (v : Seen). StandsFor w.generation w.turns v.objects) (sym c.self.view_is) s.objects in
+    let stands : Represents w.generation w.turns c.self.inside.objects =
+    subst (λ (v : Seen). Represents w.generation w.turns v.objects) (sym c.self.view_is) s.objects in
     let test = c.is_unused.ensures w.generation w.turns stands in
     let yes : IsTrue c.is_unused.result = search rules in
     let makes = subst (λ (v : Seen). MakesPreset v.objects c.preset_queue.result c.preset_queue.new.objects)
