@@ -21,8 +21,10 @@ use Rattle.sysv_clients.specs.Page.{answer_most, answer_text, answers_text, page
 use Rattle.sysv_clients.specs.Style.{grows, style_of}
 use Rattle.sysv_clients.specs.Run.{Runs, Shows, ConversesThrough}
 use Rattle.sysv_clients.specs.Table.{table_head}
-use Rattle.sysv_clients.specs.Dialogue.{EndsDialogue, Exchange, Exchanges, Follows, IsDone, Conversed, answered_encoding}
-use Rattle.sysv_clients.specs.Dialogue.{AreNext, StandAt, ask_encoding, asked_encoding, asks_encoding, found_in, id_after}
+use Rattle.sysv_clients.specs.Dialogue.{EndsDialogue, Exchange, Exchanges, Follows, IsDone, Conversed}
+use Rattle.sysv_clients.specs.Dialogue.{answered_encoding}
+use Rattle.sysv_clients.specs.Dialogue.{AreNext, StandAt, ask_encoding, asked_encoding, asks_encoding, found_in}
+use Rattle.sysv_clients.specs.Dialogue.{id_after}
 use Rattle.sysv_clients.specs.Dialogue.{next_ask, on_way_most, reply_to, slots_after, slots_in}
 use Rattle.sysv_wire.specs.declared.frame.Version.TheVariants.{Two}
 use Rattle.sysv_wire.specs.declared.reply.ReplyContent.{ReplyContent}

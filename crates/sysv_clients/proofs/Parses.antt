@@ -390,7 +390,8 @@ pub shows_parse : OneAnswerToReplies → OneReply
 shows_parse one encoded command status left rest taken more shown after runs input all ended known makes =
     let converses = runs.converses in
     let reads =
-    subst (λ (l : Option (List ℕ)). Consumes l converses.unread (answered_encoding runs.exchanges)) known converses.reads in
+    subst (λ (l : Option (List ℕ)). Consumes l converses.unread (answered_encoding runs.exchanges)) known
+    converses.reads in
     shown_as_made command runs.exchanges all runs.ended ended status shown after runs.shows
     (made_of one encoded command runs.exchanges all runs.ended ended input converses.unread rest converses.written more
     converses.conversed reads converses.ends makes)

@@ -371,7 +371,8 @@ lists_all command left rest taken more page slot sent slots done list none past 
       conversed = conversing.conversed;
       reads = conversing.reads;
       writes = subst (Appends taken more) (append-nil (asked_encoding command conversing.exchanges))
-          (Appends-trans taken so_far.written more (asked_encoding command conversing.exchanges) [] conversing.writes kept);
+          (Appends-trans taken so_far.written more (asked_encoding command conversing.exchanges) [] conversing.writes
+          kept);
       collects = conversing.collects;
       counts = conversing.counts;
       tells = conversing.tells;

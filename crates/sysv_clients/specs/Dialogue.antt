@@ -184,7 +184,8 @@ LacksLine command exchanges taken more =
 
 -- How a dialogue ends after these exchanges: all requests were made, or the next request ends it, or
 -- memory was refused, either before the first request or for what is shown of the last reply.
-abbrev pub EndsDialogue : Command → List Exchange → Result ⊤ ClientFault → (left rest taken more : Option (List ℕ)) → Type 0
+abbrev pub EndsDialogue : Command → List Exchange → Result ⊤ ClientFault → (left rest taken more : Option (List ℕ)) →
+    Type 0
 EndsDialogue command exchanges (Ok done) left rest taken more =
     (next_ask command exchanges ≡ None) × (rest ≡ left) × (more ≡ taken)
 EndsDialogue command exchanges (Err (fault.Refused error)) left rest taken more =

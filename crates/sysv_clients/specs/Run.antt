@@ -32,7 +32,8 @@ abbrev pub HasShortText : Task → Type 0
 HasShortText task = length (text_of task) ≤ BODY_ROOM
 
 -- A dialogue, and what was collected of it.
-abbrev pub ConversesThrough : Command → Result ⊤ ClientFault → List ℕ → (left rest taken more : Option (List ℕ)) → Type 0
+abbrev pub ConversesThrough : Command → Result ⊤ ClientFault → List ℕ → (left rest taken more : Option (List ℕ)) →
+    Type 0
 ConversesThrough command ended page left rest taken more =
     (exchanges : List Exchange) × Converses command exchanges ended left rest taken more
     × OnOk ended (page ≡ page_text command.task exchanges)

@@ -11,7 +11,7 @@ use crate::exchange::exchange;
 use crate::fault::ClientFault;
 use std::alloc::Global;
 use std::io::{Read, Write};
-use sysv_model::{Body, Cred, Errno, NoMemory, Instrumented};
+use sysv_model::{Body, Cred, Errno, Instrumented, NoMemory};
 use sysv_wire::{Ask, ReplyContent};
 
 /// A queue that the server refused to remove.
@@ -128,8 +128,8 @@ fn report(refusals: &mut Vec<Refusal>, id: i32, error: Errno) -> Result<(), NoMe
 /// refuses to remove are appended to `refusals`, unless they are gone.
 ///
 /// The client writes a hello, then a request for the row of each slot that the reply to the hello
-/// states, but of at most `MAX_ROWS`, and after each row with a queue the removal of that queue, all
-/// of version 2.
+/// states, but of at most `MAX_ROWS`, and after each row with a queue the removal of that queue,
+/// all of version 2.
 ///
 /// # Errors
 ///

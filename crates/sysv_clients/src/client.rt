@@ -19,7 +19,7 @@ use crate::screen::show;
 use crate::style::Style;
 use std::alloc::Global;
 use std::io::{Read, Write};
-use sysv_model::{Body, NoMemory, Instrumented};
+use sysv_model::{Body, Instrumented, NoMemory};
 use sysv_wire::{Ask, ReplyContent, WriteFault, one_answer_to_replies, one_reply};
 
 /// Runs a command against a server, and shows the result on `screen`. Returns the exit status: 0 if
@@ -27,10 +27,10 @@ use sysv_wire::{Ask, ReplyContent, WriteFault, one_answer_to_replies, one_reply}
 ///
 /// The client writes a hello and the requests of the task, all of version 2. Each request is
 /// flushed before its reply is read. The first request that the server refuses, that cannot be
-/// written or that has no reply ends the dialogue. A reply of another operation or of another version
-/// counts as no reply. Earlier requests stay done. An `ipcs` requests a row for each slot that the
-/// reply to the hello states, but at most `MAX_ROWS` rows. It writes the requests for the next 256
-/// rows, flushes them together, and reads the replies before it writes more.
+/// written or that has no reply ends the dialogue. A reply of another operation or of another
+/// version counts as no reply. Earlier requests stay done. An `ipcs` requests a row for each slot
+/// that the reply to the hello states, but at most `MAX_ROWS` rows. It writes the requests for the
+/// next 256 rows, flushes them together, and reads the replies before it writes more.
 ///
 /// Then the screen is written and flushed: the table of an `ipcs`, the body and an LF of a `rcv`,
 /// and nothing for the other commands. After a fault only the line of the fault is written. If the
@@ -103,8 +103,8 @@ pub fn run_client_instrumented<R: Read, W: Write, S: Write>(
     dialogue_and_show(alloc, command, reader, writer, screen)
 }
 
-/// Runs a command like `run_client_instrumented`. The contract states only what was read, written and
-/// shown.
+/// Runs a command like `run_client_instrumented`. The contract states only what was read, written
+/// and shown.
 fn dialogue_and_show<R: Read, W: Write, S: Write>(
     alloc: Global,
     command: &Command<'_>,

@@ -1,5 +1,5 @@
-//! The clients of a server: `ipcs`, `ipcrm`, `ipcmk`, `snd` and `rcv`, over any reader and writer. `specs/`
-//! defines what each client requests, what ends it early and what it then shows.
+//! The clients of a server: `ipcs`, `ipcrm`, `ipcmk`, `snd` and `rcv`, over any reader and writer.
+//! `specs/` defines what each client requests, what ends it early and what it then shows.
 #![tactic(auto)]
 
 mod clearing;

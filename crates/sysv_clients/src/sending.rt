@@ -20,7 +20,7 @@ use crate::input_lines::{Chunk, fetch};
 use std::alloc::Global;
 use std::io;
 use std::io::{Read, Write};
-use sysv_model::{Body, Cred, Errno, NoMemory, Instrumented, WriteFault};
+use sysv_model::{Body, Cred, Errno, Instrumented, NoMemory, WriteFault};
 use sysv_wire::Ask;
 
 /// A `snd` of several messages, with the credentials for it.
@@ -114,8 +114,8 @@ impl Sending {
     }
 }
 
-/// Sends each line of an input as a message, over one session and in order. A line is a body without
-/// its LF; the last line may lack one.
+/// Sends each line of an input as a message, over one session and in order. A line is a body
+/// without its LF; the last line may lack one.
 ///
 /// The client writes a hello, the request that finds the queue, and a send for each line, all of
 /// version 2. It sends lines that one read of the input returned in a window: at most 64 sends are

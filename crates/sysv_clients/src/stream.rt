@@ -19,7 +19,7 @@ use crate::screen::print_instrumented;
 use crate::style::Style;
 use std::alloc::Global;
 use std::io::{Read, Write};
-use sysv_model::{Body, Cred, Errno, NoMemory, Instrumented, WriteFault};
+use sysv_model::{Body, Cred, Errno, Instrumented, NoMemory, WriteFault};
 use sysv_wire::{Ask, ReplyContent};
 
 /// The maximum number of messages that one session receives.
@@ -139,8 +139,8 @@ pub fn receive_all<R: Read, W: Write, S: Write>(
     )
 }
 
-/// Receives messages like `receive_all`. The result is `Screen` exactly if the screen failed, and it
-/// failed at most once.
+/// Receives messages like `receive_all`. The result is `Screen` exactly if the screen failed, and
+/// it failed at most once.
 ///
 /// # Errors
 ///
@@ -401,8 +401,9 @@ impl Taker {
     }
 }
 
-/// Returns the fault of the first of two receives without a message: of one that met this fault, and
-/// of one that was refused with this error. A receive that the writer did not take is the later one.
+/// Returns the fault of the first of two receives without a message: of one that met this fault,
+/// and of one that was refused with this error. A receive that the writer did not take is the later
+/// one.
 fn first_of(fault: ClientFault, error: Errno) -> ClientFault
     ensures { result ≡ first_fault fault error }
 {

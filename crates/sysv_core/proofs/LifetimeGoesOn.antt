@@ -30,8 +30,10 @@ use Rattle.sysv_core.proofs.Lists.{map-slice_set, slice_set-same, get_set_same, 
 use Rattle.sysv_core.proofs.Histories.{turn_of, slot_more, registry_more, pool_more, begun_turns, installed_turns}
 use Rattle.sysv_core.proofs.TurnInHistory.{slot_around, registry_around}
 use Rattle.sysv_core.proofs.Lifetime.{Task, ToMake, ToInstall, ToSettle, ToRemove, ToForget, Job, making}
-use Rattle.sysv_core.proofs.Lifetime.{installing, settling, removing, forgetting, job_of, does, done, IsReadyFor, IsReady}
-use Rattle.sysv_core.proofs.Lifetime.{IsNext, job_at, job_in, jobs_of, some_is, either, not_both, falls, passing, one_job}
+use Rattle.sysv_core.proofs.Lifetime.{installing, settling, removing, forgetting, job_of, does, done, IsReadyFor}
+use Rattle.sysv_core.proofs.Lifetime.{IsReady}
+use Rattle.sysv_core.proofs.Lifetime.{IsNext, job_at, job_in, jobs_of, some_is, either, not_both, falls, passing}
+use Rattle.sysv_core.proofs.Lifetime.{one_job}
 use Rattle.sysv_core.proofs.Lifetime.{no_job, job_does, done_on, ready_on, done_now, not_done, undone, done_by, Facts}
 use Rattle.sysv_core.proofs.Lifetime.{ordered, IsSeemly, legal_at_slot, IsFine, facts_more, in_registry, made_for, gave}
 use Rattle.sysv_core.proofs.Lifetime.{none_after}
@@ -351,7 +353,8 @@ module _ (registry_law : EachObeys) (generation blocks : ℕ) (turns : List Turn
   step_told who phase (AtPool c reply) now state has l then n = quiet _ state _ n (tt, tt, tt) refl refl
 
   -- The call makes a turn.
-  pub lifetime_goes : (jobs : List (Option Job)) → Lifetime turns jobs → (place : ℕ) (who : Who) (phase : Phase) (now : ℕ)
+  pub lifetime_goes : (jobs : List (Option Job)) → Lifetime turns jobs →
+      (place : ℕ) (who : Who) (phase : Phase) (now : ℕ)
       (op : Op) (state : State) → slice_get jobs place ≡ Some (job_at (Goes phase)) →
       asked_by op ≡ asks phase now → IsLegalOp generation blocks turns op →
       IsLegalRegistryHistory generation (registry_history (turns ++ turn_of who op ∷ [])) →
@@ -410,7 +413,8 @@ pub lives_turn : EachObeys → (generation blocks : ℕ) (turns : List Turn) (ac
     Lives turns actors → Lives (turns ++ turn_of call.who op ∷ []) (slice_set actors place (doing_in call state))
 lives_turn law generation blocks turns actors place call phase now op state there asked legal l then goes lifetime =
     subst (Lifetime (turns ++ turn_of call.who op ∷ [])) (jobs_set actors place call state)
-    (lifetime_goes law generation blocks turns lifetime.facts legal (jobs_of actors) lifetime place call.who phase now op state
+    (lifetime_goes law generation blocks turns lifetime.facts legal (jobs_of actors) lifetime place call.who phase now
+    op state
     (jobs_get actors place (Some record { call = call; state = Goes phase }) there) asked l then.registry goes)
 
 -- A call that starts, or whose wait ends, has no job before and after.
@@ -530,7 +534,8 @@ module _ (law : EachObeys) (generation blocks : ℕ) where
       (op_legal generation blocks turns preset_who op legal) legal.registry goes
 
   pub preset_lives : (turns : List Turn) (jobs : List (Option Job)) →
-      AreLegal generation blocks (with_preset_turns turns) → Lifetime turns jobs → Lifetime (with_preset_turns turns) jobs
+      AreLegal generation blocks (with_preset_turns turns) → Lifetime turns jobs →
+      Lifetime (with_preset_turns turns) jobs
   preset_lives turns jobs legal l =
       let get : Getting = record { cred = preset_cred; key = IPC_PRIVATE; flags = preset_flags } in
       let two = front_legal generation blocks (installed_turns turns) (turn_of preset_who preset_settle) legal in

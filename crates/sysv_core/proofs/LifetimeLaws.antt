@@ -22,7 +22,8 @@ use Rattle.sysv_core.specs.Tending.{IsTended, AreTended}
 use Rattle.sysv_core.specs.Removed.{IsInItsSlot, AreRemovedForGood}
 use Rattle.sysv_core.proofs.Histories.{turn_of}
 use Rattle.sysv_core.proofs.TurnInHistory.{slot_around}
-use Rattle.sysv_core.proofs.Lifetime.{Job, installing, settling, removing, forgetting, does, done, done_on, IsNext, job_at}
+use Rattle.sysv_core.proofs.Lifetime.{Job, installing, settling, removing, forgetting, does, done, done_on, IsNext}
+use Rattle.sysv_core.proofs.Lifetime.{job_at}
 use Rattle.sysv_core.proofs.Lifetime.{either, or_left, or_right, not_both, passing, Facts, install_home, in_registry}
 use Rattle.sysv_core.proofs.Lifetime.{was_made}
 use Rattle.sysv_core.proofs.LifetimeGoesOn.{Lives, is_owned, job_there}

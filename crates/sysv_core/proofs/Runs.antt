@@ -70,7 +70,8 @@ messages_more answers a =
 -- From one list for which a world stood to that list and the events since then, with their answers.
 pub record Pending (start now : Seen) (done : List Event) (answers : List Answer) : Type 0 where
   pub goes : (o : Opening) (es : List Transition) (responses : List Response) → Represents o es responses start →
-      (more : List Response) × TellAll more answers × Represents o (es ++ map transition_of done) (responses ++ more) now
+      (more : List Response) × TellAll more answers
+      × Represents o (es ++ map transition_of done) (responses ++ more) now
 
 pub pending : (start : Seen) → Pending start start [] []
 pending start = record {

@@ -64,7 +64,7 @@ stands_on : {S W : Type 0} (phase : S → Phase) (wait : W → Wait) (k : Standi
 stands_on phase wait (standing.At step) ending e = cc
 stands_on phase wait (standing.Waits w) ending e = cc
 
--- A call pending is not over.
+-- A pending call is not over.
 never_over : (ending : Ending) (d : DoingKept) → Over ending ≡ doing_state d → ⊥
 never_over ending (doing.Get at) e = stands_on _ _ at ending e
 never_over ending (doing.Send sent) e = stands_on _ _ sent.at ending e

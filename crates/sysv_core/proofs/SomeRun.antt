@@ -22,7 +22,8 @@ use Rattle.sysv_core.specs.declared.event.Event.{Event}
 use Rattle.sysv_core.specs.declared.event.Event.TheVariants as event
 use Rattle.sysv_core.specs.declared.event.Stepped.{Stepped}
 use Rattle.sysv_core.specs.declared.event.Stepped.TheVariants as stepped
-use Rattle.sysv_core.specs.World.{World, Invocation, Doing, Response, Transition, Preset, Start, Step, opening, actor_at}
+use Rattle.sysv_core.specs.World.{World, Invocation, Doing, Response, Transition, Preset, Start, Step, opening}
+use Rattle.sysv_core.specs.World.{actor_at}
 use Rattle.sysv_core.specs.World.{response_in, in_state, with_call, with_turn, with_preset, starting, begun, value_of}
 use Rattle.sysv_core.specs.World.{StartsAt, StepsAt, Presets, Makes}
 use Rattle.sysv_core.specs.Run.{Leads}

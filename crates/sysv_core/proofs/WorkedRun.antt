@@ -19,7 +19,8 @@ use Rattle.sysv_steps.specs.Begin.{is_refused}
 use Rattle.sysv_core.specs.World.{World, Invocation, Response, Transition, Preset, opening, with_actor, Makes}
 use Rattle.sysv_core.specs.Run.{Leads}
 use Rattle.sysv_core.specs.WorkedRun.{sender, receiver, hello, receive_up_to_100, send_hello, send_nothing, one_starts}
-use Rattle.sysv_core.specs.WorkedRun.{two_starts, steps, the_transitions, send_typeless, one_calls, two_calls, the_calls}
+use Rattle.sysv_core.specs.WorkedRun.{two_starts, steps, the_transitions, send_typeless, one_calls, two_calls}
+use Rattle.sysv_core.specs.WorkedRun.{the_calls}
 use Rattle.sysv_core.specs.WorkedRun.{the_answers, the_turns, of_16, one_ends, two_ends, last_ends, hello_message}
 use Rattle.sysv_core.specs.WorkedRun.{empty_message, take_by, look_for, place_hello, place_nothing, WorkedRun}
 use Rattle.sysv_core.specs.WorkedRun.{after_turns, NoWrongReply, start_of, ExactFit}

@@ -399,7 +399,8 @@ module _ {P : Turn → Type 0} (laws : Laws) (o : Opening) (w : World) (response
           conserved = subst (λ n. AreConserved n w.turns w.actors) blocks i.sound.blocks;
         };
         calls = record {
-          outcomes = All-weaker (Contains w.calls) (Outcome w responses) i.outcomes w.calls (All-contains_itself w.calls);
+          outcomes =
+              All-weaker (Contains w.calls) (Outcome w responses) i.outcomes w.calls (All-contains_itself w.calls);
           apart = i.apart;
           made = made;
           asked = All-weaker (Contains w.calls) (AsksAsItWasAsked w) ops_asked w.calls
@@ -418,7 +419,8 @@ module _ {P : Turn → Type 0} (laws : Laws) (o : Opening) (w : World) (response
               told_so w responses call f laws.told (ops_asked call has) good id before after t whole removal q;
         };
         lives = record {
-          tended = are_tended w (laws.registry w.generation (registry_history w.turns) i.sound.legal.registry) i.lifetime;
+          tended =
+              are_tended w (laws.registry w.generation (registry_history w.turns) i.sound.legal.registry) i.lifetime;
           vacant = i.lifetime.facts.vacant;
           forgets = i.lifetime.facts.taken;
           removed = good;
@@ -585,7 +587,8 @@ opens o legal = record {
 
 pub run_obeys : StaysSound → ((generation blocks : ℕ) → AreLegal generation blocks []) → Laws → NoMatchStays →
     FullStays → FullStaysForLook → CountsNeverFall → EachWaitsForItsRefusal → EachHoldsWhatItWasAsked →
-    (o : Opening) (list : List Transition) (responses : List Response) (w : World) → Leads (opening o) list responses w →
+    (o : Opening) (list : List Transition) (responses : List Response) (w : World) →
+    Leads (opening o) list responses w →
     Obeys o w responses
 run_obeys sound none laws no_match full full_for_look counts refused holds o list responses w led =
     let start : Kept laws.registry (opening o) [] =

@@ -59,7 +59,7 @@ pub record Seen : Type 0 where
   pub steps : ℕ
   pub tally : Tallied  -- the messages that were answered, as written
 
--- The state of the call pending, if there is one.
+-- The state of the pending call, if there is one.
 abbrev pub state_in : Option Doing → Option State
 state_in doing = option_map (λ (d : Doing). d.state) doing
 

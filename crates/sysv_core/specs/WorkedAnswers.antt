@@ -86,7 +86,7 @@ pub record WorkedAnswers : Type 0 where
   pub answered_wrongly : ¬ Outcome the_end (one_ends 2 send_hello (Refused EAGAIN) ∷ []) the_send
   pub answered_twice : ¬ Outcome the_end (the_answers ++ one_ends 2 send_hello Zero ∷ []) the_send
   pub goes_on : ¬ Outcome going_on the_answers the_send
-  -- A call pending requests room for the size of its own body, and for no other size.
+  -- A pending call requests room for the size of its own body, and for no other size.
   pub looks : Outcome (looking 5) [] the_send
   pub looks_otherwise : ¬ Outcome (looking 6) [] the_send
   -- An actor is in a call that it started: in no call that was not started, and in no other

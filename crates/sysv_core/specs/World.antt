@@ -38,7 +38,7 @@ pub record Invocation : Type 0 where
   pub asked : SystemCall
   pub released : ℕ
 
--- A call pending and its state.
+-- A pending call and its state.
 pub record Doing : Type 0 where
   pub call : Invocation
   pub state : State
@@ -80,7 +80,7 @@ with_actor actors (suc place) doing = slice_set actors place doing
 
 -- ---- where a call goes
 
--- The call pending of an actor whose call is in this state: none if the call is over.
+-- The pending call of an actor whose call is in this state: none if the call is over.
 abbrev pub doing_in : Invocation → State → Option Doing
 doing_in call (Goes phase) = Some record { call = call; state = Goes phase }
 doing_in call (Waits wait) = Some record { call = call; state = Waits wait }

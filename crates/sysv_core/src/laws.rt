@@ -81,8 +81,8 @@ pub fn some_run()
     unused_slots();
 }
 
-/// States that a list of transitions leads from a sound world to at most one world, with one list of
-/// endings.
+/// States that a list of transitions leads from a sound world to at most one world, with one list
+/// of endings.
 pub fn one_run()
     ensures { OneRun }
 {

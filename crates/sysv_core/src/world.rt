@@ -157,8 +157,8 @@ impl World {
     /// (POSIX.1-2017, `msgget`). If slot 0 has a row, or a generation other than 0, the result is
     /// `false` and nothing has changed. A preset is not counted as a step, and allocates nothing.
     pub fn preset(&mut self) -> bool
-        // For every list of transitions for which the world stands, it then represents that list and
-        // a preset.
+        // For every list of transitions for which the world stands, it then represents that list
+        // and a preset.
         ensures stands { StandsWithPreset self.old self.new }
         // States what the preset makes of each world as which this world is seen.
         ensures single { PresetsSeen self.old result self.new }
@@ -183,8 +183,8 @@ impl World {
     /// actor does not exist, is in a call at a start, is idle at a step, or still has to wait.
     /// From step number 2^62 on, the result is `Worn` and nothing changes. Allocates nothing.
     pub fn step(&mut self, event: Event) -> Stepped
-        // For every list of transitions for which the world stands, it then represents that list and
-        // the event, and the result is that of the run.
+        // For every list of transitions for which the world stands, it then represents that list
+        // and the event, and the result is that of the run.
         ensures stands { StandsWithEvent self.old event result self.new }
         // States what the event makes of each world as which this world is seen.
         ensures single { StepsSeen self.old event result self.new }
@@ -211,8 +211,8 @@ impl World {
     ///
     /// If there is no memory for the answers, the events are returned, and nothing has happened.
     pub fn run(&mut self, alloc: Global, events: Vec<Event>) -> Result<Vec<Answer>, Vec<Event>>
-        // For every list of transitions for which the world stands, it then represents that list and
-        // the events that happened, and the answers are those of that run.
+        // For every list of transitions for which the world stands, it then represents that list
+        // and the events that happened, and the answers are those of that run.
         ensures stands { IfOk result (λ answers.
             StandsWithEvents self.old events.items answers.items self.new) }
         // The world of each list obeys the laws.
@@ -273,8 +273,8 @@ impl World {
     /// Ends the world and returns the number of blocks that are then free: all blocks with which
     /// the world was opened.
     ///
-    /// The blocks of queued messages, and those that calls pending hold, are returned to the pool
-    /// first. A message that a receive pending has taken is lost. Allocates nothing.
+    /// The blocks of queued messages, and those that pending calls hold, are returned to the pool
+    /// first. A message that a pending receive has taken is lost. Allocates nothing.
     pub fn end(self) -> u32
         // This holds for every list of transitions for which the world stands.
         ensures { AreAllFree self result }

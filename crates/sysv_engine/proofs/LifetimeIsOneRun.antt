@@ -85,7 +85,8 @@ module _ (law : EachSessionMakesCalls zero_moment ⊤) where
     folds = ap (log old) (sym (append-nil made)) ∙ ap (λ (p : Pass). log p (made ++ [])) is;
   }
   in_sessions start old (dialogue ∷ dialogues) new made works folds =
-      let one = in_session start old dialogue.told dialogue.left dialogue.rest dialogue.taken dialogue.more folds.0 made works folds.1 in
+      let one = in_session start old dialogue.told dialogue.left dialogue.rest dialogue.taken dialogue.more folds.0 made
+      works folds.1 in
       let more = in_sessions start folds.0 dialogues new (made ++ one.calls) one.works folds.2 in
       record {
         calls = one.calls ++ more.calls;

@@ -98,7 +98,8 @@ serves_all Means slots served old new left rest taken more (inr dialogues) safe 
     none_lost served.tally.written served.tally.lost _ _ _ dialogues.all dialogues.written
     (none_unread dialogues.stopped (safe_stop served.«end» dialogues.stopped dialogues.sent _ safe dialogues.reports)
     (length dialogues.sent) dialogues.replies)
-    (reports_all served.«end» dialogues.stopped safe dialogues.version slots dialogues.calls dialogues.replies dialogues.sent dialogues.replied
+    (reports_all served.«end» dialogues.stopped safe dialogues.version slots dialogues.calls dialogues.replies
+    dialogues.sent dialogues.replied
     dialogues.reports)
 
 -- ---- all sessions

@@ -28,7 +28,8 @@ module _ {T B : Type 0} (incoming outgoing : T → Option (List ℕ)) (closes : 
   sat_each (desk ∷ desks) [] sat = absurd sat
   sat_each (desk ∷ desks) (shift ∷ shifts) sat =
       let one =
-      length-map shift.dialogues (λ (dialogue : Dialogue). dialogue.told) ∙ sym (each2_length _ desk.connections shift.dialogues sat.0.0) in
+      length-map shift.dialogues (λ (dialogue : Dialogue). dialogue.told)
+      ∙ sym (each2_length _ desk.connections shift.dialogues sat.0.0) in
       both_lengths _ _ _ _ _ _ one (sat_each desks shifts sat.1)
       (length-append (reports_of shift.dialogues) (told_in shifts))
       (length-append desk.connections (all_connections desks))

@@ -28,7 +28,8 @@ ConversesAs before (Some served) left rest taken more after =
 
 -- The session led from the one pass to the other. Its client may leave a call that waits.
 abbrev pub Converses : Pass → Dialogue → Pass → Type 0
-Converses before dialogue after = ConversesAs before dialogue.told dialogue.left dialogue.rest dialogue.taken dialogue.more after
+Converses before dialogue after =
+    ConversesAs before dialogue.told dialogue.left dialogue.rest dialogue.taken dialogue.more after
 
 -- The tally of a session: the messages that it wrote and lost.
 abbrev pub tally_of : Option Served → Tallied
@@ -45,7 +46,8 @@ ConversesAsIn before (Some served) left rest taken more after =
 
 -- The session made these calls.
 abbrev pub ConversesIn : Log → Dialogue → Log → Type 0
-ConversesIn before dialogue after = ConversesAsIn before dialogue.told dialogue.left dialogue.rest dialogue.taken dialogue.more after
+ConversesIn before dialogue after =
+    ConversesAsIn before dialogue.told dialogue.left dialogue.rest dialogue.taken dialogue.more after
 
 -- ---- the connection
 

@@ -63,8 +63,8 @@ impl Moved {
     /// No messages.
     pub(crate) const NONE: Moved = Moved { word: 0, count: 0 };
 
-    /// Adds the message of these news, if they are of one. Returns whether it moved as the others
-    /// did; else it is not added.
+    /// Adds the message of this notification, if it is of one. Returns whether it moved as the
+    /// others did; else it is not added.
     #[inline(always)]
     pub(crate) fn add(&mut self, notification: Notification) -> bool {
         let Some(word) = word_of(notification) else {
@@ -77,7 +77,7 @@ impl Moved {
         true
     }
 
-    /// Returns the message of these news alone, if they are of one.
+    /// Returns the message of this notification alone, if it is of one.
     pub(crate) fn first(notification: Notification) -> Moved {
         match word_of(notification) {
             Some(word) => Moved { word, count: 1 },

@@ -26,8 +26,8 @@ pub fn each_session_makes_calls<C: Clock>(clock: &C)
 /// The calls of all sessions, each answered as it ended or left without a reply, and the removals
 /// of the stop are all the calls that made the order of turns of the service. That order is a run
 /// of a world with those calls, and the run obeys the headline of threads. After the close the pool
-/// has all its blocks, no slot has a live queue and no message is queued. No gate is held then, also
-/// if one was found worn out.
+/// has all its blocks, no slot has a live queue and no message is queued. No gate is held then,
+/// also if one was found worn out.
 pub fn each_lifetime_is_one_run()
     ensures run { EachLifetimeIsOneRun }
     ensures whole { EachLifetimeLeavesThePoolWhole }

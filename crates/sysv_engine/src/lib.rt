@@ -1,9 +1,9 @@
 //! The engine of a server of message queues: any number of clients on a few workers.
 //!
-//! A worker is an event loop. It has a number of places, each with a pass of its own, and each place
-//! serves one client after another. A client is a value: its session does not wait, neither for its
-//! connection nor inside a call. A call that waits is parked, and its worker looks at it again when
-//! what it waits for may have come.
+//! A worker is an event loop. It has a number of places, each with a pass of its own, and each
+//! place serves one client after another. A client is a value: its session does not wait, neither
+//! for its connection nor inside a call. A call that waits is parked, and its worker looks at it
+//! again when what it waits for may have come.
 //!
 //! `serve_connections` serves the connections of a source on a new service. All sessions share the
 //! service, which is the handler of each session: each request, except one for a row, is one call
@@ -11,11 +11,10 @@
 #![tactic(auto)]
 
 mod arrivals;
-mod doorbell;
 mod connections;
 mod counts;
-mod team;
 mod dealing;
+mod doorbell;
 mod fault;
 mod laws;
 mod moment;
@@ -27,6 +26,7 @@ mod seeing;
 mod server_state;
 mod staff;
 mod sums;
+mod team;
 mod terms;
 mod times;
 mod watch;

@@ -10,7 +10,7 @@ use crate::worker::{Worker, sooner};
 use std::alloc::Global;
 use std::sync::Wait;
 use sysv_rules::qualifies;
-use sysv_seats::{Notification, NonBlocking};
+use sysv_seats::{NonBlocking, Notification};
 use sysv_service::Service;
 use sysv_session::End;
 use sysv_workers::Job;
@@ -88,7 +88,7 @@ impl<'a, 'c, R: Wait> Serving<'a, 'c, R> {
         worker.is_empty() && self.server.is_finished()
     }
 
-    /// Waits for news, and serves each client that has some.
+    /// Waits for events, and serves each client that has some.
     fn round<T: NonBlocking, W: Watch<T>>(&self, worker: &mut Worker<'_, R, T, W>)
         ensures { KeepsAll T.incoming T.outgoing T.closes worker.old.places.items
             worker.new.places.items }
@@ -107,7 +107,7 @@ impl<'a, 'c, R: Wait> Serving<'a, 'c, R> {
         }
     }
 
-    /// Waits until a client has news, or something came for the worker.
+    /// Waits until a client has an event, or something came for the worker.
     fn rest<T: NonBlocking, W: Watch<T>>(&self, worker: &mut Worker<'_, R, T, W>)
         ensures { KeepsAll T.incoming T.outgoing T.closes worker.old.places.items
             worker.new.places.items }
@@ -125,7 +125,7 @@ impl<'a, 'c, R: Wait> Serving<'a, 'c, R> {
         }
     }
 
-    /// Serves a client of which the watch reports news.
+    /// Serves a client of which the watch reports an event.
     fn report<T: NonBlocking, W: Watch<T>>(&self, worker: &mut Worker<'_, R, T, W>, ready: &Ready)
         ensures { KeepsAll T.incoming T.outgoing T.closes worker.old.places.items
             worker.new.places.items }
@@ -291,8 +291,8 @@ impl<'a, 'c, R: Wait> Serving<'a, 'c, R> {
         }
     }
 
-    /// Looks at the parked calls that the news of a letter of this worker may end, here first or, in
-    /// turn, in another worker first.
+    /// Looks at the parked calls that the notification of an envelope of this worker may end, here
+    /// first or, in turn, in another worker first.
     fn send_off<T: NonBlocking, W: Watch<T>>(
         &self,
         worker: &mut Worker<'_, R, T, W>,
@@ -310,9 +310,10 @@ impl<'a, 'c, R: Wait> Serving<'a, 'c, R> {
         }
     }
 
-    /// Returns the worker that looks first at the parked calls that the news of a letter may end.
+    /// Returns the worker that looks first at the parked calls that the notification of an envelope
+    /// may end.
     ///
-    /// The fastest way is the worker that wrote the letter. But sometimes it is another worker's
+    /// The fastest way is the worker that wrote the envelope. But sometimes it is another worker's
     /// turn: else the clients of one worker might have all, and those of the others wait.
     fn first_for(&self, envelope: &Envelope, writer: usize, turn: Option<usize>) -> usize {
         match turn.and_then(|turn| turn.checked_rem(self.server.workers())) {
@@ -342,7 +343,11 @@ impl<'a, 'c, R: Wait> Serving<'a, 'c, R> {
     }
 
     /// Keeps what a call has changed, if calls that wait for it are parked.
-    fn keep<T: NonBlocking, W: Watch<T>>(&self, worker: &mut Worker<'_, R, T, W>, notification: Notification)
+    fn keep<T: NonBlocking, W: Watch<T>>(
+        &self,
+        worker: &mut Worker<'_, R, T, W>,
+        notification: Notification,
+    )
         ensures { KeepsAll T.incoming T.outgoing T.closes worker.old.places.items
             worker.new.places.items }
     {
@@ -360,17 +365,18 @@ impl<'a, 'c, R: Wait> Serving<'a, 'c, R> {
         }
     }
 
-    /// Returns which workers have parked calls that such news may end.
+    /// Returns which workers have parked calls that such a notification may end.
     fn parked_for(&self, notification: Notification) -> u64 {
         match notification {
             Notification::Arrived { slot, .. } => self.server.word(slot),
             Notification::Freed { slot, .. } => self.server.word(room_word(slot)),
             Notification::Released => self.server.word(BLOCKS_WORD),
-            Notification::Changed { slot } => self.server.word(slot) | self.server.word(room_word(slot)),
+            Notification::Changed { slot } => self.server.word(slot)
+                | self.server.word(room_word(slot)),
         }
     }
 
-    /// Looks at the parked calls that the news of a letter may end, and passes it on.
+    /// Looks at the parked calls that the notification of an envelope may end, and passes it on.
     fn heed<T: NonBlocking, W: Watch<T>>(
         &self,
         worker: &mut Worker<'_, R, T, W>,
@@ -388,8 +394,8 @@ impl<'a, 'c, R: Wait> Serving<'a, 'c, R> {
         }
     }
 
-    /// Gives a letter to the first worker that has not had it, from the one of this number on, or to
-    /// all of them.
+    /// Gives an envelope to the first worker that has not had it, from the one of this number on,
+    /// or to all of them.
     fn pass_on(&self, from: usize, mut envelope: Envelope) {
         for _ in 0..self.server.workers() {
             if envelope.rest == 0 {
@@ -411,8 +417,8 @@ impl<'a, 'c, R: Wait> Serving<'a, 'c, R> {
         }
     }
 
-    /// Looks at the parked calls of this worker that the news of a letter may end. Returns whether
-    /// no other worker is to look.
+    /// Looks at the parked calls of this worker that the notification of an envelope may end.
+    /// Returns whether no other worker is to look.
     fn look_for<T: NonBlocking, W: Watch<T>>(
         &self,
         worker: &mut Worker<'_, R, T, W>,
@@ -551,8 +557,8 @@ impl<'a, 'c, R: Wait> Serving<'a, 'c, R> {
         }
     }
 
-    /// Looks whether the parked call of a client may go on, unless its peer has gone. Returns what it
-    /// found, if news came that a message of this type has arrived.
+    /// Looks whether the parked call of a client may go on, unless its peer has gone. Returns what
+    /// it found, if a notification came that a message of this type has arrived.
     fn wake<T: NonBlocking, W: Watch<T>>(
         &self,
         worker: &mut Worker<'_, R, T, W>,

@@ -4,8 +4,8 @@ ghost use Rattle.std.specs.Prelude.{◌≡◌, ◌≤◌, IfSome, vec_len};
 ghost use Rattle.sysv_keys.specs.declared.identifier.TheConstants.{SLOTS as slot_count};
 ghost use Rattle.sysv_engine.specs.Counting.{IsNothing};
 
-use crate::doorbell::Doorbell;
 use crate::counts::{Counted, Counts, Moved, SlotCounts, zeros};
+use crate::doorbell::Doorbell;
 use crate::moment::{Moment, NO_DESCRIPTOR, await_doorbell};
 use crate::terms::Patience;
 use crossbeam_queue::ArrayQueue;
@@ -26,14 +26,14 @@ pub(crate) const WORDS: usize = BLOCKS_WORD + 1;
 /// The number of bits in a word, and so of workers that a word can name.
 const BITS: usize = 64;
 
-/// The number of letters that a worker's mailbox holds.
+/// The number of envelopes that a worker's mailbox holds.
 const ENVELOPES: usize = 512;
 
-/// News for other workers.
+/// A notification for other workers.
 #[derive(Clone, Copy)]
 pub(crate) struct Envelope {
     pub(crate) notification: Notification,
-    /// The workers that have not had it, a bit for each. The receiver of a letter passes it on.
+    /// The workers that have not had it, a bit for each. The receiver of an envelope passes it on.
     pub(crate) rest: u64,
     /// The length of the shortest frame of a send that has already found no room.
     pub(crate) least: usize,
@@ -48,7 +48,7 @@ struct Post {
     /// Whether something came for the worker since it looked.
     rung: AtomicBool,
     envelopes: ArrayQueue<Envelope>,
-    /// Whether letters were lost, so that all parked calls are to be looked at.
+    /// Whether envelopes were lost, so that all parked calls are to be looked at.
     everything: AtomicBool,
     /// The number of connections that the worker was told to take.
     coming: AtomicU64,
@@ -59,8 +59,8 @@ struct Post {
 
 /// What the workers share.
 ///
-/// A worker that is not there has no doorbell and no letters. Nothing comes for it, and it may not
-/// sleep.
+/// A worker that is not there has no doorbell and no envelopes. Nothing comes for it, and it may
+/// not sleep.
 #[derive(Drop)]
 pub struct ServerState {
     posts: Vec<Post>,
@@ -176,12 +176,12 @@ impl ServerState {
         }
     }
 
-    /// Returns the next letter of a worker.
+    /// Returns the next envelope of a worker.
     pub(crate) fn envelope(&self, rt: &impl Wait, worker: usize) -> Option<Envelope> {
         self.posts.get(worker)?.envelopes.pop(rt)
     }
 
-    /// Returns whether letters of the worker were lost since the last call.
+    /// Returns whether envelopes of the worker were lost since the last call.
     pub(crate) fn has_lost(&self, worker: usize) -> bool {
         match self.posts.get(worker) {
             Some(post) => post.has_lost(),
@@ -189,9 +189,9 @@ impl ServerState {
         }
     }
 
-    /// Gives a worker a letter. If its mailbox is full, it looks at all its parked calls, and the
-    /// result is `false`: the letter is still to be passed on. So is one to a worker that is not
-    /// there.
+    /// Gives a worker an envelope. If its mailbox is full, it looks at all its parked calls, and
+    /// the result is `false`: the envelope is still to be passed on. So is one to a worker that is
+    /// not there.
     pub(crate) fn send(&self, rt: &impl Wait, worker: usize, envelope: Envelope) -> bool {
         match self.posts.get(worker) {
             Some(post) => post.send(rt, envelope),
@@ -443,12 +443,12 @@ impl Post {
         self.rung.swap(false, Ordering::SeqCst)
     }
 
-    /// Returns whether letters were lost since the last call.
+    /// Returns whether envelopes were lost since the last call.
     fn has_lost(&self) -> bool {
         self.everything.load(Ordering::SeqCst) && self.everything.swap(false, Ordering::SeqCst)
     }
 
-    /// Gives the worker a letter. Returns whether there was room for it. If there was none, the
+    /// Gives the worker an envelope. Returns whether there was room for it. If there was none, the
     /// worker looks at all its parked calls.
     fn send(&self, rt: &impl Wait, envelope: Envelope) -> bool {
         let kept = self.envelopes.push(rt, envelope).is_ok();

@@ -3,8 +3,8 @@ ghost use Rattle.std.specs.Prelude.{◌≡◌, ◌≤◌, ◌+◌, ◌++◌, rev
 ghost use Rattle.std.specs.List.{All, flat_map, sum_by};
 ghost use Rattle.sysv_engine.specs.Places.{KeepsAll};
 
-use crate::team::vacate;
 use crate::place::Place;
+use crate::team::vacate;
 use crate::watch::Watch;
 use crate::worker::{Kit, Worker};
 use std::alloc::Global;

@@ -44,8 +44,9 @@ pub(crate) fn hire<'a, R: Wait, T: NonBlocking>(
     }
 }
 
-/// Serves the clients that are left in the places until each may be closed, and closes them. After a
-/// run of the workers there are none, unless the run was refused. There are tools if there are places.
+/// Serves the clients that are left in the places until each may be closed, and closes them. After
+/// a run of the workers there are none, unless the run was refused. There are tools if there are
+/// places.
 pub(crate) fn vacate<R: Wait, T: NonBlocking>(
     rt: &R,
     places: &mut Vec<Place<'_, R, T>>,

@@ -1,4 +1,4 @@
-//! What reports which clients have news.
+//! What reports which clients have events.
 ghost use Rattle.std.specs.Prelude.{◌≡◌, IfSome, vec_len};
 
 use crate::moment::{asking, pause};
@@ -20,7 +20,7 @@ const MOST_EVENTS: usize = 256;
 /// The time between two rounds over connections that report nothing, in milliseconds.
 pub(crate) const ROUND_MILLIS: i32 = 1;
 
-/// News of a place.
+/// An event of a place.
 #[derive(Clone, Copy)]
 pub struct Ready {
     /// The place.
@@ -34,7 +34,7 @@ pub struct Ready {
 }
 
 impl Ready {
-    /// News of a place that nothing has reported: it may have any.
+    /// An event of a place that nothing has reported: it may be any.
     pub(crate) fn unasked(place: usize) -> Ready {
         Ready {
             place,
@@ -45,8 +45,8 @@ impl Ready {
     }
 }
 
-/// Reports which places have news. What it reports may be anything: a client that has no news only
-/// looks in vain.
+/// Reports which places have events. What it reports may be anything: a client that has no event
+/// only looks in vain.
 pub trait Watch<T> {
     /// Has the place reported, whose client is on this connection, from now on. Returns whether
     /// that succeeded.
@@ -59,8 +59,8 @@ pub trait Watch<T> {
     /// the system knows now.
     fn has_left(&self, connection: &T) -> bool;
 
-    /// Waits until a place has news or the doorbell is rung, for at most `limit` milliseconds, and puts
-    /// what is reported into `ready`. It may return early.
+    /// Waits until a place has an event or the doorbell is rung, for at most `limit` milliseconds,
+    /// and puts what is reported into `ready`. It may return early.
     fn wait(&mut self, limit: Option<u64>, ready: &mut Vec<Ready>);
 }
 
@@ -72,8 +72,8 @@ pub struct Polled {
 }
 
 impl Polled {
-    /// Opens a poll that the doorbell, whose descriptor is given, ends. Returns `None` if the system
-    /// refuses one.
+    /// Opens a poll that the doorbell, whose descriptor is given, ends. Returns `None` if the
+    /// system refuses one.
     pub(crate) fn open(net: &impl Net, alloc: Global, doorbell: i32) -> Option<Polled> {
         let poll = Poll::new(net).ok()?;
         let events = Events::with_capacity(alloc, MOST_EVENTS).ok()?;

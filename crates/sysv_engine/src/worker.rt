@@ -11,16 +11,16 @@ use crate::watch::{Ready, Watch};
 use std::alloc::Global;
 use std::collections::VecDeque;
 use std::sync::Wait;
-use sysv_seats::{Notification, NonBlocking, Tools};
+use sysv_seats::{NonBlocking, Notification, Tools};
 use sysv_session::Served;
 
-/// Of this number of letters about room, one goes to another worker first.
+/// Of this number of envelopes about room, one goes to another worker first.
 const SHARE_OF_ROOM: usize = 2;
 
-/// Of this number of letters about messages, one goes to another worker first.
+/// Of this number of envelopes about messages, one goes to another worker first.
 const SHARE_OF_MESSAGES: usize = 8;
 
-/// The number of places of which one wait reports news at most.
+/// The number of places of which one wait reports events at most.
 const MOST_READY: usize = 256;
 
 /// A worker of a server: places with their clients, and what watches the connections.
@@ -42,7 +42,7 @@ pub(crate) struct Worker<'a, R: Wait, T: NonBlocking, W> {
     pub(crate) answered: u64,
     /// When to look for clients whose time is over.
     pub(crate) check: Option<Moment>,
-    /// The numbers of its letters about room and about messages, modulo 2^64.
+    /// The numbers of its envelopes about room and about messages, modulo 2^64.
     rooms: usize,
     messages: usize,
 }
@@ -169,8 +169,8 @@ impl<'a, R: Wait, T: NonBlocking, W: Watch<T>> Worker<'a, R, T, W> {
         (places, tools)
     }
 
-    /// Counts a letter that this worker writes. Returns whose turn it is to look first, counted on
-    /// from turn to turn, or `None` for its own.
+    /// Counts an envelope that this worker writes. Returns whose turn it is to look first, counted
+    /// on from turn to turn, or `None` for its own.
     pub(crate) fn next_first(&mut self, notification: &Notification) -> Option<usize>
         ensures { self.new.places ≡ self.old.places }
     {
@@ -204,7 +204,7 @@ impl<'a, R: Wait, T: NonBlocking, W: Watch<T>> Worker<'a, R, T, W> {
         }
     }
 
-    /// Gives a vacant place to the client of a connection, and has its connection instrumented.
+    /// Gives a vacant place to the client of a connection, and has its connection watched.
     #[tactic(auto, using(crate::proofs::PlaceLists::adopts_at))]
     pub(crate) fn adopt(&mut self, place: usize, alloc: Global, connection: T)
         requires { IsVacantAt place self.old.places.items }
@@ -384,7 +384,8 @@ impl<'a, R: Wait, T: NonBlocking, W: Watch<T>> Worker<'a, R, T, W> {
     }
 }
 
-/// Returns the numbers of this many places, the first one last. Returns `None` if memory is refused.
+/// Returns the numbers of this many places, the first one last. Returns `None` if memory is
+/// refused.
 fn all_places(alloc: Global, count: usize) -> Option<Vec<usize>> {
     (0..count).rev().collect(alloc).ok()
 }

@@ -10,8 +10,8 @@ ghost use Rattle.sysv_gate.specs.Tables.{me_at};
 ghost use Rattle.sysv_gate.specs.Locks.{IsLockIn, IsPassAt, IsSame};
 
 pub(crate) mod acquire;
-pub(crate) mod doorbell;
 pub(crate) mod calls;
+pub(crate) mod doorbell;
 pub(crate) mod turns;
 pub(crate) mod waits;
 

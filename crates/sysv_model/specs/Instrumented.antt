@@ -1,4 +1,4 @@
--- A instrumented stream (this project's word): a borrowed reader or writer that counts how often it has
+-- An instrumented stream (this project's word): a borrowed reader or writer that counts how often it has
 -- failed since it was borrowed.
 use Rattle.std.specs.Prelude.{◌≡◌, ◌≢◌, ℕ, Bool, true, false, not, ◌&&◌, ◌==◌, ◌+◌, ◌%◌, ◌^◌, List, length, Result, Ok}
 use Rattle.std.specs.Prelude.{Err}

@@ -7,8 +7,8 @@ use std::io;
 use std::io::{Read, Write};
 use thiserror::Error;
 
-/// The error of `Instrumented::write_out`: a write failed, or took none of the bytes it was given. The
-/// writer took a prefix of the bytes.
+/// The error of `Instrumented::write_out`: a write failed, or took none of the bytes it was given.
+/// The writer took a prefix of the bytes.
 #[derive(Clone, Copy, PartialEq, Eq, Debug, Error)]
 #[error("the bytes cannot be written")]
 pub struct WriteFault;

@@ -58,7 +58,8 @@ module _ (old : Objects) (number : ℕ) (was new : Slot) (call : Call) (reply : 
     slots = λ at slot here. elim (get_set old.slots number at new slot here) [
       | inl same ↦
           subst (SlotRepresents _) same.1
-          (subst (λ n. SlotRepresents (slot_history n (turns ++ turn_of who (AtSlot number call reply) ∷ [])) new) same.0
+          (subst (λ n. SlotRepresents (slot_history n (turns ++ turn_of who (AtSlot number call reply) ∷ [])) new)
+          same.0
           (subst (λ h. SlotRepresents h new) (sym (at_its_slot number turns who call reply))
           (turn.stands (slot_history number turns) who (st.slots number was there))))
       | inr apart ↦ subst (λ h. SlotRepresents h slot) (sym (at_another at number turns who call reply apart.0))

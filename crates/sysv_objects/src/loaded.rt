@@ -10,7 +10,7 @@ use sysv_pool::Chain;
 
 /// A chain that holds a body of at most 8,192 bytes in the number of blocks that it needs.
 ///
-/// A letter can be neither dropped nor copied; spend it with `into_chain`.
+/// It can be neither dropped nor copied; spend it with `into_chain`.
 pub struct LoadedChain {
     chain: Chain,
     size: usize,
@@ -31,7 +31,7 @@ impl Model for LoadedChain {
 }
 
 impl LoadedChain {
-    /// Writes the body into the chain and returns both as a letter.
+    /// Writes the body into the chain and returns both.
     ///
     /// # Conditions
     ///

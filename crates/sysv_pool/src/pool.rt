@@ -77,8 +77,9 @@ impl Pool {
     ///
     /// Returns `None`, with the pool unchanged, if fewer blocks are free. Allocates nothing.
     ///
-    /// It takes constant time if the pool keeps a chain of this length whole. Otherwise it takes time
-    /// in proportion to the number of blocks that it reserves, and looks at no more than 128 stacks.
+    /// It takes constant time if the pool keeps a chain of this length whole. Otherwise it takes
+    /// time in proportion to the number of blocks that it reserves, and looks at no more than 128
+    /// stacks.
     ///
     /// # Conditions
     ///
@@ -107,8 +108,9 @@ impl Pool {
     /// Makes the blocks of the chain free and adds 1 to the released count. A chain without blocks
     /// is counted too.
     ///
-    /// It allocates nothing. The pool keeps the chain whole in constant time, if it has space for one
-    /// more of this length. Otherwise it takes time in proportion to the number of blocks in the chain.
+    /// It allocates nothing. The pool keeps the chain whole in constant time, if it has space for
+    /// one more of this length. Otherwise it takes time in proportion to the number of blocks in
+    /// the chain.
     ///
     /// # Errors
     ///

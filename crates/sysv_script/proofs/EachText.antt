@@ -21,8 +21,10 @@ use Rattle.sysv_script.specs.declared.head.Head.TheVariants as head
 use Rattle.sysv_script.specs.Lines.{Says}
 use Rattle.sysv_script.specs.Said.{Said, Nothing, MakesPreset, GivesCred, GivesMoment, Starts, StepsOnce, Continues}
 use Rattle.sysv_script.specs.Said.{AllContinue, GivesBlocks}
-use Rattle.sysv_script.specs.ScriptState.{ScriptState, opening_script_state, opening_world, begun_script_state, first_cred, in_world, cred_at}
-use Rattle.sysv_script.specs.ScriptState.{with_cred, Advances, GoesOn, call_for, most_steps, CallRuns, StartRuns, StepsRun}
+use Rattle.sysv_script.specs.ScriptState.{ScriptState, opening_script_state, opening_world, begun_script_state}
+use Rattle.sysv_script.specs.ScriptState.{first_cred, in_world, cred_at}
+use Rattle.sysv_script.specs.ScriptState.{with_cred, Advances, GoesOn, call_for, most_steps, CallRuns, StartRuns}
+use Rattle.sysv_script.specs.ScriptState.{StepsRun}
 use Rattle.sysv_script.specs.ScriptState.{OneRuns, AllRun, LineRuns, pending, printed}
 use Rattle.sysv_script.specs.Names.{operation_of}
 use Rattle.sysv_script.specs.ScriptText.{BeginsWith, LineDoes, IsBad, Ending, Whole, BadLine, TooMany, Prints, Ends}
@@ -161,7 +163,8 @@ module _ (split : OneSplit) (decided : EachLineIsDecided) (some : SomeStep) (pre
       let more = all_run actors one.1 one.3.1 in
       (one.0 ++ more.0, more.1, (one.1, one.0, more.0, one.2, more.2, refl), (more.3.0 ∙ one.3.0, more.3.1))
 
-  line_done : (s : ScriptState) (line : List ℕ) (said : Said) (out : List ℕ) (after : ScriptState) → IsManned s → Says line said →
+  line_done : (s : ScriptState) (line : List ℕ) (said : Said) (out : List ℕ) (after : ScriptState) → IsManned s →
+      Says line said →
       LineRuns s said true out after → IsKept s after → LineDone s line ⊎ IsBad s line
   line_done s line said out after manned says runs kept =
       inl (record { out = out; after = after; does = (said, says, runs); manned = manned_after s after manned kept })
@@ -182,7 +185,8 @@ module _ (split : OneSplit) (decided : EachLineIsDecided) (some : SomeStep) (pre
       inr (inr (GivesBlocks blocks, [], s, says, (refl, (e, subst (λ b. s ≡ (if b then opened else s)) e refl))))
 
   -- A line with a meaning does it, or is a preset or a size of the pool that comes too late.
-  line_goes : (s : ScriptState) (line : List ℕ) (said : Said) → IsManned s → Says line said → LineDone s line ⊎ IsBad s line
+  line_goes : (s : ScriptState) (line : List ℕ) (said : Said) → IsManned s → Says line said →
+      LineDone s line ⊎ IsBad s line
   line_goes s line Nothing manned says =
       inl (record { out = []; after = s; does = (Nothing, says, (refl, refl, refl)); manned = manned })
   line_goes s line MakesPreset manned says =
@@ -230,7 +234,8 @@ module _ (split : OneSplit) (decided : EachLineIsDecided) (some : SomeStep) (pre
   -- ---- a text
 
   -- A text of at most `bound` bytes prints something as a whole.
-  prints_bounded : (bound n : ℕ) (s : ScriptState) (text : List ℕ) → length text ≤ bound → IsManned s → PrintsWhole s n text
+  prints_bounded : (bound n : ℕ) (s : ScriptState) (text : List ℕ) → length text ≤ bound → IsManned s →
+      PrintsWhole s n text
   prints_bounded bound n s [] short manned = ([], Whole, Ends s n)
   prints_bounded zero n s (x ∷ xs) short manned = absurd (omega (arith, short))
   prints_bounded (suc bound) n s (x ∷ xs) short manned = elim (at_most n 1000000) [

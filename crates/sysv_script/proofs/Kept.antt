@@ -7,7 +7,8 @@ use Rattle.sysv_script.specs.Staged.{IsScriptStateOf}
 use Rattle.sysv_script.specs.declared.stage.Stage.{Stage}
 
 -- A stage in which only the spare bodies have changed is seen as before.
-pub kept : (s : ScriptState) (old new : Stage) → new ≡ record old { spares = new.spares } → IsScriptStateOf s old → IsScriptStateOf s new
+pub kept : (s : ScriptState) (old new : Stage) → new ≡ record old { spares = new.spares } → IsScriptStateOf s old →
+    IsScriptStateOf s new
 kept s old new e seen = subst (IsScriptStateOf s) (sym e)
     (record { world = seen.world; creds = seen.creds; moment = seen.moment; fresh = seen.fresh })
 

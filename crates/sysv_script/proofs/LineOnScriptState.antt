@@ -23,7 +23,8 @@ as_run (line.Step actor) s after understood out kept other h = h
 as_run (line.Go actor) s after understood out kept other h = h
 as_run line.All s after understood out kept other h = h
 
-begun_seen : (s : ScriptState) (old : Stage) → IsScriptStateOf s old → IsScriptStateOf (begun_script_state s) (record old { fresh = false })
+begun_seen : (s : ScriptState) (old : Stage) → IsScriptStateOf s old →
+    IsScriptStateOf (begun_script_state s) (record old { fresh = false })
 begun_seen s old seen = record { world = seen.world; creds = seen.creds; moment = seen.moment; fresh = refl }
 
 pub acted : (l : Line) (r : Result Bool NoMemory) (old new : Stage) (before now : List ℕ) → (l ≡ line.Skipped → ⊥) →

@@ -17,8 +17,10 @@ use Rattle.sysv_model.specs.declared.cred.Cred.{Cred}
 use Rattle.sysv_core.specs.World.{World, Preset, actor_at, Presets}
 use Rattle.sysv_script.specs.Said.{Said, Nothing, MakesPreset, GivesCred, GivesMoment, Starts, StepsOnce, Continues}
 use Rattle.sysv_script.specs.Said.{AllContinue, GivesBlocks}
-use Rattle.sysv_script.specs.ScriptState.{ScriptState, in_world, begun_script_state, opening_world, LineActs, Advances, GoesOn, StartsAs}
-use Rattle.sysv_script.specs.ScriptState.{call_for, most_steps, CallRuns, StartRuns, StepsRun, OneRuns, AllRun, LineRuns}
+use Rattle.sysv_script.specs.ScriptState.{ScriptState, in_world, begun_script_state, opening_world, LineActs, Advances}
+use Rattle.sysv_script.specs.ScriptState.{GoesOn, StartsAs}
+use Rattle.sysv_script.specs.ScriptState.{call_for, most_steps, CallRuns, StartRuns, StepsRun, OneRuns, AllRun}
+use Rattle.sysv_script.specs.ScriptState.{LineRuns}
 use Rattle.sysv_script.specs.ScriptState.{pending, printed}
 use Rattle.sysv_script.specs.Names.{operation_of}
 use Rattle.sysv_lists.specs.Prefix.{IsPrefixOf}
@@ -76,8 +78,10 @@ module _ (split : OneSplit) (saying : OneSaying) where
       acts_apart (begun_script_state s) (GivesMoment moment) out other a b h k
   runs_apart s (Starts actor asked goes) out other a b h k =
       acts_apart (begun_script_state s) (Starts actor asked goes) out other a b h k
-  runs_apart s (StepsOnce actor) out other a b h k = acts_apart (begun_script_state s) (StepsOnce actor) out other a b h k
-  runs_apart s (Continues actor) out other a b h k = acts_apart (begun_script_state s) (Continues actor) out other a b h k
+  runs_apart s (StepsOnce actor) out other a b h k =
+      acts_apart (begun_script_state s) (StepsOnce actor) out other a b h k
+  runs_apart s (Continues actor) out other a b h k =
+      acts_apart (begun_script_state s) (Continues actor) out other a b h k
   runs_apart s AllContinue out other a b h k = acts_apart (begun_script_state s) AllContinue out other a b h k
 
   -- A bad line does nothing.
@@ -183,17 +187,21 @@ module _ (split : OneSplit) (saying : OneSaying) where
 
     goes_on_sound : (n : ℕ) (s : ScriptState) (actor : ℕ) (first given : Stepped) (a : ScriptState) → IsSound s.world →
         GoesOn n s actor first given a → IsSound a.world
-    goes_on_sound zero s actor stepped.Nothing given a sound h = subst (λ (m : ScriptState). IsSound m.world) (sym h.1) sound
+    goes_on_sound zero s actor stepped.Nothing given a sound h =
+        subst (λ (m : ScriptState). IsSound m.world) (sym h.1) sound
     goes_on_sound zero s actor (stepped.Answer answer) given a sound h =
         subst (λ (m : ScriptState). IsSound m.world) (sym h.1) sound
-    goes_on_sound zero s actor stepped.Worn given a sound h = subst (λ (m : ScriptState). IsSound m.world) (sym h.1) sound
+    goes_on_sound zero s actor stepped.Worn given a sound h =
+        subst (λ (m : ScriptState). IsSound m.world) (sym h.1) sound
     goes_on_sound (suc n) s actor stepped.Nothing given a sound h =
         goes_on_sound n h.0 actor h.1 given a (advances_sound s (Step actor s.moment) h.1 h.0 sound h.2) h.3
     goes_on_sound (suc n) s actor (stepped.Answer answer) given a sound h =
         subst (λ (m : ScriptState). IsSound m.world) (sym h.1) sound
-    goes_on_sound (suc n) s actor stepped.Worn given a sound h = subst (λ (m : ScriptState). IsSound m.world) (sym h.1) sound
+    goes_on_sound (suc n) s actor stepped.Worn given a sound h =
+        subst (λ (m : ScriptState). IsSound m.world) (sym h.1) sound
 
-    goes_on_once : (n : ℕ) (s : ScriptState) (actor : ℕ) (first given told : Stepped) (a b : ScriptState) → IsSound s.world →
+    goes_on_once : (n : ℕ) (s : ScriptState) (actor : ℕ) (first given told : Stepped) (a b : ScriptState) →
+        IsSound s.world →
         GoesOn n s actor first given a → GoesOn n s actor first told b → (given ≡ told) × (a ≡ b)
     goes_on_once zero s actor stepped.Nothing given told a b sound h k = (h.0 ∙ sym k.0, h.1 ∙ sym k.1)
     goes_on_once zero s actor (stepped.Answer answer) given told a b sound h k = (h.0 ∙ sym k.0, h.1 ∙ sym k.1)
@@ -207,7 +215,8 @@ module _ (split : OneSplit) (saying : OneSaying) where
     goes_on_once (suc n) s actor (stepped.Answer answer) given told a b sound h k = (h.0 ∙ sym k.0, h.1 ∙ sym k.1)
     goes_on_once (suc n) s actor stepped.Worn given told a b sound h k = (h.0 ∙ sym k.0, h.1 ∙ sym k.1)
 
-    starts_once : (s : ScriptState) (actor : ℕ) (call : Call (List ℕ) (List ℕ)) (given told : Stepped) (a b : ScriptState) →
+    starts_once : (s : ScriptState) (actor : ℕ) (call : Call (List ℕ) (List ℕ)) (given told : Stepped)
+        (a b : ScriptState) →
         IsSound s.world → StartsAs s actor call given a → StartsAs s actor call told b → (given ≡ told) × (a ≡ b)
     starts_once s actor call given told a b sound h k =
         let who : k.0 ≡ h.0 = one_cred k.0 h.0 (sym k.1 ∙ h.1) in
@@ -218,7 +227,8 @@ module _ (split : OneSplit) (saying : OneSaying) where
         IsSound s.world → StartsAs s actor call given a → IsSound a.world
     starts_sound s actor call given a sound h = advances_sound s (Start actor h.0 call) given a sound h.2
 
-    call_once : (s : ScriptState) (actor : ℕ) (asked : SystemCall) (goes : Bool) (given told : Stepped) (a b : ScriptState) →
+    call_once : (s : ScriptState) (actor : ℕ) (asked : SystemCall) (goes : Bool) (given told : Stepped)
+        (a b : ScriptState) →
         IsSound s.world →
         CallRuns s actor asked goes given a → CallRuns s actor asked goes told b → (given ≡ told) × (a ≡ b)
     call_once s actor asked goes given told a b sound h k =
@@ -239,7 +249,8 @@ module _ (split : OneSplit) (saying : OneSaying) where
       same.1,
     )
 
-    start_once : (s : ScriptState) (actor : ℕ) (asked : SystemCall) (goes : Bool) (o : Option Operation) (out other : List ℕ)
+    start_once : (s : ScriptState) (actor : ℕ) (asked : SystemCall) (goes : Bool) (o : Option Operation)
+        (out other : List ℕ)
         (a b : ScriptState) → IsSound s.world →
         StartRuns s actor asked goes o out a → StartRuns s actor asked goes o other b → (out ≡ other) × (a ≡ b)
     start_once s actor asked goes (Some operation) out other a b sound h k = (h.0 ∙ sym k.0, h.1 ∙ sym k.1)
@@ -255,18 +266,21 @@ module _ (split : OneSplit) (saying : OneSaying) where
         line_same actor operation h.0 k.0 out other a b
         (goes_on_once n s actor stepped.Nothing h.0 k.0 a b sound h.1 k.1) h.2 k.2
 
-    steps_sound : (n : ℕ) (s : ScriptState) (actor : ℕ) (o : Option Operation) (out : List ℕ) (a : ScriptState) → IsSound s.world →
+    steps_sound : (n : ℕ) (s : ScriptState) (actor : ℕ) (o : Option Operation) (out : List ℕ) (a : ScriptState) →
+        IsSound s.world →
         StepsRun n s actor o out a → IsSound a.world
     steps_sound n s actor None out a sound h = subst (λ (m : ScriptState). IsSound m.world) (sym h.1) sound
     steps_sound n s actor (Some operation) out a sound h = goes_on_sound n s actor stepped.Nothing h.0 a sound h.1
 
-    one_once : (s : ScriptState) (actor : ℕ) (o : Option Operation) (out other : List ℕ) (a b : ScriptState) → IsSound s.world →
+    one_once : (s : ScriptState) (actor : ℕ) (o : Option Operation) (out other : List ℕ) (a b : ScriptState) →
+        IsSound s.world →
         OneRuns s actor o out a → OneRuns s actor o other b → (out ≡ other) × (a ≡ b)
     one_once s actor None out other a b sound h k = (h.0 ∙ sym k.0, h.1 ∙ sym k.1)
     one_once s actor (Some operation) out other a b sound h k =
         steps_once 16 s actor (Some operation) out other a b sound h k
 
-    one_sound : (s : ScriptState) (actor : ℕ) (o : Option Operation) (out : List ℕ) (a : ScriptState) → IsSound s.world →
+    one_sound : (s : ScriptState) (actor : ℕ) (o : Option Operation) (out : List ℕ) (a : ScriptState) →
+        IsSound s.world →
         OneRuns s actor o out a → IsSound a.world
     one_sound s actor None out a sound h = subst (λ (m : ScriptState). IsSound m.world) (sym h.1) sound
     one_sound s actor (Some operation) out a sound h = steps_sound 16 s actor (Some operation) out a sound h
@@ -281,7 +295,8 @@ module _ (split : OneSplit) (saying : OneSaying) where
         (one_sound s actor (pending (actor_at s.world.actors actor)) h.1 h.0 sound h.3) h.4 onward in
         (h.5 ∙ (ap (λ l. l ++ h.2) here.0 ∙ (ap (λ l. k.1 ++ l) more.0 ∙ sym k.5)), more.1)
 
-    all_sound : (actors : List ℕ) (s : ScriptState) (out : List ℕ) (a : ScriptState) → IsSound s.world → AllRun actors s out a →
+    all_sound : (actors : List ℕ) (s : ScriptState) (out : List ℕ) (a : ScriptState) → IsSound s.world →
+        AllRun actors s out a →
         IsSound a.world
     all_sound [] s out a sound h = subst (λ (m : ScriptState). IsSound m.world) (sym h.1) sound
     all_sound (actor ∷ actors) s out a sound h =
@@ -307,7 +322,8 @@ module _ (split : OneSplit) (saying : OneSaying) where
         LineRuns s said true out a → LineRuns s said true other b → (out ≡ other) × (a ≡ b)
     line_once s Nothing out other a b sound h k = act_once s Nothing out other a b sound h k
     line_once s (GivesBlocks blocks) out other a b sound h k = (h.0 ∙ sym k.0, h.1.1 ∙ sym k.1.1)
-    line_once s MakesPreset out other a b sound h k = act_once (begun_script_state s) MakesPreset out other a b sound h k
+    line_once s MakesPreset out other a b sound h k =
+        act_once (begun_script_state s) MakesPreset out other a b sound h k
     line_once s (GivesCred actor cred) out other a b sound h k =
         act_once (begun_script_state s) (GivesCred actor cred) out other a b sound h k
     line_once s (GivesMoment moment) out other a b sound h k =
@@ -318,7 +334,8 @@ module _ (split : OneSplit) (saying : OneSaying) where
         act_once (begun_script_state s) (StepsOnce actor) out other a b sound h k
     line_once s (Continues actor) out other a b sound h k =
         act_once (begun_script_state s) (Continues actor) out other a b sound h k
-    line_once s AllContinue out other a b sound h k = act_once (begun_script_state s) AllContinue out other a b sound h k
+    line_once s AllContinue out other a b sound h k =
+        act_once (begun_script_state s) AllContinue out other a b sound h k
 
     start_sound : (s : ScriptState) (actor : ℕ) (asked : SystemCall) (goes : Bool) (o : Option Operation) (out : List ℕ)
         (a : ScriptState) → IsSound s.world → StartRuns s actor asked goes o out a → IsSound a.world
@@ -328,7 +345,8 @@ module _ (split : OneSplit) (saying : OneSaying) where
         goes_on_sound (most_steps goes) h.1.0 actor h.1.1 h.0 a
         (starts_sound s actor (call_for asked) h.1.1 h.1.0 sound h.1.2) h.1.3
 
-    act_sound : (s : ScriptState) (said : Said) (out : List ℕ) (a : ScriptState) → IsSound s.world → LineActs s said true out a →
+    act_sound : (s : ScriptState) (said : Said) (out : List ℕ) (a : ScriptState) → IsSound s.world →
+        LineActs s said true out a →
         IsSound a.world
     act_sound s Nothing out a sound h = subst (λ (m : ScriptState). IsSound m.world) (sym h.2) sound
     act_sound s (GivesBlocks blocks) out a sound h = subst (λ (m : ScriptState). IsSound m.world) (sym h.2) sound
@@ -345,29 +363,35 @@ module _ (split : OneSplit) (saying : OneSaying) where
 
     pool_sound : (s : ScriptState) (blocks : ℕ) (fresh : Bool) (a : ScriptState) → IsSound s.world →
         a ≡ (if fresh then in_world (begun_script_state s) (opening_world blocks) else s) → IsSound a.world
-    pool_sound s blocks true a sound e = subst (λ (m : ScriptState). IsSound m.world) (sym e) (opening_sound openings blocks)
+    pool_sound s blocks true a sound e =
+        subst (λ (m : ScriptState). IsSound m.world) (sym e) (opening_sound openings blocks)
     pool_sound s blocks false a sound e = subst (λ (m : ScriptState). IsSound m.world) (sym e) sound
 
-    line_sound : (s : ScriptState) (said : Said) (out : List ℕ) (a : ScriptState) → IsSound s.world → LineRuns s said true out a →
+    line_sound : (s : ScriptState) (said : Said) (out : List ℕ) (a : ScriptState) → IsSound s.world →
+        LineRuns s said true out a →
         IsSound a.world
     line_sound s Nothing out a sound h = act_sound s Nothing out a sound h
     line_sound s (GivesBlocks blocks) out a sound h = pool_sound s blocks s.fresh a sound h.1.1
     line_sound s MakesPreset out a sound h = act_sound (begun_script_state s) MakesPreset out a sound h
-    line_sound s (GivesCred actor cred) out a sound h = act_sound (begun_script_state s) (GivesCred actor cred) out a sound h
-    line_sound s (GivesMoment moment) out a sound h = act_sound (begun_script_state s) (GivesMoment moment) out a sound h
+    line_sound s (GivesCred actor cred) out a sound h =
+        act_sound (begun_script_state s) (GivesCred actor cred) out a sound h
+    line_sound s (GivesMoment moment) out a sound h =
+        act_sound (begun_script_state s) (GivesMoment moment) out a sound h
     line_sound s (Starts actor asked goes) out a sound h =
         act_sound (begun_script_state s) (Starts actor asked goes) out a sound h
     line_sound s (StepsOnce actor) out a sound h = act_sound (begun_script_state s) (StepsOnce actor) out a sound h
     line_sound s (Continues actor) out a sound h = act_sound (begun_script_state s) (Continues actor) out a sound h
     line_sound s AllContinue out a sound h = act_sound (begun_script_state s) AllContinue out a sound h
 
-    does_once : (s : ScriptState) (line out other : List ℕ) (a b : ScriptState) → IsSound s.world → LineDoes s line out a →
+    does_once : (s : ScriptState) (line out other : List ℕ) (a b : ScriptState) → IsSound s.world →
+        LineDoes s line out a →
         LineDoes s line other b → (out ≡ other) × (a ≡ b)
     does_once s line out other a b sound h k =
         let same : k.0 ≡ h.0 = saying line k.0 h.0 k.1 h.1 in
         line_once s h.0 out other a b sound h.2 (subst (λ said. LineRuns s said true other b) same k.2)
 
-    does_sound : (s : ScriptState) (line out : List ℕ) (a : ScriptState) → IsSound s.world → LineDoes s line out a → IsSound a.world
+    does_sound : (s : ScriptState) (line out : List ℕ) (a : ScriptState) → IsSound s.world → LineDoes s line out a →
+        IsSound a.world
     does_sound s line out a sound h = line_sound s h.0 out a sound h.2
 
     -- Another run passes over the same line, and continues from the same script state.
@@ -376,7 +400,8 @@ module _ (split : OneSplit) (saying : OneSaying) where
       prints : Prints after (n + 1) rest behind end
       whole : other ≡ out ++ behind
 
-    goes_same : (s : ScriptState) (n : ℕ) (text line rest out : List ℕ) (after : ScriptState) (other : List ℕ) (end : Ending) →
+    goes_same : (s : ScriptState) (n : ℕ) (text line rest out : List ℕ) (after : ScriptState) (other : List ℕ)
+        (end : Ending) →
         IsSound s.world → n ≤ 1000000 → BeginsWith text line rest → LineDoes s line out after →
         Opens s n text other end → OnSame after n rest out other end
     goes_same s n text line rest out after other end sound few begins does (inl k) =
@@ -412,7 +437,8 @@ module _ (split : OneSplit) (saying : OneSaying) where
         (ap (λ l. first ++ l) same.0 ∙ sym on.whole, same.1)
 
     -- What was printed before a line is a prefix of all that is printed.
-    prefix_of : (s : ScriptState) (n : ℕ) (text out left other : List ℕ) (there : ScriptState) (end : Ending) → IsSound s.world →
+    prefix_of : (s : ScriptState) (n : ℕ) (text out left other : List ℕ) (there : ScriptState) (end : Ending) →
+        IsSound s.world →
         PrintsSofar s n text out left there → Prints s n text other end → IsPrefixOf out other
     prefix_of s n text out left other there end sound (Here _ _ _) k = (other, refl)
     prefix_of s n text out left other there end sound (Past _ _ _ line rest first after more _ _ few begins does p) k =

@@ -174,7 +174,7 @@ start_at w after given (suc place) cred asked (Some None) own is idle t =
 start_at w after given (suc place) cred asked (Some (Some d)) own is idle t =
     absurd (busy (operation_of d.call.asked) d.state (own place d is) idle)
 
--- The start of a call of an actor without a call pending.
+-- The start of a call of an actor without a pending call.
 pub start_leaves : (w after : World) (given : List Response) (actor : ℕ) (cred : Cred) (asked : SystemCall) →
     AreOwn w.actors → pending (actor_at w.actors actor) ≡ None → Makes w (Start actor cred asked) given after →
     Leaves (operation_of asked) actor given after

@@ -10,7 +10,8 @@ use Rattle.sysv_core.specs.declared.event.Stepped.{Stepped}
 use Rattle.sysv_core.specs.declared.event.Stepped.TheVariants as stepped
 use Rattle.sysv_script.specs.declared.names.Operation.{Operation}
 use Rattle.sysv_script.specs.Names.{operation_of}
-use Rattle.sysv_script.specs.ScriptState.{ScriptState, GoesOn, CallRuns, call_for, most_steps, printed, standing_line, pending}
+use Rattle.sysv_script.specs.ScriptState.{ScriptState, GoesOn, CallRuns, call_for, most_steps, printed, standing_line}
+use Rattle.sysv_script.specs.ScriptState.{pending}
 use Rattle.sysv_script.specs.Results.{IsResultOf, IsWithoutResult, HasResults, Empty, Result, Without, LeadsPrinting}
 use Rattle.sysv_script.proofs.OwnOperation.{AreOwn, AreOf, CallsAs, step_leaves, start_leaves}
 
@@ -129,8 +130,10 @@ stops o w mid after x given first result own makes ends r a =
     (record { list = x ∷ []; given = given; leads = one_makes w mid.world x given makes; ends = ends; own = own }))
 
 -- After an event with this result the call makes more steps.
-after_event : (n : ℕ) (o : Operation) (w : World) (mid : ScriptState) (actor : ℕ) (x : Transition) (given : List Response)
-    (first result : Stepped) (after : ScriptState) → AreOwn mid.world.actors → CallsAs o (actor_at mid.world.actors actor) →
+after_event : (n : ℕ) (o : Operation) (w : World) (mid : ScriptState) (actor : ℕ) (x : Transition)
+    (given : List Response)
+    (first result : Stepped) (after : ScriptState) → AreOwn mid.world.actors →
+    CallsAs o (actor_at mid.world.actors actor) →
     Makes w x given mid.world → EndsAs o given first → GoesOn n mid actor first result after →
     StepsTo o w result after.world
 after_event zero o w mid actor x given stepped.Nothing result after own calls makes ends g =
@@ -173,7 +176,8 @@ asked_for (MsgctlSet id to) = refl
 asked_for (MsgctlRmid id) = refl
 
 -- A call is started, and makes its first steps.
-pub call_runs_to : (s : ScriptState) (actor : ℕ) (asked : SystemCall) (goes : Bool) (result : Stepped) (after : ScriptState) →
+pub call_runs_to : (s : ScriptState) (actor : ℕ) (asked : SystemCall) (goes : Bool) (result : Stepped)
+    (after : ScriptState) →
     AreOwn s.world.actors → pending (actor_at s.world.actors actor) ≡ None →
     CallRuns s actor asked goes result after →
     StepsTo (operation_of asked) s.world result after.world

@@ -1,4 +1,4 @@
--- The run of a script pending: what was written and composed so far, and what the rest of the
+-- The run of a pending script: what was written and composed so far, and what the rest of the
 -- text adds to it.
 use Rattle.std.proofs.Common.{◌≡◌, ◌+◌, ◌<◌, ◌≤◌, ℕ, suc, Bool, true, false, List, [], ◌∷◌, ◌++◌, Option, Some, None}
 use Rattle.std.proofs.Common.{length, length-append, take, drop, refl, sym, ap, subst, ◌∙◌, append_assoc, append-nil}
@@ -27,7 +27,8 @@ use Rattle.sysv_script.specs.ScriptSofar.{Halt, AtEnd, Before, Runs, IsText, Run
 use Rattle.sysv_script.specs.ScriptSofar.{LeavesRead}
 use Rattle.sysv_script.specs.declared.line_reader.Found.{Found}
 
-pub begins_text : (s : ScriptState) (now : Stage) (text waiting : List ℕ) (left old : Option (List ℕ)) (composed : List ℕ) →
+pub begins_text : (s : ScriptState) (now : Stage) (text waiting : List ℕ) (left old : Option (List ℕ))
+    (composed : List ℕ) →
     composed ≡ [] → IsScriptStateOf s now → IsText waiting left text →
     RunsOn s text old 1 now waiting left old composed
 begins_text s now text waiting left old composed none seen t = record {
@@ -118,7 +119,8 @@ joined_more handed composed out more =
     sym (append_assoc (handed ++ composed) out more) ∙ ap (λ l. l ++ more) (append_assoc handed composed out)
 
 -- A run passes over a line that does something.
-past_line : (s : ScriptState) (n : ℕ) (text line rest out : List ℕ) (after : ScriptState) (more : List ℕ) (halt : Halt) →
+past_line : (s : ScriptState) (n : ℕ) (text line rest out : List ℕ) (after : ScriptState) (more : List ℕ)
+    (halt : Halt) →
     n ≤ 1000000 → BeginsWith text line rest → LineDoes s line out after →
     Runs after (n + 1) rest more halt → Runs s n text (out ++ more) halt
 past_line s n text line rest out after more (AtEnd ending) few begins does p =
@@ -126,7 +128,8 @@ past_line s n text line rest out after more (AtEnd ending) few begins does p =
 past_line s n text line rest out after more (Before left there) few begins does p =
     Past s n text line rest out after more left there few begins does p
 
-pub runs_line : (s : ScriptState) (text : List ℕ) (old : Option (List ℕ)) (n : ℕ) (now then : Stage) (waiting behind : List ℕ)
+pub runs_line : (s : ScriptState) (text : List ℕ) (old : Option (List ℕ)) (n : ℕ) (now then : Stage)
+    (waiting behind : List ℕ)
     (left new : Option (List ℕ)) (composed told : List ℕ) (len : ℕ) →
     n ≤ 1000000 → IsFirstLine len waiting → behind ≡ drop (len + 1) waiting →
     ((m : ScriptState) → IsScriptStateOf m now →
@@ -259,7 +262,8 @@ pub no_end_in_none : (old new : List ℕ) → length old ≤ 0 → new ≡ old �
 no_end_in_none old new none same = λ has. omega (arith, none, ap length same, has.1)
 
 -- A line that is too long is bad as soon as that is known, whatever follows.
-overruns : OneSplit → (m : ScriptState) (n : ℕ) (front rest : List ℕ) → n ≤ 1000000 → 9000 < length front → HasNoEnd front →
+overruns : OneSplit → (m : ScriptState) (n : ℕ) (front rest : List ℕ) → n ≤ 1000000 → 9000 < length front →
+    HasNoEnd front →
     Prints m n (front ++ rest) (bad_line_text n) (BadLine n)
 overruns split m n front rest few long endless = elim (split.either 10 rest) [
   | inl found ↦
@@ -302,7 +306,8 @@ bad_printed split n len m waiting rest left found true e few next bad t =
 pub fails_at : OneSplit →
     (s : ScriptState) (text : List ℕ) (old : Option (List ℕ)) (n : ℕ) (now : Stage) (waiting : List ℕ)
     (left new : Option (List ℕ)) (composed told : List ℕ) (found : Found) →
-    n ≤ 1000000 → IsNextLine found waiting left → ((m : ScriptState) → IsScriptStateOf m now → IsBad m (take found.len waiting)) →
+    n ≤ 1000000 → IsNextLine found waiting left →
+    ((m : ScriptState) → IsScriptStateOf m now → IsBad m (take found.len waiting)) →
     told ≡ composed ++ bad_line_text n →
     RunsOn s text old n now waiting left new composed → LeavesAll s text (BadLine n) old new told
 fails_at split s text old n now waiting left new composed told found few next bad e on =

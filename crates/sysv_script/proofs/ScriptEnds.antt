@@ -27,7 +27,8 @@ use Rattle.sysv_script.specs.declared.fault.ScriptFault.TheVariants.{Line, Read,
 use Rattle.sysv_script.proofs.RunSofar.{fails_at, stops_front}
 
 -- A fault of a stream.
-pub at_stream_fault : (fault : ScriptFault) (s : ScriptState) (text : List ℕ) (old new : Option (List ℕ)) (composed : List ℕ)
+pub at_stream_fault : (fault : ScriptFault) (s : ScriptState) (text : List ℕ) (old new : Option (List ℕ))
+    (composed : List ℕ)
     (left : Option (List ℕ)) → IsStreamFault fault →
     (fault ≡ Read → LeavesRead s text old new composed left) → LeavesPrefix s text old new composed →
     LeavesAtFault fault s text old new composed left
@@ -37,7 +38,8 @@ at_stream_fault (Line n) s text old new composed left h all part = absurd h
 at_stream_fault NoMemory s text old new composed left h all part = absurd h
 at_stream_fault Bound s text old new composed left h all part = absurd h
 
-pub at_write_fault : (fault : ScriptFault) (s : ScriptState) (text : List ℕ) (old new : Option (List ℕ)) (composed : List ℕ)
+pub at_write_fault : (fault : ScriptFault) (s : ScriptState) (text : List ℕ) (old new : Option (List ℕ))
+    (composed : List ℕ)
     (left : Option (List ℕ)) → fault ≡ Write →
     LeavesPrefix s text old new composed → LeavesAtFault fault s text old new composed left
 at_write_fault fault s text old new composed left e part =
@@ -45,7 +47,8 @@ at_write_fault fault s text old new composed left e part =
 
 -- A fault at a line.
 pub at_line_fault : OneSplit →
-    (fault : ScriptFault) (s : ScriptState) (text : List ℕ) (old : Option (List ℕ)) (n : ℕ) (now : Stage) (waiting : List ℕ)
+    (fault : ScriptFault) (s : ScriptState) (text : List ℕ) (old : Option (List ℕ)) (n : ℕ) (now : Stage)
+    (waiting : List ℕ)
     (left new : Option (List ℕ)) (composed told : List ℕ) (found : Found) →
     EndsAtLine fault n composed told →
     (IsLineFault fault → (m : ScriptState) → IsScriptStateOf m now → IsBad m (take found.len waiting)) → n ≤ 1000000 →
@@ -101,14 +104,17 @@ WritesSome text old new =
 
 -- The whole run of a script, from the stage and the input that were opened.
 pub script_runs : (r : Result ⊤ ScriptFault) (stage : Stage) (input text : List ℕ) (left old new : Option (List ℕ))
-    (composed : List ℕ) (unread : Option (List ℕ)) → IsScriptStateOf opening_script_state stage → input ≡ [] → left ≡ Some text →
-    ((s : ScriptState) → IsScriptStateOf s stage → (t : List ℕ) → IsText input left t → Leaves r s t old new composed unread) →
+    (composed : List ℕ) (unread : Option (List ℕ)) → IsScriptStateOf opening_script_state stage → input ≡ [] →
+    left ≡ Some text →
+    ((s : ScriptState) → IsScriptStateOf s stage → (t : List ℕ) → IsText input left t →
+    Leaves r s t old new composed unread) →
     Leaves r opening_script_state text old new composed unread
 script_runs r stage input text left old new composed unread opened none known runs =
     runs opening_script_state opened text (text, known, sym (ap (λ l. l ++ text) none))
 
 all_out : (ending : Ending) (text : List ℕ) (old mid new : Option (List ℕ)) (composed : List ℕ) →
-    LeavesAll opening_script_state text ending old mid composed → Appends mid new composed → WritesAll text ending old new
+    LeavesAll opening_script_state text ending old mid composed → Appends mid new composed →
+    WritesAll text ending old new
 all_out ending text old mid new composed left all =
     let handed = left.2 in
     (left.0, left.1, subst (Appends old new) (sym handed.2) (Appends-trans old mid new handed.0 composed handed.1 all))
@@ -125,7 +131,8 @@ front_out text old mid new composed left all =
 
 -- What was composed when the reader failed is written.
 read_out : (text : List ℕ) (old mid new : Option (List ℕ)) (composed : List ℕ) (unread : Option (List ℕ)) →
-    LeavesRead opening_script_state text old mid composed unread → Appends mid new composed → WritesRead text old new unread
+    LeavesRead opening_script_state text old mid composed unread → Appends mid new composed →
+    WritesRead text old new unread
 read_out text old mid new composed unread left all =
     let handed = left.5 in (
       left.0,
@@ -159,7 +166,8 @@ part_out halt out text old mid new handed composed printed grown front part =
     )
 
 all_cut : (ending : Ending) (text : List ℕ) (old mid new : Option (List ℕ)) (composed : List ℕ) →
-    LeavesAll opening_script_state text ending old mid composed → AppendsPrefix mid new composed → WritesSome text old new
+    LeavesAll opening_script_state text ending old mid composed → AppendsPrefix mid new composed →
+    WritesSome text old new
 all_cut ending text old mid new composed left part =
     let handed = left.2 in
     part_out (AtEnd ending) left.0 text old mid new handed.0 composed left.1 handed.1
@@ -172,7 +180,8 @@ front_cut text old mid new composed left part =
     part_out (Before left.1 left.2) left.0 text old mid new handed.0 composed left.3 handed.1 handed.2 part
 
 read_cut : (text : List ℕ) (old mid new : Option (List ℕ)) (composed : List ℕ) (unread : Option (List ℕ)) →
-    LeavesRead opening_script_state text old mid composed unread → AppendsPrefix mid new composed → WritesSome text old new
+    LeavesRead opening_script_state text old mid composed unread → AppendsPrefix mid new composed →
+    WritesSome text old new
 read_cut text old mid new composed unread left part =
     let handed = left.5 in
     part_out (Before left.1 left.2) left.0 text old mid new handed.0 composed left.3 handed.1
@@ -188,7 +197,8 @@ fault_cut Read text old mid new composed unread left part = read_cut text old mi
 fault_cut Write text old mid new composed unread left part = front_cut text old mid new composed left part
 
 any_cut : (r : Result ⊤ ScriptFault) (text : List ℕ) (old mid new : Option (List ℕ)) (composed : List ℕ)
-    (unread : Option (List ℕ)) → Leaves r opening_script_state text old mid composed unread → AppendsPrefix mid new composed →
+    (unread : Option (List ℕ)) → Leaves r opening_script_state text old mid composed unread →
+    AppendsPrefix mid new composed →
     WritesSome text old new
 any_cut (Ok done) text old mid new composed unread left part = all_cut Whole text old mid new composed left part
 any_cut (Err fault) text old mid new composed unread left part =
@@ -223,7 +233,8 @@ module _ (one : OneText) (each : EachTextPrints) where
       in_whole text old new (front_out text old mid new composed left all)
 
   writes_out : (r : Result ⊤ ScriptFault) (text : List ℕ) (old mid new : Option (List ℕ)) (composed : List ℕ)
-      (unread : Option (List ℕ)) → Leaves r opening_script_state text old mid composed unread → Appends mid new composed →
+      (unread : Option (List ℕ)) → Leaves r opening_script_state text old mid composed unread →
+      Appends mid new composed →
       WritesScript r text old new unread
   writes_out (Ok done) text old mid new composed unread left all = all_out Whole text old mid new composed left all
   writes_out (Err fault) text old mid new composed unread left all =

@@ -12,7 +12,8 @@ use Rattle.sysv_script.specs.Said.{AllContinue, GivesBlocks}
 use Rattle.sysv_script.specs.Names.{operation_of}
 use Rattle.sysv_script.specs.declared.actor.TheConstants.{SCRIPT_ACTORS}
 use Rattle.sysv_script.specs.declared.names.Operation.{Operation}
-use Rattle.sysv_script.specs.ScriptState.{ScriptState, in_world, begun_script_state, opening_script_state, opening_world, LineActs}
+use Rattle.sysv_script.specs.ScriptState.{ScriptState, in_world, begun_script_state, opening_script_state}
+use Rattle.sysv_script.specs.ScriptState.{opening_world, LineActs}
 use Rattle.sysv_script.specs.ScriptState.{GoesOn, CallRuns, StartRuns, StepsRun, OneRuns, AllRun, LineRuns, pending}
 use Rattle.sysv_script.specs.ScriptState.{most_steps}
 use Rattle.sysv_script.specs.ScriptText.{Ending, Prints, Ends, Exceeds, Fails, Goes}
@@ -43,7 +44,8 @@ Does s out a = (a.fresh ≡ s.fresh) × LeadsPrinting s.world out a.world
 unchanged : (s a : ScriptState) (out : List ℕ) → out ≡ [] → a ≡ s → Does s out a
 unchanged s a out o e = (
   ap (λ (m : ScriptState). m.fresh) e,
-  subst (λ out. LeadsPrinting s.world out a.world) (sym o) (rests s.world a.world (ap (λ (m : ScriptState). m.world) e)),
+  subst (λ out. LeadsPrinting s.world out a.world) (sym o)
+      (rests s.world a.world (ap (λ (m : ScriptState). m.world) e)),
 )
 
 -- The script state is as it was, and a line without a result was printed.
@@ -53,7 +55,8 @@ told s a out line has o e = (
   ([], [], (refl, ap (λ (m : ScriptState). m.world) e), subst (HasResults []) (sym o) has),
 )
 
-goes_on_fresh : (n : ℕ) (s : ScriptState) (actor : ℕ) (first given : Stepped) (a : ScriptState) → GoesOn n s actor first given a →
+goes_on_fresh : (n : ℕ) (s : ScriptState) (actor : ℕ) (first given : Stepped) (a : ScriptState) →
+    GoesOn n s actor first given a →
     a.fresh ≡ s.fresh
 goes_on_fresh zero s actor stepped.Nothing given a h = ap (λ (m : ScriptState). m.fresh) h.1
 goes_on_fresh zero s actor (stepped.Answer answer) given a h = ap (λ (m : ScriptState). m.fresh) h.1
@@ -75,7 +78,8 @@ start_does s actor asked goes None out a own is h =
           h.2,
     )
 
-steps_do : (n : ℕ) (s : ScriptState) (actor : ℕ) (o : Option Operation) (out : List ℕ) (a : ScriptState) → AreOwn s.world.actors →
+steps_do : (n : ℕ) (s : ScriptState) (actor : ℕ) (o : Option Operation) (out : List ℕ) (a : ScriptState) →
+    AreOwn s.world.actors →
     pending (actor_at s.world.actors actor) ≡ o → StepsRun n s actor o out a → Does s out a
 steps_do n s actor None out a own is h = told s a out _ (without_result _ (actor, inr (inr (inl refl)))) h.0 h.1
 steps_do n s actor (Some operation) out a own is h = (
@@ -84,7 +88,8 @@ steps_do n s actor (Some operation) out a own is h = (
       (goes_on_to n operation s actor h.0 a own (calls_under_way s.world.actors actor operation own is) h.1) h.2,
 )
 
-one_does : (s : ScriptState) (actor : ℕ) (o : Option Operation) (out : List ℕ) (a : ScriptState) → AreOwn s.world.actors →
+one_does : (s : ScriptState) (actor : ℕ) (o : Option Operation) (out : List ℕ) (a : ScriptState) →
+    AreOwn s.world.actors →
     pending (actor_at s.world.actors actor) ≡ o → OneRuns s actor o out a → Does s out a
 one_does s actor None out a own is h = unchanged s a out h.0 h.1
 one_does s actor (Some operation) out a own is h = steps_do 16 s actor (Some operation) out a own is h
@@ -92,7 +97,8 @@ one_does s actor (Some operation) out a own is h = steps_do 16 s actor (Some ope
 own_after : (s a : ScriptState) (out : List ℕ) → AreOwn s.world.actors → Does s out a → AreOwn a.world.actors
 own_after s a out own d = own_leads s.world d.1.0 d.1.1 a.world own d.1.2
 
-all_do : (actors : List ℕ) (s : ScriptState) (out : List ℕ) (a : ScriptState) → AreOwn s.world.actors → AllRun actors s out a →
+all_do : (actors : List ℕ) (s : ScriptState) (out : List ℕ) (a : ScriptState) → AreOwn s.world.actors →
+    AllRun actors s out a →
     Does s out a
 all_do [] s out a own h = unchanged s a out h.0 h.1
 all_do (actor ∷ actors) s out a own h =
@@ -103,7 +109,8 @@ all_do (actor ∷ actors) s out a own h =
           (print_both s.world h.1 h.2 h.0.world a.world one.1 rest.1),
     )
 
-act_does : (s : ScriptState) (said : Said) (understood : Bool) (out : List ℕ) (a : ScriptState) → AreOwn s.world.actors →
+act_does : (s : ScriptState) (said : Said) (understood : Bool) (out : List ℕ) (a : ScriptState) →
+    AreOwn s.world.actors →
     LineActs s said understood out a → Does s out a
 act_does s Nothing understood out a own h = unchanged s a out h.1 h.2
 act_does s (GivesBlocks blocks) understood out a own h = unchanged s a out h.1 h.2
@@ -114,11 +121,13 @@ act_does s MakesPreset understood out a own h = (
 )
 act_does s (GivesCred actor cred) understood out a own h = (
   ap (λ (m : ScriptState). m.fresh) h.2,
-  subst (λ out. LeadsPrinting s.world out a.world) (sym h.1) (rests s.world a.world (ap (λ (m : ScriptState). m.world) h.2)),
+  subst (λ out. LeadsPrinting s.world out a.world) (sym h.1)
+      (rests s.world a.world (ap (λ (m : ScriptState). m.world) h.2)),
 )
 act_does s (GivesMoment moment) understood out a own h = (
   ap (λ (m : ScriptState). m.fresh) h.2,
-  subst (λ out. LeadsPrinting s.world out a.world) (sym h.1) (rests s.world a.world (ap (λ (m : ScriptState). m.world) h.2)),
+  subst (λ out. LeadsPrinting s.world out a.world) (sym h.1)
+      (rests s.world a.world (ap (λ (m : ScriptState). m.world) h.2)),
 )
 act_does s (Starts actor asked goes) understood out a own h =
     start_does s actor asked goes (pending (actor_at s.world.actors actor)) out a own refl h.1
@@ -143,7 +152,8 @@ begun s out a d = record {
 }
 
 -- The size of the pool opens a new world, or comes too late.
-pool_follows : (fresh : Bool) (s : ScriptState) (blocks : ℕ) (out : List ℕ) (a : ScriptState) → s.fresh ≡ fresh → out ≡ [] →
+pool_follows : (fresh : Bool) (s : ScriptState) (blocks : ℕ) (out : List ℕ) (a : ScriptState) → s.fresh ≡ fresh →
+    out ≡ [] →
     a ≡ (if fresh then in_world (begun_script_state s) (opening_world blocks) else s) → Follows s out a
 pool_follows true s blocks out a is o e = record {
   printing = inr (
@@ -161,7 +171,8 @@ pool_follows false s blocks out a is o e = record {
   skipped = λ f. (o, sym (ap (λ (m : ScriptState). m.fresh) e) ∙ f);
 }
 
-line_follows : (s : ScriptState) (said : Said) (understood : Bool) (out : List ℕ) (a : ScriptState) → AreOwn s.world.actors →
+line_follows : (s : ScriptState) (said : Said) (understood : Bool) (out : List ℕ) (a : ScriptState) →
+    AreOwn s.world.actors →
     LineRuns s said understood out a → Follows s out a
 line_follows s Nothing understood out a own h = record {
   printing = inl (unchanged s a out h.1 h.2).1;
@@ -183,7 +194,8 @@ line_follows s (Continues actor) understood out a own h =
 line_follows s AllContinue understood out a own h =
     begun s out a (act_does (begun_script_state s) AllContinue understood out a own h)
 
-run_after : (s : ScriptState) (out : List ℕ) (after : World) → IsOfRun s.world → FollowsPrinting s out after → IsOfRun after
+run_after : (s : ScriptState) (out : List ℕ) (after : World) → IsOfRun s.world → FollowsPrinting s out after →
+    IsOfRun after
 run_after s out after run (inl l) = run_on s.world out after run l
 run_after s out after run (inr l) = run_on (opening_world l.1.0) out after (opens l.1.0) l.1.1
 
@@ -200,7 +212,8 @@ past s out mid more after f (inl l) = elim f.printing [
   | inr first ↦ inr (first.0, (first.1.0, print_both (opening_world first.1.0) out more mid.world after first.1.1 l))
 ]
 
-text_follows : (s : ScriptState) (n : ℕ) (text out left : List ℕ) (there : ScriptState) → PrintsSofar s n text out left there →
+text_follows : (s : ScriptState) (n : ℕ) (text out left : List ℕ) (there : ScriptState) →
+    PrintsSofar s n text out left there →
     IsOfRun s.world → FollowsPrinting s out there.world
 text_follows s n text out left there (Here _ _ _) run = inl (rests s.world s.world refl)
 text_follows s n text out left there (Past _ _ _ line rest first after more _ _ few begins does p) run =
@@ -236,7 +249,8 @@ up_to s n text out ending (Goes _ _ _ line rest first after more _ few begins do
 
 -- ---- the law
 
-from_opening : (out : List ℕ) (after : World) → FollowsPrinting opening_script_state out after → IsOfRunPrinting out after
+from_opening : (out : List ℕ) (after : World) → FollowsPrinting opening_script_state out after →
+    IsOfRunPrinting out after
 from_opening out after (inl l) = (record { actors = SCRIPT_ACTORS; blocks = 1024; first = 0; generation = 0 }, l)
 from_opening out after (inr l) =
     (record { actors = SCRIPT_ACTORS; blocks = l.1.0; first = 0; generation = 0 }, l.1.1)

@@ -52,13 +52,15 @@ none_left m actor stepped.Worn = (refl, refl)
 
 pub ends_over : (start now : Stage) (actor all : ℕ) (first last : Stepped) (left : ℕ) →
     GoingOn start now actor all first last left → (last ≡ stepped.Nothing → ⊥) →
-    (s : ScriptState) → IsScriptStateOf s start → (after : ScriptState) × GoesOn all s actor first last after × IsScriptStateOf after now
+    (s : ScriptState) → IsScriptStateOf s start →
+    (after : ScriptState) × GoesOn all s actor first last after × IsScriptStateOf after now
 ends_over start now actor all first last left on f s seen =
     let g = on.going s seen in (g.0, g.2 last g.0 (over left g.0 actor last f), g.1)
 
 pub ends_none : (start now : Stage) (actor all : ℕ) (first last : Stepped) (left : ℕ) → left ≡ 0 →
     GoingOn start now actor all first last left →
-    (s : ScriptState) → IsScriptStateOf s start → (after : ScriptState) × GoesOn all s actor first last after × IsScriptStateOf after now
+    (s : ScriptState) → IsScriptStateOf s start →
+    (after : ScriptState) × GoesOn all s actor first last after × IsScriptStateOf after now
 ends_none start now actor all first last left e on s seen =
     let g = on.going s seen in
     (g.0, g.2 last g.0 (subst (λ n. GoesOn n g.0 actor last last g.0) (sym e) (none_left g.0 actor last)), g.1)

@@ -13,5 +13,6 @@ pub record OneText : Type 0 where
   pub sound : IsSound opening_script_state.world
   pub once : (s : ScriptState) (n : ℕ) (text out other : List ℕ) (ending end : Ending) → IsSound s.world →
       Prints s n text out ending → Prints s n text other end → (out ≡ other) × (ending ≡ end)
-  pub sofar : (s : ScriptState) (n : ℕ) (text out left other : List ℕ) (there : ScriptState) (end : Ending) → IsSound s.world →
+  pub sofar : (s : ScriptState) (n : ℕ) (text out left other : List ℕ) (there : ScriptState) (end : Ending) →
+      IsSound s.world →
       PrintsSofar s n text out left there → Prints s n text other end → IsPrefixOf out other

@@ -37,7 +37,8 @@ pub record EachScriptIsARun : Type 0 where
       LineRuns s said understood out after → IsOfRun s.world →
       IsOfRun after.world × FollowsPrinting s out after.world
   -- So does each text, up to each of its lines.
-  pub text : (s : ScriptState) (n : ℕ) (text out left : List ℕ) (there : ScriptState) → PrintsSofar s n text out left there →
+  pub text : (s : ScriptState) (n : ℕ) (text out left : List ℕ) (there : ScriptState) →
+      PrintsSofar s n text out left there →
       IsOfRun s.world → IsOfRun there.world × FollowsPrinting s out there.world
   -- What a script has printed before one of its lines has the results of one run, which leads from
   -- an opening to the world before that line.

@@ -62,7 +62,8 @@ LeavesRead s text old new composed left =
     × ((handed : List ℕ) × Appends old new handed × (out ≡ handed ++ composed))
 
 -- What was written and is composed after this fault, with what the reader has left.
-abbrev pub LeavesAtFault : ScriptFault → ScriptState → List ℕ → Option (List ℕ) → Option (List ℕ) → List ℕ → Option (List ℕ) →
+abbrev pub LeavesAtFault : ScriptFault → ScriptState → List ℕ → Option (List ℕ) → Option (List ℕ) → List ℕ →
+    Option (List ℕ) →
     Type 0
 LeavesAtFault (Line n) s text old new composed left = LeavesAll s text (BadLine n) old new composed
 LeavesAtFault Bound s text old new composed left = LeavesAll s text TooMany old new composed

@@ -1,6 +1,6 @@
 -- What a line of a script does on a script state and prints (this project's script language): the size of
 -- the pool, a preset, the credentials of an actor, the time of later steps, a call that is started,
--- or steps of calls pending. A call continues until it is over or waits, with at most 16 steps at
+-- or steps of pending calls. A call continues until it is over or waits, with at most 16 steps at
 -- a line; a step of a call whose count has not reached its goal changes nothing. Each line that
 -- starts or continues a call prints one line for it: its result, or its state after that.
 use Rattle.std.specs.Prelude.{◌≡◌, ℕ, zero, suc, ◌+◌, ◌-◌, Bool, true, false, List, [], ◌∷◌, ◌++◌, Option, Some, None}
@@ -78,7 +78,8 @@ Advances s event given after = Steps s.world event given after.world × (after �
 abbrev pub GoesOn : ℕ → ScriptState → ℕ → Stepped → Stepped → ScriptState → Type 0
 GoesOn zero s actor stepped.Nothing given after = (given ≡ stepped.Nothing) × (after ≡ s)
 GoesOn (suc n) s actor stepped.Nothing given after =
-    (mid : ScriptState) × (next : Stepped) × Advances s (Step actor s.moment) next mid × GoesOn n mid actor next given after
+    (mid : ScriptState) × (next : Stepped) × Advances s (Step actor s.moment) next mid
+    × GoesOn n mid actor next given after
 GoesOn n s actor (stepped.Answer answer) given after = (given ≡ stepped.Answer answer) × (after ≡ s)
 GoesOn n s actor stepped.Worn given after = (given ≡ stepped.Worn) × (after ≡ s)
 

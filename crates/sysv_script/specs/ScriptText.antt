@@ -33,9 +33,11 @@ IsBad s line = ((said : Said) → ¬ Says line said)
 pub data Prints : ScriptState → ℕ → List ℕ → List ℕ → Ending → Type 0 where
   Ends : (s : ScriptState) (n : ℕ) → Prints s n [] [] Whole
   Exceeds : (s : ScriptState) (n : ℕ) (text : List ℕ) → SCRIPT_LINES < n → 0 < length text → Prints s n text [] TooMany
-  Fails : (s : ScriptState) (n : ℕ) (text line rest : List ℕ) → n ≤ SCRIPT_LINES → BeginsWith text line rest → IsBad s line →
+  Fails : (s : ScriptState) (n : ℕ) (text line rest : List ℕ) → n ≤ SCRIPT_LINES → BeginsWith text line rest →
+      IsBad s line →
       Prints s n text (bad_line_text n) (BadLine n)
-  Goes : (s : ScriptState) (n : ℕ) (text line rest out : List ℕ) (after : ScriptState) (more : List ℕ) (ending : Ending) →
+  Goes : (s : ScriptState) (n : ℕ) (text line rest out : List ℕ) (after : ScriptState) (more : List ℕ)
+      (ending : Ending) →
       n ≤ SCRIPT_LINES → BeginsWith text line rest → LineDoes s line out after → Prints after (n + 1) rest more ending →
       Prints s n text (out ++ more) ending
 

@@ -9,7 +9,8 @@ use Rattle.sysv_script.specs.declared.fault.TheConstants.{SCRIPT_LINES}
 -- from that line on, and the script state on which that line runs.
 pub data PrintsSofar : ScriptState → ℕ → List ℕ → List ℕ → List ℕ → ScriptState → Type 0 where
   Here : (s : ScriptState) (n : ℕ) (text : List ℕ) → PrintsSofar s n text [] text s
-  Past : (s : ScriptState) (n : ℕ) (text line rest out : List ℕ) (after : ScriptState) (more left : List ℕ) (there : ScriptState) →
+  Past : (s : ScriptState) (n : ℕ) (text line rest out : List ℕ) (after : ScriptState) (more left : List ℕ)
+      (there : ScriptState) →
       n ≤ SCRIPT_LINES → BeginsWith text line rest → LineDoes s line out after →
       PrintsSofar after (n + 1) rest more left there → PrintsSofar s n text (out ++ more) left there
 

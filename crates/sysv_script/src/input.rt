@@ -11,7 +11,7 @@ use crate::fault::ScriptFault;
 use std::alloc::Global;
 use std::io::Read;
 use std::marker::Model;
-use sysv_model::{NoMemory, Instrumented};
+use sysv_model::{Instrumented, NoMemory};
 
 /// The capacity of the input in bytes: one line of the maximum length and its LF. So of a line
 /// without an end, at most this many bytes are read.
@@ -91,7 +91,10 @@ impl Input {
     /// # Conditions
     ///
     /// Fewer than `INPUT_ROOM` bytes must be pending.
-    pub fn read_from<R: Read>(&mut self, reader: &mut Instrumented<'_, R>) -> Result<usize, ScriptFault>
+    pub fn read_from<R: Read>(
+        &mut self,
+        reader: &mut Instrumented<'_, R>,
+    ) -> Result<usize, ScriptFault>
         requires { length self.old < INPUT_ROOM }
         ensures text { TakesIn (R.remaining (stream_of reader.old)) self.old
             (R.remaining (stream_of reader.new)) self.new }

@@ -33,8 +33,8 @@ pub fn each_text_prints()
 }
 
 /// States that the world before and after each line of a script is one to which a run leads from an
-/// opening, so that what is stated of each run is stated of it, and that the lines print the results
-/// of the calls of that run, in their order, and no other results.
+/// opening, so that what is stated of each run is stated of it, and that the lines print the
+/// results of the calls of that run, in their order, and no other results.
 pub fn each_script_is_a_run()
     ensures { EachScriptIsARun }
 {}

@@ -25,7 +25,7 @@ use crate::stage::Stage;
 use crate::{Head, LINE_BYTES, line_of};
 use std::alloc::Global;
 use std::io::{Read, Write};
-use sysv_model::{NoMemory, Instrumented};
+use sysv_model::{Instrumented, NoMemory};
 use sysv_words::one_split;
 
 /// Runs the script that `reader` returns on a world of 16 actors, and writes what it prints to
@@ -57,8 +57,9 @@ pub fn run_script<R: Read, W: Write>(
     ensures prints { (text : List ℕ) → R.remaining (stream_of reader.old) ≡ Some text →
         WritesScript result text (W.contents (stream_of writer.old))
         (W.contents (stream_of writer.new)) (R.remaining (stream_of reader.new)) }
-    // The lines are a list of transitions that leads to a world that obeys the laws of the headline,
-    // and what the writer took are the results of that run, or a prefix of them, as above.
+    // The lines are a list of transitions that leads to a world that obeys the laws of the
+    // headline, and what the writer took are the results of that run, or a prefix of them, as
+    // above.
     ensures obeys { (text : List ℕ) → R.remaining (stream_of reader.old) ≡ Some text →
         WritesRun result text (W.contents (stream_of writer.old))
         (W.contents (stream_of writer.new)) (R.remaining (stream_of reader.new)) }
@@ -85,7 +86,7 @@ pub fn run_script<R: Read, W: Write>(
     run.end(writer).and(ended)
 }
 
-/// A script pending: the stage on which it runs, the pending bytes, and the composed lines.
+/// A pending script: the stage on which it runs, the pending bytes, and the composed lines.
 struct Run {
     stage: Stage,
     input: Input,

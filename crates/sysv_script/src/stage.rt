@@ -28,7 +28,7 @@ const LETTERS: [u8; BLOCK_BYTES] = [b'x'; BLOCK_BYTES];
 const MAX_STEPS: u32 = 16;
 
 /// The world of a script, the credentials of its actors, the time of each step, and the bodies that
-/// no call pending has.
+/// no pending call has.
 pub struct Stage {
     world: World,
     /// The credentials of actor A are at place A - 1.
@@ -190,7 +190,7 @@ impl Stage {
         }
     }
 
-    /// Continues each call pending, in the order of the actors.
+    /// Continues each pending call, in the order of the actors.
     fn take_all_on(&mut self, output: &mut Output) -> Result<(), NoMemory>
         ensures runs { OnOk result ((s : ScriptState) → IsScriptStateOf s self.old → (after : ScriptState)
             × (out : List ℕ)

@@ -75,16 +75,19 @@ counted_sent n dialogue parked counted =
 pub counted_left : (dialogue : Dialogue) (parked : Parked) → IsCounted dialogue (Some parked) → IsCounted dialogue None
 counted_left dialogue parked counted = (omega (arith, counted.0), counted.1, counted.2)
 
-pub kept_sent : (start size : ℕ) (input : List ℕ) (dialogue : Dialogue) (parked : Option Parked) (dialogue' : Dialogue) (n : ℕ)
-    (breaks breaks' : Breaks) (stopped : Option End) (broken : Bool) → dialogue' ≡ sent_on n dialogue → breaks' ≡ breaks →
+pub kept_sent : (start size : ℕ) (input : List ℕ) (dialogue : Dialogue) (parked : Option Parked) (dialogue' : Dialogue)
+    (n : ℕ)
+    (breaks breaks' : Breaks) (stopped : Option End) (broken : Bool) → dialogue' ≡ sent_on n dialogue →
+    breaks' ≡ breaks →
     (start ≤ size) × HasFrame input parked × IsCounted dialogue parked × HasCause breaks stopped broken →
     (start ≤ size) × HasFrame input parked × IsCounted dialogue' parked × HasCause breaks' stopped broken
-kept_sent start size input dialogue parked dialogue' n breaks breaks' stopped broken is same (fits, frame, counted, cause) = (
-  fits,
-  frame,
-  subst (λ (t : Dialogue). IsCounted t parked) (sym is) (counted_sent n dialogue parked counted),
-  subst (λ (b : Breaks). HasCause b stopped broken) (sym same) cause,
-)
+kept_sent start size input dialogue parked dialogue' n breaks breaks' stopped broken is same
+    (fits, frame, counted, cause) = (
+      fits,
+      frame,
+      subst (λ (t : Dialogue). IsCounted t parked) (sym is) (counted_sent n dialogue parked counted),
+      subst (λ (b : Breaks). HasCause b stopped broken) (sym same) cause,
+    )
 
 -- ---- why a session ends
 
@@ -351,7 +354,8 @@ module _ {T : Type 0} (incoming outgoing : T → Option (List ℕ)) where
     sent = sits.sent;
     wrote = subst (λ (o : Option (List ℕ)). Appends (outgoing origin) o sits.sent) (sym same) sits.wrote;
     at = is_at start origin (with_input (client.input ++ bytes) (on connection client)) now sits.sent free
-        (subst (λ (o : Option (List ℕ)). Stands (asks_with zero_moment ⊤) SLOTS client.dialogue start now (incoming origin)
+        (subst (λ (o : Option (List ℕ)).
+        Stands (asks_with zero_moment ⊤) SLOTS client.dialogue start now (incoming origin)
         o sits.sent)
         (same_unread client.input bytes (incoming client.connection) (incoming connection) took none)
         (is_ready start origin client now sits.sent free sits.at));
@@ -468,7 +472,8 @@ module _ {T : Type 0} (incoming outgoing : T → Option (List ℕ)) where
       parked.waiting now tt waits.waits in (
         prepend_known waits.later (incoming client.connection),
         behind waits.later (incoming client.connection),
-        leaves (asks_with zero_moment ⊤) SLOTS parked.cred parked.request waits.text [] client.dialogue start waits.before
+        leaves (asks_with zero_moment ⊤) SLOTS parked.cred parked.request waits.text [] client.dialogue start
+            waits.before
             now (incoming origin) (prepend_known waits.later (incoming client.connection)) sent waits.asking told refl,
       )
   left_at start origin client input now sent parked (Some why) none = absurd none
@@ -596,17 +601,20 @@ module _ {T : Type 0} (incoming outgoing : T → Option (List ℕ)) where
   drained_at start origin client connection n now sent None None fits same at =
       sends (asks_with zero_moment ⊤) SLOTS n client.dialogue (sent_on n client.dialogue) start now (incoming origin)
       (prepend_known client.input (incoming connection)) sent fits refl
-      (subst (λ (o : Option (List ℕ)). Stands (asks_with zero_moment ⊤) SLOTS client.dialogue start now (incoming origin)
+      (subst (λ (o : Option (List ℕ)).
+      Stands (asks_with zero_moment ⊤) SLOTS client.dialogue start now (incoming origin)
       (prepend_known client.input o) sent) (sym same) at)
   drained_at start origin client connection n now sent (Some parked) None fits same at = record {
     text = at.text;
     before = at.before;
     later = at.later;
     asking = sends_asking (asks_with zero_moment ⊤) SLOTS parked.cred parked.request at.text n client.dialogue
-        (sent_on n client.dialogue) start at.before (incoming origin) (prepend_known at.later (incoming connection)) sent
+        (sent_on n client.dialogue) start at.before (incoming origin) (prepend_known at.later (incoming connection))
+        sent
         fits refl
         (subst (λ (o : Option (List ℕ)). StandsAsking (asks_with zero_moment ⊤) SLOTS parked.cred parked.request
-        at.text client.dialogue start at.before (incoming origin) (prepend_known at.later o) sent) (sym same) at.asking);
+        at.text client.dialogue start at.before (incoming origin) (prepend_known at.later o) sent) (sym same)
+        at.asking);
     frame = at.frame;
     size = at.size;
     waits = at.waits;
@@ -614,7 +622,8 @@ module _ {T : Type 0} (incoming outgoing : T → Option (List ℕ)) where
   drained_at start origin client connection n now sent None (Some why) fits same at = (
     at.0,
     subst (λ (o : Option (List ℕ)). IsBehind at.0 o) (sym same) at.1,
-    sends_stopped (asks_with zero_moment ⊤) SLOTS why n client.dialogue (sent_on n client.dialogue) start now (incoming origin)
+    sends_stopped (asks_with zero_moment ⊤) SLOTS why n client.dialogue (sent_on n client.dialogue) start now
+        (incoming origin)
         at.0 sent fits refl at.2,
   )
   drained_at start origin client connection n now sent (Some parked) (Some why) fits same at = absurd at

@@ -272,7 +272,8 @@ pub reads_from : {T : Type 0} (old new : Sitting T) (size : ℕ) (result : Resul
     ReadsNext old size result text new
 reads_from old new size result text bytes rest same takes unsent still read = record {
   rest = rest;
-  takes = subst (λ (l : List ℕ). TakesUp old.dialogue.session new.dialogue.session result (Some l) (Some rest) text) same takes;
+  takes = subst (λ (l : List ℕ). TakesUp old.dialogue.session new.dialogue.session result (Some l) (Some rest) text)
+      same takes;
   unsent = unsent;
   same = still;
   read = subst (λ (l : List ℕ). size ≡ length l - length rest) same read;
@@ -345,7 +346,8 @@ module _ {T : Type 0} (incoming outgoing : T → Option (List ℕ)) where
           before p given now) is begun)
 
       -- Its reply was gathered.
-      pub put_reply : Puts (Ok tt) request.version outcome given old.dialogue new.dialogue → new.input ≡ drop size old.input →
+      pub put_reply : Puts (Ok tt) request.version outcome given old.dialogue new.dialogue →
+          new.input ≡ drop size old.input →
           new.parked ≡ None → new.stopped ≡ old.stopped → Sits incoming outgoing start origin new now
       put_reply put input parked stopped =
           let stands = puts Means SLOTS cred request text outcome given old.dialogue start before now (incoming origin)
@@ -366,7 +368,8 @@ module _ {T : Type 0} (incoming outgoing : T → Option (List ℕ)) where
           new.parked ≡ None → new.stopped ≡ Some why → Sits incoming outgoing start origin new now
       put_none why put parked stopped =
           let rest = prepend_known asked.later (incoming old.connection) in
-          let stood = put_ends Means SLOTS cred request text outcome given old.dialogue start before now (incoming origin)
+          let stood =
+          put_ends Means SLOTS cred request text outcome given old.dialogue start before now (incoming origin)
           rest asked.sent asked.asking means (answers request.version request.ask came given outcome is may) why
           new.dialogue put in
           record {
@@ -400,7 +403,8 @@ module _ {T : Type 0} (incoming outgoing : T → Option (List ℕ)) where
                 before = before;
                 later = asked.later;
                 asking = subst₂ (λ (k : Dialogue) (t : T). StandsAsking Means SLOTS cred request text k start before
-                    (incoming origin) (prepend_known asked.later (incoming t)) asked.sent) (sym dialogue) (sym connection)
+                    (incoming origin) (prepend_known asked.later (incoming t)) asked.sent) (sym dialogue)
+                    (sym connection)
                     asked.asking;
                 frame = input ∙ asked.frame;
                 size = asked.whole;
@@ -539,7 +543,8 @@ module _ {T : Type 0} (incoming outgoing : T → Option (List ℕ)) where
     greets_next version last is greets_as =
         let takes = took (Ok (Hello version)) is in
         let encoded = takes.2.1 in
-        let took_more = takes_up_more old.dialogue.session new.dialogue.session (Ok (Hello version)) old.input reads.rest text
+        let took_more =
+        takes_up_more old.dialogue.session new.dialogue.session (Ok (Hello version)) old.input reads.rest text
         (incoming old.connection) tt takes in
         let stands = takes_hello Means SLOTS version old.dialogue new.dialogue start now (incoming origin)
         (prepend_known old.input (incoming old.connection)) (prepend_known reads.rest (incoming old.connection))

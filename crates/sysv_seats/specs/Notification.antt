@@ -45,7 +45,8 @@ freed_by id outcome = None
 
 -- What the call changed at a slot.
 abbrev pub changed_by : Ask → RequestOutcome → Option Notification
-changed_by (Snd id mtype flags) outcome = if is_done outcome then Some (notifications.Arrived (slot_of_id id) mtype) else None
+changed_by (Snd id mtype flags) outcome =
+    if is_done outcome then Some (notifications.Arrived (slot_of_id id) mtype) else None
 changed_by (Rcv id size mtype flags) outcome = freed_by id outcome
 changed_by (Set id to) outcome = if is_done outcome then Some (notifications.Changed (slot_of_id id)) else None
 changed_by (Rm id) outcome = if is_done outcome then Some (notifications.Changed (slot_of_id id)) else None
@@ -77,24 +78,27 @@ abbrev pub told_of : Ask → Progress Waiting RequestOutcome → Told
 told_of ask (progress.Waits waiting) = told_at waiting
 told_of ask (progress.Over outcome) = told_by ask outcome
 
--- ---- the news of many calls
+-- ---- the notifications of many calls
 
--- The news, in the order in which they came.
+-- The notifications, in the order in which they came.
 abbrev pub notifications_in : Tools → List Notification
 notifications_in tools = tools.notifications.items
 
--- What one call changed, as news.
+-- What one call changed, as notifications.
 abbrev pub notifications_of : Told → List Notification
 notifications_of told = option_to_list told.there ++ (if told.released then notifications.Released ∷ [] else [])
 
--- These come after the news that there were, if there is room for them. Nothing else changes.
+-- These come after the notifications that there were, if there is room for them. Nothing else changes.
 abbrev pub Keeps : List Notification → Tools → Tools → Type 0
-Keeps more old new = (new ≡ record old { notifications = new.notifications }) × (vec_capacity new.notifications ≡ vec_capacity old.notifications)
-    × (length (notifications_in old ++ more) ≤ vec_capacity old.notifications → notifications_in new ≡ notifications_in old ++ more)
+Keeps more old new = (new ≡ record old { notifications = new.notifications })
+    × (vec_capacity new.notifications ≡ vec_capacity old.notifications)
+    × (length (notifications_in old ++ more) ≤ vec_capacity old.notifications →
+    notifications_in new ≡ notifications_in old ++ more)
 
--- The last of the news was removed, if there was one. Nothing else changes.
+-- The last notification was removed, if there was one. Nothing else changes.
 abbrev pub TakesLast : Tools → Option Notification → Tools → Type 0
-TakesLast old taken new = (new ≡ record old { notifications = new.notifications }) × (vec_capacity new.notifications ≡ vec_capacity old.notifications)
+TakesLast old taken new = (new ≡ record old { notifications = new.notifications })
+    × (vec_capacity new.notifications ≡ vec_capacity old.notifications)
     × (notifications_in old ≡ notifications_in new ++ option_to_list taken) × (taken ≡ None → notifications_in old ≡ [])
 
 -- A message of this type was taken.

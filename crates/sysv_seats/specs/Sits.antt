@@ -79,7 +79,8 @@ module _ {T : Type 0} (incoming outgoing : T → Option (List ℕ)) where
     pub text : List ℕ
     pub before : Pass
     pub later : List ℕ
-    pub asking : StandsAsking (asks_with zero_moment ⊤) SLOTS parked.cred parked.request text client.dialogue start before
+    pub asking : StandsAsking (asks_with zero_moment ⊤) SLOTS parked.cred parked.request text client.dialogue start
+        before
         (incoming origin) (prepend_known later (incoming client.connection)) sent
     pub frame : client.input ≡ request_encoding parked.request text ++ later
     pub size : parked.length ≡ length (request_encoding parked.request text)

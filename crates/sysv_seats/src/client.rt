@@ -12,8 +12,8 @@ ghost use Rattle.sysv_seats.specs.Parked.{HasBegun, IsReplied, MayProgress};
 ghost use Rattle.sysv_seats.specs.Sits.{Arrives, GreetsAs, HasAsked, IsFree, IsOver, IsPending, Keeps, KeepsWith, MayClose, ReadsNext, Sits, broken_off_for, end_at_close, is_early as early, is_finished, parked_bytes, parked_wait, stopped_for, zero_moment};
 
 use crate::handler::ServiceHandler;
-use crate::notification::Told;
 use crate::non_blocking::{Drained, Filled, NonBlocking, Over};
+use crate::notification::Told;
 use crate::parked::Parked;
 use crate::send_frame::snd_text;
 use crate::tools::{SHARE, Tools};
@@ -24,7 +24,7 @@ use std::io::Read;
 use std::marker::Model;
 use std::sync::Wait;
 use sysv_keys::SLOTS;
-use sysv_model::{Body, Cred, MESSAGE_BYTES, Instrumented};
+use sysv_model::{Body, Cred, Instrumented, MESSAGE_BYTES};
 use sysv_service::Progress;
 use sysv_session::{Conversation, End, RequestOutcome, Served, TakenUp};
 use sysv_wire::{Ask, Fault, FrameIn, Op, Request, Version, frame_in};
@@ -37,10 +37,10 @@ const MOST_KEPT: usize = 1_024;
 
 /// One client on a connection, from the first byte of its session to the last.
 ///
-/// All that happens to it is an event: bytes may be there to be read (`note_readable`, `take_turn`),
-/// the connection may take bytes (`drain`), what its parked call waits for may have changed
-/// (`go_on`), its peer has left (`leave`), or a limit has passed (`cut`). No event waits for the
-/// client or for a count. After each event `is_over` states whether to close it.
+/// All that happens to it is an event: bytes may be there to be read (`note_readable`,
+/// `take_turn`), the connection may take bytes (`drain`), what its parked call waits for may have
+/// changed (`go_on`), its peer has left (`leave`), or a limit has passed (`cut`). No event waits
+/// for the client or for a count. After each event `is_over` states whether to close it.
 ///
 /// A client can be neither dropped nor copied. Spend it with `close`.
 pub struct Client<T: NonBlocking> {

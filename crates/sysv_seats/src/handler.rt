@@ -13,7 +13,7 @@ use std::alloc::Global;
 use std::io::{Read, Write};
 use std::sync::Wait;
 use sysv_keys::SLOTS;
-use sysv_model::{Body, Cred, Flags, Row, SetTo, Stat, Instrumented};
+use sysv_model::{Body, Cred, Flags, Instrumented, Row, SetTo, Stat};
 use sysv_service::{Clock, Pass, Service};
 use sysv_session::{End, Handler, RequestOutcome, Served, Texts, serve, serve_instrumented};
 use sysv_wire::{Ask, MAX_MODE, Op, Reply, ReplyContent, Request, Version};

@@ -29,7 +29,7 @@ pub struct Tools {
 }
 
 impl Tools {
-    /// Allocates the buffers. There are no news.
+    /// Allocates the buffers. There are no notifications.
     ///
     /// # Errors
     ///
@@ -62,11 +62,13 @@ impl Tools {
         self.notifications.pop()
     }
 
-    /// Returns whether a message of this type was taken since the news were taken.
+    /// Returns whether a message of this type was taken since the notifications were taken.
     pub fn has_taken(&self, taken: i64) -> bool
         ensures { result ≡ list_any (is_taken taken) (notifications_in self.now) }
     {
-        self.notifications.iter().any(|notifications| matches!(notifications, Notification::Freed { mtype, .. } if *mtype == taken))
+        self.notifications.iter().any(
+            |notifications| matches!(notifications, Notification::Freed { mtype, .. } if *mtype == taken),
+        )
     }
 
     /// Keeps what a call may have changed.

@@ -297,9 +297,9 @@ impl<H: Host> Acceptor<'_, '_, H> {
         pause(HOLD_MILLIS);
     }
 
-    /// Waits until the input, whose descriptor is given, can be read, until something happens at the
-    /// desk, or until there is a connection and room for one more client. It may return early. Tells
-    /// the host of the first session whose memory was refused.
+    /// Waits until the input, whose descriptor is given, can be read, until something happens at
+    /// the desk, or until there is a connection and room for one more client. It may return early.
+    /// Tells the host of the first session whose memory was refused.
     fn wait(&self, told: &mut bool, input: i32, desk: &Desk) -> Arrived {
         let View {
             server,
@@ -365,8 +365,8 @@ fn is_passing(why: &io::Error) -> bool {
     }
 }
 
-/// Reads a piece of the input, which can be read and is dropped. Returns whether the input is at its
-/// end or cannot be read.
+/// Reads a piece of the input, which can be read and is dropped. Returns whether the input is at
+/// its end or cannot be read.
 fn has_ended<I: Input>(input: &mut Option<I>) -> bool
     ensures input { is_some input.new ≡ is_some input.old }
     ensures ended { result ≡ true → (is_some input.old ≡ true) × IsOver I.reads }

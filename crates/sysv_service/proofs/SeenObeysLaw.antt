@@ -34,6 +34,7 @@ each_obeys seats known law generation blocks first gates began fit = record {
       (map (λ (h : SlotSeat). h.gate) seats.slots) slot seat.gate vacant there in
       law.slots seat stands (known.slots slot seat at).legal;
   registry = law.registry generation seats.registry
-      (subst (λ g. RegistryRepresents generation [] g.opening) (sym fit.registry) began.registry.0) known.registry.legal;
+      (subst (λ g. RegistryRepresents generation [] g.opening) (sym fit.registry) began.registry.0)
+      known.registry.legal;
   pool = law.pool seats.pool (subst (λ g. PoolRepresents [] g.opening) (sym fit.pool) began.pool.0) known.pool.legal;
 }

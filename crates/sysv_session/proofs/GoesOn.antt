@@ -168,20 +168,24 @@ module _ {K : Type 0} (Means : Meaning K) (slots : ℕ) where
   }
 
   -- A hello is taken up.
-  pub takes_hello : (version : Version) (dialogue dialogue' : Dialogue) (old now : K) (left unread rest : Option (List ℕ))
+  pub takes_hello : (version : Version) (dialogue dialogue' : Dialogue) (old now : K)
+      (left unread rest : Option (List ℕ))
       (taken text : List ℕ) → Stands Means slots dialogue old now left unread taken →
-      TakesUp dialogue.session dialogue'.session (Ok (Hello version)) unread rest text → dialogue'.unsent ≡ dialogue.unsent →
+      TakesUp dialogue.session dialogue'.session (Ok (Hello version)) unread rest text →
+      dialogue'.unsent ≡ dialogue.unsent →
       StandsGreeting version dialogue' old now left rest taken
   takes_hello version dialogue dialogue' old now left unread rest taken text stands takes same = record {
     replies = stands.replies;
-    greets = hello_taken Means slots version dialogue.session dialogue'.session old now left unread rest text stands.replies
+    greets =
+        hello_taken Means slots version dialogue.session dialogue'.session old now left unread rest text stands.replies
         stands.pending takes;
     gathers = regathered (only_lost 0) stands.replies taken dialogue.unsent dialogue'.unsent dialogue.session.tally
         dialogue'.session.tally same (ap (λ (s : Session). s.tally) takes.3) stands.gathers;
   }
 
   -- The reply to the hello is gathered.
-  pub greets : (version : Version) (dialogue dialogue' : Dialogue) (old now : K) (left unread : Option (List ℕ)) (taken : List ℕ)
+  pub greets : (version : Version) (dialogue dialogue' : Dialogue) (old now : K) (left unread : Option (List ℕ))
+      (taken : List ℕ)
       → StandsGreeting version dialogue old now left unread taken →
       dialogue' ≡ gathered (with_frame (hello_frame version slots)) dialogue →
       Stands Means slots dialogue' old now left unread taken
@@ -189,7 +193,8 @@ module _ {K : Type 0} (Means : Meaning K) (slots : ℕ) where
       let replies = stands.replies ++ greeting version slots ∷ [] in
       record {
         replies = replies;
-        pending = hello_replied Means slots version dialogue.session dialogue'.session old now left unread stands.replies
+        pending =
+            hello_replied Means slots version dialogue.session dialogue'.session old now left unread stands.replies
             stands.greets (ap (λ (t : Dialogue). t.session.caller) is) (ap (λ (t : Dialogue). t.session.requests) is);
         gathers = regathered (only_lost 0) replies taken _ dialogue'.unsent _ dialogue'.session.tally
             (ap (λ (t : Dialogue). t.unsent) is) (ap (λ (t : Dialogue). t.session.tally) is)
@@ -198,7 +203,8 @@ module _ {K : Type 0} (Means : Meaning K) (slots : ℕ) where
       }
 
   -- Memory was refused for the reply to the hello.
-  pub greet_ends : (version : Version) (dialogue : Dialogue) (old now : K) (left unread : Option (List ℕ)) (taken : List ℕ) →
+  pub greet_ends : (version : Version) (dialogue : Dialogue) (old now : K) (left unread : Option (List ℕ))
+      (taken : List ℕ) →
       StandsGreeting version dialogue old now left unread taken →
       Stopped Means slots NoMemory dialogue old now left unread taken
   greet_ends version dialogue old now left unread taken stands =
@@ -225,8 +231,10 @@ module _ {K : Type 0} (Means : Meaning K) (slots : ℕ) where
 
   -- A request is taken up.
   pub takes_request : (cred : Cred) (request : Request) (dialogue dialogue' : Dialogue) (old now : K)
-      (left unread rest : Option (List ℕ)) (taken text : List ℕ) → Stands Means slots dialogue old now left unread taken →
-      TakesUp dialogue.session dialogue'.session (Ok (Asked cred request)) unread rest text → dialogue'.unsent ≡ dialogue.unsent →
+      (left unread rest : Option (List ℕ)) (taken text : List ℕ) →
+      Stands Means slots dialogue old now left unread taken →
+      TakesUp dialogue.session dialogue'.session (Ok (Asked cred request)) unread rest text →
+      dialogue'.unsent ≡ dialogue.unsent →
       StandsAsking Means slots cred request text dialogue' old now left rest taken
   takes_request cred request dialogue dialogue' old now left unread rest taken text stands takes same = record {
     replies = stands.replies;
@@ -237,7 +245,8 @@ module _ {K : Type 0} (Means : Meaning K) (slots : ℕ) where
   }
 
   -- One more call, whose outcome is there.
-  module _ (cred : Cred) (request : Request) (text : List ℕ) (outcome : RequestOutcome) (given : List ℕ) (dialogue : Dialogue)
+  module _ (cred : Cred) (request : Request) (text : List ℕ) (outcome : RequestOutcome) (given : List ℕ)
+      (dialogue : Dialogue)
       (old now new : K) (left unread : Option (List ℕ)) (taken : List ℕ)
       (stands : StandsAsking Means slots cred request text dialogue old now left unread taken)
       (means : Means now cred request text outcome given new)
@@ -247,14 +256,16 @@ module _ {K : Type 0} (Means : Meaning K) (slots : ℕ) where
 
     called : Called Means slots call dialogue.session old new left unread stands.replies
     called =
-        request_called Means slots cred call dialogue.session old now new left unread stands.replies stands.asking means may
+        request_called Means slots cred call dialogue.session old now new left unread stands.replies stands.asking means
+        may
 
     -- The reply is gathered.
     pub puts : (dialogue' : Dialogue) → Puts (Ok tt) request.version outcome given dialogue dialogue' →
         Stands Means slots dialogue' old new left unread taken
     puts dialogue' put = record {
       replies = stands.replies ++ reply_to call ∷ [];
-      pending = call_replied Means slots call dialogue.session dialogue'.session old new left unread stands.replies called
+      pending =
+          call_replied Means slots call dialogue.session dialogue'.session old new left unread stands.replies called
           put.0 (ap (λ (t : Dialogue). t.session.caller) put.1) (ap (λ (t : Dialogue). t.session.requests) put.1);
       gathers = regathered (only_lost 0) (stands.replies ++ reply_to call ∷ []) taken _ dialogue'.unsent _
           dialogue'.session.tally (ap (λ (t : Dialogue). t.unsent) put.1) (ap (λ (t : Dialogue). t.session.tally) put.1)
@@ -265,9 +276,11 @@ module _ {K : Type 0} (Means : Meaning K) (slots : ℕ) where
     -- It stops with this call, whose reply was not gathered.
     stops_asking : (why : End) (dialogue' : Dialogue) (lost : ℕ) → StopsAfter called.version why unread unread →
         IsStoppedWithin why dialogue'.session.requests →
-        Replied why called.version slots (called.done ++ call ∷ []) stands.replies → dialogue'.unsent ≡ dialogue.unsent →
+        Replied why called.version slots (called.done ++ call ∷ []) stands.replies →
+        dialogue'.unsent ≡ dialogue.unsent →
         dialogue'.session.requests ≡ dialogue.session.requests →
-        dialogue'.session.tally ≡ record { written = dialogue.session.tally.written; lost = dialogue.session.tally.lost + lost } →
+        dialogue'.session.tally
+        ≡ record { written = dialogue.session.tally.written; lost = dialogue.session.tally.lost + lost } →
         messages_in outcome ≡ lost → Stopped Means slots why dialogue' old new left unread taken
     stops_asking why dialogue' lost ends within replied same count tally one = inr (record {
       version = called.version;
@@ -301,7 +314,8 @@ module _ {K : Type 0} (Means : Meaning K) (slots : ℕ) where
     })
 
     -- Memory was refused for the reply, or the call was left.
-    pub put_ends : (why : End) (dialogue' : Dialogue) → Puts (Err why) request.version outcome given dialogue dialogue' →
+    pub put_ends : (why : End) (dialogue' : Dialogue) →
+        Puts (Err why) request.version outcome given dialogue dialogue' →
         Stopped Means slots why dialogue' old new left unread taken
     put_ends NoMemory dialogue' put =
         stops_asking NoMemory dialogue' (messages_in outcome) refl tt
@@ -341,14 +355,16 @@ module _ {K : Type 0} (Means : Meaning K) (slots : ℕ) where
       (refl, refl)
 
   -- It stops where it stands, after its hello.
-  stops_greeted : (why : End) (dialogue dialogue' : Dialogue) (old now : K) (left unread rest : Option (List ℕ)) (taken : List ℕ)
+  stops_greeted : (why : End) (dialogue dialogue' : Dialogue) (old now : K) (left unread rest : Option (List ℕ))
+      (taken : List ℕ)
       (stands : Stands Means slots dialogue old now left unread taken)
       (greeted : Greeted Means slots dialogue.session old now left unread stands.replies)
       → StopsAfter greeted.version why unread rest → IsStoppedWithin why dialogue.session.requests
       → Replied why greeted.version slots greeted.calls stands.replies → dialogue' ≡ dialogue
       → Stopped Means slots why dialogue' old now left rest taken
   stops_greeted why dialogue dialogue' old now left unread rest taken stands greeted ends within replied same =
-      let count : dialogue'.session.requests ≡ dialogue.session.requests = ap (λ (t : Dialogue). t.session.requests) same in
+      let count : dialogue'.session.requests ≡ dialogue.session.requests =
+      ap (λ (t : Dialogue). t.session.requests) same in
       inr (record {
         version = greeted.version;
         cred = greeted.cred;
@@ -376,7 +392,8 @@ module _ {K : Type 0} (Means : Meaning K) (slots : ℕ) where
       })
 
   -- It stops before its hello.
-  stops_fresh : (why : End) (dialogue dialogue' : Dialogue) (old now : K) (left unread rest : Option (List ℕ)) (taken : List ℕ)
+  stops_fresh : (why : End) (dialogue dialogue' : Dialogue) (old now : K) (left unread rest : Option (List ℕ))
+      (taken : List ℕ)
       (stands : Stands Means slots dialogue old now left unread taken)
       (fresh : Fresh dialogue.session old now left unread stands.replies)
       → StopsBefore why unread rest → dialogue' ≡ dialogue → Stopped Means slots why dialogue' old now left rest taken
@@ -408,7 +425,8 @@ module _ {K : Type 0} (Means : Meaning K) (slots : ℕ) where
       (greeted.replied, greeted.gathered)) same
 
   -- What it reads stops it.
-  reads_stop : (why : End) (dialogue dialogue' : Dialogue) (old now : K) (left unread rest : Option (List ℕ)) (taken text : List ℕ)
+  reads_stop : (why : End) (dialogue dialogue' : Dialogue) (old now : K) (left unread rest : Option (List ℕ))
+      (taken text : List ℕ)
       (stands : Stands Means slots dialogue old now left unread taken) →
       Pending Means slots dialogue.session old now left unread stands.replies → dialogue' ≡ dialogue →
       EndsHere dialogue.session.caller dialogue.session.requests why unread rest text →
@@ -416,19 +434,22 @@ module _ {K : Type 0} (Means : Meaning K) (slots : ℕ) where
   reads_stop why dialogue dialogue' old now left unread rest taken text stands (inl fresh) same here =
       let ends = subst (λ (c : Option (Version × Cred)). EndsHere c dialogue.session.requests why unread rest text)
       fresh.caller here in
-      stops_fresh why dialogue dialogue' old now left unread rest taken stands fresh (stops_before why unread rest ends.0) same
+      stops_fresh why dialogue dialogue' old now left unread rest taken stands fresh
+      (stops_before why unread rest ends.0) same
   reads_stop why dialogue dialogue' old now left unread rest taken text stands (inr greeted) same here =
       reads_stop_at why dialogue dialogue' old now left unread rest taken text stands greeted same
       (subst (λ (c : Option (Version × Cred)). EndsHere c dialogue.session.requests why unread rest text)
       greeted.caller here)
 
-  pub stops : (why : End) (dialogue dialogue' : Dialogue) (old now : K) (left unread rest : Option (List ℕ)) (taken text : List ℕ)
+  pub stops : (why : End) (dialogue dialogue' : Dialogue) (old now : K) (left unread rest : Option (List ℕ))
+      (taken text : List ℕ)
       → Stands Means slots dialogue old now left unread taken →
       TakesUp dialogue.session dialogue'.session (Err why) unread rest text → dialogue'.unsent ≡ dialogue.unsent →
       Stopped Means slots why dialogue' old now left rest taken
   stops why dialogue dialogue' old now left unread rest taken text stands takes same =
       reads_stop why dialogue dialogue' old now left unread rest taken text stands stands.pending
-      (ap₂ (λ (s : Session) (u : Unsent). let t : Dialogue = record { session = s; unsent = u } in t) takes.0 same) takes.1
+      (ap₂ (λ (s : Session) (u : Unsent). let t : Dialogue = record { session = s; unsent = u } in t) takes.0 same)
+      takes.1
 
   -- It stops without reading.
   stops_quiet : (why : End) (dialogue : Dialogue) (old now : K) (left unread : Option (List ℕ)) (taken : List ℕ)
@@ -462,7 +483,8 @@ module _ {K : Type 0} (Means : Meaning K) (slots : ℕ) where
 
   -- Memory was refused for what it reads.
   pub stops_memory : (dialogue : Dialogue) (old now : K) (left unread : Option (List ℕ)) (taken : List ℕ)
-      → Stands Means slots dialogue old now left unread taken → Stopped Means slots NoMemory dialogue old now left unread taken
+      → Stands Means slots dialogue old now left unread taken
+      → Stopped Means slots NoMemory dialogue old now left unread taken
   stops_memory dialogue old now left unread taken stands =
       stops_quiet NoMemory dialogue old now left unread taken stands stands.pending refl (λ v. refl) tt
       (λ v calls replies all. inl all)
@@ -477,7 +499,8 @@ module _ {K : Type 0} (Means : Meaning K) (slots : ℕ) where
 
   -- The client has reset the connection.
   pub stops_reset : (dialogue : Dialogue) (old now : K) (left unread : Option (List ℕ)) (taken : List ℕ)
-      → Stands Means slots dialogue old now left unread taken → Stopped Means slots Reset dialogue old now left unread taken
+      → Stands Means slots dialogue old now left unread taken
+      → Stopped Means slots Reset dialogue old now left unread taken
   stops_reset dialogue old now left unread taken stands =
       stops_quiet Reset dialogue old now left unread taken stands stands.pending refl (λ v. refl) tt
       (λ v calls replies all. all)
@@ -495,7 +518,8 @@ module _ {K : Type 0} (Means : Meaning K) (slots : ℕ) where
       Gathers (only_lost lost) replies taken dialogue.unsent dialogue.session.tally →
       Gathers (only_lost lost) replies (taken ++ take n dialogue.unsent.bytes) dialogue'.unsent dialogue'.session.tally
   gathers_sent lost replies taken n dialogue dialogue' fits is old =
-      regathered (only_lost lost) replies (taken ++ take n dialogue.unsent.bytes) _ dialogue'.unsent _ dialogue'.session.tally
+      regathered (only_lost lost) replies (taken ++ take n dialogue.unsent.bytes) _ dialogue'.unsent _
+      dialogue'.session.tally
       (ap (λ (t : Dialogue). t.unsent) is) (ap (λ (t : Dialogue). t.session.tally) is)
       (gathers_on (only_lost lost) replies taken dialogue.unsent dialogue.session.tally n fits old)
 
@@ -527,22 +551,27 @@ module _ {K : Type 0} (Means : Meaning K) (slots : ℕ) where
   })
 
   pub sends : (n : ℕ) (dialogue dialogue' : Dialogue) (old now : K) (left unread : Option (List ℕ)) (taken : List ℕ) →
-      n ≤ length dialogue.unsent.bytes → dialogue' ≡ sent_on n dialogue → Stands Means slots dialogue old now left unread taken →
+      n ≤ length dialogue.unsent.bytes → dialogue' ≡ sent_on n dialogue →
+      Stands Means slots dialogue old now left unread taken →
       Stands Means slots dialogue' old now left unread (taken ++ take n dialogue.unsent.bytes)
   sends n dialogue dialogue' old now left unread taken fits is stands = record {
     replies = stands.replies;
-    pending = same_way dialogue dialogue' old now left unread stands.replies (ap (λ (t : Dialogue). t.session.caller) is)
+    pending =
+        same_way dialogue dialogue' old now left unread stands.replies (ap (λ (t : Dialogue). t.session.caller) is)
         (ap (λ (t : Dialogue). t.session.requests) is) stands.pending;
     gathers = gathers_sent 0 stands.replies taken n dialogue dialogue' fits is stands.gathers;
   }
 
   -- The same while a call is not over.
-  pub sends_asking : (cred : Cred) (request : Request) (text : List ℕ) (n : ℕ) (dialogue dialogue' : Dialogue) (old now : K)
-      (left unread : Option (List ℕ)) (taken : List ℕ) → n ≤ length dialogue.unsent.bytes → dialogue' ≡ sent_on n dialogue →
+  pub sends_asking : (cred : Cred) (request : Request) (text : List ℕ) (n : ℕ) (dialogue dialogue' : Dialogue)
+      (old now : K)
+      (left unread : Option (List ℕ)) (taken : List ℕ) → n ≤ length dialogue.unsent.bytes →
+      dialogue' ≡ sent_on n dialogue →
       StandsAsking Means slots cred request text dialogue old now left unread taken →
       StandsAsking Means slots cred request text dialogue' old now left unread (taken ++ take n dialogue.unsent.bytes)
   sends_asking cred request text n dialogue dialogue' old now left unread taken fits is stands =
-      let count : dialogue'.session.requests ≡ dialogue.session.requests = ap (λ (t : Dialogue). t.session.requests) is in
+      let count : dialogue'.session.requests ≡ dialogue.session.requests =
+      ap (λ (t : Dialogue). t.session.requests) is in
       record {
         replies = stands.replies;
         asking = record {
@@ -576,7 +605,8 @@ module _ {K : Type 0} (Means : Meaning K) (slots : ℕ) where
     counts = ap (λ (t : Dialogue). t.session.requests) is ∙ before.counts;
   })
   sends_stopped why n dialogue dialogue' old now left rest taken fits is (inr after) =
-      let count : dialogue'.session.requests ≡ dialogue.session.requests = ap (λ (t : Dialogue). t.session.requests) is in
+      let count : dialogue'.session.requests ≡ dialogue.session.requests =
+      ap (λ (t : Dialogue). t.session.requests) is in
       inr (record {
         version = after.version;
         cred = after.cred;
@@ -638,7 +668,8 @@ module _ {K : Type 0} (Means : Meaning K) (slots : ℕ) where
         ap messages_among stands.greets.gathered,
       )
 
-  pub has_room_stopped : (why : End) (dialogue : Dialogue) (old now : K) (left rest : Option (List ℕ)) (taken : List ℕ) →
+  pub has_room_stopped : (why : End) (dialogue : Dialogue) (old now : K) (left rest : Option (List ℕ))
+      (taken : List ℕ) →
       Stopped Means slots why dialogue old now left rest taken → HasRoom dialogue
   has_room_stopped why dialogue old now left rest taken (inl before) =
       omega (arith, each_counted 0 [] taken dialogue.unsent dialogue.session.tally before.gathers)
@@ -653,7 +684,8 @@ module _ {K : Type 0} (Means : Meaning K) (slots : ℕ) where
       )
 
   -- It ends.
-  pub ends : (why : End) (dialogue : Dialogue) (old now : K) (left rest before after : Option (List ℕ)) (taken : List ℕ) →
+  pub ends : (why : End) (dialogue : Dialogue) (old now : K) (left rest before after : Option (List ℕ))
+      (taken : List ℕ) →
       Stopped Means slots why dialogue old now left rest taken → Appends before after taken →
       ServesTogether Means slots (report why dialogue) old now left rest before after
   ends why dialogue old now left rest before after taken (inl none) writes =
@@ -694,7 +726,8 @@ module _ {K : Type 0} (Means : Meaning K) (slots : ℕ) where
           all_at_end (is_reset why) dialogue.unsent.marks dialogue.session.tally,
           stopped.all,
         );
-        written = written_at_end why stopped.version slots stopped.calls stopped.replies stopped.lost taken dialogue.unsent
+        written =
+            written_at_end why stopped.version slots stopped.calls stopped.replies stopped.lost taken dialogue.unsent
             dialogue.session.tally stopped.replied stopped.gathers;
         counts = stopped.counts;
       })

@@ -340,8 +340,10 @@ follows oneA oneR Means slots why tally requests old new input left rest taken m
     before oneA why input rest requests stays.counts
     (subst (λ (l : Option (List ℕ)). EndsBefore why l rest) known stays.ends) parse takes
 follows oneA oneR Means slots why tally requests old new input left rest taken more known (inr converses) parse takes =
-    after oneA oneR converses.version converses.cred converses.calls why requests input converses.unread rest converses.known
+    after oneA oneR converses.version converses.cred converses.calls why requests input converses.unread rest
+    converses.known
     converses.are_calls
     (subst (λ (l : Option (List ℕ)).
-    Consumes l converses.unread (hello_encoding converses.version converses.cred ++ asked_encoding converses.calls)) known converses.reads)
+    Consumes l converses.unread (hello_encoding converses.version converses.cred ++ asked_encoding converses.calls))
+    known converses.reads)
     converses.ends converses.counts parse takes

@@ -400,7 +400,8 @@ module _ {K : Type 0} where
       → all_bytes (front ++ last ∷ []) ≡ concat (before ++ last.frame ∷ []) → all_bytes front ≡ concat before
       → tally.written ≡ messages_among front → Broken before last.frame taken more
       → ConversesTogether Means slots Write tally requests old new left rest taken more
-  failed Means slots tally requests old new left rest taken more converses front last before are bytes first written cut =
+  failed Means slots tally requests old new left rest taken more converses front last before are bytes first written
+      cut =
       let replies = replies_to converses.version slots converses.calls in
       let all : all_bytes replies ≡ cut.sent ++ cut.rest = ap all_bytes are ∙ bytes ∙ cut.whole in
       let long : length (all_bytes (front ++ last ∷ [])) ≡ length cut.sent + length cut.rest =
@@ -505,21 +506,28 @@ module _ {K : Type 0} where
       → FailsEarly why (hello_frame converses.version slots ∷ frames_of converses.calls) taken more
       → ConversesTogether Means slots why tally requests old new left rest taken more
   converses_together Means slots Ended tally requests old new left rest taken more converses early =
-      whole Means slots Ended tally requests old new left rest taken more converses converses.calls converses.ends converses.bounded
+      whole Means slots Ended tally requests old new left rest taken more converses converses.calls converses.ends
+      converses.bounded
       (converses.replies, refl) converses.writes converses.tallies.1 (λ n l. refl)
-  converses_together Means slots NoMemory tally requests old new left rest taken more converses early = absurd converses.ends
-  converses_together Means slots NoHello tally requests old new left rest taken more converses early = absurd converses.ends
+  converses_together Means slots NoMemory tally requests old new left rest taken more converses early =
+      absurd converses.ends
+  converses_together Means slots NoHello tally requests old new left rest taken more converses early =
+      absurd converses.ends
   converses_together Means slots (Fault fault) tally requests old new left rest taken more converses early =
-      whole Means slots (Fault fault) tally requests old new left rest taken more converses converses.calls converses.ends
-      (fault_within fault requests converses.bounded) (converses.replies, refl) converses.writes converses.tallies.1 (λ n l. refl)
+      whole Means slots (Fault fault) tally requests old new left rest taken more converses converses.calls
+      converses.ends
+      (fault_within fault requests converses.bounded) (converses.replies, refl) converses.writes converses.tallies.1
+      (λ n l. refl)
   converses_together Means slots Write tally requests old new left rest taken more converses early =
       fails Means slots tally requests old new left rest taken more converses early (last_of converses.calls)
   converses_together Means slots Bound tally requests old new left rest taken more converses early =
-      whole Means slots Bound tally requests old new left rest taken more converses converses.calls converses.ends converses.bounded
+      whole Means slots Bound tally requests old new left rest taken more converses converses.calls converses.ends
+      converses.bounded
       (converses.replies, refl) converses.writes converses.tallies.1 (λ n l. refl)
   converses_together Means slots Left tally requests old new left rest taken more converses early =
       leaves Means slots tally requests old new left rest taken more converses
-  converses_together Means slots Reset tally requests old new left rest taken more converses early = absurd converses.ends
+  converses_together Means slots Reset tally requests old new left rest taken more converses early =
+      absurd converses.ends
 
   pub together : (Means : Meaning K) → AreTogether Means
   together Means slots served old new left rest taken more (inl stays) early = inl (record {
@@ -530,5 +538,6 @@ module _ {K : Type 0} where
     counts = stays.counts;
   })
   together Means slots served old new left rest taken more (inr converses) early =
-      inr (converses_together Means slots served.«end» served.tally served.requests old new left rest taken more converses
+      inr (converses_together Means slots served.«end» served.tally served.requests old new left rest taken more
+      converses
       early)

@@ -1,4 +1,4 @@
--- A session pending and the replies that its connection has not taken (this project's profile).
+-- A pending session and the replies that its connection has not taken (this project's profile).
 use Rattle.std.specs.Prelude.{◌≡◌, ◌+◌, ◌<◌, ◌^◌, ⊤, ℕ, List, [], ◌∷◌, Result, Ok, Err, length}
 use Rattle.sysv_queue.specs.Tally.{Tallied, taken_in}
 use Rattle.sysv_session.specs.declared.handler.RequestOutcome.{RequestOutcome}

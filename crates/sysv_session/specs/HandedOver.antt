@@ -1,4 +1,4 @@
--- What a session pending has done so far, when each reply is handed over before more is taken up (this
+-- What a pending session has done so far, when each reply is handed over before more is taken up (this
 -- project's profile), and how it goes on from one request to the next.
 use Rattle.std.specs.Prelude.{◌≡◌, ◌+◌, ⊤, ℕ, List, [], Option, Result, Ok, Err}
 use Rattle.std.specs.Io.KnownBytes.{Appends}

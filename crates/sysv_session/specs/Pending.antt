@@ -1,4 +1,4 @@
--- What a session pending has done so far (this project's profile). Either it has taken up nothing, or
+-- What a pending session has done so far (this project's profile). Either it has taken up nothing, or
 -- it has taken up its hello and then calls, each of which has its reply, in order. A request for the
 -- handler may have been taken up whose outcome is not there yet.
 use Rattle.std.specs.Prelude.{◌≡◌, ◌≤◌, ◌+◌, ◌⊎◌, ℕ, List, [], ◌∷◌, ◌++◌, Option, None, Some, length, map}
@@ -64,7 +64,7 @@ module _ {K : Type 0} where
     pub bounded : session.requests ≤ SESSION_REQUESTS
     pub gathered : replies ≡ replies_to version slots calls
 
-  -- A session pending. Of the input that was there at its start, `unread` is what it has not taken
+  -- A pending session. Of the input that was there at its start, `unread` is what it has not taken
   -- up. These are its replies, whether the connection has taken them or not.
   abbrev pub Pending : Meaning K → ℕ → Session → (old now : K) → (left unread : Option (List ℕ)) → List Gathered →
       Type 0

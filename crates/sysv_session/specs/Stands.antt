@@ -44,7 +44,8 @@ module _ {K : Type 0} where
     pub gathers : Gathers (only_lost 0) replies taken dialogue.unsent dialogue.session.tally
 
   -- It stopped for this reason before a hello was taken up.
-  pub record StoppedBefore (why : End) (dialogue : Dialogue) (old now : K) (left rest : Option (List ℕ)) (taken : List ℕ) :
+  pub record StoppedBefore (why : End) (dialogue : Dialogue) (old now : K) (left rest : Option (List ℕ))
+      (taken : List ℕ) : 
       Type 0 where
     pub handler : now ≡ old
     pub ends : StopsBefore why left rest

@@ -131,7 +131,8 @@ module _ {K : Type 0} where
   -- this prefix count as written, and all others as lost. The one exception: if the client reset
   -- the connection, it has not read the last byte of the prefix; if that is the last byte of a
   -- message's frame, this message counts as lost.
-  pub record ConversesTogether (Means : Meaning K) (slots : ℕ) (why : End) (tally : Tallied) (requests : ℕ) (old new : K)
+  pub record ConversesTogether (Means : Meaning K) (slots : ℕ) (why : End) (tally : Tallied) (requests : ℕ)
+      (old new : K)
       (left rest taken more : Option (List ℕ)) : Type 0 where
     pub version : Version
     pub cred : Cred

@@ -18,10 +18,10 @@ use crate::turn::hello_reply;
 use std::alloc::{AllocFailed, Global};
 use std::io::Read;
 use std::marker::Model;
-use sysv_model::{Body, NoMemory, Instrumented};
+use sysv_model::{Body, Instrumented, NoMemory};
 use sysv_wire::Version;
 
-/// A session pending, and the replies that its connection has not taken yet.
+/// A pending session, and the replies that its connection has not taken yet.
 ///
 /// It takes up requests from what has arrived of the input. Give `unsent` to the connection, and
 /// report with `sent` how many bytes it took.
@@ -175,8 +175,9 @@ impl Conversation {
     }
 
     /// Ends the session for this reason, and returns what it did. Messages that the connection has
-    /// not taken whole count as lost; after a reset, also the one whose frame ends with the last byte
-    /// that it took, if there is one. If it has not taken all bytes, the session ends with `Write`.
+    /// not taken whole count as lost; after a reset, also the one whose frame ends with the last
+    /// byte that it took, if there is one. If it has not taken all bytes, the session ends with
+    /// `Write`.
     ///
     /// # Conditions
     ///

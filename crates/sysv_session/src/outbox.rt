@@ -11,7 +11,7 @@ use crate::turn::message_reply;
 use std::alloc::{AllocFailed, Global};
 use std::collections::VecDeque;
 use std::marker::Model;
-use sysv_model::{Body, NoMemory, Instrumented};
+use sysv_model::{Body, Instrumented, NoMemory};
 use sysv_queue::{Delivery, Tally};
 use sysv_wire::{Reply, Version, WriteFault, write_reply};
 
@@ -139,8 +139,8 @@ impl Outbox {
     }
 
     /// Removes the first `n` bytes, which the connection has taken, and spends as written each
-    /// delivery whose frame ends before the last of them. If a frame ends with the last of them, its
-    /// delivery is kept: a reset of the connection would show that the client has not read it.
+    /// delivery whose frame ends before the last of them. If a frame ends with the last of them,
+    /// its delivery is kept: a reset of the connection would show that the client has not read it.
     ///
     /// # Conditions
     ///
@@ -189,8 +189,8 @@ impl Outbox {
     }
 
     /// Ends the outbox, and spends each delivery in it: as written if the connection has taken its
-    /// frame whole, and else as lost. After a reset of the connection all are lost, since the client
-    /// has not read the last byte that the connection took.
+    /// frame whole, and else as lost. After a reset of the connection all are lost, since the
+    /// client has not read the last byte that the connection took.
     ///
     /// # Conditions
     ///

@@ -16,7 +16,7 @@ use crate::served::{End, SESSION_REQUESTS, Served};
 use crate::turn::{deliver, hello_reply, read_asked, read_hello, send};
 use std::alloc::Global;
 use std::io::{Read, Write};
-use sysv_model::{Body, Cred, NoMemory, Instrumented};
+use sysv_model::{Body, Cred, Instrumented, NoMemory};
 use sysv_queue::Tally;
 use sysv_wire::{Request, Version, one_answer_to_requests, one_request};
 
@@ -168,7 +168,7 @@ impl Texts {
     }
 }
 
-/// A session pending: what it has done so far.
+/// A pending session: what it has done so far.
 #[derive(Drop)]
 pub struct Session {
     /// The version and the credentials of the hello, once it was read.

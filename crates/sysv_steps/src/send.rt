@@ -28,7 +28,7 @@ use sysv_objects::{
 use sysv_pool::Chain;
 use sysv_queue::{Look, PlaceRefused, Unplaced};
 
-/// A send pending (POSIX.1-2017, `msgsnd`). Its driver keeps the body.
+/// A pending send (POSIX.1-2017, `msgsnd`). Its driver keeps the body.
 #[derive(Clone, Copy, PartialEq, Eq, Debug)]
 pub struct Sending {
     /// The sender's credentials.

@@ -147,7 +147,8 @@ plays_there w responses place start d outcome who there =
     at_actor d.call.who place start w.actors who
     ∙ (ap (stands_in d.call.who) there
     ∙ ap (λ b. cond b (Some d.state) None) (same_itself place start d.call.who who)) in
-    subst (Plays (begun d.call) (ops_of d.call.who w.turns)) (its_state outcome.state d.state (sym outcome.stands ∙ named))
+    subst (Plays (begun d.call) (ops_of d.call.who w.turns))
+    (its_state outcome.state d.state (sym outcome.stands ∙ named))
     outcome.plays
 
 pub comes_to_rest : OpensSound → StaysSound → SomeStep → EveryRunObeys → EachCallComesToRest
@@ -155,7 +156,8 @@ comes_to_rest opens stays some law o list responses w led zero d phase there is 
 comes_to_rest opens stays some law o list responses w led (suc place) d phase there is young times long =
     let lawful = (law o list responses w led).lawful in
     let own = lawful.calls.pending place d there in
-    let outcome : Outcome w responses d.call = All-contains (Outcome w responses) w.calls d.call lawful.calls.outcomes own.0 in
+    let outcome : Outcome w responses d.call =
+    All-contains (Outcome w responses) w.calls d.call lawful.calls.outcomes own.0 in
     let play = plays_there w responses place own.1.0 d outcome own.1.1 there in
     let left : left_at phase ≤ most_turns d.call.asked =
     subst (λ st. left_in st ≤ most_turns d.call.asked) is

@@ -1,4 +1,4 @@
--- The calls pending, with what each still has to do, and which of them makes the next turn of its
+-- The pending calls, with what each still has to do, and which of them makes the next turn of its
 -- pass: the first one that has a turn left.
 use Rattle.std.proofs.Common.{◌≡◌, ◌≢◌, inl, inr, ℕ, zero, suc, ◌==◌, cond, List, [], ◌∷◌, ◌++◌, Option, Some, refl}
 use Rattle.std.proofs.Common.{sym, ap, ◌∙◌, map, slice_get, slice_set}
@@ -137,7 +137,8 @@ nothing_mapped who [] none = refl
 nothing_mapped who (d ∷ ds) none = absurd cc
 
 -- If no pass has a turn left to make in calls, no call has one.
-pub none_left : (us : List PendingCall) → ((number : ℕ) → ops (left_in number us) ≡ []) → (place : ℕ) (u : PendingCall) →
+pub none_left : (us : List PendingCall) → ((number : ℕ) → ops (left_in number us) ≡ []) →
+    (place : ℕ) (u : PendingCall) →
     slice_get us place ≡ Some u → u.rest ≡ []
 none_left [] none place u there = absurd cc
 none_left (v ∷ us) none zero u there =

@@ -123,7 +123,8 @@ pub record Went (rest : List Numbered) (w : World) (us : List PendingCall) : Typ
   pub actors : world.actors ≡ map done_of us
   pub calls : world.calls ≡ w.calls
 
-same_all : (us : List PendingCall) → ((place : ℕ) (u : PendingCall) → slice_get us place ≡ Some u → doing_of u ≡ done_of u) →
+same_all : (us : List PendingCall) →
+    ((place : ℕ) (u : PendingCall) → slice_get us place ≡ Some u → doing_of u ≡ done_of u) →
     map doing_of us ≡ map done_of us
 same_all [] same = refl
 same_all (u ∷ us) same = ap (λ d. d ∷ map doing_of us) (same zero u refl)

@@ -100,8 +100,10 @@ module _ (generation blocks first : ℕ) (gates : Gates) where
   opened_so _ _ (lifetime.reads_count {one} {rest} {made} count value after lives r same) =
       opened_so (one ∷ rest) made lives
   opened_so _ _ (lifetime.asks_row {one} {rest} {made} slot result after lives told) = opened_so (one ∷ rest) made lives
-  opened_so _ _ (lifetime.splits {one} {rest} {made} kept new lives split held empty) = opened_so (one ∷ rest) made lives
-  opened_so _ _ (lifetime.joins {one} {two} {rest} {made} after lives joined held) = opened_so (one ∷ two ∷ rest) made lives
+  opened_so _ _ (lifetime.splits {one} {rest} {made} kept new lives split held empty) =
+      opened_so (one ∷ rest) made lives
+  opened_so _ _ (lifetime.joins {one} {two} {rest} {made} after lives joined held) =
+      opened_so (one ∷ two ∷ rest) made lives
   opened_so _ _ (lifetime.turns_to {one} {made} before rest lives) = opened_so (before ++ one ∷ rest) made lives
 
 pub every_service : EveryServiceIsARun → EveryServiceObeys

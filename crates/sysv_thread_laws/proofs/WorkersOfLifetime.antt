@@ -154,7 +154,8 @@ hired generation blocks first gates theirs left home last each calls opened hire
     let taken = taken_unmarked (reverse left) hires.kept home hires.takes at_home in
     let fresh = all_reversed (λ (p : Pass). IsUnmarked p.seats) left taken.1 in
     let responses =
-    gives_all generation blocks first gates theirs [] (first_pass gates) hires.kept hires.gives (lifetime.opens opened) in
+    gives_all generation blocks first gates theirs [] (first_pass gates) hires.kept hires.gives
+    (lifetime.opens opened) in
     let worked = works_all generation blocks first gates theirs each left [] hires.kept [] works fresh responses in
     let back = takes_all generation blocks first gates (all_of each) (reverse left) hires.kept home hires.takes
     (subst (λ ps. Lives generation blocks first gates (hires.kept ∷ ps) (all_of each)) (append-nil (reverse left))

@@ -11,7 +11,10 @@ use std::io::Read;
 use sysv_model::{BLOCK_BYTES, BODY_ROOM, Body, Instrumented};
 
 /// Reads until `bytes` is full or the input ends. Returns the number of bytes read.
-pub(crate) fn fill<R: Read>(reader: &mut Instrumented<'_, R>, bytes: &mut [u8]) -> Result<usize, Fault>
+pub(crate) fn fill<R: Read>(
+    reader: &mut Instrumented<'_, R>,
+    bytes: &mut [u8],
+) -> Result<usize, Fault>
     ensures taken { IfOk result (λ count.
         Consumes (R.remaining (stream_of reader.old)) (R.remaining (stream_of reader.new))
         (take count bytes.new)) }
@@ -35,7 +38,10 @@ pub(crate) fn fill<R: Read>(reader: &mut Instrumented<'_, R>, bytes: &mut [u8]) 
 }
 
 /// Reads until `bytes` is full. Fails with `Truncated` if the input ends before.
-pub(crate) fn fill_all<R: Read>(reader: &mut Instrumented<'_, R>, bytes: &mut [u8]) -> Result<(), Fault>
+pub(crate) fn fill_all<R: Read>(
+    reader: &mut Instrumented<'_, R>,
+    bytes: &mut [u8],
+) -> Result<(), Fault>
     ensures taken { OnOk result (Consumes (R.remaining (stream_of reader.old))
         (R.remaining (stream_of reader.new)) bytes.new) }
     ensures fault { IfErr result (λ fault.

@@ -21,7 +21,7 @@ use crate::number::only_i64;
 use crate::output::write_both;
 use crate::reply::{Reply, ReplyContent};
 use std::io::{Read, Write};
-use sysv_model::{Body, MESSAGE_BYTES, Perm, Row, Stat, Instrumented, WriteFault};
+use sysv_model::{Body, Instrumented, MESSAGE_BYTES, Perm, Row, Stat, WriteFault};
 
 /// The maximum number of bytes in the fields of a reply, without its body.
 const MAX_FIELDS: usize = 66;
@@ -215,7 +215,10 @@ pub fn read_reply<R: Read>(
 }
 
 /// Reads one reply, like `read_reply`. The contract states only what was taken of the input.
-fn next_reply<R: Read>(reader: &mut Instrumented<'_, R>, text: &mut Body) -> Result<Option<Reply>, Fault>
+fn next_reply<R: Read>(
+    reader: &mut Instrumented<'_, R>,
+    text: &mut Body,
+) -> Result<Option<Reply>, Fault>
     ensures reads { ReadsReply (R.remaining (stream_of reader.old))
         (R.remaining (stream_of reader.new)) result text.new }
     ensures stream { KeepsStream reader.old reader.new (is_read_fault result) }

@@ -19,7 +19,7 @@ use crate::output::write_both;
 use crate::request::{Ask, Request};
 use bitflags::Flags as Set;
 use std::io::{Read, Write};
-use sysv_model::{BODY_ROOM, Body, Cred, Flags, SetTo, Instrumented, WriteFault};
+use sysv_model::{BODY_ROOM, Body, Cred, Flags, Instrumented, SetTo, WriteFault};
 
 /// The maximum number of bytes in the fields of a request, without its body.
 const MAX_FIELDS: usize = 20;

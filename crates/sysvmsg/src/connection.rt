@@ -239,8 +239,8 @@ fn status_within(status: i32, has_left: bool) -> i32
     }
 }
 
-/// Returns what is shown of a command that ended with this status: the page, or the line of an error
-/// if the call was left.
+/// Returns what is shown of a command that ended with this status: the page, or the line of an
+/// error if the call was left.
 fn text_within<'a>(command: &Command<'_>, status: i32, page: &'a [u8], has_left: bool) -> &'a [u8]
     ensures { status ≡ pos 0 → result.now ≡ page.now }
 {
@@ -285,8 +285,8 @@ fn run_over<R: Read + Drop, W: Write + Drop, S: Write>(
     ended(run_through(alloc, reader, writer, command, screen))
 }
 
-/// Runs a command through buffers, so that a request is one write. Returns the status of the client,
-/// or 1 if there is no memory for the buffers.
+/// Runs a command through buffers, so that a request is one write. Returns the status of the
+/// client, or 1 if there is no memory for the buffers.
 ///
 /// # Conditions
 ///

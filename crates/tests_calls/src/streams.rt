@@ -42,7 +42,11 @@ fn answers_are_written(rt: HostRuntime) {
     };
     assert!(rt; output.tell(Head::Worn { actor: 1 }).is_ok());
     assert!(rt; output.tell_text(Head::Bad { number: 2 }, &text).is_ok());
-    assert!(rt; output.make_room(&mut Instrumented::new(&mut written)).is_ok());
+    assert!(rt;
+        output
+            .make_room(&mut Instrumented::new(&mut written))
+            .is_ok()
+    );
     assert!(rt; written.is_empty());
     let mut writer = Instrumented::new(&mut written);
     assert!(rt; output.write_to(&mut writer).is_ok());

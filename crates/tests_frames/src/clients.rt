@@ -525,7 +525,11 @@ fn a_refusal_is_named(rt: HostRuntime) {
         (75, b"sysvmsg: EOVERFLOW\n"),
     ];
     for (number, line) in table {
-        let mut dialogue = Dialogue::new(&rt, rt.alloc(), &[b"\0\0\0\x03\x02\0", &[number], WELCOME]);
+        let mut dialogue = Dialogue::new(
+            &rt,
+            rt.alloc(),
+            &[b"\0\0\0\x03\x02\0", &[number], WELCOME],
+        );
         assert_is(&rt, dialogue.run(&rt, rt.alloc(), LIST), 1);
         assert!(rt; dialogue.screen.text() == line, "{number}");
         assert!(rt; dialogue.requests.text() == HELLO);

@@ -47,7 +47,7 @@ fn gates_at(rt: &impl Abort, alloc: Global, first: u64) -> (Gates, Seats)
     }
 }
 
-/// Returns a letter with this body, in blocks of the pool.
+/// Returns this body, in blocks of the pool.
 fn loaded_of<R: Wait + Abort>(
     rt: &R,
     alloc: Global,
@@ -71,7 +71,7 @@ fn loaded_of<R: Wait + Abort>(
     }
 }
 
-/// Places a letter of type 9 in queue 1, and returns its number.
+/// Places a body as a message of type 9 in queue 1, and returns its number.
 fn placed<R: Wait + Abort>(rt: &R, gates: &Gates, seats: &mut Seats, loaded: LoadedChain) -> u64
     requires { AreOf gates.now seats.old }
     ensures { AreOf gates.now seats.new }

@@ -11,8 +11,8 @@ use std::process::Abort;
 use sysv_keys::Begun;
 use sysv_model::{Errno, Row, Selector, SetTo, Stat};
 use sysv_objects::{
-    LoadedChain, ObjectCall, ObjectReply, Objects, ObjectsRefused, PoolCall, PoolReply, RegistryCall,
-    RegistryReply, SlotCall, SlotReply, TextSize,
+    LoadedChain, ObjectCall, ObjectReply, Objects, ObjectsRefused, PoolCall, PoolReply,
+    RegistryCall, RegistryReply, SlotCall, SlotReply, TextSize,
 };
 use sysv_pool::Chain;
 use sysv_queue::{Look, Probe, TakeRefused, Tally};
@@ -185,7 +185,7 @@ fn row(objects: &mut Objects, slot: usize, raised: u64) -> Option<Row>
     }
 }
 
-/// Returns a letter with an empty body.
+/// Returns an empty body in its chain.
 fn empty_loaded(rt: &impl Abort, alloc: Global) -> LoadedChain {
     let body = open_body(rt, alloc);
     assert!(rt; body.len() == 0);

@@ -1,7 +1,7 @@
 //! The figures. Each is the median of five, which are taken in turn with those that it is compared
 //! to.
 use crate::figures::{show, show_ratio};
-use crate::gate::calls::{ROUNDS, TIMES, Dialogue, Task, act_at_gate};
+use crate::gate::calls::{Dialogue, ROUNDS, TIMES, Task, act_at_gate};
 use crate::gate::locked::time_at_lock;
 use crate::gate::places::time_at_places;
 use crate::gate::sum::Raise;
@@ -176,7 +176,11 @@ pub(crate) fn try_wakes<R: Threads + Wait + Clock + CpuClock + Print + Sync>(
         rounds,
         pauses: true,
     };
-    let tasks = [Task::Say(dialogue), Task::Answer(dialogue), Task::Watch(rounds)];
+    let tasks = [
+        Task::Say(dialogue),
+        Task::Answer(dialogue),
+        Task::Watch(rounds),
+    ];
     match act_at_gate(rt, alloc, &tasks) {
         Some(done) => match done.stood {
             Some(round) => println!(rt; "a wake was lost after round {round}"),

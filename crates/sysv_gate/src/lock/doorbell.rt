@@ -73,8 +73,8 @@ impl Doorbell {
     }
 }
 
-/// The doorbell of the threads that sleep without a ticket. A ring wakes one of them, unless a thread
-/// that an earlier ring woke is still on its way.
+/// The doorbell of the threads that sleep without a ticket. A ring wakes one of them, unless a
+/// thread that an earlier ring woke is still on its way.
 #[derive(Drop)]
 pub(crate) struct Entrance {
     doorbell: Doorbell,
@@ -90,7 +90,8 @@ impl Entrance {
         }
     }
 
-    /// Enters like `Doorbell::enter`. The thread looks afterwards, so the next ring wakes one again.
+    /// Enters like `Doorbell::enter`. The thread looks afterwards, so the next ring wakes one
+    /// again.
     pub(crate) fn enter(&self) -> u64 {
         let rung = self.doorbell.enter();
         self.called.store(0, SeqCst);
@@ -128,8 +129,8 @@ impl Entrance {
 /// The number of doorbells for turns.
 const TURN_DOORBELLS: usize = 32;
 
-/// The doorbells of the threads that wait for their turn. A thread sleeps on the doorbell of its ticket. So
-/// the end of a turn wakes only the next thread, as long as at most 32 threads wait.
+/// The doorbells of the threads that wait for their turn. A thread sleeps on the doorbell of its
+/// ticket. So the end of a turn wakes only the next thread, as long as at most 32 threads wait.
 #[derive(Drop)]
 pub(crate) struct TurnDoorbells {
     doorbells: [Doorbell; TURN_DOORBELLS],

@@ -34,8 +34,8 @@ fn serve<R: Abort + Wait>(
     handler.serve(alloc, reader, page)
 }
 
-/// Runs the session by `serve_instrumented`, and asserts that each stream has failed if and only if the
-/// end says so.
+/// Runs the session by `serve_instrumented`, and asserts that each stream has failed if and only if
+/// the end says so.
 fn serve_instrumented<R: Abort + Wait>(
     rt: &R,
     alloc: Global,
@@ -62,8 +62,8 @@ fn serve_instrumented<R: Abort + Wait>(
     told
 }
 
-/// Serves the session on a new service, by `serve_instrumented` or else by `serve`, and asserts what it
-/// did and left.
+/// Serves the session on a new service, by `serve_instrumented` or else by `serve`, and asserts
+/// what it did and left.
 fn assert_served<R: Abort + Wait>(
     rt: &R,
     alloc: Global,
@@ -93,7 +93,15 @@ fn the_session_cut_after_each_byte(rt: HostRuntime) {
     for cut in 0..SESSION.len() + 1 {
         for instrumented in WAYS {
             let reader = Pieces::both(&SESSION[..cut], &SESSION[cut..]);
-            assert_served(&rt, rt.alloc(), instrumented, reader, Page::new(), &WHOLE, cut);
+            assert_served(
+                &rt,
+                rt.alloc(),
+                instrumented,
+                reader,
+                Page::new(),
+                &WHOLE,
+                cut,
+            );
         }
     }
 }
@@ -120,7 +128,15 @@ fn the_session_ended_after_each_byte(rt: HostRuntime) {
         let wanted = wanted_after(whole_requests(cut), end);
         for instrumented in WAYS {
             let reader = Pieces::new(&SESSION[..cut], usize::MAX);
-            assert_served(&rt, rt.alloc(), instrumented, reader, Page::new(), &wanted, cut);
+            assert_served(
+                &rt,
+                rt.alloc(),
+                instrumented,
+                reader,
+                Page::new(),
+                &wanted,
+                cut,
+            );
         }
     }
 }
@@ -132,7 +148,15 @@ fn the_reader_fails_after_each_byte(rt: HostRuntime) {
         for instrumented in WAYS {
             let mut reader = Pieces::new(SESSION, usize::MAX);
             reader.good = good;
-            assert_served(&rt, rt.alloc(), instrumented, reader, Page::new(), &wanted, good);
+            assert_served(
+                &rt,
+                rt.alloc(),
+                instrumented,
+                reader,
+                Page::new(),
+                &wanted,
+                good,
+            );
         }
     }
 }
@@ -171,7 +195,15 @@ fn the_writer_cannot_be_flushed(rt: HostRuntime) {
             let reader = Pieces::new(SESSION, usize::MAX);
             let mut page = Page::new();
             page.flushes = flushes;
-            assert_served(&rt, rt.alloc(), instrumented, reader, page, &wanted, flushes);
+            assert_served(
+                &rt,
+                rt.alloc(),
+                instrumented,
+                reader,
+                page,
+                &wanted,
+                flushes,
+            );
         }
     }
 }

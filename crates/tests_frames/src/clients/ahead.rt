@@ -122,7 +122,10 @@ fn no_more_than_a_window_is_requested(rt: HostRuntime) {
         }
         assert!(rt; outcome == Err(Stop::Fault(ClientFault::NoReply)));
         let wanted = requested(&rt, rt.alloc(), requests);
-        assert!(rt; dialogue.requests.text() == wanted.text(), "{count}, {ahead}");
+        assert!(rt;
+            dialogue.requests.text() == wanted.text(),
+            "{count}, {ahead}"
+        );
     }
 }
 

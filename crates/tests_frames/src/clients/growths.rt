@@ -25,7 +25,11 @@ fn run_of_client(rt: HostRuntime) {
     } else {
         assert_is(&rt, status, 1);
         assert!(rt; dialogue.screen.text() == b"sysvmsg: no memory\n".as_slice());
-        assert_is(&rt, (dialogue.replies.read, dialogue.requests.len()), (0, 0));
+        assert_is(
+            &rt,
+            (dialogue.replies.read, dialogue.requests.len()),
+            (0, 0),
+        );
     }
 }
 
@@ -51,7 +55,11 @@ fn receives_of_client(rt: HostRuntime) {
         assert_is(&rt, dialogue.replies.read, dialogue.replies.len());
     } else {
         assert!(rt; outcome == Err(Stop::Fault(ClientFault::NoMemory)));
-        assert_is(&rt, (dialogue.replies.read, dialogue.requests.len()), (0, 0));
+        assert_is(
+            &rt,
+            (dialogue.replies.read, dialogue.requests.len()),
+            (0, 0),
+        );
         assert_is(&rt, dialogue.screen.len(), 0);
     }
 }
@@ -78,7 +86,11 @@ fn sends_of_client(rt: HostRuntime) {
         Ok(()) => assert_is(&rt, dialogue.replies.read, dialogue.replies.len()),
         Err(unsent) => {
             assert!(rt; unsent.line() == ClientFault::NoMemory.line());
-            assert_is(&rt, (dialogue.replies.read, dialogue.requests.len()), (0, 0));
+            assert_is(
+                &rt,
+                (dialogue.replies.read, dialogue.requests.len()),
+                (0, 0),
+            );
             assert_is(&rt, input.read, 0);
         }
     }

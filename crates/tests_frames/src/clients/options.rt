@@ -1,7 +1,7 @@
 //! What the options and the further commands of clients request and show.
 use super::*;
 use sysv_clients::{ClientFault, Making, Receiving, Stop, receive_all, receive_instrumented};
-use sysv_model::{Errno, MESSAGE_BYTES, Instrumented};
+use sysv_model::{Errno, Instrumented, MESSAGE_BYTES};
 
 /// The reply with a message of type -3 and of these four bytes: `a`, LF, NUL, `b`.
 const ODD: &[u8] = b"\0\0\0\x0f\x02\x03\0\xff\xff\xff\xff\xff\xff\xff\xfda\n\0b";
@@ -41,7 +41,11 @@ fn a_message_is_shown_as_the_options_say(rt: HostRuntime) {
             size,
             ..ANY
         };
-        assert_is(&rt, dialogue.run(&rt, rt.alloc(), Task::Receive(receipt)), 0);
+        assert_is(
+            &rt,
+            dialogue.run(&rt, rt.alloc(), Task::Receive(receipt)),
+            0,
+        );
         assert!(rt; dialogue.screen.text() == shown, "{size}");
     }
 }
@@ -119,7 +123,11 @@ fn the_longest_message_is_shown_with_its_type(rt: HostRuntime) {
         show_type: true,
         ..ANY
     };
-    assert_is(&rt, dialogue.run(&rt, rt.alloc(), Task::Receive(receipt)), 0);
+    assert_is(
+        &rt,
+        dialogue.run(&rt, rt.alloc(), Task::Receive(receipt)),
+        0,
+    );
     let wanted = joined(&rt, rt.alloc(), &[b"-9223372036854775808\t", &text, b"\n"]);
     assert!(rt; dialogue.screen.text() == wanted.text());
 }
@@ -141,7 +149,11 @@ fn a_receive_may_except_a_type_and_create_the_queue(rt: HostRuntime) {
             noerror,
             ..ANY
         };
-        assert_is(&rt, dialogue.run(&rt, rt.alloc(), Task::Receive(receipt)), 0);
+        assert_is(
+            &rt,
+            dialogue.run(&rt, rt.alloc(), Task::Receive(receipt)),
+            0,
+        );
         let wanted = joined(&rt, rt.alloc(), &[HELLO, get, WANTS, flags]);
         assert!(rt; dialogue.requests.text() == wanted.text());
     }
@@ -150,7 +162,11 @@ fn a_receive_may_except_a_type_and_create_the_queue(rt: HostRuntime) {
 #[test]
 fn queues_are_listed_as_json(rt: HostRuntime) {
     let mut dialogue = listed(&rt, rt.alloc());
-    assert_is(&rt, dialogue.run(&rt, rt.alloc(), Task::List(Format::Json)), 0);
+    assert_is(
+        &rt,
+        dialogue.run(&rt, rt.alloc(), Task::List(Format::Json)),
+        0,
+    );
     let wanted = joined(
         &rt,
         rt.alloc(),
@@ -224,9 +240,17 @@ impl Dialogue {
 #[test]
 fn each_of_several_messages_is_shown_as_it_comes(rt: HostRuntime) {
     for count in 0..4 {
-        let mut dialogue = Dialogue::new(&rt, rt.alloc(), &[WELCOME, GOT, MESSAGE, MESSAGE, MESSAGE]);
+        let mut dialogue = Dialogue::new(
+            &rt,
+            rt.alloc(),
+            &[WELCOME, GOT, MESSAGE, MESSAGE, MESSAGE],
+        );
         if dialogue.receive(rt.alloc(), count).is_err() {
-            assert_is(&rt, (dialogue.requests.len(), dialogue.screen.len()), (0, 0));
+            assert_is(
+                &rt,
+                (dialogue.requests.len(), dialogue.screen.len()),
+                (0, 0),
+            );
             return;
         }
         let mut asked = joined(&rt, rt.alloc(), &[HELLO, GET]);
@@ -264,7 +288,11 @@ fn only_the_messages_before_a_fault_are_shown(rt: HostRuntime) {
 #[test]
 fn a_screen_that_fails_ends_the_receives(rt: HostRuntime) {
     for room in 4..8 {
-        let mut dialogue = Dialogue::new(&rt, rt.alloc(), &[WELCOME, GOT, MESSAGE, MESSAGE, MESSAGE]);
+        let mut dialogue = Dialogue::new(
+            &rt,
+            rt.alloc(),
+            &[WELCOME, GOT, MESSAGE, MESSAGE, MESSAGE],
+        );
         dialogue.screen.good = room;
         assert!(rt; dialogue.receive(rt.alloc(), 3).is_err());
         if dialogue.requests.len() == 0 {

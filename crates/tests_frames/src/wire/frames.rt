@@ -3,7 +3,7 @@ use crate::parts::open_body;
 use bitflags::Flags as Set;
 use std::alloc::Global;
 use std::process::Abort;
-use sysv_model::{Cred, Errno, Flags, MESSAGE_BYTES, Perm, Row, SetTo, Stat, Instrumented};
+use sysv_model::{Cred, Errno, Flags, Instrumented, MESSAGE_BYTES, Perm, Row, SetTo, Stat};
 use sysv_wire::{
     Ask, Reply, ReplyContent, Request, Version, read_reply, read_request, write_reply,
     write_request,

@@ -7,7 +7,9 @@ use crate::parts::opened;
 use std::alloc::Global;
 use std::process::Abort;
 use std::sync::Wait;
-use sysv_seats::{Client, MemoryStream, Notification, Replies, ServiceHandler, Step, Tools, ZERO, Zero};
+use sysv_seats::{
+    Client, MemoryStream, Notification, Replies, ServiceHandler, Step, Tools, ZERO, Zero,
+};
 use sysv_service::{Pass, Service};
 use sysv_session::{End, Served};
 use tests_kit::worked::{ANSWERS, SESSION};
@@ -128,7 +130,7 @@ fn assert_counts(
     assert_eq!(rt; client.has_more(), has_more);
 }
 
-/// Asserts that these are the news, the last one first, and removes them.
+/// Asserts that these are the notifications, the last one first, and removes them.
 fn assert_notifications(rt: &impl Abort, tools: &mut Tools, expected: &[Notification]) {
     for notification in expected {
         assert_eq!(rt; tools.take_notification(), Some(*notification));
@@ -136,8 +138,8 @@ fn assert_notifications(rt: &impl Abort, tools: &mut Tools, expected: &[Notifica
     assert_eq!(rt; tools.take_notification(), None);
 }
 
-/// Reports that there may be something to read, has the client take a turn, and gives its connection
-/// the replies.
+/// Reports that there may be something to read, has the client take a turn, and gives its
+/// connection the replies.
 fn turn<R: Abort + Wait>(
     handler: &mut ServiceHandler<'_, Zero, R>,
     tools: &mut Tools,
@@ -323,7 +325,8 @@ fn the_notifications_of_a_set_a_refused_send_and_a_removal(rt: HostRuntime) {
     ended(&rt, service, pass, 0);
 }
 
-// A send that waits for room may have returned blocks, and a receive that waits has changed nothing.
+// A send that waits for room may have returned blocks, and a receive that waits has changed
+// nothing.
 #[test]
 fn the_notifications_of_calls_that_wait(rt: HostRuntime) {
     let alloc = rt.alloc();

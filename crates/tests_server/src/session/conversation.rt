@@ -160,8 +160,8 @@ fn the_connection_takes_one_byte_after_another(rt: HostRuntime) {
     }
 }
 
-// The client resets the connection after it has taken this number of bytes. It has not read the last
-// of them, which may be the last byte of the message's frame, the 42nd.
+// The client resets the connection after it has taken this number of bytes. It has not read the
+// last of them, which may be the last byte of the message's frame, the 42nd.
 #[test]
 fn the_connection_is_reset_after_each_byte(rt: HostRuntime) {
     for count in 0..50 {

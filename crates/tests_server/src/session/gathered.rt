@@ -158,8 +158,8 @@ fn a_message_is_written_once_a_byte_after_it_was_taken(rt: HostRuntime) {
     assert_eq!(rt; handler.end(), 128);
 }
 
-/// Lets the connection take this number of bytes, ends the outbox, and asserts how many messages were
-/// written. The others are lost.
+/// Lets the connection take this number of bytes, ends the outbox, and asserts how many messages
+/// were written. The others are lost.
 fn assert_written(rt: &impl Abort, alloc: Global, taken: usize, is_reset: bool, written: u64) {
     let mut handler = TestHandler::open(rt, alloc);
     let mut tally = Tally::open();

@@ -1,5 +1,5 @@
-//! Threads that have slept are no longer counted as sleepers. A run counts the wakes after the mark,
-//! and expects none.
+//! Threads that have slept are no longer counted as sleepers. A run counts the wakes after the
+//! mark, and expects none.
 ghost use Rattle.std.specs.Prelude.{◌≡◌};
 
 use super::{Role, Slow, told_to_four, wait_out_a_turn};
