@@ -113,10 +113,10 @@ impl From<WriteFault> for Stop {
 /// # Errors
 ///
 /// - `Fault`: a request that the server refuses, that cannot be written or that has no reply ends
-///   the session. Nothing more is requested then. The replies to the receives on their way are read,
-///   unless one of them is missing, and their messages are shown. The fault is that of the first
-///   receive without a message. Or memory was refused; it is allocated first, so nothing was written
-///   to the server or read.
+///   the session. Nothing more is requested then. The replies to the receives on their way are
+///   read, unless one of them is missing, and their messages are shown. The fault is that of the
+///   first receive without a message. Or memory was refused; it is allocated first, so nothing was
+///   written to the server or read.
 /// - `Screen`: the screen failed, and nothing more was requested or read. It has taken a prefix of
 ///   the messages so far.
 pub fn receive_all<R: Read, W: Write, S: Write>(

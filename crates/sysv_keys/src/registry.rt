@@ -290,7 +290,8 @@ impl Registry {
     /// - `slot` is below `SLOTS`.
     pub fn is_unused(&self, slot: usize) -> bool
         requires { slot < SLOTS }
-        ensures { (opening : ℕ) (h : RegistryHistory) → Represents opening h self.now → IsTrue result
+        ensures { (opening : ℕ) (h : RegistryHistory) → Represents opening h self.now →
+            IsTrue result
             ↔ IsUnused opening h slot }
     {
         let place = self.places[slot];

@@ -124,7 +124,10 @@ impl Pool {
         requires { self.old.released < 2 ^ 63 }
         ensures turn { MakesTurn self.old (Release chain.blocks) (release_reply result) self.new }
         ensures after { MatchResult result (λ _.
-            self.new ≡ record self.old { free = self.old.free + chain.blocks; released = self.old.released + 1 }) (λ back. (back ≡ chain) × (self.new ≡ self.old)) }
+            self.new ≡ record self.old {
+              free = self.old.free + chain.blocks;
+              released = self.old.released + 1;
+            }) (λ back. (back ≡ chain) × (self.new ≡ self.old)) }
     {
         if chain.count > self.size - self.count {
             return Err(chain);

@@ -96,7 +96,8 @@ struct Run {
 impl Run {
     /// Opens a script of which nothing has been read.
     fn open(alloc: Global) -> Result<Run, NoMemory>
-        ensures { IfOk result (λ run. IsScriptStateOf opening_script_state run.stage × (run.input ≡ [])
+        ensures { IfOk result (λ run. IsScriptStateOf opening_script_state run.stage
+            × (run.input ≡ [])
             × (run.output ≡ [])) }
     {
         let input = Input::open(alloc)?;
@@ -186,9 +187,11 @@ impl Run {
         ensures short { OnOk result (found.len ≤ LINE_BYTES) }
         ensures rest { OnOk result (found.is_last ≡ false →
             self.new.input ≡ drop (found.len + 1) self.old.input) }
-        ensures does { OnOk result ((s : ScriptState) → IsScriptStateOf s self.old.stage → (after : ScriptState)
+        ensures does { OnOk result ((s : ScriptState) → IsScriptStateOf s self.old.stage →
+            (after : ScriptState)
             × (out : List ℕ)
-            × LineDoes s (take found.len self.old.input) out after × IsScriptStateOf after self.new.stage
+            × LineDoes s (take found.len self.old.input) out after
+            × IsScriptStateOf after self.new.stage
             × (self.new.output ≡ self.old.output ++ out)) }
         ensures fault { IfErr result (λ fault.
             EndsAtLine fault number self.old.output self.new.output) }
@@ -213,7 +216,8 @@ impl Run {
         reader: &mut Instrumented<'_, R>,
         writer: &mut Instrumented<'_, W>,
     ) -> Result<(), ScriptFault>
-        ensures runs { (s : ScriptState) → (text : List ℕ) → (old : Option (List ℕ)) → (number : ℕ) →
+        ensures runs { (s : ScriptState) → (text : List ℕ) → (old : Option (List ℕ)) →
+            (number : ℕ) →
             SCRIPT_LINES < number →
             RunsOn s text old number self.old.stage self.old.input
             (R.remaining (stream_of reader.old))
@@ -265,7 +269,8 @@ fn run_line(
     output: &mut Output,
     line: &[u8],
 ) -> Result<bool, NoMemory>
-    ensures runs { IfOk result (λ understood. (s : ScriptState) → IsScriptStateOf s stage.old → (after : ScriptState)
+    ensures runs { IfOk result (λ understood. (s : ScriptState) → IsScriptStateOf s stage.old →
+        (after : ScriptState)
         × (out : List ℕ)
         × LineEnds s line.now understood out after × IsScriptStateOf after stage.new
         × (output.new ≡ output.old ++ out)) }

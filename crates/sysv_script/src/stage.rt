@@ -92,7 +92,8 @@ impl Stage {
     ) -> Result<bool, NoMemory>
         requires { LineFits line }
         ensures runs { IfOk result (λ understood. (s : ScriptState) → IsScriptStateOf s self.old →
-            (after : ScriptState) × (out : List ℕ) × LineRuns s (said_of line.entry) understood out after
+            (after : ScriptState) × (out : List ℕ)
+            × LineRuns s (said_of line.entry) understood out after
             × IsScriptStateOf after self.new × (output.new ≡ output.old ++ out)) }
         // A bad line composes nothing. If memory is refused, a prefix of what was composed is left.
         ensures quiet { IfOk result (λ understood. understood ≡ false → output.new ≡ output.old) }
@@ -112,7 +113,8 @@ impl Stage {
     fn size_pool(&mut self, alloc: Global, blocks: u32) -> Result<bool, NoMemory>
         requires { IsPoolSize blocks }
         ensures { IfOk result (λ understood. (s : ScriptState) → IsScriptStateOf s self.old →
-            (after : ScriptState) × PoolGiven s blocks understood after × IsScriptStateOf after self.new) }
+            (after : ScriptState) × PoolGiven s blocks understood after
+            × IsScriptStateOf after self.new) }
     {
         if !self.fresh {
             return Ok(false);
@@ -128,7 +130,8 @@ impl Stage {
     fn act(&mut self, alloc: Global, line: Line<'_>, output: &mut Output) -> Result<bool, NoMemory>
         requires { LineFits line }
         ensures runs { IfOk result (λ understood. (s : ScriptState) → IsScriptStateOf s self.old →
-            (after : ScriptState) × (out : List ℕ) × LineActs s (said_of line.entry) understood out after
+            (after : ScriptState) × (out : List ℕ)
+            × LineActs s (said_of line.entry) understood out after
             × IsScriptStateOf after self.new × (output.new ≡ output.old ++ out)) }
         ensures quiet { IfOk result (λ understood. understood ≡ false → output.new ≡ output.old) }
         ensures err { OnErr result (IsPrefixOf output.new output.old) }
@@ -159,7 +162,8 @@ impl Stage {
     ) -> Result<(), NoMemory>
         requires actor { IsOfActors actor }
         requires fits { CallFits call }
-        ensures runs { OnOk result ((s : ScriptState) → IsScriptStateOf s self.old → (after : ScriptState)
+        ensures runs { OnOk result ((s : ScriptState) → IsScriptStateOf s self.old →
+            (after : ScriptState)
             × (out : List ℕ)
             × StartRuns s actor (call_asked call.entry) goes
             (doing_at (actor_at s.world.actors actor)) out after
@@ -178,7 +182,8 @@ impl Stage {
 
     /// Makes at most `steps` steps of an actor's call, and composes the line that it prints.
     fn take_on(&mut self, actor: u32, steps: u32, output: &mut Output) -> Result<(), NoMemory>
-        ensures runs { OnOk result ((s : ScriptState) → IsScriptStateOf s self.old → (after : ScriptState)
+        ensures runs { OnOk result ((s : ScriptState) → IsScriptStateOf s self.old →
+            (after : ScriptState)
             × (out : List ℕ)
             × StepsRun steps s actor (doing_at (actor_at s.world.actors actor)) out after
             × IsScriptStateOf after self.new × (output.new ≡ output.old ++ out)) }
@@ -192,7 +197,8 @@ impl Stage {
 
     /// Continues each pending call, in the order of the actors.
     fn take_all_on(&mut self, output: &mut Output) -> Result<(), NoMemory>
-        ensures runs { OnOk result ((s : ScriptState) → IsScriptStateOf s self.old → (after : ScriptState)
+        ensures runs { OnOk result ((s : ScriptState) → IsScriptStateOf s self.old →
+            (after : ScriptState)
             × (out : List ℕ)
             × AllRun (range_with_len 1 SCRIPT_ACTORS) s out after
             × IsScriptStateOf after self.new × (output.new ≡ output.old ++ out)) }
@@ -206,7 +212,8 @@ impl Stage {
 
     /// Continues the call of an actor, if it is in one.
     fn take_one_on(&mut self, actor: u32, output: &mut Output) -> Result<(), NoMemory>
-        ensures runs { OnOk result ((s : ScriptState) → IsScriptStateOf s self.old → (after : ScriptState)
+        ensures runs { OnOk result ((s : ScriptState) → IsScriptStateOf s self.old →
+            (after : ScriptState)
             × (out : List ℕ)
             × OneRuns s actor (doing_at (actor_at s.world.actors actor)) out after
             × IsScriptStateOf after self.new × (output.new ≡ output.old ++ out)) }
@@ -227,7 +234,8 @@ impl Stage {
         steps: u32,
         output: &mut Output,
     ) -> Result<(), NoMemory>
-        ensures runs { OnOk result ((s : ScriptState) → IsScriptStateOf s self.old → (after : ScriptState)
+        ensures runs { OnOk result ((s : ScriptState) → IsScriptStateOf s self.old →
+            (after : ScriptState)
             × (out : List ℕ)
             × StepsRun steps s actor (Some operation) out after
             × IsScriptStateOf after self.new × (output.new ≡ output.old ++ out)) }
@@ -310,7 +318,8 @@ impl Stage {
     fn begin(&mut self, actor: u32, call: Call) -> Stepped
         requires { IsOfActors actor }
         ensures { (s : ScriptState) → IsScriptStateOf s self.old →
-            (after : ScriptState) × StartsAs s actor call result after × IsScriptStateOf after self.new }
+            (after : ScriptState) × StartsAs s actor call result after
+            × IsScriptStateOf after self.new }
     {
         let cred = self.creds[actor as usize - 1];
         self.world.step(Event::Start { actor, cred, call })
@@ -319,7 +328,8 @@ impl Stage {
     /// Makes at most `steps` steps of a call whose last result was `last`, until the call is over.
     fn go(&mut self, actor: u32, last: Stepped, steps: u32) -> Stepped
         ensures { (s : ScriptState) → IsScriptStateOf s self.old →
-            (after : ScriptState) × GoesOn steps s actor last result after × IsScriptStateOf after self.new }
+            (after : ScriptState) × GoesOn steps s actor last result after
+            × IsScriptStateOf after self.new }
     {
         let mut given = last;
         for _ in 0..steps {

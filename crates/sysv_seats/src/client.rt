@@ -579,7 +579,8 @@ impl<T: NonBlocking> Client<T> {
             HasBegun zero_moment request.version cred request.ask text before progress
             tools.old.given now →
             Sits T.incoming T.outgoing start origin self.new now }
-        ensures notifications { KeepsNotification (notifications_of (told_of request.ask progress)) tools.old tools.new }
+        ensures notifications { KeepsNotification (notifications_of (told_of request.ask progress))
+            tools.old tools.new }
         ensures breaks { T.closes.breaks self.new.connection
             ≡ T.closes.breaks self.old.connection }
     {

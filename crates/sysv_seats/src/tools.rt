@@ -36,7 +36,8 @@ impl Tools {
     /// - `NoMemory` if allocation fails.
     pub fn open(alloc: Global) -> Result<Tools, NoMemory>
         ensures notifications { IfOk result (λ tools. notifications_in tools ≡ []) }
-        ensures room { IfOk result (λ tools. vec_capacity tools.notifications ≡ MOST_NOTIFICATIONS) }
+        ensures room { IfOk result (λ tools. vec_capacity tools.notifications
+            ≡ MOST_NOTIFICATIONS) }
     {
         let text = Body::open(alloc)?;
         let given = Body::open(alloc)?;
@@ -67,7 +68,7 @@ impl Tools {
         ensures { result ≡ list_any (is_taken taken) (notifications_in self.now) }
     {
         self.notifications.iter().any(
-            |notifications| matches!(notifications, Notification::Freed { mtype, .. } if *mtype == taken),
+            |it| matches!(it, Notification::Freed { mtype, .. } if *mtype == taken),
         )
     }
 
