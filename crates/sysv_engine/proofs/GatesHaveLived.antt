@@ -1,4 +1,4 @@
--- The gates of a server have lived: all passes came home, the gates were stopped and then closed.
+-- The gates of a server have lived: all passes were joined, the gates were stopped and then closed.
 use Rattle.std.proofs.Common.{◌≡◌, ℕ, List, sym, subst}
 use Rattle.std.specs.Prelude.{Bool, Result}
 use Rattle.sysv_model.specs.declared.errno.Errno.{Errno}

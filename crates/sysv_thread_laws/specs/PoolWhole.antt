@@ -1,4 +1,4 @@
--- What is left of a closed service if all passes have come home, and each of their calls is over or
+-- What is left of a closed service if all passes have been joined, and each of their calls is over or
 -- was left at a wait. No gate is held, and all blocks are free: the pool's own, and those of the
 -- queued messages. This project's profile.
 use Rattle.std.specs.Prelude.{◌≡◌, ℕ, List, [], ◌∷◌, ◌++◌, All}

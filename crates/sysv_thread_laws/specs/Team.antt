@@ -1,4 +1,4 @@
--- The passes of a service, from its opening until all have come home, and the calls that they made.
+-- The passes of a service, from its opening until all have been joined, and the calls that they made.
 -- After all of them were joined into one, the order that the close of the service finds is a run of
 -- a world with those calls (this project's profile).
 use Rattle.std.specs.Prelude.{◌≡◌, ℕ, List, [], ◌∷◌, ◌++◌, All}
@@ -49,13 +49,13 @@ pub record IsServed (generation blocks : ℕ) (order : List Numbered) (calls : L
   pub run : IsRunWith generation blocks order calls
   pub at_rest : All (λ (c : Called). Rests c.state) calls → AreAtRest generation blocks (turns_of order)
 
--- After all passes have come home to one, the order that its close finds is a run with all calls
+-- After all passes have been joined into one, the order that its close finds is a run with all calls
 -- that were made, if the replies of the order are legal.
 abbrev pub EveryServiceIsARun : Type 0
 EveryServiceIsARun = (generation blocks : ℕ) (last : Member) (calls : List Called) (order : List Numbered) →
     IsTeam (last ∷ []) calls → Closes last order → AreLegal generation blocks (turns_of order) →
     IsServed generation blocks order calls
 
--- After all passes have come home to one, that one has the whole service.
+-- After all passes have been joined into one, that one has the whole service.
 abbrev pub EveryLastPassIsWhole : Type 0
 EveryLastPassIsWhole = (last : Member) (calls : List Called) → IsTeam (last ∷ []) calls → AreWhole last.shares

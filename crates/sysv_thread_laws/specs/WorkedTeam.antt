@@ -1,7 +1,7 @@
 -- A worked service whose order is the worked one. Pass 0 opens the service, and splits off pass 1
 -- and then pass 2. Each pass makes its turns, as far as it must see those of the others. Pass 1 is
 -- joined into pass 2, and pass 2 into pass 0, which closes the service. At the end are a list in
--- which a call is missing, and a team that has not come home.
+-- which a call is missing, and a team that has not been joined.
 use Rattle.std.specs.Prelude.{ℕ, List, [], ◌∷◌, take, pos}
 use Rattle.sysv_steps.specs.State.{Got, Over}
 use Rattle.sysv_thread_laws.specs.Order.{Called}
@@ -29,11 +29,11 @@ calls_of_team = the_get ∷ the_send ∷ the_left ∷ the_removal ∷ the_receiv
 
 -- What holds of this service.
 pub record WorkedTeam : Type 0 where
-  -- All passes come home, the service is closed, and its order is a run with the calls.
+  -- All passes are joined, the service is closed, and its order is a run with the calls.
   pub home : IsTeam (with_all ∷ []) calls_of_team
   pub closes : Closes with_all the_order
   pub served : IsServed 0 128 the_order calls_of_team
-  -- No team comes home with that order and without the send.
+  -- No team is joined into one pass with that order and without the send.
   pub left_out : ¬ IsTeam (with_all ∷ [])
       (the_get ∷ the_left ∷ the_removal ∷ the_receive (Over (Got (pos 5) hello)) ∷ the_refused ∷ [])
   -- Pass 0 alone does not have the whole service.

@@ -111,7 +111,7 @@ pub fn worked_order()
 }
 
 /// States that the worked order is that of a service of three passes: it is opened, two passes are
-/// split off, calls are made, and all passes come home. Without one of the calls, they do not.
+/// split off, calls are made, and all passes are joined. Without one of the calls, that is not so.
 pub fn worked_team()
     ensures { WorkedTeam }
 {
@@ -150,7 +150,7 @@ pub fn every_hiring_obeys()
 }
 
 /// States that no gate is held and all blocks of the pool are free after the close of a service, if
-/// all passes have come home, each of their calls is over or was left at a wait, and no call found
+/// all passes have been joined, each of their calls is over or was left at a wait, and no call found
 /// a gate worn out.
 ///
 /// The clause `hired` states the same of a service whose first pass gave a pass to each worker and
