@@ -150,8 +150,8 @@ pub fn every_hiring_obeys()
 }
 
 /// States that no gate is held and all blocks of the pool are free after the close of a service, if
-/// all passes have been joined, each of their calls is over or was left at a wait, and no call found
-/// a gate worn out.
+/// all passes have been joined, each of their calls is over or was left at a wait, and no call
+/// found a gate worn out.
 ///
 /// The clause `hired` states the same of a service whose first pass gave a pass to each worker and
 /// took all of them back, if fewer than 2^62 turns were made at each object, with tickets from 0
