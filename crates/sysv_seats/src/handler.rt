@@ -15,7 +15,7 @@ use std::sync::Wait;
 use sysv_keys::SLOTS;
 use sysv_model::{Body, Cred, Flags, Instrumented, Row, SetTo, Stat};
 use sysv_service::{Clock, Pass, Service};
-use sysv_session::{End, Handler, RequestOutcome, Served, Texts, serve, serve_instrumented};
+use sysv_session::{End, Handler, RequestOutcome, Served, Texts, serve_instrumented};
 use sysv_wire::{Ask, MAX_MODE, Op, Reply, ReplyContent, Request, Version};
 
 /// The handler of one session over a service. Each request, except one for a row, is one call of
@@ -58,30 +58,10 @@ impl<'a, C: Clock, R: Wait> ServiceHandler<'a, C, R> {
         }
     }
 
-    /// Runs one session with this handler, like `sysv_session::serve`.
+    /// Runs one session with this handler, like `sysv_session::serve_instrumented`. Allocates
+    /// nothing for the session.
     ///
     /// The reply to a hello of version 2 states `sysv_keys::SLOTS` slots.
-    pub fn serve<I: Read, O: Write>(
-        &mut self,
-        alloc: Global,
-        reader: &mut I,
-        writer: &mut O,
-    ) -> Served
-        ensures serves { ServesPass (C.may self.old.clock.now) ⊥ result self.old.pass
-            self.new.pass (I.remaining reader.old) (I.remaining reader.new)
-            (O.contents writer.old) (O.contents writer.new) }
-        // The session ends as its input determines, unless it is cut short.
-        ensures only { (input : List ℕ) (parse : Parse) → I.remaining reader.old ≡ Some input →
-            Takes input parse → Follows parse result }
-        ensures memory { result.«end» ≡ End.NoMemory → (reader.new ≡ reader.old)
-            × (writer.new ≡ writer.old) }
-        ensures handles { KeepsHandles self.old self.new }
-    {
-        serve(alloc, reader, writer, self)
-    }
-
-    /// Runs one session like `serve`, but with two bodies that exist already, and records which
-    /// stream failed. Allocates nothing for the session.
     ///
     /// The reader fails if and only if the session ends with `Fault(Read)`, and the writer fails if
     /// and only if it ends with `Write`.

@@ -45,7 +45,7 @@ module _ {K : Type 0} where
 
   -- It stopped for this reason before a hello was taken up.
   pub record StoppedBefore (why : End) (dialogue : Dialogue) (old now : K) (left rest : Option (List ℕ))
-      (taken : List ℕ) : 
+      (taken : List ℕ) :
       Type 0 where
     pub handler : now ≡ old
     pub ends : StopsBefore why left rest

@@ -54,34 +54,16 @@ pub fn serve<R: Read, W: Write, K: Handler>(
             requests: 0,
         };
     };
-    serve_with(&mut texts, reader, writer, handler)
-}
-
-/// Runs one session like `serve`, but with two bodies that exist already, whatever they hold.
-/// Allocates nothing.
-pub fn serve_with<R: Read, W: Write, K: Handler>(
-    texts: &mut Texts,
-    reader: &mut R,
-    writer: &mut W,
-    handler: &mut K,
-) -> Served
-    ensures serves { Serves K.meaning (K.slots handler.old) result handler.old handler.new
-        (R.remaining reader.old) (R.remaining reader.new) (W.contents writer.old)
-        (W.contents writer.new) }
-    // The session ends as its input determines, unless it is cut short.
-    ensures only { (input : List ℕ) (parse : Parse) → R.remaining reader.old ≡ Some input →
-        Takes input parse → Follows parse result }
-    ensures memory { result.«end» ≢ End.NoMemory }
-{
     serve_instrumented(
-        texts,
+        &mut texts,
         &mut Instrumented::new(reader),
         &mut Instrumented::new(writer),
         handler,
     )
 }
 
-/// Runs one session like `serve_with`, and records which stream failed.
+/// Runs one session like `serve`, but with two bodies that exist already, whatever they hold, and
+/// records which stream failed. Allocates nothing.
 ///
 /// The reader fails if and only if the session ends with `Fault(Read)`, and the writer fails if and
 /// only if it ends with `Write`.

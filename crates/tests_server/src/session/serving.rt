@@ -6,9 +6,10 @@ use crate::parts::{CLOCK, Still, closed, opened};
 use std::alloc::Global;
 use std::process::Abort;
 use std::sync::Wait;
+use sysv_model::Instrumented;
 use sysv_seats::ServiceHandler;
 use sysv_service::{Pass, Service};
-use sysv_session::{End, Served};
+use sysv_session::{End, Served, Texts};
 use tests_kit::worked::{ANSWERS, SESSION};
 use tests_kit::{Page, Pieces};
 
@@ -20,7 +21,7 @@ pub(super) fn ended(rt: &impl Abort, service: Service, pass: Pass, waiting: u64)
     assert_eq!(rt; service.close(pass), closed(waiting, 128));
 }
 
-/// Serves one session. Tolerates one refusal of memory, after which nothing was read or written.
+/// Serves one session. Tolerates one refusal of memory.
 fn conversed<R: Abort + Wait>(
     rt: &R,
     alloc: Global,
@@ -30,12 +31,12 @@ fn conversed<R: Abort + Wait>(
 ) -> Served
     ensures { handler.new.service ≡ handler.old.service }
 {
-    let served = handler.serve(alloc, reader, page);
-    if served.end != End::NoMemory {
-        return served;
-    }
-    assert_eq!(rt; (page.written().len(), page.flushed().len()), (0, 0));
-    handler.serve(alloc, reader, page)
+    let mut texts = match Texts::open(alloc) {
+        Ok(texts) => texts,
+        Err(_) => Texts::open(alloc).expect(rt, "a second try"),
+    };
+    let mut reader = Instrumented::new(reader);
+    handler.serve_instrumented(&mut texts, &mut reader, &mut Instrumented::new(page))
 }
 
 /// Serves one session on a new service at time 7, and asserts that this number of messages is left
