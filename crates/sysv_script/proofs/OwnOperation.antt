@@ -35,12 +35,12 @@ none_at zero place d e = absurd cc
 none_at (suc n) zero d e = absurd cc
 none_at (suc n) (suc place) d e = none_at n place d e
 
-is_under_way : (call : Invocation) (state : State) (d : Doing) → doing_in call state ≡ Some d →
+is_pending : (call : Invocation) (state : State) (d : Doing) → doing_in call state ≡ Some d →
     StandsAs (operation_of call.asked) state →
     IsPendingAs (operation_of call.asked) state
-is_under_way call (Goes phase) d e s = s
-is_under_way call (Waits wait) d e s = s
-is_under_way call (Over ending) d e s = absurd cc
+is_pending call (Goes phase) d e s = s
+is_pending call (Waits wait) d e s = s
+is_pending call (Over ending) d e s = absurd cc
 
 -- An actor's call comes to a state.
 own_set : (actors : List (Option Doing)) (place : ℕ) (was : Option Doing) (call : Invocation) (state : State) →
@@ -53,7 +53,7 @@ own_set actors place was call state there own stands = λ at d here.
           some_is (sym (get_set_same actors place (doing_in call state) was there)
           ∙ subst (λ n. slice_get (slice_set actors place (doing_in call state)) n ≡ Some (Some d)) (sym same) here) in
           subst (λ (x : Invocation). IsPendingAs (operation_of x.asked) d.state) (sym c)
-          (subst (IsPendingAs (operation_of call.asked)) (sym s) (is_under_way call state d got stands))
+          (subst (IsPendingAs (operation_of call.asked)) (sym s) (is_pending call state d got stands))
       | other old ↦ own at d old
     ]
   where
@@ -202,9 +202,9 @@ calls_at actors (suc place) o (Some (Some d)) own is e =
     calls_in (operation_of d.call.asked) o d.state (own place d is) e
 
 -- The actor is in a call of the operation that its state tells.
-pub calls_under_way : (actors : List (Option Doing)) (actor : ℕ) (o : Operation) → AreOwn actors →
+pub calls_pending : (actors : List (Option Doing)) (actor : ℕ) (o : Operation) → AreOwn actors →
     pending (actor_at actors actor) ≡ Some o → CallsAs o (actor_at actors actor)
-calls_under_way actors actor o own e = calls_at actors actor o (actor_at actors actor) own refl e
+calls_pending actors actor o own e = calls_at actors actor o (actor_at actors actor) own refl e
 
 -- ---- the worlds of runs
 

@@ -20,7 +20,7 @@ use Rattle.sysv_script.specs.ScriptText.{Ending, Prints, Ends, Exceeds, Fails, G
 use Rattle.sysv_script.specs.Sofar.{PrintsSofar, Here, Past}
 use Rattle.sysv_script.specs.Results.{HasResults, Empty, LeadsPrinting, IsOfRunPrinting}
 use Rattle.sysv_script.specs.ScriptRun.{IsOfRun, FollowsPrinting, last_text, EachScriptIsARun}
-use Rattle.sysv_script.proofs.OwnOperation.{AreOwn, own_leads, own_opening, calls_under_way}
+use Rattle.sysv_script.proofs.OwnOperation.{AreOwn, own_leads, own_opening, calls_pending}
 use Rattle.sysv_script.proofs.ResultsPrinted.{leads_append, print_both, rests, one_makes, without_result, goes_on_to}
 use Rattle.sysv_script.proofs.ResultsPrinted.{call_runs_to, steps_print}
 
@@ -85,7 +85,7 @@ steps_do n s actor None out a own is h = told s a out _ (without_result _ (actor
 steps_do n s actor (Some operation) out a own is h = (
   goes_on_fresh n s actor stepped.Nothing h.0 a h.1,
   steps_print operation s.world h.0 actor out a.world
-      (goes_on_to n operation s actor h.0 a own (calls_under_way s.world.actors actor operation own is) h.1) h.2,
+      (goes_on_to n operation s actor h.0 a own (calls_pending s.world.actors actor operation own is) h.1) h.2,
 )
 
 one_does : (s : ScriptState) (actor : ℕ) (o : Option Operation) (out : List ℕ) (a : ScriptState) →

@@ -627,10 +627,10 @@ module _ {K : Type 0} (Means : Meaning K) (slots : ℕ) where
         bounded = omega (arith, count, after.bounded);
       })
 
-  few_under_way : (dialogue : Dialogue) (old now : K) (left unread : Option (List ℕ)) (replies : List Gathered) →
+  few_pending : (dialogue : Dialogue) (old now : K) (left unread : Option (List ℕ)) (replies : List Gathered) →
       Pending Means slots dialogue.session old now left unread replies → messages_among replies < 2 ^ 32
-  few_under_way dialogue old now left unread replies (inl fresh) = omega (arith, ap messages_among fresh.gathered)
-  few_under_way dialogue old now left unread replies (inr greeted) =
+  few_pending dialogue old now left unread replies (inl fresh) = omega (arith, ap messages_among fresh.gathered)
+  few_pending dialogue old now left unread replies (inr greeted) =
       omega (
         arith,
         few_replies greeted.version slots greeted.calls replies greeted.gathered,
@@ -645,7 +645,7 @@ module _ {K : Type 0} (Means : Meaning K) (slots : ℕ) where
       omega (
         arith,
         each_counted 0 stands.replies taken dialogue.unsent dialogue.session.tally stands.gathers,
-        few_under_way dialogue old now left unread stands.replies stands.pending,
+        few_pending dialogue old now left unread stands.replies stands.pending,
       )
 
   pub has_room_asking : (cred : Cred) (request : Request) (text : List ℕ) (dialogue : Dialogue) (old now : K)

@@ -98,9 +98,9 @@ module _ (id mtype : ℤ) (flags : Flags) (text : List ℕ) where
         only = r.only;
       }
 
-  under_way_still : (send : Sending) (ops : List Op) (op : Op) → IsQuiet op → Pending send ops →
+  pending_still : (send : Sending) (ops : List Op) (op : Op) → IsQuiet op → Pending send ops →
       Pending send (ops ++ op ∷ [])
-  under_way_still send ops op q u = record {
+  pending_still send ops op q u = record {
     allowed = u.allowed;
     nowait = u.nowait;
     accepted = kept was_accepted ops op q.accepted ∙ u.accepted;
@@ -154,7 +154,7 @@ module _ (id mtype : ℤ) (flags : Flags) (text : List ℕ) where
     reserve_step (Reserved blocks) after n =
         let e : Goes (AtPlace send blocks) ≡ after = cc in
         subst (SendAt (ops ++ AtPool call (Reserved blocks) ∷ [])) e
-        (under_way_still send ops (AtPool call (Reserved blocks))
+        (pending_still send ops (AtPool call (Reserved blocks))
         record { accepted = refl; full = refl; denied = refl; gone = refl; live = refl } u)
     reserve_step TooFew after n =
         let e : goes_on (waits_or send.nowait (OnReleased (send.released + 1) send) EAGAIN) ≡ after = cc in
@@ -164,7 +164,7 @@ module _ (id mtype : ℤ) (flags : Flags) (text : List ℕ) where
   given_back : (ops : List Op) (afterwards : Afterwards) (op : Op) → IsQuiet op → AfterAt ops afterwards →
       SendAt (ops ++ op ∷ []) (goes_on afterwards)
   given_back ops (IsRefused why) op q at = right_still ops op (Refused why) q at
-  given_back ops (WaitsOn (OnFreed goal send)) op q at = under_way_still send ops op q at
+  given_back ops (WaitsOn (OnFreed goal send)) op q at = pending_still send ops op q at
   given_back ops (WaitsOn wait) op q at = absurd at
 
   giveback_step : (ops : List Op) (blocks : ℕ) (afterwards : Afterwards) (call : PoolCall) (reply : PoolReply)
