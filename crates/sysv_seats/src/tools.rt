@@ -4,7 +4,7 @@ ghost use Rattle.std.specs.List.{list_any};
 ghost use Rattle.sysv_seats.specs.declared.tools.TheConstants.{MOST_NOTIFICATIONS};
 ghost use Rattle.sysv_seats.specs.Notification.{Keeps, TakesLast, is_taken, notifications_in, notifications_of};
 
-use crate::notifications::{Notification, Told};
+use crate::notification::{Notification, Told};
 use std::alloc::Global;
 use sysv_model::{Body, NoMemory};
 
