@@ -6,11 +6,12 @@ use Rattle.std.proofs.Common.{Option, None, Some, refl, sym, ap, subst, ◌∙�
 use Rattle.std.specs.List.{All, list_any, flat_map}
 use Rattle.std.specs.Ordering.{int_eq}
 use Rattle.std.proofs.Math.Dec.{eqb}
-use Rattle.std.proofs.lemmas.Bool.{eqb-true}
+use Rattle.std.proofs.lemmas.Bool.{eqb-true, or_cases, or_parts, or_left, or_right, and_parts, eq-eqb}
 use Rattle.std.proofs.lemmas.Bool.Decides.{Decides-int_eq}
 use Rattle.std.proofs.lemmas.List.{append-nil}
 use Rattle.std.proofs.lemmas.List.Elements.{All-push}
 use Rattle.std.proofs.lemmas.List.Folds.{list_any-append}
+use Rattle.std.proofs.Math.Bool.{or-false}
 use Rattle.sysv_model.specs.declared.attributes.Attributes.{Attributes}
 use Rattle.sysv_model.specs.declared.cred.Cred.{Cred}
 use Rattle.sysv_model.specs.declared.errno.Errno.TheVariants.{EINVAL}
@@ -35,7 +36,6 @@ use Rattle.sysv_core.specs.Vacant.{FindsVacant, AllFindVacant}
 use Rattle.sysv_core.specs.Forgotten.{TakesItsRow, AllTakeTheirRows}
 use Rattle.sysv_core.specs.Removed.{IsInItsSlot}
 use Rattle.sysv_core.proofs.Histories.{turn_of, slot_more, live_by, live_turn}
-use Rattle.sysv_core.proofs.TurnInHistory.{itself}
 
 -- ---- jobs
 
@@ -151,32 +151,8 @@ begun_none cred asked released = by_value asked (is_refused asked)
 pub some_is : {X : Type 0} {x y : X} → Some x ≡ Some y → x ≡ y
 some_is e = cc
 
-pub one_of : (a b : Bool) → (a || b) ≡ true → (a ≡ true) ⊎ (b ≡ true)
-one_of true b e = inl refl
-one_of false b e = inr e
-
-pub none_of : (a b : Bool) → (a || b) ≡ false → (a ≡ false) × (b ≡ false)
-none_of true b e = absurd cc
-none_of false b e = (refl, e)
-
-pub or_no : (b : Bool) → (b || false) ≡ b
-or_no true = refl
-or_no false = refl
-
-pub or_left : (a b : Bool) → a ≡ true → (a || b) ≡ true
-or_left true b e = refl
-or_left false b e = absurd cc
-
-pub or_right : (a b : Bool) → b ≡ true → (a || b) ≡ true
-or_right true b e = refl
-or_right false b e = e
-
 pub not_both : {A : Type 0} (b : Bool) → b ≡ true → b ≡ false → A
 not_both b t f = absurd cc
-
-pub either : (b : Bool) → (b ≡ true) ⊎ (b ≡ false)
-either true = inl refl
-either false = inr refl
 
 -- What would imply something false is false.
 pub falls : (a b : Bool) → (a ≡ true → b ≡ true) → b ≡ false → a ≡ false
@@ -186,13 +162,8 @@ falls false b f e = refl
 pub same_int : (a : ℤ) → int_eq a a ≡ true
 same_int a = (Decides-int_eq a a).1 refl
 
-pub both_true : (a b : Bool) → (a && b) ≡ true → (a ≡ true) × (b ≡ true)
-both_true true true e = (refl, refl)
-both_true true false e = absurd cc
-both_true false b e = absurd cc
-
 pub any_more : {X : Type 0} (p : X → Bool) (xs : List X) (x : X) → list_any p (xs ++ x ∷ []) ≡ (list_any p xs || p x)
-any_more p xs x = list_any-append p xs (x ∷ []) ∙ ap (λ b. list_any p xs || b) (or_no (p x))
+any_more p xs x = list_any-append p xs (x ∷ []) ∙ ap (λ b. list_any p xs || b) (or-false (p x))
 
 -- The first element that passes a test.
 pub record Passes {X : Type 0} (p : X → Bool) (xs : List X) : Type 0 where
@@ -314,11 +285,11 @@ module _ (turns : List Turn) (who : Who) (op : Op) where
 
   pub undone : (j : Job) → done j (turns ++ turn_of who op ∷ []) ≡ false →
       (done j turns ≡ false) × (does j op ≡ false)
-  undone j e = none_of (done j turns) (does j op) (sym (done_more j) ∙ e)
+  undone j e = or_parts (done j turns) (does j op) (sym (done_more j) ∙ e)
 
   pub done_by : (j : Job) → done j (turns ++ turn_of who op ∷ []) ≡ true →
       (done j turns ≡ true) ⊎ (does j op ≡ true)
-  done_by j e = one_of (done j turns) (does j op) (sym (done_more j) ∙ e)
+  done_by j e = or_cases (done j turns) (does j op) (sym (done_more j) ∙ e)
 
 -- ---- what the turns say of an identifier
 
@@ -359,7 +330,7 @@ in_slot p slot who (AtSlot at call reply) e = by_slot (eqb at slot) e
   where
     by_slot : (b : Bool) → list_any (λ (x : Entry). p x.call x.reply)
         (cond b (record { who = who; call = call; reply = reply } ∷ []) []) ≡ true → p call reply ≡ true
-    by_slot true some = sym (or_no (p call reply)) ∙ some
+    by_slot true some = sym (or-false (p call reply)) ∙ some
     by_slot false some = absurd cc
 in_slot p slot who (AtRegistry call reply) e = absurd cc
 in_slot p slot who (AtPool call reply) e = absurd cc
@@ -458,9 +429,6 @@ module _ (turns : List Turn) (f : Facts turns) (who : Who) where
     kept = not_done turns who op (removing id) u.kept kept;
   }
 
-  same_slot : (at slot : ℕ) → at ≡ slot → eqb at slot ≡ true
-  same_slot at slot e = ap (eqb at) (sym e) ∙ itself at
-
   lives_then : (op : Op) → IsFine turns op → (slot : ℕ) (id : ℤ) →
       HasId (live_by slot op (live (slot_history slot turns))) id → IsInUse (more op) slot id
   lives_then (AtSlot at call reply) fine slot id has = by_slot (eqb at slot) refl has
@@ -484,7 +452,7 @@ module _ (turns : List Turn) (f : Facts turns) (who : Who) where
           let u = f.lives slot id h in
           in_use_still (AtSlot at call reply) slot id u (falls (removes id call reply) false (λ gone.
           sym apart
-          ∙ same_slot at slot (sym (f.lives at id
+          ∙ eq-eqb at slot (sym (f.lives at id
           (removal_live (slot_of (slot_history at turns)) id call reply fine.legal gone)).here ∙ u.here)) refl)
   lives_then (AtRegistry call reply) fine slot id has =
       in_use_still (AtRegistry call reply) slot id (f.lives slot id has) refl
@@ -498,7 +466,7 @@ module _ (turns : List Turn) (f : Facts turns) (who : Who) where
   alive_then (AtSlot at call reply) fine id (inl now) =
       let l = live (slot_history (slot_of_id id) turns) in
       subst (λ b. HasId (cond b (live_after l call reply) l) id)
-      (sym (same_slot at (slot_of_id id) (install_home at id call reply fine.seemly.0 now)))
+      (sym (eq-eqb at (slot_of_id id) (install_home at id call reply fine.seemly.0 now)))
       (installed_live l id call reply now)
   alive_then (AtSlot at call reply) fine id (inr (lives, kept)) =
       by_slot (eqb at (slot_of_id id)) (λ e. eqb-true at (slot_of_id id) e)
@@ -601,7 +569,7 @@ made_for id turns e =
     )
 
 of_key : (id key : ℤ) (op : Op) → of_registry (makes id key) op ≡ true → does (making id) op ≡ true
-of_key id key (AtRegistry (Begin asked flags) (Made at)) e = (both_true (int_eq at id) (int_eq asked key) e).0
+of_key id key (AtRegistry (Begin asked flags) (Made at)) e = (and_parts (int_eq at id) (int_eq asked key) e).0
 of_key id key op e = absurd cc
 
 pub was_made : (id key : ℤ) (turns : List Turn) → is_made id key (registry_history turns) ≡ true →
@@ -614,5 +582,5 @@ was_made id key turns e =
 pub gave : (id key : ℤ) (call : RegistryCall) (reply : RegistryReply) → makes id key call reply ≡ true →
     reply ≡ Made id
 gave id key (Begin asked flags) (Made at) e =
-    ap Made ((Decides-int_eq at id).0 (both_true (int_eq at id) (int_eq asked key) e).0)
+    ap Made ((Decides-int_eq at id).0 (and_parts (int_eq at id) (int_eq asked key) e).0)
 gave id key call reply e = absurd cc

@@ -4,6 +4,8 @@ use Rattle.std.proofs.Common.{◌≡◌, ◌≢◌, ◌⊎◌, inl, inr, ℕ, ze
 use Rattle.std.proofs.Common.{◌++◌, Option, None, Some, IsSome, refl, sym, ap, subst, ◌∙◌, arith, slice_get, slice_set}
 use Rattle.std.proofs.Common.{append_assoc, option_map, replicate}
 use Rattle.std.proofs.lemmas.Option.{slice_get-map}
+use Rattle.std.proofs.lemmas.Bool.{cases_Bool, cases_eq}
+use Rattle.std.proofs.lemmas.List.{map-set}
 use Rattle.sysv_model.specs.declared.attributes.Attributes.{Attributes}
 use Rattle.sysv_model.specs.declared.flags.Flags.{Flags}
 use Rattle.sysv_model.specs.declared.limits.TheConstants.{IPC_PRIVATE}
@@ -26,17 +28,15 @@ use Rattle.sysv_steps.specs.Next.{waits_or, goes_on, next}
 use Rattle.sysv_core.specs.World.{Invocation, Doing, doing_in, preset_who, preset_cred, preset_flags, preset_begin}
 use Rattle.sysv_core.specs.World.{preset_install, preset_settle, with_preset_turns}
 use Rattle.sysv_core.proofs.Told.{told, told_is}
-use Rattle.sysv_core.proofs.Lists.{map-slice_set, slice_set-same, get_set_same, get_set_other, same_place}
+use Rattle.sysv_core.proofs.Lists.{slice_set-same, get_set_same, get_set_other, none_busy, map-replicate}
 use Rattle.sysv_core.proofs.Histories.{turn_of, slot_more, registry_more, pool_more, begun_turns, installed_turns}
 use Rattle.sysv_core.proofs.TurnInHistory.{slot_around, registry_around}
-use Rattle.sysv_core.proofs.Lifetime.{Task, ToMake, ToInstall, ToSettle, ToRemove, ToForget, Job, making}
-use Rattle.sysv_core.proofs.Lifetime.{installing, settling, removing, forgetting, job_of, does, done, IsReadyFor}
-use Rattle.sysv_core.proofs.Lifetime.{IsReady}
-use Rattle.sysv_core.proofs.Lifetime.{IsNext, job_at, job_in, jobs_of, some_is, either, not_both, falls, passing}
-use Rattle.sysv_core.proofs.Lifetime.{one_job}
-use Rattle.sysv_core.proofs.Lifetime.{no_job, job_does, done_on, ready_on, done_now, not_done, undone, done_by, Facts}
-use Rattle.sysv_core.proofs.Lifetime.{ordered, IsSeemly, legal_at_slot, IsFine, facts_more, in_registry, made_for, gave}
-use Rattle.sysv_core.proofs.Lifetime.{none_after}
+use Rattle.sysv_core.proofs.Lifetime.{Task, ToMake, ToInstall, ToSettle, ToRemove, ToForget, Job, making, installing}
+use Rattle.sysv_core.proofs.Lifetime.{settling, removing, forgetting, job_of, does, done, IsReadyFor, IsReady, IsNext}
+use Rattle.sysv_core.proofs.Lifetime.{job_at, job_in, jobs_of, some_is, not_both, falls, passing, one_job, no_job}
+use Rattle.sysv_core.proofs.Lifetime.{job_does}
+use Rattle.sysv_core.proofs.Lifetime.{done_on, ready_on, done_now, not_done, undone, done_by, Facts, ordered, IsSeemly}
+use Rattle.sysv_core.proofs.Lifetime.{legal_at_slot, IsFine, facts_more, in_registry, made_for, gave, none_after}
 
 -- ---- the jobs of the calls
 
@@ -135,7 +135,7 @@ module _ (turns : List Turn) (who : Who) (op : Op) where
             let never : IsReady i turns → ⊥ = λ r. not_both (done j turns) (a.back turns r) is_next.1 in (
               (
                 a.on more (done_now turns who op j now),
-                not_done turns who op i (elim (either (done i turns)) [
+                not_done turns who op i (elim (cases_Bool (done i turns)) [
                   | inl d ↦ absurd (never (ordered turns f i d))
                   | inr d ↦ d
                 ]) (falls (does i op) false (λ d. absurd (a.apart (one_job i j op d job))) refl),
@@ -160,7 +160,7 @@ module _ (turns : List Turn) (who : Who) (op : Op) where
       let s = step_is l.facts was then step in
       record {
         facts = facts_more turns l.facts who op fine;
-        holds = λ p i at. elim (same_place place p) [
+        holds = λ p i at. elim (cases_eq place p) [
           | inl same ↦ let n = s.new i (now_is p i same at) in (n.0, n.1)
           | inr apart ↦
               let old = then_is p i apart at in
@@ -173,12 +173,12 @@ module _ (turns : List Turn) (who : Who) (op : Op) where
                 h.1,
               )
         ];
-        alone = λ p q i at_p at_q. elim (same_place place p) [
-          | inl same ↦ elim (same_place place q) [
+        alone = λ p q i at_p at_q. elim (cases_eq place p) [
+          | inl same ↦ elim (cases_eq place q) [
             | inl also ↦ sym same ∙ also
             | inr apart ↦ absurd ((s.new i (now_is p i same at_p)).2 (l.holds q i (then_is q i apart at_q)).0.0)
           ]
-          | inr apart ↦ elim (same_place place q) [
+          | inr apart ↦ elim (cases_eq place q) [
             | inl also ↦ absurd ((s.new i (now_is q i also at_q)).2 (l.holds p i (then_is p i apart at_p)).0.0)
             | inr far ↦ l.alone p q i (then_is p i apart at_p) (then_is q i far at_q)
           ]
@@ -187,7 +187,7 @@ module _ (turns : List Turn) (who : Who) (op : Op) where
           | inr to ↦ inl (place, get_set_same jobs place then was there ∙ ap (λ x. Some x) to)
           | inl ready ↦ elim (l.owed i o (ready, (undone turns who op i n.1).0)) [
             | inr gone ↦ inr (done_on (forgetting i.id) turns (turn_of who op ∷ []) gone)
-            | inl h ↦ elim (same_place place h.0) [
+            | inl h ↦ elim (cases_eq place h.0) [
               | inr apart ↦ inl (h.0, get_set_other jobs place h.0 then apart ∙ h.1)
               | inl same ↦ elim (s.left i (some_is (sym there ∙ (ap (slice_get jobs) same ∙ h.1)))) [
                 | inl d ↦ not_both (done i more) d n.1
@@ -308,7 +308,7 @@ module _ (registry_law : EachObeys) (generation blocks : ℕ) (turns : List Turn
       own (settling id) _ state _ n (tt, tt, tt) refl (has (settling id) refl).0 refl
   step_told who (AtSettle id) (AtRegistry c (Changed false)) now state has l then n = (
     (tt, tt, tt),
-    rests refl (λ j e. subst (λ (i : Job). done (forgetting i.id) turns ≡ true) (some_is e) (gone (either _)))
+    rests refl (λ j e. subst (λ (i : Job). done (forgetting i.id) turns ≡ true) (some_is e) (gone (cases_Bool _)))
         (ap next_job (sym n)),
   )
     where
@@ -388,7 +388,7 @@ job_is call (Over ending) = refl
 pub jobs_set : (actors : List (Option Doing)) (place : ℕ) (call : Invocation) (state : State) →
     slice_set (jobs_of actors) place (job_at state) ≡ jobs_of (slice_set actors place (doing_in call state))
 jobs_set actors place call state = ap (slice_set (jobs_of actors) place) (sym (job_is call state))
-    ∙ sym (map-slice_set job_in actors place (doing_in call state))
+    ∙ sym (map-set job_in actors place (doing_in call state))
 
 -- The actor whose call has a job.
 pub job_there : (actors : List (Option Doing)) (place : ℕ) (j : Job) →
@@ -428,9 +428,7 @@ lives_stand turns actors place was call state there none then l =
     ∙ (ap (slice_set (jobs_of actors) place) (sym then) ∙ jobs_set actors place call state)) l
 
 none_in : (n place : ℕ) (j : Job) → slice_get (jobs_of (replicate n None)) place ≡ Some (Some j) → ⊥
-none_in zero place j e = cc
-none_in (suc n) zero j e = cc
-none_in (suc n) (suc place) j e = none_in n place j e
+none_in n place j e = none_busy n place (ap (λ js. slice_get js place) (sym (map-replicate job_in n None)) ∙ e)
 
 pub opening_lives : (n : ℕ) → Lives [] (replicate n None)
 opening_lives n = record {

@@ -5,6 +5,7 @@ use Rattle.std.proofs.Common.{◌∙◌, arith, append_assoc}
 use Rattle.std.specs.List.{All, list_any, Contains}
 use Rattle.std.proofs.lemmas.List.Elements.{All-contains, Contains-append_right}
 use Rattle.std.proofs.lemmas.List.Folds.{list_any-append}
+use Rattle.std.proofs.lemmas.Bool.{or_left, or_right, cases_Bool}
 use Rattle.sysv_model.proofs.Sharing.{all_left}
 use Rattle.sysv_model.specs.History.{Who, Entry}
 use Rattle.sysv_model.specs.Live.{IsLive}
@@ -24,8 +25,7 @@ use Rattle.sysv_core.proofs.Histories.{turn_of}
 use Rattle.sysv_core.proofs.TurnInHistory.{slot_around}
 use Rattle.sysv_core.proofs.Lifetime.{Job, installing, settling, removing, forgetting, does, done, done_on, IsNext}
 use Rattle.sysv_core.proofs.Lifetime.{job_at}
-use Rattle.sysv_core.proofs.Lifetime.{either, or_left, or_right, not_both, passing, Facts, install_home, in_registry}
-use Rattle.sysv_core.proofs.Lifetime.{was_made}
+use Rattle.sysv_core.proofs.Lifetime.{not_both, passing, Facts, install_home, in_registry, was_made}
 use Rattle.sysv_core.proofs.LifetimeGoesOn.{Lives, is_owned, job_there}
 
 -- ---- each row is tended
@@ -39,7 +39,7 @@ tends j state e = absurd cc
 
 pub are_tended : (w : World) → RegistryLaw w.generation (registry_history w.turns) → Lives w.turns w.actors →
     AreTended w
-are_tended w law l row has idle = by_install (either (done (installing row.id) w.turns))
+are_tended w law l row has idle = by_install (cases_Bool (done (installing row.id) w.turns))
   where
     is : LeavesRow (registry_history w.turns) row
     is = (law.rows row).0 has
@@ -59,7 +59,7 @@ are_tended w law l row has idle = by_install (either (done (installing row.id) w
         (row.live ≡ false) ⊎ ¬ IsLive (slot_history (slot_of_id row.id) w.turns) row.id → IsTended w row.id
     by_idle installed (inl unsettled) = held (settling row.id) refl refl
         (installed, in_registry (settles row.id) w.turns ∙ (is.stage ∙ unsettled))
-    by_idle installed (inr dead) = elim (either (done (removing row.id) w.turns)) [
+    by_idle installed (inr dead) = elim (cases_Bool (done (removing row.id) w.turns)) [
       | inl removed ↦ held (forgetting row.id) refl refl (removed, in_registry (forgets row.id) w.turns ∙ is.kept)
       | inr kept ↦ absurd (dead (l.facts.alive row.id installed kept))
     ]

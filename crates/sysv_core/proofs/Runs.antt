@@ -51,7 +51,7 @@ stands_step old new event result goes = λ o es responses s.
     )
 
 -- An event that finds the world worn out.
-worn_makes : (w : World) (event : Event) → WORN ≤ w.steps → Makes w (transition_of event) [] w
+pub worn_makes : (w : World) (event : Event) → WORN ≤ w.steps → Makes w (transition_of event) [] w
 worn_makes w (Start actor cred call) worn = inl (worn, (refl, refl))
 worn_makes w (Step actor now) worn = inl (worn, (refl, refl))
 

@@ -1,6 +1,6 @@
 -- Each event, preset and list leads to some world.
-use Rattle.std.proofs.Common.{◌≡◌, ℕ, zero, suc, ◌<◌, ◌≤◌, inl, inr, true, false, List, [], ◌∷◌, ◌++◌, Option, None}
-use Rattle.std.proofs.Common.{Some, refl, sym, subst, slice_get}
+use Rattle.std.proofs.Common.{◌≡◌, ℕ, zero, suc, ◌<◌, inl, inr, true, false, List, [], ◌∷◌, ◌++◌, Option, None, Some}
+use Rattle.std.proofs.Common.{refl, sym, subst, slice_get}
 use Rattle.sysv_model.specs.declared.cred.Cred.{Cred}
 use Rattle.sysv_model.specs.declared.limits.TheConstants.{WORN}
 use Rattle.sysv_model.specs.History.{Installed, Gone, Denied, Granted, Full, Fits, Accepted, NoMatch, TooLong, Taken}
@@ -36,6 +36,7 @@ use Rattle.sysv_core.specs.SomeRun.{SomeStep, SomePreset, SomeRun}
 use Rattle.sysv_lists.proofs.Orders.{at_most}
 use Rattle.sysv_core.proofs.Told.{told, told_is}
 use Rattle.sysv_core.proofs.SoundStays.{opening_sound}
+use Rattle.sysv_core.proofs.Runs.{worn_makes}
 
 -- ---- a legal reply has a row of the step table
 
@@ -192,10 +193,6 @@ module _ (some : SomeOpIsLegal) (sound : StaysSound) (unused : UnusedSlots) wher
       starts_somewhere w actor cred (asked_of call) (actor_at w.actors actor) young refl
   event_somewhere w (event.Step actor now) ok young =
       steps_somewhere w actor now (actor_at w.actors actor) ok young refl
-
-  worn_makes : (w : World) (e : Event) → WORN ≤ w.steps → Makes w (transition_of e) [] w
-  worn_makes w (event.Start actor cred call) old = inl (old, (refl, refl))
-  worn_makes w (event.Step actor now) old = inl (old, (refl, refl))
 
   pub some_step : SomeStep
   some_step w e ok = elim (at_most WORN w.steps) [

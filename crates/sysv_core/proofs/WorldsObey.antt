@@ -8,6 +8,7 @@ use Rattle.std.proofs.lemmas.List.{append-nil}
 use Rattle.std.proofs.lemmas.List.Elements.{All-weaker, All-push, All-contains_itself, All-contains, Contains-get_or}
 use Rattle.std.proofs.lemmas.List.Elements.{Contains-append_left, Contains-push, Contains-push_cases}
 use Rattle.std.proofs.lemmas.List.Quantifiers.{all_pairs_push}
+use Rattle.std.proofs.lemmas.Bool.{cases_Bool}
 use Rattle.sysv_model.specs.History.{Who, Actor, History}
 use Rattle.sysv_model.specs.Pool.{PoolHistory}
 use Rattle.sysv_model.specs.Turn.{Op, Turn, slot_history, registry_history, pool_history, is_same, ops_of}
@@ -39,17 +40,17 @@ use Rattle.sysv_core.specs.Headline.{IsLawful, Obeys}
 use Rattle.sysv_core.specs.Conserved.{AreConserved}
 use Rattle.sysv_core.specs.Sound.{IsSound, StaysSound}
 use Rattle.sysv_core.proofs.Histories.{turn_of, begun_turns, installed_turns}
-use Rattle.sysv_core.proofs.SoundStays.{none_busy, opening_sound}
+use Rattle.sysv_core.proofs.SoundStays.{opening_sound, does, moved, other}
 use Rattle.sysv_core.proofs.WaitsForBlocks.{are_short}
 use Rattle.sysv_core.proofs.SendIsWoken.{AllWoken, move_woken, opening_woken, are_to_be_woken}
 use Rattle.sysv_core.proofs.ParkedRightly.{parked_rightly}
 use Rattle.sysv_core.proofs.Moves.{Move, stood, began, turned, awoke, preset_made, moves}
-use Rattle.sysv_core.proofs.Lifetime.{either, jobs_of, resumed_none, begun_none}
+use Rattle.sysv_core.proofs.Lifetime.{jobs_of, resumed_none, begun_none}
 use Rattle.sysv_core.proofs.LifetimeGoesOn.{EachObeys, Lives, lives_turn, lives_stand, opening_lives}
 use Rattle.sysv_core.proofs.LifetimeGoesOn.{preset_lives}
 use Rattle.sysv_core.proofs.LifetimeLaws.{are_tended, good_of, settled_once_installed}
 use Rattle.sysv_core.proofs.ToldAfterRemoval.{told_so}
-use Rattle.sysv_core.proofs.Lists.{get_set_same, get_set_other, same_place}
+use Rattle.sysv_core.proofs.Lists.{none_busy}
 use Rattle.sysv_core.proofs.PartsOfOneCall.{same_who, same_itself, not_same, own_op, other_op}
 use Rattle.sysv_core.proofs.PartsOfOneCall.{own_endings, other_endings, IsIn, at_actor, own_standing, other_standing}
 
@@ -107,11 +108,11 @@ module _ (w : World) (responses : List Response) (turns : List Turn) (calls : Li
     (call : Invocation) (state : State)
     (there : slice_get w.actors place ≡ Some was) (within : IsIn call.who was)
     (stay : OthersStay call.who w.turns turns) where
-  abbrev moved : World
-  moved = went w turns calls place call state
+  abbrev then_world : World
+  then_world = went w turns calls place call state
 
   other_outcome : (c : Invocation) → is_same c.who call.who ≡ false → Outcome w responses c →
-      Outcome moved (responses ++ response_in call state) c
+      Outcome then_world (responses ++ response_in call state) c
   other_outcome c apart f = record {
     state = f.state;
     plays = subst (λ ds. Plays (begun c) ds f.state) (sym (stay c.who apart)) f.plays;
@@ -120,7 +121,7 @@ module _ (w : World) (responses : List Response) (turns : List Turn) (calls : Li
   }
 
   own_outcome : (start : ℕ) → call.who ≡ Actor (suc place) start → Stands turns responses call state →
-      Outcome moved (responses ++ response_in call state) call
+      Outcome then_world (responses ++ response_in call state) call
   own_outcome start who s = record {
     state = state;
     plays = s.plays;
@@ -131,28 +132,14 @@ module _ (w : World) (responses : List Response) (turns : List Turn) (calls : Li
   -- An actor is in a call that it started.
   now_doing : (start : ℕ) → call.who ≡ Actor (suc place) start → Contains calls call →
       ((c : Invocation) → Contains w.calls c → Contains calls c) → AreOwn w.calls w.actors →
-      (o : Option Doing) → o ≡ doing_in call state → AreOwn calls (slice_set w.actors place o)
-  now_doing start who has more own o is = λ p d at. elim (same_place place p) [
-    | inl same ↦
-        let here : Some o ≡ Some (Some d) = sym (get_set_same w.actors place o was there)
-        ∙ subst (λ n. slice_get (slice_set w.actors place o) n ≡ Some (Some d)) (sym same) at in
-        let mine : doing_in call state ≡ Some d = sym is ∙ some_is o (Some d) here in
-        let c = call_of call state d mine in (
-          subst (Contains calls) (sym c) has,
-          (start, ap (λ (x : Invocation). x.who) c ∙ (who ∙ ap (λ n. Actor (suc n) start) same)),
-        )
-    | inr apart ↦
-        let old = own p d (sym (get_set_other w.actors place p o apart) ∙ at) in
-        (more d.call old.0, old.1)
+      AreOwn calls (slice_set w.actors place (doing_in call state))
+  now_doing start who has more own = λ p d at. elim (does w.actors place was call state p d there at) [
+    | moved same c s ↦ (
+      subst (Contains calls) (sym c) has,
+      (start, ap (λ (x : Invocation). x.who) c ∙ (who ∙ ap (λ n. Actor (suc n) start) same)),
+    )
+    | other old ↦ let mine = own p d old in (more d.call mine.0, mine.1)
   ]
-    where
-      some_is : (x y : Option Doing) → Some x ≡ Some y → x ≡ y
-      some_is x y e = cc
-
-      call_of : (c : Invocation) (s : State) (d : Doing) → doing_in c s ≡ Some d → d.call ≡ c
-      call_of c (Goes phase) d e = cc
-      call_of c (Waits wait) d e = cc
-      call_of c (Over ending) d e = absurd cc
 
 known_more : (calls : List Invocation) (responses : List Response) (call : Invocation) (state : State) →
     Contains calls call →
@@ -208,7 +195,7 @@ module _ {P : Turn → Type 0} (w : World) (responses : List Response) (i : Inv 
   goes_on turns state sound lifetime stay s made = record {
     sound = sound;
     lifetime = lifetime;
-    outcomes = λ c has. elim (either (is_same c.who d.call.who)) [
+    outcomes = λ c has. elim (cases_Bool (is_same c.who d.call.who)) [
       | inl same ↦
           let one : d.call ≡ c = i.named d.call c has_it has (sym (same_who c.who d.call.who same)) in
           subst (Outcome _ (responses ++ response_in d.call state)) one
@@ -222,7 +209,7 @@ module _ {P : Turn → Type 0} (w : World) (responses : List Response) (i : Inv 
     made = made;
     known = known_more w.calls responses d.call state has_it i.known;
     doing = now_doing w responses turns w.calls place (Some d) d.call state there refl stay its_name.0 its_name.1 has_it
-        (λ c has. has) i.doing (doing_in d.call state) refl;
+        (λ c has. has) i.doing;
   }
 
 -- ---- the start of a call
@@ -304,7 +291,7 @@ module _ {P : Turn → Type 0} (nobody : (t : Turn) → P t → t.who ≡ preset
             (λ g has. Contains-append_left w.calls (call ∷ []) g.call has) responses i.known);
         doing = now_doing w responses w.turns calls place None call (begun call) there tt stay w.steps name
             (Contains-push w.calls call)
-            (λ c has. Contains-append_left w.calls (call ∷ []) c has) i.doing (doing_in call (begun call)) refl;
+            (λ c has. Contains-append_left w.calls (call ∷ []) c has) i.doing;
       }
 
 -- ---- answers
@@ -580,7 +567,7 @@ opens o legal = record {
   named = λ c d has also same. absurd (nothing_in c has);
   made = λ k d low. absurd (omega (arith, low));
   known = λ k d low. absurd (omega (arith, low));
-  doing = λ place d e. absurd (none_busy o.actors place d e);
+  doing = λ place d e. absurd (none_busy o.actors place e);
 }
 
 -- ---- all laws

@@ -6,14 +6,14 @@
 --
 -- It is followed by replies that are not legal at its turns, and by two messages that fill a queue
 -- to the byte.
-use Rattle.std.specs.Prelude.{◌≡◌, ◌≢◌, ℕ, pos, List, [], ◌∷◌, ◌++◌, true, false, length, take, codes}
+use Rattle.std.specs.Prelude.{◌≡◌, ◌≢◌, ℕ, ◌+◌, pos, List, [], ◌∷◌, ◌++◌, true, false, length, take, codes}
 use Rattle.sysv_model.specs.declared.cred.Cred.{Cred}
 use Rattle.sysv_model.specs.declared.errno.Errno.TheVariants.{EINVAL, ENOMSG}
 use Rattle.sysv_model.specs.declared.flags.Flags.{Flags}
 use Rattle.sysv_model.specs.declared.flags.TheConstants.Flags.{IPC_NOWAIT}
 use Rattle.sysv_model.specs.declared.selector.Selector.TheVariants.{Any}
 use Rattle.sysv_model.specs.Message.{Message}
-use Rattle.sysv_model.specs.declared.limits.TheConstants.{IPC_PRIVATE}
+use Rattle.sysv_model.specs.declared.limits.TheConstants.{IPC_PRIVATE, MESSAGE_BYTES}
 use Rattle.sysv_model.specs.History.{Actor, Call, Install, Look, Place, Take, Reply, Installed, Gone, Full, Fits}
 use Rattle.sysv_model.specs.History.{Accepted, NoMatch, Taken, Entry, History}
 use Rattle.sysv_model.specs.Pool.{PoolCall, Reserve, Release, PoolReply, Reserved, Released}
@@ -233,9 +233,9 @@ with_both first second = with_first first ++ turn_of 1 3 (send_of second) (Accep
 
 pub record FillsExactly (first second : List ℕ) : Type 0 where
   pub starts : is_refused (start_of first) ≡ false
-  pub longer_is_refused : (text : List ℕ) → length text ≡ 8193 → is_refused (start_of text) ≡ true
+  pub longer_is_refused : (text : List ℕ) → length text ≡ MESSAGE_BYTES + 1 → is_refused (start_of text) ≡ true
   pub first_fits : IsLegalReply (after_turns 1) (send_of first) (Accepted 0)
-  pub second_looks : IsLegalReply (with_first first) (look_for 8192) Fits
+  pub second_looks : IsLegalReply (with_first first) (look_for MESSAGE_BYTES) Fits
   pub second_fits : IsLegalReply (with_first first) (send_of second) (Accepted 1)
   pub byte_is_too_much : (text : List ℕ) → length text ≡ 1 →
       IsLegalReply (with_both first second) (send_of text) (Full 0)
@@ -244,4 +244,5 @@ pub record FillsExactly (first second : List ℕ) : Type 0 where
   pub nothing_fits : IsLegalReply (with_both first second) (send_of []) (Accepted 2)
 
 abbrev pub ExactFit : Type 0
-ExactFit = (first second : List ℕ) → length first ≡ 8192 → length second ≡ 8192 → FillsExactly first second
+ExactFit =
+    (first second : List ℕ) → length first ≡ MESSAGE_BYTES → length second ≡ MESSAGE_BYTES → FillsExactly first second

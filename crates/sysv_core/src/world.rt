@@ -166,7 +166,6 @@ impl World {
         ensures tally { self.new.tally ≡ self.old.tally }
     {
         each_world_is_sound();
-        legal_turns();
         unused_slots();
         if !self.objects.is_unused(0) {
             return false;

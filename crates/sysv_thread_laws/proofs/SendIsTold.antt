@@ -10,6 +10,7 @@ use Rattle.std.proofs.lemmas.Grind.{flat_map-append}
 use Rattle.std.proofs.lemmas.List.{append-nil}
 use Rattle.std.proofs.lemmas.List.Elements.{All-contains}
 use Rattle.std.proofs.lemmas.List.Folds.{list_any-append}
+use Rattle.std.proofs.lemmas.Bool.{or_left, or_right, cases_eq}
 use Rattle.sysv_model.specs.declared.attributes.Attributes.{Attributes}
 use Rattle.sysv_model.specs.declared.attributes.SetTo.{SetTo}
 use Rattle.sysv_model.specs.declared.cred.Cred.{Cred}
@@ -46,9 +47,7 @@ use Rattle.sysv_steps.specs.WaitsFor.{WaitsFor}
 use Rattle.sysv_core.specs.World.{World, Opening, Invocation, Doing, Response, begun}
 use Rattle.sysv_core.specs.AnswerLaw.{Outcome, stands_in, standing, standing_of, AsksAsItWasAsked}
 use Rattle.sysv_core.specs.Parked.{HasTooFewBlocks, HasChangeToTell, IsToBeWoken, HasToGiveBack}
-use Rattle.sysv_core.proofs.Lifetime.{or_left, or_right}
 use Rattle.sysv_core.proofs.Histories.{turn_of, slot_more, live_more, one, released_more}
-use Rattle.sysv_core.proofs.Lists.{same_place}
 use Rattle.sysv_core.proofs.PartsOfOneCall.{same_who, same_itself, at_actor}
 use Rattle.sysv_core.proofs.TurnInHistory.{made_at, slot_around}
 use Rattle.sysv_core.proofs.WorldsObey.{Inv}
@@ -245,7 +244,7 @@ module _ (id : ℤ) (cred : Cred) where
         inl (elsewhere_open turns (turn_of who (AtRegistry call reply)) refl opens)
     one_open turns rest who (AtPool call reply) whole opens =
         inl (elsewhere_open turns (turn_of who (AtPool call reply)) refl opens)
-    one_open turns rest who (AtSlot at call reply) whole opens = elim (same_place at slot_of_it) [
+    one_open turns rest who (AtSlot at call reply) whole opens = elim (cases_eq at slot_of_it) [
       | inl same ↦
           subst (λ n. OpenAfter (turns ++ turn_of who (AtSlot n call reply) ∷ []) ⊎ IsChange id (AtSlot n call reply))
           (sym same) (here_open turns rest who call reply

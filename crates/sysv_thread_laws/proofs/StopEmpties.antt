@@ -6,6 +6,7 @@ use Rattle.std.specs.List.{All}
 use Rattle.std.proofs.lemmas.List.{append-nil, length-map, map-append}
 use mathlib.Core.Option.{some}
 use lib.ListN.{get_elem?}
+use Rattle.std.proofs.lemmas.Bool.{cases_eq}
 use Rattle.sysv_lists.proofs.Places.{at_below, there}
 use Rattle.sysv_model.specs.declared.attributes.Attributes.{Attributes}
 use Rattle.sysv_model.specs.declared.attributes.Row.{Row}
@@ -53,7 +54,6 @@ use Rattle.sysv_service.proofs.MarkStays.{finds_turns, no_mark_by_row, not_worn}
 use Rattle.sysv_service.proofs.PlaysOwnTurns.{plays}
 use Rattle.sysv_core.specs.World.{World, Opening, Response, opening}
 use Rattle.sysv_core.proofs.Lifetime.{Facts}
-use Rattle.sysv_core.proofs.Lists.{same_place}
 use Rattle.sysv_core.proofs.TurnInHistory.{slot_around}
 use Rattle.sysv_thread_laws.specs.Execution.{Moment, LeadsOnThreads}
 use Rattle.sysv_thread_laws.specs.Order.{Called}
@@ -209,7 +209,7 @@ module _ (right : EachAnswerIsRight) (asked : EachOpIsAskedFor) where
   one_more : (slot : ℕ) (worn found : Bool) (mid new : Pass) → StopsAll mid slot worn → StopsAlone slot mid new found →
       StopsAll new (suc slot) (worn || found)
   one_more slot worn found mid new rest here = record {
-    vacant = λ k low. elim (same_place k slot) [
+    vacant = λ k low. elim (cases_eq k slot) [
       | inl same ↦ subst (λ n. IsVacant n new) (sym same) here.vacant
       | inr apart ↦ here.leaves k (rest.vacant k (omega (arith, low, apart)))
     ];

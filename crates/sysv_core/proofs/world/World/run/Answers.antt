@@ -1,9 +1,8 @@
 use Rattle.std.proofs.Common.{◌≡◌, ◌<◌, ◌++◌, ◌∷◌, [], length, length-append, vec_len, vec_capacity, sym, ap, subst}
 use Rattle.std.proofs.Common.{◌∙◌, rules, arith, refl, append_assoc, add-zero, inl, inr}
-use Rattle.std.proofs.lemmas.List.{append-nil, length_push}
+use Rattle.std.proofs.lemmas.List.{append-nil, length_push, nil_from_length}
 use Rattle.sysv_core.specs.declared.event.Stepped.TheVariants.{Nothing, Answer}
 use Rattle.sysv_core.specs.Tallying.{messages_in}
-use Rattle.sysv_core.proofs.Lists.{none_in}
 use Rattle.sysv_core.proofs.Runs.{laws_hold, messages_more, Pending, pending, goes_on, runs_on}
 use Rattle.sysv_core.proofs.world.World.run.Goals as goal
 use Rattle.sysv_core.proofs.world.World.run.Goals.{in-None, in-Some+in-Worn}
@@ -79,7 +78,8 @@ returns-clause-stands c =
     let i = c.loop-event.invariant in
     elim c.match-next.branch [
       | in-None w ↦
-          let over : c.loop-event.event-iterator.rest.items ≡ [] = none_in c.loop-event.event-iterator.rest.items
+          let over : c.loop-event.event-iterator.rest.items ≡ [] =
+          nil_from_length c.loop-event.event-iterator.rest.items
           (omega (arith, w.in-None.ensures.steps.0, c.loop-event.event-iterator.rest.ok.0)) in
           rw w.self-is
           (runs_on c.args.self.now c.loop-event.self c.args.events.items c.loop-event.yielded []
