@@ -9,6 +9,7 @@ mod commands;
 mod connection;
 mod input;
 mod leaver;
+mod link;
 mod place;
 mod plain;
 mod room;
