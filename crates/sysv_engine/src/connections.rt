@@ -14,7 +14,7 @@ use crate::rounds::Serving;
 use crate::server_state::ServerState;
 use crate::staff::{discard, gather, kits, staff};
 use crate::sums::Sums;
-use crate::team::{dismiss, hire};
+use crate::team::dismiss;
 use crate::terms::{Ended, Patience};
 use crate::watch::{Rounds, Watch};
 use std::alloc::Global;
@@ -182,8 +182,7 @@ where
         discard(kits);
         return Err(ServeFault::NoMemory);
     };
-    hire(rt, alloc, service, pass, books, &mut places);
-    staff(kits, &mut places, &mut workers);
+    staff(rt, alloc, service, pass, books, kits, &mut workers);
     let job = Serving {
         rt,
         alloc,

@@ -15,8 +15,8 @@ use std::sync::Wait;
 use sysv_seats::{NonBlocking, Tools};
 use sysv_service::{Pass, Service};
 
-/// Adds a place for each book, from the last to the first, each with a pass that is split off from
-/// `pass`.
+/// Fills `places` with a place for each of the last books, as many as it has room for, in the order
+/// of the books. A pass is split off from `pass` for each, for the last one first.
 pub(crate) fn hire<'a, R: Wait, T: NonBlocking>(
     rt: &'a R,
     alloc: Global,
@@ -27,21 +27,25 @@ pub(crate) fn hire<'a, R: Wait, T: NonBlocking>(
 )
     requires pass { AreOf service.now pass.old.seats }
     requires none { places.old.items ≡ [] }
-    requires room { vec_len books.old ≤ vec_capacity places.old }
+    requires enough { vec_capacity places.old ≤ vec_len books.old }
     ensures pass { AreOf service.now pass.new.seats }
     ensures places { All (IsOpened service.now) places.new.items }
-    ensures count { vec_len places.new ≡ vec_len books.old }
-    ensures books { books.old.items ≡ reverse (map (λ p. p.book) places.new.items) }
-    ensures taken { (books.new.items ≡ []) × (vec_capacity books.new ≡ vec_capacity books.old) }
-    ensures room { vec_capacity places.new ≡ vec_capacity places.old }
-    ensures gives { FoldsTo Gives pass.old (map (λ p. p.pass) places.new.items) pass.new }
+    ensures count { vec_len places.new ≡ vec_capacity places.old }
+    ensures books { books.old.items ≡ books.new.items ++ map (λ p. p.book) places.new.items }
+    ensures room { vec_capacity books.new ≡ vec_capacity books.old }
+    ensures gives { FoldsTo Gives pass.old
+        (reverse (map (λ p. p.pass) places.new.items)) pass.new }
 {
-    while let Some(book) = books.pop() {
+    for _ in 0..places.capacity() {
+        let Some(book) = books.pop() else {
+            unreachable!()
+        };
         let Ok(theirs) = service.split_pass(alloc, pass) else {
             unreachable!()
         };
         places.push_reserved(Place::new(rt, service, theirs, book));
     }
+    places.reverse();
 }
 
 /// Serves the clients that are left in the places until each may be closed, and closes them. After

@@ -1,5 +1,5 @@
 //! The workers of a server: their places, and what happens at each.
-ghost use Rattle.std.specs.Prelude.{◌≡◌, ◌≤◌, ◌++◌, reverse, vec_len, vec_capacity, [], IfSome};
+ghost use Rattle.std.specs.Prelude.{◌≡◌, ◌≤◌, vec_len, vec_capacity, [], IfSome};
 ghost use Rattle.sysv_engine.specs.Places.{AdoptsOne, IsVacantAt, KeepsAll};
 
 use crate::moment::Moment;
@@ -105,20 +105,12 @@ impl<R: Wait, T: NonBlocking, W: Drop> Kit<'_, R, T, W> {
 }
 
 impl<'a, R: Wait, T: NonBlocking, W: Watch<T>> Worker<'a, R, T, W> {
-    /// Creates a worker without clients, with as many of the last places as its kit has room for.
-    pub(crate) fn new(
-        number: usize,
-        kit: Kit<'a, R, T, W>,
-        from: &mut Vec<Place<'a, R, T>>,
-    ) -> Worker<'a, R, T, W>
-        requires none { kit.places.items ≡ [] }
-        requires some { vec_capacity kit.places ≤ vec_len from.old }
-        ensures count { vec_len result.places ≡ vec_capacity kit.entry.places }
-        ensures places { from.old.items ≡ from.new.items ++ reverse result.places.items }
-        ensures room { vec_capacity from.new ≡ vec_capacity from.old }
+    /// Creates a worker without clients, with the places of its kit.
+    pub(crate) fn new(number: usize, kit: Kit<'a, R, T, W>) -> Worker<'a, R, T, W>
+        ensures { result.places ≡ kit.entry.places }
     {
         let Kit {
-            mut places,
+            places,
             free,
             ready,
             lines,
@@ -127,7 +119,6 @@ impl<'a, R: Wait, T: NonBlocking, W: Watch<T>> Worker<'a, R, T, W> {
             tools,
             watch,
         } = kit;
-        fill(&mut places, from);
         Worker {
             number,
             places,
@@ -395,22 +386,6 @@ fn room_for<P>(alloc: Global, count: usize) -> Option<Vec<P>>
     ensures { IfSome result (λ v. (v.items ≡ []) × (vec_capacity v ≡ count)) }
 {
     Vec::with_capacity(alloc, count).ok()
-}
-
-/// Fills `places` with the last places of `from`, the last one first.
-fn fill<P>(places: &mut Vec<P>, from: &mut Vec<P>)
-    requires none { places.old.items ≡ [] }
-    requires some { vec_capacity places.old ≤ vec_len from.old }
-    ensures count { vec_len places.new ≡ vec_capacity places.old }
-    ensures items { from.old.items ≡ from.new.items ++ reverse places.new.items }
-    ensures room { vec_capacity from.new ≡ vec_capacity from.old }
-{
-    for _ in 0..places.capacity() {
-        let Some(place) = from.pop() else {
-            unreachable!()
-        };
-        places.push_reserved(place);
-    }
 }
 
 /// Returns a number for each `share` of this count, and else `None`.
