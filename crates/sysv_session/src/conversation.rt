@@ -60,6 +60,7 @@ impl Conversation {
     /// # Errors
     ///
     /// Those of `Session::take_up`. The conversation is unchanged.
+    #[inline(always)]
     pub fn take_up<R: Read>(
         &mut self,
         reader: &mut Instrumented<'_, R>,
@@ -72,6 +73,13 @@ impl Conversation {
         ensures write { ends_by_write result ≡ false }
     {
         self.session.take_up(reader, text)
+    }
+
+    /// Reserves memory for the replies to requests of `count` bytes, as `Outbox::make_room` does.
+    pub fn make_room(&mut self, count: usize)
+        ensures { self.new ≡ self.old }
+    {
+        self.outbox.make_room(count);
     }
 
     /// Gathers the reply to a hello of this version. `text` is ignored.
@@ -109,6 +117,7 @@ impl Conversation {
     /// - A reply in the outcome is one that its operation has in its version.
     /// - `given` has at most 8,192 bytes.
     /// - The tally can count one more message.
+    #[inline(always)]
     pub fn put(
         &mut self,
         version: Version,
