@@ -36,7 +36,8 @@ returns-clause-room g c =
     let turned = sum_by-IsPermutation (λ (k : K). vec_capacity k.places) c.loop-watch.kits.items
     c.reverse.new.self.items c.reverse.ensures.permutation in
     let shared = c.loop-watch.invariant.shared in
-    let last = c.loop-watch.invariant.last in
+    let empty = c.in_default.ensures.cases.0 in
+    let none = c.loop-watch.invariant.last (omega arith) in
     omega arith
 
 pub returns-clause-each : goal.returns-clause-each
