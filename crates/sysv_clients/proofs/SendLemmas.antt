@@ -621,13 +621,13 @@ none_after lines Line left rest text some is h = cc
 none_after lines Nothing left rest text some is h = cc
 
 -- No line was read: the next one is too long, or the input could not be read.
-pub ends_unread : (why : Unsent) (lines : ℕ) (left rest : Option (List ℕ)) (text : List ℕ)
-    → Fetches lines (Err why) left rest text → EndsLines (Err why) lines left rest
-ends_unread (Long before) lines left rest text h = (h.0, text, h.1)
-ends_unread (Input why) lines left rest text h = tt
-ends_unread Many lines left rest text h = absurd h
-ends_unread (Fault why) lines left rest text h = absurd h
-ends_unread (Cut cut) lines left rest text h = absurd h
+pub ends_unread : (why : Unsent) (lines read : ℕ) (left rest : Option (List ℕ)) (text : List ℕ) → read ≡ lines
+    → Fetches read (Err why) left rest text → EndsLines (Err why) lines left rest
+ends_unread (Long before) lines read left rest text same h = (h.0 ∙ same, text, h.1)
+ends_unread (Input why) lines read left rest text same h = tt
+ends_unread Many lines read left rest text same h = absurd h
+ends_unread (Fault why) lines read left rest text same h = absurd h
+ends_unread (Cut cut) lines read left rest text same h = absurd h
 
 -- A session that a send ended did not fail by its input.
 pub fails_so : (result ended : Result ⊤ Unsent) (failure : Option ErrorKind)
