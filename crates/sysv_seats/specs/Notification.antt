@@ -18,9 +18,9 @@ use Rattle.sysv_wire.specs.declared.reply.ReplyContent.{ReplyContent}
 use Rattle.sysv_wire.specs.declared.reply.ReplyContent.TheVariants.{Refused}
 use Rattle.sysv_wire.specs.declared.request.Ask.{Ask}
 use Rattle.sysv_wire.specs.declared.request.Ask.TheVariants.{Snd, Rcv, Set, Rm}
-use Rattle.sysv_seats.specs.declared.notifications.Notification.{Notification}
-use Rattle.sysv_seats.specs.declared.notifications.Notification.TheVariants as notifications
-use Rattle.sysv_seats.specs.declared.notifications.Told.{Told}
+use Rattle.sysv_seats.specs.declared.notification.Notification.{Notification}
+use Rattle.sysv_seats.specs.declared.notification.Notification.TheVariants as notifications
+use Rattle.sysv_seats.specs.declared.notification.Told.{Told}
 use Rattle.sysv_seats.specs.declared.tools.Tools.{Tools}
 use Rattle.sysv_seats.specs.declared.waiting.Waiting.{Waiting}
 use Rattle.sysv_seats.specs.declared.waiting.Waiting.TheVariants.{Send}
