@@ -107,6 +107,12 @@ impl<'a, C: Clock, R: Wait> ServiceHandler<'a, C, R> {
         serve_watched(texts, reader, writer, self)
     }
 
+    /// Returns the number of blocks that the calls of this handler's pass reserved and did not
+    /// release, modulo 2^64, like `Pass::blocks_in_use`.
+    pub fn blocks_in_use(&self) -> u64 {
+        self.pass.blocks_in_use()
+    }
+
     /// Ends the handler and returns its pass.
     pub fn into_pass(self) -> Pass
         ensures pass { result ≡ self.entry.pass }

@@ -16,6 +16,7 @@ pub mod ObjectKinds
 pub mod Gated
 pub mod Order
 pub mod Seats
+pub mod BlocksMoved
 pub mod Banked
 pub mod Reading
 pub mod SharedCounts

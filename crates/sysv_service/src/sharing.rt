@@ -30,7 +30,7 @@ impl Gates {
         ensures other { AreOf self.now result × AreSplit seats.old seats.new result }
     {
         let seat = self.bank.split_off(&mut seats.seat);
-        Seats { seat }
+        Seats { seat, in_use: 0 }
     }
 
     /// Merges `other` into `seats`, object by object: what both have seen, and the turns of both.
@@ -44,8 +44,9 @@ impl Gates {
         ensures seats { AreOf self.now seats.new }
         ensures joined { AreJoined seats.old other seats.new }
     {
-        let Seats { seat } = other;
+        let Seats { seat, in_use } = other;
         self.bank.join(&mut seats.seat, seat);
+        seats.in_use = seats.in_use.wrapping_add(in_use);
     }
 
     /// Closes the gates. Returns, for each slot in the order of the numbers, for the registry and
@@ -65,7 +66,7 @@ impl Gates {
             bank,
             closings: mut slots,
         } = self;
-        let Seats { seat } = seats;
+        let Seats { seat, in_use: _ } = seats;
         let mut closings = bank.close(seat);
         for _ in 0..SLOTS {
             let Some(closing) = closings.pop() else {
