@@ -34,6 +34,8 @@ pub(crate) struct Place<'a, R: Wait, T: NonBlocking> {
     in_turns: bool,
     /// Whether the watch reports when the connection may take bytes.
     awaits_room: bool,
+    /// The number of blocks that the pass had in use when `new_blocks` was called last.
+    blocks_told: u64,
 }
 
 impl<'a, R: Wait, T: NonBlocking> Model for Place<'a, R, T> {
@@ -77,6 +79,7 @@ impl<'a, R: Wait, T: NonBlocking> Place<'a, R, T> {
             times: Times::new(),
             in_turns: false,
             awaits_room: false,
+            blocks_told: 0,
         }
     }
 
@@ -97,6 +100,7 @@ impl<'a, R: Wait, T: NonBlocking> Place<'a, R, T> {
             times: _,
             in_turns: _,
             awaits_room: _,
+            blocks_told: _,
         } = self;
         match client {
             Some(_) => unreachable!(),
@@ -279,6 +283,17 @@ impl<'a, R: Wait, T: NonBlocking> Place<'a, R, T> {
         ensures { self.new ≡ self.old }
     {
         self.in_turns = in_turns;
+    }
+
+    /// Returns how many more blocks the calls of the place have in use than at the last call of this
+    /// function, modulo 2^64.
+    pub(crate) fn new_blocks(&mut self) -> u64
+        ensures { self.new ≡ self.old }
+    {
+        let in_use = self.handler.blocks_in_use();
+        let more = in_use.wrapping_sub(self.blocks_told);
+        self.blocks_told = in_use;
+        more
     }
 
     /// Has the watch report when the connection may take bytes, if and only if some wait for it.

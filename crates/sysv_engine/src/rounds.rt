@@ -113,6 +113,9 @@ impl<'a, 'c, R: Wait> Serving<'a, 'c, R> {
             worker.new.places.items }
     {
         let number = worker.number;
+        if let Some(in_use) = worker.blocks_to_show() {
+            self.server.set_in_use(number, in_use);
+        }
         let may_sleep = self.server.fall_asleep(number);
         let limit = if may_sleep && worker.turns.is_empty() {
             worker.check.map(Moment::left)
@@ -166,6 +169,7 @@ impl<'a, 'c, R: Wait> Serving<'a, 'c, R> {
             worker.new.places.items }
     {
         self.line_up(worker, place);
+        worker.count_blocks(place);
         if worker.is_over(place) {
             self.close(worker, place);
             return;

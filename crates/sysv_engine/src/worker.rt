@@ -45,6 +45,10 @@ pub(crate) struct Worker<'a, R: Wait, T: NonBlocking, W> {
     /// The numbers of its letters about room and about messages, modulo 2^64.
     rooms: usize,
     messages: usize,
+    /// The number of blocks that the calls of its places reserved and did not release, modulo 2^64,
+    /// and that number when `blocks_to_show` was called last.
+    in_use: u64,
+    shown: u64,
 }
 
 /// The tools of a worker, and room for its places.
@@ -142,6 +146,8 @@ impl<'a, R: Wait, T: NonBlocking, W: Watch<T>> Worker<'a, R, T, W> {
             check: None,
             rooms: 0,
             messages: 0,
+            in_use: 0,
+            shown: 0,
         }
     }
 
@@ -165,6 +171,8 @@ impl<'a, R: Wait, T: NonBlocking, W: Watch<T>> Worker<'a, R, T, W> {
             check: _,
             rooms: _,
             messages: _,
+            in_use: _,
+            shown: _,
         } = self;
         (places, tools)
     }
@@ -185,6 +193,30 @@ impl<'a, R: Wait, T: NonBlocking, W: Watch<T>> Worker<'a, R, T, W> {
             }
             News::Changed { .. } => None,
         }
+    }
+
+    /// Adds the blocks that calls of the place have reserved since the last time, and subtracts those
+    /// that they have released.
+    #[tactic(auto, using(crate::proofs::PlaceLists::keeps_at))]
+    pub(crate) fn count_blocks(&mut self, place: usize)
+        ensures { KeepsAll T.incoming T.outgoing T.closes self.old.places.items
+            self.new.places.items }
+    {
+        if let Some(there) = self.places.get_mut(place) {
+            self.in_use = self.in_use.wrapping_add(there.new_blocks());
+        }
+    }
+
+    /// Returns the number of blocks that its calls have in use, modulo 2^64, if it has changed since
+    /// the last call of this function.
+    pub(crate) fn blocks_to_show(&mut self) -> Option<u64>
+        ensures { self.new.places ≡ self.old.places }
+    {
+        if self.in_use == self.shown {
+            return None;
+        }
+        self.shown = self.in_use;
+        Some(self.in_use)
     }
 
     /// Returns whether there are no clients.

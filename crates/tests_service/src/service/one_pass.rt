@@ -180,6 +180,34 @@ fn a_queue_is_removed(rt: HostRuntime) {
     assert_is(&rt, service.close(pass), closed(0, 128));
 }
 
+#[test]
+fn passes_count_their_blocks(rt: HostRuntime) {
+    let (service, mut pass) = opened(&rt, rt.alloc(), 128, 0);
+    let id = service.msgget(&rt, &mut pass, &CLOCK, USER, 7, creating());
+    assert_is(&rt, id, Ok(0));
+    let Ok(mut other) = service.split_pass(rt.alloc(), &mut pass) else {
+        unreachable!()
+    };
+    for text in [&b""[..], &[b'x'; 64], &[b'x'; 65]] {
+        let sent = send(&rt, rt.alloc(), &service, &mut pass, 0, 5, text);
+        assert_is(&rt, sent, Ok(()));
+    }
+    assert_is(&rt, pass.blocks_in_use(), 3);
+    assert_is(&rt, other.blocks_in_use(), 0);
+    for len in [0, 64] {
+        let got = receive(&rt, rt.alloc(), &service, &mut other, 0, 0);
+        assert_is(&rt, got, Ok((5, len)));
+    }
+    assert_is(&rt, pass.blocks_in_use(), 3);
+    assert_is(&rt, other.blocks_in_use(), u64::MAX);
+    let removed = service.msgctl_rmid(&rt, &mut other, USER, 0);
+    assert_is(&rt, removed, Ok(()));
+    assert_is(&rt, other.blocks_in_use(), u64::MAX - 2);
+    service.join_pass(&mut pass, other);
+    assert_is(&rt, pass.blocks_in_use(), 0);
+    assert_is(&rt, service.close(pass), closed(0, 128));
+}
+
 /// Makes a private queue.
 fn get(rt: &impl Wait, service: &Service, pass: &mut Pass) -> Result<i32, Errno>
     requires { AreOf service.now pass.old.seats }
