@@ -550,9 +550,9 @@ pub finishes : (sending : Sending) (ended : Result ⊤ Unsent) (lines : ℕ)
 finishes sending (Ok done) lines left rest taken more fed unsent unfed window so_far none all ends =
     settled sending (Ok done) left rest taken more fed unsent unfed window so_far none
     (are_done sending left rest taken more fed unsent window so_far, ends)
-finishes sending (Err Long) lines left rest taken more fed unsent unfed window so_far none all ends =
-    settled sending (Err Long) left rest taken more fed unsent unfed window so_far none
-    (are_done sending left rest taken more fed unsent window so_far, ends.0, ends.1)
+finishes sending (Err (Long before)) lines left rest taken more fed unsent unfed window so_far none all ends =
+    settled sending (Err (Long before)) left rest taken more fed unsent unfed window so_far none
+    (are_done sending left rest taken more fed unsent window so_far, ends.0 ∙ sym all ∙ so_far.many, ends.1, ends.2)
 finishes sending (Err Many) lines left rest taken more fed unsent unfed window so_far none all ends =
     settled sending (Err Many) left rest taken more fed unsent unfed window so_far none
     (are_done sending left rest taken more fed unsent window so_far, ends.0, sym so_far.many ∙ all ∙ ends.1)
@@ -597,30 +597,33 @@ pub reads_there : (ahead : List ℕ) (known : Option (List ℕ)) → ahead ≡ [
 reads_there ahead known none = ap (λ (l : List ℕ). prepend_known l known) none ∙ prepends_nothing known
 
 -- What was read is the next line.
-pub is_next : (fetched : Fetched) (left rest : Option (List ℕ)) (text : List ℕ) → is_nothing fetched ≡ false
-    → Fetches (Ok fetched) left rest text → IsNext text left rest
-is_next Line left rest text is h = (h.0, inl h.1)
-is_next Last left rest text is h = (h.0, inr (h.1, h.2, h.3))
-is_next Nothing left rest text is h = cc
+pub is_next : (lines : ℕ) (fetched : Fetched) (left rest : Option (List ℕ)) (text : List ℕ)
+    → is_nothing fetched ≡ false
+    → Fetches lines (Ok fetched) left rest text → IsNext text left rest
+is_next lines Line left rest text is h = (h.0, inl h.1)
+is_next lines Last left rest text is h = (h.0, inr (h.1, h.2, h.3))
+is_next lines Nothing left rest text is h = cc
 
 -- Nothing was read.
-pub none_left : (fetched : Fetched) (left rest : Option (List ℕ)) (text : List ℕ) → is_nothing fetched ≡ true
-    → Fetches (Ok fetched) left rest text → HasNone left rest
-none_left Nothing left rest text is h = h.1
-none_left Line left rest text is h = cc
-none_left Last left rest text is h = cc
+pub none_left : (lines : ℕ) (fetched : Fetched) (left rest : Option (List ℕ)) (text : List ℕ)
+    → is_nothing fetched ≡ true
+    → Fetches lines (Ok fetched) left rest text → HasNone left rest
+none_left lines Nothing left rest text is h = h.1
+none_left lines Line left rest text is h = cc
+none_left lines Last left rest text is h = cc
 
 -- The last line was read.
-pub none_after : (fetched : Fetched) (left rest : Option (List ℕ)) (text : List ℕ) → is_nothing fetched ≡ false
-    → is_line fetched ≡ false → Fetches (Ok fetched) left rest text → HasNone rest rest
-none_after Last left rest text some is h = (Consumes-nil rest, h.3)
-none_after Line left rest text some is h = cc
-none_after Nothing left rest text some is h = cc
+pub none_after : (lines : ℕ) (fetched : Fetched) (left rest : Option (List ℕ)) (text : List ℕ)
+    → is_nothing fetched ≡ false
+    → is_line fetched ≡ false → Fetches lines (Ok fetched) left rest text → HasNone rest rest
+none_after lines Last left rest text some is h = (Consumes-nil rest, h.3)
+none_after lines Line left rest text some is h = cc
+none_after lines Nothing left rest text some is h = cc
 
 -- No line was read: the next one is too long, or the input could not be read.
 pub ends_unread : (why : Unsent) (lines : ℕ) (left rest : Option (List ℕ)) (text : List ℕ)
-    → Fetches (Err why) left rest text → EndsLines (Err why) lines left rest
-ends_unread Long lines left rest text h = (text, h)
+    → Fetches lines (Err why) left rest text → EndsLines (Err why) lines left rest
+ends_unread (Long before) lines left rest text h = (h.0, text, h.1)
 ends_unread (Input why) lines left rest text h = tt
 ends_unread Many lines left rest text h = absurd h
 ends_unread (Fault why) lines left rest text h = absurd h
@@ -633,7 +636,7 @@ fails_so result ended failure (inl same) fails =
     subst (λ (r : Result ⊤ Unsent). FailsBy r failure) (sym same) fails
 fails_so (Ok done) ended failure (inr cut) fails = tt
 fails_so (Err (Cut cut)) ended failure (inr is) fails = tt
-fails_so (Err Long) ended failure (inr is) fails = absurd is
+fails_so (Err (Long before)) ended failure (inr is) fails = absurd is
 fails_so (Err Many) ended failure (inr is) fails = absurd is
 fails_so (Err (Input why)) ended failure (inr is) fails = absurd is
 fails_so (Err (Fault why)) ended failure (inr is) fails = absurd is

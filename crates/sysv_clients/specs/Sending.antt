@@ -153,8 +153,9 @@ abbrev pub EndsSends : Sending → Result ⊤ Unsent → (opened sends : List Ca
     (left rest taken more fed unfed : Option (List ℕ)) → Type 0
 EndsSends sending (Ok done) opened sends waiting left rest taken more fed unfed =
     AreDone sending opened sends waiting left rest taken more × HasNone fed unfed
-EndsSends sending (Err Long) opened sends waiting left rest taken more fed unfed =
-    AreDone sending opened sends waiting left rest taken more × (text : List ℕ) × IsTooLong text fed unfed
+EndsSends sending (Err (Long before)) opened sends waiting left rest taken more fed unfed =
+    AreDone sending opened sends waiting left rest taken more × (before ≡ length sends)
+    × (text : List ℕ) × IsTooLong text fed unfed
 EndsSends sending (Err Many) opened sends waiting left rest taken more fed unfed =
     AreDone sending opened sends waiting left rest taken more × (unfed ≡ fed) × (length sends ≡ 2 ^ 64 - 1)
 EndsSends sending (Err (Input why)) opened sends waiting left rest taken more fed unfed =
@@ -196,6 +197,6 @@ SendsAhead sending ended left rest taken more fed unfed =
 abbrev pub unsent_line : Unsent → List ℕ
 unsent_line (Fault why) = fault_line why
 unsent_line (Cut cut) = fault_line cut.fault
-unsent_line Long = codes "sysvmsg: EINVAL" ++ 10 ∷ []
+unsent_line (Long before) = codes "sysvmsg: EINVAL" ++ 10 ∷ []
 unsent_line Many = codes "sysvmsg: too many lines" ++ 10 ∷ []
 unsent_line (Input why) = codes "sysvmsg: cannot read" ++ 10 ∷ []

@@ -25,7 +25,7 @@ use Rattle.sysv_wire.specs.Replies.{reply_spelling}
 abbrev pub IsCut : Unsent → Type 0
 IsCut (Cut cut) = ⊤
 IsCut (Fault why) = ⊥
-IsCut Long = ⊥
+IsCut (Long before) = ⊥
 IsCut Many = ⊥
 IsCut (Input why) = ⊥
 
@@ -88,7 +88,7 @@ Drains sending (Err why) keep left rest taken more fed unsent before after =
 -- How the lines of an input end after this number of them, apart from their sends.
 abbrev pub EndsLines : Result ⊤ Unsent → ℕ → (fed unfed : Option (List ℕ)) → Type 0
 EndsLines (Ok done) lines fed unfed = HasNone fed unfed
-EndsLines (Err Long) lines fed unfed = (text : List ℕ) × IsTooLong text fed unfed
+EndsLines (Err (Long before)) lines fed unfed = (before ≡ lines) × (text : List ℕ) × IsTooLong text fed unfed
 EndsLines (Err Many) lines fed unfed = (unfed ≡ fed) × (lines ≡ 2 ^ 64 - 1)
 EndsLines (Err (Input why)) lines fed unfed = ⊤
 EndsLines (Err (Fault why)) lines fed unfed = ⊥

@@ -61,7 +61,10 @@ pub enum Unsent {
     /// A send ends it.
     Cut(Cut),
     /// A line is longer than the body of a message may be.
-    Long,
+    Long {
+        /// The number of lines before it. All of them were accepted.
+        before: u64,
+    },
     /// 2^64 - 1 lines were sent, each with its LF, and no more are.
     Many,
     /// The input could not be read.
@@ -84,7 +87,7 @@ impl Unsent {
         match self {
             Unsent::Fault(fault) => fault.line(),
             Unsent::Cut(cut) => cut.fault.line(),
-            Unsent::Long => ClientFault::Refused(Errno::EINVAL).line(),
+            Unsent::Long { .. } => ClientFault::Refused(Errno::EINVAL).line(),
             Unsent::Many => "sysvmsg: too many lines\n",
             Unsent::Input(_) => "sysvmsg: cannot read\n",
         }
@@ -131,7 +134,7 @@ impl Sending {
 ///   read.
 /// - `Cut`: a send is refused, cannot be written or has no reply. It states how many later lines
 ///   were sent, and of how many lines that is unknown.
-/// - `Long`: the next line has more than 8,192 bytes.
+/// - `Long`: the next line has more than 8,192 bytes. It states how many lines were sent before.
 /// - `Many`: 2^64 - 1 lines were sent. Whether there are more is not looked at.
 /// - `Input`: a read of the input failed.
 pub fn send_lines<I: Read, R: Read, W: Write>(
@@ -256,7 +259,7 @@ impl Sender {
         let mut window = self.find(sending, reader, writer)?;
         let mut lines = 0;
         while lines < u64::MAX {
-            let fetched = match fetch(input, &mut self.chunk, &mut self.text) {
+            let fetched = match fetch(input, &mut self.chunk, &mut self.text, lines) {
                 Ok(fetched) => fetched,
                 Err(why) => return self.finish(reader, writer, &mut window, Err(why)),
             };

@@ -250,6 +250,7 @@ fn send_on<I: Read, R: Leave + Drop, W: Write + Drop>(
     match &failure.error {
         Unsent::Input(why) => return teller.no_input(rt, why),
         Unsent::Cut(cut) => explain(rt, cut),
+        Unsent::Long { before } => explain_line(rt, *before, Errno::EINVAL, 0),
         _ => {}
     }
     teller.fault(rt, failure.error.line());
@@ -265,16 +266,21 @@ fn explain(rt: &impl Eprint, cut: &Cut) {
         after,
         unknown,
     } = *cut;
-    let _ = match fault {
-        ClientFault::Refused(error) => {
-            let line = before.saturating_add(1);
-            eprintln!(rt; "sysvmsg: line {line}: {error}; later lines that were sent: {after}")
-        }
-        _ => eprintln!(rt; "sysvmsg: lines that were sent: {before}"),
-    };
+    if let ClientFault::Refused(error) = fault {
+        explain_line(rt, before, error, after);
+    } else {
+        let _ = eprintln!(rt; "sysvmsg: lines that were sent: {before}");
+    }
     if unknown > 0 {
         let _ = eprintln!(rt; "sysvmsg: lines that may have been sent: {unknown}");
     }
+}
+
+/// Reports on standard error that the line after `before` lines was refused, and why, and how many
+/// later ones were sent.
+fn explain_line(rt: &impl Eprint, before: u64, error: Errno, after: u32) {
+    let line = before.saturating_add(1);
+    let _ = eprintln!(rt; "sysvmsg: line {line}: {error}; later lines that were sent: {after}");
 }
 
 /// Sends lines over a connection. A send that is left after this number of milliseconds fails with

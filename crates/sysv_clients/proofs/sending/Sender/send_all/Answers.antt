@@ -1,5 +1,6 @@
-use Rattle.std.proofs.Common.{[], ◌∙◌, arith, refl, sym}
+use Rattle.std.proofs.Common.{[], ◌∙◌, ℕ, Err, arith, refl, subst, sym}
 use Rattle.std.proofs.lemmas.Result.{err_from_is_err_and}
+use Rattle.sysv_clients.specs.Lines.{Fetches}
 use Rattle.sysv_clients.proofs.SendLemmas.{begins, begins_there, ends_unread, is_next, none_after, none_left, not_ahead}
 use Rattle.sysv_clients.proofs.SendLemmas.{has_space, same_ahead, unopened}
 use Rattle.sysv_clients.proofs.sending.Sender.send_all.Goals as goal
@@ -31,14 +32,16 @@ pub returns-in-Err-clause-sends : goal.returns-in-Err-clause-sends
 returns-in-Err-clause-sends g c = (
   c.fetch.new.chunk,
   c.finish.ensures.ends c.args.sending.now _ _ _ _ _ c.loop-lines.invariant.sends
-      (ends_unread c.in-Err.why _ _ _ c.fetch.new.line c.in-Err.ensures.fetches),
+      (ends_unread c.in-Err.why _ _ _ c.fetch.new.line
+      (subst (λ (n : ℕ). Fetches n (Err c.in-Err.why) _ _ c.fetch.new.line) (sym c.loop-lines.invariant.lines)
+      c.in-Err.ensures.fetches)),
 )
 
 pub returns-then-is_nothing-clause-sends : goal.returns-then-is_nothing-clause-sends
 returns-then-is_nothing-clause-sends g c = (
   c.fetch.new.chunk,
   c.finish-then-is_nothing.ensures.ends c.args.sending.now _ _ _ _ _ c.loop-lines.invariant.sends
-      (none_left c.in-Ok.fetched _ _ c.fetch.new.line (sym c.is_nothing.ensures ∙ c.if-is_nothing.true)
+      (none_left _ c.in-Ok.fetched _ _ c.fetch.new.line (sym c.is_nothing.ensures ∙ c.if-is_nothing.true)
       c.in-Ok.ensures.fetches),
 )
 
@@ -48,7 +51,7 @@ returns-in_err-send-clause-sends g c =
     rw (p.1, p.2) (
       c.fetch.new.chunk,
       c.in_err-send.ensures.sends c.args.sending.now _ _ _ _ _ _ c.loop-lines.invariant.sends
-          (is_next c.in-Ok.fetched _ _ c.fetch.new.line (sym c.is_nothing.ensures ∙ c.if-is_nothing.false)
+          (is_next _ c.in-Ok.fetched _ _ c.fetch.new.line (sym c.is_nothing.ensures ∙ c.if-is_nothing.false)
           c.in-Ok.ensures.fetches)
           c.loop-lines.invariant.room _,
     )
@@ -57,10 +60,10 @@ pub returns-then-not-is_line-clause-sends : goal.returns-then-not-is_line-clause
 returns-then-not-is_line-clause-sends g c =
     let some = sym c.is_nothing.ensures ∙ c.if-is_nothing.false in
     let sent = c.in_ok-send.ensures.sends c.args.sending.now _ _ _ _ _ _ c.loop-lines.invariant.sends
-    (is_next c.in-Ok.fetched _ _ c.fetch.new.line some c.in-Ok.ensures.fetches) c.loop-lines.invariant.room in (
+    (is_next _ c.in-Ok.fetched _ _ c.fetch.new.line some c.in-Ok.ensures.fetches) c.loop-lines.invariant.room in (
       c.fetch.new.chunk,
       c.finish-then-not-is_line.ensures.ends c.args.sending.now _ _ _ _ _ sent.0
-          (none_after c.in-Ok.fetched _ _ c.fetch.new.line some (sym c.is_line.ensures ∙ c.if-not-is_line.true)
+          (none_after _ c.in-Ok.fetched _ _ c.fetch.new.line some (sym c.is_line.ensures ∙ c.if-not-is_line.true)
           c.in-Ok.ensures.fetches),
     )
 
@@ -69,7 +72,7 @@ returns-in_err-drain-clause-sends g c =
     let p = err_from_is_err_and c.from_residual-in_err-drain.result c.from_residual-in_err-drain.ensures.1 in
     let some = sym c.is_nothing.ensures ∙ c.if-is_nothing.false in
     let sent = c.in_ok-send.ensures.sends c.args.sending.now _ _ _ _ _ _ c.loop-lines.invariant.sends
-    (is_next c.in-Ok.fetched _ _ c.fetch.new.line some c.in-Ok.ensures.fetches) c.loop-lines.invariant.room in
+    (is_next _ c.in-Ok.fetched _ _ c.fetch.new.line some c.in-Ok.ensures.fetches) c.loop-lines.invariant.room in
     rw (p.1, p.2)
     (c.fetch.new.chunk, c.in_err-drain.ensures.drains c.args.sending.now _ _ _ _ sent.0 _)
 
@@ -77,7 +80,7 @@ pub loop-lines-preserved : goal.loop-lines-preserved
 loop-lines-preserved g c =
     let some = sym c.is_nothing.ensures ∙ c.if-is_nothing.false in
     let sent = c.in_ok-send.ensures.sends c.args.sending.now _ _ _ _ _ _ c.loop-lines.invariant.sends
-    (is_next c.in-Ok.fetched _ _ c.fetch.new.line some c.in-Ok.ensures.fetches) c.loop-lines.invariant.room in
+    (is_next _ c.in-Ok.fetched _ _ c.fetch.new.line some c.in-Ok.ensures.fetches) c.loop-lines.invariant.room in
     let drained = c.in_ok-drain.ensures.drains c.args.sending.now _ _ _ _ sent.0 in
     record {
       sends = same_ahead c.args.sending.now _ c.fetch.new.chunk _ _ _ _ _ _ c.drain.new.window
