@@ -509,6 +509,7 @@ impl<T: NonBlocking> Client<T> {
 
     /// Takes up what is at the front of the input. Returns the number of bytes that were read, and
     /// what was taken up or why nothing was. The bytes are still in the input.
+    #[inline(always)]
     fn read_next(&mut self, text: &mut Body) -> (usize, Result<TakenUp, End>)
         requires free { IsFree self.old }
         ensures takes { ReadsNext self.old result.0 result.1 text.new self.new }
@@ -536,6 +537,7 @@ impl<T: NonBlocking> Client<T> {
 
     /// Begins the call of a request that was taken up, whose frame of this length is at the front
     /// of the input. `tools.text` is the body of the request.
+    #[inline(always)]
     fn ask<R: Wait>(
         &mut self,
         cred: Cred,
@@ -562,6 +564,7 @@ impl<T: NonBlocking> Client<T> {
 
     /// Gathers the outcome of a request whose frame of this length is at the front of the input, or
     /// parks its call.
+    #[inline(always)]
     fn settle(
         &mut self,
         cred: Cred,
@@ -637,6 +640,7 @@ impl<T: NonBlocking> Client<T> {
 }
 
 /// Takes up what the input holds next, as `Conversation::take_up` does.
+#[inline(always)]
 fn take_up_from<R: Read>(
     conversation: &mut Conversation,
     input: &mut R,

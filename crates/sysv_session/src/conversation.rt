@@ -60,6 +60,7 @@ impl Conversation {
     /// # Errors
     ///
     /// Those of `Session::take_up`. The conversation is unchanged.
+    #[inline(always)]
     pub fn take_up<R: Read>(
         &mut self,
         reader: &mut Watched<'_, R>,
@@ -109,6 +110,7 @@ impl Conversation {
     /// - A reply in the outcome is one that its operation has in its version.
     /// - `given` has at most 8,192 bytes.
     /// - The tally can count one more message.
+    #[inline(always)]
     pub fn put(
         &mut self,
         version: Version,

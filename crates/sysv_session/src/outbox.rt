@@ -117,6 +117,7 @@ impl Outbox {
     /// # Conditions
     ///
     /// - `given` has at most 8,192 bytes.
+    #[inline(always)]
     pub fn put_message(
         &mut self,
         version: Version,
@@ -284,6 +285,7 @@ fn bring_nearer(marks: &mut VecDeque<Mark>, n: usize)
 }
 
 /// Appends the frame of a reply. After an error the bytes are unchanged.
+#[inline(always)]
 fn append(bytes: &mut Vec<u8>, reply: &Reply, text: &Body) -> Result<(), NoMemory>
     requires answer { IsAnswer reply.now.version reply.now.op reply.now.result }
     requires text { length text.now ≤ MESSAGE_BYTES }

@@ -204,6 +204,7 @@ impl Session {
     /// - `NoHello` if the first request is not a hello.
     /// - `Fault` if there is no request, or one of another version or a later hello.
     /// - `Bound` if 4,294,967,295 requests were taken up. Nothing is read.
+    #[inline(always)]
     pub fn take_up<R: Read>(
         &mut self,
         reader: &mut Watched<'_, R>,

@@ -61,6 +61,7 @@ pub fn hello_reply(version: Version, slots: u32) -> Reply
 }
 
 /// Reads a later request in a session of this version. Returns `None` at the end of the input.
+#[inline(always)]
 pub(crate) fn read_asked<R: Read>(
     reader: &mut Watched<'_, R>,
     version: Version,
