@@ -451,6 +451,8 @@ impl<T: NonBlocking> Client<T> {
     {
         if self.input.extend_from_slice(bytes).is_err() {
             self.stop(End::NoMemory);
+        } else {
+            self.conversation.make_room(bytes.len());
         }
     }
 

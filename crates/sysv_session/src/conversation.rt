@@ -75,6 +75,13 @@ impl Conversation {
         self.session.take_up(reader, text)
     }
 
+    /// Reserves memory for the replies to requests of `count` bytes, as `Outbox::make_room` does.
+    pub fn make_room(&mut self, count: usize)
+        ensures { self.new ≡ self.old }
+    {
+        self.outbox.make_room(count);
+    }
+
     /// Gathers the reply to a hello of this version. `text` is ignored.
     ///
     /// # Errors

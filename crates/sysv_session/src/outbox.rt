@@ -52,6 +52,12 @@ const KEPT_BYTES: usize = 512;
 
 const KEPT_MARKS: usize = 4;
 
+/// The maximum number of bytes for which an outbox reserves memory before there are replies.
+const MOST_EXPECTED: usize = 4_096;
+
+/// The number of bytes of requests for each of which it reserves memory for a delivery.
+const BYTES_EACH: usize = 64;
+
 /// A delivery whose frame ends in an outbox.
 struct Mark {
     /// The number of bytes up to the end of the frame, including those that were taken.
@@ -84,6 +90,21 @@ impl Outbox {
         ensures { result.now ≡ self.now.bytes }
     {
         &self.bytes[self.taken..]
+    }
+
+    /// Reserves memory for the replies to requests of `count` bytes, so that it is not allocated
+    /// again and again for many small replies. Does nothing for a few requests, or if memory is
+    /// refused: each reply then allocates what it needs.
+    pub fn make_room(&mut self, count: usize)
+        ensures { self.new ≡ self.old }
+    {
+        if count <= KEPT_BYTES {
+            return;
+        }
+        let most = count.min(MOST_EXPECTED);
+        if self.bytes.reserve(most).is_ok() {
+            let _has_marks = self.marks.reserve(most / BYTES_EACH).is_ok();
+        }
     }
 
     /// Appends the frame of a reply. If the reply carries a message, its body is `text`; for any
