@@ -113,7 +113,6 @@ pub(crate) fn read_head<R: Read>(
 }
 
 /// Reads a body of `len` bytes into an empty `Body`.
-#[inline(always)]
 pub(crate) fn read_text<R: Read>(
     reader: &mut Watched<'_, R>,
     len: usize,

@@ -73,7 +73,6 @@ pub(crate) fn judge(length: u32, version: u8, number: u8) -> Result<(Version, Op
 }
 
 /// Returns the request with these fields.
-#[inline(always)]
 fn ask_of(op: Op, fields: &[u8]) -> Ask
     requires { length fields.now ≡ fields_len op }
     ensures op { op_of result ≡ op }
@@ -207,7 +206,6 @@ fn row_of(fields: &[u8]) -> Ask
 }
 
 /// Reads the fields and the body of a request whose length is `whole`.
-#[inline(always)]
 fn read_ask<R: Read>(
     reader: &mut Watched<'_, R>,
     whole: u32,
@@ -257,7 +255,6 @@ fn read_ask<R: Read>(
 ///   operation does not have this length.
 /// - `BadOp` if the operation is above 7.
 /// - `Read` if and only if the reader fails.
-#[inline(always)]
 pub fn read_request<R: Read>(
     reader: &mut Watched<'_, R>,
     text: &mut Body,
@@ -275,7 +272,6 @@ pub fn read_request<R: Read>(
 }
 
 /// Reads one request, like `read_request`. The contract states only what was taken of the input.
-#[inline(always)]
 fn next_request<R: Read>(
     reader: &mut Watched<'_, R>,
     text: &mut Body,
