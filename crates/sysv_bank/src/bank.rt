@@ -171,8 +171,8 @@ impl<O: Object> Bank<O> {
     ///
     /// There is one order of all turns. It begins with all that the seat had seen of it, has no
     /// later turn of the seat, and its part at each place is the history there. If the seat's share
-    /// is the whole bank, no other seat is left: the seat had seen all turns, each was made by it or
-    /// by a seat that was joined into it, and each object is returned.
+    /// is the whole bank, no other seat is left: the seat had seen all turns, each was made by it
+    /// or by a seat that was joined into it, and each object is returned.
     ///
     /// # Conditions
     ///

@@ -12,9 +12,10 @@ use std::io;
 use std::sync::Wait;
 use std::thread::Threads;
 use std::time::{Clock, CpuClock};
+use sysv_model::Instrumented;
 use sysv_seats::ServiceHandler;
 use sysv_service::Service;
-use sysv_session::End;
+use sysv_session::{End, Texts};
 
 /// How many pairs are measured.
 const PAIRS: u32 = 1_000_000;
@@ -42,14 +43,19 @@ pub(crate) fn once<R: Wait + Clock + CpuClock>(rt: &R, alloc: Global) -> Option<
 
 /// Returns the nanoseconds of a session with this number of pairs.
 fn time_of_session<R: Wait + Clock + CpuClock>(rt: &R, alloc: Global, pairs: u32) -> Option<u64> {
+    let Ok(mut texts) = Texts::open(alloc) else {
+        return None;
+    };
     let Ok((service, pass)) = Service::open(alloc, 1024) else {
         return None;
     };
     let mut handler = ServiceHandler::new(rt, &service, &Still, pass);
-    let mut reader = Requests::new(pairs);
-    let mut writer = Replies::default();
+    let mut requests = Requests::new(pairs);
+    let mut replies = Replies::default();
+    let mut reader = Instrumented::new(&mut requests);
+    let mut writer = Instrumented::new(&mut replies);
     let watch = Watch::start(rt, Time::Passed);
-    let served = handler.serve(alloc, &mut reader, &mut writer);
+    let served = handler.serve_instrumented(&mut texts, &mut reader, &mut writer);
     let nanos = watch.and_then(|watch| watch.nanos(rt));
     let pass = handler.into_pass();
     service.close(pass);

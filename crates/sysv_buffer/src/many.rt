@@ -146,9 +146,9 @@ impl<T: Drop> ManyBuffer<T> {
         }
     }
 
-    /// Takes the oldest item in the buffer if no other seat has the turn. A seat takes from later and
-    /// later places. It never waits. It wakes the threads that sleep until a cell is empty or a take
-    /// is over.
+    /// Takes the oldest item in the buffer if no other seat has the turn. A seat takes from later
+    /// and later places. It never waits. It wakes the threads that sleep until a cell is empty or a
+    /// take is over.
     ///
     /// # Errors
     ///

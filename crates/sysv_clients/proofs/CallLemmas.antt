@@ -7,11 +7,11 @@ use Rattle.std.specs.Io.KnownBytes.{Appends, Consumes}
 use Rattle.std.proofs.KnownBytes.{Appends-nil, Appends-trans, Consumes-nil, Consumes-trans}
 use Rattle.sysv_clients.specs.Asks.{request_of}
 use Rattle.sysv_clients.specs.Calls.{Call, FollowsPlan, IsCallDone, Made, Plan, id_in, read_by, written_by}
-use Rattle.sysv_clients.specs.Talk.{Exchanges, id_after, reply_to}
+use Rattle.sysv_clients.specs.Dialogue.{Exchanges, id_after, reply_to}
 use Rattle.sysv_wire.specs.declared.reply.ReplyContent.{ReplyContent}
 use Rattle.sysv_wire.specs.declared.request.Ask.{Ask}
-use Rattle.sysv_wire.specs.Replies.{reply_spelling}
-use Rattle.sysv_wire.specs.Requests.{request_spelling}
+use Rattle.sysv_wire.specs.Replies.{reply_encoding}
+use Rattle.sysv_wire.specs.Requests.{request_encoding}
 
 -- A call that was done.
 abbrev pub call_of : Ask → List ℕ → ReplyContent → List ℕ → Call
@@ -23,16 +23,16 @@ none_made Passes plan left taken =
     record { follows = tt; reads = Consumes-nil left; writes = Appends-nil taken }
 
 pub read_more : (calls : List Call) (one : Call) →
-    read_by (calls ++ one ∷ []) ≡ read_by calls ++ reply_spelling (reply_to one.ask one.answer) one.given
+    read_by (calls ++ one ∷ []) ≡ read_by calls ++ reply_encoding (reply_to one.ask one.answer) one.given
 read_more calls one =
-    flat_map-append (λ (e : Call). reply_spelling (reply_to e.ask e.answer) e.given) calls (one ∷ [])
-    ∙ ap (λ l. read_by calls ++ l) (append-nil (reply_spelling (reply_to one.ask one.answer) one.given))
+    flat_map-append (λ (e : Call). reply_encoding (reply_to e.ask e.answer) e.given) calls (one ∷ [])
+    ∙ ap (λ l. read_by calls ++ l) (append-nil (reply_encoding (reply_to one.ask one.answer) one.given))
 
 pub written_more : (calls : List Call) (one : Call) →
-    written_by (calls ++ one ∷ []) ≡ written_by calls ++ request_spelling (request_of one.ask) one.text
+    written_by (calls ++ one ∷ []) ≡ written_by calls ++ request_encoding (request_of one.ask) one.text
 written_more calls one =
-    flat_map-append (λ (e : Call). request_spelling (request_of e.ask) e.text) calls (one ∷ [])
-    ∙ ap (λ l. written_by calls ++ l) (append-nil (request_spelling (request_of one.ask) one.text))
+    flat_map-append (λ (e : Call). request_encoding (request_of e.ask) e.text) calls (one ∷ [])
+    ∙ ap (λ l. written_by calls ++ l) (append-nil (request_encoding (request_of one.ask) one.text))
 
 pub id_more : (calls : List Call) (one : Call) → id_in (calls ++ one ∷ []) ≡ id_after (id_in calls) one.answer
 id_more calls one = fold-append (λ (found : ℤ) (e : Call). id_after found e.answer) (pos 0) calls (one ∷ [])
@@ -57,8 +57,8 @@ follows_more Passes plan before (first ∷ others) one follows next passes = (
 pub one_more : (Passes : Call → Type 0) (plan : Plan) (calls : List Call) (one : Call)
     (left mid rest taken more most : Option (List ℕ))
     → Made Passes plan calls left mid taken more → plan calls ≡ Some one.ask → Passes one
-    → Appends more most (request_spelling (request_of one.ask) one.text)
-    → Consumes mid rest (reply_spelling (reply_to one.ask one.answer) one.given)
+    → Appends more most (request_encoding (request_of one.ask) one.text)
+    → Consumes mid rest (reply_encoding (reply_to one.ask one.answer) one.given)
     → Made Passes plan (calls ++ one ∷ []) left rest taken most
 one_more Passes plan calls one left mid rest taken more most made next passes written read = record {
   follows = follows_more Passes plan [] calls one made.follows next passes;
@@ -72,7 +72,7 @@ one_more Passes plan calls one left mid rest taken more most made next passes wr
 pub done_more : (plan : Plan) (calls : List Call) (ask : Ask) (text : List ℕ) (answer : ReplyContent) (given : List ℕ)
     (left mid rest taken more most : Option (List ℕ))
     → Made IsCallDone plan calls left mid taken more → plan calls ≡ Some ask
-    → Exchanges (request_spelling (request_of ask) text) ask (Ok answer) mid rest more most given
+    → Exchanges (request_encoding (request_of ask) text) ask (Ok answer) mid rest more most given
     → Made IsCallDone plan (calls ++ call_of ask text answer given ∷ []) left rest taken most
 done_more plan calls ask text answer given left mid rest taken more most made next exchange =
     one_more IsCallDone plan calls (call_of ask text answer given) left mid rest taken more most made next exchange.1.1

@@ -13,7 +13,7 @@ use Rattle.sysv_clients.specs.Asks.{request_of}
 use Rattle.sysv_clients.specs.Calls.{Call, Made}
 use Rattle.sysv_clients.specs.Clearing.{ClearsAll, EndsClearing, IsTried, Reports, Tries, begun, clearing_ask}
 use Rattle.sysv_clients.specs.Clearing.{clearing_plan, moved, refusal_by, refusals_of, refused_by}
-use Rattle.sysv_clients.specs.Talk.{Exchanges, reply_to}
+use Rattle.sysv_clients.specs.Dialogue.{Exchanges, reply_to}
 use Rattle.sysv_clients.proofs.CallLemmas.{call_of, none_made, one_more}
 use Rattle.sysv_model.specs.declared.cred.Cred.{Cred}
 use Rattle.sysv_model.specs.declared.errno.Errno.{Errno}
@@ -22,8 +22,8 @@ use Rattle.sysv_wire.specs.declared.reply.ReplyContent.{ReplyContent}
 use Rattle.sysv_wire.specs.declared.reply.ReplyContent.TheVariants as content
 use Rattle.sysv_wire.specs.declared.request.Ask.{Ask}
 use Rattle.sysv_wire.specs.declared.request.Ask.TheVariants.{Hello, Get, Snd, Rcv, Stat, Set, Rm, Row}
-use Rattle.sysv_wire.specs.Replies.{error_number, reply_spelling}
-use Rattle.sysv_wire.specs.Requests.{request_spelling}
+use Rattle.sysv_wire.specs.Replies.{error_number, reply_encoding}
+use Rattle.sysv_wire.specs.Requests.{request_encoding}
 
 -- The hello was done, and these calls followed it.
 pub record Clears (cred : Cred) (left rest taken more : Option (List ℕ)) (before reported : List Refusal)
@@ -88,7 +88,7 @@ reports_more calls one before so reported old new =
 
 pub opens : (cred : Cred) (welcome : ReplyContent) (given text : List ℕ) (left rest taken more : Option (List ℕ))
     (before : List Refusal)
-    → Exchanges (request_spelling (request_of (Hello cred)) text) (Hello cred) (Ok welcome) left rest taken more given
+    → Exchanges (request_encoding (request_of (Hello cred)) text) (Hello cred) (Ok welcome) left rest taken more given
     → Clears cred left rest taken more before before (begun welcome)
 opens cred welcome given text left rest taken more before exchange = record {
   first = call_of (Hello cred) text welcome given;
@@ -110,8 +110,8 @@ is_next cred left rest taken more before reported clearing found so_far asked =
 grows : (cred : Cred) (one : Call) (left mid rest taken more most : Option (List ℕ)) (before so reported : List Refusal)
     (clearing : Clearing)
     → Clears cred left mid taken more before so clearing → Some one.ask ≡ clearing_ask clearing → IsTried one
-    → Appends more most (request_spelling (request_of one.ask) one.text)
-    → Consumes mid rest (reply_spelling (reply_to one.ask one.answer) one.given)
+    → Appends more most (request_encoding (request_of one.ask) one.text)
+    → Consumes mid rest (reply_encoding (reply_to one.ask one.answer) one.given)
     → reported ≡ so ++ refused_by one.ask one.answer
     → Clears cred left rest taken most before reported (moved clearing one.answer)
 grows cred one left mid rest taken more most before so reported clearing so_far asked tried written read new = record {
@@ -129,7 +129,7 @@ grows cred one left mid rest taken more most before so reported clearing so_far 
 after_done : (cred : Cred) (ask : Ask) (answer : ReplyContent) (given text : List ℕ)
     (left mid rest taken more most : Option (List ℕ)) (before so reported : List Refusal) (clearing : Clearing)
     → Clears cred left mid taken more before so clearing → Some ask ≡ clearing_ask clearing
-    → Exchanges (request_spelling (request_of ask) text) ask (Ok answer) mid rest more most given → reported ≡ so
+    → Exchanges (request_encoding (request_of ask) text) ask (Ok answer) mid rest more most given → reported ≡ so
     → Clears cred left rest taken most before reported (moved clearing answer)
 after_done cred ask answer given text left mid rest taken more most before so reported clearing so_far asked exchange
     same =
@@ -142,32 +142,32 @@ after_refused : (cred : Cred) (ask : Ask) (outcome : Result ReplyContent ClientF
     (why : Errno) (given text : List ℕ)
     (left mid rest taken more most : Option (List ℕ)) (before so reported : List Refusal) (clearing : Clearing)
     → Clears cred left mid taken more before so clearing → Some ask ≡ clearing_ask clearing
-    → Exchanges (request_spelling (request_of ask) text) ask outcome mid rest more most given
+    → Exchanges (request_encoding (request_of ask) text) ask outcome mid rest more most given
     → ask ≡ Rm id → outcome ≡ Err (Refused why) → answer ≡ content.Refused why → reported ≡ so ++ refusal_by id why
     → Clears cred left rest taken most before reported (moved clearing answer)
 after_refused cred ask outcome answer id why given text left mid rest taken more most before so reported clearing so_far
     asked exchange is_rm refuses is_refused new =
     let read = subst (λ (o : Result ReplyContent ClientFault).
-    Exchanges (request_spelling (request_of ask) text) ask o mid rest more most given) refuses exchange in
+    Exchanges (request_encoding (request_of ask) text) ask o mid rest more most given) refuses exchange in
     let says : refusal_by id why ≡ refused_by ask answer =
     sym (ap (λ (x : Ask). refused_by x answer) is_rm ∙ ap (λ (a : ReplyContent). refused_by (Rm id) a) is_refused) in
     grows cred (call_of ask text answer []) left mid rest taken more most before so reported clearing so_far asked
     (inr (id, why, is_rm, is_refused, refl)) read.0
-    (subst (λ (a : ReplyContent). Consumes mid rest (reply_spelling (reply_to ask a) [])) (sym is_refused) read.1)
+    (subst (λ (a : ReplyContent). Consumes mid rest (reply_encoding (reply_to ask a) [])) (sym is_refused) read.1)
     (new ∙ ap (λ l. so ++ l) says)
 
 pub goes_on : (cred : Cred) (ask : Ask) (outcome : Result ReplyContent ClientFault) (answer : ReplyContent)
     (given text : List ℕ) (left mid rest taken more most : Option (List ℕ)) (before so reported : List Refusal)
     (clearing : Clearing)
     → Clears cred left mid taken more before so clearing → Some ask ≡ clearing_ask clearing
-    → Exchanges (request_spelling (request_of ask) text) ask outcome mid rest more most given
+    → Exchanges (request_encoding (request_of ask) text) ask outcome mid rest more most given
     → Tries ask outcome (Ok answer) so reported
     → Clears cred left rest taken most before reported (moved clearing answer)
 goes_on cred ask outcome answer given text left mid rest taken more most before so reported clearing so_far asked
     exchange (inl tried) =
     after_done cred ask answer given text left mid rest taken more most before so reported clearing so_far asked
     (subst (λ (o : Result ReplyContent ClientFault).
-    Exchanges (request_spelling (request_of ask) text) ask o mid rest more most given) tried.0 exchange) tried.1
+    Exchanges (request_encoding (request_of ask) text) ask o mid rest more most given) tried.0 exchange) tried.1
 goes_on cred ask outcome answer given text left mid rest taken more most before so reported clearing so_far asked
     exchange (inr t) =
     after_refused cred ask outcome answer t.0 t.1 given text left mid rest taken more most before so reported clearing
@@ -190,18 +190,18 @@ finishes cred finished left rest taken more before reported clearing so_far aske
 -- A fault in what was read or written last.
 ends_by : (cred : Cred) (calls : List Call) (why : ClientFault) (ask : Ask) (text given : List ℕ)
     (left rest taken more : Option (List ℕ)) → clearing_plan cred calls ≡ Some ask → text ≡ []
-    → Exchanges (request_spelling (request_of ask) text) ask (Err why) left rest taken more given
+    → Exchanges (request_encoding (request_of ask) text) ask (Err why) left rest taken more given
     → EndsClearing (clearing_plan cred) calls (Err why) left rest taken more
 ends_by cred calls (Refused error) ask text given left rest taken more next is exchange = (
   ask,
   next,
   subst (λ (l : List ℕ).
-      Exchanges (request_spelling (request_of ask) l) ask (Err (Refused error)) left rest taken more []) is exchange,
+      Exchanges (request_encoding (request_of ask) l) ask (Err (Refused error)) left rest taken more []) is exchange,
 )
 ends_by cred calls NoReply ask text given left rest taken more next is exchange = (
   ask,
   next,
-  subst (λ (l : List ℕ). Exchanges (request_spelling (request_of ask) l) ask (Err NoReply) left rest taken more []) is
+  subst (λ (l : List ℕ). Exchanges (request_encoding (request_of ask) l) ask (Err NoReply) left rest taken more []) is
       exchange,
 )
 ends_by cred calls NoMemory ask text given left rest taken more next is exchange = absurd exchange
@@ -217,7 +217,7 @@ pub breaks_off : (cred : Cred) (ask : Ask) (outcome : Result ReplyContent Client
     (given text : List ℕ) (left mid rest taken more most : Option (List ℕ)) (before so reported : List Refusal)
     (clearing : Clearing)
     → Clears cred left mid taken more before so clearing → Some ask ≡ clearing_ask clearing → text ≡ []
-    → Exchanges (request_spelling (request_of ask) text) ask outcome mid rest more most given
+    → Exchanges (request_encoding (request_of ask) text) ask outcome mid rest more most given
     → Tries ask outcome (Err why) so reported
     → ClearsAll cred (Err why) left rest taken most before reported
 breaks_off cred ask outcome why given text left mid rest taken more most before so reported clearing so_far asked is
@@ -229,7 +229,7 @@ breaks_off cred ask outcome why given text left mid rest taken more most before 
       ends = ends_by cred (so_far.first ∷ so_far.calls) why ask text given mid rest more most
           (is_next cred left mid taken more before so clearing (Some ask) so_far asked) is
           (subst (λ (o : Result ReplyContent ClientFault).
-          Exchanges (request_spelling (request_of ask) text) ask o mid rest more most given) tried.0 exchange);
+          Exchanges (request_encoding (request_of ask) text) ask o mid rest more most given) tried.0 exchange);
       reports = reports_by why (refusals_of (so_far.first ∷ so_far.calls)) before reported (tried.1 ∙ so_far.reports);
     }
 breaks_off cred ask outcome why given text left mid rest taken more most before so reported clearing so_far asked is
@@ -249,7 +249,7 @@ breaks_off cred ask outcome why given text left mid rest taken more most before 
 -- The hello has a fault.
 pub no_hello : (cred : Cred) (why : ClientFault) (given text : List ℕ) (left rest taken more : Option (List ℕ))
     (before : List Refusal) → text ≡ []
-    → Exchanges (request_spelling (request_of (Hello cred)) text) (Hello cred) (Err why) left rest taken more given
+    → Exchanges (request_encoding (request_of (Hello cred)) text) (Hello cred) (Err why) left rest taken more given
     → ClearsAll cred (Err why) left rest taken more before before
 no_hello cred why given text left rest taken more before is exchange = record {
   calls = [];

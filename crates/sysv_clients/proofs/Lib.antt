@@ -1,7 +1,7 @@
-pub mod TalkLemmas
+pub mod DialogueLemmas
 pub mod RowLemmas
 pub mod WordLemmas
-pub mod Courses
+pub mod Parses
 pub mod CallLemmas
 pub mod StreamLemmas
 pub mod SendLemmas

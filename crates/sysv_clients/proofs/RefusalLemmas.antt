@@ -13,7 +13,7 @@ use Rattle.sysv_clients.specs.declared.sending.Window.{Window}
 use Rattle.sysv_clients.specs.Calls.{Call, Each, FollowsPlan, IsCallDone, id_in, read_by, written_by}
 use Rattle.sysv_clients.specs.Sending.{AreLines, EndsReplies, HasReply, IsAnswered, IsCutBy, IsRefusedAt, SendsAll}
 use Rattle.sysv_clients.specs.Sending.{accepted_in, accepts, bodies_of, frames_of, opening_plan, send_ask, window_of}
-use Rattle.sysv_clients.specs.Talk.{HasNoReply, reply_to}
+use Rattle.sysv_clients.specs.Dialogue.{HasNoReply, reply_to}
 use Rattle.sysv_clients.specs.Window.{EndsCut, HearsSend, Sends}
 use Rattle.sysv_clients.proofs.CallLemmas.{call_of}
 use Rattle.sysv_clients.proofs.SendLemmas.{all_answered, all_done, between, between_first, between_second, bodies_more}
@@ -23,7 +23,7 @@ use Rattle.sysv_model.specs.declared.errno.Errno.TheVariants as errors
 use Rattle.sysv_wire.specs.declared.reply.ReplyContent.{ReplyContent}
 use Rattle.sysv_wire.specs.declared.reply.ReplyContent.TheVariants as content
 use Rattle.sysv_wire.specs.declared.request.Ask.{Ask}
-use Rattle.sysv_wire.specs.Replies.{error_number, reply_spelling}
+use Rattle.sysv_wire.specs.Replies.{error_number, reply_encoding}
 
 -- A send was refused, and some replies after it were read. The cut counts them.
 pub record Refusing (sending : Sending) (error : Errno) (left rest taken more fed unsent : Option (List ℕ)) (ask : Ask)
@@ -54,8 +54,8 @@ refuses sending error left mid rest taken more fed unsent window fewer so_far so
     let ask = send_ask sending (id_in so_far.opened) in
     let first = first_of so_far.texts window.waiting so_far.waits (omega (arith, some)) in
     let one = call_of ask first.text (content.Refused error) [] in
-    let reply : Consumes mid rest (reply_spelling (reply_to ask (content.Refused error)) []) =
-    subst (λ (a : Ask). Consumes mid rest (reply_spelling (reply_to a (content.Refused error)) [])) so_far.ask
+    let reply : Consumes mid rest (reply_encoding (reply_to ask (content.Refused error)) []) =
+    subst (λ (a : Ask). Consumes mid rest (reply_encoding (reply_to a (content.Refused error)) [])) so_far.ask
     replied in
     let long : window.waiting ≡ suc (length first.others) =
     so_far.waits ∙ ap (λ (l : List (List ℕ)). length l) first.split in
@@ -103,7 +103,7 @@ pub refuses_more : (sending : Sending) (error : Errno) (answer : ReplyContent) (
     (left mid rest taken more fed unsent : Option (List ℕ)) (ask : Ask) (cut : ACut) (after fewer : ℕ)
     → Refusing sending error left mid taken more fed unsent ask cut
     → cut.unknown ≡ fewer + 1 → after ≡ cut.after + accepts answer
-    → Consumes mid rest (reply_spelling (reply_to ask answer) given)
+    → Consumes mid rest (reply_encoding (reply_to ask answer) given)
     → ((text : List ℕ) → HasReply (call_of ask text answer given))
     → Refusing sending error left rest taken more fed unsent ask
     (record { before = cut.before; fault = cut.fault; after = after; unknown = fewer })

@@ -22,27 +22,27 @@ use Rattle.sysv_clients.specs.Calls.{BreaksPlan, Call, Each, IsCallDone, Made, i
 use Rattle.sysv_clients.specs.Lines.{FailsBy, Fetches, HasNone, IsNext, is_line, is_nothing}
 use Rattle.sysv_clients.specs.Sending.{SendsAhead, AreDone, AreLines, EndsReplies, EndsSends, IsAnswered, SendsAll}
 use Rattle.sysv_clients.specs.Sending.{bodies_of, find_to_send, frames_of, opening_plan, send_ask, window_of}
-use Rattle.sysv_clients.specs.Talk.{Exchanges, HasNoReply, Hears, id_after, reply_to}
+use Rattle.sysv_clients.specs.Dialogue.{Exchanges, HasNoReply, Hears, id_after, reply_to}
 use Rattle.sysv_clients.specs.Window.{EndsCut, EndsLines, IsCut, IsSent, Opens, Sends, lost}
 use Rattle.sysv_clients.proofs.CallLemmas.{call_of, done_more, none_made, read_more, written_more}
 use Rattle.sysv_model.specs.Writing.{AppendsPrefix}
 use Rattle.sysv_wire.specs.declared.reply.ReplyContent.{ReplyContent}
 use Rattle.sysv_wire.specs.declared.request.Ask.{Ask}
 use Rattle.sysv_wire.specs.declared.request.Ask.TheVariants.{Hello}
-use Rattle.sysv_wire.specs.Replies.{reply_spelling}
-use Rattle.sysv_wire.specs.Requests.{request_spelling}
+use Rattle.sysv_wire.specs.Replies.{reply_encoding}
+use Rattle.sysv_wire.specs.Requests.{request_encoding}
 
 -- A request that is this one.
 as_ask : (ask of : Ask) (text : List ℕ) (r : Result ReplyContent ClientFault) (left rest taken more : Option (List ℕ))
     (given : List ℕ) → ask ≡ of
-    → Exchanges (request_spelling (request_of ask) text) ask r left rest taken more given
-    → Exchanges (request_spelling (request_of of) text) of r left rest taken more given
+    → Exchanges (request_encoding (request_of ask) text) ask r left rest taken more given
+    → Exchanges (request_encoding (request_of of) text) of r left rest taken more given
 as_ask ask of text r left rest taken more given is exchange =
-    subst (λ (a : Ask). Exchanges (request_spelling (request_of a) text) a r left rest taken more given) is exchange
+    subst (λ (a : Ask). Exchanges (request_encoding (request_of a) text) a r left rest taken more given) is exchange
 
 -- The hello was done.
 greets : (sending : Sending) (welcome : ReplyContent) (given text : List ℕ) (left rest taken more : Option (List ℕ))
-    → Exchanges (request_spelling (request_of (Hello sending.cred)) text) (Hello sending.cred) (Ok welcome) left rest
+    → Exchanges (request_encoding (request_of (Hello sending.cred)) text) (Hello sending.cred) (Ok welcome) left rest
     taken more given
     → Made IsCallDone (opening_plan sending) (call_of (Hello sending.cred) text welcome given ∷ []) left rest taken more
 greets sending welcome given text left rest taken more exchange =
@@ -51,10 +51,10 @@ greets sending welcome given text left rest taken more exchange =
 
 pub opens : (sending : Sending) (welcome got : ReplyContent) (greeted given text : List ℕ)
     (left mid rest taken more most : Option (List ℕ)) (ask : Ask)
-    → Exchanges (request_spelling (request_of (Hello sending.cred)) text) (Hello sending.cred) (Ok welcome) left mid
+    → Exchanges (request_encoding (request_of (Hello sending.cred)) text) (Hello sending.cred) (Ok welcome) left mid
     taken more greeted
     → ask ≡ find_to_send sending
-    → Exchanges (request_spelling (request_of ask) text) ask (Ok got) mid rest more most given
+    → Exchanges (request_encoding (request_of ask) text) ask (Ok got) mid rest more most given
     → Opens sending (Ok (record {
       ask = send_ask sending (id_after (id_after (pos 0) welcome) got);
       done = 0;
@@ -76,18 +76,18 @@ opens sending welcome got greeted given text left mid rest taken more most ask h
 -- A fault in what was read or written last.
 breaks_by : (sending : Sending) (opened : List Call) (why : ClientFault) (ask : Ask) (text given : List ℕ)
     (left rest taken more : Option (List ℕ)) → opening_plan sending opened ≡ Some ask → text ≡ []
-    → Exchanges (request_spelling (request_of ask) text) ask (Err why) left rest taken more given
+    → Exchanges (request_encoding (request_of ask) text) ask (Err why) left rest taken more given
     → BreaksPlan (opening_plan sending) opened [] why left rest taken more
 breaks_by sending opened (Refused error) ask text given left rest taken more next is exchange = (
   ask,
   next,
   subst (λ (l : List ℕ).
-      Exchanges (request_spelling (request_of ask) l) ask (Err (Refused error)) left rest taken more []) is exchange,
+      Exchanges (request_encoding (request_of ask) l) ask (Err (Refused error)) left rest taken more []) is exchange,
 )
 breaks_by sending opened NoReply ask text given left rest taken more next is exchange = (
   ask,
   next,
-  subst (λ (l : List ℕ). Exchanges (request_spelling (request_of ask) l) ask (Err NoReply) left rest taken more []) is
+  subst (λ (l : List ℕ). Exchanges (request_encoding (request_of ask) l) ask (Err NoReply) left rest taken more []) is
       exchange,
 )
 breaks_by sending opened NoMemory ask text given left rest taken more next is exchange = absurd exchange
@@ -95,7 +95,7 @@ breaks_by sending opened NoMemory ask text given left rest taken more next is ex
 -- The hello has a fault.
 pub no_hello : (sending : Sending) (why : ClientFault) (given text : List ℕ) (left rest taken more : Option (List ℕ))
     → text ≡ []
-    → Exchanges (request_spelling (request_of (Hello sending.cred)) text) (Hello sending.cred) (Err why) left rest
+    → Exchanges (request_encoding (request_of (Hello sending.cred)) text) (Hello sending.cred) (Err why) left rest
     taken more given
     → Opens sending (Err why) left rest taken more
 no_hello sending why given text left rest taken more is exchange = (
@@ -110,10 +110,10 @@ no_hello sending why given text left rest taken more is exchange = (
 pub not_found : (sending : Sending) (welcome : ReplyContent) (why : ClientFault) (greeted given text : List ℕ)
     (left mid rest taken more most : Option (List ℕ)) (ask : Ask)
     → text ≡ []
-    → Exchanges (request_spelling (request_of (Hello sending.cred)) text) (Hello sending.cred) (Ok welcome) left mid
+    → Exchanges (request_encoding (request_of (Hello sending.cred)) text) (Hello sending.cred) (Ok welcome) left mid
     taken more greeted
     → ask ≡ find_to_send sending
-    → Exchanges (request_spelling (request_of ask) text) ask (Err why) mid rest more most given
+    → Exchanges (request_encoding (request_of ask) text) ask (Err why) mid rest more most given
     → Opens sending (Err why) left rest taken most
 not_found sending welcome why greeted given text left mid rest taken more most ask is hello is_find find = (
   call_of (Hello sending.cred) text welcome greeted ∷ [],
@@ -216,17 +216,17 @@ lines_more (first ∷ others) text fed mid rest lines next =
     (lines.0, lines.1, lines_more others text lines.0 mid rest lines.2 next)
 
 frames_more : (ask : Ask) (texts : List (List ℕ)) (text : List ℕ) →
-    frames_of ask (texts ++ text ∷ []) ≡ frames_of ask texts ++ request_spelling (request_of ask) text
+    frames_of ask (texts ++ text ∷ []) ≡ frames_of ask texts ++ request_encoding (request_of ask) text
 frames_more ask texts text =
-    flat_map-append (λ (t : List ℕ). request_spelling (request_of ask) t) texts (text ∷ [])
-    ∙ ap (λ l. frames_of ask texts ++ l) (append-nil (request_spelling (request_of ask) text))
+    flat_map-append (λ (t : List ℕ). request_encoding (request_of ask) t) texts (text ∷ [])
+    ∙ ap (λ l. frames_of ask texts ++ l) (append-nil (request_encoding (request_of ask) text))
 
 -- One more send was written.
 pub sends_more : (sending : Sending) (text : List ℕ) (left rest taken more most fed unsent now : Option (List ℕ))
     (window : Window)
     → Sends sending left rest taken more fed unsent window → IsNext text unsent now
     → window.waiting < window_of sending
-    → Appends more most (request_spelling (request_of window.ask) text)
+    → Appends more most (request_encoding (request_of window.ask) text)
     → Sends sending left rest taken most fed now
     (record { ask = window.ask; done = window.done; waiting = window.waiting + 1 })
 sends_more sending text left rest taken more most fed unsent now window so_far next room wrote =
@@ -242,10 +242,10 @@ sends_more sending text left rest taken more most fed unsent now window so_far n
       sent = so_far.sent;
       reads = so_far.reads;
       writes = subst (Appends taken most)
-          (append_assoc (written_by calls) (frames_of ask so_far.texts) (request_spelling (request_of ask) text)
+          (append_assoc (written_by calls) (frames_of ask so_far.texts) (request_encoding (request_of ask) text)
           ∙ ap (λ l. written_by calls ++ l) (sym (frames_more ask so_far.texts text)))
           (Appends-trans taken more most _ _ so_far.writes
-          (subst (λ (a : Ask). Appends more most (request_spelling (request_of a) text)) so_far.ask wrote));
+          (subst (λ (a : Ask). Appends more most (request_encoding (request_of a) text)) so_far.ask wrote));
       lines = subst (λ l. AreLines l fed now)
           (append_assoc (bodies_of so_far.sends) so_far.texts (text ∷ []))
           (lines_more (bodies_of so_far.sends ++ so_far.texts) text fed unsent now so_far.lines next);
@@ -280,16 +280,16 @@ pub written_so : (opened sends : List Call) (one : Call) (ask : Ask) (others : L
     → written_by (opened ++ sends) ++ frames_of ask (one.text ∷ others)
     ≡ written_by (opened ++ (sends ++ one ∷ [])) ++ frames_of ask others
 written_so opened sends one ask others is =
-    sym (append_assoc (written_by (opened ++ sends)) (request_spelling (request_of ask) one.text)
+    sym (append_assoc (written_by (opened ++ sends)) (request_encoding (request_of ask) one.text)
     (frames_of ask others))
-    ∙ ap (λ (a : Ask). (written_by (opened ++ sends) ++ request_spelling (request_of a) one.text)
+    ∙ ap (λ (a : Ask). (written_by (opened ++ sends) ++ request_encoding (request_of a) one.text)
     ++ frames_of ask others) (sym is)
     ∙ ap (λ l. l ++ frames_of ask others)
     (sym (written_more (opened ++ sends) one) ∙ ap written_by (append_assoc opened sends (one ∷ [])))
 
 pub read_so : (opened sends : List Call) (one : Call) →
     read_by (opened ++ (sends ++ one ∷ []))
-    ≡ read_by (opened ++ sends) ++ reply_spelling (reply_to one.ask one.answer) one.given
+    ≡ read_by (opened ++ sends) ++ reply_encoding (reply_to one.ask one.answer) one.given
 read_so opened sends one =
     ap read_by (sym (append_assoc opened sends (one ∷ []))) ∙ read_more (opened ++ sends) one
 
@@ -452,16 +452,16 @@ pub loses_write : (sending : Sending) (text : List ℕ) (left rest taken more mo
     (window : Window)
     → Sends sending left rest taken more fed unsent window → IsNext text unsent now
     → window.waiting < window_of sending
-    → AppendsPrefix more most (request_spelling (request_of window.ask) text)
+    → AppendsPrefix more most (request_encoding (request_of window.ask) text)
     → EndsCut sending
     (Cut (lost (record { ask = window.ask; done = window.done; waiting = window.waiting + 1 })))
     left rest taken most fed
 loses_write sending text left rest taken more most fed unsent now window so_far next room wrote unfed =
     let ask = send_ask sending (id_in so_far.opened) in
     let calls = so_far.opened ++ so_far.sends in
-    let frame = request_spelling (request_of ask) text in
+    let frame = request_encoding (request_of ask) text in
     let part : AppendsPrefix more most frame =
-    subst (λ (a : Ask). AppendsPrefix more most (request_spelling (request_of a) text)) so_far.ask wrote in
+    subst (λ (a : Ask). AppendsPrefix more most (request_encoding (request_of a) text)) so_far.ask wrote in
     let whole = frames_of ask so_far.texts in
     record {
       opened = so_far.opened;
@@ -550,9 +550,9 @@ pub finishes : (sending : Sending) (ended : Result ⊤ Unsent) (lines : ℕ)
 finishes sending (Ok done) lines left rest taken more fed unsent unfed window so_far none all ends =
     settled sending (Ok done) left rest taken more fed unsent unfed window so_far none
     (are_done sending left rest taken more fed unsent window so_far, ends)
-finishes sending (Err Long) lines left rest taken more fed unsent unfed window so_far none all ends =
-    settled sending (Err Long) left rest taken more fed unsent unfed window so_far none
-    (are_done sending left rest taken more fed unsent window so_far, ends.0, ends.1)
+finishes sending (Err (Long before)) lines left rest taken more fed unsent unfed window so_far none all ends =
+    settled sending (Err (Long before)) left rest taken more fed unsent unfed window so_far none
+    (are_done sending left rest taken more fed unsent window so_far, ends.0 ∙ sym all ∙ so_far.many, ends.1, ends.2)
 finishes sending (Err Many) lines left rest taken more fed unsent unfed window so_far none all ends =
     settled sending (Err Many) left rest taken more fed unsent unfed window so_far none
     (are_done sending left rest taken more fed unsent window so_far, ends.0, sym so_far.many ∙ all ∙ ends.1)
@@ -597,34 +597,37 @@ pub reads_there : (ahead : List ℕ) (known : Option (List ℕ)) → ahead ≡ [
 reads_there ahead known none = ap (λ (l : List ℕ). prepend_known l known) none ∙ prepends_nothing known
 
 -- What was read is the next line.
-pub is_next : (fetched : Fetched) (left rest : Option (List ℕ)) (text : List ℕ) → is_nothing fetched ≡ false
-    → Fetches (Ok fetched) left rest text → IsNext text left rest
-is_next Line left rest text is h = (h.0, inl h.1)
-is_next Last left rest text is h = (h.0, inr (h.1, h.2, h.3))
-is_next Nothing left rest text is h = cc
+pub is_next : (lines : ℕ) (fetched : Fetched) (left rest : Option (List ℕ)) (text : List ℕ)
+    → is_nothing fetched ≡ false
+    → Fetches lines (Ok fetched) left rest text → IsNext text left rest
+is_next lines Line left rest text is h = (h.0, inl h.1)
+is_next lines Last left rest text is h = (h.0, inr (h.1, h.2, h.3))
+is_next lines Nothing left rest text is h = cc
 
 -- Nothing was read.
-pub none_left : (fetched : Fetched) (left rest : Option (List ℕ)) (text : List ℕ) → is_nothing fetched ≡ true
-    → Fetches (Ok fetched) left rest text → HasNone left rest
-none_left Nothing left rest text is h = h.1
-none_left Line left rest text is h = cc
-none_left Last left rest text is h = cc
+pub none_left : (lines : ℕ) (fetched : Fetched) (left rest : Option (List ℕ)) (text : List ℕ)
+    → is_nothing fetched ≡ true
+    → Fetches lines (Ok fetched) left rest text → HasNone left rest
+none_left lines Nothing left rest text is h = h.1
+none_left lines Line left rest text is h = cc
+none_left lines Last left rest text is h = cc
 
 -- The last line was read.
-pub none_after : (fetched : Fetched) (left rest : Option (List ℕ)) (text : List ℕ) → is_nothing fetched ≡ false
-    → is_line fetched ≡ false → Fetches (Ok fetched) left rest text → HasNone rest rest
-none_after Last left rest text some is h = (Consumes-nil rest, h.3)
-none_after Line left rest text some is h = cc
-none_after Nothing left rest text some is h = cc
+pub none_after : (lines : ℕ) (fetched : Fetched) (left rest : Option (List ℕ)) (text : List ℕ)
+    → is_nothing fetched ≡ false
+    → is_line fetched ≡ false → Fetches lines (Ok fetched) left rest text → HasNone rest rest
+none_after lines Last left rest text some is h = (Consumes-nil rest, h.3)
+none_after lines Line left rest text some is h = cc
+none_after lines Nothing left rest text some is h = cc
 
 -- No line was read: the next one is too long, or the input could not be read.
-pub ends_unread : (why : Unsent) (lines : ℕ) (left rest : Option (List ℕ)) (text : List ℕ)
-    → Fetches (Err why) left rest text → EndsLines (Err why) lines left rest
-ends_unread Long lines left rest text h = (text, h)
-ends_unread (Input why) lines left rest text h = tt
-ends_unread Many lines left rest text h = absurd h
-ends_unread (Fault why) lines left rest text h = absurd h
-ends_unread (Cut cut) lines left rest text h = absurd h
+pub ends_unread : (why : Unsent) (lines read : ℕ) (left rest : Option (List ℕ)) (text : List ℕ) → read ≡ lines
+    → Fetches read (Err why) left rest text → EndsLines (Err why) lines left rest
+ends_unread (Long before) lines read left rest text same h = (h.0 ∙ same, text, h.1)
+ends_unread (Input why) lines read left rest text same h = tt
+ends_unread Many lines read left rest text same h = absurd h
+ends_unread (Fault why) lines read left rest text same h = absurd h
+ends_unread (Cut cut) lines read left rest text same h = absurd h
 
 -- A session that a send ended did not fail by its input.
 pub fails_so : (result ended : Result ⊤ Unsent) (failure : Option ErrorKind)
@@ -633,7 +636,7 @@ fails_so result ended failure (inl same) fails =
     subst (λ (r : Result ⊤ Unsent). FailsBy r failure) (sym same) fails
 fails_so (Ok done) ended failure (inr cut) fails = tt
 fails_so (Err (Cut cut)) ended failure (inr is) fails = tt
-fails_so (Err Long) ended failure (inr is) fails = absurd is
+fails_so (Err (Long before)) ended failure (inr is) fails = absurd is
 fails_so (Err Many) ended failure (inr is) fails = absurd is
 fails_so (Err (Input why)) ended failure (inr is) fails = absurd is
 fails_so (Err (Fault why)) ended failure (inr is) fails = absurd is

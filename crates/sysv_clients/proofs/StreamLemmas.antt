@@ -16,10 +16,10 @@ use Rattle.sysv_clients.specs.declared.style.Style.{Style}
 use Rattle.sysv_clients.specs.Asks.{find_ask, receive_ask, request_of}
 use Rattle.sysv_clients.specs.Calls.{BreaksPlan, Call, Each, IsCallDone, Made, read_by, written_by}
 use Rattle.sysv_clients.specs.Stream.{EndsTakes, EndsTaking, IsRefusedIn, IsReplied, TakesAll, ahead_of}
-use Rattle.sysv_clients.specs.Stream.{count_of, finding_plan, received_text, repeated_spelling, shown_by, taking_ask}
+use Rattle.sysv_clients.specs.Stream.{count_of, finding_plan, received_text, repeated_encoding, shown_by, taking_ask}
 use Rattle.sysv_clients.specs.Style.{style_of_receipt}
 use Rattle.sysv_clients.specs.Taking.{Finds, IsTaken, MeetsFault, Stops, Takes, first_fault}
-use Rattle.sysv_clients.specs.Talk.{Exchanges, HasNoReply, IsDone, id_after, reply_to}
+use Rattle.sysv_clients.specs.Dialogue.{Exchanges, HasNoReply, IsDone, id_after, reply_to}
 use Rattle.sysv_clients.proofs.CallLemmas.{call_of, done_more, none_made, written_more}
 use Rattle.sysv_clients.proofs.SendLemmas.{between, between_first, between_second, each_more, read_so}
 use Rattle.sysv_model.specs.declared.errno.Errno.{Errno}
@@ -28,20 +28,20 @@ use Rattle.sysv_wire.specs.declared.reply.ReplyContent.{ReplyContent}
 use Rattle.sysv_wire.specs.declared.reply.ReplyContent.TheVariants as content
 use Rattle.sysv_wire.specs.declared.request.Ask.{Ask}
 use Rattle.sysv_wire.specs.declared.request.Ask.TheVariants.{Hello}
-use Rattle.sysv_wire.specs.Replies.{reply_spelling}
-use Rattle.sysv_wire.specs.Requests.{request_spelling}
+use Rattle.sysv_wire.specs.Replies.{reply_encoding}
+use Rattle.sysv_wire.specs.Requests.{request_encoding}
 
 -- A request that is this one.
 as_ask : (ask of : Ask) (text given : List ℕ) (r : _) (left rest taken more : Option (List ℕ)) → ask ≡ of
-    → Exchanges (request_spelling (request_of ask) text) ask r left rest taken more given
-    → Exchanges (request_spelling (request_of of) text) of r left rest taken more given
+    → Exchanges (request_encoding (request_of ask) text) ask r left rest taken more given
+    → Exchanges (request_encoding (request_of of) text) of r left rest taken more given
 as_ask ask of text given r left rest taken more is exchange =
-    subst (λ (a : Ask). Exchanges (request_spelling (request_of a) text) a r left rest taken more given) is exchange
+    subst (λ (a : Ask). Exchanges (request_encoding (request_of a) text) a r left rest taken more given) is exchange
 
 -- The hello was done.
 greets : (receiving : Receiving) (welcome : ReplyContent) (given text : List ℕ)
     (left rest taken more : Option (List ℕ))
-    → Exchanges (request_spelling (request_of (Hello receiving.cred)) text) (Hello receiving.cred) (Ok welcome) left
+    → Exchanges (request_encoding (request_of (Hello receiving.cred)) text) (Hello receiving.cred) (Ok welcome) left
     rest taken more given
     → Made IsCallDone (finding_plan receiving) (call_of (Hello receiving.cred) text welcome given ∷ []) left rest taken
     more
@@ -52,10 +52,10 @@ greets receiving welcome given text left rest taken more exchange =
 -- The queue was found.
 pub finds : (receiving : Receiving) (welcome got : ReplyContent) (greeted given text : List ℕ)
     (left mid rest taken more most : Option (List ℕ)) (ask : Ask) (owed : ℕ)
-    → Exchanges (request_spelling (request_of (Hello receiving.cred)) text) (Hello receiving.cred) (Ok welcome) left mid
+    → Exchanges (request_encoding (request_of (Hello receiving.cred)) text) (Hello receiving.cred) (Ok welcome) left mid
     taken more greeted
     → ask ≡ find_ask receiving.receipt
-    → Exchanges (request_spelling (request_of ask) text) ask (Ok got) mid rest more most given
+    → Exchanges (request_encoding (request_of ask) text) ask (Ok got) mid rest more most given
     → owed ≡ count_of receiving
     → Finds receiving (Ok (record {
       ask = receive_ask receiving.receipt (id_after (id_after (pos 0) welcome) got);
@@ -78,18 +78,18 @@ finds receiving welcome got greeted given text left mid rest taken more most ask
 -- A fault in what was read or written last.
 breaks_by : (receiving : Receiving) (opened : List Call) (why : ClientFault) (ask : Ask) (text given : List ℕ)
     (left rest taken more : Option (List ℕ)) → finding_plan receiving opened ≡ Some ask → text ≡ []
-    → Exchanges (request_spelling (request_of ask) text) ask (Err why) left rest taken more given
+    → Exchanges (request_encoding (request_of ask) text) ask (Err why) left rest taken more given
     → BreaksPlan (finding_plan receiving) opened [] why left rest taken more
 breaks_by receiving opened (Refused error) ask text given left rest taken more next is exchange = (
   ask,
   next,
   subst (λ (l : List ℕ).
-      Exchanges (request_spelling (request_of ask) l) ask (Err (Refused error)) left rest taken more []) is exchange,
+      Exchanges (request_encoding (request_of ask) l) ask (Err (Refused error)) left rest taken more []) is exchange,
 )
 breaks_by receiving opened NoReply ask text given left rest taken more next is exchange = (
   ask,
   next,
-  subst (λ (l : List ℕ). Exchanges (request_spelling (request_of ask) l) ask (Err NoReply) left rest taken more []) is
+  subst (λ (l : List ℕ). Exchanges (request_encoding (request_of ask) l) ask (Err NoReply) left rest taken more []) is
       exchange,
 )
 breaks_by receiving opened NoMemory ask text given left rest taken more next is exchange = absurd exchange
@@ -97,7 +97,7 @@ breaks_by receiving opened NoMemory ask text given left rest taken more next is 
 -- The hello has a fault.
 pub no_hello : (receiving : Receiving) (why : ClientFault) (given text : List ℕ)
     (left rest taken more : Option (List ℕ)) → text ≡ []
-    → Exchanges (request_spelling (request_of (Hello receiving.cred)) text) (Hello receiving.cred) (Err why) left rest
+    → Exchanges (request_encoding (request_of (Hello receiving.cred)) text) (Hello receiving.cred) (Err why) left rest
     taken more given
     → Finds receiving (Err why) left rest taken more
 no_hello receiving why given text left rest taken more is exchange = (
@@ -111,10 +111,10 @@ no_hello receiving why given text left rest taken more is exchange = (
 -- The request that finds the queue has a fault.
 pub not_found : (receiving : Receiving) (welcome : ReplyContent) (why : ClientFault) (greeted given text : List ℕ)
     (left mid rest taken more most : Option (List ℕ)) (ask : Ask) → text ≡ []
-    → Exchanges (request_spelling (request_of (Hello receiving.cred)) text) (Hello receiving.cred) (Ok welcome) left mid
+    → Exchanges (request_encoding (request_of (Hello receiving.cred)) text) (Hello receiving.cred) (Ok welcome) left mid
     taken more greeted
     → ask ≡ find_ask receiving.receipt
-    → Exchanges (request_spelling (request_of ask) text) ask (Err why) mid rest more most given
+    → Exchanges (request_encoding (request_of ask) text) ask (Err why) mid rest more most given
     → Finds receiving (Err why) left rest taken most
 not_found receiving welcome why greeted given text left mid rest taken more most ask is hello is_find find =
     let one = call_of (Hello receiving.cred) text welcome greeted in (
@@ -194,7 +194,7 @@ begins receiving taking left rest taken more shown (opened, made, found, is, cou
   took = tt;
   reads = subst (λ l. Consumes left rest (read_by l)) (sym (append-nil opened)) made.reads;
   writes = subst (λ (n : ℕ).
-      Appends taken more (written_by (opened ++ []) ++ repeated_spelling (taking_ask receiving opened) n)) (sym none)
+      Appends taken more (written_by (opened ++ []) ++ repeated_encoding (taking_ask receiving opened) n)) (sym none)
       (subst (Appends taken more) (sym (append-nil (written_by (opened ++ []))))
       (subst (λ l. Appends taken more (written_by l)) (sym (append-nil opened)) made.writes));
   shows = Appends-nil shown;
@@ -205,26 +205,26 @@ begins receiving taking left rest taken more shown (opened, made, found, is, cou
 
 -- The frames of some requests and of others.
 repeated_more : (ask : Ask) (count more : ℕ) →
-    repeated_spelling ask (count + more) ≡ repeated_spelling ask count ++ repeated_spelling ask more
+    repeated_encoding ask (count + more) ≡ repeated_encoding ask count ++ repeated_encoding ask more
 repeated_more ask zero more =
-    let none : 0 + more ≡ more = omega arith in ap (repeated_spelling ask) none
+    let none : 0 + more ≡ more = omega arith in ap (repeated_encoding ask) none
 repeated_more ask (suc count) more =
     let next : suc count + more ≡ suc (count + more) = omega arith in
-    let frame = request_spelling (request_of ask) [] in
-    ap (repeated_spelling ask) next ∙ ap (λ (l : List ℕ). frame ++ l) (repeated_more ask count more)
-    ∙ sym (append_assoc frame (repeated_spelling ask count) (repeated_spelling ask more))
+    let frame = request_encoding (request_of ask) [] in
+    ap (repeated_encoding ask) next ∙ ap (λ (l : List ℕ). frame ++ l) (repeated_more ask count more)
+    ∙ sym (append_assoc frame (repeated_encoding ask count) (repeated_encoding ask more))
 
 -- More receives were written.
 pub asks_more : (receiving : Receiving) (left rest taken more most shown after : Option (List ℕ)) (taking now : Taking)
     (added : ℕ)
     → Takes receiving left rest taken more shown after taking → now.ask ≡ taking.ask → now.owed ≡ taking.owed
     → now.waiting ≡ taking.waiting + added → now.waiting ≤ taking.owed → now.waiting ≤ ahead_of receiving
-    → Appends more most (repeated_spelling taking.ask added)
+    → Appends more most (repeated_encoding taking.ask added)
     → Takes receiving left rest taken most shown after now
 asks_more receiving left rest taken more most shown after taking now added so_far same owes many due few wrote =
     let ask = taking_ask receiving so_far.opened in
     let calls = so_far.opened ++ so_far.takes in
-    let frames = repeated_spelling ask taking.waiting in
+    let frames = repeated_encoding ask taking.waiting in
     record {
       opened = so_far.opened;
       takes = so_far.takes;
@@ -234,11 +234,11 @@ asks_more receiving left rest taken more most shown after taking now added so_fa
       took = so_far.took;
       reads = so_far.reads;
       writes = subst (Appends taken most)
-          (append_assoc (written_by calls) frames (repeated_spelling ask added)
+          (append_assoc (written_by calls) frames (repeated_encoding ask added)
           ∙ ap (λ (l : List ℕ). written_by calls ++ l)
-          (sym (ap (repeated_spelling ask) many ∙ repeated_more ask taking.waiting added)))
+          (sym (ap (repeated_encoding ask) many ∙ repeated_more ask taking.waiting added)))
           (Appends-trans taken more most _ _ so_far.writes
-          (subst (λ (a : Ask). Appends more most (repeated_spelling a added)) so_far.ask wrote));
+          (subst (λ (a : Ask). Appends more most (repeated_encoding a added)) so_far.ask wrote));
       shows = so_far.shows;
       owes = omega (arith, so_far.owes, owes);
       due = omega (arith, due, owes);
@@ -265,35 +265,35 @@ as_prefix style of answer given shown after is shows =
 
 -- The frames of the calls with one more, and of the receives after it.
 written_so : (opened takes : List Call) (ask : Ask) (answer : ReplyContent) (given : List ℕ) (count : ℕ) →
-    written_by (opened ++ takes) ++ repeated_spelling ask (suc count)
-    ≡ written_by (opened ++ (takes ++ call_of ask [] answer given ∷ [])) ++ repeated_spelling ask count
+    written_by (opened ++ takes) ++ repeated_encoding ask (suc count)
+    ≡ written_by (opened ++ (takes ++ call_of ask [] answer given ∷ [])) ++ repeated_encoding ask count
 written_so opened takes ask answer given count =
     let one = call_of ask [] answer given in
-    sym (append_assoc (written_by (opened ++ takes)) (request_spelling (request_of ask) [])
-    (repeated_spelling ask count))
-    ∙ ap (λ l. l ++ repeated_spelling ask count)
+    sym (append_assoc (written_by (opened ++ takes)) (request_encoding (request_of ask) [])
+    (repeated_encoding ask count))
+    ∙ ap (λ l. l ++ repeated_encoding ask count)
     (sym (written_more (opened ++ takes) one) ∙ ap written_by (append_assoc opened takes (one ∷ [])))
 
 -- One more receive has a reply.
 writes_so : (taken more : Option (List ℕ)) (opened takes : List Call) (ask : Ask) (answer : ReplyContent)
     (given : List ℕ) (waiting fewer : ℕ) → waiting ≡ fewer + 1
-    → Appends taken more (written_by (opened ++ takes) ++ repeated_spelling ask waiting)
+    → Appends taken more (written_by (opened ++ takes) ++ repeated_encoding ask waiting)
     → Appends taken more
-    (written_by (opened ++ (takes ++ call_of ask [] answer given ∷ [])) ++ repeated_spelling ask fewer)
+    (written_by (opened ++ (takes ++ call_of ask [] answer given ∷ [])) ++ repeated_encoding ask fewer)
 writes_so taken more opened takes ask answer given waiting fewer some wrote =
     let next : waiting ≡ suc fewer = omega (arith, some) in
     subst (Appends taken more)
-    (ap (λ (n : ℕ). written_by (opened ++ takes) ++ repeated_spelling ask n) next
+    (ap (λ (n : ℕ). written_by (opened ++ takes) ++ repeated_encoding ask n) next
     ∙ written_so opened takes ask answer given fewer) wrote
 
 reads_so : (left mid rest : Option (List ℕ)) (opened takes : List Call) (ask of : Ask) (answer : ReplyContent)
     (given : List ℕ) → of ≡ ask → Consumes left mid (read_by (opened ++ takes))
-    → Consumes mid rest (reply_spelling (reply_to of answer) given)
+    → Consumes mid rest (reply_encoding (reply_to of answer) given)
     → Consumes left rest (read_by (opened ++ (takes ++ call_of ask [] answer given ∷ [])))
 reads_so left mid rest opened takes ask of answer given is before read =
     subst (Consumes left rest) (sym (read_so opened takes (call_of ask [] answer given)))
     (Consumes-trans left mid rest _ _ before
-    (subst (λ (a : Ask). Consumes mid rest (reply_spelling (reply_to a answer) given)) is read))
+    (subst (λ (a : Ask). Consumes mid rest (reply_encoding (reply_to a answer) given)) is read))
 
 shows_so : (shown so after : Option (List ℕ)) (style : Style) (takes : List Call) (one : Call)
     → Appends shown so (shown_by style takes) → Appends so after (received_text style one.answer one.given)
@@ -305,7 +305,7 @@ shows_so shown so after style takes one before shows =
 pub takes_more : (receiving : Receiving) (answer : ReplyContent) (given : List ℕ)
     (left mid rest taken more shown so after : Option (List ℕ)) (taking : Taking) (owed fewer : ℕ)
     → Takes receiving left mid taken more shown so taking → taking.waiting ≡ fewer + 1 → taking.owed ≡ owed + 1
-    → Consumes mid rest (reply_spelling (reply_to taking.ask answer) given) → IsDone taking.ask answer given
+    → Consumes mid rest (reply_encoding (reply_to taking.ask answer) given) → IsDone taking.ask answer given
     → Appends so after (received_text (style_of_receipt receiving.receipt) answer given)
     → Takes receiving left rest taken more shown after
     (record { ask = taking.ask; owed = owed; waiting = fewer })
@@ -369,58 +369,58 @@ prefix_after taken mid more bytes others first (part, (rest, split), second) = (
 
 -- One more request was written.
 pub one_more_wrote : (ask : Ask) (text : List ℕ) (count : ℕ) (taken mid more : Option (List ℕ)) → text ≡ []
-    → Appends taken mid (repeated_spelling ask count)
-    → Appends mid more (request_spelling (request_of ask) text)
-    → Appends taken more (repeated_spelling ask (count + 1))
+    → Appends taken mid (repeated_encoding ask count)
+    → Appends mid more (request_encoding (request_of ask) text)
+    → Appends taken more (repeated_encoding ask (count + 1))
 one_more_wrote ask text count taken mid more none before wrote =
-    let frame = request_spelling (request_of ask) [] in
+    let frame = request_encoding (request_of ask) [] in
     subst (Appends taken more)
-    (ap (λ (l : List ℕ). repeated_spelling ask count ++ l) (sym (append-nil frame))
+    (ap (λ (l : List ℕ). repeated_encoding ask count ++ l) (sym (append-nil frame))
     ∙ sym (repeated_more ask count 1))
-    (Appends-trans taken mid more (repeated_spelling ask count) frame before
-    (subst (λ (l : List ℕ). Appends mid more (request_spelling (request_of ask) l)) none wrote))
+    (Appends-trans taken mid more (repeated_encoding ask count) frame before
+    (subst (λ (l : List ℕ). Appends mid more (request_encoding (request_of ask) l)) none wrote))
 
 -- The writer failed in one of the requests.
 pub wrote_part : (ask : Ask) (text : List ℕ) (count all : ℕ) (taken mid more : Option (List ℕ)) → text ≡ []
-    → count < all → Appends taken mid (repeated_spelling ask count)
-    → AppendsPrefix mid more (request_spelling (request_of ask) text)
-    → AppendsPrefix taken more (repeated_spelling ask all)
+    → count < all → Appends taken mid (repeated_encoding ask count)
+    → AppendsPrefix mid more (request_encoding (request_of ask) text)
+    → AppendsPrefix taken more (repeated_encoding ask all)
 wrote_part ask text count all taken mid more none within before wrote =
-    let frame = request_spelling (request_of ask) [] in
+    let frame = request_encoding (request_of ask) [] in
     let others = all - (count + 1) in
     let whole : all ≡ count + suc others = omega (arith, within) in
-    subst (AppendsPrefix taken more) (sym (ap (repeated_spelling ask) whole ∙ repeated_more ask count (suc others)))
-    (prefix_after taken mid more (repeated_spelling ask count) (frame ++ repeated_spelling ask others) before
-    (longer_prefix mid more frame (repeated_spelling ask others)
-    (subst (λ (l : List ℕ). AppendsPrefix mid more (request_spelling (request_of ask) l)) none wrote)))
+    subst (AppendsPrefix taken more) (sym (ap (repeated_encoding ask) whole ∙ repeated_more ask count (suc others)))
+    (prefix_after taken mid more (repeated_encoding ask count) (frame ++ repeated_encoding ask others) before
+    (longer_prefix mid more frame (repeated_encoding ask others)
+    (subst (λ (l : List ℕ). AppendsPrefix mid more (request_encoding (request_of ask) l)) none wrote)))
 
 -- All requests were written, and then flushed.
 pub wrote_all : (ask : Ask) (count all : ℕ) (taken mid more : Option (List ℕ)) → count ≡ all
-    → Appends taken mid (repeated_spelling ask count) → Appends mid more []
-    → Appends taken more (repeated_spelling ask all)
+    → Appends taken mid (repeated_encoding ask count) → Appends mid more []
+    → Appends taken more (repeated_encoding ask all)
 wrote_all ask count all taken mid more same before kept =
-    subst (λ (n : ℕ). Appends taken more (repeated_spelling ask n)) same
-    (subst (Appends taken more) (append-nil (repeated_spelling ask count))
-    (Appends-trans taken mid more (repeated_spelling ask count) [] before kept))
+    subst (λ (n : ℕ). Appends taken more (repeated_encoding ask n)) same
+    (subst (Appends taken more) (append-nil (repeated_encoding ask count))
+    (Appends-trans taken mid more (repeated_encoding ask count) [] before kept))
 
 -- What was written of the receives without a reply, behind the calls.
 pub record Parted (taken more : Option (List ℕ)) (calls : List ℕ) (ask : Ask) (waiting : ℕ) : Type 0 where
   pub written : Option (List ℕ)
   pub writes : Appends taken written calls
   pub left : ((waiting ≡ 0) × (more ≡ written))
-      ⊎ ((1 ≤ waiting) × AppendsPrefix written more (repeated_spelling ask waiting))
+      ⊎ ((1 ≤ waiting) × AppendsPrefix written more (repeated_encoding ask waiting))
 
 parts : (taken mid more : Option (List ℕ)) (calls : List ℕ) (ask : Ask) (waiting unwritten count : ℕ)
-    → count ≡ waiting + unwritten → Appends taken mid (calls ++ repeated_spelling ask waiting)
-    → AppendsPrefix mid more (repeated_spelling ask unwritten)
+    → count ≡ waiting + unwritten → Appends taken mid (calls ++ repeated_encoding ask waiting)
+    → AppendsPrefix mid more (repeated_encoding ask unwritten)
     → Parted taken more calls ask count
 parts taken mid more calls ask waiting unwritten zero is wrote breaks =
     let none : waiting ≡ 0 = omega (arith, is) in
     let all : unwritten ≡ 0 = omega (arith, is) in
     let front : Appends taken mid (calls ++ []) =
-    subst (λ (n : ℕ). Appends taken mid (calls ++ repeated_spelling ask n)) none wrote in
+    subst (λ (n : ℕ). Appends taken mid (calls ++ repeated_encoding ask n)) none wrote in
     let back : Appends mid more [] =
-    nothing_wrote mid more (subst (λ (n : ℕ). AppendsPrefix mid more (repeated_spelling ask n)) all breaks) in
+    nothing_wrote mid more (subst (λ (n : ℕ). AppendsPrefix mid more (repeated_encoding ask n)) all breaks) in
     record {
       written = more;
       writes = subst (Appends taken more) (append-nil calls)
@@ -429,15 +429,15 @@ parts taken mid more calls ask waiting unwritten zero is wrote breaks =
       left = inl (refl, refl);
     }
 parts taken mid more calls ask waiting unwritten (suc count) is wrote breaks =
-    let frames = repeated_spelling ask waiting in
+    let frames = repeated_encoding ask waiting in
     record {
       written = between taken calls;
       writes = between_first taken calls;
       left = inr (
         omega arith,
         subst (AppendsPrefix (between taken calls) more)
-            (sym (ap (repeated_spelling ask) is ∙ repeated_more ask waiting unwritten))
-            (prefix_after (between taken calls) mid more frames (repeated_spelling ask unwritten)
+            (sym (ap (repeated_encoding ask) is ∙ repeated_more ask waiting unwritten))
+            (prefix_after (between taken calls) mid more frames (repeated_encoding ask unwritten)
             (between_second taken mid calls frames wrote) breaks),
       );
     }
@@ -462,7 +462,7 @@ finishes receiving left rest taken more shown after taking done so_far none =
       owed = omega (arith, so_far.owes);
       reads = so_far.reads;
       writes = subst (Appends taken more) (append-nil (written_by calls))
-          (subst (λ (n : ℕ). Appends taken more (written_by calls ++ repeated_spelling ask n)) free so_far.writes);
+          (subst (λ (n : ℕ). Appends taken more (written_by calls ++ repeated_encoding ask n)) free so_far.writes);
       ends = record {
         found = so_far.found;
         done = all_done ask so_far.takes so_far.took;
@@ -498,7 +498,7 @@ loses receiving left mid rest taken more shown after so taking so_far some kept 
         found = so_far.found;
         by = (all_done ask so_far.takes so_far.took, some);
         ends = inr (inr (inl (
-          between_second taken more (written_by calls) (repeated_spelling ask taking.waiting) so_far.writes,
+          between_second taken more (written_by calls) (repeated_encoding ask taking.waiting) so_far.writes,
           subst (λ (a : Ask). HasNoReply a mid rest) so_far.ask none,
         )));
       });
@@ -510,7 +510,7 @@ loses receiving left mid rest taken more shown after so taking so_far some kept 
 pub stops_writing : (receiving : Receiving) (left rest taken more most shown after : Option (List ℕ)) (taking : Taking)
     (added : ℕ) → Takes receiving left rest taken more shown after taking → 0 < added
     → taking.waiting + added ≤ taking.owed → taking.waiting + added ≤ ahead_of receiving
-    → AppendsPrefix more most (repeated_spelling taking.ask added)
+    → AppendsPrefix more most (repeated_encoding taking.ask added)
     → Stops receiving NoReply left rest taken most shown after taking.ask taking.waiting
 stops_writing receiving left rest taken more most shown after taking added so_far some due few wrote =
     let ask = taking_ask receiving so_far.opened in
@@ -526,7 +526,7 @@ stops_writing receiving left rest taken more most shown after taking added so_fa
       meets = (all_done ask so_far.takes so_far.took, some);
       reads = so_far.reads;
       writes = so_far.writes;
-      breaks = subst (λ (a : Ask). AppendsPrefix more most (repeated_spelling a added)) so_far.ask wrote;
+      breaks = subst (λ (a : Ask). AppendsPrefix more most (repeated_encoding a added)) so_far.ask wrote;
       shows = so_far.shows;
       owed = omega (arith, so_far.owes, due);
       few = few;
@@ -536,7 +536,7 @@ stops_writing receiving left rest taken more most shown after taking added so_fa
 pub stops_at : (receiving : Receiving) (error : Errno) (left mid rest taken more shown after so : Option (List ℕ))
     (taking : Taking) (fewer : ℕ)
     → Takes receiving left mid taken more shown after taking → taking.waiting ≡ fewer + 1 → so ≡ after
-    → Consumes mid rest (reply_spelling (reply_to taking.ask (content.Refused error)) [])
+    → Consumes mid rest (reply_encoding (reply_to taking.ask (content.Refused error)) [])
     → Stops receiving (Refused error) left rest taken more shown so taking.ask fewer
 stops_at receiving error left mid rest taken more shown after so taking fewer so_far some kept read =
     let ask = taking_ask receiving so_far.opened in
@@ -576,7 +576,7 @@ stops_at receiving error left mid rest taken more shown after so taking fewer so
 pub unshown : (receiving : Receiving) (answer : ReplyContent) (given : List ℕ)
     (left mid rest taken more shown so after : Option (List ℕ)) (taking : Taking) (fewer : ℕ)
     → Takes receiving left mid taken more shown so taking → taking.waiting ≡ fewer + 1
-    → Consumes mid rest (reply_spelling (reply_to taking.ask answer) given) → IsDone taking.ask answer given
+    → Consumes mid rest (reply_encoding (reply_to taking.ask answer) given) → IsDone taking.ask answer given
     → AppendsPrefix so after (received_text (style_of_receipt receiving.receipt) answer given)
     → TakesAll receiving (Err Screen) left rest taken more shown after
 unshown receiving answer given left mid rest taken more shown so after taking fewer so_far some read done shows =
@@ -644,7 +644,7 @@ meets_more NoMemory ahead waiting fewer unwritten takes one some done meets = ab
 pub stops_more : (receiving : Receiving) (why : ClientFault) (answer : ReplyContent) (given : List ℕ)
     (left mid rest taken more shown so after : Option (List ℕ)) (ask : Ask) (waiting fewer : ℕ)
     → Stops receiving why left mid taken more shown so ask waiting → waiting ≡ fewer + 1
-    → Consumes mid rest (reply_spelling (reply_to ask answer) given) → IsDone ask answer given
+    → Consumes mid rest (reply_encoding (reply_to ask answer) given) → IsDone ask answer given
     → Appends so after (received_text (style_of_receipt receiving.receipt) answer given)
     → Stops receiving why left rest taken more shown after ask fewer
 stops_more receiving why answer given left mid rest taken more shown so after ask waiting fewer so_far some read done
@@ -693,7 +693,7 @@ meets_refusal NoMemory error ahead waiting fewer unwritten takes one some few is
 pub stops_again : (receiving : Receiving) (why : ClientFault) (error : Errno)
     (left mid rest taken more shown so after : Option (List ℕ)) (ask : Ask) (waiting fewer : ℕ)
     → Stops receiving why left mid taken more shown so ask waiting → waiting ≡ fewer + 1 → after ≡ so
-    → Consumes mid rest (reply_spelling (reply_to ask (content.Refused error)) [])
+    → Consumes mid rest (reply_encoding (reply_to ask (content.Refused error)) [])
     → Stops receiving (first_fault why error) left rest taken more shown after ask fewer
 stops_again receiving why error left mid rest taken more shown so after ask waiting fewer so_far some kept read =
     let of = taking_ask receiving so_far.opened in
@@ -747,7 +747,7 @@ stops_lost receiving why left mid rest taken more shown after so ask waiting so_
     let of = taking_ask receiving so_far.opened in
     let calls = so_far.opened ++ so_far.takes in
     let count = waiting + so_far.unwritten in
-    let frames = repeated_spelling of waiting in
+    let frames = repeated_encoding of waiting in
     let front = between_second taken so_far.written (written_by calls) frames so_far.writes in
     record {
       opened = so_far.opened;
@@ -770,19 +770,19 @@ stops_lost receiving why left mid rest taken more shown after so ask waiting so_
     }
   where
     ends_lost : (ask : Ask) (left rest taken mid more : Option (List ℕ)) (waiting unwritten : ℕ) → 0 < waiting
-        → Appends taken mid (repeated_spelling ask waiting)
-        → AppendsPrefix mid more (repeated_spelling ask unwritten) → HasNoReply ask left rest
+        → Appends taken mid (repeated_encoding ask waiting)
+        → AppendsPrefix mid more (repeated_encoding ask unwritten) → HasNoReply ask left rest
         → EndsTaking ask (waiting + unwritten) left rest taken more
     ends_lost ask left rest taken mid more waiting zero some front breaks none =
         let same : waiting ≡ waiting + 0 = omega arith in
-        let whole : Appends taken more (repeated_spelling ask waiting) =
-        subst (Appends taken more) (append-nil (repeated_spelling ask waiting))
-        (Appends-trans taken mid more (repeated_spelling ask waiting) [] front (nothing_wrote mid more breaks)) in
-        inr (inr (inl (subst (λ (n : ℕ). Appends taken more (repeated_spelling ask n)) same whole, none)))
+        let whole : Appends taken more (repeated_encoding ask waiting) =
+        subst (Appends taken more) (append-nil (repeated_encoding ask waiting))
+        (Appends-trans taken mid more (repeated_encoding ask waiting) [] front (nothing_wrote mid more breaks)) in
+        inr (inr (inl (subst (λ (n : ℕ). Appends taken more (repeated_encoding ask n)) same whole, none)))
     ends_lost ask left rest taken mid more waiting (suc unwritten) some front breaks none = inr (inr (inr (
       omega (arith, some),
       subst (AppendsPrefix taken more) (sym (repeated_more ask waiting (suc unwritten)))
-          (prefix_after taken mid more (repeated_spelling ask waiting) (repeated_spelling ask (suc unwritten)) front
+          (prefix_after taken mid more (repeated_encoding ask waiting) (repeated_encoding ask (suc unwritten)) front
           breaks),
       none,
     )))
@@ -817,7 +817,7 @@ stops_all receiving why left rest taken more shown after ask waiting so_far none
   where
     ends_all : (ask : Ask) (left taken more : Option (List ℕ)) (count : ℕ)
         → ((count ≡ 0) × (more ≡ taken))
-        ⊎ ((1 ≤ count) × AppendsPrefix taken more (repeated_spelling ask count))
+        ⊎ ((1 ≤ count) × AppendsPrefix taken more (repeated_encoding ask count))
         → EndsTaking ask count left left taken more
     ends_all ask left taken more count (inl (none, same)) = inl (none, refl, same)
     ends_all ask left taken more count (inr (some, wrote)) = inr (inl (wrote, refl))
@@ -835,7 +835,7 @@ earlier_so NoMemory ahead waiting fewer unwritten takes some meets = absurd meet
 pub stops_unshown : (receiving : Receiving) (why : ClientFault) (answer : ReplyContent) (given : List ℕ)
     (left mid rest taken more shown so after : Option (List ℕ)) (ask : Ask) (waiting fewer : ℕ)
     → Stops receiving why left mid taken more shown so ask waiting → waiting ≡ fewer + 1
-    → Consumes mid rest (reply_spelling (reply_to ask answer) given) → IsDone ask answer given
+    → Consumes mid rest (reply_encoding (reply_to ask answer) given) → IsDone ask answer given
     → AppendsPrefix so after (received_text (style_of_receipt receiving.receipt) answer given)
     → TakesAll receiving (Err Screen) left rest taken more shown after
 stops_unshown receiving why answer given left mid rest taken more shown so after ask waiting fewer so_far some read done

@@ -4,11 +4,11 @@ use Rattle.std.specs.Prelude.{◌≡◌, ⊤, ℕ, ℤ, pos, List, [], ◌∷◌
 use Rattle.std.specs.Io.KnownBytes.{Appends, Consumes}
 use Rattle.sysv_clients.specs.declared.fault.ClientFault.{ClientFault}
 use Rattle.sysv_clients.specs.Asks.{request_of}
-use Rattle.sysv_clients.specs.Talk.{Exchanges, IsDone, id_after, reply_to}
+use Rattle.sysv_clients.specs.Dialogue.{Exchanges, IsDone, id_after, reply_to}
 use Rattle.sysv_wire.specs.declared.reply.ReplyContent.{ReplyContent}
 use Rattle.sysv_wire.specs.declared.request.Ask.{Ask}
-use Rattle.sysv_wire.specs.Replies.{reply_spelling}
-use Rattle.sysv_wire.specs.Requests.{request_spelling}
+use Rattle.sysv_wire.specs.Replies.{reply_encoding}
+use Rattle.sysv_wire.specs.Requests.{request_encoding}
 
 -- A request with the body that it sends, and the result in its reply with the body.
 pub record Call : Type 0 where
@@ -19,11 +19,11 @@ pub record Call : Type 0 where
 
 -- The frames of the requests, in order.
 abbrev pub written_by : List Call → List ℕ
-written_by calls = flat_map (λ call. request_spelling (request_of call.ask) call.text) calls
+written_by calls = flat_map (λ call. request_encoding (request_of call.ask) call.text) calls
 
 -- The frames of the replies, in order.
 abbrev pub read_by : List Call → List ℕ
-read_by calls = flat_map (λ call. reply_spelling (reply_to call.ask call.answer) call.given) calls
+read_by calls = flat_map (λ call. reply_encoding (reply_to call.ask call.answer) call.given) calls
 
 -- The identifier that the msgget returned, 0 before it.
 abbrev pub id_in : List Call → ℤ
@@ -52,7 +52,7 @@ FollowsPlan Passes plan before (call ∷ more) =
 abbrev pub BreaksPlan : Plan → List Call → List ℕ → ClientFault → (left rest taken more : Option (List ℕ)) → Type 0
 BreaksPlan plan calls text why left rest taken more =
     (ask : Ask) × (plan calls ≡ Some ask)
-    × Exchanges (request_spelling (request_of ask) text) ask (Err why) left rest taken more []
+    × Exchanges (request_encoding (request_of ask) text) ask (Err why) left rest taken more []
 
 -- These calls of a plan were made. What was written is their requests, and what was read is their
 -- replies.

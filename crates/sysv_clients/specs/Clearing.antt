@@ -8,7 +8,7 @@ use Rattle.sysv_clients.specs.declared.fault.ClientFault.{ClientFault}
 use Rattle.sysv_clients.specs.declared.fault.ClientFault.TheVariants as fault
 use Rattle.sysv_clients.specs.Asks.{row_asks}
 use Rattle.sysv_clients.specs.Calls.{BreaksPlan, Call, IsCallDone, Made, Plan}
-use Rattle.sysv_clients.specs.Talk.{slots_after}
+use Rattle.sysv_clients.specs.Dialogue.{slots_after}
 use Rattle.sysv_model.specs.declared.cred.Cred.{Cred}
 use Rattle.sysv_model.specs.declared.errno.Errno.{Errno}
 use Rattle.sysv_model.specs.declared.errno.Errno.TheVariants as error

@@ -1,7 +1,7 @@
 -- The definitions of clients.
 pub mod Asks
 pub mod Style
-pub mod Talk
+pub mod Dialogue
 pub mod Rows
 pub mod Faults
 pub mod Table
@@ -10,7 +10,7 @@ pub mod Object
 pub mod Page
 pub mod Run
 pub mod Words
-pub mod Course
+pub mod Parse
 pub mod Blame
 pub mod Calls
 pub mod Stream

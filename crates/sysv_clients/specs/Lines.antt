@@ -65,21 +65,21 @@ Ends Nothing line = line ≡ []
 Ends Last line = line ≢ []
 Ends Line line = ⊥
 
--- What was read as the next line.
-abbrev pub Fetches : Result Fetched Unsent → (left rest : Option (List ℕ)) → List ℕ → Type 0
-Fetches (Ok Line) left rest text = IsText text × Consumes left rest (text ++ 10 ∷ [])
-Fetches (Ok Last) left rest text = IsText text × (text ≢ []) × Consumes left rest text × IsAtEnd rest
-Fetches (Ok Nothing) left rest text = (text ≡ []) × HasNone left rest
-Fetches (Err Long) left rest text = IsTooLong text left rest
-Fetches (Err (Input why)) left rest text = ⊤
-Fetches (Err Many) left rest text = ⊥
-Fetches (Err (Fault why)) left rest text = ⊥
-Fetches (Err (Cut cut)) left rest text = ⊥
+-- What was read as the next line, after this number of lines.
+abbrev pub Fetches : ℕ → Result Fetched Unsent → (left rest : Option (List ℕ)) → List ℕ → Type 0
+Fetches lines (Ok Line) left rest text = IsText text × Consumes left rest (text ++ 10 ∷ [])
+Fetches lines (Ok Last) left rest text = IsText text × (text ≢ []) × Consumes left rest text × IsAtEnd rest
+Fetches lines (Ok Nothing) left rest text = (text ≡ []) × HasNone left rest
+Fetches lines (Err (Long before)) left rest text = (before ≡ lines) × IsTooLong text left rest
+Fetches lines (Err (Input why)) left rest text = ⊤
+Fetches lines (Err Many) left rest text = ⊥
+Fetches lines (Err (Fault why)) left rest text = ⊥
+Fetches lines (Err (Cut cut)) left rest text = ⊥
 
 -- If the input could not be read, its last read failed, with an error of this kind.
 abbrev pub FailsBy : {T : Type 0} → Result T Unsent → Option ErrorKind → Type 0
 FailsBy (Err (Input why)) failure = failure ≡ Some (error_kind why)
-FailsBy (Err Long) failure = ⊤
+FailsBy (Err (Long before)) failure = ⊤
 FailsBy (Err Many) failure = ⊤
 FailsBy (Err (Fault why)) failure = ⊤
 FailsBy (Err (Cut cut)) failure = ⊤

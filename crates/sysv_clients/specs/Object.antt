@@ -9,7 +9,7 @@ use Rattle.base64.specs.GeneralPurpose.{encode_of}
 use Rattle.sysv_clients.specs.Table.{hex_byte}
 
 -- A byte in a JSON string: a backslash before `"` and before a backslash, and a control character by
--- its number. Any other byte stands for itself.
+-- its number. Any other byte represents itself.
 unfoldable pub json_byte : ℕ → List ℕ
 json_byte byte =
     if byte == 34 || byte == 92 then 92 ∷ byte ∷ []

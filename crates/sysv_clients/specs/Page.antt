@@ -13,7 +13,7 @@ use Rattle.sysv_clients.specs.Object.{object_line}
 use Rattle.sysv_clients.specs.Queue.{id_line, json_line, stat_lines}
 use Rattle.sysv_clients.specs.Style.{style_of}
 use Rattle.sysv_clients.specs.Table.{row_line, table_head}
-use Rattle.sysv_clients.specs.Talk.{Exchange}
+use Rattle.sysv_clients.specs.Dialogue.{Exchange}
 use Rattle.sysv_model.specs.declared.attributes.Row.{Row as RowOf}
 use Rattle.sysv_wire.specs.declared.reply.ReplyContent.{ReplyContent}
 use Rattle.sysv_wire.specs.declared.reply.ReplyContent.TheVariants.{Refused, Hello, HelloSlots, Get, Snd, Rcv, Stat}

@@ -14,14 +14,14 @@ use Rattle.sysv_clients.specs.Asks.{flags_to_create, flags_to_wait, request_of}
 use Rattle.sysv_clients.specs.Calls.{BreaksPlan, Call, Each, FollowsPlan, IsCallDone, Plan, id_in, read_by, written_by}
 use Rattle.sysv_clients.specs.Faults.{fault_line}
 use Rattle.sysv_clients.specs.Lines.{HasNone, IsNext, IsTooLong}
-use Rattle.sysv_clients.specs.Talk.{HasNoReply}
+use Rattle.sysv_clients.specs.Dialogue.{HasNoReply}
 use Rattle.sysv_model.specs.declared.errno.Errno.{Errno}
 use Rattle.sysv_model.specs.Writing.{AppendsPrefix}
 use Rattle.sysv_wire.specs.declared.reply.ReplyContent.{ReplyContent}
 use Rattle.sysv_wire.specs.declared.reply.ReplyContent.TheVariants as content
 use Rattle.sysv_wire.specs.declared.request.Ask.{Ask}
 use Rattle.sysv_wire.specs.declared.request.Ask.TheVariants.{Hello, Get, Snd}
-use Rattle.sysv_wire.specs.Requests.{request_spelling}
+use Rattle.sysv_wire.specs.Requests.{request_encoding}
 
 -- The request that finds the queue.
 abbrev pub find_to_send : Sending → Ask
@@ -52,7 +52,7 @@ bodies_of calls = map (λ call. call.text) calls
 
 -- The frames of this request with these bodies, in order.
 abbrev pub frames_of : Ask → List (List ℕ) → List ℕ
-frames_of ask texts = flat_map (λ text. request_spelling (request_of ask) text) texts
+frames_of ask texts = flat_map (λ text. request_encoding (request_of ask) text) texts
 
 -- The call was refused with this error.
 abbrev pub Refuses : Errno → Call → Type 0
@@ -153,8 +153,9 @@ abbrev pub EndsSends : Sending → Result ⊤ Unsent → (opened sends : List Ca
     (left rest taken more fed unfed : Option (List ℕ)) → Type 0
 EndsSends sending (Ok done) opened sends waiting left rest taken more fed unfed =
     AreDone sending opened sends waiting left rest taken more × HasNone fed unfed
-EndsSends sending (Err Long) opened sends waiting left rest taken more fed unfed =
-    AreDone sending opened sends waiting left rest taken more × (text : List ℕ) × IsTooLong text fed unfed
+EndsSends sending (Err (Long before)) opened sends waiting left rest taken more fed unfed =
+    AreDone sending opened sends waiting left rest taken more × (before ≡ length sends)
+    × (text : List ℕ) × IsTooLong text fed unfed
 EndsSends sending (Err Many) opened sends waiting left rest taken more fed unfed =
     AreDone sending opened sends waiting left rest taken more × (unfed ≡ fed) × (length sends ≡ 2 ^ 64 - 1)
 EndsSends sending (Err (Input why)) opened sends waiting left rest taken more fed unfed =
@@ -196,6 +197,6 @@ SendsAhead sending ended left rest taken more fed unfed =
 abbrev pub unsent_line : Unsent → List ℕ
 unsent_line (Fault why) = fault_line why
 unsent_line (Cut cut) = fault_line cut.fault
-unsent_line Long = codes "sysvmsg: EINVAL" ++ 10 ∷ []
+unsent_line (Long before) = codes "sysvmsg: EINVAL" ++ 10 ∷ []
 unsent_line Many = codes "sysvmsg: too many lines" ++ 10 ∷ []
 unsent_line (Input why) = codes "sysvmsg: cannot read" ++ 10 ∷ []

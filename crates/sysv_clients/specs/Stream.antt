@@ -17,14 +17,14 @@ use Rattle.sysv_clients.specs.Faults.{fault_line}
 use Rattle.sysv_clients.specs.Page.{message_text}
 use Rattle.sysv_clients.specs.Sending.{HasReply, Refuses}
 use Rattle.sysv_clients.specs.Style.{style_of_receipt}
-use Rattle.sysv_clients.specs.Talk.{HasNoReply}
+use Rattle.sysv_clients.specs.Dialogue.{HasNoReply}
 use Rattle.sysv_model.specs.declared.errno.Errno.{Errno}
 use Rattle.sysv_model.specs.Writing.{AppendsPrefix}
 use Rattle.sysv_wire.specs.declared.reply.ReplyContent.{ReplyContent}
 use Rattle.sysv_wire.specs.declared.reply.ReplyContent.TheVariants as content
 use Rattle.sysv_wire.specs.declared.request.Ask.{Ask}
 use Rattle.sysv_wire.specs.declared.request.Ask.TheVariants.{Hello}
-use Rattle.sysv_wire.specs.Requests.{request_spelling}
+use Rattle.sysv_wire.specs.Requests.{request_encoding}
 
 -- What is shown of a result: a message, and nothing of any other.
 abbrev pub received_text : Style → ReplyContent → List ℕ → List ℕ
@@ -62,9 +62,9 @@ abbrev pub ahead_of : Receiving → ℕ
 ahead_of receiving = if receiving.receipt.nowait then 1 else max (min receiving.ahead MAX_AHEAD) 1
 
 -- The frames of this number of requests, which send no body.
-abbrev pub repeated_spelling : Ask → ℕ → List ℕ
-repeated_spelling ask zero = []
-repeated_spelling ask (suc count) = request_spelling (request_of ask) [] ++ repeated_spelling ask count
+abbrev pub repeated_encoding : Ask → ℕ → List ℕ
+repeated_encoding ask zero = []
+repeated_encoding ask (suc count) = request_encoding (request_of ask) [] ++ repeated_encoding ask count
 
 -- The call is this request, sends no body and has a reply.
 abbrev pub IsReplied : Ask → Call → Type 0
@@ -94,9 +94,9 @@ AreTakenBy fault.NoMemory ahead waiting takes = ⊥
 abbrev pub EndsTaking : Ask → ℕ → (left rest taken more : Option (List ℕ)) → Type 0
 EndsTaking ask waiting left rest taken more =
     ((waiting ≡ 0) × (rest ≡ left) × (more ≡ taken))
-    ⊎ (AppendsPrefix taken more (repeated_spelling ask waiting) × (rest ≡ left))
-    ⊎ (Appends taken more (repeated_spelling ask waiting) × HasNoReply ask left rest)
-    ⊎ ((2 ≤ waiting) × AppendsPrefix taken more (repeated_spelling ask waiting) × HasNoReply ask left rest)
+    ⊎ (AppendsPrefix taken more (repeated_encoding ask waiting) × (rest ≡ left))
+    ⊎ (Appends taken more (repeated_encoding ask waiting) × HasNoReply ask left rest)
+    ⊎ ((2 ≤ waiting) × AppendsPrefix taken more (repeated_encoding ask waiting) × HasNoReply ask left rest)
 
 -- The queue was found, and a receive was refused or has no reply.
 pub record IsStopped (receiving : Receiving) (why : ClientFault) (opened takes : List Call) (waiting : ℕ)
@@ -135,7 +135,7 @@ pub record IsUnshown (receiving : Receiving) (opened takes : List Call) (waiting
   pub few : waiting < ahead_of receiving
   pub read : rest ≡ left
   pub wrote : ((waiting ≡ 0) × (more ≡ taken))
-      ⊎ ((1 ≤ waiting) × AppendsPrefix taken more (repeated_spelling (taking_ask receiving opened) waiting))
+      ⊎ ((1 ≤ waiting) × AppendsPrefix taken more (repeated_encoding (taking_ask receiving opened) waiting))
 
 -- Memory was refused before the first request.
 pub record IsUnfound (opened takes : List Call) (waiting : ℕ) (left rest taken more : Option (List ℕ)) : Type 0 where

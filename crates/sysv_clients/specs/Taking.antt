@@ -10,17 +10,17 @@ use Rattle.sysv_clients.specs.declared.stream.Took.{Took}
 use Rattle.sysv_clients.specs.declared.stream.Took.TheVariants.{Message, Refused, Lost, Unshown}
 use Rattle.sysv_clients.specs.declared.style.Style.{Style}
 use Rattle.sysv_clients.specs.Calls.{BreaksPlan, Call, Each, FollowsPlan, IsCallDone, Made, read_by, written_by}
-use Rattle.sysv_clients.specs.Stream.{IsReplied, ahead_of, count_of, finding_plan, received_text, repeated_spelling}
+use Rattle.sysv_clients.specs.Stream.{IsReplied, ahead_of, count_of, finding_plan, received_text, repeated_encoding}
 use Rattle.sysv_clients.specs.Stream.{IsRefusedIn, shown_by, taking_ask}
 use Rattle.sysv_clients.specs.Style.{style_of_receipt}
-use Rattle.sysv_clients.specs.Talk.{HasNoReply, IsDone, reply_to}
+use Rattle.sysv_clients.specs.Dialogue.{HasNoReply, IsDone, reply_to}
 use Rattle.sysv_model.specs.declared.errno.Errno.{Errno}
-use Rattle.sysv_model.specs.declared.watched.WriteFault.{WriteFault}
+use Rattle.sysv_model.specs.declared.instrumented.WriteFault.{WriteFault}
 use Rattle.sysv_model.specs.Writing.{AppendsPrefix}
 use Rattle.sysv_wire.specs.declared.reply.ReplyContent.{ReplyContent}
 use Rattle.sysv_wire.specs.declared.reply.ReplyContent.TheVariants as content
 use Rattle.sysv_wire.specs.declared.request.Ask.{Ask}
-use Rattle.sysv_wire.specs.Replies.{reply_spelling}
+use Rattle.sysv_wire.specs.Replies.{reply_encoding}
 
 -- The requests before the first receive were made, or one of them ends the session.
 abbrev pub Finds : Receiving → Result Taking ClientFault → (left rest taken more : Option (List ℕ)) → Type 0
@@ -48,7 +48,7 @@ pub record Takes (receiving : Receiving) (left rest taken more shown after : Opt
   pub took : Each (IsTaken (taking_ask receiving opened)) takes
   pub reads : Consumes left rest (read_by (opened ++ takes))
   pub writes : Appends taken more
-      (written_by (opened ++ takes) ++ repeated_spelling (taking_ask receiving opened) taking.waiting)
+      (written_by (opened ++ takes) ++ repeated_encoding (taking_ask receiving opened) taking.waiting)
   pub shows : Appends shown after (shown_by (style_of_receipt receiving.receipt) takes)
   pub owes : length takes + taking.owed ≡ count_of receiving
   pub due : taking.waiting ≤ taking.owed
@@ -59,22 +59,22 @@ abbrev pub RequestsMore : (owed ahead : ℕ) → Result ⊤ WriteFault → (wait
     (taken more : Option (List ℕ)) → Type 0
 RequestsMore owed ahead (Ok done) waiting now ask taken more =
     (added : ℕ) × (now ≡ waiting + added) × (0 < now) × (now ≤ owed) × (now ≤ ahead)
-    × Appends taken more (repeated_spelling ask added)
+    × Appends taken more (repeated_encoding ask added)
 RequestsMore owed ahead (Err fault) waiting now ask taken more =
     (now ≡ waiting) × (added : ℕ) × (0 < added) × (waiting + added ≤ owed) × (waiting + added ≤ ahead)
-    × AppendsPrefix taken more (repeated_spelling ask added)
+    × AppendsPrefix taken more (repeated_encoding ask added)
 
 -- What was read as the reply to this receive, and what was shown of it. If the screen failed, it is
 -- a message.
 abbrev pub TakesOne : Style → Ask → Took → (left rest shown after : Option (List ℕ)) → Type 0
 TakesOne style ask Message left rest shown after =
-    (answer : ReplyContent) × (given : List ℕ) × Consumes left rest (reply_spelling (reply_to ask answer) given)
+    (answer : ReplyContent) × (given : List ℕ) × Consumes left rest (reply_encoding (reply_to ask answer) given)
     × IsDone ask answer given × Appends shown after (received_text style answer given)
 TakesOne style ask (Refused error) left rest shown after =
-    Consumes left rest (reply_spelling (reply_to ask (content.Refused error)) []) × (after ≡ shown)
+    Consumes left rest (reply_encoding (reply_to ask (content.Refused error)) []) × (after ≡ shown)
 TakesOne style ask Lost left rest shown after = HasNoReply ask left rest × (after ≡ shown)
 TakesOne style ask Unshown left rest shown after =
-    (answer : ReplyContent) × (given : List ℕ) × Consumes left rest (reply_spelling (reply_to ask answer) given)
+    (answer : ReplyContent) × (given : List ℕ) × Consumes left rest (reply_encoding (reply_to ask answer) given)
     × IsDone ask answer given × AppendsPrefix shown after (received_text style answer given)
 
 -- The screen failed.
@@ -112,8 +112,8 @@ pub record Stops (receiving : Receiving) (why : ClientFault) (left rest taken mo
   pub meets : MeetsFault why (ahead_of receiving) waiting unwritten takes
   pub reads : Consumes left rest (read_by (opened ++ takes))
   pub writes : Appends taken written
-      (written_by (opened ++ takes) ++ repeated_spelling (taking_ask receiving opened) waiting)
-  pub breaks : AppendsPrefix written more (repeated_spelling (taking_ask receiving opened) unwritten)
+      (written_by (opened ++ takes) ++ repeated_encoding (taking_ask receiving opened) waiting)
+  pub breaks : AppendsPrefix written more (repeated_encoding (taking_ask receiving opened) unwritten)
   pub shows : Appends shown after (shown_by (style_of_receipt receiving.receipt) takes)
   pub owed : length takes + (waiting + unwritten) ≤ count_of receiving
   pub few : waiting + unwritten ≤ ahead_of receiving

@@ -15,17 +15,17 @@ use Rattle.sysv_clients.specs.declared.sending.Window.{Window}
 use Rattle.sysv_clients.specs.Calls.{BreaksPlan, Call, Each, FollowsPlan, IsCallDone, Made, id_in, read_by, written_by}
 use Rattle.sysv_clients.specs.Lines.{HasNone, IsTooLong}
 use Rattle.sysv_clients.specs.Sending.{AreLines, SendsAll, bodies_of, frames_of, opening_plan, send_ask, window_of}
-use Rattle.sysv_clients.specs.Talk.{HasNoReply, IsDone, reply_to}
+use Rattle.sysv_clients.specs.Dialogue.{HasNoReply, IsDone, reply_to}
 use Rattle.sysv_wire.specs.declared.reply.ReplyContent.{ReplyContent}
 use Rattle.sysv_wire.specs.declared.reply.ReplyContent.TheVariants as content
 use Rattle.sysv_wire.specs.declared.request.Ask.{Ask}
-use Rattle.sysv_wire.specs.Replies.{reply_spelling}
+use Rattle.sysv_wire.specs.Replies.{reply_encoding}
 
 -- A send ended the session.
 abbrev pub IsCut : Unsent → Type 0
 IsCut (Cut cut) = ⊤
 IsCut (Fault why) = ⊥
-IsCut Long = ⊥
+IsCut (Long before) = ⊥
 IsCut Many = ⊥
 IsCut (Input why) = ⊥
 
@@ -47,10 +47,10 @@ Opens sending (Err why) left rest taken more =
 -- What was read as the reply to this send.
 abbrev pub HearsSend : Ask → Heard → (left rest : Option (List ℕ)) → Type 0
 HearsSend ask Done left rest =
-    (answer : ReplyContent) × (given : List ℕ) × Consumes left rest (reply_spelling (reply_to ask answer) given)
+    (answer : ReplyContent) × (given : List ℕ) × Consumes left rest (reply_encoding (reply_to ask answer) given)
     × IsDone ask answer given
 HearsSend ask (Refused error) left rest =
-    Consumes left rest (reply_spelling (reply_to ask (content.Refused error)) [])
+    Consumes left rest (reply_encoding (reply_to ask (content.Refused error)) [])
 HearsSend ask Lost left rest = HasNoReply ask left rest
 
 -- The queue was found, and lines were sent. Those sends that have a reply were done.
@@ -88,7 +88,7 @@ Drains sending (Err why) keep left rest taken more fed unsent before after =
 -- How the lines of an input end after this number of them, apart from their sends.
 abbrev pub EndsLines : Result ⊤ Unsent → ℕ → (fed unfed : Option (List ℕ)) → Type 0
 EndsLines (Ok done) lines fed unfed = HasNone fed unfed
-EndsLines (Err Long) lines fed unfed = (text : List ℕ) × IsTooLong text fed unfed
+EndsLines (Err (Long before)) lines fed unfed = (before ≡ lines) × (text : List ℕ) × IsTooLong text fed unfed
 EndsLines (Err Many) lines fed unfed = (unfed ≡ fed) × (lines ≡ 2 ^ 64 - 1)
 EndsLines (Err (Input why)) lines fed unfed = ⊤
 EndsLines (Err (Fault why)) lines fed unfed = ⊥

@@ -3,7 +3,7 @@
 ghost use Rattle.std.specs.Prelude.{◌≡◌, ◌++◌, ◌<◌, [], None, IfOk, IfSome, OnOk};
 ghost use Rattle.sysv_clients.specs.Clearing.{ClearsAll, Tries, begun, clearing_ask, id_of_row, is_gone, moved, refusal_by};
 ghost use Rattle.sysv_clients.specs.declared.command.TheConstants.{MAX_ROWS};
-ghost use Rattle.sysv_model.specs.Watched.{stream_name, stream_of};
+ghost use Rattle.sysv_model.specs.Instrumented.{stream_name, stream_of};
 
 use crate::client::told_slots;
 use crate::command::row;
@@ -11,7 +11,7 @@ use crate::exchange::exchange;
 use crate::fault::ClientFault;
 use std::alloc::Global;
 use std::io::{Read, Write};
-use sysv_model::{Body, Cred, Errno, NoMemory, Watched};
+use sysv_model::{Body, Cred, Errno, Instrumented, NoMemory};
 use sysv_wire::{Ask, ReplyContent};
 
 /// A queue that the server refused to remove.
@@ -128,8 +128,8 @@ fn report(refusals: &mut Vec<Refusal>, id: i32, error: Errno) -> Result<(), NoMe
 /// refuses to remove are appended to `refusals`, unless they are gone.
 ///
 /// The client writes a hello, then a request for the row of each slot that the reply to the hello
-/// states, but of at most `MAX_ROWS`, and after each row with a queue the removal of that queue, all
-/// of version 2.
+/// states, but of at most `MAX_ROWS`, and after each row with a queue the removal of that queue,
+/// all of version 2.
 ///
 /// # Errors
 ///
@@ -148,21 +148,21 @@ pub fn remove_all<R: Read, W: Write>(
     ensures { ClearsAll cred result (R.remaining reader.old) (R.remaining reader.new)
         (W.contents writer.old) (W.contents writer.new) refusals.old.items refusals.new.items }
 {
-    remove_watched(
+    remove_instrumented(
         alloc,
         cred,
-        &mut Watched::new(reader),
-        &mut Watched::new(writer),
+        &mut Instrumented::new(reader),
+        &mut Instrumented::new(writer),
         refusals,
     )
 }
 
 /// Removes all queues like `remove_all`.
-fn remove_watched<R: Read, W: Write>(
+fn remove_instrumented<R: Read, W: Write>(
     alloc: Global,
     cred: Cred,
-    reader: &mut Watched<'_, R>,
-    writer: &mut Watched<'_, W>,
+    reader: &mut Instrumented<'_, R>,
+    writer: &mut Instrumented<'_, W>,
     refusals: &mut Vec<Refusal>,
 ) -> Result<(), ClientFault>
     ensures clears { ClearsAll cred result
@@ -202,8 +202,8 @@ impl Remover {
     fn remove_each<R: Read, W: Write>(
         &mut self,
         cred: Cred,
-        reader: &mut Watched<'_, R>,
-        writer: &mut Watched<'_, W>,
+        reader: &mut Instrumented<'_, R>,
+        writer: &mut Instrumented<'_, W>,
         refusals: &mut Vec<Refusal>,
     ) -> Result<(), ClientFault>
         requires { self.old.text ≡ [] }

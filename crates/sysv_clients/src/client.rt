@@ -2,13 +2,13 @@
 ghost use Rattle.std.specs.Prelude.{◌≡◌, ⊤, ℕ, pos, List, Result, Some, IfOk};
 ghost use Rattle.sysv_clients.specs.Asks.{text_of};
 ghost use Rattle.sysv_clients.specs.Blame.{Blames, RunsBlaming, streams_of};
-ghost use Rattle.sysv_clients.specs.Course.{Makes, ShowsCourse};
+ghost use Rattle.sysv_clients.specs.Parse.{Makes, ShowsParse};
 ghost use Rattle.sysv_clients.specs.Faults.{fault_line};
 ghost use Rattle.sysv_clients.specs.Page.{task_head};
-ghost use Rattle.sysv_clients.specs.Run.{HasShortText, Runs, Shows, TalksThrough};
-ghost use Rattle.sysv_clients.specs.Talk.{Exchange, id_after, on_way_most, slots_after};
+ghost use Rattle.sysv_clients.specs.Run.{HasShortText, Runs, Shows, ConversesThrough};
+ghost use Rattle.sysv_clients.specs.Dialogue.{Exchange, id_after, on_way_most, slots_after};
 ghost use Rattle.sysv_clients.specs.declared.command.TheConstants.{ROW_WINDOW};
-ghost use Rattle.sysv_model.specs.Watched.{failures_of, stream_name, stream_of};
+ghost use Rattle.sysv_model.specs.Instrumented.{failures_of, stream_name, stream_of};
 
 use crate::command::{Command, Format, MAX_ROWS, Task};
 use crate::exchange::{exchange, hear};
@@ -19,7 +19,7 @@ use crate::screen::show;
 use crate::style::Style;
 use std::alloc::Global;
 use std::io::{Read, Write};
-use sysv_model::{Body, NoMemory, Watched};
+use sysv_model::{Body, Instrumented, NoMemory};
 use sysv_wire::{Ask, ReplyContent, WriteFault, one_answer_to_replies, one_reply};
 
 /// Runs a command against a server, and shows the result on `screen`. Returns the exit status: 0 if
@@ -27,10 +27,10 @@ use sysv_wire::{Ask, ReplyContent, WriteFault, one_answer_to_replies, one_reply}
 ///
 /// The client writes a hello and the requests of the task, all of version 2. Each request is
 /// flushed before its reply is read. The first request that the server refuses, that cannot be
-/// written or that has no reply ends the talk. A reply of another operation or of another version
-/// counts as no reply. Earlier requests stay done. An `ipcs` requests a row for each slot that the
-/// reply to the hello states, but at most `MAX_ROWS` rows. It writes the requests for the next 256
-/// rows, flushes them together, and reads the replies before it writes more.
+/// written or that has no reply ends the dialogue. A reply of another operation or of another
+/// version counts as no reply. Earlier requests stay done. An `ipcs` requests a row for each slot
+/// that the reply to the hello states, but at most `MAX_ROWS` rows. It writes the requests for the
+/// next 256 rows, flushes them together, and reads the replies before it writes more.
 ///
 /// Then the screen is written and flushed: the table of an `ipcs`, the body and an LF of a `rcv`,
 /// and nothing for the other commands. After a fault only the line of the fault is written. If the
@@ -38,7 +38,7 @@ use sysv_wire::{Ask, ReplyContent, WriteFault, one_answer_to_replies, one_reply}
 ///
 /// Memory for two bodies, and for a message or the head of a table, is allocated first; if it is
 /// refused, nothing is written to the server or read. An `ipcs` allocates more for each row; if
-/// that is refused, the talk ends after the reply with that row.
+/// that is refused, the dialogue ends after the reply with that row.
 ///
 /// # Conditions
 ///
@@ -58,14 +58,14 @@ pub fn run_client<R: Read, W: Write, S: Write>(
     ensures only { (input : List ℕ) (exchanges : List Exchange) (ended : Result ⊤ ClientFault) →
         R.remaining reader.old ≡ Some input
         → Makes command.now input exchanges ended →
-        ShowsCourse command.now exchanges ended result (S.contents screen.old)
+        ShowsParse command.now exchanges ended result (S.contents screen.old)
         (S.contents screen.new) }
 {
-    run_client_watched(
+    run_client_instrumented(
         alloc,
         command,
-        &mut Watched::new(reader),
-        &mut Watched::new(writer),
+        &mut Instrumented::new(reader),
+        &mut Instrumented::new(writer),
         screen,
     )
 }
@@ -77,11 +77,11 @@ pub fn run_client<R: Read, W: Write, S: Write>(
 /// # Conditions
 ///
 /// - The body of a `snd` has at most 8,256 bytes.
-pub fn run_client_watched<R: Read, W: Write, S: Write>(
+pub fn run_client_instrumented<R: Read, W: Write, S: Write>(
     alloc: Global,
     command: &Command<'_>,
-    reader: &mut Watched<'_, R>,
-    writer: &mut Watched<'_, W>,
+    reader: &mut Instrumented<'_, R>,
+    writer: &mut Instrumented<'_, W>,
     screen: &mut S,
 ) -> i32
     requires { HasShortText command.now.task }
@@ -92,7 +92,7 @@ pub fn run_client_watched<R: Read, W: Write, S: Write>(
     ensures only { (input : List ℕ) (exchanges : List Exchange) (ended : Result ⊤ ClientFault) →
         R.remaining (stream_of reader.old) ≡ Some input
         → Makes command.now input exchanges ended →
-        ShowsCourse command.now exchanges ended result (S.contents screen.old)
+        ShowsParse command.now exchanges ended result (S.contents screen.old)
         (S.contents screen.new) }
     // The streams stay the same.
     ensures same_reader { stream_name reader.new ≡ stream_name reader.old }
@@ -100,16 +100,16 @@ pub fn run_client_watched<R: Read, W: Write, S: Write>(
 {
     one_answer_to_replies();
     one_reply();
-    talk_and_show(alloc, command, reader, writer, screen)
+    dialogue_and_show(alloc, command, reader, writer, screen)
 }
 
-/// Runs a command like `run_client_watched`. The contract states only what was read, written and
-/// shown.
-fn talk_and_show<R: Read, W: Write, S: Write>(
+/// Runs a command like `run_client_instrumented`. The contract states only what was read, written
+/// and shown.
+fn dialogue_and_show<R: Read, W: Write, S: Write>(
     alloc: Global,
     command: &Command<'_>,
-    reader: &mut Watched<'_, R>,
-    writer: &mut Watched<'_, W>,
+    reader: &mut Instrumented<'_, R>,
+    writer: &mut Instrumented<'_, W>,
     screen: &mut S,
 ) -> i32
     requires { HasShortText command.now.task }
@@ -120,7 +120,7 @@ fn talk_and_show<R: Read, W: Write, S: Write>(
     ensures same_writer { stream_name writer.new ≡ stream_name writer.old }
 {
     match Client::open(alloc, &command.task) {
-        Ok(mut client) => match client.talk(command, reader, writer) {
+        Ok(mut client) => match client.dialogue(command, reader, writer) {
             Ok(()) => show(screen, client.page.bytes(), 0),
             Err(fault) => show_fault(screen, fault),
         },
@@ -188,15 +188,15 @@ impl Client {
     }
 
     /// Makes all requests of the command, and collects what is to be shown.
-    fn talk<R: Read, W: Write>(
+    fn dialogue<R: Read, W: Write>(
         &mut self,
         command: &Command<'_>,
-        reader: &mut Watched<'_, R>,
-        writer: &mut Watched<'_, W>,
+        reader: &mut Instrumented<'_, R>,
+        writer: &mut Instrumented<'_, W>,
     ) -> Result<(), ClientFault>
         requires text { self.old.text ≡ text_of command.now.task }
         requires page { self.old.page ≡ task_head command.now.task }
-        ensures talks { TalksThrough command.now result self.new.page
+        ensures converses { ConversesThrough command.now result self.new.page
             (R.remaining (stream_of reader.old)) (R.remaining (stream_of reader.new))
             (W.contents (stream_of writer.old)) (W.contents (stream_of writer.new)) }
         ensures same_reader { stream_name reader.new ≡ stream_name reader.old }
@@ -215,12 +215,12 @@ impl Client {
     fn call<R: Read, W: Write>(
         &mut self,
         command: &Command<'_>,
-        reader: &mut Watched<'_, R>,
-        writer: &mut Watched<'_, W>,
+        reader: &mut Instrumented<'_, R>,
+        writer: &mut Instrumented<'_, W>,
     ) -> Result<(), ClientFault>
         requires text { self.old.text ≡ text_of command.now.task }
         requires page { self.old.page ≡ task_head command.now.task }
-        ensures talks { TalksThrough command.now result self.new.page
+        ensures converses { ConversesThrough command.now result self.new.page
             (R.remaining (stream_of reader.old)) (R.remaining (stream_of reader.new))
             (W.contents (stream_of writer.old)) (W.contents (stream_of writer.new)) }
         ensures same_reader { stream_name reader.new ≡ stream_name reader.old }
@@ -248,13 +248,13 @@ impl Client {
     fn list<R: Read, W: Write>(
         &mut self,
         command: &Command<'_>,
-        reader: &mut Watched<'_, R>,
-        writer: &mut Watched<'_, W>,
+        reader: &mut Instrumented<'_, R>,
+        writer: &mut Instrumented<'_, W>,
     ) -> Result<(), ClientFault>
         requires list { on_way_most command.now.task ≡ ROW_WINDOW }
         requires text { self.old.text ≡ text_of command.now.task }
         requires page { self.old.page ≡ task_head command.now.task }
-        ensures talks { TalksThrough command.now result self.new.page
+        ensures converses { ConversesThrough command.now result self.new.page
             (R.remaining (stream_of reader.old)) (R.remaining (stream_of reader.new))
             (W.contents (stream_of writer.old)) (W.contents (stream_of writer.new)) }
         ensures same_reader { stream_name reader.new ≡ stream_name reader.old }

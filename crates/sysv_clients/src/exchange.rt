@@ -3,14 +3,14 @@ ghost use Rattle.std.specs.Prelude.{◌≡◌, is_err, OnOk, OnErr};
 ghost use Rattle.std.specs.Io.KnownBytes.{Appends};
 ghost use Rattle.sysv_clients.specs.Asks.{request_of};
 ghost use Rattle.sysv_clients.specs.Blame.{ExchangedBy, HeardBy};
-ghost use Rattle.sysv_clients.specs.Talk.{Exchanges, Hears};
-ghost use Rattle.sysv_model.specs.Watched.{failures_of, stream_name, stream_of, KeepsStream};
+ghost use Rattle.sysv_clients.specs.Dialogue.{Exchanges, Hears};
+ghost use Rattle.sysv_model.specs.Instrumented.{failures_of, stream_name, stream_of, KeepsStream};
 ghost use Rattle.sysv_model.specs.Writing.{AppendsPrefix};
-ghost use Rattle.sysv_wire.specs.Requests.{request_spelling};
+ghost use Rattle.sysv_wire.specs.Requests.{request_encoding};
 
 use crate::fault::ClientFault;
 use std::io::{Read, Write};
-use sysv_model::{Body, Watched};
+use sysv_model::{Body, Instrumented};
 use sysv_wire::{Ask, ReplyContent, Request, Version, WriteFault, read_reply, write_request};
 
 /// The version in which clients write their requests.
@@ -19,13 +19,13 @@ const SPOKEN: Version = Version::Two;
 /// Writes a request, flushes it and reads its reply. Returns the result of the operation; the body
 /// of a message is then in `given`.
 pub(crate) fn exchange<R: Read, W: Write>(
-    reader: &mut Watched<'_, R>,
-    writer: &mut Watched<'_, W>,
+    reader: &mut Instrumented<'_, R>,
+    writer: &mut Instrumented<'_, W>,
     ask: Ask,
     text: &Body,
     given: &mut Body,
 ) -> Result<ReplyContent, ClientFault>
-    ensures exchanges { Exchanges (request_spelling (request_of ask) text.now) ask result
+    ensures exchanges { Exchanges (request_encoding (request_of ask) text.now) ask result
         (R.remaining (stream_of reader.old)) (R.remaining (stream_of reader.new))
         (W.contents (stream_of writer.old)) (W.contents (stream_of writer.new)) given.new }
     ensures same_reader { stream_name reader.new ≡ stream_name reader.old }
@@ -41,11 +41,11 @@ pub(crate) fn exchange<R: Read, W: Write>(
 }
 
 /// Writes a request and flushes it.
-fn send<W: Write>(writer: &mut Watched<'_, W>, ask: Ask, text: &Body) -> Result<(), WriteFault>
+fn send<W: Write>(writer: &mut Instrumented<'_, W>, ask: Ask, text: &Body) -> Result<(), WriteFault>
     ensures ok { OnOk result (Appends (W.contents (stream_of writer.old))
-        (W.contents (stream_of writer.new)) (request_spelling (request_of ask) text.now)) }
+        (W.contents (stream_of writer.new)) (request_encoding (request_of ask) text.now)) }
     ensures err { OnErr result (AppendsPrefix (W.contents (stream_of writer.old))
-        (W.contents (stream_of writer.new)) (request_spelling (request_of ask) text.now)) }
+        (W.contents (stream_of writer.new)) (request_encoding (request_of ask) text.now)) }
     ensures stream { KeepsStream writer.old writer.new (is_err result) }
 {
     put(writer, ask, text)?;
@@ -57,14 +57,14 @@ fn send<W: Write>(writer: &mut Watched<'_, W>, ask: Ask, text: &Body) -> Result<
 
 /// Writes a request, and flushes nothing.
 pub(crate) fn put<W: Write>(
-    writer: &mut Watched<'_, W>,
+    writer: &mut Instrumented<'_, W>,
     ask: Ask,
     text: &Body,
 ) -> Result<(), WriteFault>
     ensures ok { OnOk result (Appends (W.contents (stream_of writer.old))
-        (W.contents (stream_of writer.new)) (request_spelling (request_of ask) text.now)) }
+        (W.contents (stream_of writer.new)) (request_encoding (request_of ask) text.now)) }
     ensures err { OnErr result (AppendsPrefix (W.contents (stream_of writer.old))
-        (W.contents (stream_of writer.new)) (request_spelling (request_of ask) text.now)) }
+        (W.contents (stream_of writer.new)) (request_encoding (request_of ask) text.now)) }
     ensures stream { KeepsStream writer.old writer.new (is_err result) }
 {
     let request = Request {
@@ -76,7 +76,7 @@ pub(crate) fn put<W: Write>(
 
 /// Reads the reply to a request.
 pub(crate) fn hear<R: Read>(
-    reader: &mut Watched<'_, R>,
+    reader: &mut Instrumented<'_, R>,
     ask: Ask,
     given: &mut Body,
 ) -> Result<ReplyContent, ClientFault>

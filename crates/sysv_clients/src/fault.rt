@@ -1,4 +1,4 @@
-//! Why a client's talk with a server ends early.
+//! Why a client's dialogue with a server ends early.
 ghost use Rattle.std.specs.Prelude.{◌≡◌};
 ghost use Rattle.sysv_clients.specs.Faults.{fault_line};
 

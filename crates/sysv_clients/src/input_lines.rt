@@ -156,18 +156,20 @@ impl Chunk {
     }
 }
 
-/// Reads a line, without its LF. The input is read only if the chunk has no whole line.
+/// Reads a line, without its LF, after this number of lines. The input is read only if the chunk
+/// has no whole line.
 ///
 /// # Errors
 ///
-/// - `Long` if the line has more than `MESSAGE_BYTES` bytes.
+/// - `Long` if the line has more than `MESSAGE_BYTES` bytes. It states the number of lines before.
 /// - `Input` if a read fails, except that an interrupted read is made again.
 pub(crate) fn fetch<I: Read>(
     input: &mut Feed<'_, I>,
     chunk: &mut Chunk,
     line: &mut Body,
+    lines: u64,
 ) -> Result<Fetched, Unsent>
-    ensures fetches { Fetches result
+    ensures fetches { Fetches lines result
         (prepend_known chunk.old (I.remaining (feed_stream input.old)))
         (prepend_known chunk.new (I.remaining (feed_stream input.new))) line.new }
     ensures same { feed_name input.new ≡ feed_name input.old }
@@ -187,7 +189,7 @@ pub(crate) fn fetch<I: Read>(
             return Ok(Fetched::Line);
         }
     }
-    Err(Unsent::Long)
+    Err(Unsent::Long { before: lines })
 }
 
 /// Returns what was read of an input that is at its end: a last line, or nothing.

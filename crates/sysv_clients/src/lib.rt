@@ -1,5 +1,5 @@
-//! The clients of a server: `ipcs`, `ipcrm`, `ipcmk`, `snd` and `rcv`, over any reader and writer. `specs/`
-//! defines what each client requests, what ends it early and what it then shows.
+//! The clients of a server: `ipcs`, `ipcrm`, `ipcmk`, `snd` and `rcv`, over any reader and writer.
+//! `specs/` defines what each client requests, what ends it early and what it then shows.
 #![tactic(auto)]
 
 mod clearing;
@@ -21,11 +21,11 @@ mod style;
 mod words;
 
 pub use clearing::{Refusal, remove_all};
-pub use client::{run_client, run_client_watched};
+pub use client::{run_client, run_client_instrumented};
 pub use command::{Command, Form, Format, Making, Receipt, Target, Task};
 pub use fault::ClientFault;
 pub use feed::Feed;
 pub use laws::numerals_of_commands;
 pub use sending::{Cut, Sending, Unsent, send_feed, send_lines};
-pub use stream::{MAX_AHEAD, MAX_MESSAGES, Receiving, Stop, receive_all, receive_watched};
+pub use stream::{MAX_AHEAD, MAX_MESSAGES, Receiving, Stop, receive_all, receive_instrumented};
 pub use words::{id_of, key_of, type_of};

@@ -2,11 +2,11 @@
 ghost use Rattle.std.specs.Prelude.{OnOk, OnErr, is_err};
 ghost use Rattle.std.specs.Io.KnownBytes.{Appends};
 ghost use Rattle.sysv_clients.specs.Run.{Shows};
-ghost use Rattle.sysv_model.specs.Watched.{KeepsStream, stream_of};
+ghost use Rattle.sysv_model.specs.Instrumented.{KeepsStream, stream_of};
 ghost use Rattle.sysv_model.specs.Writing.{AppendsPrefix};
 
 use std::io::Write;
-use sysv_model::{Watched, WriteFault};
+use sysv_model::{Instrumented, WriteFault};
 
 /// Writes `text` to the screen and flushes it. Returns the status `due`, or 1 if the screen fails.
 pub(crate) fn show<S: Write>(screen: &mut S, text: &[u8], due: i32) -> i32
@@ -24,12 +24,12 @@ fn print<S: Write>(screen: &mut S, text: &[u8]) -> Result<(), WriteFault>
     ensures err { OnErr result (AppendsPrefix (S.contents screen.old)
         (S.contents screen.new) text.now) }
 {
-    print_watched(&mut Watched::new(screen), text)
+    print_instrumented(&mut Instrumented::new(screen), text)
 }
 
 /// Writes `text` and flushes it. It fails exactly if the screen does.
-pub(crate) fn print_watched<S: Write>(
-    screen: &mut Watched<'_, S>,
+pub(crate) fn print_instrumented<S: Write>(
+    screen: &mut Instrumented<'_, S>,
     text: &[u8],
 ) -> Result<(), WriteFault>
     ensures ok { OnOk result (Appends (S.contents (stream_of screen.old))

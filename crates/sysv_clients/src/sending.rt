@@ -9,7 +9,7 @@ ghost use Rattle.sysv_clients.specs.Feed.{failure_of, feed_name, feed_stream};
 ghost use Rattle.sysv_clients.specs.Lines.{FailsBy, IsNext};
 ghost use Rattle.sysv_clients.specs.Sending.{SendsAhead, SendsAll, unsent_line, find_to_send, send_ask, window_of};
 ghost use Rattle.sysv_clients.specs.Window.{Drains, EndsCut, EndsLines, IsCut, HearsSend, Opens, Sends, lost};
-ghost use Rattle.sysv_model.specs.Watched.{stream_name, stream_of};
+ghost use Rattle.sysv_model.specs.Instrumented.{stream_name, stream_of};
 
 use crate::client::found;
 use crate::command::{create_flags, wait_flags};
@@ -20,7 +20,7 @@ use crate::input_lines::{Chunk, fetch};
 use std::alloc::Global;
 use std::io;
 use std::io::{Read, Write};
-use sysv_model::{Body, Cred, Errno, NoMemory, Watched, WriteFault};
+use sysv_model::{Body, Cred, Errno, Instrumented, NoMemory, WriteFault};
 use sysv_wire::Ask;
 
 /// A `snd` of several messages, with the credentials for it.
@@ -61,7 +61,10 @@ pub enum Unsent {
     /// A send ends it.
     Cut(Cut),
     /// A line is longer than the body of a message may be.
-    Long,
+    Long {
+        /// The number of lines before it. All of them were accepted.
+        before: u64,
+    },
     /// 2^64 - 1 lines were sent, each with its LF, and no more are.
     Many,
     /// The input could not be read.
@@ -84,7 +87,7 @@ impl Unsent {
         match self {
             Unsent::Fault(fault) => fault.line(),
             Unsent::Cut(cut) => cut.fault.line(),
-            Unsent::Long => ClientFault::Refused(Errno::EINVAL).line(),
+            Unsent::Long { .. } => ClientFault::Refused(Errno::EINVAL).line(),
             Unsent::Many => "sysvmsg: too many lines\n",
             Unsent::Input(_) => "sysvmsg: cannot read\n",
         }
@@ -114,8 +117,8 @@ impl Sending {
     }
 }
 
-/// Sends each line of an input as a message, over one session and in order. A line is a body without
-/// its LF; the last line may lack one.
+/// Sends each line of an input as a message, over one session and in order. A line is a body
+/// without its LF; the last line may lack one.
 ///
 /// The client writes a hello, the request that finds the queue, and a send for each line, all of
 /// version 2. It sends lines that one read of the input returned in a window: at most 64 sends are
@@ -131,7 +134,7 @@ impl Sending {
 ///   read.
 /// - `Cut`: a send is refused, cannot be written or has no reply. It states how many later lines
 ///   were sent, and of how many lines that is unknown.
-/// - `Long`: the next line has more than 8,192 bytes.
+/// - `Long`: the next line has more than 8,192 bytes. It states how many lines were sent before.
 /// - `Many`: 2^64 - 1 lines were sent. Whether there are more is not looked at.
 /// - `Input`: a read of the input failed.
 pub fn send_lines<I: Read, R: Read, W: Write>(
@@ -168,22 +171,22 @@ pub fn send_feed<I: Read, R: Read, W: Write>(
     // The input stays the same.
     ensures same { feed_name input.new ≡ feed_name input.old }
 {
-    send_watched(
+    send_instrumented(
         alloc,
         sending,
         input,
-        &mut Watched::new(reader),
-        &mut Watched::new(writer),
+        &mut Instrumented::new(reader),
+        &mut Instrumented::new(writer),
     )
 }
 
 /// Sends lines like `send_feed`.
-fn send_watched<I: Read, R: Read, W: Write>(
+fn send_instrumented<I: Read, R: Read, W: Write>(
     alloc: Global,
     sending: &Sending,
     input: &mut Feed<'_, I>,
-    reader: &mut Watched<'_, R>,
-    writer: &mut Watched<'_, W>,
+    reader: &mut Instrumented<'_, R>,
+    writer: &mut Instrumented<'_, W>,
 ) -> Result<(), Unsent>
     ensures sends { SendsAhead sending.now result
         (R.remaining (stream_of reader.old)) (R.remaining (stream_of reader.new))
@@ -239,8 +242,8 @@ impl Sender {
         &mut self,
         sending: &Sending,
         input: &mut Feed<'_, I>,
-        reader: &mut Watched<'_, R>,
-        writer: &mut Watched<'_, W>,
+        reader: &mut Instrumented<'_, R>,
+        writer: &mut Instrumented<'_, W>,
     ) -> Result<(), Unsent>
         requires text { self.old.text ≡ [] }
         requires chunk { self.old.chunk ≡ [] }
@@ -256,7 +259,7 @@ impl Sender {
         let mut window = self.find(sending, reader, writer)?;
         let mut lines = 0;
         while lines < u64::MAX {
-            let fetched = match fetch(input, &mut self.chunk, &mut self.text) {
+            let fetched = match fetch(input, &mut self.chunk, &mut self.text, lines) {
                 Ok(fetched) => fetched,
                 Err(why) => return self.finish(reader, writer, &mut window, Err(why)),
             };
@@ -278,8 +281,8 @@ impl Sender {
     fn find<R: Read, W: Write>(
         &mut self,
         sending: &Sending,
-        reader: &mut Watched<'_, R>,
-        writer: &mut Watched<'_, W>,
+        reader: &mut Instrumented<'_, R>,
+        writer: &mut Instrumented<'_, W>,
     ) -> Result<Window, ClientFault>
         requires { self.old.text ≡ [] }
         ensures opens { Opens sending.now result
@@ -303,7 +306,7 @@ impl Sender {
     /// Writes the send of a line, and flushes nothing.
     fn send<W: Write>(
         &mut self,
-        writer: &mut Watched<'_, W>,
+        writer: &mut Instrumented<'_, W>,
         window: &mut Window,
     ) -> Result<(), Unsent>
         requires { window.old.waiting < WINDOW }
@@ -331,8 +334,8 @@ impl Sender {
     /// no more have none already, it does nothing.
     fn drain<R: Read, W: Write>(
         &mut self,
-        reader: &mut Watched<'_, R>,
-        writer: &mut Watched<'_, W>,
+        reader: &mut Instrumented<'_, R>,
+        writer: &mut Instrumented<'_, W>,
         window: &mut Window,
         keep: u32,
     ) -> Result<(), Unsent>
@@ -362,7 +365,7 @@ impl Sender {
     /// Reads replies until no more than `keep` of the sends have none.
     fn hear_until<R: Read>(
         &mut self,
-        reader: &mut Watched<'_, R>,
+        reader: &mut Instrumented<'_, R>,
         window: &mut Window,
         keep: u32,
     ) -> Result<(), Unsent>
@@ -394,7 +397,7 @@ impl Sender {
     }
 
     /// Reads the reply to a send.
-    fn hear_send<R: Read>(&mut self, reader: &mut Watched<'_, R>, ask: Ask) -> Heard
+    fn hear_send<R: Read>(&mut self, reader: &mut Instrumented<'_, R>, ask: Ask) -> Heard
         ensures hears { HearsSend ask result (R.remaining (stream_of reader.old))
             (R.remaining (stream_of reader.new)) }
         ensures chunk { self.new.chunk ≡ self.old.chunk }
@@ -412,7 +415,7 @@ impl Sender {
     /// session ended.
     fn refused<R: Read>(
         &mut self,
-        reader: &mut Watched<'_, R>,
+        reader: &mut Instrumented<'_, R>,
         window: &Window,
         error: Errno,
     ) -> Cut
@@ -446,8 +449,8 @@ impl Sender {
     /// Reads the replies that are left, and ends the session like the lines of the input.
     fn finish<R: Read, W: Write>(
         &mut self,
-        reader: &mut Watched<'_, R>,
-        writer: &mut Watched<'_, W>,
+        reader: &mut Instrumented<'_, R>,
+        writer: &mut Instrumented<'_, W>,
         window: &mut Window,
         ended: Result<(), Unsent>,
     ) -> Result<(), Unsent>

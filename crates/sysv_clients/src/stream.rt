@@ -3,10 +3,10 @@
 ghost use Rattle.std.specs.Prelude.{◌≡◌, ◌<◌, ◌≤◌, ℕ, List, Option, [], length, is_err, Err, IfOk, OnOk, OnErr};
 ghost use Rattle.std.specs.Io.KnownBytes.{Appends};
 ghost use Rattle.sysv_clients.specs.declared.stream.Receiving.{Receiving as AReceiving};
-ghost use Rattle.sysv_clients.specs.Stream.{TakesAll, ahead_of, count_of, is_of_screen, received_text, repeated_spelling, stop_line};
+ghost use Rattle.sysv_clients.specs.Stream.{TakesAll, ahead_of, count_of, is_of_screen, received_text, repeated_encoding, stop_line};
 ghost use Rattle.sysv_clients.specs.Style.{style_of_receipt};
 ghost use Rattle.sysv_clients.specs.Taking.{Finds, RequestsMore, Stops, TakesOne, first_fault, is_unshown};
-ghost use Rattle.sysv_model.specs.Watched.{KeepsStream, stream_name, stream_of};
+ghost use Rattle.sysv_model.specs.Instrumented.{KeepsStream, stream_name, stream_of};
 ghost use Rattle.sysv_model.specs.Writing.{AppendsPrefix};
 ghost use Rattle.sysv_model.specs.declared.limits.TheConstants.{MESSAGE_BYTES};
 
@@ -15,11 +15,11 @@ use crate::command::Receipt;
 use crate::exchange::{exchange, hear, put};
 use crate::fault::ClientFault;
 use crate::page::Page;
-use crate::screen::print_watched;
+use crate::screen::print_instrumented;
 use crate::style::Style;
 use std::alloc::Global;
 use std::io::{Read, Write};
-use sysv_model::{Body, Cred, Errno, NoMemory, Watched, WriteFault};
+use sysv_model::{Body, Cred, Errno, Instrumented, NoMemory, WriteFault};
 use sysv_wire::{Ask, ReplyContent};
 
 /// The maximum number of messages that one session receives.
@@ -113,10 +113,10 @@ impl From<WriteFault> for Stop {
 /// # Errors
 ///
 /// - `Fault`: a request that the server refuses, that cannot be written or that has no reply ends
-///   the session. Nothing more is requested then. The replies to the receives on their way are read,
-///   unless one of them is missing, and their messages are shown. The fault is that of the first
-///   receive without a message. Or memory was refused; it is allocated first, so nothing was written
-///   to the server or read.
+///   the session. Nothing more is requested then. The replies to the receives on their way are
+///   read, unless one of them is missing, and their messages are shown. The fault is that of the
+///   first receive without a message. Or memory was refused; it is allocated first, so nothing was
+///   written to the server or read.
 /// - `Screen`: the screen failed, and nothing more was requested or read. It has taken a prefix of
 ///   the messages so far.
 pub fn receive_all<R: Read, W: Write, S: Write>(
@@ -130,27 +130,27 @@ pub fn receive_all<R: Read, W: Write, S: Write>(
         (W.contents writer.old) (W.contents writer.new)
         (S.contents screen.old) (S.contents screen.new) }
 {
-    receive_watched(
+    receive_instrumented(
         alloc,
         receiving,
-        &mut Watched::new(reader),
-        &mut Watched::new(writer),
-        &mut Watched::new(screen),
+        &mut Instrumented::new(reader),
+        &mut Instrumented::new(writer),
+        &mut Instrumented::new(screen),
     )
 }
 
-/// Receives messages like `receive_all`. The result is `Screen` exactly if the screen failed, and it
-/// failed at most once.
+/// Receives messages like `receive_all`. The result is `Screen` exactly if the screen failed, and
+/// it failed at most once.
 ///
 /// # Errors
 ///
 /// Those of `receive_all`.
-pub fn receive_watched<R: Read, W: Write, S: Write>(
+pub fn receive_instrumented<R: Read, W: Write, S: Write>(
     alloc: Global,
     receiving: &Receiving,
-    reader: &mut Watched<'_, R>,
-    writer: &mut Watched<'_, W>,
-    screen: &mut Watched<'_, S>,
+    reader: &mut Instrumented<'_, R>,
+    writer: &mut Instrumented<'_, W>,
+    screen: &mut Instrumented<'_, S>,
 ) -> Result<(), Stop>
     ensures takes { TakesAll receiving.now result
         (R.remaining (stream_of reader.old)) (R.remaining (stream_of reader.new))
@@ -218,9 +218,9 @@ impl Taker {
     fn take_all<R: Read, W: Write, S: Write>(
         &mut self,
         receiving: &Receiving,
-        reader: &mut Watched<'_, R>,
-        writer: &mut Watched<'_, W>,
-        screen: &mut Watched<'_, S>,
+        reader: &mut Instrumented<'_, R>,
+        writer: &mut Instrumented<'_, W>,
+        screen: &mut Instrumented<'_, S>,
     ) -> Result<(), Stop>
         requires { self.old.text ≡ [] }
         ensures takes { TakesAll receiving.now result
@@ -262,8 +262,8 @@ impl Taker {
     fn find<R: Read, W: Write>(
         &mut self,
         receiving: &Receiving,
-        reader: &mut Watched<'_, R>,
-        writer: &mut Watched<'_, W>,
+        reader: &mut Instrumented<'_, R>,
+        writer: &mut Instrumented<'_, W>,
     ) -> Result<Taking, ClientFault>
         requires { self.old.text ≡ [] }
         ensures finds { Finds receiving.now result
@@ -290,7 +290,7 @@ impl Taker {
     fn request<W: Write>(
         &self,
         receiving: &Receiving,
-        writer: &mut Watched<'_, W>,
+        writer: &mut Instrumented<'_, W>,
         taking: &mut Taking,
     ) -> Result<(), WriteFault>
         requires text { self.now.text ≡ [] }
@@ -319,8 +319,8 @@ impl Taker {
         &mut self,
         style: &Style,
         ask: Ask,
-        reader: &mut Watched<'_, R>,
-        screen: &mut Watched<'_, S>,
+        reader: &mut Instrumented<'_, R>,
+        screen: &mut Instrumented<'_, S>,
     ) -> Took
         ensures takes { TakesOne style.now ask result
             (R.remaining (stream_of reader.old)) (R.remaining (stream_of reader.new))
@@ -345,8 +345,8 @@ impl Taker {
     fn finish<R: Read, S: Write>(
         &mut self,
         style: &Style,
-        reader: &mut Watched<'_, R>,
-        screen: &mut Watched<'_, S>,
+        reader: &mut Instrumented<'_, R>,
+        screen: &mut Instrumented<'_, S>,
         taking: &Taking,
         fault: ClientFault,
     ) -> Stop
@@ -378,7 +378,7 @@ impl Taker {
         &mut self,
         style: &Style,
         answer: &ReplyContent,
-        screen: &mut Watched<'_, S>,
+        screen: &mut Instrumented<'_, S>,
     ) -> Result<(), WriteFault>
         requires { length self.old.given ≤ MESSAGE_BYTES }
         ensures text { self.new.text ≡ self.old.text }
@@ -394,15 +394,16 @@ impl Taker {
             ReplyContent::Rcv { mtype } => {
                 self.page.clear();
                 self.page.message(style, *mtype, &mut self.given);
-                print_watched(screen, self.page.bytes())
+                print_instrumented(screen, self.page.bytes())
             }
             _ => Ok(()),
         }
     }
 }
 
-/// Returns the fault of the first of two receives without a message: of one that met this fault, and
-/// of one that was refused with this error. A receive that the writer did not take is the later one.
+/// Returns the fault of the first of two receives without a message: of one that met this fault,
+/// and of one that was refused with this error. A receive that the writer did not take is the later
+/// one.
 fn first_of(fault: ClientFault, error: Errno) -> ClientFault
     ensures { result ≡ first_fault fault error }
 {
@@ -414,16 +415,16 @@ fn first_of(fault: ClientFault, error: Errno) -> ClientFault
 
 /// Writes this number of receives, and then flushes them.
 fn request_more<W: Write>(
-    writer: &mut Watched<'_, W>,
+    writer: &mut Instrumented<'_, W>,
     ask: Ask,
     text: &Body,
     count: u32,
 ) -> Result<(), WriteFault>
     requires { text.now ≡ [] }
     ensures ok { OnOk result (Appends (W.contents (stream_of writer.old))
-        (W.contents (stream_of writer.new)) (repeated_spelling ask count)) }
+        (W.contents (stream_of writer.new)) (repeated_encoding ask count)) }
     ensures err { OnErr result (AppendsPrefix (W.contents (stream_of writer.old))
-        (W.contents (stream_of writer.new)) (repeated_spelling ask count)) }
+        (W.contents (stream_of writer.new)) (repeated_encoding ask count)) }
     ensures same_writer { stream_name writer.new ≡ stream_name writer.old }
 {
     let mut written = 0;

@@ -9,9 +9,9 @@ use Rattle.sysv_pool.specs.State.{State as Pool, free_after}
 use Rattle.sysv_queue.specs.Slot.{Slot}
 use Rattle.sysv_queue.specs.Blocks.{blocks_of}
 use Rattle.sysv_objects.specs.Objects.{blocks_in}
-use Rattle.sysv_core.specs.World.{World, Opening, Doing, Response, Happening, opening}
+use Rattle.sysv_core.specs.World.{World, Opening, Doing, Response, Transition, opening}
 use Rattle.sysv_core.specs.Kept.{blocks_at, blocks_held}
-use Rattle.sysv_core.specs.Seen.{Seen, state_in, IsSeenAs, StandsFor}
+use Rattle.sysv_core.specs.Seen.{Seen, state_in, IsSeenAs, Represents}
 use Rattle.sysv_core.specs.Conserved.{blocks_waiting, blocks_in_call, blocks_in_calls}
 use Rattle.sysv_core.proofs.BlocksConserved.{waiting_at, is_sum}
 use Rattle.sysv_core.proofs.WorldsObey.{leads_opened}
@@ -64,10 +64,10 @@ module _ (w : World) (seen : Seen) (s : IsSeenAs w seen) where
 
 -- The sum of these blocks is the size of the pool with which the world was opened, if all of them
 -- can be put back.
-pub all_free : (o : Opening) (list : List Happening) (responses : List Response) (seen : Seen) (blocks : ℕ) →
+pub all_free : (o : Opening) (list : List Transition) (responses : List Response) (seen : Seen) (blocks : ℕ) →
     (seen.objects.pool.free + (blocks_in seen.objects.slots + blocks_held seen.states) ≤ seen.objects.pool.size →
     blocks ≡ seen.objects.pool.free + (blocks_in seen.objects.slots + blocks_held seen.states)) →
-    StandsFor o list responses seen → blocks ≡ o.blocks
+    Represents o list responses seen → blocks ≡ o.blocks
 all_free o list responses seen blocks put s =
     let all = all_there s.world seen s.sight in
     put (omega (arith, all, s.sight.blocks)) ∙ (all ∙ (leads_opened (opening o) s.world list responses s.led).1)

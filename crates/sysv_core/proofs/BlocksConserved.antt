@@ -6,7 +6,7 @@ use Rattle.std.proofs.Common.{replicate, unsigned_abs}
 use Rattle.std.specs.List.{All, Contains, sum_by, range_with_len}
 use Rattle.std.proofs.Math.Dec.{eqb}
 use Rattle.std.proofs.Math.Nat.{mod-lt}
-use Rattle.std.proofs.lemmas.Bool.{eqb-true}
+use Rattle.std.proofs.lemmas.Bool.{eqb-true, cases_eq}
 use Rattle.std.proofs.lemmas.List.{append-nil}
 use Rattle.std.proofs.lemmas.List.Elements.{All-push}
 use Rattle.std.proofs.lemmas.List.Sums.{sum_by-cons}
@@ -41,7 +41,7 @@ use Rattle.sysv_core.specs.World.{Invocation, Doing, doing_in, preset_who, prese
 use Rattle.sysv_core.specs.World.{preset_settle, with_preset_turns}
 use Rattle.sysv_core.specs.Conserved.{blocks_waiting, blocks_in_call, blocks_in_calls, AreConserved}
 use Rattle.sysv_lists.proofs.Orders.{at_most}
-use Rattle.sysv_core.proofs.Lists.{same_place, sum_set}
+use Rattle.sysv_core.proofs.Lists.{sum_set}
 use Rattle.sysv_core.proofs.Histories.{turn_of, slot_more, pool_more, pool_stays, slot_stays, begun_turns}
 use Rattle.sysv_core.proofs.Histories.{installed_turns, preset_slot, preset_pool, returned_more, reserved_more}
 use Rattle.sysv_core.proofs.TurnInHistory.{slot_around}
@@ -64,7 +64,7 @@ same_sum f g from (suc n) same =
 one_changed : (f g : ℕ → ℕ) (from n k : ℕ) → from ≤ k → k < from + n → ((i : ℕ) → k ≢ i → f i ≡ g i) →
     sum_by f (range_with_len from n) + g k ≡ sum_by g (range_with_len from n) + f k
 one_changed f g from zero k low high same = absurd (omega (arith, low, high))
-one_changed f g from (suc n) k low high same = elim (same_place from k) [
+one_changed f g from (suc n) k low high same = elim (cases_eq from k) [
   | inl here ↦
       subst (λ j. sum_by f (range_with_len from (suc n)) + g j ≡ sum_by g (range_with_len from (suc n)) + f j) here
       (omega (

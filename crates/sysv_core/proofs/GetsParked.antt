@@ -6,6 +6,8 @@ use Rattle.std.specs.List.{list_any}
 use Rattle.std.proofs.lemmas.Grind.{flat_map-append}
 use Rattle.std.proofs.lemmas.List.{append-nil}
 use Rattle.std.proofs.lemmas.List.Sums.{sum_by-cons, sum_by-append}
+use Rattle.std.proofs.Math.Bool.{or-false}
+use Rattle.std.proofs.lemmas.Bool.{or_left}
 use Rattle.sysv_model.specs.History.{Who, Probe, Gone, Entry, History}
 use Rattle.sysv_model.specs.Live.{live, HasId, IsLive}
 use Rattle.sysv_model.specs.Registry.{RegistryCall, RegistryReply, RegistryEntry, RegistryHistory, Begin, Settle}
@@ -26,9 +28,9 @@ use Rattle.sysv_core.specs.Removed.{AreRemovedForGood}
 use Rattle.sysv_core.specs.Tending.{AreTended}
 use Rattle.sysv_core.proofs.Histories.{turn_of, live_more, one}
 use Rattle.sysv_core.proofs.TurnInHistory.{Made, made_at, slot_around, registry_around}
-use Rattle.sysv_core.proofs.Life.{any_more, or_no, or_left, passing, lived}
-use Rattle.sysv_core.proofs.LifeGoesOn.{EachObeys}
-use Rattle.sysv_core.proofs.LifeLaws.{SettledOnceInstalled}
+use Rattle.sysv_core.proofs.Lifetime.{any_more, passing, lived}
+use Rattle.sysv_core.proofs.LifetimeGoesOn.{EachObeys}
+use Rattle.sysv_core.proofs.LifetimeLaws.{SettledOnceInstalled}
 
 -- ---- rows stay while the settled count does
 
@@ -47,10 +49,10 @@ row_still h e row quiet is = record {
       ∙ or_left (is_made row.id row.key h) (makes row.id row.key e.call e.reply) is.made;
   kept = any_more (λ (x : RegistryEntry). forgets row.id x.call x.reply) h e
       ∙ (ap (λ b. is_forgotten row.id h || b) (no_forget row.id e.call e.reply quiet)
-      ∙ (or_no (is_forgotten row.id h) ∙ is.kept));
+      ∙ (or-false (is_forgotten row.id h) ∙ is.kept));
   stage = any_more (λ (x : RegistryEntry). settles row.id x.call x.reply) h e
       ∙ (ap (λ b. is_settled row.id h || b) (no_settle row.id e.call e.reply quiet)
-      ∙ (or_no (is_settled row.id h) ∙ is.stage));
+      ∙ (or-false (is_settled row.id h) ∙ is.stage));
 }
 
 count_around : (h more : RegistryHistory) (e : RegistryEntry) →

@@ -1,6 +1,6 @@
 -- The history of each object after one more turn.
-use Rattle.std.proofs.Common.{◌≡◌, ℕ, ◌+◌, Bool, true, false, cond, List, [], ◌∷◌, ◌++◌, Option, None, refl, ap, ◌∙◌}
-use Rattle.std.proofs.Common.{arith}
+use Rattle.std.proofs.Common.{◌≡◌, ℕ, ◌+◌, Bool, true, false, cond, List, [], ◌∷◌, ◌++◌, Option, None, refl, sym, ap}
+use Rattle.std.proofs.Common.{subst, ◌∙◌, arith}
 use Rattle.std.proofs.Math.Dec.{eqb}
 use Rattle.std.proofs.lemmas.Grind.{flat_map-append}
 use Rattle.std.proofs.lemmas.List.{append-nil}
@@ -46,6 +46,17 @@ pub slot_stays : (slot : ℕ) (turns : List Turn) (who : Who) (op : Op) → slot
     slot_history slot (turns ++ turn_of who op ∷ []) ≡ slot_history slot turns
 slot_stays slot turns who op none = slot_more slot turns (turn_of who op)
     ∙ (ap (λ es. slot_history slot turns ++ es) none ∙ append-nil (slot_history slot turns))
+
+-- What holds of the pool's history, and of that with any entry more, holds after a turn.
+pub pool_on : (P : PoolHistory → Type 0) (turns : List Turn) (who : Who) (op : Op) → P (pool_history turns) →
+    ((e : PoolEntry) → P (pool_history turns ++ e ∷ [])) → P (pool_history (turns ++ turn_of who op ∷ []))
+pool_on P turns who (AtSlot slot call reply) old more =
+    subst P (sym (pool_stays turns who (AtSlot slot call reply) refl)) old
+pool_on P turns who (AtRegistry call reply) old more =
+    subst P (sym (pool_stays turns who (AtRegistry call reply) refl)) old
+pool_on P turns who (AtPool call reply) old more =
+    subst P (sym (pool_more turns (turn_of who (AtPool call reply))))
+    (more (record { who = who; call = call; reply = reply }))
 
 -- ---- the live queue of a slot
 

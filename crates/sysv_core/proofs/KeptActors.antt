@@ -2,7 +2,7 @@
 use Rattle.std.proofs.Common.{◌≡◌, ℕ, ◌+◌, ◌<◌, ◌≤◌, Bool, true, false, cond, List, Option, None, Some, refl, sym, ap}
 use Rattle.std.proofs.Common.{subst, ◌∙◌, arith, length, slice_get, slice_set, option_map, is_some}
 use Rattle.std.specs.List.{slice_index_or}
-use Rattle.std.proofs.lemmas.List.{length-map}
+use Rattle.std.proofs.lemmas.List.{length-map, map-set, set-set}
 use Rattle.std.proofs.lemmas.Option.{slice_get-map, slice_get_read}
 use Rattle.sysv_objects.specs.Objects.{Objects, CountsUpTo, raises_by, raises}
 use Rattle.sysv_model.specs.History.{Call, Install}
@@ -18,7 +18,7 @@ use Rattle.sysv_core.specs.Kept.{state_kept, states_kept, doing_led, kept_led, c
 use Rattle.sysv_core.specs.Tallying.{is_got, messages_given}
 use Rattle.sysv_core.specs.Led.{StepLeads}
 use Rattle.sysv_core.specs.Seen.{Seen}
-use Rattle.sysv_core.proofs.Lists.{map-slice_set, slice_set-same, slice_set-twice, get_set_same}
+use Rattle.sysv_core.proofs.Lists.{slice_set-same, get_set_same}
 
 pub kept_some : (x : Option Doing) → is_some x ≡ true → (p : State) × (state_kept x ≡ Some p)
 kept_some None e = absurd cc
@@ -41,12 +41,12 @@ module _ (items : List (Option Doing)) (states : List (Option State)) (view : st
 
   pub seen_set : (x : Option Doing) (p : Option State) → state_kept x ≡ p →
       states_kept (slice_set items place x) ≡ slice_set states place p
-  seen_set x p e = map-slice_set state_kept items place x
+  seen_set x p e = map-set state_kept items place x
       ∙ (ap (λ ps. slice_set ps place (state_kept x)) view ∙ ap (slice_set states place) e)
 
   pub seen_taken : (x y : Option Doing) (p : Option State) → state_kept y ≡ p →
       states_kept (slice_set (slice_set items place x) place y) ≡ slice_set states place p
-  seen_taken x y p e = ap states_kept (slice_set-twice items place x y) ∙ seen_set y p e
+  seen_taken x y p e = ap states_kept (set-set items place x y) ∙ seen_set y p e
 
   pub seen_same : (x : Option Doing) (p : Option State) → state_kept x ≡ p → slice_get states place ≡ Some p →
       states_kept (slice_set items place x) ≡ states

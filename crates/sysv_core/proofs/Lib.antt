@@ -8,9 +8,9 @@ pub mod PartsOfOneCall
 pub mod TurnInHistory
 pub mod Told
 pub mod Moves
-pub mod Life
-pub mod LifeGoesOn
-pub mod LifeLaws
+pub mod Lifetime
+pub mod LifetimeGoesOn
+pub mod LifetimeLaws
 pub mod ToldAfterRemoval
 pub mod GetsParked
 pub mod WaitsForBlocks

@@ -1,4 +1,4 @@
--- What a happening makes of a world, in five cases: nothing, the start of a call, a turn, the end
+-- What a transition makes of a world, in five cases: nothing, the start of a call, a turn, the end
 -- of a wait, or the three turns of a preset.
 use Rattle.std.proofs.Common.{◌≡◌, ◌≤◌, inl, inr, ℕ, zero, suc, List, [], None, Some, refl, Option, slice_get}
 use Rattle.sysv_model.specs.declared.cred.Cred.{Cred}
@@ -7,7 +7,7 @@ use Rattle.sysv_keys.specs.Rows.{IsUnused}
 use Rattle.sysv_steps.specs.Call.{SystemCall}
 use Rattle.sysv_steps.specs.State.{Phase, Wait, State, Goes, Waits, Over}
 use Rattle.sysv_steps.specs.Resume.{awaited, goal_of, resume}
-use Rattle.sysv_core.specs.World.{World, Invocation, Doing, Response, Happening, Preset, Start, Step, StaysWith}
+use Rattle.sysv_core.specs.World.{World, Invocation, Doing, Response, Transition, Preset, Start, Step, StaysWith}
 use Rattle.sysv_core.specs.World.{starting}
 use Rattle.sysv_core.specs.World.{Begins, Turns, value_of, in_state, Continues, StartsAt, StepsAt, with_preset, Makes}
 
@@ -48,7 +48,7 @@ steps_move w after responses place now (Some None) there t = stood t
 steps_move w after responses place now (Some (Some d)) there t =
     continues_move w after responses place now d.call d.state there t
 
-pub moves : (w after : World) (x : Happening) (responses : List Response) → Makes w x responses after →
+pub moves : (w after : World) (x : Transition) (responses : List Response) → Makes w x responses after →
     Move w responses after
 moves w after Preset responses (gave, (made, inl p)) = preset_made p.0 gave p.2
 moves w after Preset responses (gave, (made, inr p)) = stood (gave, p.2)

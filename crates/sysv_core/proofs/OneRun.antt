@@ -11,14 +11,14 @@ use Rattle.sysv_core.specs.declared.event.Answer.{Answer}
 use Rattle.sysv_steps.specs.declared.outcome.Outcome.{Outcome}
 use Rattle.sysv_core.specs.declared.event.Stepped.{Stepped}
 use Rattle.sysv_core.specs.declared.event.Stepped.TheVariants as stepped
-use Rattle.sysv_core.specs.World.{World, Invocation, Doing, Response, Happening, Preset, Start, Step, actor_at}
+use Rattle.sysv_core.specs.World.{World, Invocation, Doing, Response, Transition, Preset, Start, Step, actor_at}
 use Rattle.sysv_core.specs.World.{response_in}
 use Rattle.sysv_core.specs.World.{in_state, with_turn, Turns, Looks, Continues, StartsAt, StepsAt, Presets, Makes}
 use Rattle.sysv_core.specs.Run.{Leads}
 use Rattle.sysv_core.specs.Answered.{TellsEnding}
 use Rattle.sysv_core.specs.Kinds.{kind_of, gives_back}
 use Rattle.sysv_core.specs.Sound.{IsToCaller, IsSound, StaysSound}
-use Rattle.sysv_core.specs.Seen.{Tells, Gives, happening_of}
+use Rattle.sysv_core.specs.Seen.{Tells, Gives, transition_of}
 use Rattle.sysv_model.specs.History.{Who, Actor, Seat}
 use Rattle.sysv_core.specs.OneRun.{OneStep, OnePreset, OneRun}
 
@@ -79,7 +79,7 @@ module _ (one : NoTwoOpsAreLegal) (stays : StaysSound) where
   steps_at_once w actor now (Some (Some doing)) r s a b ok h k =
       continues_once w actor now doing.call doing.state r s a b ok h k
 
-  makes_once : (w : World) (x : Happening) (r s : List Response) (a b : World) → IsSound w → Makes w x r a →
+  makes_once : (w : World) (x : Transition) (r s : List Response) (a b : World) → IsSound w → Makes w x r a →
       Makes w x s b → Same r s a b
   makes_once w Preset r s a b ok h k = (h.0 ∙ sym k.0, (presets_once w h.1.0 k.1.0 a b h.1.1 k.1.1).1)
   makes_once w (Start actor cred asked) r s a b ok (inl h) (inl k) = both_are r s [] a b w h.1 k.1
@@ -93,7 +93,7 @@ module _ (one : NoTwoOpsAreLegal) (stays : StaysSound) where
   makes_once w (Step actor now) r s a b ok (inr h) (inr k) =
       steps_at_once w actor now (actor_at w.actors actor) r s a b ok h.1 k.1
 
-  leads_once : (list : List Happening) (w after other : World) (responses told : List Response) → IsSound w →
+  leads_once : (list : List Transition) (w after other : World) (responses told : List Response) → IsSound w →
       Leads w list responses after → Leads w list told other → (responses ≡ told) × (after ≡ other)
   leads_once [] w after other responses told ok h k = both_are responses told [] after other w h k
   leads_once (x ∷ list) w after other responses told ok h k =
@@ -144,7 +144,7 @@ gives_once w responses (stepped.Answer a) (stepped.Answer b) h k =
 
 pub one_step : NoTwoOpsAreLegal → StaysSound → OneStep
 one_step one stays = λ w after other event result responses ok h k.
-    let same = makes_once one stays w (happening_of event) h.0 k.0 after other ok h.1 k.1 in
+    let same = makes_once one stays w (transition_of event) h.0 k.0 after other ok h.1 k.1 in
     (gives_once w h.0 result responses h.2 (subst (λ gs. Gives w gs responses) (sym same.0) k.2), same.1)
 
 pub one_preset : OnePreset

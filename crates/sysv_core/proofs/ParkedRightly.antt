@@ -31,10 +31,10 @@ use Rattle.sysv_core.specs.Parked.{HasNothingToTake, HasNoRoom, HasTooFewBlocks,
 use Rattle.sysv_core.specs.Parked.{AreParkedRightly}
 use Rattle.sysv_core.specs.Removed.{AreRemovedForGood}
 use Rattle.sysv_core.specs.Tending.{AreTended}
-use Rattle.sysv_core.proofs.LifeLaws.{SettledOnceInstalled}
+use Rattle.sysv_core.proofs.LifetimeLaws.{SettledOnceInstalled}
 use Rattle.sysv_core.proofs.WaitsForBlocks.{AreShort}
 use Rattle.sysv_core.proofs.SendIsWoken.{AreToBeWoken}
-use Rattle.sysv_core.proofs.LifeGoesOn.{EachObeys}
+use Rattle.sysv_core.proofs.LifetimeGoesOn.{EachObeys}
 use Rattle.sysv_core.proofs.GetsParked.{being_changed}
 use Rattle.sysv_core.proofs.TurnInHistory.{made_at, slot_around}
 

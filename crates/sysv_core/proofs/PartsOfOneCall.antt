@@ -5,21 +5,20 @@ use Rattle.std.proofs.Common.{◌++◌, Option, None, Some, refl, sym, ap, subst
 use Rattle.std.specs.List.{filter}
 use Rattle.std.proofs.lemmas.List.{append-nil, map-append}
 use Rattle.std.proofs.lemmas.List.Elements.{filter-append}
-use Rattle.std.proofs.lemmas.Bool.{eqb-true}
+use Rattle.std.proofs.lemmas.Bool.{eqb-true, and_parts, cases_eq}
 use Rattle.std.proofs.lemmas.Bool.Decides.{nat_tests}
 use Rattle.sysv_model.specs.History.{Who, Actor, Seat}
 use Rattle.sysv_model.specs.Turn.{Turn, is_same, ops_of}
 use Rattle.sysv_steps.specs.State.{State, Goes, Waits, Over}
 use Rattle.sysv_core.specs.World.{Invocation, Doing, Response, doing_in, response_in}
 use Rattle.sysv_core.specs.AnswerLaw.{endings_of, stands_in, standing_of, ended, standing}
-use Rattle.sysv_core.proofs.Life.{both_true}
-use Rattle.sysv_core.proofs.Lists.{get_set_same, get_set_other, same_place}
+use Rattle.sysv_core.proofs.Lists.{get_set_same, get_set_other}
 
 -- ---- names
 
 pub same_who : (c d : Who) → is_same c d ≡ true → c ≡ d
 same_who (Actor a s) (Actor b t) e =
-    let both = both_true (a == b) (s == t) e in
+    let both = and_parts (a == b) (s == t) e in
     let actors : a ≡ b = eqb-true a b both.0 in
     let starts : s ≡ t = eqb-true s t both.1 in
     ap (λ n. Actor n s) actors ∙ ap (Actor b) starts
@@ -41,22 +40,20 @@ not_same c d f = told_apart c d (is_same c d) refl f
 
 -- ---- turns
 
-ops_more : (who : Who) (turns : List Turn) (t : Turn) →
-    ops_of who (turns ++ t ∷ [])
-    ≡ ops_of who turns ++ map (λ (x : Turn). x.op) (cond (is_same who t.who) (t ∷ []) [])
-ops_more who turns t =
-    ap (map (λ (x : Turn). x.op)) (filter-append (λ (x : Turn). is_same who x.who) turns (t ∷ []))
-    ∙ map-append (λ (x : Turn). x.op) (filter (λ (x : Turn). is_same who x.who) turns)
-    (cond (is_same who t.who) (t ∷ []) [])
+pub ops_both : (who : Who) (xs ys : List Turn) → ops_of who (xs ++ ys) ≡ ops_of who xs ++ ops_of who ys
+ops_both who xs ys =
+    ap (map (λ (x : Turn). x.op)) (filter-append (λ (x : Turn). is_same who x.who) xs ys)
+    ∙ map-append (λ (x : Turn). x.op) (filter (λ (x : Turn). is_same who x.who) xs)
+    (filter (λ (x : Turn). is_same who x.who) ys)
 
 pub own_op : (who : Who) (turns : List Turn) (t : Turn) → is_same who t.who ≡ true →
     ops_of who (turns ++ t ∷ []) ≡ ops_of who turns ++ t.op ∷ []
 own_op who turns t e =
-    ops_more who turns t ∙ ap (λ b. ops_of who turns ++ map (λ (x : Turn). x.op) (cond b (t ∷ []) [])) e
+    ops_both who turns (t ∷ []) ∙ ap (λ b. ops_of who turns ++ map (λ (x : Turn). x.op) (cond b (t ∷ []) [])) e
 
 pub other_op : (who : Who) (turns : List Turn) (t : Turn) → is_same who t.who ≡ false →
     ops_of who (turns ++ t ∷ []) ≡ ops_of who turns
-other_op who turns t e = ops_more who turns t
+other_op who turns t e = ops_both who turns (t ∷ [])
     ∙ (ap (λ b. ops_of who turns ++ map (λ (x : Turn). x.op) (cond b (t ∷ []) [])) e
     ∙ append-nil (ops_of who turns))
 
@@ -135,7 +132,7 @@ elsewhere : (actors : List (Option Doing)) (place : ℕ) (was : Option Doing) (c
     is_same (Actor (suc p) s) call.who ≡ false →
     slice_get actors place ≡ Some was → IsIn call.who was →
     standing_of (Actor (suc p) s) (slice_set actors place (doing_in call state)) ≡ standing_of (Actor (suc p) s) actors
-elsewhere actors place was call state p s apart there i = elim (same_place place p) [
+elsewhere actors place was call state p s apart there i = elim (cases_eq place p) [
   | inl same ↦
       subst (λ n.
       stands_in (Actor (suc p) s) (slice_get (slice_set actors place (doing_in call state)) n)

@@ -20,7 +20,7 @@ use Rattle.sysv_keys.specs.Replies.{begun_reply}
 use Rattle.sysv_keys.specs.declared.registry.Begun.{Begun}
 use Rattle.sysv_keys.specs.declared.registry.Begun.TheVariants as begun
 use Rattle.sysv_objects.specs.Objects.{Objects, CountsUpTo}
-use Rattle.sysv_objects.specs.StandsFor.{StandsFor, MakesTurn}
+use Rattle.sysv_objects.specs.Represents.{Represents, MakesTurn}
 use Rattle.sysv_core.specs.World.{preset_who, preset_cred, preset_flags, preset_begin, preset_install, preset_settle}
 use Rattle.sysv_core.specs.Preset.{PresetMade}
 use Rattle.sysv_core.proofs.Histories.{turn_of}
@@ -52,7 +52,7 @@ no_zero bound o up =
     (λ number slot here. let u = up.0 number slot here in (omega (arith, u.0), omega (arith, u.1)), omega (arith, up.1))
 
 module _ (one : NoTwoRepliesAreLegal) (unused : UnusedSlots) (generation : ℕ) (turns : List Turn) (old : Objects)
-    (st : StandsFor generation turns old) (u : IsUnused generation (registry_history turns) 0) where
+    (st : Represents generation turns old) (u : IsUnused generation (registry_history turns) 0) where
   begins_zero : (flags : Flags) (reply : RegistryReply) (new : Objects) → flags ≡ preset_flags →
       MakesTurn old (AtRegistry (Begin IPC_PRIVATE flags) reply) new → reply ≡ Made (pos 0)
   begins_zero flags reply new e turn =
@@ -79,7 +79,7 @@ module _ (one : NoTwoRepliesAreLegal) (unused : UnusedSlots) (generation : ℕ) 
         subst (λ f. MakesTurn old (AtRegistry (Begin IPC_PRIVATE f) (Made (pos 0))) first) (these_flags flags bits)
         (subst (λ i. MakesTurn old (AtRegistry (Begin IPC_PRIVATE flags) (Made i)) first) is_zero begins)
 
-    stands_1 : StandsFor generation (turns ++ turn_of preset_who preset_begin ∷ []) first
+    stands_1 : Represents generation (turns ++ turn_of preset_who preset_begin ∷ []) first
     stands_1 = begins_so.stands generation turns preset_who st
 
     installs_so : MakesTurn first
@@ -113,7 +113,7 @@ module _ (one : NoTwoRepliesAreLegal) (unused : UnusedSlots) (generation : ℕ) 
         MakesTurn first (AtSlot 0 (Install (pos 0) IPC_PRIVATE preset_cred preset_flags.0 0) (Installed b)) second)
         installed_is installs_so
 
-    stands_2 : StandsFor generation
+    stands_2 : Represents generation
         ((turns ++ turn_of preset_who preset_begin ∷ []) ++ turn_of preset_who preset_install ∷ []) second
     stands_2 = installs_true.stands generation _ preset_who stands_1
 

@@ -1,4 +1,4 @@
--- A list that leads to a world is extended by one more happening.
+-- A list that leads to a world is extended by one more transition.
 use Rattle.std.proofs.Common.{◌≡◌, ◌≤◌, ◌⊎◌, inl, ℕ, ◌+◌, cond, zero-add, Bool, List, [], ◌∷◌, ◌++◌, refl, sym, ap}
 use Rattle.std.proofs.Common.{subst, ◌∙◌, append_assoc, map}
 use Rattle.std.proofs.lemmas.List.{append-nil, map-append}
@@ -9,13 +9,13 @@ use Rattle.sysv_core.specs.declared.event.Event.TheVariants.{Start, Step}
 use Rattle.sysv_core.specs.declared.event.Answer.{Answer}
 use Rattle.sysv_core.specs.declared.event.Stepped.{Stepped}
 use Rattle.sysv_core.specs.declared.event.Stepped.TheVariants as stepped
-use Rattle.sysv_core.specs.World.{World, Opening, Response, Happening, Preset, opening, Makes}
+use Rattle.sysv_core.specs.World.{World, Opening, Response, Transition, Preset, opening, Makes}
 use Rattle.sysv_core.specs.Run.{Leads}
-use Rattle.sysv_core.specs.Seen.{Seen, StandsFor, happening_of, Tells, TellAll, Gives, PresetsSeen, StepsSeen}
+use Rattle.sysv_core.specs.Seen.{Seen, Represents, transition_of, Tells, TellAll, Gives, PresetsSeen, StepsSeen}
 use Rattle.sysv_core.specs.Tallying.{is_got, messages_given, messages_in}
 use Rattle.sysv_core.specs.Headline.{StandsWithEvent, RunsOn, LawsHold, EveryRunObeys}
 
-pub leads_more : (w : World) (xs : List Happening) (x : Happening) (responses more : List Response)
+pub leads_more : (w : World) (xs : List Transition) (x : Transition) (responses more : List Response)
     (mid after : World) →
     Leads w xs responses mid → Makes mid x more after → Leads w (xs ++ x ∷ []) (responses ++ more) after
 leads_more w [] x responses more mid after l g =
@@ -26,8 +26,8 @@ leads_more w (y ∷ xs) x responses more mid after l g =
     let rest = leads_more l.0 xs x l.2 more mid after l.4 g in
     (l.0, l.1, l.2 ++ more, l.3, rest, ap (λ gs. gs ++ more) l.5 ∙ append_assoc l.1 l.2 more)
 
-pub stands_preset : (o : Opening) (es : List Happening) (responses : List Response) (old new : Seen) (made : Bool) →
-    StandsFor o es responses old → PresetsSeen old made new → StandsFor o (es ++ Preset ∷ []) responses new
+pub stands_preset : (o : Opening) (es : List Transition) (responses : List Response) (old new : Seen) (made : Bool) →
+    Represents o es responses old → PresetsSeen old made new → Represents o (es ++ Preset ∷ []) responses new
 stands_preset o es responses old new made s goes =
     let g = goes s.world s.sight in
     record {
@@ -45,13 +45,13 @@ stands_step old new event result goes = λ o es responses s.
       g.1.2,
       record {
         world = g.0;
-        led = leads_more (opening o) es (happening_of event) responses g.1.0 s.world g.0 s.led g.1.1;
+        led = leads_more (opening o) es (transition_of event) responses g.1.0 s.world g.0 s.led g.1.1;
         sight = g.2;
       },
     )
 
 -- An event that finds the world worn out.
-worn_makes : (w : World) (event : Event) → WORN ≤ w.steps → Makes w (happening_of event) [] w
+pub worn_makes : (w : World) (event : Event) → WORN ≤ w.steps → Makes w (transition_of event) [] w
 worn_makes w (Start actor cred call) worn = inl (worn, (refl, refl))
 worn_makes w (Step actor now) worn = inl (worn, (refl, refl))
 
@@ -68,17 +68,18 @@ messages_more answers a =
     sum_by-append one answers (a ∷ []) ∙ ap (λ n. messages_in answers + n) (zero-add _)
 
 -- From one list for which a world stood to that list and the events since then, with their answers.
-pub record UnderWay (start now : Seen) (done : List Event) (answers : List Answer) : Type 0 where
-  pub goes : (o : Opening) (es : List Happening) (responses : List Response) → StandsFor o es responses start →
-      (more : List Response) × TellAll more answers × StandsFor o (es ++ map happening_of done) (responses ++ more) now
+pub record Pending (start now : Seen) (done : List Event) (answers : List Answer) : Type 0 where
+  pub goes : (o : Opening) (es : List Transition) (responses : List Response) → Represents o es responses start →
+      (more : List Response) × TellAll more answers
+      × Represents o (es ++ map transition_of done) (responses ++ more) now
 
-pub under_way : (start : Seen) → UnderWay start start [] []
-under_way start = record {
+pub pending : (start : Seen) → Pending start start [] []
+pending start = record {
   goes = λ o es responses s. (
     [],
     tt,
-    subst (λ gs. StandsFor o (es ++ []) gs start) (sym (append-nil responses))
-        (subst (λ xs. StandsFor o xs responses start) (sym (append-nil es)) s),
+    subst (λ gs. Represents o (es ++ []) gs start) (sym (append-nil responses))
+        (subst (λ xs. Represents o xs responses start) (sym (append-nil es)) s),
   );
 }
 
@@ -112,25 +113,25 @@ more_told w responses more answers stepped.Worn all g =
     (subst (TellAll responses) (sym (append-nil answers)) all))
 
 pub goes_on : (start now new : Seen) (done : List Event) (answers : List Answer) (event : Event) (result : Stepped) →
-    UnderWay start now done answers → StandsWithEvent now event result new →
-    UnderWay start new (done ++ event ∷ []) (answers ++ answers_in result)
+    Pending start now done answers → StandsWithEvent now event result new →
+    Pending start new (done ++ event ∷ []) (answers ++ answers_in result)
 goes_on start now new done answers event result u step = record {
   goes = λ o es responses s.
       let one = u.goes o es responses s in
-      let two = step o (es ++ map happening_of done) (responses ++ one.0) one.2 in (
+      let two = step o (es ++ map transition_of done) (responses ++ one.0) one.2 in (
         one.0 ++ two.0,
         more_told one.2.world one.0 two.0 answers result one.1 two.1,
-        subst (λ gs. StandsFor o (es ++ map happening_of (done ++ event ∷ [])) gs new)
+        subst (λ gs. Represents o (es ++ map transition_of (done ++ event ∷ [])) gs new)
             (append_assoc responses one.0 two.0)
-            (subst (λ xs. StandsFor o xs ((responses ++ one.0) ++ two.0) new)
-            (append_assoc es (map happening_of done) (happening_of event ∷ [])
-            ∙ ap (λ xs. es ++ xs) (sym (map-append happening_of done (event ∷ [])))) two.2),
+            (subst (λ xs. Represents o xs ((responses ++ one.0) ++ two.0) new)
+            (append_assoc es (map transition_of done) (transition_of event ∷ [])
+            ∙ ap (λ xs. es ++ xs) (sym (map-append transition_of done (event ∷ [])))) two.2),
       );
 }
 
 pub runs_on : (start new : Seen) (events done left : List Event) (answers : List Answer) →
-    UnderWay start new done answers → events ≡ done ++ left → (left ≡ []) ⊎ (WORN ≤ new.steps) →
-    (o : Opening) (es : List Happening) (responses : List Response) → StandsFor o es responses start →
+    Pending start new done answers → events ≡ done ++ left → (left ≡ []) ⊎ (WORN ≤ new.steps) →
+    (o : Opening) (es : List Transition) (responses : List Response) → Represents o es responses start →
     RunsOn o es responses events answers new
 runs_on start new events done left answers u split worn o es responses s =
     let g = u.goes o es responses s in

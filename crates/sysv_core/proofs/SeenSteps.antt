@@ -1,20 +1,19 @@
--- One happening in a world of the definitions, from what the world of the code is seen as.
+-- One transition in a world of the definitions, from what the world of the code is seen as.
 use Rattle.std.proofs.Common.{◌≡◌, ℕ, zero, suc, ◌+◌, ◌<◌, ◌⊎◌, inl, inr, Bool, false, List, [], ◌∷◌, ◌++◌, Option}
 use Rattle.std.proofs.Common.{None, Some, refl, sym, ap, subst, ◌∙◌, arith, add-zero, length, map, slice_get, slice_set}
 use Rattle.std.proofs.Common.{option_map}
-use Rattle.std.proofs.lemmas.List.{length-map}
+use Rattle.std.proofs.lemmas.List.{length-map, map-set}
 use Rattle.std.proofs.lemmas.Option.{slice_get-map, slice_get_past}
 use Rattle.sysv_model.specs.declared.cred.Cred.{Cred}
 use Rattle.sysv_model.specs.declared.limits.TheConstants.{WORN}
-use Rattle.sysv_model.specs.History.{Who}
 use Rattle.sysv_model.specs.Pool.{released}
-use Rattle.sysv_model.specs.Turn.{Op, Turn, pool_history, registry_history}
+use Rattle.sysv_model.specs.Turn.{Turn, pool_history, registry_history}
 use Rattle.sysv_keys.specs.Rows.{IsUnused}
 use Rattle.sysv_keys.specs.Unused.{UnusedSlots}
 use Rattle.sysv_queue.specs.Tally.{Tallied}
-use Rattle.sysv_objects.specs.LegalOp.{IsLegalOp, AreLegal}
+use Rattle.sysv_objects.specs.LegalOp.{IsLegalOp}
 use Rattle.sysv_objects.specs.Objects.{Objects}
-use Rattle.sysv_objects.specs.StandsFor.{StandsFor as ObjectsStandFor}
+use Rattle.sysv_objects.specs.Represents.{Represents as ObjectsStandFor}
 use Rattle.sysv_steps.specs.State.{Phase, Wait, Ending, State, Goes, Waits, Over}
 use Rattle.sysv_steps.specs.Resume.{awaited, resume}
 use Rattle.sysv_steps.specs.Begin.{begin}
@@ -41,7 +40,7 @@ use Rattle.sysv_core.specs.Kept.{kept_led, counted_led, told_by}
 use Rattle.sysv_core.specs.Led.{LeadsTo, TurnLeads, LookLeads, Stays, StepLeads}
 use Rattle.sysv_core.specs.Preset.{MakesPreset}
 use Rattle.sysv_core.specs.Seen.{Seen, IsSeenAs, Gives, Steps, state_in}
-use Rattle.sysv_core.proofs.Lists.{map-slice_set, slice_set-same}
+use Rattle.sysv_core.proofs.Lists.{slice_set-same}
 use Rattle.sysv_core.proofs.SoundStays.{vacant_there}
 
 -- ---- the actor at a place
@@ -64,7 +63,7 @@ stands_on : {S W : Type 0} (phase : S → Phase) (wait : W → Wait) (k : Standi
 stands_on phase wait (standing.At step) ending e = cc
 stands_on phase wait (standing.Waits w) ending e = cc
 
--- A call under way is not over.
+-- A pending call is not over.
 never_over : (ending : Ending) (d : DoingKept) → Over ending ≡ doing_state d → ⊥
 never_over ending (doing.Get at) e = stands_on _ _ at ending e
 never_over ending (doing.Send sent) e = stands_on _ _ sent.at ending e
@@ -188,7 +187,7 @@ module _ (w : World) (seen : Seen) (s : IsSeenAs w seen) (sound : StaysSound) wh
 
   set_states : (place : ℕ) (o : Option Doing) (p : Option State) → state_in o ≡ p →
       map state_in (slice_set w.actors place o) ≡ slice_set seen.states place p
-  set_states place o p e = map-slice_set state_in w.actors place o
+  set_states place o p e = map-set state_in w.actors place o
       ∙ (ap (λ ps. slice_set ps place (state_in o)) s.states ∙ ap (slice_set seen.states place) e)
 
   start_here : (n place : ℕ) (cred : Cred) (call : Call (List ℕ) (List ℕ)) (count : ℕ) (l : Led) → seen.steps < WORN →
@@ -340,28 +339,25 @@ module _ (w : World) (seen : Seen) (s : IsSeenAs w seen) (sound : StaysSound) wh
 
   -- ---- a preset
 
-  module _
-      (more : (generation blocks : ℕ) (turns : List Turn) (who : Who) (op : Op) → AreLegal generation blocks turns →
-      IsLegalOp generation blocks turns op →
-      AreLegal generation blocks (turns ++ record { who = who; op = op } ∷ [])) (unused : UnusedSlots) where
-    pub preset_unused : (made : Bool) (objects : Objects) → IsUnused w.generation (registry_history w.turns) 0 →
-        MakesPreset seen.objects made objects →
-        (after : World) × Presets w made after × IsSeenAs after (record seen { objects = objects })
-    preset_unused made objects u makes =
-        let m = makes w.generation w.turns s.objects u (vacant_there more unused w s.sound u) in
-        let after = with_preset w in
-        let p : Presets w made after = inl (u, m.made, refl) in (
-          after,
-          p,
-          record {
-            objects = m.stands;
-            states = s.states;
-            sound = sound w after Preset [] s.sound (refl, (made, p));
-            steps = s.steps;
-            blocks = s.blocks ∙ sym m.size;
-          },
-        )
+  pub preset_unused : UnusedSlots → (made : Bool) (objects : Objects) →
+      IsUnused w.generation (registry_history w.turns) 0 →
+      MakesPreset seen.objects made objects →
+      (after : World) × Presets w made after × IsSeenAs after (record seen { objects = objects })
+  preset_unused unused made objects u makes =
+      let m = makes w.generation w.turns s.objects u (vacant_there unused w s.sound u) in
+      let after = with_preset w in
+      let p : Presets w made after = inl (u, m.made, refl) in (
+        after,
+        p,
+        record {
+          objects = m.stands;
+          states = s.states;
+          sound = sound w after Preset [] s.sound (refl, (made, p));
+          steps = s.steps;
+          blocks = s.blocks ∙ sym m.size;
+        },
+      )
 
-    pub preset_used : ¬ IsUnused w.generation (registry_history w.turns) 0 →
-        (after : World) × Presets w false after × IsSeenAs after seen
-    preset_used used = (w, inr (used, refl, refl), s)
+  pub preset_used : ¬ IsUnused w.generation (registry_history w.turns) 0 →
+      (after : World) × Presets w false after × IsSeenAs after seen
+  preset_used used = (w, inr (used, refl, refl), s)

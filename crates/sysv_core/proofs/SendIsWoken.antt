@@ -4,7 +4,7 @@ use Rattle.std.proofs.Common.{◌≡◌, ◌≢◌, ◌⊎◌, inl, inr, ℕ, su
 use Rattle.std.proofs.Common.{◌∷◌, ◌++◌, Option, None, Some, refl, sym, ap, subst, ◌∙◌, arith, length, slice_get}
 use Rattle.std.proofs.Common.{slice_set, option_map}
 use Rattle.std.proofs.Math.Dec.{eqb}
-use Rattle.std.proofs.lemmas.Bool.{eqb-true}
+use Rattle.std.proofs.lemmas.Bool.{eqb-true, cases_Bool, cases_eq}
 use Rattle.std.proofs.lemmas.Bool.Decides.{Decides-int_eq}
 use Rattle.std.specs.Ordering.{int_eq}
 use Rattle.std.proofs.lemmas.List.Elements.{All-contains, Contains-append_right}
@@ -41,16 +41,14 @@ use Rattle.sysv_core.specs.World.{preset_who, preset_cred, preset_flags, preset_
 use Rattle.sysv_core.specs.World.{with_preset_turns}
 use Rattle.sysv_core.specs.Sound.{IsSound}
 use Rattle.sysv_core.specs.Parked.{IsOpenTo, HasToGiveBack, IsToBeWoken}
-use Rattle.sysv_core.proofs.Lists.{get_set_same, get_set_other, same_place}
-use Rattle.sysv_core.proofs.Histories.{turn_of, pool_more, pool_stays, live_by, live_turn, begun_turns, installed_turns}
-use Rattle.sysv_core.proofs.Histories.{preset_slot}
-use Rattle.sysv_core.proofs.Histories.{preset_pool, released_more}
-use Rattle.sysv_core.proofs.SoundStays.{moved, other, does, none_busy}
+use Rattle.sysv_core.proofs.Lists.{get_set_same, get_set_other, none_busy}
+use Rattle.sysv_core.proofs.Histories.{turn_of, pool_more, pool_on, live_by, live_turn, begun_turns, installed_turns}
+use Rattle.sysv_core.proofs.Histories.{preset_slot, preset_pool, released_more}
+use Rattle.sysv_core.proofs.SoundStays.{moved, other, does}
 use Rattle.sysv_core.proofs.TurnInHistory.{slot_around}
 use Rattle.sysv_core.proofs.Told.{told, told_is}
-use Rattle.sysv_core.proofs.Life.{either, not_both, one_id, IsLegalAtSlot, legal_at_slot}
-use Rattle.sysv_core.proofs.WaitsForBlocks.{read_by, IsRight, AreRight, IsShort, AllRight, Comes, followed}
-use Rattle.sysv_core.proofs.WaitsForBlocks.{move_right}
+use Rattle.sysv_core.proofs.Lifetime.{not_both, one_id, IsLegalAtSlot, legal_at_slot}
+use Rattle.sysv_core.proofs.WaitsForBlocks.{read_by, IsRight, AreRight, IsShort, AllRight, Comes, followed, move_right}
 use Rattle.sysv_core.proofs.Moves.{Move, stood, began, turned, awoke, preset_made}
 
 some_is : {X : Type 0} {x y : X} → Some x ≡ Some y → y ≡ x
@@ -171,7 +169,7 @@ pub record SomeGive (id : ℤ) (actors : List (Option Doing)) : Type 0 where
 still_give : (id : ℤ) (actors : List (Option Doing)) (place : ℕ) (was new : Option Doing) →
     slice_get actors place ≡ Some was → SomeGive id actors →
     ((d : Doing) × (was ≡ Some d) × HasToGiveBack d.call.asked d.state id) ⊎ SomeGive id (slice_set actors place new)
-still_give id actors place was new there s = elim (same_place place s.place) [
+still_give id actors place was new there s = elim (cases_eq place s.place) [
   | inl same ↦
       let at : Some was ≡ Some (Some s.doing) = sym there ∙ (ap (slice_get actors) same ∙ s.there) in
       inl (s.doing, sym (some_is at), s.gives)
@@ -190,7 +188,7 @@ gives_now : (id : ℤ) (actors : List (Option Doing)) (place : ℕ) (was : Optio
 gives_now id actors place was call state there p = record {
   place = place;
   doing = record { call = call; state = state };
-  there = get_set_same actors place (doing_in call state) was there ∙ ap (λ x. Some x) (under_way state p);
+  there = get_set_same actors place (doing_in call state) was there ∙ ap (λ x. Some x) (pending state p);
   gives = p;
 }
   where
@@ -198,11 +196,11 @@ gives_now id actors place was call state there p = record {
     never (MsgctlSet at to) ending q = q
     never asked ending q = q
 
-    under_way : (st : State) → HasToGiveBack call.asked st id →
+    pending : (st : State) → HasToGiveBack call.asked st id →
         doing_in call st ≡ Some record { call = call; state = st }
-    under_way (Goes phase) q = refl
-    under_way (Waits wait) q = refl
-    under_way (Over ending) q = absurd (never call.asked ending q)
+    pending (Goes phase) q = refl
+    pending (Waits wait) q = refl
+    pending (Over ending) q = absurd (never call.asked ending q)
 
 -- ---- why a send that reserves may wait
 
@@ -236,14 +234,8 @@ after_giving turns who op n read (c, is) =
 -- No turn undoes that.
 pool_part : (turns : List Turn) (who : Who) (op : Op) (n : ℕ) → n < released (pool_history turns) →
     n < released (pool_history (turns ++ turn_of who op ∷ []))
-pool_part turns who (AtSlot slot c reply) n since =
-    subst (λ h. n < released h) (sym (pool_stays turns who (AtSlot slot c reply) refl)) since
-pool_part turns who (AtRegistry c reply) n since =
-    subst (λ h. n < released h) (sym (pool_stays turns who (AtRegistry c reply) refl)) since
-pool_part turns who (AtPool c reply) n since =
-    let e : PoolEntry = record { who = who; call = c; reply = reply } in
-    subst (λ h. n < released h) (sym (pool_more turns (turn_of who (AtPool c reply))))
-    (omega (arith, since, released_more (pool_history turns) e))
+pool_part turns who op n since = pool_on (λ h. n < released h) turns who op since
+    (λ e. omega (arith, since, released_more (pool_history turns) e))
 
 -- No chain is refused.
 never_foreign : (turns : List Turn) (who : Who) (op : Op) →
@@ -284,7 +276,7 @@ module _ (generation blocks : ℕ) (turns : List Turn) (actors : List (Option Do
 
   open_still : (id : ℤ) (by : Cred) → IsOpenTo (slot_history (slot_of_id id) turns) id by →
       IsOpenTo (slot_history (slot_of_id id) later) id by ⊎ SomeGive id moved_actors
-  open_still id by o = elim (either (changed id op)) [
+  open_still id by o = elim (cases_Bool (changed id op)) [
     | inr kept ↦ inl (open_past turns call.who op id by (legal_at_slot generation blocks turns op legal) kept o)
     | inl ch ↦
         let is = told_is (asks phase now) op asked in
@@ -469,8 +461,8 @@ move_woken w after responses holds k sound m =
 
 pub opening_woken : (o : Opening) → AllWoken (opening o)
 opening_woken o = record {
-  right = λ at e here. absurd (none_busy o.actors at e here);
-  woken = λ at e here. absurd (none_busy o.actors at e here);
+  right = λ at e here. absurd (none_busy o.actors at here);
+  woken = λ at e here. absurd (none_busy o.actors at here);
 }
 
 -- ---- who waits for blocks

@@ -1,6 +1,6 @@
 -- Each event, preset and list leads to some world.
-use Rattle.std.proofs.Common.{◌≡◌, ℕ, zero, suc, ◌<◌, ◌≤◌, inl, inr, true, false, List, [], ◌∷◌, ◌++◌, Option, None}
-use Rattle.std.proofs.Common.{Some, refl, sym, subst, slice_get}
+use Rattle.std.proofs.Common.{◌≡◌, ℕ, zero, suc, ◌<◌, inl, inr, true, false, List, [], ◌∷◌, ◌++◌, Option, None, Some}
+use Rattle.std.proofs.Common.{refl, sym, subst, slice_get}
 use Rattle.sysv_model.specs.declared.cred.Cred.{Cred}
 use Rattle.sysv_model.specs.declared.limits.TheConstants.{WORN}
 use Rattle.sysv_model.specs.History.{Installed, Gone, Denied, Granted, Full, Fits, Accepted, NoMatch, TooLong, Taken}
@@ -22,7 +22,8 @@ use Rattle.sysv_core.specs.declared.event.Event.{Event}
 use Rattle.sysv_core.specs.declared.event.Event.TheVariants as event
 use Rattle.sysv_core.specs.declared.event.Stepped.{Stepped}
 use Rattle.sysv_core.specs.declared.event.Stepped.TheVariants as stepped
-use Rattle.sysv_core.specs.World.{World, Invocation, Doing, Response, Happening, Preset, Start, Step, opening, actor_at}
+use Rattle.sysv_core.specs.World.{World, Invocation, Doing, Response, Transition, Preset, Start, Step, opening}
+use Rattle.sysv_core.specs.World.{actor_at}
 use Rattle.sysv_core.specs.World.{response_in, in_state, with_call, with_turn, with_preset, starting, begun, value_of}
 use Rattle.sysv_core.specs.World.{StartsAt, StepsAt, Presets, Makes}
 use Rattle.sysv_core.specs.Run.{Leads}
@@ -30,11 +31,12 @@ use Rattle.sysv_core.specs.Answered.{outcome_of, text_given, body_with}
 use Rattle.sysv_steps.specs.Asked.{asked_of}
 use Rattle.sysv_core.specs.Kinds.{kind_of, gives_back}
 use Rattle.sysv_core.specs.Sound.{IsToCaller, IsSound, StaysSound}
-use Rattle.sysv_core.specs.Seen.{Gives, happening_of}
+use Rattle.sysv_core.specs.Seen.{Gives, transition_of}
 use Rattle.sysv_core.specs.SomeRun.{SomeStep, SomePreset, SomeRun}
 use Rattle.sysv_lists.proofs.Orders.{at_most}
 use Rattle.sysv_core.proofs.Told.{told, told_is}
 use Rattle.sysv_core.proofs.SoundStays.{opening_sound}
+use Rattle.sysv_core.proofs.Runs.{worn_makes}
 
 -- ---- a legal reply has a row of the step table
 
@@ -95,9 +97,9 @@ row g blocks turns phase now op asked l =
     subst (λ d. HasNext (next phase d)) is
     (row_told g blocks turns phase now op (subst (IsLegalOp g blocks turns) (sym is) l))
 
--- ---- what a happening makes, and that it can be told
+-- ---- what a transition makes, and that it can be told
 
-record Somewhere (w : World) (x : Happening) : Type 0 where
+record Somewhere (w : World) (x : Transition) : Type 0 where
   responses : List Response
   after : World
   makes : Makes w x responses after
@@ -117,7 +119,7 @@ given_told w call actor (Over ending) young own =
       (young, (g, refl, record { caller = own; ending = (refl, refl) })),
     )
 
-stays_there : (w : World) (x : Happening) → Makes w x [] w → Somewhere w x
+stays_there : (w : World) (x : Transition) → Makes w x [] w → Somewhere w x
 stays_there w x m = record { responses = []; after = w; makes = m; told = λ young. (stepped.Nothing, (young, refl)) }
 
 starts_somewhere : (w : World) (actor : ℕ) (cred : Cred) (asked : SystemCall) (o : Option (Option Doing)) →
@@ -186,15 +188,11 @@ module _ (some : SomeOpIsLegal) (sound : StaysSound) (unused : UnusedSlots) wher
   steps_somewhere w (suc place) now (Some (Some d)) ok young e =
       continues_somewhere w place now d.call d.state ok young e
 
-  event_somewhere : (w : World) (e : Event) → IsSound w → w.steps < WORN → Somewhere w (happening_of e)
+  event_somewhere : (w : World) (e : Event) → IsSound w → w.steps < WORN → Somewhere w (transition_of e)
   event_somewhere w (event.Start actor cred call) ok young =
       starts_somewhere w actor cred (asked_of call) (actor_at w.actors actor) young refl
   event_somewhere w (event.Step actor now) ok young =
       steps_somewhere w actor now (actor_at w.actors actor) ok young refl
-
-  worn_makes : (w : World) (e : Event) → WORN ≤ w.steps → Makes w (happening_of e) [] w
-  worn_makes w (event.Start actor cred call) old = inl (old, (refl, refl))
-  worn_makes w (event.Step actor now) old = inl (old, (refl, refl))
 
   pub some_step : SomeStep
   some_step w e ok = elim (at_most WORN w.steps) [
@@ -202,7 +200,7 @@ module _ (some : SomeOpIsLegal) (sound : StaysSound) (unused : UnusedSlots) wher
     | inr young ↦
         let s = event_somewhere w e ok young in
         let told = s.told young in
-        (told.0, s.after, (s.responses, s.makes, told.1), sound w s.after (happening_of e) s.responses ok s.makes)
+        (told.0, s.after, (s.responses, s.makes, told.1), sound w s.after (transition_of e) s.responses ok s.makes)
   ]
 
   pub some_preset : SomePreset
@@ -213,7 +211,7 @@ module _ (some : SomeOpIsLegal) (sound : StaysSound) (unused : UnusedSlots) wher
     | inr used ↦ (false, w, inr (used, refl, refl), ok)
   ]
 
-  goes_somewhere : (w : World) (x : Happening) → IsSound w →
+  goes_somewhere : (w : World) (x : Transition) → IsSound w →
       (responses : List Response) × (after : World) × Makes w x responses after
   goes_somewhere w Preset ok = let p = some_preset w ok in ([], p.1, (refl, (p.0, p.2)))
   goes_somewhere w (Start actor cred asked) ok = elim (at_most WORN w.steps) [
@@ -228,7 +226,7 @@ module _ (some : SomeOpIsLegal) (sound : StaysSound) (unused : UnusedSlots) wher
         let s = steps_somewhere w actor now (actor_at w.actors actor) ok young refl in (s.responses, s.after, s.makes)
   ]
 
-  leads_from : (list : List Happening) (w : World) → IsSound w →
+  leads_from : (list : List Transition) (w : World) → IsSound w →
       (responses : List Response) × (after : World) × Leads w list responses after
   leads_from [] w ok = ([], w, (refl, refl))
   leads_from (x ∷ xs) w ok =

@@ -1,8 +1,8 @@
--- Each happening in a sound world leaves a sound world.
-use Rattle.std.proofs.Common.{◌≡◌, ◌⊎◌, inl, inr, ℕ, zero, suc, ℤ, pos, ◌&&◌, Bool, true, false, cond, ◌+◌, List, []}
-use Rattle.std.proofs.Common.{◌∷◌, ◌++◌, Option, None, Some, refl, sym, ap, subst, ◌∙◌, slice_get, slice_set, replicate}
+-- Each transition in a sound world leaves a sound world.
+use Rattle.std.proofs.Common.{◌≡◌, ◌⊎◌, inl, inr, ℕ, suc, ℤ, pos, ◌&&◌, Bool, true, false, cond, ◌+◌, List, []}
+use Rattle.std.proofs.Common.{◌∷◌, ◌++◌, Option, None, Some, refl, sym, ap, subst, ◌∙◌, slice_get, slice_set}
 use Rattle.std.proofs.Math.Dec.{eqb}
-use Rattle.std.proofs.lemmas.Bool.{eqb-true}
+use Rattle.std.proofs.lemmas.Bool.{eqb-true, or_left, or_right, cases_eq}
 use Rattle.std.specs.Ordering.{int_eq}
 use Rattle.std.proofs.lemmas.List.{append-nil}
 use Rattle.std.proofs.lemmas.List.Folds.{list_any-append}
@@ -35,10 +35,10 @@ use Rattle.sysv_core.specs.World.{value_of}
 use Rattle.sysv_core.specs.World.{preset_who, preset_flags, preset_begin, preset_install, preset_settle}
 use Rattle.sysv_core.specs.World.{with_preset_turns, with_preset}
 use Rattle.sysv_core.specs.Sound.{IsToCaller, AreOwn, IsMadeIn, IsSound, StaysSound}
-use Rattle.sysv_core.proofs.Lists.{get_set_same, get_set_other, same_place}
+use Rattle.sysv_core.proofs.Lists.{get_set_same, get_set_other, none_busy}
 use Rattle.sysv_core.proofs.Histories.{turn_of, slot_more, registry_more, live_by, live_turn}
 use Rattle.sysv_core.proofs.Told.{told, told_is}
-use Rattle.sysv_core.proofs.Life.{installing, job_at, begun_none, resumed_none, or_left, or_right, same_int}
+use Rattle.sysv_core.proofs.Lifetime.{installing, job_at, begun_none, resumed_none, same_int, some_is}
 use Rattle.sysv_core.proofs.BlocksConserved.{BlockLaws, turn_conserves, stands_conserves, resumed_holds, begun_holds}
 use Rattle.sysv_core.proofs.BlocksConserved.{preset_conserves, opening_conserves}
 use Rattle.sysv_core.proofs.Moves.{Move, stood, began, turned, awoke, preset_made, moves}
@@ -173,9 +173,6 @@ made_next turns who phase now op get id asked n =
 
 -- ---- the actors
 
-one_busy : {x y : Option Doing} → Some x ≡ Some y → x ≡ y
-one_busy e = cc
-
 is_in : (call : Invocation) (state : State) (d : Doing) → doing_in call state ≡ Some d →
     (d.call ≡ call) × (d.state ≡ state)
 is_in call (Goes phase) d e = (cc, cc)
@@ -191,12 +188,12 @@ pub data Does (actors : List (Option Doing)) (place : ℕ) (call : Invocation) (
 pub does : (actors : List (Option Doing)) (place : ℕ) (was : Option Doing) (call : Invocation) (state : State) (at : ℕ)
     (d : Doing) → slice_get actors place ≡ Some was →
     slice_get (slice_set actors place (doing_in call state)) at ≡ Some (Some d) → Does actors place call state at d
-does actors place was call state at d there here = elim (same_place place at) [
+does actors place was call state at d there here = elim (cases_eq place at) [
   | inl same ↦
       let got : Some (doing_in call state) ≡ Some (Some d) =
       sym (get_set_same actors place (doing_in call state) was there)
       ∙ subst (λ n. slice_get (slice_set actors place (doing_in call state)) n ≡ Some (Some d)) (sym same) here in
-      let is = is_in call state d (one_busy got) in
+      let is = is_in call state d (some_is got) in
       moved same is.0 is.1
   | inr apart ↦ other (sym (get_set_other actors place at (doing_in call state) apart) ∙ here)
 ]
@@ -240,6 +237,17 @@ pub later_installs : (turns : List Turn) (actors : List (Option Doing)) (place :
 later_installs turns actors place was call state there all none =
     all_installed turns turns actors place was call state there (λ slot m. m) all
     (λ get id e. let bad : None ≡ Some (installing id) = sym none ∙ ap job_at e in absurd cc)
+
+-- No queue is live in an unused slot.
+pub vacant_there : UnusedSlots → (w : World) → IsSound w → IsUnused w.generation (registry_history w.turns) 0 →
+    live (slot_history 0 w.turns) ≡ None
+vacant_there unused w s u = none_lives (live (slot_history 0 w.turns)) refl
+  where
+    none_lives : (o : Option Attributes) → live (slot_history 0 w.turns) ≡ o → live (slot_history 0 w.turns) ≡ None
+    none_lives None e = e
+    none_lives (Some a) e =
+        let m = s.lives 0 a e in
+        absurd (unused.never w.generation 0 (registry_history w.turns) u m.id m.key m.made m.here)
 
 module _
     (more : (generation blocks : ℕ) (turns : List Turn) (who : Who) (op : Op) → AreLegal generation blocks turns →
@@ -312,101 +320,79 @@ module _
             (begun_holds cred asked call.released) s.blocks;
       }
 
--- ---- the preset
+  -- ---- the preset
 
-module _
-    (more : (generation blocks : ℕ) (turns : List Turn) (who : Who) (op : Op) → AreLegal generation blocks turns →
-    IsLegalOp generation blocks turns op → AreLegal generation blocks (turns ++ turn_of who op ∷ []))
-    (unused : UnusedSlots) where
-  -- No queue is live in an unused slot.
-  pub vacant_there : (w : World) → IsSound w → IsUnused w.generation (registry_history w.turns) 0 →
-      live (slot_history 0 w.turns) ≡ None
-  vacant_there w s u = none_lives (live (slot_history 0 w.turns)) refl
-    where
-      none_lives : (o : Option Attributes) → live (slot_history 0 w.turns) ≡ o → live (slot_history 0 w.turns) ≡ None
-      none_lives None e = e
-      none_lives (Some a) e =
-          let m = s.lives 0 a e in
-          absurd (unused.never w.generation 0 (registry_history w.turns) u m.id m.key m.made m.here)
+  module _ (unused : UnusedSlots) where
+    -- The three turns are legal.
+    preset_legal : (generation blocks : ℕ) (turns : List Turn) → AreLegal generation blocks turns →
+        IsUnused generation (registry_history turns) 0 → live (slot_history 0 turns) ≡ None →
+        AreLegal generation blocks (with_preset_turns turns)
+    preset_legal generation blocks turns legal u vacant =
+        let one = more generation blocks turns preset_who preset_begin legal
+        (unused.zero generation (registry_history turns) preset_flags u) in
+        let first = turns ++ turn_of preset_who preset_begin ∷ [] in
+        let same : slot_history 0 first ≡ slot_history 0 turns =
+        slot_more 0 turns (turn_of preset_who preset_begin) ∙ append-nil (slot_history 0 turns) in
+        let two = more generation blocks first preset_who preset_install one (ap live same ∙ vacant) in
+        let second = first ++ turn_of preset_who preset_install ∷ [] in
+        let registry : registry_history second ≡ registry_history turns ++ registry_entry preset_who preset_begin =
+        registry_more first (turn_of preset_who preset_install)
+        ∙ (append-nil (registry_history first) ∙ registry_more turns (turn_of preset_who preset_begin)) in
+        more generation blocks second preset_who preset_settle two
+        (subst (λ h. IsLegalRegistryReply generation h (Settle (pos 0)) (Changed true)) (sym registry)
+        (unused.settles generation (registry_history turns) preset_who IPC_PRIVATE preset_flags (pos 0) legal.registry
+        (unused.zero generation (registry_history turns) preset_flags u)))
 
-  -- The three turns are legal.
-  pub preset_legal : (generation blocks : ℕ) (turns : List Turn) → AreLegal generation blocks turns →
-      IsUnused generation (registry_history turns) 0 → live (slot_history 0 turns) ≡ None →
-      (AreLegal generation blocks (with_preset_turns turns))
-  preset_legal generation blocks turns legal u vacant =
-      let one = more generation blocks turns preset_who preset_begin legal
-      (unused.zero generation (registry_history turns) preset_flags u) in
-      let first = turns ++ turn_of preset_who preset_begin ∷ [] in
-      let same : slot_history 0 first ≡ slot_history 0 turns =
-      slot_more 0 turns (turn_of preset_who preset_begin) ∙ append-nil (slot_history 0 turns) in
-      let two = more generation blocks first preset_who preset_install one (ap live same ∙ vacant) in
-      let second = first ++ turn_of preset_who preset_install ∷ [] in
-      let registry : registry_history second ≡ registry_history turns ++ registry_entry preset_who preset_begin =
-      registry_more first (turn_of preset_who preset_install)
-      ∙ (append-nil (registry_history first) ∙ registry_more turns (turn_of preset_who preset_begin)) in
-      more generation blocks second preset_who preset_settle two
-      (subst (λ h. IsLegalRegistryReply generation h (Settle (pos 0)) (Changed true)) (sym registry)
-      (unused.settles generation (registry_history turns) preset_who IPC_PRIVATE preset_flags (pos 0) legal.registry
-      (unused.zero generation (registry_history turns) preset_flags u)))
+    preset_sound : (w : World) → IsSound w → IsUnused w.generation (registry_history w.turns) 0 →
+        IsSound (with_preset w)
+    preset_sound w s u = record {
+      legal = preset_legal w.generation w.blocks w.turns s.legal u (vacant_there unused w s u);
+      own = s.own;
+      installs = λ place d get id here e. past (slot_of_id id) (s.installs place d get id here e);
+      lives = all_made second preset_who preset_settle
+          (all_made first preset_who preset_install
+          (all_made w.turns preset_who preset_begin s.lives (λ slot c reply is i. absurd cc)) (λ slot c reply is i.
+          let here : 0 ≡ slot = cc in
+          subst (IsMadeIn first) here (made_now w.turns preset_who IPC_PRIVATE preset_flags (pos 0))))
+          (λ slot c reply is i. absurd cc);
+      blocks = preset_conserves b w.generation w.blocks w.turns w.actors s.legal s.blocks
+          (preset_legal w.generation w.blocks w.turns s.legal u (vacant_there unused w s u));
+    }
+      where
+        first : List Turn
+        first = w.turns ++ turn_of preset_who preset_begin ∷ []
 
-module _
-    (more : (generation blocks : ℕ) (turns : List Turn) (who : Who) (op : Op) → AreLegal generation blocks turns →
-    IsLegalOp generation blocks turns op → AreLegal generation blocks (turns ++ turn_of who op ∷ []))
-    (b : BlockLaws) (unused : UnusedSlots) where
-  preset_sound : (w : World) → IsSound w → IsUnused w.generation (registry_history w.turns) 0 → IsSound (with_preset w)
-  preset_sound w s u = record {
-    legal = preset_legal more unused w.generation w.blocks w.turns s.legal u (vacant_there more unused w s u);
-    own = s.own;
-    installs = λ place d get id here e. past (slot_of_id id) (s.installs place d get id here e);
-    lives = all_made second preset_who preset_settle
-        (all_made first preset_who preset_install
-        (all_made w.turns preset_who preset_begin s.lives (λ slot c reply is i. absurd cc)) (λ slot c reply is i.
-        let here : 0 ≡ slot = cc in
-        subst (IsMadeIn first) here (made_now w.turns preset_who IPC_PRIVATE preset_flags (pos 0))))
-        (λ slot c reply is i. absurd cc);
-    blocks = preset_conserves b w.generation w.blocks w.turns w.actors s.legal s.blocks
-        (preset_legal more unused w.generation w.blocks w.turns s.legal u (vacant_there more unused w s u));
-  }
-    where
-      first : List Turn
-      first = w.turns ++ turn_of preset_who preset_begin ∷ []
+        second : List Turn
+        second = first ++ turn_of preset_who preset_install ∷ []
 
-      second : List Turn
-      second = first ++ turn_of preset_who preset_install ∷ []
+        past : (slot : ℕ) → IsMadeIn w.turns slot → IsMadeIn (with_preset_turns w.turns) slot
+        past slot m = still_made _ (turn_of preset_who preset_settle) slot
+            (still_made _ (turn_of preset_who preset_install) slot
+            (still_made w.turns (turn_of preset_who preset_begin) slot m))
 
-      past : (slot : ℕ) → IsMadeIn w.turns slot → IsMadeIn (with_preset_turns w.turns) slot
-      past slot m = still_made _ (turn_of preset_who preset_settle) slot
-          (still_made _ (turn_of preset_who preset_install) slot
-          (still_made w.turns (turn_of preset_who preset_begin) slot m))
+    move_sound : (w after : World) (responses : List Response) → IsSound w → Move w responses after → IsSound after
+    move_sound w after responses s (stood t) = subst IsSound (sym t.1) s
+    move_sound w after responses s (began place cred asked there t) =
+        subst IsSound (sym t.1) (start_sound w place cred asked s there)
+    move_sound w after responses s (turned place now call phase there t) =
+        subst IsSound (sym t.6) (turn_sound w s place call phase now t.0 t.1 there t.2 t.3 t.4)
+    move_sound w after responses s (awoke place call wait there reached gave is) =
+        let d : Doing = record { call = call; state = Waits wait } in
+        let value = value_of w.turns (awaited wait) in
+        subst IsSound (sym is)
+        (look_sound w s place call d (Goes (resume wait value)) refl there
+        (resumed_later (kind_of call.asked) wait value (s.own place d there).0) (resumed_none wait value)
+        (resumed_holds wait value))
+    move_sound w after responses s (preset_made u gave is) = subst IsSound (sym is) (preset_sound w s u)
 
-  move_sound : (w after : World) (responses : List Response) → IsSound w → Move w responses after → IsSound after
-  move_sound w after responses s (stood t) = subst IsSound (sym t.1) s
-  move_sound w after responses s (began place cred asked there t) =
-      subst IsSound (sym t.1) (start_sound more b w place cred asked s there)
-  move_sound w after responses s (turned place now call phase there t) =
-      subst IsSound (sym t.6) (turn_sound more b w s place call phase now t.0 t.1 there t.2 t.3 t.4)
-  move_sound w after responses s (awoke place call wait there reached gave is) =
-      let d : Doing = record { call = call; state = Waits wait } in
-      let value = value_of w.turns (awaited wait) in
-      subst IsSound (sym is)
-      (look_sound more b w s place call d (Goes (resume wait value)) refl there
-      (resumed_later (kind_of call.asked) wait value (s.own place d there).0) (resumed_none wait value)
-      (resumed_holds wait value))
-  move_sound w after responses s (preset_made u gave is) = subst IsSound (sym is) (preset_sound w s u)
-
-  pub makes_sound : StaysSound
-  makes_sound w after x responses s m = move_sound w after responses s (moves w after x responses m)
-
-pub none_busy : (n place : ℕ) (d : Doing) → slice_get (replicate n None) place ≡ Some (Some d) → ⊥
-none_busy zero place d e = cc
-none_busy (suc n) zero d e = cc
-none_busy (suc n) (suc place) d e = none_busy n place d e
+    pub makes_sound : StaysSound
+    makes_sound w after x responses s m = move_sound w after responses s (moves w after x responses m)
 
 pub opening_sound : (o : Opening) → AreLegal o.generation o.blocks [] → IsSound (opening o)
 opening_sound o legal = record {
   legal = legal;
-  own = λ place d e. absurd (none_busy o.actors place d e);
-  installs = λ place d get id e is. absurd (none_busy o.actors place d e);
+  own = λ place d e. absurd (none_busy o.actors place e);
+  installs = λ place d get id e is. absurd (none_busy o.actors place e);
   lives = λ slot a e. absurd cc;
   blocks = opening_conserves o.actors o.blocks;
 }

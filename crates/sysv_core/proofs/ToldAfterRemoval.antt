@@ -1,20 +1,18 @@
 -- What the sends and receives of a queue report after its removal.
-use Rattle.std.proofs.Common.{◌≡◌, inl, inr, ℕ, zero, suc, ℤ, ◌||◌, Bool, true, false, cond, List, [], ◌∷◌, ◌++◌, refl}
-use Rattle.std.proofs.Common.{sym, ap, subst, ◌∙◌, arith, map, append_assoc, length}
-use Rattle.std.specs.List.{All, Contains, filter, list_any}
-use Rattle.std.specs.Ordering.{int_eq}
-use Rattle.std.proofs.lemmas.Bool.Decides.{Decides-int_eq}
-use Rattle.std.proofs.lemmas.List.{map-append}
+use Rattle.std.proofs.Common.{◌≡◌, inl, inr, ℕ, zero, suc, ℤ, Bool, true, false, List, [], ◌∷◌, ◌++◌, refl, sym, ap}
+use Rattle.std.proofs.Common.{subst, ◌∙◌, arith, append_assoc, length}
+use Rattle.std.specs.List.{All, Contains, list_any}
 use Rattle.std.proofs.lemmas.List.Elements.{All-contains, All-contains_itself, All-push, All-weaker}
-use Rattle.std.proofs.lemmas.List.Elements.{Contains-append_right, filter-append}
+use Rattle.std.proofs.lemmas.List.Elements.{Contains-append_right, All-nil}
 use Rattle.std.proofs.lemmas.List.Folds.{list_any-append}
+use Rattle.std.proofs.lemmas.Bool.{or_left, or_from}
 use Rattle.sysv_model.specs.declared.cred.Cred.{Cred}
 use Rattle.sysv_model.specs.declared.errno.Errno.{Errno}
 use Rattle.sysv_model.specs.declared.errno.Errno.TheVariants.{EIDRM, EINVAL}
 use Rattle.sysv_model.specs.declared.flags.TheConstants.Flags.{MSG_NOERROR}
 use Rattle.sysv_model.specs.HasFlag.{has_flag}
 use Rattle.sysv_model.specs.Selector.{selector_for}
-use Rattle.sysv_model.specs.History.{Who, Call, Look, Place, Take, Remove, Gone, Discarded, Entry, History}
+use Rattle.sysv_model.specs.History.{Call, Look, Place, Take, Remove, Gone, Discarded, Entry, History}
 use Rattle.sysv_model.specs.Turn.{OfSlot, Op, AtSlot, AtRegistry, AtPool, asked_by, Turn, slot_history, is_same}
 use Rattle.sysv_model.specs.Turn.{ops_of}
 use Rattle.sysv_queue.specs.ForGood.{NamesId, not_live_reply}
@@ -26,12 +24,13 @@ use Rattle.sysv_steps.specs.AsksFor.{AsksFor, AllAskFor}
 use Rattle.sysv_steps.specs.Answers.{is_at_slot, found_gone, some}
 use Rattle.sysv_steps.specs.AfterRemoval.{SendsOrReceives, IsToldOfRemoval, EachIsToldOfRemoval}
 use Rattle.sysv_core.specs.World.{World, Invocation, Response, begun}
-use Rattle.sysv_core.specs.AnswerLaw.{endings_of, ended, Fate}
+use Rattle.sysv_core.specs.AnswerLaw.{endings_of, ended, Outcome}
 use Rattle.sysv_core.specs.Removed.{AreRemovedForGood}
 use Rattle.sysv_core.specs.LastWords.{IsOfQueue, IsRemoval, IsToldSo}
 use Rattle.sysv_core.proofs.Histories.{turn_of}
-use Rattle.sysv_core.proofs.Life.{Passes, passing, or_left}
-use Rattle.sysv_core.proofs.TurnInHistory.{made_at, slot_around}
+use Rattle.sysv_core.proofs.Lifetime.{Passes, passing, same_int}
+use Rattle.sysv_core.proofs.TurnInHistory.{made_at, slot_around, kept}
+use Rattle.sysv_core.proofs.PartsOfOneCall.{ops_both}
 
 -- ---- lists
 
@@ -44,35 +43,9 @@ contained_at (y ∷ xs) x (suc k, low, is) =
     let r = contained_at xs x (k, omega (arith, low), is) in
     (y ∷ r.0, r.1, ap (λ zs. y ∷ zs) r.2)
 
-nor_left : (a b : Bool) → a ≡ false → b ≡ false → (a || b) ≡ false
-nor_left false false e f = refl
-nor_left false true e f = absurd cc
-nor_left true b e f = absurd cc
-
 -- ---- the operations of a call around a turn
 
-ops_both : (who : Who) (xs ys : List Turn) → ops_of who (xs ++ ys) ≡ ops_of who xs ++ ops_of who ys
-ops_both who xs ys =
-    ap (map (λ (x : Turn). x.op)) (filter-append (λ (x : Turn). is_same who x.who) xs ys)
-    ∙ map-append (λ (x : Turn). x.op) (filter (λ (x : Turn). is_same who x.who) xs)
-    (filter (λ (x : Turn). is_same who x.who) ys)
-
-abbrev from_turn : Who → Bool → Turn → List Turn → List Op
-from_turn who b t ts = map (λ (x : Turn). x.op)
-    (cond b (t ∷ filter (λ (x : Turn). is_same who x.who) ts) (filter (λ (x : Turn). is_same who x.who) ts))
-
--- No send and no receive requests a removal.
-not_removal : (id at : ℤ) (slot : ℕ) (cred by : Cred) (asked : SystemCall) → IsOfQueue id asked →
-    AsksFor cred asked (OfSlot slot (Remove at by)) → ⊥
-not_removal id at slot cred by (Msgsnd i mtype flags text) q (inl e) = cc
-not_removal id at slot cred by (Msgsnd i mtype flags text) q (inr (inl e)) = cc
-not_removal id at slot cred by (Msgsnd i mtype flags text) q (inr (inr (inl (now, e)))) = cc
-not_removal id at slot cred by (Msgsnd i mtype flags text) q (inr (inr (inr (blocks, e)))) = cc
-not_removal id at slot cred by (Msgrcv i size mtype flags) q (inl (now, e)) = cc
-not_removal id at slot cred by (Msgrcv i size mtype flags) q (inr (blocks, e)) = cc
-not_removal id at slot cred by asked q e = q
-
--- What such a call requests of a slot has the identifier, and the reply is Gone if that is not
+-- What a send or a receive requests of a slot has the identifier, and the reply is Gone if that is not
 -- live.
 record IsAbout (id : ℤ) (slot : ℕ) (call : Call) : Type 0 where
   there : slot ≡ slot_of_id id
@@ -100,9 +73,6 @@ is_about id slot call cred asked q e = absurd q
 
 -- ---- a removal, and one call
 
-all_empty : (P : Ending → Type 0) → All P []
-all_empty P k d low = absurd (omega (arith, low))
-
 is_one : (asked : SystemCall) (id : ℤ) → IsOfQueue id asked → SendsOrReceives asked
 is_one (Msgsnd i mtype flags text) id q = tt
 is_one (Msgrcv i size mtype flags) id q = tt
@@ -112,7 +82,7 @@ is_gone : (op : Op) → found_gone op ≡ true → (slot : ℕ) × (call : Call)
 is_gone (AtSlot slot call Gone) e = (slot, call, refl)
 is_gone op e = absurd cc
 
-module _ (w : World) (responses : List Response) (call : Invocation) (fate : Fate w responses call)
+module _ (w : World) (responses : List Response) (call : Invocation) (outcome : Outcome w responses call)
     (told : EachIsToldOfRemoval)
     (all : AllAskFor call.cred call.asked (ops_of call.who w.turns)) (good : AreRemovedForGood w.turns)
     (id : ℤ) (before after : List Turn) (t : Turn) (whole : w.turns ≡ before ++ t ∷ after)
@@ -127,7 +97,7 @@ module _ (w : World) (responses : List Response) (call : Invocation) (fate : Fat
   asked_for op has =
       All-contains (λ (d : Op). AsksFor call.cred call.asked (asked_by d)) (ops_of call.who w.turns) op all has
 
-  parted : ops_of call.who w.turns ≡ earlier ++ from_turn call.who (is_same call.who t.who) t after
+  parted : ops_of call.who w.turns ≡ earlier ++ kept call.who (is_same call.who t.who) t after
   parted = ap (ops_of call.who) whole ∙ ops_both call.who before (t ∷ after)
 
   -- The removal belongs to another call.
@@ -135,17 +105,15 @@ module _ (w : World) (responses : List Response) (call : Invocation) (fate : Fat
   another false e = e
   another true e =
       let mine : ops_of call.who w.turns ≡ earlier ++ t.op ∷ since =
-      parted ∙ ap (λ b. earlier ++ from_turn call.who b t after) e in
+      parted ∙ ap (λ b. earlier ++ kept call.who b t after) e in
       let has : Contains (ops_of call.who w.turns) t.op = subst (λ (ds : List Op). Contains ds t.op) (sym mine)
       (Contains-append_right earlier (t.op ∷ since) t.op (0, omega arith, refl)) in
-      absurd (not_removal id id (slot_of_id id) call.cred removal.0 call.asked q
-      (subst (λ (d : Op). AsksFor call.cred call.asked (asked_by d)) removal.2 (asked_for t.op has)))
+      let no_call = (is_about id (slot_of_id id) (Remove id removal.0) call.cred call.asked q
+      (subst (λ (d : Op). AsksFor call.cred call.asked (asked_by d)) removal.2 (asked_for t.op has))).gone in
+      absurd cc
 
   ops_are : ops_of call.who w.turns ≡ earlier ++ since
-  ops_are = parted ∙ ap (λ b. earlier ++ from_turn call.who b t after) (another (is_same call.who t.who) refl)
-
-  same_int : int_eq id id ≡ true
-  same_int = (Decides-int_eq id id).1 refl
+  ops_are = parted ∙ ap (λ b. earlier ++ kept call.who b t after) (another (is_same call.who t.who) refl)
 
   -- The history of the slot around the removal.
   abbrev slot : ℕ
@@ -162,7 +130,7 @@ module _ (w : World) (responses : List Response) (call : Invocation) (fate : Fat
   told_gone : (e : Entry) → Contains (slot_history slot after) e → NamesId id e.call → e.reply ≡ not_live_reply e.call
   told_gone e has =
       All-contains (λ (x : Entry). NamesId id x.call → x.reply ≡ not_live_reply x.call) (slot_history slot after) e
-      (good.gone slot id (slot_history slot before) (slot_history slot after) entry history same_int).told has
+      (good.gone slot id (slot_history slot before) (slot_history slot after) entry history (same_int id)).told has
 
   -- A turn of the call at the slot since then.
   finds_gone : (op : Op) → Contains since op → is_at_slot op ≡ true → found_gone op ≡ true
@@ -209,16 +177,16 @@ module _ (w : World) (responses : List Response) (call : Invocation) (fate : Fat
         ((ending : Ending) → Plays (begun call) (ops_of call.who w.turns) (Over ending) → ending ≡ Refused why) →
         (state : State) → Plays (begun call) (ops_of call.who w.turns) state →
         All (λ (ending : Ending). ending ≡ Refused why) (ended state)
-    each_ending why f (Goes phase) plays = all_empty (λ (ending : Ending). ending ≡ Refused why)
-    each_ending why f (Waits wait) plays = all_empty (λ (ending : Ending). ending ≡ Refused why)
+    each_ending why f (Goes phase) plays = All-nil (λ (ending : Ending). ending ≡ Refused why)
+    each_ending why f (Waits wait) plays = All-nil (λ (ending : Ending). ending ≡ Refused why)
     each_ending why f (Over ending) plays = All-push (λ (x : Ending). x ≡ Refused why) [] ending
-        (all_empty (λ (x : Ending). x ≡ Refused why)) (f ending plays)
+        (All-nil (λ (x : Ending). x ≡ Refused why)) (f ending plays)
 
     all_endings : (why : Errno) →
         ((ending : Ending) → Plays (begun call) (ops_of call.who w.turns) (Over ending) → ending ≡ Refused why) →
         All (λ (ending : Ending). ending ≡ Refused why) (endings_of call.who responses)
-    all_endings why f = subst (All (λ (ending : Ending). ending ≡ Refused why)) (sym fate.answered)
-        (each_ending why f fate.state fate.plays)
+    all_endings why f = subst (All (λ (ending : Ending). ending ≡ Refused why)) (sym outcome.answered)
+        (each_ending why f outcome.state outcome.plays)
 
     was_there : some is_at_slot earlier →
         All (λ (ending : Ending). ending ≡ Refused EIDRM) (endings_of call.who responses)
@@ -232,7 +200,7 @@ module _ (w : World) (responses : List Response) (call : Invocation) (fate : Fat
     was_not none = all_endings EINVAL (λ ending plays.
         (answer ending plays).absent
         (list_any-append is_at_slot earlier came.front
-        ∙ nor_left (list_any is_at_slot earlier) (list_any is_at_slot came.front) none came.none_before))
+        ∙ or_from (list_any is_at_slot earlier) (list_any is_at_slot came.front) none came.none_before))
 
   pub told_so : IsToldSo earlier since (endings_of call.who responses)
   told_so = record {

@@ -1,10 +1,9 @@
 -- An operation of a call and the turn that made it, among all turns; and the entry of that turn in
 -- the history of its object.
-use Rattle.std.proofs.Common.{◌≡◌, ℕ, Bool, true, false, cond, List, [], ◌∷◌, ◌++◌, refl, ap, subst, ◌∙◌, arith, map}
+use Rattle.std.proofs.Common.{◌≡◌, ℕ, Bool, true, false, cond, List, [], ◌∷◌, ◌++◌, refl, ap, subst, ◌∙◌, map}
 use Rattle.std.specs.List.{filter}
-use Rattle.std.proofs.Math.Dec.{eqb}
 use Rattle.std.proofs.lemmas.Grind.{flat_map-append}
-use Rattle.std.proofs.lemmas.Bool.Decides.{nat_tests}
+use Rattle.std.proofs.lemmas.Bool.{eq-eqb}
 use Rattle.sysv_model.specs.History.{Who, Call, Reply, Entry}
 use Rattle.sysv_model.specs.Registry.{RegistryCall, RegistryReply}
 use Rattle.sysv_model.specs.Turn.{Op, AtSlot, AtRegistry, Turn, slot_entry, registry_entry, slot_history}
@@ -21,7 +20,8 @@ pub record Made (who : Who) (turns : List Turn) (front : List Op) (op : Op) (lat
   pub front_is : ops_of who before ≡ front
   pub later_is : ops_of who after ≡ later
 
-abbrev kept : Who → Bool → Turn → List Turn → List Op
+-- The operations of a turn, if it is one of the call, and of later ones.
+abbrev pub kept : Who → Bool → Turn → List Turn → List Op
 kept who b t ts = map (λ (x : Turn). x.op)
     (cond b (t ∷ filter (λ (x : Turn). is_same who x.who) ts) (filter (λ (x : Turn). is_same who x.who) ts))
 
@@ -72,9 +72,6 @@ made_at who [] (f ∷ front) op later e = absurd cc
 made_at who (t ∷ ts) front op later e =
     made_here who t ts (is_same who t.who) refl (made_at who ts) front op later e
 
-pub itself : (n : ℕ) → eqb n n ≡ true
-itself n = grind (arith, nat_tests)
-
 -- The history of a slot around one of its turns.
 pub slot_around : (slot : ℕ) (before after : List Turn) (who : Who) (call : Call) (reply : Reply) →
     slot_history slot (before ++ turn_of who (AtSlot slot call reply) ∷ after)
@@ -82,7 +79,7 @@ pub slot_around : (slot : ℕ) (before after : List Turn) (who : Who) (call : Ca
 slot_around slot before after who call reply =
     let e : Entry = record { who = who; call = call; reply = reply } in
     flat_map-append (λ (x : Turn). slot_entry slot x.who x.op) before (turn_of who (AtSlot slot call reply) ∷ after)
-    ∙ ap (λ b. slot_history slot before ++ (cond b (e ∷ []) [] ++ slot_history slot after)) (itself slot)
+    ∙ ap (λ b. slot_history slot before ++ (cond b (e ∷ []) [] ++ slot_history slot after)) (eq-eqb slot slot refl)
 
 -- The history of the registry around one of its turns.
 pub registry_around : (before after : List Turn) (who : Who) (call : RegistryCall) (reply : RegistryReply) →

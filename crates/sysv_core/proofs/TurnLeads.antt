@@ -3,7 +3,7 @@ use Rattle.std.proofs.Common.{◌≡◌, ◌↔◌, ◌<◌, ◌≤◌, ◌⊎�
 use Rattle.std.proofs.Common.{subst, ◌∙◌}
 use Rattle.sysv_model.specs.Turn.{Turn}
 use Rattle.sysv_objects.specs.Objects.{Objects}
-use Rattle.sysv_objects.specs.StandsFor.{MakesTurn}
+use Rattle.sysv_objects.specs.Represents.{MakesTurn}
 use Rattle.sysv_steps.specs.State.{Phase, AtInstall, AtPlace, AtTake, AtSet, State, Wait, Goes, Waits}
 use Rattle.sysv_steps.specs.Asks.{asks}
 use Rattle.sysv_steps.specs.Seen.{get_phase, send_phase, receive_phase, receive_state, set_phase, remove_phase}

@@ -3,7 +3,6 @@
 -- since the refusal, and reservations since then only took blocks.
 use Rattle.std.proofs.Common.{◌≡◌, ◌⊎◌, inl, inr, ℕ, suc, ◌+◌, ◌<◌, ◌≤◌, Bool, true, false, cond, List, [], ◌∷◌, ◌++◌}
 use Rattle.std.proofs.Common.{Option, None, Some, refl, sym, ap, subst, ◌∙◌, arith, length, slice_get, slice_set}
-use Rattle.std.proofs.lemmas.List.{append-nil}
 use Rattle.sysv_model.specs.declared.cred.Cred.{Cred}
 use Rattle.sysv_model.specs.declared.errno.Errno.{Errno}
 use Rattle.sysv_model.specs.declared.errno.Errno.TheVariants.{EAGAIN, EINVAL, ENOMSG}
@@ -11,7 +10,7 @@ use Rattle.sysv_model.specs.History.{Who, Gone, Full, Fits, NoMatch, Installed}
 use Rattle.sysv_model.specs.Registry.{Made, Changed}
 use Rattle.sysv_model.specs.Pool.{PoolCall, Reserve, Release, PoolReply, Reserved, TooFew, Released, Foreign, PoolEntry}
 use Rattle.sysv_model.specs.Pool.{PoolHistory, blocks_for, frees, released}
-use Rattle.sysv_model.specs.Turn.{Op, AtSlot, AtRegistry, AtPool, asked_by, Turn, pool_entry, pool_history}
+use Rattle.sysv_model.specs.Turn.{Op, AtSlot, AtRegistry, AtPool, asked_by, Turn, pool_history}
 use Rattle.sysv_pool.specs.State.{returned_by, free_after}
 use Rattle.sysv_objects.specs.LegalOp.{IsLegalOp}
 use Rattle.sysv_steps.specs.Call.{SystemCall, Msgsnd}
@@ -23,8 +22,7 @@ use Rattle.sysv_steps.specs.Asks.{asks}
 use Rattle.sysv_steps.specs.Next.{waits_or, goes_on, next}
 use Rattle.sysv_steps.specs.Resume.{resume, awaited}
 use Rattle.sysv_core.specs.World.{World, Invocation, Doing, Response, doing_in, starting, begun, value_of}
-use Rattle.sysv_core.proofs.Histories.{turn_of, pool_more, preset_pool, one, released_more, returned_more}
-use Rattle.sysv_core.proofs.Histories.{reserved_more}
+use Rattle.sysv_core.proofs.Histories.{turn_of, pool_on, preset_pool, one, released_more, returned_more, reserved_more}
 use Rattle.sysv_core.proofs.Told.{told, told_is}
 use Rattle.sysv_core.proofs.SoundStays.{moved, other, does}
 use Rattle.sysv_core.proofs.Moves.{Move, stood, began, turned, awoke, preset_made}
@@ -207,14 +205,8 @@ AreRight blocks turns actors =
 -- The same after one more turn of any caller.
 still_right : (blocks : ℕ) (turns : List Turn) (who : Who) (op : Op) (state : State) →
     IsRight blocks (pool_history turns) state → IsRight blocks (pool_history (turns ++ turn_of who op ∷ [])) state
-still_right blocks turns who op state r =
-    subst (λ h. IsRight blocks h state) (sym (pool_more turns (turn_of who op))) (by_op op)
-  where
-    by_op : (d : Op) → IsRight blocks (pool_history turns ++ pool_entry who d) state
-    by_op (AtSlot slot call reply) = subst (λ h. IsRight blocks h state) (sym (append-nil (pool_history turns))) r
-    by_op (AtRegistry call reply) = subst (λ h. IsRight blocks h state) (sym (append-nil (pool_history turns))) r
-    by_op (AtPool call reply) =
-        right_more blocks (pool_history turns) (record { who = who; call = call; reply = reply }) state r
+still_right blocks turns who op state r = pool_on (λ h. IsRight blocks h state) turns who op r
+    (λ e. right_more blocks (pool_history turns) e state r)
 
 module _ (w : World) (all : AreRight w.blocks w.turns w.actors) (place : ℕ) (call : Invocation) where
   turn_right : (phase : Phase) (now : ℕ) (op : Op) (state : State) →

@@ -1,11 +1,13 @@
 -- What the answer law admits and refuses at the send of the worked run.
-use Rattle.std.proofs.Common.{◌≡◌, ℕ, zero, suc, pos, true, inl, inr, List, [], ◌∷◌, None, Some, refl, sym, ap, subst}
-use Rattle.std.proofs.Common.{arith}
-use Rattle.std.specs.List.{All, Contains}
+use Rattle.std.proofs.Common.{◌≡◌, zero, suc, pos, true, inl, inr, List, [], ◌∷◌, None, Some, refl, sym, ap, subst}
+use Rattle.std.proofs.Common.{arith, false}
+use Rattle.std.specs.List.{All, Contains, list_any}
+use Rattle.std.proofs.lemmas.Bool.{both_ways}
+use Rattle.std.proofs.lemmas.List.Folds.{list_any-from_Any}
 use Rattle.sysv_model.specs.declared.errno.Errno.TheVariants.{EAGAIN}
 use Rattle.sysv_model.specs.Message.{Message}
-use Rattle.sysv_model.specs.History.{Actor, Remove, Discarded}
-use Rattle.sysv_model.specs.Turn.{OfSlot, Op, AtSlot, ops_of}
+use Rattle.sysv_model.specs.History.{Actor, Remove, Discarded, Who}
+use Rattle.sysv_model.specs.Turn.{OfSlot, Op, AtSlot, ops_of, is_same}
 use Rattle.sysv_steps.specs.State.{AtPlace, Ending, Zero, Refused, State, Goes, Waits, Over}
 use Rattle.sysv_steps.specs.Played.{Plays, begins, steps}
 use Rattle.sysv_steps.specs.AsksFor.{AsksFor, EachOpIsAskedFor}
@@ -14,9 +16,9 @@ use Rattle.sysv_core.specs.World.{Invocation, begun, preset_who, preset_cred, pr
 use Rattle.sysv_core.specs.World.{preset_settle}
 use Rattle.sysv_core.specs.AnswerLaw.{AreInTheirCalls, IsMade, ended, standing}
 use Rattle.sysv_core.specs.WorkedRun.{hello, the_calls, look_for}
-use Rattle.sysv_core.proofs.SoundStays.{none_busy}
 use Rattle.sysv_core.specs.WorkedAnswers.{the_send, the_end, still_reserving, looking, looked_by, look_fits}
 use Rattle.sysv_core.specs.WorkedAnswers.{gets_a_block, accepts, WorkedAnswers}
+use Rattle.sysv_core.proofs.Lists.{none_busy}
 
 abbrev placing : State
 placing = Goes (AtPlace record {
@@ -53,36 +55,16 @@ over_and_going x s (Goes phase) e f = cc
 over_and_going x s (Waits wait) e f = cc
 over_and_going x s (Over ending) e f = cc
 
--- No call of the run belongs to actor 3.
-none_of_three : (place : ℕ) → (call : Invocation) × Contains the_calls call × (Actor 3 place ≡ call.who) → ⊥
-none_of_three place (call, (zero, low, is), name) = let e = ap (λ (c : Invocation). c.who) is in cc
-none_of_three place (call, (suc zero, low, is), name) = let e = ap (λ (c : Invocation). c.who) is in cc
-none_of_three place (call, (suc (suc zero), low, is), name) = let e = ap (λ (c : Invocation). c.who) is in cc
-none_of_three place (call, (suc (suc (suc zero)), low, is), name) = let e = ap (λ (c : Invocation). c.who) is in cc
-none_of_three place (call, (suc (suc (suc (suc zero))), low, is), name) =
-    let e = ap (λ (c : Invocation). c.who) is in cc
-none_of_three place (call, (suc (suc (suc (suc (suc zero)))), low, is), name) =
-    let e = ap (λ (c : Invocation). c.who) is in cc
-none_of_three place (call, (suc (suc (suc (suc (suc (suc zero))))), low, is), name) =
-    let e = ap (λ (c : Invocation). c.who) is in cc
-none_of_three place (call, (suc (suc (suc (suc (suc (suc (suc k)))))), low, is), name) = omega (arith, low)
+-- Some names are not those of calls of the run.
+never_called : (who : Who) → list_any (λ (c : Invocation). is_same who c.who) the_calls ≡ false →
+    is_same who who ≡ true → (call : Invocation) × Contains the_calls call × (who ≡ call.who) → ⊥
+never_called who none same (call, has, name) =
+    both_ways _ none (list_any-from_Any (λ (c : Invocation). is_same who c.who) the_calls
+    (has.0, call, has.1, has.2, subst (λ x. is_same who x ≡ true) name same))
 
 nobody : (op : Op) → ¬ IsMade the_calls (record { who = Actor 3 0; op = op })
 nobody op (inl preset) = let who = preset.0 in cc
-nobody op (inr by) = none_of_three 0 by
-
--- No call of the run has the name of a preset.
-none_of_preset : (call : Invocation) × Contains the_calls call × (preset_who ≡ call.who) → ⊥
-none_of_preset (call, (zero, low, is), name) = let e = ap (λ (c : Invocation). c.who) is in cc
-none_of_preset (call, (suc zero, low, is), name) = let e = ap (λ (c : Invocation). c.who) is in cc
-none_of_preset (call, (suc (suc zero), low, is), name) = let e = ap (λ (c : Invocation). c.who) is in cc
-none_of_preset (call, (suc (suc (suc zero)), low, is), name) = let e = ap (λ (c : Invocation). c.who) is in cc
-none_of_preset (call, (suc (suc (suc (suc zero))), low, is), name) = let e = ap (λ (c : Invocation). c.who) is in cc
-none_of_preset (call, (suc (suc (suc (suc (suc zero)))), low, is), name) =
-    let e = ap (λ (c : Invocation). c.who) is in cc
-none_of_preset (call, (suc (suc (suc (suc (suc (suc zero))))), low, is), name) =
-    let e = ap (λ (c : Invocation). c.who) is in cc
-none_of_preset (call, (suc (suc (suc (suc (suc (suc (suc k)))))), low, is), name) = omega (arith, low)
+nobody op (inr by) = never_called (Actor 3 0) refl refl by
 
 three_of_preset : All (λ (op : Op). IsMade [] (record { who = preset_who; op = op }))
     (preset_begin ∷ preset_install ∷ preset_settle ∷ [])
@@ -95,14 +77,14 @@ no_look : ¬ IsMade the_calls (record { who = preset_who; op = look_fits })
 no_look (inl (who, inl is)) = cc
 no_look (inl (who, inr (inl is))) = cc
 no_look (inl (who, inr (inr is))) = cc
-no_look (inr by) = none_of_preset by
+no_look (inr by) = never_called preset_who refl refl by
 
 no_removal : (messages : List Message) →
     ¬ IsMade the_calls (record { who = preset_who; op = AtSlot 0 (Remove (pos 0) preset_cred) (Discarded messages) })
 no_removal messages (inl (who, inl is)) = cc
 no_removal messages (inl (who, inr (inl is))) = cc
 no_removal messages (inl (who, inr (inr is))) = cc
-no_removal messages (inr by) = none_of_preset by
+no_removal messages (inr by) = never_called preset_who refl refl by
 
 -- A send of 5 bytes does not request room for 6.
 other_size : AsksFor the_send.cred the_send.asked (OfSlot 0 (look_for 6)) → ⊥
@@ -116,7 +98,7 @@ in_its_own : AreInTheirCalls (looking 5)
 in_its_own zero d there =
     let same : d.call ≡ the_send = cc in
     ((0, omega arith, sym same), (2, ap (λ (c : Invocation). c.who) same))
-in_its_own (suc place) d there = absurd (none_busy 15 place d there)
+in_its_own (suc place) d there = absurd (none_busy 15 place there)
 
 not_started_there : ¬ AreInTheirCalls (record (looking 5) { calls = [] })
 not_started_there own = omega (arith, (own 0 _ refl).0.1)

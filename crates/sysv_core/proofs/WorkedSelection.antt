@@ -1,6 +1,6 @@
 -- The replies worked by hand are the legal ones.
 use Rattle.std.proofs.Common.{◌≡◌, ◌≢◌, ℕ, ℤ, pos, zero, suc, ◌<◌, ◌≤◌, ◌<ℤ◌, ◌≤ℤ◌, ◌^◌, inl, inr, false, List, [], ◌∷◌}
-use Rattle.std.proofs.Common.{Some, refl, arith, slice_get}
+use Rattle.std.proofs.Common.{Some, refl, arith, slice_get, sym}
 use Rattle.std.proofs.lemmas.Int.{ints}
 use Rattle.sysv_model.specs.declared.selector.Selector.TheVariants.{Any, Exactly, Except, UpTo}
 use Rattle.sysv_model.specs.Live.{live}
@@ -10,7 +10,8 @@ use Rattle.sysv_queue.specs.LegalReply.{IsGivable}
 use Rattle.sysv_queue.specs.Granted.{MayRead, MayWrite}
 use Rattle.sysv_core.specs.WorkedRun.{receiver, hello_message, empty_message, after_turns}
 use Rattle.sysv_core.proofs.WorkedRun.{not_again}
-use Rattle.sysv_core.specs.WorkedSelection.{stranger, root, WorkedSelection}
+use Rattle.sysv_core.specs.WorkedSelection.{stranger, WorkedSelection}
+use Rattle.sysv_core.proofs.Lifetime.{some_is}
 
 -- The types of the two messages.
 abbrev the_types : List ℤ
@@ -18,12 +19,6 @@ the_types = pos 5 ∷ pos 2 ∷ []
 
 receiver_reads : MayRead receiver (live (after_turns 6))
 receiver_reads = inr (inl (inl refl, λ none. cc))
-
-root_reads : MayRead root (live (after_turns 6))
-root_reads = inl refl
-
-root_writes : MayWrite root (live (after_turns 6))
-root_writes = inl refl
 
 stranger_reads_not : ¬ MayRead stranger (live (after_turns 6))
 stranger_reads_not (inl zeroth) = omega (arith, zeroth)
@@ -99,17 +94,13 @@ never_excepted : (place : ℕ) → IsNamed (Except (pos 5)) the_types place →
     slice_get (hello_message ∷ empty_message ∷ []) place ≡ Some hello_message → ⊥
 never_excepted zero named there = named.0.1 refl
 never_excepted (suc zero) named there =
-    let same : Some empty_message ≡ Some hello_message = there in
-    let first : hello_message ≡ empty_message = cc in
-    not_again first
+    not_again (sym (some_is there))
 never_excepted (suc (suc place)) named there = let within = named.0.0 in omega arith
 
 never_later : (place : ℕ) → IsNamed (Except (pos 3)) the_types place →
     slice_get (hello_message ∷ empty_message ∷ []) place ≡ Some empty_message → ⊥
 never_later zero named there =
-    let same : Some hello_message ≡ Some empty_message = there in
-    let first : hello_message ≡ empty_message = cc in
-    not_again first
+    not_again (some_is there)
 never_later (suc zero) named there = named.1 0 (omega arith) but_three_named.0
 never_later (suc (suc place)) named there = let within = named.0.0 in omega arith
 
@@ -122,9 +113,7 @@ never_earliest : (bound place : ℕ) → IsNamed (UpTo bound) the_types place �
     slice_get (hello_message ∷ empty_message ∷ []) place ≡ Some hello_message → ⊥
 never_earliest bound zero named there = first_not_named bound named
 never_earliest bound (suc zero) named there =
-    let same : Some empty_message ≡ Some hello_message = there in
-    let first : hello_message ≡ empty_message = cc in
-    not_again first
+    not_again (sym (some_is there))
 never_earliest bound (suc (suc place)) named there = let within = named.0.0 in omega arith
 
 four_short : ¬ IsGivable 4 false hello_message
@@ -153,6 +142,6 @@ worked_selection = record {
   no_size_unread = λ legal. stranger_reads_not legal.1;
   no_write = (refl, stranger_writes_not);
   no_room_unwritten = λ freed legal. stranger_writes_not legal.1;
-  all_to_root = (refl, root_writes, (omega arith, omega arith));
-  all_read_by_root = (refl, root_reads, (0, first_named, refl), inl (omega arith));
+  all_to_root = (refl, inl refl, (omega arith, omega arith));
+  all_read_by_root = (refl, inl refl, (0, first_named, refl), inl (omega arith));
 }

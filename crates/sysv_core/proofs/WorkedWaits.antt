@@ -1,34 +1,24 @@
 -- What the laws of waits and of removals admit and refuse.
-use Rattle.std.proofs.Common.{◌≡◌, ℕ, ◌<◌, inl, inr, true, false, List, [], ◌∷◌, ◌++◌, refl, arith, pos}
+use Rattle.std.proofs.Common.{◌≡◌, inl, inr, true, false, List, [], ◌∷◌, ◌++◌, refl, arith, pos}
 use Rattle.std.specs.List.{All}
-use Rattle.std.proofs.lemmas.List.Elements.{All-push, All-contains}
+use Rattle.std.proofs.lemmas.List.Elements.{All-push, All-contains, All-nil}
 use Rattle.sysv_model.specs.declared.errno.Errno.TheVariants.{EIDRM, EINVAL}
-use Rattle.sysv_model.specs.declared.selector.Selector.TheVariants.{Any}
 use Rattle.sysv_model.specs.Registry.{Forget, Changed}
 use Rattle.sysv_model.specs.Turn.{Op, AtRegistry, Turn}
-use Rattle.sysv_queue.specs.Named.{IsNamed}
 use Rattle.sysv_steps.specs.State.{Ending, Refused}
 use Rattle.sysv_steps.specs.Answers.{is_at_slot, found_gone}
 use Rattle.sysv_core.specs.World.{with_preset_turns}
 use Rattle.sysv_core.specs.Forgotten.{TakesItsRow, AllTakeTheirRows}
 use Rattle.sysv_core.specs.WorkedWaits.{by_preset, after_removal, after_forget, finds_none, finds_it_gone, WorkedWaits}
 use Rattle.sysv_core.proofs.Histories.{begun_turns, installed_turns}
-
-none_is_named : (place : ℕ) → ¬ IsNamed Any [] place
-none_is_named place named = let below : place < 0 = named.0.0 in omega arith
-
-no_op : (P : Op → Type 0) → All P []
-no_op P k d low = absurd (omega (arith, low))
-
-no_ending : (P : Ending → Type 0) → All P []
-no_ending P k d low = absurd (omega (arith, low))
+use Rattle.sysv_core.proofs.WorkedRun.{none_is_named}
 
 all_gone : All (λ (op : Op). is_at_slot op ≡ true → found_gone op ≡ true) (finds_it_gone ∷ [])
-all_gone = All-push (λ (op : Op). is_at_slot op ≡ true → found_gone op ≡ true) [] finds_it_gone (no_op _)
+all_gone = All-push (λ (op : Op). is_at_slot op ≡ true → found_gone op ≡ true) [] finds_it_gone (All-nil _)
     (λ at. refl)
 
 one_ending : (e : Ending) → All (λ (x : Ending). x ≡ e) (e ∷ [])
-one_ending e = All-push (λ (x : Ending). x ≡ e) [] e (no_ending _) refl
+one_ending e = All-push (λ (x : Ending). x ≡ e) [] e (All-nil _) refl
 
 -- Turns that each take their row, and then one more that does.
 takes_one_more : (turns : List Turn) (t : Turn) → AllTakeTheirRows turns → TakesItsRow t.op →

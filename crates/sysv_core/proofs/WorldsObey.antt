@@ -1,4 +1,4 @@
--- Every list of happenings leads only to worlds that obey the laws.
+-- Every list of transitions leads only to worlds that obey the laws.
 use Rattle.std.proofs.Common.{◌≡◌, ◌≢◌, ℕ, zero, suc, ◌+◌, ◌<◌, ◌≤◌, ◌⊎◌, inl, inr, Bool, true, false, cond, List, []}
 use Rattle.std.proofs.Common.{◌∷◌, ◌++◌, Option, None, Some, refl, sym, ap, subst, ◌∙◌, arith, slice_get, slice_set}
 use Rattle.std.proofs.Common.{append_assoc, map}
@@ -8,6 +8,7 @@ use Rattle.std.proofs.lemmas.List.{append-nil}
 use Rattle.std.proofs.lemmas.List.Elements.{All-weaker, All-push, All-contains_itself, All-contains, Contains-get_or}
 use Rattle.std.proofs.lemmas.List.Elements.{Contains-append_left, Contains-push, Contains-push_cases}
 use Rattle.std.proofs.lemmas.List.Quantifiers.{all_pairs_push}
+use Rattle.std.proofs.lemmas.Bool.{cases_Bool}
 use Rattle.sysv_model.specs.History.{Who, Actor, History}
 use Rattle.sysv_model.specs.Pool.{PoolHistory}
 use Rattle.sysv_model.specs.Turn.{Op, Turn, slot_history, registry_history, pool_history, is_same, ops_of}
@@ -28,28 +29,28 @@ use Rattle.sysv_steps.specs.Effects.{effects, EachHasOneEffect}
 use Rattle.sysv_steps.specs.HoldsAsked.{EachHoldsWhatItWasAsked}
 use Rattle.sysv_steps.specs.WaitsFor.{EachWaitsForItsRefusal}
 use Rattle.sysv_steps.specs.AfterRemoval.{EachIsToldOfRemoval}
-use Rattle.sysv_core.specs.World.{World, Opening, Invocation, Doing, Response, Happening, opening, doing_in}
+use Rattle.sysv_core.specs.World.{World, Opening, Invocation, Doing, Response, Transition, opening, doing_in}
 use Rattle.sysv_core.specs.World.{response_in}
 use Rattle.sysv_core.specs.World.{StaysWith, starting, begun, Turns, value_of, preset_who, preset_begin, preset_install}
 use Rattle.sysv_core.specs.World.{preset_settle, with_preset_turns, with_preset}
 use Rattle.sysv_core.specs.Run.{Leads}
-use Rattle.sysv_core.specs.AnswerLaw.{endings_of, stands_in, standing_of, ended, standing, Fate, IsOfPreset, IsMade}
+use Rattle.sysv_core.specs.AnswerLaw.{endings_of, stands_in, standing_of, ended, standing, Outcome, IsOfPreset, IsMade}
 use Rattle.sysv_core.specs.AnswerLaw.{AsksAsItWasAsked}
 use Rattle.sysv_core.specs.Headline.{IsLawful, Obeys}
 use Rattle.sysv_core.specs.Conserved.{AreConserved}
 use Rattle.sysv_core.specs.Sound.{IsSound, StaysSound}
 use Rattle.sysv_core.proofs.Histories.{turn_of, begun_turns, installed_turns}
-use Rattle.sysv_core.proofs.SoundStays.{none_busy, opening_sound}
+use Rattle.sysv_core.proofs.SoundStays.{opening_sound, does, moved, other}
 use Rattle.sysv_core.proofs.WaitsForBlocks.{are_short}
 use Rattle.sysv_core.proofs.SendIsWoken.{AllWoken, move_woken, opening_woken, are_to_be_woken}
 use Rattle.sysv_core.proofs.ParkedRightly.{parked_rightly}
 use Rattle.sysv_core.proofs.Moves.{Move, stood, began, turned, awoke, preset_made, moves}
-use Rattle.sysv_core.proofs.Life.{either, jobs_of, resumed_none, begun_none}
-use Rattle.sysv_core.proofs.LifeGoesOn.{EachObeys, Lives, lives_turn, lives_stand, opening_lives}
-use Rattle.sysv_core.proofs.LifeGoesOn.{preset_lives}
-use Rattle.sysv_core.proofs.LifeLaws.{are_tended, good_of, settled_once_installed}
+use Rattle.sysv_core.proofs.Lifetime.{jobs_of, resumed_none, begun_none}
+use Rattle.sysv_core.proofs.LifetimeGoesOn.{EachObeys, Lives, lives_turn, lives_stand, opening_lives}
+use Rattle.sysv_core.proofs.LifetimeGoesOn.{preset_lives}
+use Rattle.sysv_core.proofs.LifetimeLaws.{are_tended, good_of, settled_once_installed}
 use Rattle.sysv_core.proofs.ToldAfterRemoval.{told_so}
-use Rattle.sysv_core.proofs.Lists.{get_set_same, get_set_other, same_place}
+use Rattle.sysv_core.proofs.Lists.{none_busy}
 use Rattle.sysv_core.proofs.PartsOfOneCall.{same_who, same_itself, not_same, own_op, other_op}
 use Rattle.sysv_core.proofs.PartsOfOneCall.{own_endings, other_endings, IsIn, at_actor, own_standing, other_standing}
 
@@ -71,8 +72,8 @@ AreOwn calls actors = (place : ℕ) (d : Doing) → slice_get actors place ≡ S
 -- What a run keeps, whose turns need no call where P holds.
 pub record Inv (P : Turn → Type 0) (w : World) (responses : List Response) : Type 0 where
   pub sound : IsSound w
-  pub life : Lives w.turns w.actors
-  pub fates : (c : Invocation) → Contains w.calls c → Fate w responses c
+  pub lifetime : Lives w.turns w.actors
+  pub outcomes : (c : Invocation) → Contains w.calls c → Outcome w responses c
   pub before : (c : Invocation) → Contains w.calls c → IsBefore w.steps c
   pub apart : AllPairs (λ (c d : Invocation). c.who ≢ d.who) w.calls
   pub named : (c d : Invocation) → Contains w.calls c → Contains w.calls d → c.who ≡ d.who → c ≡ d
@@ -107,21 +108,21 @@ module _ (w : World) (responses : List Response) (turns : List Turn) (calls : Li
     (call : Invocation) (state : State)
     (there : slice_get w.actors place ≡ Some was) (within : IsIn call.who was)
     (stay : OthersStay call.who w.turns turns) where
-  abbrev moved : World
-  moved = went w turns calls place call state
+  abbrev then_world : World
+  then_world = went w turns calls place call state
 
-  other_fate : (c : Invocation) → is_same c.who call.who ≡ false → Fate w responses c →
-      Fate moved (responses ++ response_in call state) c
-  other_fate c apart f = record {
+  other_outcome : (c : Invocation) → is_same c.who call.who ≡ false → Outcome w responses c →
+      Outcome then_world (responses ++ response_in call state) c
+  other_outcome c apart f = record {
     state = f.state;
     plays = subst (λ ds. Plays (begun c) ds f.state) (sym (stay c.who apart)) f.plays;
     answered = other_endings c.who responses call state apart ∙ f.answered;
     stands = other_standing c.who w.actors place was call state apart there within ∙ f.stands;
   }
 
-  own_fate : (start : ℕ) → call.who ≡ Actor (suc place) start → Stands turns responses call state →
-      Fate moved (responses ++ response_in call state) call
-  own_fate start who s = record {
+  own_outcome : (start : ℕ) → call.who ≡ Actor (suc place) start → Stands turns responses call state →
+      Outcome then_world (responses ++ response_in call state) call
+  own_outcome start who s = record {
     state = state;
     plays = s.plays;
     answered = own_endings responses call state (same_itself place start call.who who) s.quiet;
@@ -131,28 +132,14 @@ module _ (w : World) (responses : List Response) (turns : List Turn) (calls : Li
   -- An actor is in a call that it started.
   now_doing : (start : ℕ) → call.who ≡ Actor (suc place) start → Contains calls call →
       ((c : Invocation) → Contains w.calls c → Contains calls c) → AreOwn w.calls w.actors →
-      (o : Option Doing) → o ≡ doing_in call state → AreOwn calls (slice_set w.actors place o)
-  now_doing start who has more own o is = λ p d at. elim (same_place place p) [
-    | inl same ↦
-        let here : Some o ≡ Some (Some d) = sym (get_set_same w.actors place o was there)
-        ∙ subst (λ n. slice_get (slice_set w.actors place o) n ≡ Some (Some d)) (sym same) at in
-        let mine : doing_in call state ≡ Some d = sym is ∙ some_is o (Some d) here in
-        let c = call_of call state d mine in (
-          subst (Contains calls) (sym c) has,
-          (start, ap (λ (x : Invocation). x.who) c ∙ (who ∙ ap (λ n. Actor (suc n) start) same)),
-        )
-    | inr apart ↦
-        let old = own p d (sym (get_set_other w.actors place p o apart) ∙ at) in
-        (more d.call old.0, old.1)
+      AreOwn calls (slice_set w.actors place (doing_in call state))
+  now_doing start who has more own = λ p d at. elim (does w.actors place was call state p d there at) [
+    | moved same c s ↦ (
+      subst (Contains calls) (sym c) has,
+      (start, ap (λ (x : Invocation). x.who) c ∙ (who ∙ ap (λ n. Actor (suc n) start) same)),
+    )
+    | other old ↦ let mine = own p d old in (more d.call mine.0, mine.1)
   ]
-    where
-      some_is : (x y : Option Doing) → Some x ≡ Some y → x ≡ y
-      some_is x y e = cc
-
-      call_of : (c : Invocation) (s : State) (d : Doing) → doing_in c s ≡ Some d → d.call ≡ c
-      call_of c (Goes phase) d e = cc
-      call_of c (Waits wait) d e = cc
-      call_of c (Over ending) d e = absurd cc
 
 known_more : (calls : List Invocation) (responses : List Response) (call : Invocation) (state : State) →
     Contains calls call →
@@ -165,7 +152,7 @@ known_more calls responses call (Waits wait) has all =
 known_more calls responses call (Over ending) has all =
     All-push (λ (g : Response). Contains calls g.call) responses (record { call = call; ending = ending }) all has
 
--- ---- a call that is under way goes on
+-- ---- a call that is pending goes on
 
 sooner : (n : ℕ) (c : Invocation) → IsBefore n c → IsBefore (n + 1) c
 sooner n c b = (b.0, b.1, b.2, omega (arith, b.3))
@@ -194,7 +181,7 @@ module _ {P : Turn → Type 0} (w : World) (responses : List Response) (i : Inv 
 
   pub stands_there : Stands w.turns responses d.call d.state
   stands_there =
-      let f = i.fates d.call has_it in
+      let f = i.outcomes d.call has_it in
       let s = its_state f.state (sym f.stands ∙ where_it_stands) in
       record {
         plays = subst (Plays (begun d.call) (ops_of d.call.who w.turns)) s.0 f.plays;
@@ -205,16 +192,16 @@ module _ {P : Turn → Type 0} (w : World) (responses : List Response) (i : Inv 
       Lives turns (slice_set w.actors place (doing_in d.call state)) → OthersStay d.call.who w.turns turns →
       Stands turns responses d.call state → All (HasMaker P w.calls) turns →
       Inv P (went w turns w.calls place d.call state) (responses ++ response_in d.call state)
-  goes_on turns state sound life stay s made = record {
+  goes_on turns state sound lifetime stay s made = record {
     sound = sound;
-    life = life;
-    fates = λ c has. elim (either (is_same c.who d.call.who)) [
+    lifetime = lifetime;
+    outcomes = λ c has. elim (cases_Bool (is_same c.who d.call.who)) [
       | inl same ↦
           let one : d.call ≡ c = i.named d.call c has_it has (sym (same_who c.who d.call.who same)) in
-          subst (Fate _ (responses ++ response_in d.call state)) one
-          (own_fate w responses turns w.calls place (Some d) d.call state there refl stay its_name.0 its_name.1 s)
+          subst (Outcome _ (responses ++ response_in d.call state)) one
+          (own_outcome w responses turns w.calls place (Some d) d.call state there refl stay its_name.0 its_name.1 s)
       | inr apart ↦
-          other_fate w responses turns w.calls place (Some d) d.call state there refl stay c apart (i.fates c has)
+          other_outcome w responses turns w.calls place (Some d) d.call state there refl stay c apart (i.outcomes c has)
     ];
     before = λ c has. sooner w.steps c (i.before c has);
     apart = i.apart;
@@ -222,7 +209,7 @@ module _ {P : Turn → Type 0} (w : World) (responses : List Response) (i : Inv 
     made = made;
     known = known_more w.calls responses d.call state has_it i.known;
     doing = now_doing w responses turns w.calls place (Some d) d.call state there refl stay its_name.0 its_name.1 has_it
-        (λ c has. has) i.doing (doing_in d.call state) refl;
+        (λ c has. has) i.doing;
   }
 
 -- ---- the start of a call
@@ -272,13 +259,13 @@ module _ {P : Turn → Type 0} (nobody : (t : Turn) → P t → t.who ≡ preset
       let stay : OthersStay call.who w.turns w.turns = λ other apart. refl in
       record {
         sound = sound;
-        life = lives_stand w.turns w.actors place None call (begun call) there refl
-            (begun_none call.cred call.asked call.released) i.life;
-        fates = λ c has. elim (Contains-push_cases w.calls call c has) [
-          | inl old ↦ other_fate w responses w.turns calls place None call (begun call) there tt stay c
-              (not_same c.who call.who (is_new c old)) (i.fates c old)
-          | inr same ↦ subst (Fate _ (responses ++ response_in call (begun call))) same
-              (own_fate w responses w.turns calls place None call (begun call) there tt stay w.steps name stands_new)
+        lifetime = lives_stand w.turns w.actors place None call (begun call) there refl
+            (begun_none call.cred call.asked call.released) i.lifetime;
+        outcomes = λ c has. elim (Contains-push_cases w.calls call c has) [
+          | inl old ↦ other_outcome w responses w.turns calls place None call (begun call) there tt stay c
+              (not_same c.who call.who (is_new c old)) (i.outcomes c old)
+          | inr same ↦ subst (Outcome _ (responses ++ response_in call (begun call))) same
+              (own_outcome w responses w.turns calls place None call (begun call) there tt stay w.steps name stands_new)
         ];
         before = λ c has. elim (Contains-push_cases w.calls call c has) [
           | inl old ↦ sooner w.steps c (i.before c old)
@@ -304,7 +291,7 @@ module _ {P : Turn → Type 0} (nobody : (t : Turn) → P t → t.who ≡ preset
             (λ g has. Contains-append_left w.calls (call ∷ []) g.call has) responses i.known);
         doing = now_doing w responses w.turns calls place None call (begun call) there tt stay w.steps name
             (Contains-push w.calls call)
-            (λ c has. Contains-append_left w.calls (call ∷ []) c has) i.doing (doing_in call (begun call)) refl;
+            (λ c has. Contains-append_left w.calls (call ∷ []) c has) i.doing;
       }
 
 -- ---- answers
@@ -351,7 +338,7 @@ pub right_now : {P : Turn → Type 0} (w : World) (responses : List Response) �
 right_now w responses i right g has =
     let one = All-contains (λ (x : Response). Contains w.calls x.call) responses g i.known has in
     let name = i.before g.call one in
-    let f = i.fates g.call one in
+    let f = i.outcomes g.call one in
     is_right right g.call (ops_of g.call.who w.turns) f.state g.ending f.plays
     (subst (IsAmong g.ending) f.answered
     (given_is g.call.who responses g has (same_itself name.0 name.1 g.call.who name.2)))
@@ -377,19 +364,19 @@ module _ {P : Turn → Type 0} (laws : Laws) (o : Opening) (w : World) (response
 
   ops_asked : (c : Invocation) → Contains w.calls c → AsksAsItWasAsked w c
   ops_asked c has =
-      let f = i.fates c has in
+      let f = i.outcomes c has in
       laws.asked c.cred c.asked c.released (ops_of c.who w.turns) f.state f.plays
 
   few_effects : (c : Invocation) → Contains w.calls c → effects (ops_of c.who w.turns) ≤ 1
   few_effects c has =
-      let f = i.fates c has in
+      let f = i.outcomes c has in
       laws.one_effect c.cred c.asked c.released (ops_of c.who w.turns) f.state f.plays
 
   -- The laws hold of each turn's owner that is known.
   pub lawful : (owned : List Invocation → Turn → Type 0) → All (owned w.calls) w.turns → IsLawful owned o w responses
   lawful owned made =
       let slots = i.sound.legal.slots in
-      let good = good_of laws.for_good w.turns i.life.facts slots in
+      let good = good_of laws.for_good w.turns i.lifetime.facts slots in
       record {
         objects = record {
           queues = λ slot. laws.queue (slot_history slot w.turns) (slots slot);
@@ -399,14 +386,15 @@ module _ {P : Turn → Type 0} (laws : Laws) (o : Opening) (w : World) (response
           conserved = subst (λ n. AreConserved n w.turns w.actors) blocks i.sound.blocks;
         };
         calls = record {
-          fates = All-weaker (Contains w.calls) (Fate w responses) i.fates w.calls (All-contains_itself w.calls);
+          outcomes =
+              All-weaker (Contains w.calls) (Outcome w responses) i.outcomes w.calls (All-contains_itself w.calls);
           apart = i.apart;
           made = made;
           asked = All-weaker (Contains w.calls) (AsksAsItWasAsked w) ops_asked w.calls
               (All-contains_itself w.calls);
           once = All-weaker (Contains w.calls) (λ (c : Invocation). effects (ops_of c.who w.turns) ≤ 1)
               few_effects w.calls (All-contains_itself w.calls);
-          under_way = i.doing;
+          pending = i.doing;
         };
         answers = record {
           known = i.known;
@@ -414,13 +402,14 @@ module _ {P : Turn → Type 0} (laws : Laws) (o : Opening) (w : World) (response
               (λ (g : Response). IsRightAnswer g.call.asked (ops_of g.call.who w.turns) g.ending)
               (λ g has. right_now w responses i laws.right g has) responses (All-contains_itself responses);
           told = λ id before after t call whole removal has q.
-              let f = i.fates call has in
+              let f = i.outcomes call has in
               told_so w responses call f laws.told (ops_asked call has) good id before after t whole removal q;
         };
         lives = record {
-          tended = are_tended w (laws.registry w.generation (registry_history w.turns) i.sound.legal.registry) i.life;
-          vacant = i.life.facts.vacant;
-          forgets = i.life.facts.taken;
+          tended =
+              are_tended w (laws.registry w.generation (registry_history w.turns) i.sound.legal.registry) i.lifetime;
+          vacant = i.lifetime.facts.vacant;
+          forgets = i.lifetime.facts.taken;
           removed = good;
         };
       }
@@ -449,7 +438,7 @@ move_opened w after responses (turned place now call phase there t) = opened_so 
 move_opened w after responses (awoke place call wait there reached gave is) = opened_so w after _ is (refl, refl)
 move_opened w after responses (preset_made unused gave is) = opened_so w after _ is (refl, refl)
 
-pub leads_opened : (w after : World) (xs : List Happening) (responses : List Response) → Leads w xs responses after →
+pub leads_opened : (w after : World) (xs : List Transition) (responses : List Response) → Leads w xs responses after →
     IsOpenedAs w after
 leads_opened w after [] responses l = opened_so w after w l.1 (refl, refl)
 leads_opened w after (x ∷ xs) responses l =
@@ -475,7 +464,7 @@ module _ (law : EachObeys) where
       (subst (λ v. Inv P v (responses ++ response_in call state)) (sym t.6)
       (goes_on w responses i place d there (w.turns ++ made ∷ []) state sound
       (lives_turn law w.generation w.blocks w.turns w.actors place call phase now op state there t.2 i.sound.legal
-      t.3 sound.legal t.4 i.life)
+      t.3 sound.legal t.4 i.lifetime)
       (λ other apart. other_op other w.turns made apart)
       (record {
         plays = subst (λ ds. Plays (begun call) ds state) (sym own) (steps op now state here.plays t.2 t.4);
@@ -498,9 +487,9 @@ module _ (law : EachObeys) where
       ∙ other_op c.who w.turns (turn_of preset_who preset_begin) (calls_apart c has)) in
       record {
         sound = ok;
-        life = preset_lives law w.generation w.blocks w.turns (jobs_of w.actors) ok.legal i.life;
-        fates = λ c has.
-            let f = i.fates c has in
+        lifetime = preset_lives law w.generation w.blocks w.turns (jobs_of w.actors) ok.legal i.lifetime;
+        outcomes = λ c has.
+            let f = i.outcomes c has in
             record {
               state = f.state;
               plays = subst (λ ds. Plays (begun c) ds f.state) (sym (same c has)) f.plays;
@@ -537,7 +526,7 @@ module _ (law : EachObeys) where
       subst (λ gs. Inv IsOfPreset after (responses ++ gs)) (sym gave)
       (subst (λ v. Inv IsOfPreset v (responses ++ response_in call state)) (sym is)
       (goes_on w responses i place d there w.turns state (subst IsSound is ok)
-      (lives_stand w.turns w.actors place (Some d) call state there refl (resumed_none wait value) i.life)
+      (lives_stand w.turns w.actors place (Some d) call state there refl (resumed_none wait value) i.lifetime)
       (λ other apart. refl) (record { plays = resumes value here.plays reached; quiet = here.quiet }) i.made))
   move_keeps w after responses one i ok (preset_made unused gave is) =
       subst (λ gs. Inv IsOfPreset after (responses ++ gs)) (sym gave)
@@ -549,7 +538,7 @@ module _ (law : EachObeys) where
     inv : Inv IsOfPreset w responses
     woken : AllWoken w
 
-  leads_keep : StaysSound → EachHoldsWhatItWasAsked → (w after : World) (xs : List Happening)
+  leads_keep : StaysSound → EachHoldsWhatItWasAsked → (w after : World) (xs : List Transition)
       (responses more : List Response) → Kept w responses →
       Leads w xs more after → Kept after (responses ++ more)
   leads_keep sound holds w after [] responses more k l =
@@ -571,21 +560,22 @@ nothing_in x has = omega (arith, has.1)
 pub opens : {P : Turn → Type 0} (o : Opening) → AreLegal o.generation o.blocks [] → Inv P (opening o) []
 opens o legal = record {
   sound = opening_sound o legal;
-  life = opening_lives o.actors;
-  fates = λ c has. absurd (nothing_in c has);
+  lifetime = opening_lives o.actors;
+  outcomes = λ c has. absurd (nothing_in c has);
   before = λ c has. absurd (nothing_in c has);
   apart = λ i j d low high. absurd (omega (arith, low, high));
   named = λ c d has also same. absurd (nothing_in c has);
   made = λ k d low. absurd (omega (arith, low));
   known = λ k d low. absurd (omega (arith, low));
-  doing = λ place d e. absurd (none_busy o.actors place d e);
+  doing = λ place d e. absurd (none_busy o.actors place e);
 }
 
 -- ---- all laws
 
 pub run_obeys : StaysSound → ((generation blocks : ℕ) → AreLegal generation blocks []) → Laws → NoMatchStays →
     FullStays → FullStaysForLook → CountsNeverFall → EachWaitsForItsRefusal → EachHoldsWhatItWasAsked →
-    (o : Opening) (list : List Happening) (responses : List Response) (w : World) → Leads (opening o) list responses w →
+    (o : Opening) (list : List Transition) (responses : List Response) (w : World) →
+    Leads (opening o) list responses w →
     Obeys o w responses
 run_obeys sound none laws no_match full full_for_look counts refused holds o list responses w led =
     let start : Kept laws.registry (opening o) [] =
@@ -600,5 +590,5 @@ run_obeys sound none laws no_match full full_for_look counts refused holds o lis
           (λ place d there. (stands_there w responses i place d there).plays) no_match full full_for_look counts refused
           holds
           shared.lives.tended shared.lives.removed
-          (settled_once_installed w.turns i.life.facts) (are_short w k.woken.right) (are_to_be_woken w k.woken);
+          (settled_once_installed w.turns i.lifetime.facts) (are_short w k.woken.right) (are_to_be_woken w k.woken);
     }

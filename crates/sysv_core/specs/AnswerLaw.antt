@@ -45,7 +45,7 @@ standing (Over ending) = None
 
 -- The call plays its own turns to a state; its endings, and what its actor does, are those of that
 -- state.
-pub record Fate (w : World) (responses : List Response) (call : Invocation) : Type 0 where
+pub record Outcome (w : World) (responses : List Response) (call : Invocation) : Type 0 where
   pub state : State
   pub plays : Plays (begun call) (ops_of call.who w.turns) state
   pub answered : endings_of call.who responses ≡ ended state

@@ -1,5 +1,5 @@
 -- Where the blocks of the pool are (this project's profile). Each block is free, under a queued
--- message in one of the slots, or held by a call under way. Together they are the blocks with which
+-- message in one of the slots, or held by a pending call. Together they are the blocks with which
 -- the world was opened, whatever has happened in it. So no block is made or lost, and the pool
 -- takes back every chain that a call releases.
 use Rattle.std.specs.Prelude.{◌≡◌, ◌≢◌, ℕ, ◌+◌, List, Option, Some, None, sum_by, All}

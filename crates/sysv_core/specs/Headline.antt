@@ -9,7 +9,7 @@
 -- (what POSIX.1-2017 says of msgget, msgsnd, msgrcv and msgctl, in the steps of this project's
 -- profile).
 --
--- EveryRunObeys is this statement. A world of the code stands for the list of what has happened in
+-- EveryRunObeys is this statement. A world of the code represents the list of what has happened in
 -- it. A step, a preset and a run of events lead from the world of a list to the world of the longer
 -- list, with the answers of that run and no others.
 use Rattle.std.specs.Prelude.{◌≡◌, ◌≢◌, ◌⊎◌, ℕ, ◌≤◌, List, [], ◌∷◌, ◌++◌, map, All, AllPairs, Contains}
@@ -23,9 +23,9 @@ use Rattle.sysv_steps.specs.Effects.{effects}
 use Rattle.sysv_core.specs.declared.event.Event.{Event}
 use Rattle.sysv_core.specs.declared.event.Answer.{Answer}
 use Rattle.sysv_core.specs.declared.event.Stepped.{Stepped}
-use Rattle.sysv_core.specs.World.{World, Opening, Invocation, Response, Happening, Preset, opening}
+use Rattle.sysv_core.specs.World.{World, Opening, Invocation, Response, Transition, Preset, opening}
 use Rattle.sysv_core.specs.Run.{Leads}
-use Rattle.sysv_core.specs.AnswerLaw.{Fate, AreInTheirCalls, IsMade, AsksAsItWasAsked}
+use Rattle.sysv_core.specs.AnswerLaw.{Outcome, AreInTheirCalls, IsMade, AsksAsItWasAsked}
 use Rattle.sysv_core.specs.Conserved.{AreConserved}
 use Rattle.sysv_core.specs.Parked.{AreParkedRightly}
 use Rattle.sysv_core.specs.Removed.{AreRemovedForGood}
@@ -33,7 +33,7 @@ use Rattle.sysv_core.specs.Vacant.{AllFindVacant}
 use Rattle.sysv_core.specs.Forgotten.{AllTakeTheirRows}
 use Rattle.sysv_core.specs.LastWords.{AreToldOfRemovals}
 use Rattle.sysv_core.specs.Tending.{AreTended}
-use Rattle.sysv_core.specs.Seen.{Seen, StandsFor, happening_of, TellAll, Gives}
+use Rattle.sysv_core.specs.Seen.{Seen, Represents, transition_of, TellAll, Gives}
 
 -- The laws of the objects.
 pub record ObjectsAreLawful (o : Opening) (w : World) : Type 0 where
@@ -54,18 +54,18 @@ pub record ObjectsAreLawful (o : Opening) (w : World) : Type 0 where
 pub record CallsAreLawful (owned : List Invocation → Turn → Type 0) (w : World)
     (responses : List Response) : Type 0 where
   -- Each call plays its own turns, and has one ending if it is over.
-  pub fates : All (Fate w responses) w.calls
+  pub outcomes : All (Outcome w responses) w.calls
   -- No two calls have the same name.
   pub apart : AllPairs (λ (c d : Invocation). c.who ≢ d.who) w.calls
   -- Each turn is owned.
   pub made : All (owned w.calls) w.turns
-  -- Each turn of a call requests what the call's arguments name, also if the call is under way.
+  -- Each turn of a call requests what the call's arguments name, also if the call is pending.
   pub asked : All (AsksAsItWasAsked w) w.calls
-  -- Each call, also one under way, has had at most one effect: one identifier made, one message
+  -- Each call, also one pending, has had at most one effect: one identifier made, one message
   -- accepted, one taken, one queue changed, or one removed.
   pub once : All (λ (c : Invocation). effects (ops_of c.who w.turns) ≤ 1) w.calls
   -- Each actor that is in a call is in one that it started, and that is one of the calls.
-  pub under_way : AreInTheirCalls w
+  pub pending : AreInTheirCalls w
 
 -- The laws of the answers, which are the endings of the calls.
 pub record AnswersAreLawful (w : World) (responses : List Response) : Type 0 where
@@ -78,7 +78,7 @@ pub record AnswersAreLawful (w : World) (responses : List Response) : Type 0 whe
   -- EINVAL.
   pub told : AreToldOfRemovals w responses
 
--- The laws of the life of an identifier, from its making to its forgetting.
+-- The laws of the lifetime of an identifier, from its making to its forgetting.
 pub record LivesAreLawful (w : World) : Type 0 where
   -- A row that is not settled, or whose queue is not live, is to be settled or forgotten by some
   -- actor's call.
@@ -107,27 +107,27 @@ pub record Obeys (o : Opening) (w : World) (responses : List Response) : Type 0 
   -- Each call that waits below its goal has a reason to.
   pub parked : AreParkedRightly w
 
--- Every list of happenings leads from every opening only to worlds that obey the laws.
+-- Every list of transitions leads from every opening only to worlds that obey the laws.
 abbrev pub EveryRunObeys : Type 0
-EveryRunObeys = (o : Opening) (list : List Happening) (responses : List Response) (w : World) →
+EveryRunObeys = (o : Opening) (list : List Transition) (responses : List Response) (w : World) →
     Leads (opening o) list responses w → Obeys o w responses
 
--- For every list for which the world stood, it now stands for that list and a preset.
+-- For every list for which the world stood, it now represents that list and a preset.
 abbrev pub StandsWithPreset : Seen → Seen → Type 0
-StandsWithPreset old new = (o : Opening) (list : List Happening) (responses : List Response) →
-    StandsFor o list responses old → StandsFor o (list ++ Preset ∷ []) responses new
+StandsWithPreset old new = (o : Opening) (list : List Transition) (responses : List Response) →
+    Represents o list responses old → Represents o (list ++ Preset ∷ []) responses new
 
--- For every list for which the world stood, it now stands for that list and the event, and the
+-- For every list for which the world stood, it now represents that list and the event, and the
 -- result of the event is that of the run.
 abbrev pub StandsWithEvent : Seen → Event → Stepped → Seen → Type 0
 StandsWithEvent old event result new =
-    (o : Opening) (list : List Happening) (responses : List Response) (s : StandsFor o list responses old) →
+    (o : Opening) (list : List Transition) (responses : List Response) (s : Represents o list responses old) →
     (more : List Response) × Gives s.world more result
-    × StandsFor o (list ++ happening_of event ∷ []) (responses ++ more) new
+    × Represents o (list ++ transition_of event ∷ []) (responses ++ more) new
 
 -- The world continues from that list by the events, all of them or up to the first that finds it
 -- worn out at step number 2^62. The answers are those of the endings on the way, in order.
-pub record RunsOn (o : Opening) (list : List Happening) (responses : List Response) (events : List Event)
+pub record RunsOn (o : Opening) (list : List Transition) (responses : List Response) (events : List Event)
     (answers : List Answer) (new : Seen) : Type 0 where
   pub done : List Event
   pub left : List Event
@@ -135,15 +135,15 @@ pub record RunsOn (o : Opening) (list : List Happening) (responses : List Respon
   pub split : events ≡ done ++ left
   pub worn : (left ≡ []) ⊎ (WORN ≤ new.steps)
   pub told : TellAll more answers
-  pub stands : StandsFor o (list ++ map happening_of done) (responses ++ more) new
+  pub stands : Represents o (list ++ map transition_of done) (responses ++ more) new
 
--- For every list for which the world stood, it now stands for that list and the events that
+-- For every list for which the world stood, it now represents that list and the events that
 -- happened, with the answers of that run in order.
 abbrev pub StandsWithEvents : Seen → List Event → List Answer → Seen → Type 0
-StandsWithEvents old events answers new = (o : Opening) (list : List Happening) (responses : List Response) →
-    StandsFor o list responses old → RunsOn o list responses events answers new
+StandsWithEvents old events answers new = (o : Opening) (list : List Transition) (responses : List Response) →
+    Represents o list responses old → RunsOn o list responses events answers new
 
 -- For every list for which the world stands, the world to which it leads obeys the laws.
 abbrev pub LawsHold : Seen → Type 0
-LawsHold seen = (o : Opening) (list : List Happening) (responses : List Response)
-    (s : StandsFor o list responses seen) → Obeys o s.world responses
+LawsHold seen = (o : Opening) (list : List Transition) (responses : List Response)
+    (s : Represents o list responses seen) → Obeys o s.world responses

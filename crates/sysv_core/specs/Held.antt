@@ -1,4 +1,4 @@
--- The body that a send under way has (this project's profile).
+-- The body that a pending send has (this project's profile).
 use Rattle.std.specs.Prelude.{ℕ, List}
 use Rattle.std.proofs.Props.{props}
 use Rattle.sysv_steps.specs.declared.send.SendStep.{SendStep}

@@ -3,7 +3,7 @@
 use Rattle.std.specs.Prelude.{◌≡◌, ◌<◌, ◌≤◌, ◌⊎◌, ℕ, Bool, List, Some}
 use Rattle.sysv_model.specs.Turn.{Op, Turn, asked_by}
 use Rattle.sysv_objects.specs.Objects.{Objects}
-use Rattle.sysv_objects.specs.StandsFor.{StandsFor, MakesTurn}
+use Rattle.sysv_objects.specs.Represents.{Represents, MakesTurn}
 use Rattle.sysv_steps.specs.State.{Phase, Wait, State, Goes, Waits, Over}
 use Rattle.sysv_steps.specs.Asks.{asks}
 use Rattle.sysv_steps.specs.Next.{next}
@@ -42,7 +42,7 @@ Stays state (led.Over ended) = ⊥
 -- The call's look at the count for which it waits: it continues if its goal is reached, else it
 -- still waits.
 abbrev pub LookLeads : Objects → Wait → Led → Type 0
-LookLeads objects wait result = (generation : ℕ) (turns : List Turn) → StandsFor generation turns objects →
+LookLeads objects wait result = (generation : ℕ) (turns : List Turn) → Represents generation turns objects →
     ((goal_of wait ≤ value_of turns (awaited wait))
     × LeadsTo (gives_back (wait_kind wait)) (Goes (resume wait (value_of turns (awaited wait)))) result)
     ⊎ ((value_of turns (awaited wait) < goal_of wait) × Stays (Waits wait) result)

@@ -3,7 +3,7 @@
 use Rattle.std.specs.Prelude.{◌≡◌, ℕ, ◌<◌, ◌≤◌, Bool, List, [], ◌∷◌, Option, Some, option_map, map}
 use Rattle.sysv_model.specs.declared.limits.TheConstants.{WORN}
 use Rattle.sysv_objects.specs.Objects.{Objects}
-use Rattle.sysv_objects.specs.StandsFor.{StandsFor as ObjectsStandFor}
+use Rattle.sysv_objects.specs.Represents.{Represents as ObjectsStandFor}
 use Rattle.sysv_steps.specs.State.{State}
 use Rattle.sysv_queue.specs.Tally.{Tallied}
 use Rattle.sysv_core.specs.declared.event.Event.{Event}
@@ -11,7 +11,7 @@ use Rattle.sysv_core.specs.declared.event.Event.TheVariants as event
 use Rattle.sysv_core.specs.declared.event.Answer.{Answer}
 use Rattle.sysv_core.specs.declared.event.Stepped.{Stepped}
 use Rattle.sysv_core.specs.declared.event.Stepped.TheVariants as stepped
-use Rattle.sysv_core.specs.World.{World, Opening, Doing, Response, Happening, Start, Step, Makes, Presets, opening}
+use Rattle.sysv_core.specs.World.{World, Opening, Doing, Response, Transition, Start, Step, Makes, Presets, opening}
 use Rattle.sysv_core.specs.Run.{Leads}
 use Rattle.sysv_steps.specs.Asked.{asked_of}
 use Rattle.sysv_core.specs.Answered.{TellsEnding}
@@ -20,10 +20,10 @@ use Rattle.sysv_core.specs.Sound.{IsToCaller, IsSound}
 
 -- ---- events
 
--- The happening of an event.
-abbrev pub happening_of : Event → Happening
-happening_of (event.Start actor cred asked) = Start actor cred (asked_of asked)
-happening_of (event.Step actor now) = Step actor now
+-- The transition of an event.
+abbrev pub transition_of : Event → Transition
+transition_of (event.Start actor cred asked) = Start actor cred (asked_of asked)
+transition_of (event.Step actor now) = Step actor now
 
 -- ---- answers
 
@@ -48,7 +48,7 @@ Gives w responses (stepped.Answer answer) = (w.steps < WORN) × ((g : Response) 
 -- One event in a world, with its result.
 abbrev pub Steps : World → Event → Stepped → World → Type 0
 Steps w event result after =
-    (responses : List Response) × Makes w (happening_of event) responses after × Gives w responses result
+    (responses : List Response) × Makes w (transition_of event) responses after × Gives w responses result
 
 -- ---- worlds
 
@@ -59,7 +59,7 @@ pub record Seen : Type 0 where
   pub steps : ℕ
   pub tally : Tallied  -- the messages that were answered, as written
 
--- The state of the call under way, if there is one.
+-- The state of the pending call, if there is one.
 abbrev pub state_in : Option Doing → Option State
 state_in doing = option_map (λ (d : Doing). d.state) doing
 
@@ -86,14 +86,14 @@ StepsSeen old event result new =
 
 -- The list leads from this opening, with these endings, to a world as which the code's world is
 -- seen.
-pub record StandsFor (o : Opening) (list : List Happening) (responses : List Response) (seen : Seen) : Type 0 where
+pub record Represents (o : Opening) (list : List Transition) (responses : List Response) (seen : Seen) : Type 0 where
   pub world : World
   pub led : Leads (opening o) list responses world
   pub sight : IsSeenAs world seen
 
--- This is the number of blocks with which the world was opened, for every list of happenings for
+-- This is the number of blocks with which the world was opened, for every list of transitions for
 -- which it stands.
 abbrev pub AreAllFree : Seen → ℕ → Type 0
 AreAllFree seen blocks =
-    (o : Opening) (list : List Happening) (responses : List Response) → StandsFor o list responses seen →
+    (o : Opening) (list : List Transition) (responses : List Response) → Represents o list responses seen →
     blocks ≡ o.blocks

@@ -13,7 +13,7 @@ use Rattle.sysv_objects.specs.LegalOp.{AreLegal}
 use Rattle.sysv_steps.specs.State.{Getting, AtInstall, Goes}
 use Rattle.sysv_steps.specs.HeldBlocks.{HasItsBlocks}
 use Rattle.sysv_core.specs.Kinds.{kind_of, IsOf}
-use Rattle.sysv_core.specs.World.{World, Opening, Doing, Happening, Response, Makes, opening}
+use Rattle.sysv_core.specs.World.{World, Opening, Doing, Transition, Response, Makes, opening}
 use Rattle.sysv_core.specs.Conserved.{AreConserved}
 
 -- The caller is this actor.
@@ -49,7 +49,7 @@ pub record IsSound (w : World) : Type 0 where
 abbrev pub OpensSound : Type 0
 OpensSound = (o : Opening) → IsSound (opening o)
 
--- Each happening leads from a sound world only to sound worlds.
+-- Each transition leads from a sound world only to sound worlds.
 abbrev pub StaysSound : Type 0
-StaysSound = (w after : World) (x : Happening) (responses : List Response) → IsSound w → Makes w x responses after →
+StaysSound = (w after : World) (x : Transition) (responses : List Response) → IsSound w → Makes w x responses after →
     IsSound after

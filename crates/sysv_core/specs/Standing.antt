@@ -1,4 +1,4 @@
--- The call under way of an actor, as the code keeps it (this project's profile): the step before
+-- The pending call of an actor, as the code keeps it (this project's profile): the step before
 -- which the call is, or its wait; none if the actor is idle or does not exist. Actors count from 1.
 use Rattle.std.specs.Prelude.{◌≡◌, ℕ, zero, suc, List, Option, Some, None, slice_get, ⊤}
 use Rattle.sysv_steps.specs.State.{Phase, Wait, State, Goes, Waits}
@@ -14,7 +14,7 @@ abbrev pub stands_at : {S W : Type 0} → (S → Phase) → (W → Wait) → Sta
 stands_at phase wait (standing.At step) = Goes (phase step)
 stands_at phase wait (standing.Waits w) = Waits (wait w)
 
--- The state of a call under way.
+-- The state of a pending call.
 abbrev pub doing_state : Doing → State
 doing_state (doing.Get at) = stands_at get_phase get_wait at
 doing_state (doing.Send sent) = stands_at (λ step. send_phase step sent.body) (λ w. send_wait w sent.body) sent.at

@@ -1,7 +1,7 @@
 -- Which calls deal with a row of the registry (this project's profile). A row that is still to be
 -- settled, or whose queue is not live, as between the removal of a queue and the turn that forgets
 -- its identifier, is to be settled, given up or forgotten by some actor: its call is still before
--- that turn. So no key stays bound to nothing after the calls under way are over.
+-- that turn. So no key stays bound to nothing after the pending calls are over.
 use Rattle.std.specs.Prelude.{◌≡◌, ◌⊎◌, ℕ, ℤ, false, Some, slice_get}
 use Rattle.sysv_model.specs.Live.{IsLive}
 use Rattle.sysv_model.specs.Turn.{slot_history, registry_history}

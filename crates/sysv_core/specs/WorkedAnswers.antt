@@ -10,7 +10,7 @@ use Rattle.sysv_steps.specs.State.{AtReserve, Zero, Refused, State, Goes, Over}
 use Rattle.sysv_steps.specs.Played.{Plays}
 use Rattle.sysv_core.specs.World.{World, Invocation, opening, with_actor, begun, preset_who, preset_cred, preset_begin}
 use Rattle.sysv_core.specs.World.{preset_install, preset_settle, with_preset_turns}
-use Rattle.sysv_core.specs.AnswerLaw.{Fate, AreInTheirCalls, IsMade}
+use Rattle.sysv_core.specs.AnswerLaw.{Outcome, AreInTheirCalls, IsMade}
 use Rattle.sysv_core.specs.WorkedRun.{hello, send_hello, place_hello, look_for, one_calls, one_ends, the_calls}
 use Rattle.sysv_core.specs.WorkedRun.{the_turns, the_answers, of_16}
 
@@ -47,7 +47,7 @@ going_on = record the_end {
   actors = with_actor (opening of_16).actors 1 (Some record { call = the_send; state = still_reserving });
 }
 
--- A world in which the send is under way after one look for this number of bytes.
+-- A world in which the send is pending after one look for this number of bytes.
 abbrev pub looking : ℕ → World
 looking size = record {
   turns = with_preset_turns [] ++ record { who = the_send.who; op = AtSlot 0 (look_for size) Fits } ∷ [];
@@ -78,17 +78,17 @@ accepts number = AtSlot 0 place_hello (Accepted number)
 pub record WorkedAnswers : Type 0 where
   -- The call plays its own turns to the ending that it has.
   pub plays : Plays (begun the_send) (look_fits ∷ gets_a_block ∷ accepts 0 ∷ []) (Over Zero)
-  pub admitted : Fate the_end the_answers the_send
+  pub admitted : Outcome the_end the_answers the_send
   -- A send that found the queue full does not return 0.
   pub full_sent : ¬ Plays (begun the_send) (AtSlot 0 (look_for 5) (Full 0) ∷ []) (Over Zero)
   -- A call that is over has one ending, the one of its turns, and its actor is not in it.
-  pub unanswered : ¬ Fate the_end [] the_send
-  pub answered_wrongly : ¬ Fate the_end (one_ends 2 send_hello (Refused EAGAIN) ∷ []) the_send
-  pub answered_twice : ¬ Fate the_end (the_answers ++ one_ends 2 send_hello Zero ∷ []) the_send
-  pub goes_on : ¬ Fate going_on the_answers the_send
-  -- A call under way requests room for the size of its own body, and for no other size.
-  pub looks : Fate (looking 5) [] the_send
-  pub looks_otherwise : ¬ Fate (looking 6) [] the_send
+  pub unanswered : ¬ Outcome the_end [] the_send
+  pub answered_wrongly : ¬ Outcome the_end (one_ends 2 send_hello (Refused EAGAIN) ∷ []) the_send
+  pub answered_twice : ¬ Outcome the_end (the_answers ++ one_ends 2 send_hello Zero ∷ []) the_send
+  pub goes_on : ¬ Outcome going_on the_answers the_send
+  -- A pending call requests room for the size of its own body, and for no other size.
+  pub looks : Outcome (looking 5) [] the_send
+  pub looks_otherwise : ¬ Outcome (looking 6) [] the_send
   -- An actor is in a call that it started: in no call that was not started, and in no other
   -- actor's.
   pub its_own : AreInTheirCalls (looking 5)

@@ -6,14 +6,14 @@
 --
 -- It is followed by replies that are not legal at its turns, and by two messages that fill a queue
 -- to the byte.
-use Rattle.std.specs.Prelude.{◌≡◌, ◌≢◌, ℕ, pos, List, [], ◌∷◌, ◌++◌, true, false, length, take, codes}
+use Rattle.std.specs.Prelude.{◌≡◌, ◌≢◌, ℕ, ◌+◌, pos, List, [], ◌∷◌, ◌++◌, true, false, length, take, codes}
 use Rattle.sysv_model.specs.declared.cred.Cred.{Cred}
 use Rattle.sysv_model.specs.declared.errno.Errno.TheVariants.{EINVAL, ENOMSG}
 use Rattle.sysv_model.specs.declared.flags.Flags.{Flags}
 use Rattle.sysv_model.specs.declared.flags.TheConstants.Flags.{IPC_NOWAIT}
 use Rattle.sysv_model.specs.declared.selector.Selector.TheVariants.{Any}
 use Rattle.sysv_model.specs.Message.{Message}
-use Rattle.sysv_model.specs.declared.limits.TheConstants.{IPC_PRIVATE}
+use Rattle.sysv_model.specs.declared.limits.TheConstants.{IPC_PRIVATE, MESSAGE_BYTES}
 use Rattle.sysv_model.specs.History.{Actor, Call, Install, Look, Place, Take, Reply, Installed, Gone, Full, Fits}
 use Rattle.sysv_model.specs.History.{Accepted, NoMatch, Taken, Entry, History}
 use Rattle.sysv_model.specs.Pool.{PoolCall, Reserve, Release, PoolReply, Reserved, Released}
@@ -22,7 +22,7 @@ use Rattle.sysv_queue.specs.LegalReply.{IsLegalReply}
 use Rattle.sysv_steps.specs.Call.{SystemCall, Msgsnd, Msgrcv}
 use Rattle.sysv_steps.specs.State.{Ending, Zero, Got, Refused}
 use Rattle.sysv_steps.specs.Begin.{is_refused}
-use Rattle.sysv_core.specs.World.{World, Opening, Invocation, Response, Happening, Preset, Start, Step, opening}
+use Rattle.sysv_core.specs.World.{World, Opening, Invocation, Response, Transition, Preset, Start, Step, opening}
 use Rattle.sysv_core.specs.World.{preset_cred}
 use Rattle.sysv_core.specs.World.{preset_flags, with_preset_turns}
 use Rattle.sysv_core.specs.Run.{Leads}
@@ -54,17 +54,17 @@ send_typeless = Msgsnd (pos 0) (pos 0) nowait hello
 
 -- What happens: each call has its start and its steps. A receive has one step, or two if it takes a
 -- message; a send has three.
-abbrev pub one_starts : SystemCall → Happening
+abbrev pub one_starts : SystemCall → Transition
 one_starts call = Start 1 sender call
 
-abbrev pub two_starts : SystemCall → Happening
+abbrev pub two_starts : SystemCall → Transition
 two_starts call = Start 2 receiver call
 
-abbrev pub steps : ℕ → Happening
+abbrev pub steps : ℕ → Transition
 steps actor = Step actor 0
 
-abbrev pub the_happenings : List Happening
-the_happenings =
+abbrev pub the_transitions : List Transition
+the_transitions =
     Preset
     ∷ one_starts receive_up_to_100 ∷ steps 1
     ∷ one_starts send_hello ∷ steps 1 ∷ steps 1 ∷ steps 1
@@ -185,11 +185,11 @@ the_turns = with_preset_turns [] ++ the_later_turns
 abbrev pub of_16 : Opening
 of_16 = record { actors = 16; blocks = 128; first = 0; generation = 0 }
 
--- The happenings lead from the opening world to a world with these calls and turns, with these
+-- The transitions lead from the opening world to a world with these calls and turns, with these
 -- endings.
 abbrev pub WorkedRun : Type 0
 WorkedRun =
-    (w : World) × Leads (opening of_16) the_happenings the_answers w × (w.calls ≡ the_calls) × (w.turns ≡ the_turns)
+    (w : World) × Leads (opening of_16) the_transitions the_answers w × (w.calls ≡ the_calls) × (w.turns ≡ the_turns)
 
 -- The slot's history after this number of turns of the run at the slot.
 abbrev pub after_turns : ℕ → History
@@ -233,9 +233,9 @@ with_both first second = with_first first ++ turn_of 1 3 (send_of second) (Accep
 
 pub record FillsExactly (first second : List ℕ) : Type 0 where
   pub starts : is_refused (start_of first) ≡ false
-  pub longer_is_refused : (text : List ℕ) → length text ≡ 8193 → is_refused (start_of text) ≡ true
+  pub longer_is_refused : (text : List ℕ) → length text ≡ MESSAGE_BYTES + 1 → is_refused (start_of text) ≡ true
   pub first_fits : IsLegalReply (after_turns 1) (send_of first) (Accepted 0)
-  pub second_looks : IsLegalReply (with_first first) (look_for 8192) Fits
+  pub second_looks : IsLegalReply (with_first first) (look_for MESSAGE_BYTES) Fits
   pub second_fits : IsLegalReply (with_first first) (send_of second) (Accepted 1)
   pub byte_is_too_much : (text : List ℕ) → length text ≡ 1 →
       IsLegalReply (with_both first second) (send_of text) (Full 0)
@@ -244,4 +244,5 @@ pub record FillsExactly (first second : List ℕ) : Type 0 where
   pub nothing_fits : IsLegalReply (with_both first second) (send_of []) (Accepted 2)
 
 abbrev pub ExactFit : Type 0
-ExactFit = (first second : List ℕ) → length first ≡ 8192 → length second ≡ 8192 → FillsExactly first second
+ExactFit =
+    (first second : List ℕ) → length first ≡ MESSAGE_BYTES → length second ≡ MESSAGE_BYTES → FillsExactly first second

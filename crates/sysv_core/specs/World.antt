@@ -1,5 +1,5 @@
 -- A world: the turns that were made in it, the calls that were started, what each actor does, and
--- the number of counted events so far; and the worlds to which a happening leads. A happening is a
+-- the number of counted events so far; and the worlds to which a transition leads. A transition is a
 -- preset, the start of an actor's call, or one step of it: one turn at one object, which has a
 -- legal reply, or a look at the count for which the call waits (this project's profile).
 use Rattle.std.specs.Prelude.{◌≡◌, ℕ, zero, suc, pos, ◌+◌, ◌<◌, ◌≤◌, ◌⊎◌, Bool, true, false, List, [], ◌∷◌, ◌++◌}
@@ -38,7 +38,7 @@ pub record Invocation : Type 0 where
   pub asked : SystemCall
   pub released : ℕ
 
--- A call under way and its state.
+-- A pending call and its state.
 pub record Doing : Type 0 where
   pub call : Invocation
   pub state : State
@@ -80,13 +80,13 @@ with_actor actors (suc place) doing = slice_set actors place doing
 
 -- ---- where a call goes
 
--- The call under way of an actor whose call is in this state: none if the call is over.
+-- The pending call of an actor whose call is in this state: none if the call is over.
 abbrev pub doing_in : Invocation → State → Option Doing
 doing_in call (Goes phase) = Some record { call = call; state = Goes phase }
 doing_in call (Waits wait) = Some record { call = call; state = Waits wait }
 doing_in call (Over ending) = None
 
--- The ending of a call in this state: none if the call is under way.
+-- The ending of a call in this state: none if the call is pending.
 abbrev pub response_in : Invocation → State → List Response
 response_in call (Goes phase) = []
 response_in call (Waits wait) = []
@@ -158,10 +158,10 @@ Continues w actor now call (Over ending) responses after = StaysWith w responses
 -- ---- what can happen
 
 -- What can happen in a world: a preset, the start of a call, or one step of a call.
-pub data Happening : Type 0 where
-  Preset : Happening
-  Start : (actor : ℕ) (cred : Cred) (asked : SystemCall) → Happening
-  Step : (actor now : ℕ) → Happening
+pub data Transition : Type 0 where
+  Preset : Transition
+  Start : (actor : ℕ) (cred : Cred) (asked : SystemCall) → Transition
+  Step : (actor now : ℕ) → Transition
 
 -- The start of a call. The world stays as it was if the actor is in a call or does not exist.
 abbrev pub StartsAt : World → ℕ → Cred → SystemCall → Option (Option Doing) → List Response → World → Type 0
@@ -218,9 +218,9 @@ Presets w made after =
     (IsUnused w.generation (registry_history w.turns) 0 × (made ≡ true) × (after ≡ with_preset w))
     ⊎ (¬ IsUnused w.generation (registry_history w.turns) 0 × (made ≡ false) × (after ≡ w))
 
--- What a happening makes of a world. From step number 2^62 on, a start or a step finds the world
+-- What a transition makes of a world. From step number 2^62 on, a start or a step finds the world
 -- worn out and changes nothing.
-abbrev pub Makes : World → Happening → List Response → World → Type 0
+abbrev pub Makes : World → Transition → List Response → World → Type 0
 Makes w Preset responses after = (responses ≡ []) × ((made : Bool) × Presets w made after)
 Makes w (Start actor cred asked) responses after =
     ((WORN ≤ w.steps) × StaysWith w responses after)

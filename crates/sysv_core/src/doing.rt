@@ -1,4 +1,4 @@
-//! A call under way, and the result of its start or of one of its steps.
+//! A pending call, and the result of its start or of one of its steps.
 
 ghost use Rattle.std.specs.Prelude.{◌≡◌, is_some};
 ghost use Rattle.sysv_core.specs.Held.{CanStillSend, can_in_one_way};
@@ -11,7 +11,7 @@ use sysv_steps::{
     StatStep,
 };
 
-/// A call under way: the step before which it is or the wait that it is in, and the body of a send
+/// A pending call: the step before which it is or the wait that it is in, and the body of a send
 /// or a receive.
 ///
 /// A `Doing` can be neither dropped nor copied, because it may hold blocks of the pool; end it with
@@ -34,7 +34,7 @@ pub enum Doing {
     Remove(RemoveStep),
 }
 
-/// The position of a call under way that may wait.
+/// The position of a pending call that may wait.
 pub enum Standing<S, W> {
     /// The call is before this step.
     At(S),
@@ -42,7 +42,7 @@ pub enum Standing<S, W> {
     Waits(W),
 }
 
-/// A send under way, with its body. The body is not too long, and before its place the send holds
+/// A pending send, with its body. The body is not too long, and before its place the send holds
 /// the number of blocks that the body needs.
 pub struct Sent {
     pub at: Standing<SendStep, SendWait>,

@@ -1,4 +1,4 @@
-//! Ends calls under way and returns the blocks that they hold.
+//! Ends pending calls and returns the blocks that they hold.
 
 ghost use Rattle.std.specs.Prelude.{◌≡◌};
 ghost use Rattle.sysv_steps.specs.HeldBlocks.{held};
@@ -32,7 +32,7 @@ pub(crate) fn chain_in(doing: Doing) -> Chain
     }
 }
 
-/// Ends the calls under way and returns the blocks that they hold as one chain.
+/// Ends the pending calls and returns the blocks that they hold as one chain.
 pub fn end_all(mut actors: Vec<Option<Doing>>) -> Chain
     ensures { result.blocks ≡ blocks_kept actors.items }
 {

@@ -18,7 +18,7 @@ use sysv_steps::{
     each_holds_what_it_was_asked, each_op_is_asked_for, waits_for_its_refusal,
 };
 
-/// States the headline: every list of happenings leads from every opening only to worlds that obey
+/// States the headline: every list of transitions leads from every opening only to worlds that obey
 /// the laws.
 pub fn every_run_obeys()
     ensures { EveryRunObeys }
@@ -38,7 +38,7 @@ pub fn every_run_obeys()
     after_removal();
 }
 
-/// States that a world in which nothing has happened is sound, and that each happening in a sound
+/// States that a world in which nothing has happened is sound, and that each transition in a sound
 /// world leads to a sound world.
 pub fn each_world_is_sound()
     ensures opens { OpensSound }
@@ -71,7 +71,7 @@ pub fn some_step()
     unused_slots();
 }
 
-/// States that each list of happenings leads from each opening to a world.
+/// States that each list of transitions leads from each opening to a world.
 pub fn some_run()
     ensures { SomeRun }
 {
@@ -81,8 +81,8 @@ pub fn some_run()
     unused_slots();
 }
 
-/// States that a list of happenings leads from a sound world to at most one world, with one list of
-/// endings.
+/// States that a list of transitions leads from a sound world to at most one world, with one list
+/// of endings.
 pub fn one_run()
     ensures { OneRun }
 {

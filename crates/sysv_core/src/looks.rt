@@ -3,7 +3,7 @@
 ghost use Rattle.std.specs.Prelude.{◌≡◌, ◌≤◌, ℕ, List, length};
 ghost use Rattle.sysv_model.specs.declared.limits.TheConstants.{MESSAGE_BYTES as most_bytes};
 ghost use Rattle.sysv_model.specs.Turn.{Turn};
-ghost use Rattle.sysv_objects.specs.StandsFor.{StandsFor};
+ghost use Rattle.sysv_objects.specs.Represents.{Represents};
 ghost use Rattle.sysv_steps.specs.Resume.{awaited};
 ghost use Rattle.sysv_steps.specs.Seen.{get_wait, send_wait, receive_wait};
 ghost use Rattle.sysv_core.specs.World.{value_of};
@@ -45,7 +45,7 @@ pub(crate) fn send_again(objects: &Objects, wait: SendWait, body: Body) -> Led
 /// Returns the value of the count for which a send waits.
 fn count_of(objects: &Objects, wait: &SendWait) -> u64
     ensures { (text : List ℕ) (generation : ℕ) (turns : List Turn) →
-        StandsFor generation turns objects.now →
+        Represents generation turns objects.now →
         result ≡ value_of turns (awaited (send_wait wait.now text)) }
 {
     match wait {

@@ -6,7 +6,7 @@ ghost use Rattle.sysv_model.specs.Turn.{AtSlot, AtRegistry};
 ghost use Rattle.sysv_model.specs.declared.limits.TheConstants.{IPC_PRIVATE as private};
 ghost use Rattle.sysv_keys.specs.Identifier.{slot_of_id};
 ghost use Rattle.sysv_keys.specs.Replies.{begun_reply};
-ghost use Rattle.sysv_objects.specs.StandsFor.{MakesTurn};
+ghost use Rattle.sysv_objects.specs.Represents.{MakesTurn};
 ghost use Rattle.sysv_core.specs.World.{preset_cred};
 ghost use Rattle.sysv_core.specs.Preset.{MakesPreset};
 

@@ -4,7 +4,7 @@ ghost use Rattle.std.specs.Prelude.{ℕ, List, false, IsTrue, ◌≡◌, ◌≢�
 ghost use Rattle.sysv_model.specs.declared.limits.TheConstants.{MAX_ACTORS as most_actors, MIN_BLOCKS as least_blocks, MAX_BLOCKS as most_blocks, WORN as worn};
 ghost use Rattle.sysv_keys.specs.declared.identifier.TheConstants.{GENERATION_LAST as last_generation};
 ghost use Rattle.sysv_core.specs.Headline.{StandsWithPreset, StandsWithEvent, StandsWithEvents, LawsHold};
-ghost use Rattle.sysv_core.specs.Seen.{StandsFor, PresetsSeen, StepsSeen, AreAllFree};
+ghost use Rattle.sysv_core.specs.Seen.{Represents, PresetsSeen, StepsSeen, AreAllFree};
 ghost use Rattle.sysv_core.specs.Kept.{doing_led, told_by};
 ghost use Rattle.sysv_core.specs.Tallying.{none_taken, messages_given, messages_in};
 ghost use Rattle.sysv_queue.specs.Tally.{taken_in};
@@ -89,7 +89,7 @@ impl World {
     /// - `NoMemory` if memory is refused.
     pub fn open(alloc: Global, actors: u32, blocks: u32) -> Result<World, OpenRefused>
         ensures opened { IfOk result (λ world.
-            StandsFor record { actors = actors; blocks = blocks; first = 0; generation = 0 }
+            Represents record { actors = actors; blocks = blocks; first = 0; generation = 0 }
             [] [] world) }
         ensures tally { IfOk result (λ world. world.tally ≡ none_taken) }
         ensures bad_size { (result ≡ Err OpenRefused.BadSize)
@@ -115,7 +115,7 @@ impl World {
         generation: u32,
     ) -> Result<World, OpenRefused>
         ensures opened { IfOk result (λ world.
-            StandsFor record {
+            Represents record {
               actors = actors;
               blocks = blocks;
               first = first_step;
@@ -157,8 +157,8 @@ impl World {
     /// (POSIX.1-2017, `msgget`). If slot 0 has a row, or a generation other than 0, the result is
     /// `false` and nothing has changed. A preset is not counted as a step, and allocates nothing.
     pub fn preset(&mut self) -> bool
-        // For every list of happenings for which the world stands, it then stands for that list and
-        // a preset.
+        // For every list of transitions for which the world stands, it then represents that list
+        // and a preset.
         ensures stands { StandsWithPreset self.old self.new }
         // States what the preset makes of each world as which this world is seen.
         ensures single { PresetsSeen self.old result self.new }
@@ -166,7 +166,6 @@ impl World {
         ensures tally { self.new.tally ≡ self.old.tally }
     {
         each_world_is_sound();
-        legal_turns();
         unused_slots();
         if !self.objects.is_unused(0) {
             return false;
@@ -183,8 +182,8 @@ impl World {
     /// actor does not exist, is in a call at a start, is idle at a step, or still has to wait.
     /// From step number 2^62 on, the result is `Worn` and nothing changes. Allocates nothing.
     pub fn step(&mut self, event: Event) -> Stepped
-        // For every list of happenings for which the world stands, it then stands for that list and
-        // the event, and the result is that of the run.
+        // For every list of transitions for which the world stands, it then represents that list
+        // and the event, and the result is that of the run.
         ensures stands { StandsWithEvent self.old event result self.new }
         // States what the event makes of each world as which this world is seen.
         ensures single { StepsSeen self.old event result self.new }
@@ -211,8 +210,8 @@ impl World {
     ///
     /// If there is no memory for the answers, the events are returned, and nothing has happened.
     pub fn run(&mut self, alloc: Global, events: Vec<Event>) -> Result<Vec<Answer>, Vec<Event>>
-        // For every list of happenings for which the world stands, it then stands for that list and
-        // the events that happened, and the answers are those of that run.
+        // For every list of transitions for which the world stands, it then represents that list
+        // and the events that happened, and the answers are those of that run.
         ensures stands { IfOk result (λ answers.
             StandsWithEvents self.old events.items answers.items self.new) }
         // The world of each list obeys the laws.
@@ -257,7 +256,7 @@ impl World {
         self.tally
     }
 
-    /// Returns the call of `actor` under way: before a step, or in a wait. Returns `None` if the
+    /// Returns the call of `actor` pending: before a step, or in a wait. Returns `None` if the
     /// actor is idle or does not exist. Actors count from 1.
     pub fn doing(&self, actor: u32) -> Option<&Doing>
         ensures { MatchOption result (StandsNowhere (state_at self.now.states actor)) (λ doing.
@@ -273,10 +272,10 @@ impl World {
     /// Ends the world and returns the number of blocks that are then free: all blocks with which
     /// the world was opened.
     ///
-    /// The blocks of queued messages, and those that calls under way hold, are returned to the pool
-    /// first. A message that a receive under way has taken is lost. Allocates nothing.
+    /// The blocks of queued messages, and those that pending calls hold, are returned to the pool
+    /// first. A message that a pending receive has taken is lost. Allocates nothing.
     pub fn end(self) -> u32
-        // This holds for every list of happenings for which the world stands.
+        // This holds for every list of transitions for which the world stands.
         ensures { AreAllFree self result }
     {
         let World {

@@ -27,7 +27,7 @@ use Rattle.sysv_seats.proofs.parked.Parked.TheSendSync.{the_send as parked_send}
 use Rattle.sysv_session.proofs.session.Session.TheSendSync.{the_send as session_send}
 use Rattle.sysv_seats.proofs.zero.Zero.TheSendSync.{the_sync as zero_sync}
 use Rattle.sysv_engine.specs.contracts.server_state.ServerState as server
-use Rattle.sysv_engine.specs.contracts.server_state.Letter as letter
+use Rattle.sysv_engine.specs.contracts.server_state.Envelope as envelope
 use Rattle.sysv_engine.specs.contracts.parked_calls.Key as key
 use Rattle.sysv_engine.specs.contracts.parked_calls.Line as line
 use Rattle.sysv_engine.specs.contracts.parked_calls.Lines as lines
@@ -158,8 +158,8 @@ lines_send = declared_send lines.the_type (
 ready_send : IsSend ready.the_row
 ready_send = search crossing depth 30
 
-letter_send : IsSend letter.the_row
-letter_send = search crossing depth 60
+envelope_send : IsSend envelope.the_row
+envelope_send = search crossing depth 60
 
 moment_send : IsSend moment.the_row
 moment_send = search crossing depth 30
@@ -183,7 +183,7 @@ worker_send l R T W B ghosts r t w b =
                 (
                   search crossing depth 30,
                   (
-                    search (crossing, letter_send) depth 30,
+                    search (crossing, envelope_send) depth 30,
                     (
                       tools_send,
                       (

@@ -41,7 +41,7 @@ module _ {T B : Type 0} (incoming outgoing : T → Option (List ℕ)) (closes : 
       gates = left.gates;
       desks = left.desks;
       shifts = left.shifts;
-      crewed = left.crewed;
+      in_team = left.in_team;
       ran = so left.gates left.shifts left.ran;
     }
 

@@ -1,4 +1,4 @@
--- The gates of a server have lived: all passes came home, the gates were stopped and then closed.
+-- The gates of a server have lived: all passes were joined, the gates were stopped and then closed.
 use Rattle.std.proofs.Common.{◌≡◌, ℕ, List, sym, subst}
 use Rattle.std.specs.Prelude.{Bool, Result}
 use Rattle.sysv_model.specs.declared.errno.Errno.{Errno}
@@ -10,12 +10,12 @@ use Rattle.sysv_thread_laws.specs.Hiring.{first_pass}
 use Rattle.sysv_service.specs.Ran.{Pass}
 use Rattle.sysv_engine.specs.Handled.{Shift}
 use Rattle.sysv_engine.specs.Looking.{HiresBy}
-use Rattle.sysv_engine.specs.OneRun.{EachLifeEndsEmpty, EachLifeIsOneRun, EachLifeLeavesThePoolWhole, Lived}
-use Rattle.sysv_engine.specs.OneRun.{NoLifeLeavesAGateHeld, Stopped}
+use Rattle.sysv_engine.specs.OneRun.{EachLifetimeEndsEmpty, EachLifetimeIsOneRun, EachLifetimeLeavesThePoolWhole, Lived}
+use Rattle.sysv_engine.specs.OneRun.{NoLifetimeLeavesAGateHeld, Stopped}
 use Rattle.sysv_engine.specs.Serving.{HasLived, HiredFrom}
 
-module _ (run : EachLifeIsOneRun) (whole : EachLifeLeavesThePoolWhole) (none_held : NoLifeLeavesAGateHeld)
-    (empty : EachLifeEndsEmpty) (blocks : ℕ) (gates : Gates) (told : Result ℕ Errno) (stopped : Stopped gates told)
+module _ (run : EachLifetimeIsOneRun) (whole : EachLifetimeLeavesThePoolWhole) (none_held : NoLifetimeLeavesAGateHeld)
+    (empty : EachLifetimeEndsEmpty) (blocks : ℕ) (gates : Gates) (told : Result ℕ Errno) (stopped : Stopped gates told)
     (closed : Closed)
     (counted : IsCounted stopped.after.seats stopped.after.held closed) (opened : AreOpen 0 blocks 0 gates)
     (fits : AreOf gates stopped.after.seats) where

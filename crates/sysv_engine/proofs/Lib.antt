@@ -2,7 +2,7 @@ pub mod SessionMakesCalls
 pub mod SessionsPerConnection
 pub mod SumsOfSessions
 mod LostAtAnEnd
-pub mod LifeIsOneRun
+pub mod LifetimeIsOneRun
 pub mod GatesHaveLived
 pub mod FaultLeaves
 pub mod Shifts

@@ -18,7 +18,7 @@ use Rattle.sysv_session.specs.Answers.{messages_in}
 use Rattle.sysv_session.specs.Calls.{Call, Meaning, messages_of}
 use Rattle.sysv_session.specs.Gathered.{Gathered, all_bytes, messages_among, messages_within}
 use Rattle.sysv_session.specs.Together.{Replied, Reports, ServesTogether, unread_at}
-use Rattle.sysv_session.specs.UnderWay.{replies_to}
+use Rattle.sysv_session.specs.Pending.{replies_to}
 use Rattle.sysv_session.proofs.ListLemmas.{messages_more}
 use Rattle.sysv_session.proofs.TogetherLemmas.{all_within, replies_messages}
 use Rattle.sysv_service.specs.Ran.{Pass}
@@ -26,7 +26,7 @@ use Rattle.sysv_wire.specs.declared.frame.Version.{Version}
 use Rattle.sysv_engine.specs.declared.sums.Sums.{Sums}
 use Rattle.sysv_engine.specs.Added.{capped, one_session}
 use Rattle.sysv_engine.specs.Handled.{Shift, cut_off_of, may_lose, one_cut_off, reports_of, sums_of, told_in}
-use Rattle.sysv_engine.specs.Talks.{Talk, Talks, TalksAs, tally_of}
+use Rattle.sysv_engine.specs.Converses.{Dialogue, Converses, ConversesAs, tally_of}
 
 -- ---- one session
 
@@ -94,12 +94,13 @@ serves_all : {K : Type 0} (Means : Meaning K) (slots : ℕ) (served : Served) (o
     may_lose served.«end» ≡ false → served.tally.lost ≡ 0
 serves_all Means slots served old new left rest taken more (inl stays) safe =
     ap (λ (t : Tallied). t.lost) stays.tallies
-serves_all Means slots served old new left rest taken more (inr talks) safe =
-    none_lost served.tally.written served.tally.lost _ _ _ talks.all talks.written
-    (none_unread talks.stopped (safe_stop served.«end» talks.stopped talks.sent _ safe talks.reports)
-    (length talks.sent) talks.replies)
-    (reports_all served.«end» talks.stopped safe talks.version slots talks.calls talks.replies talks.sent talks.replied
-    talks.reports)
+serves_all Means slots served old new left rest taken more (inr dialogues) safe =
+    none_lost served.tally.written served.tally.lost _ _ _ dialogues.all dialogues.written
+    (none_unread dialogues.stopped (safe_stop served.«end» dialogues.stopped dialogues.sent _ safe dialogues.reports)
+    (length dialogues.sent) dialogues.replies)
+    (reports_all served.«end» dialogues.stopped safe dialogues.version slots dialogues.calls dialogues.replies
+    dialogues.sent dialogues.replied
+    dialogues.reports)
 
 -- ---- all sessions
 
@@ -110,11 +111,11 @@ is_safe : (b : Bool) → ◌≡◌ {A = ℕ} (cond b 1 0) 0 → b ≡ false
 is_safe true one = absurd (omega arith)
 is_safe false one = refl
 
-talk_loses : (told : Option Served) (before after : Pass) (left rest taken more : Option (List ℕ)) →
-    TalksAs before told left rest taken more after → LosesNone told
-talk_loses None before after left rest taken more talks none = refl
-talk_loses (Some served) before after left rest taken more talks none =
-    serves_all (asks_with zero_moment ⊤) SLOTS served before after left rest taken more talks
+dialogue_loses : (told : Option Served) (before after : Pass) (left rest taken more : Option (List ℕ)) →
+    ConversesAs before told left rest taken more after → LosesNone told
+dialogue_loses None before after left rest taken more dialogues none = refl
+dialogue_loses (Some served) before after left rest taken more dialogues none =
+    serves_all (asks_with zero_moment ⊤) SLOTS served before after left rest taken more dialogues
     (is_safe (may_lose served.«end») none)
 
 both : (xs ys : List (Option Served)) → AllByRecursion LosesNone xs → AllByRecursion LosesNone ys →
@@ -122,19 +123,19 @@ both : (xs ys : List (Option Served)) → AllByRecursion LosesNone xs → AllByR
 both [] ys one two = two
 both (x ∷ xs) ys one two = (one.0, both xs ys one.1 two)
 
-shift_loses : (before : Pass) (talks : List Talk) (after : Pass) → FoldsTo Talks before talks after →
-    AllByRecursion LosesNone (reports_of talks)
+shift_loses : (before : Pass) (dialogues : List Dialogue) (after : Pass) → FoldsTo Converses before dialogues after →
+    AllByRecursion LosesNone (reports_of dialogues)
 shift_loses before [] after folds = tt
-shift_loses before (talk ∷ talks) after folds = (
-  talk_loses talk.told before folds.0 talk.left talk.rest talk.taken talk.more folds.1,
-  shift_loses folds.0 talks after folds.2,
+shift_loses before (dialogue ∷ dialogues) after folds = (
+  dialogue_loses dialogue.told before folds.0 dialogue.left dialogue.rest dialogue.taken dialogue.more folds.1,
+  shift_loses folds.0 dialogues after folds.2,
 )
 
 shifts_lose : (shifts : List Shift) → AllByRecursion LosesNone (told_in shifts)
 shifts_lose [] = tt
 shifts_lose (shift ∷ shifts) =
-    both (reports_of shift.talks) (told_in shifts)
-    (shift_loses shift.before shift.talks shift.after shift.worked) (shifts_lose shifts)
+    both (reports_of shift.dialogues) (told_in shifts)
+    (shift_loses shift.before shift.dialogues shift.after shift.worked) (shifts_lose shifts)
 
 first_none : (a b n : ℕ) → n ≡ a + b → n ≡ 0 → a ≡ 0
 first_none a b n is none = omega arith

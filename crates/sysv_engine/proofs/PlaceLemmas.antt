@@ -11,7 +11,7 @@ use Rattle.sysv_engine.specs.Added.{added, capped, one_session}
 use Rattle.sysv_engine.specs.Handled.{Handles, one_refused}
 use Rattle.sysv_engine.specs.Places.{Handled, IsPlace, KeepsPlace, Seated, SitsOn, Standing, Stands, TakesIn, View}
 use Rattle.sysv_engine.specs.Places.{taken_by, view_of, with_one, with_pass}
-use Rattle.sysv_engine.specs.Talks.{TalksAs, tally_of}
+use Rattle.sysv_engine.specs.Converses.{ConversesAs, tally_of}
 use Rattle.sysv_engine.proofs.Shifts.{folds_last}
 
 module _ {T B C : Type 0} (incoming outgoing : T → Option (List ℕ)) (closes : Closing T B)
@@ -31,7 +31,7 @@ module _ {T B C : Type 0} (incoming outgoing : T → Option (List ℕ)) (closes 
     pub rest : Option (List ℕ)
     pub kept : Option (List ℕ)
     pub more : Option (List ℕ)
-    pub talks : TalksAs start told (incoming connection) rest (outgoing connection) more after
+    pub dialogues : ConversesAs start told (incoming connection) rest (outgoing connection) more after
     pub behind : IsBehind rest kept
     pub closed : closes.leaves book kept more book'
     pub caused : MayTell (closes.breaks connection) told
@@ -43,7 +43,7 @@ module _ {T B C : Type 0} (incoming outgoing : T → Option (List ℕ)) (closes 
   handled connection start sums refused book told after sums' refused' book' done adds counts = record {
     told = told;
     holds = record {
-      talk = record {
+      dialogue = record {
         told = told;
         left = incoming connection;
         rest = done.rest;
@@ -51,7 +51,7 @@ module _ {T B C : Type 0} (incoming outgoing : T → Option (List ℕ)) (closes 
         more = done.more;
       };
       reports = refl;
-      talks = done.talks;
+      dialogues = done.dialogues;
       on = (refl, refl, done.caused);
       closed = (done.kept, done.behind, done.closed);
     };
@@ -141,7 +141,7 @@ module _ {T B : Type 0} (incoming outgoing : T → Option (List ℕ)) (closes : 
         rest = done.rest;
         kept = done.kept;
         more = done.more;
-        talks = done.serves;
+        dialogues = done.serves;
         behind = done.behind;
         closed = done.closed;
         caused = subst (λ b. MayEnd b served.«end») sits.1 cause;

@@ -103,7 +103,7 @@ module _ {T B : Type 0} (incoming outgoing : T → Option (List ℕ)) (closes : 
           ordered = worked.ordered;
           alone = worked.alone;
           shifts = worked.shifts;
-          crewed = worked.crewed;
+          in_team = worked.in_team;
           adds = worked.adds;
           counts = worked.counts;
           hires = hires_by reads own kept back home before after worked.shifts first looked last worked.hires;

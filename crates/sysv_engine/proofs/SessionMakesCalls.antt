@@ -15,13 +15,13 @@ use Rattle.sysv_session.specs.Calls.{Call, Leads}
 use Rattle.sysv_wire.specs.declared.frame.Version.{Version}
 use Rattle.sysv_wire.specs.declared.request.Ask.{Ask}
 use Rattle.sysv_wire.specs.declared.request.Ask.TheVariants.{Hello, Get, Snd, Rcv, Stat, Set, Rm, Row}
-use Rattle.sysv_thread_laws.specs.Life.{EachRunIsAtAnyMoment, call_of}
+use Rattle.sysv_thread_laws.specs.Lifetime.{EachRunIsAtAnyMoment, call_of}
 use Rattle.sysv_steps.specs.Stepping.{no_moment}
 use Rattle.sysv_service.specs.Ran.{Pass, Ran}
 use Rattle.sysv_thread_laws.specs.Working as working
 use Rattle.sysv_thread_laws.specs.Working.{Works}
 use Rattle.sysv_seats.specs.Asked.{Asks, asks_with}
-use Rattle.sysv_engine.specs.Made.{trail, MakesCall, ReadsBeside, ShowsBeside, makes_with, EachSessionMakesCalls}
+use Rattle.sysv_engine.specs.Made.{log, MakesCall, ReadsBeside, ShowsBeside, makes_with, EachSessionMakesCalls}
 use Rattle.sysv_seats.specs.Requests as requests
 
 -- The call is over or was left at a wait.
@@ -50,8 +50,8 @@ module _ (may : ℕ → Type 0) (may_leave : Type 0) (any : EachRunIsAtAnyMoment
     rests : AllByRecursion Resting calls
     works : (start : Pass) (made : List Called) → Works start made old → Works start (made ++ calls) new
     asks : (made : List Called) →
-        requests.Asks MakesCall ReadsBeside ShowsBeside may may_leave version cred ask text (trail old made) outcome
-        given (trail new (made ++ calls))
+        requests.Asks MakesCall ReadsBeside ShowsBeside may may_leave version cred ask text (log old made) outcome
+        given (log new (made ++ calls))
 
   -- Only this call.
   abbrev only : Pass → SystemCall → ℕ → List Op → State → List Called
@@ -80,7 +80,7 @@ module _ (may : ℕ → Type 0) (may_leave : Type 0) (any : EachRunIsAtAnyMoment
               one_call may any cred call sends.0 start sends.1 made did.2.0 (Over did.1) new did.2.1
               (working.reads_count Released sends.0 sends.1 works sends.2.0 sends.2.1);
           asks = λ made. (
-            (sends.0, trail sends.1 made, (sends.2, refl), inl (did.0, did.1, (did.2.0, did.2.1, refl), did.3, did.4)),
+            (sends.0, log sends.1 made, (sends.2, refl), inl (did.0, did.1, (did.2.0, did.2.1, refl), did.3, did.4)),
             asked.1,
           );
         }
@@ -93,7 +93,7 @@ module _ (may : ℕ → Type 0) (may_leave : Type 0) (any : EachRunIsAtAnyMoment
           asks = λ made. (
             (
               sends.0,
-              trail sends.1 made,
+              log sends.1 made,
               (sends.2, refl),
               inr ((left.0.0, left.0.1, (left.0.2.0, left.0.2.1, refl)), left.1),
             ),
@@ -160,7 +160,7 @@ module _ (may : ℕ → Type 0) (may_leave : Type 0) (any : EachRunIsAtAnyMoment
     rests : AllByRecursion Resting calls_made
     works : (start : Pass) (made : List Called) → Works start made old → Works start (made ++ calls_made) new
     leads : (made : List Called) →
-        Leads (makes_with may may_leave) cred (trail old made) calls (trail new (made ++ calls_made))
+        Leads (makes_with may may_leave) cred (log old made) calls (log new (made ++ calls_made))
 
   led : (cred : Cred) (old : Pass) (calls : List Call) (new : Pass) →
       Leads (asks_with may may_leave) cred old calls new → Led cred old calls new
@@ -170,7 +170,7 @@ module _ (may : ℕ → Type 0) (may_leave : Type 0) (any : EachRunIsAtAnyMoment
     works = λ start made works.
         subst (Works start (made ++ [])) (sym is)
         (subst (λ calls. Works start calls old) (sym (append-nil made)) works);
-    leads = λ made. ap (λ (p : Pass). trail p (made ++ [])) is ∙ ap (trail old) (append-nil made);
+    leads = λ made. ap (λ (p : Pass). log p (made ++ [])) is ∙ ap (log old) (append-nil made);
   }
   led cred old (call ∷ calls) new leads =
       let one = makes may may_leave any unstamped call.request.version cred call.request.ask call.text old call.outcome
@@ -183,9 +183,9 @@ module _ (may : ℕ → Type 0) (may_leave : Type 0) (any : EachRunIsAtAnyMoment
             subst (λ calls. Works start calls new) (append_assoc made one.calls more.calls_made)
             (more.works start (made ++ one.calls) (one.works start made works));
         leads = λ made. (
-          trail leads.0 (made ++ one.calls),
+          log leads.0 (made ++ one.calls),
           one.asks made,
-          subst (λ all. Leads (makes_with may may_leave) cred (trail leads.0 (made ++ one.calls)) calls (trail new all))
+          subst (λ all. Leads (makes_with may may_leave) cred (log leads.0 (made ++ one.calls)) calls (log new all))
               (append_assoc made one.calls more.calls_made) (more.leads (made ++ one.calls)),
         );
       }
@@ -196,7 +196,7 @@ module _ (may : ℕ → Type 0) (may_leave : Type 0) (any : EachRunIsAtAnyMoment
     subst (Works start (made ++ [])) (sym stays.handler)
         (subst (λ calls. Works start calls old) (sym (append-nil made)) works),
     inl (record {
-      handler = ap (λ (p : Pass). trail p (made ++ [])) stays.handler ∙ ap (trail old) (append-nil made);
+      handler = ap (λ (p : Pass). log p (made ++ [])) stays.handler ∙ ap (log old) (append-nil made);
       ends = stays.ends;
       writes = stays.writes;
       tallies = stays.tallies;
@@ -204,31 +204,31 @@ module _ (may : ℕ → Type 0) (may_leave : Type 0) (any : EachRunIsAtAnyMoment
     }),
     tt,
   )
-  each_session start old new made served left rest taken more works (inr talks) =
-      let done = led talks.cred old talks.calls new talks.leads in (
+  each_session start old new made served left rest taken more works (inr dialogues) =
+      let done = led dialogues.cred old dialogues.calls new dialogues.leads in (
         done.calls_made,
         done.works start made works,
         inr (record {
-          version = talks.version;
-          cred = talks.cred;
-          known = talks.known;
-          calls = talks.calls;
-          are_calls = talks.are_calls;
+          version = dialogues.version;
+          cred = dialogues.cred;
+          known = dialogues.known;
+          calls = dialogues.calls;
+          are_calls = dialogues.are_calls;
           leads = done.leads made;
-          unread = talks.unread;
-          reads = talks.reads;
-          stopped = talks.stopped;
-          ends = talks.ends;
-          bounded = talks.bounded;
-          replies = talks.replies;
-          replied = talks.replied;
-          sent = talks.sent;
-          prefix = talks.prefix;
-          writes = talks.writes;
-          reports = talks.reports;
-          all = talks.all;
-          written = talks.written;
-          counts = talks.counts;
+          unread = dialogues.unread;
+          reads = dialogues.reads;
+          stopped = dialogues.stopped;
+          ends = dialogues.ends;
+          bounded = dialogues.bounded;
+          replies = dialogues.replies;
+          replied = dialogues.replied;
+          sent = dialogues.sent;
+          prefix = dialogues.prefix;
+          writes = dialogues.writes;
+          reports = dialogues.reports;
+          all = dialogues.all;
+          written = dialogues.written;
+          counts = dialogues.counts;
         }),
         done.rests,
       )

@@ -6,9 +6,9 @@ use Rattle.std.proofs.lemmas.List.{length-map, length-reverse}
 use Rattle.std.proofs.lemmas.List.Sorted.{length_permutation}
 use Rattle.sysv_bank.specs.Banks.{Each2}
 use Rattle.sysv_service.specs.Seats.{Gates}
-use Rattle.sysv_engine.specs.Desks.{Crewed, Desk, Sat, all_connections}
+use Rattle.sysv_engine.specs.Desks.{InTeam, Desk, Sat, all_connections}
 use Rattle.sysv_engine.specs.Handled.{Shift, reports_of, told_in}
-use Rattle.sysv_engine.specs.Talks.{Talk}
+use Rattle.sysv_engine.specs.Converses.{Dialogue}
 use Rattle.sysv_seats.specs.Untold.{Closing}
 
 each2_length : {X Y : Type 0} (P : X → Y → Type 0) (xs : List X) (ys : List Y) → Each2 P xs ys → length xs ≡ length ys
@@ -28,9 +28,10 @@ module _ {T B : Type 0} (incoming outgoing : T → Option (List ℕ)) (closes : 
   sat_each (desk ∷ desks) [] sat = absurd sat
   sat_each (desk ∷ desks) (shift ∷ shifts) sat =
       let one =
-      length-map shift.talks (λ (talk : Talk). talk.told) ∙ sym (each2_length _ desk.connections shift.talks sat.0.0) in
+      length-map shift.dialogues (λ (dialogue : Dialogue). dialogue.told)
+      ∙ sym (each2_length _ desk.connections shift.dialogues sat.0.0) in
       both_lengths _ _ _ _ _ _ one (sat_each desks shifts sat.1)
-      (length-append (reports_of shift.talks) (told_in shifts))
+      (length-append (reports_of shift.dialogues) (told_in shifts))
       (length-append desk.connections (all_connections desks))
 
   -- there was one session for each connection
@@ -42,8 +43,8 @@ module _ {T B : Type 0} (incoming outgoing : T → Option (List ℕ)) (closes : 
 
   -- there was one worker for each book
   pub as_books : (gates : Gates) (books : List B) (desks : List (Desk T B)) (shifts : List Shift) (books' : List B) →
-      Crewed incoming outgoing closes gates books desks shifts books' → length shifts ≡ length books
-  as_books gates books desks shifts books' crewed =
-      sym (each2_length _ desks shifts crewed.sat)
+      InTeam incoming outgoing closes gates books desks shifts books' → length shifts ≡ length books
+  as_books gates books desks shifts books' in_team =
+      sym (each2_length _ desks shifts in_team.sat)
       ∙ (sym (length-map desks (λ (desk : Desk T B). desk.first))
-      ∙ (sym (length-reverse (map (λ (desk : Desk T B). desk.first) desks)) ∙ ap length crewed.firsts))
+      ∙ (sym (length-reverse (map (λ (desk : Desk T B). desk.first) desks)) ∙ ap length in_team.firsts))

@@ -1,27 +1,37 @@
 -- Places that are shared out among workers, the last ones first.
-use Rattle.std.proofs.Common.{◌≡◌, ◌∙◌, ◌+◌, List, [], ◌∷◌, ◌++◌, reverse, length, vec_len, ap, refl, sym, append_assoc}
-use Rattle.std.proofs.Common.{◌≤◌, arith, length-append, slice_index_or}
+use Rattle.std.proofs.Common.{◌≡◌, ◌∙◌, ◌+◌, List, [], ◌∷◌, ◌++◌, map, reverse, length, vec_len, ap, refl, subst, sym}
+use Rattle.std.proofs.Common.{◌≤◌, append_assoc, arith, length-append, slice_index_or}
 use Rattle.std.specs.Prelude.{Vec}
-use Rattle.std.specs.List.{All, flat_map, sum_by}
-use Rattle.std.proofs.lemmas.List.{flat_map_more, length-reverse, reverse-append, reverse-reverse}
+use Rattle.std.specs.List.{All, FoldsTo, flat_map, sum_by}
+use Rattle.std.proofs.lemmas.List.{flat_map_more, length-map, map-append, reverse-append}
 use Rattle.std.proofs.lemmas.List.Sums.{sum_by-cons}
+use Rattle.sysv_engine.proofs.Shifts.{reverse_last}
 
-module _ {P : Type 0} (old new own : List P) (moved : old ≡ new ++ reverse own) where
-  -- One worker more has the last places.
-  pub one_more : {W : Type 0} (places : W → List P) (workers : List W) (worker : W) (all : List P) →
-      own ≡ places worker → flat_map places workers ++ reverse old ≡ all →
-      flat_map places (workers ++ worker ∷ []) ++ reverse new ≡ all
-  one_more places workers worker all is before =
-      let turned : reverse old ≡ places worker ++ reverse new = ap reverse moved
-      ∙ (reverse-append new (reverse own) ∙ ap (λ l. l ++ reverse new) (reverse-reverse own ∙ is)) in
-      ap (λ l. l ++ reverse new) (sym (flat_map_more places [] workers worker))
-      ∙ (append_assoc (flat_map places workers) (places worker) (reverse new)
-      ∙ (ap (λ l. flat_map places workers ++ l) (sym turned) ∙ before))
+-- One worker more comes before the others, in reverse.
+pub one_before : {W P : Type 0} (places : W → List P) (workers : List W) (worker : W) (own : List P) →
+    places worker ≡ own → flat_map places (reverse (workers ++ worker ∷ [])) ≡ own ++ flat_map places (reverse workers)
+one_before places workers worker own is = ap (flat_map places) (reverse_last workers worker)
+    ∙ ap (λ l. l ++ flat_map places (reverse workers)) is
 
-  -- They are not there any more.
-  pub fewer : length old ≡ length new + length own
-  fewer =
-      ap length moved ∙ (length-append new (reverse own) ∙ ap (λ n. length new + n) (length-reverse own))
+-- Its books are not there any more.
+pub fewer : {P B : Type 0} (book : P → B) (old new : List B) (own : List P) → old ≡ new ++ map book own →
+    length old ≡ length new + length own
+fewer book old new own moved = ap length moved
+    ∙ (length-append new (map book own) ∙ ap (λ n. length new + n) (length-map own book))
+
+folds_on : {P A : Type 0} (R : P → A → P → Type 0) (p : P) (xs : List A) (q : P) (ys : List A) (r : P) →
+    FoldsTo R p xs q → FoldsTo R q ys r → FoldsTo R p (xs ++ ys) r
+folds_on R p [] q ys r is rest = subst (λ s. FoldsTo R s ys r) (sym is) rest
+folds_on R p (x ∷ xs) q ys r folds rest = (folds.0, folds.1, folds_on R folds.0 xs q ys r folds.2 rest)
+
+-- What its places were given was given after that of the others.
+pub given_before : {S P A : Type 0} (R : P → A → P → Type 0) (of : S → A) (p q r : P) (own others : List S) →
+    FoldsTo R p (reverse (map of others)) q → FoldsTo R q (reverse (map of own)) r →
+    FoldsTo R p (reverse (map of (own ++ others))) r
+given_before R of p q r own others first then =
+    let both = ap reverse (map-append of own others) ∙ reverse-append (map of own) (map of others) in
+    subst (λ l. FoldsTo R p l r) (sym both)
+    (folds_on R p (reverse (map of others)) q (reverse (map of own)) r first then)
 
 -- The number of places of all workers.
 pub all_counted : {W P Z : Type 0} (places : W → Vec P Z) (workers : List W) →
@@ -33,6 +43,11 @@ all_counted places (w ∷ workers) =
     let both = length-append (places w).items (flat_map (λ w. (places w).items) workers) in
     let ok = (places w).ok in
     omega arith
+
+-- There is a place for each book.
+pub each_booked : {W P B : Type 0} (places : W → List P) (book : P → B) (workers : List W) (books : List B) →
+    books ≡ map book (flat_map places workers) → length books ≡ length (flat_map places workers)
+each_booked places book workers books are = ap length are ∙ length-map (flat_map places workers) book
 
 -- Each worker has a place.
 pub some_each : {W P Z : Type 0} (places : W → Vec P Z) (workers : List W) →

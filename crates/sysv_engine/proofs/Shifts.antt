@@ -19,13 +19,13 @@ use Rattle.sysv_workers.specs.declared.refusals.WorkersFault.{WorkersFault}
 use Rattle.sysv_engine.specs.declared.fault.ServeFault.{ServeFault}
 use Rattle.sysv_engine.specs.declared.sums.Sums.{Sums}
 use Rattle.sysv_engine.specs.Added.{added, all_added, capped, one_session}
-use Rattle.sysv_engine.specs.Desks.{Desk, Crewed, Sat, AreServedInOrder, all_connections}
+use Rattle.sysv_engine.specs.Desks.{Desk, InTeam, Sat, AreServedInOrder, all_connections}
 use Rattle.sysv_engine.specs.Handled.{Handles, Shift, first_passes, last_passes, one_refused, refused_of, reports_of}
 use Rattle.sysv_engine.specs.Handled.{sums_of}
 use Rattle.sysv_engine.specs.Handled.{told_in}
 use Rattle.sysv_engine.specs.Serving.{FaultOf, HiredFrom, IsNew, LeavesBooks, LeavesConnections, LeavesUnused}
 use Rattle.sysv_engine.specs.Serving.{WorkedFrom}
-use Rattle.sysv_engine.specs.Talks.{Closes, IsOn, Talk, Talks, tally_of}
+use Rattle.sysv_engine.specs.Converses.{Closes, IsOn, Dialogue, Converses, tally_of}
 use Rattle.sysv_seats.specs.Untold.{Closing}
 use Rattle.sysv_engine.proofs.SumsOfSessions.{emptied, refused_first, refused_last, sum_by_map, told_first, told_last}
 use Rattle.sysv_engine.proofs.FaultLeaves.{left}
@@ -79,17 +79,17 @@ module _ {W T B : Type 0} (incoming outgoing : T → Option (List ℕ)) (closes 
 
   -- The sessions of one worker, after others with these reports.
   record Tells (xs : List (Option Served)) (w w' : W) (items : List T) : Type 0 where
-    talks : List Talk
-    folds : FoldsTo Talks (pass w) talks (pass w')
-    on : Each2 (IsOn incoming outgoing closes) items talks
-    closed : FoldsTo (Closes closes) (book w) talks (book w')
-    adds : sums w' ≡ sums_of (xs ++ reports_of talks)
-    counts : refused w' ≡ refused_of (xs ++ reports_of talks)
+    dialogues : List Dialogue
+    folds : FoldsTo Converses (pass w) dialogues (pass w')
+    on : Each2 (IsOn incoming outgoing closes) items dialogues
+    closed : FoldsTo (Closes closes) (book w) dialogues (book w')
+    adds : sums w' ≡ sums_of (xs ++ reports_of dialogues)
+    counts : refused w' ≡ refused_of (xs ++ reports_of dialogues)
 
   tells : (items : List T) (w w' : W) (xs : List (Option Served)) → FoldsTo Runs w items w' → sums w ≡ sums_of xs →
       refused w ≡ refused_of xs → Tells xs w w' items
   tells [] w w' xs h same counted = record {
-    talks = [];
+    dialogues = [];
     folds = ap pass h;
     on = tt;
     closed = ap book h;
@@ -98,22 +98,22 @@ module _ {W T B : Type 0} (incoming outgoing : T → Option (List ℕ)) (closes 
   }
   tells (x ∷ items) w w' xs h same counted =
       let run = h.1 in
-      let talk : Talk = run.holds.talk in
-      let is : run.told ≡ talk.told = sym run.holds.reports in
-      let next : sums h.0 ≡ sums_of (xs ++ talk.told ∷ []) =
+      let dialogue : Dialogue = run.holds.dialogue in
+      let is : run.told ≡ dialogue.told = sym run.holds.reports in
+      let next : sums h.0 ≡ sums_of (xs ++ dialogue.told ∷ []) =
       subst (λ t. sums h.0 ≡ sums_of (xs ++ t ∷ [])) is
       (run.adds ∙ (ap (λ s. added s (one_session (tally_of run.told))) same ∙ told_last xs run.told)) in
-      let more_refused : refused h.0 ≡ refused_of (xs ++ talk.told ∷ []) =
+      let more_refused : refused h.0 ≡ refused_of (xs ++ dialogue.told ∷ []) =
       subst (λ t. refused h.0 ≡ refused_of (xs ++ t ∷ [])) is
       (run.counts ∙ (ap (λ n. capped (n + one_refused run.told)) counted ∙ refused_last xs run.told)) in
-      let more = tells items h.0 w' (xs ++ talk.told ∷ []) h.2 next more_refused in
+      let more = tells items h.0 w' (xs ++ dialogue.told ∷ []) h.2 next more_refused in
       record {
-        talks = talk ∷ more.talks;
-        folds = (pass h.0, run.holds.talks, more.folds);
+        dialogues = dialogue ∷ more.dialogues;
+        folds = (pass h.0, run.holds.dialogues, more.folds);
         on = (run.holds.on, more.on);
         closed = (book h.0, run.holds.closed, more.closed);
-        adds = more.adds ∙ ap sums_of (append_assoc xs (talk.told ∷ []) (reports_of more.talks));
-        counts = more.counts ∙ ap refused_of (append_assoc xs (talk.told ∷ []) (reports_of more.talks));
+        adds = more.adds ∙ ap sums_of (append_assoc xs (dialogue.told ∷ []) (reports_of more.dialogues));
+        counts = more.counts ∙ ap refused_of (append_assoc xs (dialogue.told ∷ []) (reports_of more.dialogues));
       }
 
   -- The shifts and the desks of all workers.
@@ -159,7 +159,7 @@ module _ {W T B : Type 0} (incoming outgoing : T → Option (List ℕ)) (closes 
       (All-tail (λ (p : Part W T). New gates p.before) p parts new) in
       record {
         shifts =
-            record { before = pass p.before; talks = one.talks; after = pass p.after; worked = one.folds }
+            record { before = pass p.before; dialogues = one.dialogues; after = pass p.after; worked = one.folds }
             ∷ rest.shifts;
         desks = record { connections = p.items; first = book p.before; last = book p.after } ∷ rest.desks;
         passes = ((first.0, first.1), rest.passes);
@@ -168,10 +168,10 @@ module _ {W T B : Type 0} (incoming outgoing : T → Option (List ℕ)) (closes 
         ordered = λ given all.
             let P : Part W T → Type 0 = λ q. IsSubsequenceOf q.items given in
             (All-head P p parts all, rest.ordered given (All-tail P p parts all));
-        adds = told_first (reports_of one.talks) (told_in rest.shifts) (sums p.after)
+        adds = told_first (reports_of one.dialogues) (told_in rest.shifts) (sums p.after)
             (map (λ (p : Part W T). sums p.after) parts) one.adds rest.adds;
         counts = ap capped (sum_by-cons (λ (p : Part W T). refused p.after) p parts)
-            ∙ refused_first (reports_of one.talks) (told_in rest.shifts) (refused p.after)
+            ∙ refused_first (reports_of one.dialogues) (told_in rest.shifts) (refused p.after)
             (sum_by (λ (p : Part W T). refused p.after) parts) one.counts rest.counts;
         begun = ap (λ passes. pass p.before ∷ passes) rest.begun;
         left = ap (λ passes. pass p.after ∷ passes) rest.left;
@@ -183,7 +183,7 @@ module _ {W T B : Type 0} (incoming outgoing : T → Option (List ℕ)) (closes 
   pub record Manned (gates : Gates) (states : List W) (parts : List (Part W T)) (after : List W) : Type 0 where
     pub shifts : List Shift
     pub desks : List (Desk T B)
-    pub crewed : Crewed incoming outgoing closes gates (reverse (map book states)) desks shifts
+    pub in_team : InTeam incoming outgoing closes gates (reverse (map book states)) desks shifts
         (reverse (map book after))
     pub served : all_connections desks ≡ flat_map (λ (p : Part W T). p.items) parts
     pub ordered : (given : List T) → AreInOrder given parts → AreServedInOrder given desks
@@ -205,7 +205,7 @@ module _ {W T B : Type 0} (incoming outgoing : T → Option (List ℕ)) (closes 
       record {
         shifts = done.shifts;
         desks = done.desks;
-        crewed = record {
+        in_team = record {
           passes = done.passes;
           sat = done.sat;
           firsts = ap reverse firsts;
@@ -242,9 +242,9 @@ module _ {W T B : Type 0} (incoming outgoing : T → Option (List ℕ)) (closes 
         ordered = done.ordered ran.given ran.ordered;
         alone = λ one. done.served ∙ ran.alone (sym workers ∙ one);
         shifts = done.shifts;
-        crewed = subst (λ l. Crewed incoming outgoing closes gates l done.desks done.shifts books') (sym books_are)
-            (subst (λ l. Crewed incoming outgoing closes gates (reverse (map book states)) done.desks done.shifts l)
-            (sym books_are') done.crewed);
+        in_team = subst (λ l. InTeam incoming outgoing closes gates l done.desks done.shifts books') (sym books_are)
+            (subst (λ l. InTeam incoming outgoing closes gates (reverse (map book states)) done.desks done.shifts l)
+            (sym books_are') done.in_team);
         adds = adds ∙ done.adds;
         counts = counts ∙ done.counts;
         hires = record {
@@ -308,10 +308,10 @@ module _ {W T B : Type 0} (incoming outgoing : T → Option (List ℕ)) (closes 
             gates = gates;
             desks = done.desks;
             shifts = done.shifts;
-            crewed =
-                subst (λ l. Crewed incoming outgoing closes gates l done.desks done.shifts books') (sym books_are)
-                (subst (λ l. Crewed incoming outgoing closes gates (reverse (map book states)) done.desks done.shifts
-                l) (sym books_are') done.crewed);
+            in_team =
+                subst (λ l. InTeam incoming outgoing closes gates l done.desks done.shifts books') (sym books_are)
+                (subst (λ l. InTeam incoming outgoing closes gates (reverse (map book states)) done.desks done.shifts
+                l) (sym books_are') done.in_team);
             ran = (
               refl,
               record {
@@ -327,7 +327,7 @@ module _ {W T B : Type 0} (incoming outgoing : T → Option (List ℕ)) (closes 
     unused : after ≡ states → LeavesUnused incoming outgoing closes (HiredFrom false gates old new) books books'
     unused is =
         let none = led (idle states) (idle_leads states after is) in
-        let each = sat_each incoming outgoing closes none.left.desks none.left.shifts none.left.crewed.sat in
+        let each = sat_each incoming outgoing closes none.left.desks none.left.shifts none.left.in_team.sat in
         let count : length (told_in none.left.shifts) ≡ 0 = each ∙ ap length (none.served ∙ idle_items states) in
         record { left = none.left; none = emptied (told_in none.left.shifts) count }
 

@@ -175,27 +175,19 @@ module _ {T B : Type 0} (incoming outgoing : T → Option (List ℕ)) (closes : 
     -- ---- the number of places
 
     module _ {S : Type 0} (gives : S → Option T → S → Type 0) (source source' : S) (ws ws' : List W)
-        (opened : List (Seated B T)) (all_opened : All (IsOpened gates) opened) (shared : all_of ws ≡ reverse opened)
-        (some : All (λ w. 1 ≤ length (places w)) ws) where
-      shared_fresh : All (run.IsFresh places view_of St) ws
-      shared_fresh = fresh ws
-          (subst (All (IsOpened gates)) (sym shared) (all_reverse (IsOpened gates) opened all_opened)) some
+        (opened : All (IsOpened gates) (all_of ws)) (some : All (λ w. 1 ≤ length (places w)) ws) where
+      led_as_many : (parts : List (Part W T)) → Leads Runs ws parts ws' → length (all_of ws') ≡ length (all_of ws)
+      led_as_many parts leads = run.as_many places view_of St ws ws' parts leads (fresh ws opened some)
 
-      shared_count : length (all_of ws) ≡ length opened
-      shared_count = ap length shared ∙ length-reverse opened
-
-      led_as_many : (parts : List (Part W T)) → Leads Runs ws parts ws' → length (all_of ws') ≡ length opened
-      led_as_many parts leads = run.as_many places view_of St ws ws' parts leads shared_fresh ∙ shared_count
-
-      same_as_many : ws' ≡ ws → length (all_of ws') ≡ length opened
-      same_as_many is = ap (λ l. length (all_of l)) is ∙ shared_count
+      same_as_many : ws' ≡ ws → length (all_of ws') ≡ length (all_of ws)
+      same_as_many is = ap (λ l. length (all_of l)) is
 
       -- A run keeps the number of places.
-      pub ran_as_many : RunsAll Runs gives ws source ws' source' → length (all_of ws') ≡ length opened
+      pub ran_as_many : RunsAll Runs gives ws source ws' source' → length (all_of ws') ≡ length (all_of ws)
       ran_as_many ran = led_as_many ran.parts ran.leads
 
       -- So does a refused run.
-      pub back_as_many : (why : WorkersFault) → GivesBack Runs ws why ws' → length (all_of ws') ≡ length opened
+      pub back_as_many : (why : WorkersFault) → GivesBack Runs ws why ws' → length (all_of ws') ≡ length (all_of ws)
       back_as_many BadCount back = same_as_many back
       back_as_many NoMemory back = same_as_many back
       back_as_many Thread back = same_as_many back
@@ -205,24 +197,26 @@ module _ {T B : Type 0} (incoming outgoing : T → Option (List ℕ)) (closes : 
     -- ---- what the server did
 
     module _ {S : Type 0} (gives : S → Option T → S → Type 0) (source source' : S) (ws ws' : List W)
-        (opened ps : List (Seated B T)) (all_opened : All (IsOpened gates) opened)
-        (shared : all_of ws ≡ reverse opened) (some : All (λ w. 1 ≤ length (places w)) ws)
+        (ps : List (Seated B T)) (opened : All (IsOpened gates) (all_of ws))
+        (some : All (λ w. 1 ≤ length (places w)) ws)
         (keeps : KeepsAll incoming outgoing closes (reverse (all_of ws')) ps)
         (vacant : All (λ (p : Seated B T). p.client ≡ None) ps) where
       all_fresh : All (run.IsFresh places view_of St) ws
-      all_fresh = fresh ws
-          (subst (All (IsOpened gates)) (sym shared) (all_reverse (IsOpened gates) opened all_opened)) some
+      all_fresh = fresh ws opened some
 
-      first_views : reverse (map view_of (all_of ws)) ≡ map view_of opened
-      first_views = ap (λ l. reverse (map view_of l)) shared
-          ∙ (ap reverse (map_reverse view_of opened) ∙ reverse-reverse (map view_of opened))
+      -- The places, in the order in which their passes were split off.
+      abbrev in_order : List (Seated B T)
+      in_order = reverse (all_of ws)
+
+      first_views : reverse (map view_of (all_of ws)) ≡ map view_of in_order
+      first_views = sym (map_reverse view_of (all_of ws))
 
       last_views : reverse (map view_of (reverse ps)) ≡ map view_of ps
       last_views = ap reverse (map_reverse view_of ps) ∙ reverse-reverse (map view_of ps)
 
       -- The places had sessions over all connections of the source.
       places_ran : RunsAll Runs gives ws source ws' source' →
-          RunsAll (Handled incoming outgoing closes) gives (map view_of opened) source (map view_of ps) source'
+          RunsAll (Handled incoming outgoing closes) gives (map view_of in_order) source (map view_of ps) source'
       places_ran ran =
           subst (λ l. RunsAll (Handled incoming outgoing closes) gives l source (map view_of ps) source') first_views
           (subst (λ l. RunsAll (Handled incoming outgoing closes) gives (reverse (map view_of (all_of ws))) source l
@@ -233,7 +227,7 @@ module _ {T B : Type 0} (incoming outgoing : T → Option (List ℕ)) (closes : 
           ran all_fresh (vacated ws' ps keeps vacant))))
 
       places_back : (why : WorkersFault) → GivesBack Runs ws why ws' →
-          GivesBack (Handled incoming outgoing closes) (map view_of opened) why (map view_of ps)
+          GivesBack (Handled incoming outgoing closes) (map view_of in_order) why (map view_of ps)
       places_back why back =
           subst (λ l. GivesBack (Handled incoming outgoing closes) l why (map view_of ps)) first_views
           (subst (λ l. GivesBack (Handled incoming outgoing closes) (reverse (map view_of (all_of ws))) why l)
@@ -243,22 +237,35 @@ module _ {T B : Type 0} (incoming outgoing : T → Option (List ℕ)) (closes : 
           (vacated ws' ps keeps vacant))))
 
       module _ (books books' : List B) (old kept new : Pass)
-          (first_books : books ≡ reverse (map (λ (p : Seated B T). p.book) opened))
+          (first_books : books ≡ map (λ (p : Seated B T). p.book) (all_of ws))
           (last_books : books' ≡ reverse (map (λ (p : Seated B T). p.book) ps))
-          (given : FoldsTo Gives old (map (λ (p : Seated B T). p.pass) opened) kept)
+          (given : FoldsTo Gives old (reverse (map (λ (p : Seated B T). p.pass) (all_of ws))) kept)
           (taken : FoldsTo TakesIn kept (reverse (map (λ (p : Seated B T). p.pass) ps)) new) where
+        new_ones : All (λ (v : View B). IsNew gates v.pass v.sums v.refused) (map view_of in_order)
+        new_ones = new_views in_order (all_reverse (IsOpened gates) (all_of ws) opened)
+
+        -- What the places had at first, in their order.
+        at_first : {X : Type 0} (of : View B → X) →
+            map of (map view_of in_order) ≡ reverse (map (λ (p : Seated B T). of (view_of p)) (all_of ws))
+        at_first of = map_both of view_of in_order ∙ map_reverse (λ (p : Seated B T). of (view_of p)) (all_of ws)
+
+        books_at_first : books ≡ reverse (map (λ (v : View B). v.book) (map view_of in_order))
+        books_at_first = first_books
+            ∙ sym (ap reverse (at_first (λ (v : View B). v.book))
+            ∙ reverse-reverse (map (λ (p : Seated B T). p.book) (all_of ws)))
+
         pub all_worked : (total : Sums) (missed : ℕ) → total ≡ all_added (map (λ (p : Seated B T). p.sums) ps) →
             missed ≡ capped (sum_by (λ (p : Seated B T). p.refused) ps) → RunsAll Runs gives ws source ws' source' →
             WorkedFrom incoming outgoing closes gives false gates old source books total missed new source' books'
         all_worked total missed adds counts ran =
             shifts.all_shifted incoming outgoing closes (λ (v : View B). v.pass) (λ (v : View B). v.sums)
-            (λ (v : View B). v.refused) (λ (v : View B). v.book) gives gates (map view_of opened) (map view_of ps)
-            source source' books books' total missed old kept new (places_ran ran) (new_views opened all_opened)
-            (first_books ∙ ap reverse (sym (map_both (λ (v : View B). v.book) view_of opened)))
+            (λ (v : View B). v.refused) (λ (v : View B). v.book) gives gates (map view_of in_order) (map view_of ps)
+            source source' books books' total missed old kept new (places_ran ran) new_ones
+            books_at_first
             (last_books ∙ ap reverse (sym (map_both (λ (v : View B). v.book) view_of ps)))
             (adds ∙ ap all_added (sym (map_both (λ (v : View B). v.sums) view_of ps)))
             (counts ∙ ap capped (sym (sum_by_map (λ (v : View B). v.refused) view_of ps)))
-            (subst (λ l. FoldsTo Gives old l kept) (sym (map_both (λ (v : View B). v.pass) view_of opened)) given)
+            (subst (λ l. FoldsTo Gives old l kept) (sym (at_first (λ (v : View B). v.pass))) given)
             (subst (λ l. FoldsTo TakesIn kept (reverse l) new) (sym (map_both (λ (v : View B). v.pass) view_of ps))
             taken)
 
@@ -268,11 +275,11 @@ module _ {T B : Type 0} (incoming outgoing : T → Option (List ℕ)) (closes : 
             books'
         all_left workers few why told named leaves back =
             shifts.all_left incoming outgoing closes (λ (v : View B). v.pass) (λ (v : View B). v.sums)
-            (λ (v : View B). v.refused) (λ (v : View B). v.book) gives gates (map view_of opened) (map view_of ps)
-            source source' books books' old kept new (new_views opened all_opened)
-            (first_books ∙ ap reverse (sym (map_both (λ (v : View B). v.book) view_of opened)))
+            (λ (v : View B). v.refused) (λ (v : View B). v.book) gives gates (map view_of in_order) (map view_of ps)
+            source source' books books' old kept new new_ones
+            books_at_first
             (last_books ∙ ap reverse (sym (map_both (λ (v : View B). v.book) view_of ps)))
-            (subst (λ l. FoldsTo Gives old l kept) (sym (map_both (λ (v : View B). v.pass) view_of opened)) given)
+            (subst (λ l. FoldsTo Gives old l kept) (sym (at_first (λ (v : View B). v.pass))) given)
             (subst (λ l. FoldsTo TakesIn kept (reverse l) new) (sym (map_both (λ (v : View B). v.pass) view_of ps))
             taken) workers few why told named leaves (places_back why back)
 

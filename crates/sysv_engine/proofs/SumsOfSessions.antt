@@ -9,7 +9,7 @@ use Rattle.sysv_session.specs.declared.served.Served.{Served}
 use Rattle.sysv_engine.specs.declared.sums.Sums.{Sums}
 use Rattle.sysv_engine.specs.Added.{capped, added, all_added, one_session, IsBalanced}
 use Rattle.sysv_engine.specs.Handled.{one_refused, refused_of, sums_of}
-use Rattle.sysv_engine.specs.Talks.{tally_of}
+use Rattle.sysv_engine.specs.Converses.{tally_of}
 
 sums_are : (a b : Sums) → a.sessions ≡ b.sessions → a.taken ≡ b.taken → a.written ≡ b.written → a.lost ≡ b.lost → a ≡ b
 sums_are a b p q r s =

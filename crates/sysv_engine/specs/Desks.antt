@@ -4,7 +4,7 @@ use Rattle.std.specs.List.{AllByRecursion, FoldsTo}
 use Rattle.sysv_bank.specs.Banks.{Each2}
 use Rattle.sysv_service.specs.Seats.{Gates, AreOf}
 use Rattle.sysv_workers.specs.Parts.{IsSubsequenceOf}
-use Rattle.sysv_engine.specs.Talks.{IsOn, Closes}
+use Rattle.sysv_engine.specs.Converses.{IsOn, Closes}
 use Rattle.sysv_seats.specs.Untold.{Closing}
 use Rattle.sysv_engine.specs.Handled.{Shift}
 
@@ -36,12 +36,12 @@ module _ {T B : Type 0} (incoming outgoing : T → Option (List ℕ)) (closes : 
   -- order, and closed each connection with what its session left.
   abbrev pub Sat : Desk T B → Shift → Type 0
   Sat desk shift =
-      Each2 (IsOn incoming outgoing closes) desk.connections shift.talks
-      × FoldsTo (Closes closes) desk.first shift.talks desk.last
+      Each2 (IsOn incoming outgoing closes) desk.connections shift.dialogues
+      × FoldsTo (Closes closes) desk.first shift.dialogues desk.last
 
   -- The places of these desks worked these shifts at the gates. There was one place for each book.
   -- Each began with its book and with a pass of the gates that holds no chain.
-  pub record Crewed (gates : Gates) (books : List B) (desks : List (Desk T B)) (shifts : List Shift)
+  pub record InTeam (gates : Gates) (books : List B) (desks : List (Desk T B)) (shifts : List Shift)
       (books' : List B) : Type 0 where
     pub passes : AllByRecursion (λ (shift : Shift). AreOf gates shift.before.seats × (shift.before.held ≡ 0)) shifts
     pub sat : Each2 Sat desks shifts

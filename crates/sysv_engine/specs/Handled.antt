@@ -7,10 +7,10 @@ use Rattle.sysv_session.specs.declared.served.End.TheVariants.{Ended, NoMemory, 
 use Rattle.sysv_session.specs.declared.served.End.TheVariants.{Reset}
 use Rattle.sysv_service.specs.Ran.{Pass}
 use Rattle.sysv_thread_laws.specs.Order.{Called}
-use Rattle.sysv_engine.specs.Made.{trail}
+use Rattle.sysv_engine.specs.Made.{log}
 use Rattle.sysv_engine.specs.declared.sums.Sums.{Sums}
 use Rattle.sysv_engine.specs.Added.{added, all_added, capped, one_session}
-use Rattle.sysv_engine.specs.Talks.{Talk, Talks, TalksIn, IsOn, Closes, tally_of}
+use Rattle.sysv_engine.specs.Converses.{Dialogue, Converses, ConversesIn, IsOn, Closes, tally_of}
 use Rattle.sysv_seats.specs.Untold.{Closing}
 
 -- The end is that memory was refused.
@@ -61,11 +61,11 @@ module _ {T B : Type 0} (incoming outgoing : T → Option (List ℕ)) (closes : 
   -- One session with this report was held on the connection, which was then closed.
   pub record Holds (connection : T) (before : Pass) (book : B) (told : Option Served) (after : Pass)
       (book' : B) : Type 0 where
-    pub talk : Talk
-    pub reports : talk.told ≡ told
-    pub talks : Talks before talk after
-    pub on : IsOn incoming outgoing closes connection talk
-    pub closed : Closes closes book talk book'
+    pub dialogue : Dialogue
+    pub reports : dialogue.told ≡ told
+    pub dialogues : Converses before dialogue after
+    pub on : IsOn incoming outgoing closes connection dialogue
+    pub closed : Closes closes book dialogue book'
 
   -- One more session was held, on this connection, and it was added to the sums.
   pub record Handles (connection : T) (before : Pass) (sums : Sums) (refused : ℕ) (book : B) (after : Pass)
@@ -79,9 +79,9 @@ module _ {T B : Type 0} (incoming outgoing : T → Option (List ℕ)) (closes : 
 -- Each session begins with the pass with which the session before it ended.
 pub record Shift : Type 0 where
   pub before : Pass
-  pub talks : List Talk
+  pub dialogues : List Dialogue
   pub after : Pass
-  pub worked : FoldsTo Talks before talks after
+  pub worked : FoldsTo Converses before dialogues after
 
 -- The passes with which the places began.
 abbrev pub first_passes : List Shift → List Pass
@@ -92,13 +92,13 @@ abbrev pub last_passes : List Shift → List Pass
 last_passes shifts = map (λ (shift : Shift). shift.after) shifts
 
 -- The reports of these sessions.
-abbrev pub reports_of : List Talk → List (Option Served)
-reports_of talks = map (λ (talk : Talk). talk.told) talks
+abbrev pub reports_of : List Dialogue → List (Option Served)
+reports_of dialogues = map (λ (dialogue : Dialogue). dialogue.told) dialogues
 
 -- The reports of the sessions of all places.
 abbrev pub told_in : List Shift → List (Option Served)
-told_in shifts = flat_map (λ (shift : Shift). reports_of shift.talks) shifts
+told_in shifts = flat_map (λ (shift : Shift). reports_of shift.dialogues) shifts
 
 -- All sessions of the place together made these calls.
 abbrev pub AreMadeBy : Shift → List Called → Type 0
-AreMadeBy shift calls = FoldsTo TalksIn (trail shift.before []) shift.talks (trail shift.after calls)
+AreMadeBy shift calls = FoldsTo ConversesIn (log shift.before []) shift.dialogues (log shift.after calls)

@@ -17,7 +17,7 @@ use Rattle.sysv_service.specs.Opened.{AreOpen}
 use Rattle.sysv_service.specs.Seats.{Gates}
 use Rattle.sysv_workers.specs.Sources.{GivesAll}
 use Rattle.sysv_engine.specs.declared.terms.Ended.{Ended}
-use Rattle.sysv_engine.specs.Desks.{Desk, Crewed, AreServedInOrder, all_connections}
+use Rattle.sysv_engine.specs.Desks.{Desk, InTeam, AreServedInOrder, all_connections}
 use Rattle.sysv_engine.specs.Handled.{Shift, cut_off_of, sums_of, refused_of, told_in}
 use Rattle.sysv_engine.specs.OneRun.{Lived}
 use Rattle.sysv_seats.specs.Untold.{Closing}
@@ -45,7 +45,7 @@ pub record ServesConnections {S T B : Type 0} (incoming outgoing : T → Option 
   -- closed with what it had taken of the replies then, and with what the session left to be read, except
   -- for what was read ahead.
   pub shifts : List Shift
-  pub crewed : Crewed incoming outgoing closes gates books desks shifts books'
+  pub in_team : InTeam incoming outgoing closes gates books desks shifts books'
   -- The sums are those of all sessions, and so is the number of sessions whose memory was refused.
   pub sums : ended.sums ≡ sums_of (told_in shifts)
   pub refused : ended.refused ≡ refused_of (told_in shifts)

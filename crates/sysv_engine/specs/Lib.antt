@@ -4,7 +4,7 @@ pub mod Looking
 pub mod Looks
 pub mod Made
 pub mod Added
-pub mod Talks
+pub mod Converses
 pub mod Handled
 pub mod Desks
 pub mod OneRun

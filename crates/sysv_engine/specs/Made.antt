@@ -12,7 +12,7 @@ use Rattle.sysv_thread_laws.specs.Order.{Called}
 use Rattle.sysv_session.specs.declared.served.Served.{Served}
 use Rattle.sysv_session.specs.Calls.{Meaning}
 use Rattle.sysv_session.specs.Together.{ServesTogether}
-use Rattle.sysv_thread_laws.specs.Life.{call_of}
+use Rattle.sysv_thread_laws.specs.Lifetime.{call_of}
 use Rattle.sysv_service.specs.Ran.{Pass, Ran}
 use Rattle.sysv_service.specs.Told.{TellsRow}
 use Rattle.sysv_thread_laws.specs.Working.{Works}
@@ -22,38 +22,38 @@ use Rattle.sysv_seats.specs.Requests as requests
 use Rattle.sysv_seats.specs.Requests.{Going}
 
 -- A pass, and the calls that were made with it so far.
-pub record Trail : Type 0 where
+pub record Log : Type 0 where
   pub pass : Pass
   pub made : List Called
 
 -- This pass with these calls.
-abbrev pub trail : Pass → List Called → Trail
-trail pass made = record { pass = pass; made = made }
+abbrev pub log : Pass → List Called → Log
+log pass made = record { pass = pass; made = made }
 
 -- The call was made with the pass, and is added to the calls made with it.
-abbrev pub MakesCall : Going Trail
+abbrev pub MakesCall : Going Log
 MakesCall may cred asked released before state after =
     (ops : List Op) × Ran may (begin cred asked released) before.pass ops state after.pass
     × (after.made ≡ before.made ++ call_of before.pass cred asked released ops state ∷ [])
 
 -- The released count was read, which is no call.
-abbrev pub ReadsBeside : ℕ → Trail → Trail → Type 0
+abbrev pub ReadsBeside : ℕ → Log → Log → Type 0
 ReadsBeside released before after = ReadsReleased released before.pass after.pass × (after.made ≡ before.made)
 
 -- A row was requested, which is no call.
-abbrev pub ShowsBeside : ℕ → Trail → Result (Option Row) Errno → Trail → Type 0
+abbrev pub ShowsBeside : ℕ → Log → Result (Option Row) Errno → Log → Type 0
 ShowsBeside slot before answer after = TellsRow slot before.pass answer after.pass × (after.made ≡ before.made)
 
 -- Request by request: the outcome, and the call that was made.
-abbrev pub makes_with : (ℕ → Type 0) → Type 0 → Meaning Trail
+abbrev pub makes_with : (ℕ → Type 0) → Type 0 → Meaning Log
 makes_with may may_leave old cred request text outcome given new =
     requests.Asks MakesCall ReadsBeside ShowsBeside may may_leave request.version cred request.ask text old outcome
     given new
 
 -- What a session over a service did to its pass, and the calls that it made of the service.
-abbrev pub ServesTrail : (ℕ → Type 0) → Type 0 → Served → (old new : Trail) → (left rest taken more : Option (List ℕ)) →
+abbrev pub ServesLog : (ℕ → Type 0) → Type 0 → Served → (old new : Log) → (left rest taken more : Option (List ℕ)) →
     Type 0
-ServesTrail may may_leave served old new left rest taken more =
+ServesLog may may_leave served old new left rest taken more =
     ServesTogether (makes_with may may_leave) SLOTS served old new left rest taken more
 
 -- Each session over a service makes such calls, and no other call is made with its pass: together
@@ -64,5 +64,5 @@ EachSessionMakesCalls may may_leave =
     (start old new : Pass) (made : List Called) (served : Served) (left rest taken more : Option (List ℕ)) →
     Works start made old → ServesPassTogether may may_leave served old new left rest taken more →
     (calls : List Called) × Works start (made ++ calls) new
-    × ServesTrail may may_leave served (trail old made) (trail new (made ++ calls)) left rest taken more ×
+    × ServesLog may may_leave served (log old made) (log new (made ++ calls)) left rest taken more ×
     AllByRecursion (λ (call : Called). Rests call.state) calls

@@ -4,7 +4,7 @@ use Rattle.std.specs.List.{AllByRecursion, sum_by}
 use Rattle.sysv_bank.specs.Banks.{Each2}
 use Rattle.sysv_model.specs.Turns.{Numbered}
 use Rattle.sysv_thread_laws.specs.Order.{Called}
-use Rattle.sysv_thread_laws.specs.Crew.{IsServed}
+use Rattle.sysv_thread_laws.specs.Team.{IsServed}
 use Rattle.sysv_service.specs.Opened.{AreOpen}
 use Rattle.sysv_service.specs.Seats.{Gates, AreOf}
 use Rattle.sysv_keys.specs.declared.identifier.TheConstants.{SLOTS as slot_count}
@@ -63,8 +63,8 @@ pub record Lived (reads : Bool) (blocks : ℕ) (gates : Gates) (shifts : List Sh
 -- The gates were opened for a service with this number of blocks. The first pass gave the places
 -- their passes, took them back and made a stop, and the gates were closed with it. If each gate has
 -- turns left at the close, then all of it is one run.
-abbrev pub EachLifeIsOneRun : Type 0
-EachLifeIsOneRun = (reads : Bool) (blocks : ℕ) (gates : Gates) (shifts : List Shift) (removed : Result ℕ Errno)
+abbrev pub EachLifetimeIsOneRun : Type 0
+EachLifetimeIsOneRun = (reads : Bool) (blocks : ℕ) (gates : Gates) (shifts : List Shift) (removed : Result ℕ Errno)
     (stopped : Stopped gates removed) (closed : Closed) →
     (counted : IsCounted stopped.after.seats stopped.after.held closed) → AreOpen 0 blocks 0 gates →
     AreOf gates stopped.after.seats →
@@ -72,15 +72,15 @@ EachLifeIsOneRun = (reads : Bool) (blocks : ℕ) (gates : Gates) (shifts : List 
     EachGateHasTurnsLeft 0 counted.all.order → IsOneRun blocks shifts stopped.removed counted.all.order
 
 -- No gate is held after the close of such gates, also if one was found worn out.
-abbrev pub NoLifeLeavesAGateHeld : Type 0
-NoLifeLeavesAGateHeld = (reads : Bool) (gates : Gates) (shifts : List Shift) (removed : Result ℕ Errno)
+abbrev pub NoLifetimeLeavesAGateHeld : Type 0
+NoLifetimeLeavesAGateHeld = (reads : Bool) (gates : Gates) (shifts : List Shift) (removed : Result ℕ Errno)
     (stopped : Stopped gates removed) (closed : Closed) →
     IsCounted stopped.after.seats stopped.after.held closed →
     HiresBy reads (first_pass gates) shifts stopped.before → closed.held ≡ 0
 
 -- The pool has all its blocks too, if each gate has turns left at the close.
-abbrev pub EachLifeLeavesThePoolWhole : Type 0
-EachLifeLeavesThePoolWhole =
+abbrev pub EachLifetimeLeavesThePoolWhole : Type 0
+EachLifetimeLeavesThePoolWhole =
     (reads : Bool) (blocks : ℕ) (gates : Gates) (shifts : List Shift) (removed : Result ℕ Errno)
     (stopped : Stopped gates removed) (closed : Closed) →
     (counted : IsCounted stopped.after.seats stopped.after.held closed) → AreOpen 0 blocks 0 gates →
@@ -89,8 +89,8 @@ EachLifeLeavesThePoolWhole =
     EachGateHasTurnsLeft 0 counted.all.order → IsWholeAgain blocks closed
 
 -- No slot has a live queue and no message is queued, if each gate has turns left at the close.
-abbrev pub EachLifeEndsEmpty : Type 0
-EachLifeEndsEmpty = (reads : Bool) (blocks : ℕ) (gates : Gates) (shifts : List Shift) (removed : Result ℕ Errno)
+abbrev pub EachLifetimeEndsEmpty : Type 0
+EachLifetimeEndsEmpty = (reads : Bool) (blocks : ℕ) (gates : Gates) (shifts : List Shift) (removed : Result ℕ Errno)
     (stopped : Stopped gates removed) (closed : Closed) →
     (counted : IsCounted stopped.after.seats stopped.after.held closed) → AreOpen 0 blocks 0 gates →
     AreOf gates stopped.after.seats →

@@ -15,7 +15,7 @@ use Rattle.sysv_engine.specs.declared.fault.ServeFault.{ServeFault}
 use Rattle.sysv_engine.specs.declared.fault.ServeFault.TheVariants.{NoMemory, Thread, Worn, Missed}
 use Rattle.sysv_engine.specs.declared.sums.Sums.{Sums}
 use Rattle.sysv_engine.specs.Added.{nothing}
-use Rattle.sysv_engine.specs.Desks.{Desk, Crewed, AreServedInOrder, all_connections}
+use Rattle.sysv_engine.specs.Desks.{Desk, InTeam, AreServedInOrder, all_connections}
 use Rattle.sysv_engine.specs.Handled.{Shift, sums_of, refused_of, told_in}
 use Rattle.sysv_engine.specs.Looking.{HiresBy}
 use Rattle.sysv_engine.specs.OneRun.{Lived}
@@ -44,7 +44,7 @@ module _ {T B : Type 0} (incoming outgoing : T → Option (List ℕ)) (closes : 
     pub gates : Gates
     pub desks : List (Desk T B)
     pub shifts : List Shift
-    pub crewed : Crewed incoming outgoing closes gates books desks shifts books'
+    pub in_team : InTeam incoming outgoing closes gates books desks shifts books'
     pub ran : Ran gates shifts
 
   -- The same, and there was no session.
@@ -66,7 +66,7 @@ module _ {S T B : Type 0} (incoming outgoing : T → Option (List ℕ)) (closes 
     pub ordered : AreServedInOrder given desks
     pub alone : length books ≡ 1 → all_connections desks ≡ given
     pub shifts : List Shift
-    pub crewed : Crewed incoming outgoing closes gates books desks shifts books'
+    pub in_team : InTeam incoming outgoing closes gates books desks shifts books'
     pub adds : sums ≡ sums_of (told_in shifts)
     pub counts : refused ≡ refused_of (told_in shifts)
     pub hires : HiresBy reads old shifts new

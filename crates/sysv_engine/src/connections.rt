@@ -7,14 +7,14 @@ ghost use Rattle.sysv_engine.specs.Added.{IsBalanced};
 ghost use Rattle.sysv_engine.specs.Headline.{ServesConnections};
 ghost use Rattle.sysv_engine.specs.Serving.{FaultOf, HasLived, HiredFrom, LeavesConnections, WorkedFrom};
 
-use crate::crew::{dismiss, hire};
 use crate::dealing::{Dealing, shares};
 use crate::fault::ServeFault;
-use crate::laws::each_life_is_one_run;
+use crate::laws::each_lifetime_is_one_run;
 use crate::rounds::Serving;
 use crate::server_state::ServerState;
 use crate::staff::{discard, gather, kits, staff};
 use crate::sums::Sums;
+use crate::team::dismiss;
 use crate::terms::{Ended, Patience};
 use crate::watch::{Rounds, Watch};
 use std::alloc::Global;
@@ -30,8 +30,9 @@ use sysv_workers::{Source, WorkersFault, WorkersRefused, run_workers};
 /// There is a place for each book, which serves one connection after another, in the order in which
 /// the source returned them, and closes each into its book. So a place that is alone serves all of
 /// them in that order. `workers` worker threads share the places evenly. `blocks` is the number of
-/// blocks in the pool. The server ends when the source has ended and the sessions of its connections
-/// are over. Every timestamp of its queues is 0. A session whose memory is refused is counted.
+/// blocks in the pool. The server ends when the source has ended and the sessions of its
+/// connections are over. Every timestamp of its queues is 0. A session whose memory is refused is
+/// counted.
 ///
 /// # Errors
 ///
@@ -123,7 +124,7 @@ where
     );
     let removed = service.stop(rt, &mut pass);
     let closed = service.close(pass);
-    each_life_is_one_run();
+    each_lifetime_is_one_run();
     match outcome {
         Ok((sums, refused)) => Ok(Ended {
             sums,
@@ -181,8 +182,7 @@ where
         discard(kits);
         return Err(ServeFault::NoMemory);
     };
-    hire(rt, alloc, service, pass, books, &mut places);
-    staff(kits, &mut places, &mut workers);
+    staff(rt, alloc, service, pass, books, kits, &mut workers);
     let job = Serving {
         rt,
         alloc,

@@ -5,7 +5,7 @@ use std::alloc::Global;
 use std::sync::atomic::{AtomicU64, Ordering};
 use sysv_keys::SLOTS;
 use sysv_queue::Tally;
-use sysv_seats::News;
+use sysv_seats::Notification;
 
 /// What a worker counts for those who look at the server. The worker alone writes the numbers, once
 /// for all messages that moved one after another to or from one queue.
@@ -63,11 +63,11 @@ impl Moved {
     /// No messages.
     pub(crate) const NONE: Moved = Moved { word: 0, count: 0 };
 
-    /// Adds the message of these news, if they are of one. Returns whether it moved as the others
-    /// did; else it is not added.
+    /// Adds the message of this notification, if it is of one. Returns whether it moved as the
+    /// others did; else it is not added.
     #[inline(always)]
-    pub(crate) fn add(&mut self, news: News) -> bool {
-        let Some(word) = word_of(news) else {
+    pub(crate) fn add(&mut self, notification: Notification) -> bool {
+        let Some(word) = word_of(notification) else {
             return true;
         };
         if word != self.word {
@@ -77,9 +77,9 @@ impl Moved {
         true
     }
 
-    /// Returns the message of these news alone, if they are of one.
-    pub(crate) fn first(news: News) -> Moved {
-        match word_of(news) {
+    /// Returns the message of this notification alone, if it is of one.
+    pub(crate) fn first(notification: Notification) -> Moved {
+        match word_of(notification) {
             Some(word) => Moved { word, count: 1 },
             None => Moved::NONE,
         }
@@ -89,11 +89,11 @@ impl Moved {
 /// Returns the word of the receives that a message which was placed may end, or of the sends that
 /// one which was taken may end.
 #[inline(always)]
-fn word_of(news: News) -> Option<usize> {
-    match news {
-        News::Arrived { slot, .. } => Some(slot),
-        News::Freed { slot, .. } => Some(room_word(slot)),
-        News::Released | News::Changed { .. } => None,
+fn word_of(notification: Notification) -> Option<usize> {
+    match notification {
+        Notification::Arrived { slot, .. } => Some(slot),
+        Notification::Freed { slot, .. } => Some(room_word(slot)),
+        Notification::Released | Notification::Changed { .. } => None,
     }
 }
 

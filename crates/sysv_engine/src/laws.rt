@@ -1,7 +1,7 @@
 //! Laws about the definitions.
 ghost use Rattle.std.specs.Prelude.{⊤};
 ghost use Rattle.sysv_engine.specs.Made.{EachSessionMakesCalls};
-ghost use Rattle.sysv_engine.specs.OneRun.{EachLifeEndsEmpty, EachLifeIsOneRun, EachLifeLeavesThePoolWhole, NoLifeLeavesAGateHeld};
+ghost use Rattle.sysv_engine.specs.OneRun.{EachLifetimeEndsEmpty, EachLifetimeIsOneRun, EachLifetimeLeavesThePoolWhole, NoLifetimeLeavesAGateHeld};
 
 use sysv_seats::ZERO;
 use sysv_service::Clock;
@@ -26,13 +26,13 @@ pub fn each_session_makes_calls<C: Clock>(clock: &C)
 /// The calls of all sessions, each answered as it ended or left without a reply, and the removals
 /// of the stop are all the calls that made the order of turns of the service. That order is a run
 /// of a world with those calls, and the run obeys the headline of threads. After the close the pool
-/// has all its blocks, no slot has a live queue and no message is queued. No gate is held then, also
-/// if one was found worn out.
-pub fn each_life_is_one_run()
-    ensures run { EachLifeIsOneRun }
-    ensures whole { EachLifeLeavesThePoolWhole }
-    ensures none_held { NoLifeLeavesAGateHeld }
-    ensures empty { EachLifeEndsEmpty }
+/// has all its blocks, no slot has a live queue and no message is queued. No gate is held then,
+/// also if one was found worn out.
+pub fn each_lifetime_is_one_run()
+    ensures run { EachLifetimeIsOneRun }
+    ensures whole { EachLifetimeLeavesThePoolWhole }
+    ensures none_held { NoLifetimeLeavesAGateHeld }
+    ensures empty { EachLifetimeEndsEmpty }
 {
     every_hiring_obeys();
     every_pool_is_whole();

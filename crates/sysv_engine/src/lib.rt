@@ -1,9 +1,9 @@
 //! The engine of a server of message queues: any number of clients on a few workers.
 //!
-//! A worker is an event loop. It has a number of places, each with a pass of its own, and each place
-//! serves one client after another. A client is a value: its session does not wait, neither for its
-//! connection nor inside a call. A call that waits is parked, and its worker looks at it again when
-//! what it waits for may have come.
+//! A worker is an event loop. It has a number of places, each with a pass of its own, and each
+//! place serves one client after another. A client is a value: its session does not wait, neither
+//! for its connection nor inside a call. A call that waits is parked, and its worker looks at it
+//! again when what it waits for may have come.
 //!
 //! `serve_connections` serves the connections of a source on a new service. All sessions share the
 //! service, which is the handler of each session: each request, except one for a row, is one call
@@ -11,11 +11,10 @@
 #![tactic(auto)]
 
 mod arrivals;
-mod bell;
 mod connections;
 mod counts;
-mod crew;
 mod dealing;
+mod doorbell;
 mod fault;
 mod laws;
 mod moment;
@@ -27,6 +26,7 @@ mod seeing;
 mod server_state;
 mod staff;
 mod sums;
+mod team;
 mod terms;
 mod times;
 mod watch;
@@ -36,7 +36,7 @@ pub use arrivals::Arrivals;
 pub use connections::{serve_all, serve_connections};
 pub use counts::{Counted, SlotCounts};
 pub use fault::ServeFault;
-pub use laws::{each_life_is_one_run, each_session_makes_calls};
+pub use laws::{each_lifetime_is_one_run, each_session_makes_calls};
 pub use moment::Moment;
 pub use rows::Rows;
 pub use seeing::serve_arrivals;

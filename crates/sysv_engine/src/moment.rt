@@ -69,10 +69,10 @@ pub(crate) fn pause(millis: i32) {
     poll(&mut [asking(NO_DESCRIPTOR, 0)], millis);
 }
 
-/// Waits until the bell is rung, or until the deadline.
-pub(crate) fn await_bell(bell: i32, deadline: Option<Moment>) {
+/// Waits until the doorbell is rung, or until the deadline.
+pub(crate) fn await_doorbell(doorbell: i32, deadline: Option<Moment>) {
     let limit = timeout(deadline.map(Moment::left));
-    poll(&mut [asking(bell, POLLIN)], limit);
+    poll(&mut [asking(doorbell, POLLIN)], limit);
 }
 
 /// Returns the time limit of a `poll` for this number of milliseconds, or none.

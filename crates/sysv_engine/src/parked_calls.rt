@@ -225,7 +225,7 @@ impl Lines {
         }
     }
 
-    /// Makes two places neighbors in the line of this key. `None` stands for the end of the line.
+    /// Makes two places neighbors in the line of this key. `None` represents the end of the line.
     fn join(&mut self, key: Key, before: Option<usize>, after: Option<usize>) {
         self.set_after(key, before, after);
         self.set_before(key, after, before);

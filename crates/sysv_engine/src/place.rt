@@ -169,8 +169,8 @@ impl<'a, R: Wait, T: NonBlocking> Place<'a, R, T> {
         self.refused = self.refused.saturating_add(refusals(served));
     }
 
-    /// Has the client's connection watched. If that is refused, the client ends, if it may be cut
-    /// off.
+    /// Has the client's connection watched. If that is refused, the client ends, if it may be
+    /// cut off.
     pub(crate) fn begin<W: Watch<T>>(&mut self, watch: &mut W, place: usize)
         ensures keeps { KeepsPlace T.incoming T.outgoing T.closes self.old self.new }
     {

@@ -4,13 +4,13 @@ ghost use Rattle.sysv_engine.specs.Places.{IsVacantAt, KeepsAll};
 use crate::counts::Moved;
 use crate::moment::Moment;
 use crate::parked_calls::Key;
-use crate::server_state::{BLOCKS_WORD, Letter, ServerState, bit, room_word};
+use crate::server_state::{BLOCKS_WORD, Envelope, ServerState, bit, room_word};
 use crate::watch::{Ready, Watch};
 use crate::worker::{Worker, sooner};
 use std::alloc::Global;
 use std::sync::Wait;
 use sysv_rules::qualifies;
-use sysv_seats::{News, NonBlocking};
+use sysv_seats::{NonBlocking, Notification};
 use sysv_service::Service;
 use sysv_session::End;
 use sysv_workers::Job;
@@ -88,7 +88,7 @@ impl<'a, 'c, R: Wait> Serving<'a, 'c, R> {
         worker.is_empty() && self.server.is_finished()
     }
 
-    /// Waits for news, and serves each client that has some.
+    /// Waits for events, and serves each client that has some.
     fn round<T: NonBlocking, W: Watch<T>>(&self, worker: &mut Worker<'_, R, T, W>)
         ensures { KeepsAll T.incoming T.outgoing T.closes worker.old.places.items
             worker.new.places.items }
@@ -107,7 +107,7 @@ impl<'a, 'c, R: Wait> Serving<'a, 'c, R> {
         }
     }
 
-    /// Waits until a client has news, or something came for the worker.
+    /// Waits until a client has an event, or something came for the worker.
     fn rest<T: NonBlocking, W: Watch<T>>(&self, worker: &mut Worker<'_, R, T, W>)
         ensures { KeepsAll T.incoming T.outgoing T.closes worker.old.places.items
             worker.new.places.items }
@@ -121,11 +121,11 @@ impl<'a, 'c, R: Wait> Serving<'a, 'c, R> {
         };
         worker.watch.wait(limit, &mut worker.ready);
         if self.server.wake_up(number) {
-            self.read_letters(worker);
+            self.read_envelopes(worker);
         }
     }
 
-    /// Serves a client of which the watch reports news.
+    /// Serves a client of which the watch reports an event.
     fn report<T: NonBlocking, W: Watch<T>>(&self, worker: &mut Worker<'_, R, T, W>, ready: &Ready)
         ensures { KeepsAll T.incoming T.outgoing T.closes worker.old.places.items
             worker.new.places.items }
@@ -260,15 +260,15 @@ impl<'a, 'c, R: Wait> Serving<'a, 'c, R> {
     }
 
     /// Reads what came for the worker from other workers.
-    fn read_letters<T: NonBlocking, W: Watch<T>>(&self, worker: &mut Worker<'_, R, T, W>)
+    fn read_envelopes<T: NonBlocking, W: Watch<T>>(&self, worker: &mut Worker<'_, R, T, W>)
         ensures { KeepsAll T.incoming T.outgoing T.closes worker.old.places.items
             worker.new.places.items }
     {
         for _ in self.rt.forever() {
-            let Some(letter) = self.server.letter(self.rt, worker.number) else {
+            let Some(envelope) = self.server.envelope(self.rt, worker.number) else {
                 break;
             };
-            self.heed(worker, letter);
+            self.heed(worker, envelope);
             self.spread(worker);
         }
         if self.server.has_lost(worker.number) {
@@ -284,39 +284,40 @@ impl<'a, 'c, R: Wait> Serving<'a, 'c, R> {
     {
         self.collect(worker);
         for _ in self.rt.forever() {
-            let Some(letter) = worker.letters.pop_front() else {
+            let Some(envelope) = worker.envelopes.pop_front() else {
                 return;
             };
-            self.send_off(worker, letter);
+            self.send_off(worker, envelope);
         }
     }
 
-    /// Looks at the parked calls that the news of a letter of this worker may end, here first or, in
-    /// turn, in another worker first.
+    /// Looks at the parked calls that the notification of an envelope of this worker may end, here
+    /// first or, in turn, in another worker first.
     fn send_off<T: NonBlocking, W: Watch<T>>(
         &self,
         worker: &mut Worker<'_, R, T, W>,
-        letter: Letter,
+        envelope: Envelope,
     )
         ensures { KeepsAll T.incoming T.outgoing T.closes worker.old.places.items
             worker.new.places.items }
     {
-        let turn = worker.next_first(&letter.news);
-        let first = self.first_for(&letter, worker.number, turn);
+        let turn = worker.next_first(&envelope.notification);
+        let first = self.first_for(&envelope, worker.number, turn);
         if first == worker.number {
-            self.heed(worker, letter);
+            self.heed(worker, envelope);
         } else {
-            self.pass_on(first, letter);
+            self.pass_on(first, envelope);
         }
     }
 
-    /// Returns the worker that looks first at the parked calls that the news of a letter may end.
+    /// Returns the worker that looks first at the parked calls that the notification of an envelope
+    /// may end.
     ///
-    /// The fastest way is the worker that wrote the letter. But sometimes it is another worker's
+    /// The fastest way is the worker that wrote the envelope. But sometimes it is another worker's
     /// turn: else the clients of one worker might have all, and those of the others wait.
-    fn first_for(&self, letter: &Letter, writer: usize, turn: Option<usize>) -> usize {
+    fn first_for(&self, envelope: &Envelope, writer: usize, turn: Option<usize>) -> usize {
         match turn.and_then(|turn| turn.checked_rem(self.server.workers())) {
-            Some(from) => next_of(letter.rest, from),
+            Some(from) => next_of(envelope.rest, from),
             None => writer,
         }
     }
@@ -329,113 +330,118 @@ impl<'a, 'c, R: Wait> Serving<'a, 'c, R> {
     {
         let mut moved = Moved::NONE;
         for _ in self.rt.forever() {
-            let Some(news) = worker.tools.take_news() else {
+            let Some(notification) = worker.tools.take_notification() else {
                 break;
             };
-            if !moved.add(news) {
+            if !moved.add(notification) {
                 self.server.count(worker.number, moved);
-                moved = Moved::first(news);
+                moved = Moved::first(notification);
             }
-            self.keep(worker, news);
+            self.keep(worker, notification);
         }
         self.server.count(worker.number, moved);
     }
 
     /// Keeps what a call has changed, if calls that wait for it are parked.
-    fn keep<T: NonBlocking, W: Watch<T>>(&self, worker: &mut Worker<'_, R, T, W>, news: News)
+    fn keep<T: NonBlocking, W: Watch<T>>(
+        &self,
+        worker: &mut Worker<'_, R, T, W>,
+        notification: Notification,
+    )
         ensures { KeepsAll T.incoming T.outgoing T.closes worker.old.places.items
             worker.new.places.items }
     {
-        let rest = self.parked_for(news);
+        let rest = self.parked_for(notification);
         if rest == 0 {
             return;
         }
-        let letter = Letter {
-            news,
+        let envelope = Envelope {
+            notification,
             rest,
             least: usize::MAX,
         };
-        if worker.letters.push_back(letter).is_err() {
+        if worker.envelopes.push_back(envelope).is_err() {
             self.server.send_everything();
         }
     }
 
-    /// Returns which workers have parked calls that such news may end.
-    fn parked_for(&self, news: News) -> u64 {
-        match news {
-            News::Arrived { slot, .. } => self.server.word(slot),
-            News::Freed { slot, .. } => self.server.word(room_word(slot)),
-            News::Released => self.server.word(BLOCKS_WORD),
-            News::Changed { slot } => self.server.word(slot) | self.server.word(room_word(slot)),
+    /// Returns which workers have parked calls that such a notification may end.
+    fn parked_for(&self, notification: Notification) -> u64 {
+        match notification {
+            Notification::Arrived { slot, .. } => self.server.word(slot),
+            Notification::Freed { slot, .. } => self.server.word(room_word(slot)),
+            Notification::Released => self.server.word(BLOCKS_WORD),
+            Notification::Changed { slot } => self.server.word(slot)
+                | self.server.word(room_word(slot)),
         }
     }
 
-    /// Looks at the parked calls that the news of a letter may end, and passes it on.
+    /// Looks at the parked calls that the notification of an envelope may end, and passes it on.
     fn heed<T: NonBlocking, W: Watch<T>>(
         &self,
         worker: &mut Worker<'_, R, T, W>,
-        mut letter: Letter,
+        mut envelope: Envelope,
     )
         ensures { KeepsAll T.incoming T.outgoing T.closes worker.old.places.items
             worker.new.places.items }
     {
         let own = bit(worker.number);
-        let is_here = letter.rest & own != 0;
-        letter.rest &= !own;
-        let is_done = is_here && self.look_for(worker, &mut letter);
+        let is_here = envelope.rest & own != 0;
+        envelope.rest &= !own;
+        let is_done = is_here && self.look_for(worker, &mut envelope);
         if !is_done {
-            self.pass_on(worker.number.wrapping_add(1), letter);
+            self.pass_on(worker.number.wrapping_add(1), envelope);
         }
     }
 
-    /// Gives a letter to the first worker that has not had it, from the one of this number on, or to
-    /// all of them.
-    fn pass_on(&self, from: usize, mut letter: Letter) {
+    /// Gives an envelope to the first worker that has not had it, from the one of this number on,
+    /// or to all of them.
+    fn pass_on(&self, from: usize, mut envelope: Envelope) {
         for _ in 0..self.server.workers() {
-            if letter.rest == 0 {
+            if envelope.rest == 0 {
                 return;
             }
-            let next = next_of(letter.rest, from);
-            letter.rest &= !bit(next);
-            let is_for_all = matches!(letter.news, News::Changed { .. });
-            let rest = letter.rest;
+            let next = next_of(envelope.rest, from);
+            envelope.rest &= !bit(next);
+            let is_for_all = matches!(envelope.notification, Notification::Changed { .. });
+            let rest = envelope.rest;
             if is_for_all {
-                letter.rest = 0;
+                envelope.rest = 0;
             }
-            letter.rest |= bit(next);
-            let is_sent = self.server.send(self.rt, next, letter);
-            letter.rest = rest;
+            envelope.rest |= bit(next);
+            let is_sent = self.server.send(self.rt, next, envelope);
+            envelope.rest = rest;
             if is_sent && !is_for_all {
                 return;
             }
         }
     }
 
-    /// Looks at the parked calls of this worker that the news of a letter may end. Returns whether
-    /// no other worker is to look.
+    /// Looks at the parked calls of this worker that the notification of an envelope may end.
+    /// Returns whether no other worker is to look.
     fn look_for<T: NonBlocking, W: Watch<T>>(
         &self,
         worker: &mut Worker<'_, R, T, W>,
-        letter: &mut Letter,
+        envelope: &mut Envelope,
     ) -> bool
         ensures { KeepsAll T.incoming T.outgoing T.closes worker.old.places.items
             worker.new.places.items }
     {
-        match letter.news {
-            News::Arrived { slot, mtype } => self.look_for_message(worker, slot, mtype),
-            News::Freed { slot, .. } => {
+        match envelope.notification {
+            Notification::Arrived { slot, mtype } => self.look_for_message(worker, slot, mtype),
+            Notification::Freed { slot, .. } => {
                 let first = worker.lines.senders(slot);
-                self.look_for_room(worker, first, &mut letter.least);
+                self.look_for_room(worker, first, &mut envelope.least);
                 self.unmark(worker, room_word(slot));
                 false
             }
-            News::Released => {
+            Notification::Released => {
                 let first = worker.lines.reservers();
-                self.look_for_room(worker, first, &mut letter.least);
+                self.look_for_room(worker, first, &mut envelope.least);
                 self.unmark(worker, BLOCKS_WORD);
                 false
             }
-            News::Changed { slot } => {
+            Notification::Changed { slot } => {
                 self.look_at(worker, slot);
                 false
             }
@@ -551,8 +557,8 @@ impl<'a, 'c, R: Wait> Serving<'a, 'c, R> {
         }
     }
 
-    /// Looks whether the parked call of a client may go on, unless its peer has gone. Returns what it
-    /// found, if news came that a message of this type has arrived.
+    /// Looks whether the parked call of a client may go on, unless its peer has gone. Returns what
+    /// it found, if a notification came that a message of this type has arrived.
     fn wake<T: NonBlocking, W: Watch<T>>(
         &self,
         worker: &mut Worker<'_, R, T, W>,

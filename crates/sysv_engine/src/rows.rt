@@ -52,8 +52,8 @@ impl<'p, R: Wait> Rows<'p, R> {
     }
 
     /// Returns the row of the live queue in this slot, if there is one. It takes one turn at the
-    /// slot, and waits for nothing else. Returns `None` too if there is no such slot, if its gate is
-    /// worn out, or if no rows are read.
+    /// slot, and waits for nothing else. Returns `None` too if there is no such slot, if its gate
+    /// is worn out, or if no rows are read.
     #[tactic(auto, using(crate::proofs::Looking::looked_once, crate::proofs::Looking::row_read, crate::proofs::Looking::none_read))]
     pub fn row(&mut self, slot: u32) -> Option<Row>
         ensures service { self.new.service.now ≡ self.old.service.now }

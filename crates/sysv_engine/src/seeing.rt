@@ -11,7 +11,7 @@ ghost use Rattle.sysv_engine.specs.Serving.{HasLived, HiredFrom, LeavesConnectio
 use crate::arrivals::Arrivals;
 use crate::connections::{given_back, serve_with};
 use crate::fault::ServeFault;
-use crate::laws::each_life_is_one_run;
+use crate::laws::each_lifetime_is_one_run;
 use crate::rows::Rows;
 use crate::server_state::ServerState;
 use crate::sums::Sums;
@@ -60,7 +60,7 @@ where
     );
     let removed = service.stop(rt, &mut pass);
     let closed = service.close(pass);
-    each_life_is_one_run();
+    each_lifetime_is_one_run();
     match outcome {
         Ok((sums, refused)) => Ok(Ended {
             sums,

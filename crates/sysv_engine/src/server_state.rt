@@ -4,9 +4,9 @@ ghost use Rattle.std.specs.Prelude.{◌≡◌, ◌≤◌, IfSome, vec_len};
 ghost use Rattle.sysv_keys.specs.declared.identifier.TheConstants.{SLOTS as slot_count};
 ghost use Rattle.sysv_engine.specs.Counting.{IsNothing};
 
-use crate::bell::Bell;
 use crate::counts::{Counted, Counts, Moved, SlotCounts, zeros};
-use crate::moment::{Moment, NO_DESCRIPTOR, await_bell};
+use crate::doorbell::Doorbell;
+use crate::moment::{Moment, NO_DESCRIPTOR, await_doorbell};
 use crate::terms::Patience;
 use crossbeam_queue::ArrayQueue;
 use std::alloc::Global;
@@ -14,7 +14,7 @@ use std::sync::Wait;
 use std::sync::atomic::{AtomicBool, AtomicU64, Ordering};
 use sysv_keys::SLOTS;
 use sysv_queue::Tally;
-use sysv_seats::News;
+use sysv_seats::Notification;
 
 /// The word of the sends that wait for blocks. Before it are the words of the receives at each
 /// slot, and then those of the sends at each slot.
@@ -26,14 +26,14 @@ pub(crate) const WORDS: usize = BLOCKS_WORD + 1;
 /// The number of bits in a word, and so of workers that a word can name.
 const BITS: usize = 64;
 
-/// The number of letters that a worker's mailbox holds.
-const LETTERS: usize = 512;
+/// The number of envelopes that a worker's mailbox holds.
+const ENVELOPES: usize = 512;
 
-/// News for other workers.
+/// A notification for other workers.
 #[derive(Clone, Copy)]
-pub(crate) struct Letter {
-    pub(crate) news: News,
-    /// The workers that have not had it, a bit for each. The receiver of a letter passes it on.
+pub(crate) struct Envelope {
+    pub(crate) notification: Notification,
+    /// The workers that have not had it, a bit for each. The receiver of an envelope passes it on.
     pub(crate) rest: u64,
     /// The length of the shortest frame of a send that has already found no room.
     pub(crate) least: usize,
@@ -42,13 +42,13 @@ pub(crate) struct Letter {
 /// How a worker is reached.
 #[derive(Drop)]
 struct Post {
-    bell: Bell,
+    doorbell: Doorbell,
     /// Whether the worker may be asleep.
     asleep: AtomicBool,
     /// Whether something came for the worker since it looked.
     rung: AtomicBool,
-    letters: ArrayQueue<Letter>,
-    /// Whether letters were lost, so that all parked calls are to be looked at.
+    envelopes: ArrayQueue<Envelope>,
+    /// Whether envelopes were lost, so that all parked calls are to be looked at.
     everything: AtomicBool,
     /// The number of connections that the worker was told to take.
     coming: AtomicU64,
@@ -59,8 +59,8 @@ struct Post {
 
 /// What the workers share.
 ///
-/// A worker that is not there has no bell and no letters. Nothing comes for it, and it may not
-/// sleep.
+/// A worker that is not there has no doorbell and no envelopes. Nothing comes for it, and it may
+/// not sleep.
 #[derive(Drop)]
 pub struct ServerState {
     posts: Vec<Post>,
@@ -87,7 +87,7 @@ pub struct ServerState {
     is_awaited: AtomicBool,
     /// Rung at each session that is over while the accepting thread waits for that, and when the
     /// memory of a session was refused.
-    turn: Bell,
+    turn: Doorbell,
 }
 
 impl ServerState {
@@ -106,7 +106,7 @@ impl ServerState {
         ensures workers { IfSome result (λ server. vec_len server.posts ≡ workers) }
         ensures at_once { IfSome result (λ server. server.at_once ≡ at_once) }
     {
-        let turn = Bell::open()?;
+        let turn = Doorbell::open()?;
         let posts = open_posts(alloc, workers)?;
         let words = zeros(alloc, WORDS)?;
         Some(ServerState {
@@ -138,10 +138,10 @@ impl ServerState {
         self.patience
     }
 
-    /// Returns the descriptor of a worker's bell, or a negative number.
-    pub fn bell_of(&self, worker: usize) -> i32 {
+    /// Returns the descriptor of a worker's doorbell, or a negative number.
+    pub fn doorbell_of(&self, worker: usize) -> i32 {
         match self.posts.get(worker) {
-            Some(post) => post.bell.fd(),
+            Some(post) => post.doorbell.fd(),
             None => NO_DESCRIPTOR,
         }
     }
@@ -176,12 +176,12 @@ impl ServerState {
         }
     }
 
-    /// Returns the next letter of a worker.
-    pub(crate) fn letter(&self, rt: &impl Wait, worker: usize) -> Option<Letter> {
-        self.posts.get(worker)?.letters.pop(rt)
+    /// Returns the next envelope of a worker.
+    pub(crate) fn envelope(&self, rt: &impl Wait, worker: usize) -> Option<Envelope> {
+        self.posts.get(worker)?.envelopes.pop(rt)
     }
 
-    /// Returns whether letters of the worker were lost since the last call.
+    /// Returns whether envelopes of the worker were lost since the last call.
     pub(crate) fn has_lost(&self, worker: usize) -> bool {
         match self.posts.get(worker) {
             Some(post) => post.has_lost(),
@@ -189,12 +189,12 @@ impl ServerState {
         }
     }
 
-    /// Gives a worker a letter. If its mailbox is full, it looks at all its parked calls, and the
-    /// result is `false`: the letter is still to be passed on. So is one to a worker that is not
-    /// there.
-    pub(crate) fn send(&self, rt: &impl Wait, worker: usize, letter: Letter) -> bool {
+    /// Gives a worker an envelope. If its mailbox is full, it looks at all its parked calls, and
+    /// the result is `false`: the envelope is still to be passed on. So is one to a worker that is
+    /// not there.
+    pub(crate) fn send(&self, rt: &impl Wait, worker: usize, envelope: Envelope) -> bool {
         match self.posts.get(worker) {
-            Some(post) => post.send(rt, letter),
+            Some(post) => post.send(rt, envelope),
             None => false,
         }
     }
@@ -359,12 +359,12 @@ impl ServerState {
         self.starved.load(Ordering::SeqCst)
     }
 
-    /// Returns the descriptor of the bell for the accepting thread, or a negative number.
-    pub fn bell(&self) -> i32 {
+    /// Returns the descriptor of the doorbell for the accepting thread, or a negative number.
+    pub fn doorbell(&self) -> i32 {
         self.turn.fd()
     }
 
-    /// Ends the ringing of that bell.
+    /// Ends the ringing of that doorbell.
     pub fn hush(&self) {
         self.turn.hush();
     }
@@ -399,7 +399,7 @@ impl ServerState {
             if deadline.left() == 0 {
                 break;
             }
-            await_bell(self.bell(), Some(deadline));
+            await_doorbell(self.doorbell(), Some(deadline));
         }
         self.is_cut.store(true, Ordering::SeqCst);
         self.ring_all();
@@ -410,12 +410,12 @@ impl ServerState {
 impl Post {
     /// Opens the post of a worker. Returns `None` if memory or a descriptor is refused.
     fn open(alloc: Global) -> Option<Post> {
-        let bell = Bell::open()?;
+        let doorbell = Doorbell::open()?;
         Some(Post {
-            bell,
+            doorbell,
             asleep: AtomicBool::new(false),
             rung: AtomicBool::new(false),
-            letters: ArrayQueue::new(alloc, LETTERS).ok()?,
+            envelopes: ArrayQueue::new(alloc, ENVELOPES).ok()?,
             everything: AtomicBool::new(false),
             coming: AtomicU64::new(0),
             closed: AtomicU64::new(0),
@@ -427,7 +427,7 @@ impl Post {
     fn ring(&self) {
         self.rung.store(true, Ordering::SeqCst);
         if self.asleep.swap(false, Ordering::SeqCst) {
-            self.bell.ring();
+            self.doorbell.ring();
         }
     }
 
@@ -443,15 +443,15 @@ impl Post {
         self.rung.swap(false, Ordering::SeqCst)
     }
 
-    /// Returns whether letters were lost since the last call.
+    /// Returns whether envelopes were lost since the last call.
     fn has_lost(&self) -> bool {
         self.everything.load(Ordering::SeqCst) && self.everything.swap(false, Ordering::SeqCst)
     }
 
-    /// Gives the worker a letter. Returns whether there was room for it. If there was none, the
+    /// Gives the worker an envelope. Returns whether there was room for it. If there was none, the
     /// worker looks at all its parked calls.
-    fn send(&self, rt: &impl Wait, letter: Letter) -> bool {
-        let kept = self.letters.push(rt, letter).is_ok();
+    fn send(&self, rt: &impl Wait, envelope: Envelope) -> bool {
+        let kept = self.envelopes.push(rt, envelope).is_ok();
         if !kept {
             self.everything.store(true, Ordering::SeqCst);
         }

@@ -1,18 +1,22 @@
-//! The workers of a server: the places are shared out among them, and taken back at the end.
-ghost use Rattle.std.specs.Prelude.{◌≡◌, ◌≤◌, ◌+◌, ◌++◌, reverse, vec_len, vec_capacity, [], None, IfSome};
-ghost use Rattle.std.specs.List.{All, flat_map, sum_by};
-ghost use Rattle.sysv_engine.specs.Places.{KeepsAll};
+//! The workers of a server: places are made for each of them, and taken back at the end.
+ghost use Rattle.std.specs.Prelude.{◌≡◌, ◌≤◌, ◌+◌, ◌++◌, map, reverse, vec_len, vec_capacity, [], None};
+ghost use Rattle.std.specs.Prelude.{IfSome};
+ghost use Rattle.std.specs.List.{All, FoldsTo, flat_map, sum_by};
+ghost use Rattle.sysv_service.specs.Seats.{AreOf};
+ghost use Rattle.sysv_thread_laws.specs.Hiring.{Gives};
+ghost use Rattle.sysv_engine.specs.Places.{IsOpened, KeepsAll};
 
-use crate::crew::vacate;
 use crate::place::Place;
+use crate::team::{hire, vacate};
 use crate::watch::Watch;
 use crate::worker::{Kit, Worker};
 use std::alloc::Global;
 use std::sync::Wait;
 use sysv_seats::NonBlocking;
+use sysv_service::{Pass, Service};
 
-/// Allocates a kit for each watch. The kits have room for `places` places together, each for at
-/// least one and all for about the same number. Returns `None` if memory is refused.
+/// Allocates a kit for each watch, in their order. The kits have room for `places` places together,
+/// each for at least one and all for about the same number. Returns `None` if memory is refused.
 pub(crate) fn kits<'a, R: Wait, T: NonBlocking, W: Drop>(
     alloc: Global,
     watches: Vec<W>,
@@ -36,6 +40,7 @@ pub(crate) fn kits<'a, R: Wait, T: NonBlocking, W: Drop>(
         };
         kits.push_reserved(kit);
     }
+    kits.reverse();
     Some(kits)
 }
 
@@ -63,27 +68,40 @@ fn share(left: usize, others: usize) -> usize
     (left / (others + 1)).clamp(1, left - others)
 }
 
-/// Makes a worker of each kit, and shares out the places among them, from the last to the first.
+/// Makes a worker of each kit, in their order, with a place for each of its share of the books. The
+/// books are shared out from the last to the first.
 pub(crate) fn staff<'a, R: Wait, T: NonBlocking, W: Watch<T>>(
+    rt: &'a R,
+    alloc: Global,
+    service: &'a Service,
+    pass: &mut Pass,
+    books: &mut Vec<T::Book>,
     kits: Vec<Kit<'a, R, T, W>>,
-    places: &mut Vec<Place<'a, R, T>>,
     workers: &mut Vec<Worker<'a, R, T, W>>,
 )
+    requires pass { AreOf service.now pass.old.seats }
     requires none { workers.old.items ≡ [] }
     requires room { vec_len kits ≤ vec_capacity workers.old }
-    requires places { sum_by (λ k. vec_capacity k.places) kits.items ≡ vec_len places.old }
+    requires shares { sum_by (λ k. vec_capacity k.places) kits.items ≡ vec_len books.old }
     requires each { All (λ k. (k.places.items ≡ []) × (1 ≤ vec_capacity k.places)) kits.items }
+    ensures pass { AreOf service.now pass.new.seats }
     ensures count { vec_len workers.new ≡ vec_len kits.entry }
-    ensures all { flat_map (λ w. w.places.items) workers.new.items ≡ reverse places.old.items }
+    ensures places { All (IsOpened service.now) (flat_map (λ w. w.places.items) workers.new.items) }
     ensures each { All (λ w. 1 ≤ vec_len w.places) workers.new.items }
-    ensures taken { (places.new.items ≡ []) × (vec_capacity places.new ≡ vec_capacity places.old) }
+    ensures books { books.old.items
+        ≡ map (λ p. p.book) (flat_map (λ w. w.places.items) workers.new.items) }
+    ensures taken { (books.new.items ≡ []) × (vec_capacity books.new ≡ vec_capacity books.old) }
+    ensures gives { FoldsTo Gives pass.old
+        (reverse (map (λ p. p.pass) (flat_map (λ w. w.places.items) workers.new.items))) pass.new }
 {
     let mut kits = kits;
     while let Some(kit) = kits.pop() {
-        let number = workers.len();
-        workers.push_reserved(Worker::new(number, kit, places));
+        let mut kit = kit;
+        hire(rt, alloc, service, pass, books, &mut kit.places);
+        workers.push_reserved(Worker::new(kits.len(), kit));
     }
     kits.destroy_empty();
+    workers.reverse();
 }
 
 /// Takes the places of all workers, and closes the clients that are left in them. They are served

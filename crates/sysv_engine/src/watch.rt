@@ -1,4 +1,4 @@
-//! What reports which clients have news.
+//! What reports which clients have events.
 ghost use Rattle.std.specs.Prelude.{◌≡◌, IfSome, vec_len};
 
 use crate::moment::{asking, pause};
@@ -11,8 +11,8 @@ use std::net::Net;
 use std::os::fd::AsRawFd;
 use std::time::Duration;
 
-/// The token of a worker's bell.
-const BELL: usize = usize::MAX;
+/// The token of a worker's doorbell.
+const DOORBELL: usize = usize::MAX;
 
 /// The number of events that one wait reports at most.
 const MOST_EVENTS: usize = 256;
@@ -20,7 +20,7 @@ const MOST_EVENTS: usize = 256;
 /// The time between two rounds over connections that report nothing, in milliseconds.
 pub(crate) const ROUND_MILLIS: i32 = 1;
 
-/// News of a place.
+/// An event of a place.
 #[derive(Clone, Copy)]
 pub struct Ready {
     /// The place.
@@ -34,7 +34,7 @@ pub struct Ready {
 }
 
 impl Ready {
-    /// News of a place that nothing has reported: it may have any.
+    /// An event of a place that nothing has reported: it may be any.
     pub(crate) fn unasked(place: usize) -> Ready {
         Ready {
             place,
@@ -45,8 +45,8 @@ impl Ready {
     }
 }
 
-/// Reports which places have news. What it reports may be anything: a client that has no news only
-/// looks in vain.
+/// Reports which places have events. What it reports may be anything: a client that has no event
+/// only looks in vain.
 pub trait Watch<T> {
     /// Has the place reported, whose client is on this connection, from now on. Returns whether
     /// that succeeded.
@@ -59,8 +59,8 @@ pub trait Watch<T> {
     /// the system knows now.
     fn has_left(&self, connection: &T) -> bool;
 
-    /// Waits until a place has news or the bell is rung, for at most `limit` milliseconds, and puts
-    /// what is reported into `ready`. It may return early.
+    /// Waits until a place has an event or the doorbell is rung, for at most `limit` milliseconds,
+    /// and puts what is reported into `ready`. It may return early.
     fn wait(&mut self, limit: Option<u64>, ready: &mut Vec<Ready>);
 }
 
@@ -72,14 +72,14 @@ pub struct Polled {
 }
 
 impl Polled {
-    /// Opens a poll that the bell, whose descriptor is given, ends. Returns `None` if the system
-    /// refuses one.
-    pub(crate) fn open(net: &impl Net, alloc: Global, bell: i32) -> Option<Polled> {
+    /// Opens a poll that the doorbell, whose descriptor is given, ends. Returns `None` if the
+    /// system refuses one.
+    pub(crate) fn open(net: &impl Net, alloc: Global, doorbell: i32) -> Option<Polled> {
         let poll = Poll::new(net).ok()?;
         let events = Events::with_capacity(alloc, MOST_EVENTS).ok()?;
         let interest = Interest::READABLE;
         poll.registry()
-            .register(&mut SourceFd(&bell), Token(BELL), interest)
+            .register(&mut SourceFd(&doorbell), Token(DOORBELL), interest)
             .ok()?;
         Some(Polled { poll, events })
     }
@@ -123,7 +123,7 @@ impl<T: AsRawFd> Watch<T> for Polled {
         }
         for event in self.events.iter() {
             let Token(place) = event.token();
-            if place != BELL && ready.len() < ready.capacity() {
+            if place != DOORBELL && ready.len() < ready.capacity() {
                 ready.push_reserved(Ready {
                     place,
                     readable: event.is_readable(),
@@ -141,7 +141,7 @@ pub fn watches(net: &impl Net, alloc: Global, server: &ServerState) -> Option<Ve
 {
     let mut watches = Vec::with_capacity(alloc, server.workers()).ok()?;
     for worker in 0..server.workers() {
-        let watch = Polled::open(net, alloc, server.bell_of(worker))?;
+        let watch = Polled::open(net, alloc, server.doorbell_of(worker))?;
         watches.push(watch).ok()?;
     }
     Some(watches)

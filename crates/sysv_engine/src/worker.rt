@@ -1,26 +1,26 @@
 //! The workers of a server: their places, and what happens at each.
-ghost use Rattle.std.specs.Prelude.{◌≡◌, ◌≤◌, ◌++◌, reverse, vec_len, vec_capacity, [], IfSome};
+ghost use Rattle.std.specs.Prelude.{◌≡◌, ◌≤◌, vec_len, vec_capacity, [], IfSome};
 ghost use Rattle.sysv_engine.specs.Places.{AdoptsOne, IsVacantAt, KeepsAll};
 
 use crate::moment::Moment;
 use crate::parked_calls::{Key, Lines};
 use crate::place::Place;
-use crate::server_state::Letter;
+use crate::server_state::Envelope;
 use crate::terms::Patience;
 use crate::watch::{Ready, Watch};
 use std::alloc::Global;
 use std::collections::VecDeque;
 use std::sync::Wait;
-use sysv_seats::{News, NonBlocking, Tools};
+use sysv_seats::{NonBlocking, Notification, Tools};
 use sysv_session::Served;
 
-/// Of this number of letters about room, one goes to another worker first.
+/// Of this number of envelopes about room, one goes to another worker first.
 const SHARE_OF_ROOM: usize = 2;
 
-/// Of this number of letters about messages, one goes to another worker first.
+/// Of this number of envelopes about messages, one goes to another worker first.
 const SHARE_OF_MESSAGES: usize = 8;
 
-/// The number of places of which one wait reports news at most.
+/// The number of places of which one wait reports events at most.
 const MOST_READY: usize = 256;
 
 /// A worker of a server: places with their clients, and what watches the connections.
@@ -36,13 +36,13 @@ pub(crate) struct Worker<'a, R: Wait, T: NonBlocking, W> {
     /// The places that have more to do.
     pub(crate) turns: VecDeque<usize>,
     /// What calls may have changed, and was not looked at yet.
-    pub(crate) letters: VecDeque<Letter>,
+    pub(crate) envelopes: VecDeque<Envelope>,
     pub(crate) tools: Tools,
     /// The number of connections for which the worker has left its clients.
     pub(crate) answered: u64,
     /// When to look for clients whose time is over.
     pub(crate) check: Option<Moment>,
-    /// The numbers of its letters about room and about messages, modulo 2^64.
+    /// The numbers of its envelopes about room and about messages, modulo 2^64.
     rooms: usize,
     messages: usize,
 }
@@ -54,7 +54,7 @@ pub(crate) struct Kit<'a, R: Wait, T: NonBlocking, W> {
     ready: Vec<Ready>,
     lines: Lines,
     turns: VecDeque<usize>,
-    letters: VecDeque<Letter>,
+    envelopes: VecDeque<Envelope>,
     tools: Tools,
     watch: W,
 }
@@ -78,7 +78,7 @@ impl<'a, R: Wait, T: NonBlocking, W: Drop> Kit<'a, R, T, W> {
             ready,
             lines,
             turns,
-            letters: VecDeque::new(alloc),
+            envelopes: VecDeque::new(alloc),
             tools,
             watch,
         })
@@ -96,7 +96,7 @@ impl<R: Wait, T: NonBlocking, W: Drop> Kit<'_, R, T, W> {
             ready: _,
             lines: _,
             turns: _,
-            letters: _,
+            envelopes: _,
             tools: _,
             watch: _,
         } = self;
@@ -105,29 +105,20 @@ impl<R: Wait, T: NonBlocking, W: Drop> Kit<'_, R, T, W> {
 }
 
 impl<'a, R: Wait, T: NonBlocking, W: Watch<T>> Worker<'a, R, T, W> {
-    /// Creates a worker without clients, with as many of the last places as its kit has room for.
-    pub(crate) fn new(
-        number: usize,
-        kit: Kit<'a, R, T, W>,
-        from: &mut Vec<Place<'a, R, T>>,
-    ) -> Worker<'a, R, T, W>
-        requires none { kit.places.items ≡ [] }
-        requires some { vec_capacity kit.places ≤ vec_len from.old }
-        ensures count { vec_len result.places ≡ vec_capacity kit.entry.places }
-        ensures places { from.old.items ≡ from.new.items ++ reverse result.places.items }
-        ensures room { vec_capacity from.new ≡ vec_capacity from.old }
+    /// Creates a worker without clients, with the places of its kit.
+    pub(crate) fn new(number: usize, kit: Kit<'a, R, T, W>) -> Worker<'a, R, T, W>
+        ensures { result.places ≡ kit.entry.places }
     {
         let Kit {
-            mut places,
+            places,
             free,
             ready,
             lines,
             turns,
-            letters,
+            envelopes,
             tools,
             watch,
         } = kit;
-        fill(&mut places, from);
         Worker {
             number,
             places,
@@ -136,7 +127,7 @@ impl<'a, R: Wait, T: NonBlocking, W: Watch<T>> Worker<'a, R, T, W> {
             ready,
             lines,
             turns,
-            letters,
+            envelopes,
             tools,
             answered: 0,
             check: None,
@@ -159,7 +150,7 @@ impl<'a, R: Wait, T: NonBlocking, W: Watch<T>> Worker<'a, R, T, W> {
             ready: _,
             lines: _,
             turns: _,
-            letters: _,
+            envelopes: _,
             tools,
             answered: _,
             check: _,
@@ -169,21 +160,21 @@ impl<'a, R: Wait, T: NonBlocking, W: Watch<T>> Worker<'a, R, T, W> {
         (places, tools)
     }
 
-    /// Counts a letter that this worker writes. Returns whose turn it is to look first, counted on
-    /// from turn to turn, or `None` for its own.
-    pub(crate) fn next_first(&mut self, news: &News) -> Option<usize>
+    /// Counts an envelope that this worker writes. Returns whose turn it is to look first, counted
+    /// on from turn to turn, or `None` for its own.
+    pub(crate) fn next_first(&mut self, notification: &Notification) -> Option<usize>
         ensures { self.new.places ≡ self.old.places }
     {
-        match news {
-            News::Freed { .. } | News::Released => {
+        match notification {
+            Notification::Freed { .. } | Notification::Released => {
                 self.rooms = self.rooms.wrapping_add(1);
                 turn(self.rooms, SHARE_OF_ROOM)
             }
-            News::Arrived { .. } => {
+            Notification::Arrived { .. } => {
                 self.messages = self.messages.wrapping_add(1);
                 turn(self.messages, SHARE_OF_MESSAGES)
             }
-            News::Changed { .. } => None,
+            Notification::Changed { .. } => None,
         }
     }
 
@@ -384,7 +375,8 @@ impl<'a, R: Wait, T: NonBlocking, W: Watch<T>> Worker<'a, R, T, W> {
     }
 }
 
-/// Returns the numbers of this many places, the first one last. Returns `None` if memory is refused.
+/// Returns the numbers of this many places, the first one last. Returns `None` if memory is
+/// refused.
 fn all_places(alloc: Global, count: usize) -> Option<Vec<usize>> {
     (0..count).rev().collect(alloc).ok()
 }
@@ -394,22 +386,6 @@ fn room_for<P>(alloc: Global, count: usize) -> Option<Vec<P>>
     ensures { IfSome result (λ v. (v.items ≡ []) × (vec_capacity v ≡ count)) }
 {
     Vec::with_capacity(alloc, count).ok()
-}
-
-/// Fills `places` with the last places of `from`, the last one first.
-fn fill<P>(places: &mut Vec<P>, from: &mut Vec<P>)
-    requires none { places.old.items ≡ [] }
-    requires some { vec_capacity places.old ≤ vec_len from.old }
-    ensures count { vec_len places.new ≡ vec_capacity places.old }
-    ensures items { from.old.items ≡ from.new.items ++ reverse places.new.items }
-    ensures room { vec_capacity from.new ≡ vec_capacity from.old }
-{
-    for _ in 0..places.capacity() {
-        let Some(place) = from.pop() else {
-            unreachable!()
-        };
-        places.push_reserved(place);
-    }
 }
 
 /// Returns a number for each `share` of this count, and else `None`.

@@ -26,14 +26,14 @@ use Rattle.sysv_gate.specs.contracts.table.place.Place as place
 use Rattle.sysv_gate.specs.contracts.gate.seat.Key as key
 use Rattle.sysv_gate.specs.contracts.gate.seat.Seat as seat
 use Rattle.sysv_gate.specs.contracts.gate.seat.Seat.TheInside as inside
-use Rattle.sysv_gate.specs.contracts.lock.bell.Bell as bell
-use Rattle.sysv_gate.proofs.lock.bell.Bell.TheSendSync as bells
+use Rattle.sysv_gate.specs.contracts.lock.doorbell.Doorbell as doorbell
+use Rattle.sysv_gate.proofs.lock.doorbell.Doorbell.TheSendSync as doorbells
 use Rattle.std.specs.contracts.sync.atomic.AtomicU64 as atomic
 use Rattle.std.proofs.sync.atomic.AtomicU64.TheSendSync as atomics
-use Rattle.sysv_gate.specs.contracts.lock.bell.Entrance as entrance
-use Rattle.sysv_gate.proofs.lock.bell.Entrance.TheSendSync as entrances
-use Rattle.sysv_gate.specs.contracts.lock.bell.TurnBells as turns
-use Rattle.sysv_gate.proofs.lock.bell.TurnBells.TheSendSync as turn_bells
+use Rattle.sysv_gate.specs.contracts.lock.doorbell.Entrance as entrance
+use Rattle.sysv_gate.proofs.lock.doorbell.Entrance.TheSendSync as entrances
+use Rattle.sysv_gate.specs.contracts.lock.doorbell.TurnDoorbells as turns
+use Rattle.sysv_gate.proofs.lock.doorbell.TurnDoorbells.TheSendSync as turn_doorbells
 use Rattle.sysv_gate.specs.contracts.gate.Gate as gate
 use Rattle.std.specs.contracts.vec.Vec as vec
 use Rattle.std.specs.contracts.impls.GlobalAllocator.TheImpl as global
@@ -99,10 +99,10 @@ lock_sync O C R g = view_sync (lock_inside.the_row O C R g) _ _ _ _
             (
               as_row_sync entrance.the_field entrances.the_field_sync,
               (
-                as_row_sync turns.the_field turn_bells.the_field_sync,
+                as_row_sync turns.the_field turn_doorbells.the_field_sync,
                 (
-                  as_row_sync bell.the_field bells.the_field_sync,
-                  (as_row_sync bell.the_field bells.the_field_sync, tt),
+                  as_row_sync doorbell.the_field doorbells.the_field_sync,
+                  (as_row_sync doorbell.the_field doorbells.the_field_sync, tt),
                 ),
               ),
             ),

@@ -174,7 +174,7 @@ module _ {O C R : Type 0} where
       each k here there zero v at = subst (λ (u : Sight O C R). AreWithin k u.shares) (some-injective x v at) here
       each k here there (suc id) v at = there id v at
 
-  -- ---- all passes have come home
+  -- ---- all passes have been joined
 
   -- If one pass has the whole, no other pass has a share.
   pub others_shareless : (sights : List (Sight O C R)) (id k : ℕ) (v w : Sight O C R) → AreTheWhole sights →

@@ -10,13 +10,13 @@ ghost use Rattle.sysv_gate.specs.Tables.{me_at};
 ghost use Rattle.sysv_gate.specs.Locks.{IsLockIn, IsPassAt, IsSame};
 
 pub(crate) mod acquire;
-pub(crate) mod bell;
 pub(crate) mod calls;
+pub(crate) mod doorbell;
 pub(crate) mod turns;
 pub(crate) mod waits;
 
 use crate::count::Count;
-use crate::lock::bell::{Bell, Entrance, TurnBells};
+use crate::lock::doorbell::{Doorbell, Entrance, TurnDoorbells};
 use crate::object::Object;
 use crate::table::words::{SERVING, TICKET};
 use crate::table::{
@@ -26,7 +26,7 @@ use std::marker::Model;
 use std::snapshot::Snapshot;
 use std::sync::atomic::AtomicU64;
 
-/// One of several places that share a table, with the bells of the threads that wait there.
+/// One of several places that share a table, with the doorbells of the threads that wait there.
 #[derive(Drop)]
 pub struct PlaceLock<O: Object> {
     pub(crate) place: usize,
@@ -34,16 +34,16 @@ pub struct PlaceLock<O: Object> {
     base: usize,
     /// The object that was at the place when the table was laid.
     opening: Snapshot<O>,
-    /// The number of threads that have entered any bell of the place and not left.
+    /// The number of threads that have entered any doorbell of the place and not left.
     pub(crate) sleepers: AtomicU64,
-    /// The bell of the threads that wait for their turn without a ticket.
+    /// The doorbell of the threads that wait for their turn without a ticket.
     pub(crate) entrance: Entrance,
-    /// The bells of the threads that wait for their turn with a ticket.
-    pub(crate) turns: TurnBells,
-    /// The bell of the threads that wait for the first count.
-    pub(crate) arrived: Bell,
-    /// The bell of the threads that wait for the second count.
-    pub(crate) freed: Bell,
+    /// The doorbells of the threads that wait for their turn with a ticket.
+    pub(crate) turns: TurnDoorbells,
+    /// The doorbell of the threads that wait for the first count.
+    pub(crate) arrived: Doorbell,
+    /// The doorbell of the threads that wait for the second count.
+    pub(crate) freed: Doorbell,
 }
 
 impl<O: Object> Model for PlaceLock<O> {
@@ -77,9 +77,9 @@ impl<O: Object> PlaceLock<O> {
             opening: Snapshot::of(object),
             sleepers: AtomicU64::new(0),
             entrance: Entrance::new(),
-            turns: TurnBells::new(),
-            arrived: Bell::new(),
-            freed: Bell::new(),
+            turns: TurnDoorbells::new(),
+            arrived: Doorbell::new(),
+            freed: Doorbell::new(),
         }
     }
 

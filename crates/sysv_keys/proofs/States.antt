@@ -8,7 +8,7 @@ use Rattle.sysv_model.proofs.Snoc.{from_end}
 use Rattle.sysv_keys.specs.declared.registry.Place.{Place}
 use Rattle.sysv_keys.specs.State.{State, Registry, write, places_after, state_after, opened, state_of, state_in}
 use Rattle.sysv_keys.specs.LegalReply.{Legal, IsLegalHistory}
-use Rattle.sysv_keys.specs.StandsFor.{MakesTurn}
+use Rattle.sysv_keys.specs.Represents.{MakesTurn}
 use Rattle.sysv_keys.proofs.Legality.{legal_more, legal_front, legal_last}
 
 -- A place after a write is the new one or is unchanged.

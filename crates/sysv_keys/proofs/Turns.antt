@@ -18,7 +18,7 @@ use Rattle.sysv_keys.specs.Identifier.{id_of, slot_of_id}
 use Rattle.sysv_keys.specs.State.{Registry, empty, write, places_in, state_in}
 use Rattle.sysv_keys.specs.Rows.{Row, row_at, HasRow, IsVacant, IsLeastVacant}
 use Rattle.sysv_keys.specs.LegalReply.{Creates, IsBound}
-use Rattle.sysv_keys.specs.StandsFor.{StandsFor, MakesTurn}
+use Rattle.sysv_keys.specs.Represents.{Represents, MakesTurn}
 use Rattle.sysv_keys.specs.Kept.{IsIndex, IsEntered, IsKept, HasKey, HasRowOf, HasNoRow, KeysDiffer, counted_by, key_in}
 use Rattle.sysv_keys.proofs.Logic.{decided, never_both}
 use Rattle.sysv_keys.proofs.Legality.{legal_empty}
@@ -180,7 +180,7 @@ module _ (places : List Place) (f : ℤ → Option ℕ) (bound room count : ℕ)
       (omega arith)
 
 -- A registry that was just opened.
-pub stands_fresh : (generation : ℕ) → StandsFor generation [] (registry (replicate SLOTS (empty generation)) 0)
+pub stands_fresh : (generation : ℕ) → Represents generation [] (registry (replicate SLOTS (empty generation)) 0)
 stands_fresh generation = record {
   legal = legal_empty generation;
   wide = length-replicate SLOTS (empty generation);

@@ -13,7 +13,7 @@ use Rattle.sysv_keys.specs.declared.registry.Place.{Place}
 use Rattle.sysv_keys.specs.State.{Registry, places_in, state_in}
 use Rattle.sysv_keys.specs.Rows.{Row, HasRow}
 use Rattle.sysv_keys.specs.LegalReply.{Creates}
-use Rattle.sysv_keys.specs.StandsFor.{MakesTurn}
+use Rattle.sysv_keys.specs.Represents.{MakesTurn}
 use Rattle.sysv_keys.specs.Replies.{begun_reply, ChangesOnlyIfMade}
 
 -- An identifier can be made in the place: it has no row, and its generation is at most the last.

@@ -4,7 +4,7 @@ pub mod Identifier
 pub mod State
 pub mod Rows
 pub mod LegalReply
-pub mod StandsFor
+pub mod Represents
 pub mod Replies
 pub mod Kept
 pub mod OneReply

@@ -9,7 +9,7 @@ ghost use Rattle.sysv_keys.specs.declared.identifier.TheConstants.{SLOTS, GENERA
 ghost use Rattle.sysv_keys.specs.State.{state_in};
 ghost use Rattle.sysv_keys.specs.Rows.{IsUnused, IsVacant, IsLeastVacant};
 ghost use Rattle.sysv_keys.specs.LegalReply.{IsBound};
-ghost use Rattle.sysv_keys.specs.StandsFor.{StandsFor, MakesTurn};
+ghost use Rattle.sysv_keys.specs.Represents.{Represents, MakesTurn};
 ghost use Rattle.sysv_keys.specs.Replies.{begun_reply, ChangesOnlyIfMade};
 ghost use Rattle.sysv_keys.specs.Kept.{IsOpen, Finds, HasNoRow, HasRowOf, Makes, IsIndex, IsEntered, KeysDiffer};
 
@@ -117,7 +117,7 @@ impl Registry {
     ///
     /// - `NoMemory` if allocation fails.
     pub fn open(alloc: Global) -> Result<Registry, RegistryRefused>
-        ensures stands { IfOk result (StandsFor 0 []) }
+        ensures stands { IfOk result (Represents 0 []) }
         ensures refused { IfErr result (λ why. why ≡ RegistryRefused.NoMemory) }
     {
         Registry::open_at(alloc, 0)
@@ -132,7 +132,7 @@ impl Registry {
     /// - `BadStart` if and only if `generation` is above `GENERATION_LAST`.
     /// - `NoMemory` if allocation fails.
     pub fn open_at(alloc: Global, generation: u32) -> Result<Registry, RegistryRefused>
-        ensures stands { IfOk result (StandsFor generation []) }
+        ensures stands { IfOk result (Represents generation []) }
         ensures bad_start { (result ≡ Err RegistryRefused.BadStart) ↔ GENERATION_LAST < generation }
     {
         if generation > GENERATION_LAST {
@@ -290,7 +290,8 @@ impl Registry {
     /// - `slot` is below `SLOTS`.
     pub fn is_unused(&self, slot: usize) -> bool
         requires { slot < SLOTS }
-        ensures { (opening : ℕ) (h : RegistryHistory) → StandsFor opening h self.now → IsTrue result
+        ensures { (opening : ℕ) (h : RegistryHistory) → Represents opening h self.now →
+            IsTrue result
             ↔ IsUnused opening h slot }
     {
         let place = self.places[slot];

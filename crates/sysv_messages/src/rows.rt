@@ -114,8 +114,8 @@ impl Row {
         let _removed = self.take_at(at);
     }
 
-    /// Removes the entry at a place and returns it, or returns `None` if no entry is there. No entry
-    /// moves if it is the first one.
+    /// Removes the entry at a place and returns it, or returns `None` if no entry is there. No
+    /// entry moves if it is the first one.
     #[inline(always)]
     fn take_at(&mut self, at: usize) -> Option<Entry>
         ensures value { IfSome result (λ e. slice_get self.old.entries.items at ≡ Some e) }

@@ -12,7 +12,7 @@ pub mod Waiting
 pub mod Registry
 pub mod Pool
 pub mod Turn
-pub mod Watched
+pub mod Instrumented
 pub mod Writing
 pub mod Turns
 pub mod Members

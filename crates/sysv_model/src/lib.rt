@@ -11,17 +11,18 @@ mod body;
 mod cred;
 mod errno;
 mod flags;
+mod instrumented;
 mod laws;
 mod limits;
 mod no_memory;
 mod selector;
-mod watched;
 
 pub use attributes::{Attributes, Perm, Row, SetTo, Stat};
 pub use body::Body;
 pub use cred::Cred;
 pub use errno::Errno;
 pub use flags::Flags;
+pub use instrumented::{Instrumented, WriteFault};
 pub use laws::{numerals_of_flags, numerals_of_limits, numerals_of_mode_bits};
 pub use limits::{
     BLOCK_BYTES, BODY_ROOM, IPC_PRIVATE, MAX_ACTORS, MAX_BLOCKS, MAX_QBYTES, MESSAGE_BYTES,
@@ -29,4 +30,3 @@ pub use limits::{
 };
 pub use no_memory::NoMemory;
 pub use selector::Selector;
-pub use watched::{Watched, WriteFault};

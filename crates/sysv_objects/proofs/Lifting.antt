@@ -7,13 +7,13 @@ use Rattle.sysv_model.specs.Pool.{PoolEntry, frees as is_release, released}
 use Rattle.sysv_model.specs.Turn.{Op, AtSlot, AtRegistry, AtPool, Turn, slot_history, registry_history, pool_history}
 use Rattle.sysv_queue.specs.Slot.{Slot}
 use Rattle.sysv_queue.specs.LegalReply.{Legal}
-use Rattle.sysv_queue.specs.StandsFor.{StandsFor as SlotStandsFor, MakesTurn as SlotMakesTurn}
+use Rattle.sysv_queue.specs.Represents.{Represents as SlotRepresents, MakesTurn as SlotMakesTurn}
 use Rattle.sysv_pool.specs.State.{State as Pool}
-use Rattle.sysv_pool.specs.StandsFor.{StandsFor as PoolStandsFor}
+use Rattle.sysv_pool.specs.Represents.{Represents as PoolRepresents}
 use Rattle.sysv_pool.specs.LegalReply.{Legal as LegalAtPool}
 use Rattle.sysv_keys.specs.LegalReply.{Legal as LegalAtRegistry}
 use Rattle.sysv_keys.specs.State.{Registry}
-use Rattle.sysv_keys.specs.StandsFor.{StandsFor as RegistryStandsFor, MakesTurn as RegistryMakesTurn}
+use Rattle.sysv_keys.specs.Represents.{Represents as RegistryRepresents, MakesTurn as RegistryMakesTurn}
 use Rattle.std.proofs.lemmas.List.Sums.{sum_by-append}
 use Rattle.sysv_objects.specs.declared.pool.PoolCall.{PoolCall as Asked}
 use Rattle.sysv_objects.specs.declared.pool.PoolCall.TheVariants as asked
@@ -22,7 +22,7 @@ use Rattle.sysv_objects.specs.declared.pool.PoolReply.TheVariants as told
 use Rattle.sysv_objects.specs.PoolTurns.{pool_call, pool_reply, FitsPoolCall, PoolMoves}
 use Rattle.sysv_objects.specs.LegalOp.{IsLegalOp}
 use Rattle.sysv_objects.specs.Objects.{Objects, raises, pool_raises}
-use Rattle.sysv_objects.specs.StandsFor.{StandsFor, Stand, MakesTurn}
+use Rattle.sysv_objects.specs.Represents.{Represents, Stand, MakesTurn}
 use Rattle.sysv_objects.proofs.Lists.{get_set}
 use Rattle.sysv_objects.proofs.Histories.{turn_of, at_its_slot, at_another, registry_more, not_at_registry, not_at_slot}
 use Rattle.sysv_objects.proofs.Histories.{slot_not_at_pool, registry_not_at_pool, pool_not_at_slot}
@@ -39,7 +39,7 @@ with_registry objects registry = record { slots = objects.slots; registry = regi
 abbrev pub with_pool : Objects → Pool → Objects
 with_pool objects pool = record { slots = objects.slots; registry = objects.registry; pool = pool }
 
--- Objects that stand for some turns before a turn stand for some turns after it.
+-- Objects that represent some turns before a turn represent some turns after it.
 pub stand_on : (old new : Objects) (op : Op) → Stand old → MakesTurn old op new → Stand new
 stand_on old new op st turn = (st.0, st.1 ++ turn_of (Actor 0 0) op ∷ [], turn.stands st.0 st.1 (Actor 0 0) st.2)
 
@@ -47,26 +47,27 @@ stand_on old new op st turn = (st.0, st.1 ++ turn_of (Actor 0 0) op ∷ [], turn
 
 module _ (old : Objects) (number : ℕ) (was new : Slot) (call : Call) (reply : Reply)
     (there : slice_get old.slots number ≡ Some was) (turn : SlotMakesTurn was call reply new) where
-  legal_there : (generation : ℕ) (turns : List Turn) → StandsFor generation turns old →
+  legal_there : (generation : ℕ) (turns : List Turn) → Represents generation turns old →
       IsLegalOp generation old.pool.size turns (AtSlot number call reply)
   legal_there generation turns st = subst (λ s. Legal s call reply) (sym (st.slots number was there).seen) turn.legal
 
-  stands_there : (generation : ℕ) (turns : List Turn) (who : Who) → StandsFor generation turns old →
-      StandsFor generation (turns ++ turn_of who (AtSlot number call reply) ∷ []) (with_slot old number new)
+  stands_there : (generation : ℕ) (turns : List Turn) (who : Who) → Represents generation turns old →
+      Represents generation (turns ++ turn_of who (AtSlot number call reply) ∷ []) (with_slot old number new)
   stands_there generation turns who st = record {
     many = length-set old.slots number new ∙ st.many;
     slots = λ at slot here. elim (get_set old.slots number at new slot here) [
       | inl same ↦
-          subst (SlotStandsFor _) same.1
-          (subst (λ n. SlotStandsFor (slot_history n (turns ++ turn_of who (AtSlot number call reply) ∷ [])) new) same.0
-          (subst (λ h. SlotStandsFor h new) (sym (at_its_slot number turns who call reply))
+          subst (SlotRepresents _) same.1
+          (subst (λ n. SlotRepresents (slot_history n (turns ++ turn_of who (AtSlot number call reply) ∷ [])) new)
+          same.0
+          (subst (λ h. SlotRepresents h new) (sym (at_its_slot number turns who call reply))
           (turn.stands (slot_history number turns) who (st.slots number was there))))
-      | inr apart ↦ subst (λ h. SlotStandsFor h slot) (sym (at_another at number turns who call reply apart.0))
+      | inr apart ↦ subst (λ h. SlotRepresents h slot) (sym (at_another at number turns who call reply apart.0))
           (st.slots at slot apart.1)
     ];
-    registry = subst (λ h. RegistryStandsFor generation h old.registry)
+    registry = subst (λ h. RegistryRepresents generation h old.registry)
         (sym (not_at_registry turns who number call reply)) st.registry;
-    pool = subst (λ h. PoolStandsFor h old.pool) (sym (slot_not_at_pool turns who number call reply)) st.pool;
+    pool = subst (λ h. PoolRepresents h old.pool) (sym (slot_not_at_pool turns who number call reply)) st.pool;
   }
 
   rises_there : Stand old → (new.arrived ≤ was.arrived + raises call) × (new.freed ≤ was.freed + raises call)
@@ -109,10 +110,10 @@ at_registry old new call reply turn = record {
   stands = λ generation turns who st. record {
     many = st.many;
     slots = λ at slot here.
-        subst (λ h. SlotStandsFor h slot) (sym (not_at_slot at turns who call reply)) (st.slots at slot here);
-    registry = subst (λ h. RegistryStandsFor generation h new) (sym (at_the_registry turns who))
+        subst (λ h. SlotRepresents h slot) (sym (not_at_slot at turns who call reply)) (st.slots at slot here);
+    registry = subst (λ h. RegistryRepresents generation h new) (sym (at_the_registry turns who))
         (turn.stands generation (registry_history turns) who st.registry);
-    pool = subst (λ h. PoolStandsFor h old.pool) (sym (registry_not_at_pool turns who call reply)) st.pool;
+    pool = subst (λ h. PoolRepresents h old.pool) (sym (registry_not_at_pool turns who call reply)) st.pool;
   };
   size = refl;
   counts = λ bound up. (
@@ -160,10 +161,10 @@ at_pool old new asks told moves stand =
       stands = λ generation turns who st. record {
         many = st.many;
         slots = λ at slot here.
-            subst (λ h. SlotStandsFor h slot) (sym (pool_not_at_slot at turns who call reply)) (st.slots at slot here);
-        registry = subst (λ h. RegistryStandsFor generation h old.registry)
+            subst (λ h. SlotRepresents h slot) (sym (pool_not_at_slot at turns who call reply)) (st.slots at slot here);
+        registry = subst (λ h. RegistryRepresents generation h old.registry)
             (sym (pool_not_at_registry turns who call reply)) st.registry;
-        pool = subst (λ h. PoolStandsFor h new) (sym (pool_more turns (turn_of who (AtPool call reply))))
+        pool = subst (λ h. PoolRepresents h new) (sym (pool_more turns (turn_of who (AtPool call reply))))
             (moves.turn.stands (pool_history turns) who st.pool);
       };
       size = moves.size;

@@ -11,16 +11,16 @@ use Rattle.sysv_model.specs.Turn.{AtSlot, AtRegistry, AtPool, Turn, slot_history
 use Rattle.sysv_keys.specs.declared.identifier.TheConstants.{SLOTS}
 use Rattle.sysv_keys.specs.Identifier.{slot_of_id}
 use Rattle.sysv_keys.specs.State.{Registry}
-use Rattle.sysv_keys.specs.StandsFor.{StandsFor as RegistryStandsFor, MakesTurn as RegistryMakesTurn}
+use Rattle.sysv_keys.specs.Represents.{Represents as RegistryRepresents, MakesTurn as RegistryMakesTurn}
 use Rattle.sysv_pool.specs.State.{State as Pool}
-use Rattle.sysv_pool.specs.StandsFor.{StandsFor as PoolStandsFor}
+use Rattle.sysv_pool.specs.Represents.{Represents as PoolRepresents}
 use Rattle.sysv_queue.specs.Slot.{Slot}
-use Rattle.sysv_queue.specs.StandsFor.{StandsFor as SlotStandsFor, MakesTurn as SlotMakesTurn}
+use Rattle.sysv_queue.specs.Represents.{Represents as SlotRepresents, MakesTurn as SlotMakesTurn}
 use Rattle.sysv_objects.specs.declared.pool.PoolCall.{PoolCall as AskedOfPool}
 use Rattle.sysv_objects.specs.declared.pool.PoolReply.{PoolReply as ToldByPool}
 use Rattle.sysv_objects.specs.PoolTurns.{pool_call, pool_reply, PoolMoves}
 use Rattle.sysv_objects.specs.Objects.{Objects, CountsUpTo}
-use Rattle.sysv_objects.specs.StandsFor.{StandsFor, Stand, AreVacant, MakesTurn}
+use Rattle.sysv_objects.specs.Represents.{Represents, Stand, AreVacant, MakesTurn}
 use Rattle.sysv_objects.proofs.Lists.{get_beside}
 use Rattle.sysv_objects.proofs.Lifting.{stand_on, at_slot, at_registry, at_pool}
 
@@ -68,7 +68,7 @@ module _ (items : List Slot) (registry : Registry) (pool : Pool) (seen : Objects
   pub low : (bound : ℕ) → CountsUpTo bound seen → (was.arrived ≤ bound) × (was.freed ≤ bound)
   low bound up = up.0 place was (ap (λ (o : Objects). slice_get o.slots place) (sym view) ∙ there)
 
-  pub counted : (generation : ℕ) (turns : List Turn) → StandsFor generation turns seen →
+  pub counted : (generation : ℕ) (turns : List Turn) → Represents generation turns seen →
       (was.arrived ≡ arrived (slot_history number turns)) × (was.freed ≡ freed (slot_history number turns))
   counted generation turns s =
       let one = s.slots place was (ap (λ (o : Objects). slice_get o.slots place) (sym view) ∙ there) in
@@ -98,24 +98,24 @@ module _ (items : List Slot) (registry : Registry) (pool : Pool) (new : Pool) (c
 
 -- ---- the opening
 
-zero_counts : (slot : Slot) → SlotStandsFor [] slot → (slot.arrived ≤ 0) × (slot.freed ≤ 0)
+zero_counts : (slot : Slot) → SlotRepresents [] slot → (slot.arrived ≤ 0) × (slot.freed ≤ 0)
 zero_counts slot st =
     let a = ap (λ (s : Slot). s.arrived) st.seen in
     let f = ap (λ (s : Slot). s.freed) st.seen in
     (omega arith, omega arith)
 
-all_vacant : (slots : List Slot) → All (SlotStandsFor []) slots → (number : ℕ) (slot : Slot) →
-    slice_get slots number ≡ Some slot → SlotStandsFor [] slot
-all_vacant slots all number slot e = subst (SlotStandsFor []) (get_or_from_slice_get slots number slot slot e)
+all_vacant : (slots : List Slot) → All (SlotRepresents []) slots → (number : ℕ) (slot : Slot) →
+    slice_get slots number ≡ Some slot → SlotRepresents [] slot
+all_vacant slots all number slot e = subst (SlotRepresents []) (get_or_from_slice_get slots number slot slot e)
     (all number slot (slice_get_within slots number slot e))
 
 pub opened : (generation : ℕ) (slots : List Slot) (registry : Registry) (pool : Pool) → AreVacant slots →
-    RegistryStandsFor generation [] registry → PoolStandsFor [] pool →
-    StandsFor generation [] (objects_of slots registry pool)
+    RegistryRepresents generation [] registry → PoolRepresents [] pool →
+    Represents generation [] (objects_of slots registry pool)
 opened generation slots registry pool vacant r p =
     record { many = vacant.0; slots = all_vacant slots vacant.1; registry = r; pool = p }
 
-pub opened_counts : (slots : List Slot) (registry : Registry) (pool : Pool) → AreVacant slots → PoolStandsFor [] pool →
+pub opened_counts : (slots : List Slot) (registry : Registry) (pool : Pool) → AreVacant slots → PoolRepresents [] pool →
     CountsUpTo 0 (objects_of slots registry pool)
 opened_counts slots registry pool vacant p =
     let none = ap (λ (x : Pool). x.released) p.seen in

@@ -16,4 +16,4 @@ pub mod Turns
 pub mod LegalOp
 pub mod OneOp
 pub mod Objects
-pub mod StandsFor
+pub mod Represents

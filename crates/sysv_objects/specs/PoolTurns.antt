@@ -4,7 +4,7 @@ use Rattle.std.specs.Prelude.{◌≡◌, Some, None, Ok, Err, [], ⊤}
 use Rattle.sysv_model.specs.Pool.{PoolCall, Reserve, Release, PoolReply, blocks_for}
 use Rattle.sysv_pool.specs.Replies.{reserve_reply, release_reply}
 use Rattle.sysv_pool.specs.State.{State}
-use Rattle.sysv_pool.specs.StandsFor.{MakesTurn}
+use Rattle.sysv_pool.specs.Represents.{MakesTurn}
 use Rattle.sysv_objects.specs.declared.pool.PoolCall.{PoolCall as Asked}
 use Rattle.sysv_objects.specs.declared.pool.PoolCall.TheVariants as asked
 use Rattle.sysv_objects.specs.declared.pool.PoolReply.{PoolReply as Told}

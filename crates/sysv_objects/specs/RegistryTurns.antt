@@ -5,7 +5,7 @@ use Rattle.sysv_model.specs.Registry.{RegistryCall, Begin, Settle, Forget, Regis
 use Rattle.sysv_keys.specs.declared.registry.Begun.TheVariants as begun
 use Rattle.sysv_keys.specs.Replies.{begun_reply}
 use Rattle.sysv_keys.specs.State.{Registry}
-use Rattle.sysv_keys.specs.StandsFor.{MakesTurn}
+use Rattle.sysv_keys.specs.Represents.{MakesTurn}
 use Rattle.sysv_objects.specs.declared.registry.RegistryCall.{RegistryCall as Asked}
 use Rattle.sysv_objects.specs.declared.registry.RegistryCall.TheVariants as asked
 use Rattle.sysv_objects.specs.declared.registry.RegistryReply.{RegistryReply as Told}

@@ -8,7 +8,7 @@ use Rattle.sysv_queue.specs.Replies.{probe_reply, stat_reply, look_reply, place_
 use Rattle.sysv_queue.specs.Replies.{remove_reply}
 use Rattle.sysv_queue.specs.Blocks.{blocks_of}
 use Rattle.sysv_queue.specs.Slot.{Slot}
-use Rattle.sysv_queue.specs.StandsFor.{MakesTurn}
+use Rattle.sysv_queue.specs.Represents.{MakesTurn}
 use Rattle.sysv_keys.specs.declared.identifier.TheConstants.{SLOTS}
 use Rattle.sysv_keys.specs.Identifier.{slot_of_id}
 use Rattle.sysv_objects.specs.declared.slot.SlotCall.{SlotCall}
@@ -21,7 +21,7 @@ abbrev pub slot_call : SlotCall → Call
 slot_call (asked.Install id key cred mode now) = Install id key cred mode now
 slot_call (asked.Probe id cred flags) = Probe id cred flags
 slot_call (asked.Look id cred size) = Look id cred size
-slot_call (asked.Place id cred mtype letter now) = Place id cred mtype letter.bytes now
+slot_call (asked.Place id cred mtype loaded now) = Place id cred mtype loaded.bytes now
 slot_call (asked.Take id cred selector size noerror now) = Take id cred selector size noerror now
 slot_call (asked.Stat id cred) = ReadStat id cred
 slot_call (asked.Set id cred to now) = Set id cred to now
@@ -33,7 +33,7 @@ abbrev pub slot_asked : SlotCall → ℕ
 slot_asked (asked.Install id key cred mode now) = slot_of_id id
 slot_asked (asked.Probe id cred flags) = slot_of_id id
 slot_asked (asked.Look id cred size) = slot_of_id id
-slot_asked (asked.Place id cred mtype letter now) = slot_of_id id
+slot_asked (asked.Place id cred mtype loaded now) = slot_of_id id
 slot_asked (asked.Take id cred selector size noerror now) = slot_of_id id
 slot_asked (asked.Stat id cred) = slot_of_id id
 slot_asked (asked.Set id cred to now) = slot_of_id id
@@ -42,7 +42,7 @@ slot_asked (asked.Row slot) = slot
 
 -- The chain that a request hands over, or an empty one.
 abbrev pub chain_handed : SlotCall → Chained
-chain_handed (asked.Place id cred mtype letter now) = letter
+chain_handed (asked.Place id cred mtype loaded now) = loaded
 chain_handed call = record { blocks = 0; bytes = [] }
 
 -- The slot exists, if the request reads its row.
@@ -65,7 +65,7 @@ slot_reply slot (told.Shown row) = Shown row
 
 -- The request may raise a count of the slot.
 abbrev pub MayRaise : SlotCall → Type 0
-MayRaise (asked.Place id cred mtype letter now) = ⊤
+MayRaise (asked.Place id cred mtype loaded now) = ⊤
 MayRaise (asked.Take id cred selector size noerror now) = ⊤
 MayRaise (asked.Set id cred to now) = ⊤
 MayRaise (asked.Remove id cred) = ⊤
@@ -77,8 +77,8 @@ abbrev pub FitsSlotCall : Slot → SlotCall → SlotReply → Type 0
 FitsSlotCall slot (asked.Install id key cred mode now) (told.Installed made) = ⊤
 FitsSlotCall slot (asked.Probe id cred flags) (told.Probed found) = ⊤
 FitsSlotCall slot (asked.Look id cred size) (told.Looked found) = ⊤
-FitsSlotCall slot (asked.Place id cred mtype letter now) (told.Placed (Ok number)) = ⊤
-FitsSlotCall slot (asked.Place id cred mtype letter now) (told.Placed (Err refused)) = refused.chain ≡ letter
+FitsSlotCall slot (asked.Place id cred mtype loaded now) (told.Placed (Ok number)) = ⊤
+FitsSlotCall slot (asked.Place id cred mtype loaded now) (told.Placed (Err refused)) = refused.chain ≡ loaded
 FitsSlotCall slot (asked.Take id cred selector size noerror now) (told.Taken done) = ⊤
 FitsSlotCall slot (asked.Stat id cred) (told.Told done) = ⊤
 FitsSlotCall slot (asked.Set id cred to now) (told.Set done) = ⊤

@@ -10,7 +10,7 @@ pub struct Directly;
 impl Turns for Directly {
     ghost use Rattle.std.specs.Prelude.{◌^◌};
     ghost use Rattle.sysv_objects.specs.Objects.{CountsUpTo};
-    ghost use Rattle.sysv_objects.specs.StandsFor.{MakesTurn};
+    ghost use Rattle.sysv_objects.specs.Represents.{MakesTurn};
 
     type At = Objects;
 

@@ -9,7 +9,7 @@
 
 mod directly;
 mod laws;
-mod letter;
+mod loaded;
 mod object;
 mod objects;
 mod pool;
@@ -18,7 +18,7 @@ mod slot;
 
 pub use directly::Directly;
 pub use laws::{legal_turns, one_legal_op};
-pub use letter::Letter;
+pub use loaded::LoadedChain;
 pub use object::{ObjectCall, ObjectReply, Turns};
 pub use objects::{Objects, ObjectsRefused};
 pub use pool::{PoolCall, PoolReply, TextSize};

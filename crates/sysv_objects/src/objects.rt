@@ -14,7 +14,7 @@ ghost use Rattle.sysv_objects.specs.RegistryTurns.{LeavesRegistry};
 ghost use Rattle.sysv_objects.specs.PoolTurns.{MayRelease, LeavesPool};
 ghost use Rattle.sysv_objects.specs.Turns.{IsOfSomeSlot, MayCount, LeavesObject, Takes};
 ghost use Rattle.sysv_objects.specs.Objects.{CountsUpTo, OthersStay, blocks_in};
-ghost use Rattle.sysv_objects.specs.StandsFor.{StandsFor, MakesTurn, AreVacant};
+ghost use Rattle.sysv_objects.specs.Represents.{Represents, MakesTurn, AreVacant};
 
 use crate::object::{ObjectCall, ObjectReply};
 use crate::pool::{PoolCall, PoolReply};
@@ -55,7 +55,7 @@ pub struct Objects {
 
 impl Model for Objects {
     ghost use Rattle.sysv_objects.specs.Objects.{Objects as Seen};
-    ghost use Rattle.sysv_objects.specs.StandsFor.{Stand};
+    ghost use Rattle.sysv_objects.specs.Represents.{Stand};
 
     ghost Value = { Seen };
 
@@ -79,7 +79,7 @@ impl Objects {
     /// - `BadSize` if `blocks` is not 128 to 65,536.
     /// - `NoMemory` if allocation fails.
     pub fn open_at(alloc: Global, generation: u32, blocks: u32) -> Result<Objects, ObjectsRefused>
-        ensures stands { IfOk result (StandsFor generation []) }
+        ensures stands { IfOk result (Represents generation []) }
         ensures size { IfOk result (λ objects. objects.pool.size ≡ blocks) }
         ensures counts { IfOk result (CountsUpTo 0) }
         ensures bad_start { (result ≡ Err ObjectsRefused.BadStart) ↔ GENERATION_LAST < generation }
@@ -176,7 +176,7 @@ impl Objects {
     /// - `slot` is below `SLOTS`.
     pub fn is_unused(&self, slot: usize) -> bool
         requires { slot < SLOTS }
-        ensures { (generation : ℕ) (turns : List Turn) → StandsFor generation turns self.now →
+        ensures { (generation : ℕ) (turns : List Turn) → Represents generation turns self.now →
             IsTrue result ↔ IsUnused generation (registry_history turns) slot }
     {
         self.registry.is_unused(slot)
@@ -184,7 +184,7 @@ impl Objects {
 
     /// Returns the arrived count of the identifier's slot.
     pub fn arrived(&self, id: i32) -> u64
-        ensures { (generation : ℕ) (turns : List Turn) → StandsFor generation turns self.now →
+        ensures { (generation : ℕ) (turns : List Turn) → Represents generation turns self.now →
             result ≡ arrived (slot_history (slot_of_id id) turns) }
     {
         let place = slot_of_id(id);
@@ -193,7 +193,7 @@ impl Objects {
 
     /// Returns the freed count of the identifier's slot.
     pub fn freed(&self, id: i32) -> u64
-        ensures { (generation : ℕ) (turns : List Turn) → StandsFor generation turns self.now →
+        ensures { (generation : ℕ) (turns : List Turn) → Represents generation turns self.now →
             result ≡ freed (slot_history (slot_of_id id) turns) }
     {
         let place = slot_of_id(id);
@@ -202,7 +202,7 @@ impl Objects {
 
     /// Returns the settled count of the registry.
     pub fn settled(&self) -> u64
-        ensures { (generation : ℕ) (turns : List Turn) → StandsFor generation turns self.now →
+        ensures { (generation : ℕ) (turns : List Turn) → Represents generation turns self.now →
             result ≡ settled (registry_history turns) }
     {
         self.registry.settled()
@@ -210,7 +210,7 @@ impl Objects {
 
     /// Returns the released count of the pool.
     pub fn released(&self) -> u64
-        ensures { (generation : ℕ) (turns : List Turn) → StandsFor generation turns self.now →
+        ensures { (generation : ℕ) (turns : List Turn) → Represents generation turns self.now →
             result ≡ released (pool_history turns) }
     {
         self.pool.released()

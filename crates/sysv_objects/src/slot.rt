@@ -4,7 +4,7 @@ ghost use Rattle.std.specs.Prelude.{◌≡◌, ◌^◌, ◌<◌};
 ghost use Rattle.sysv_objects.specs.SlotTurns.{SlotMoves, IsThere, MayRaise, slot_asked, chain_handed};
 ghost use Rattle.sysv_keys.specs.declared.identifier.TheConstants.{SLOTS};
 
-use crate::letter::Letter;
+use crate::loaded::LoadedChain;
 use sysv_keys::slot_of_id;
 use sysv_model::{Cred, Errno, Flags, Row, Selector, SetTo, Stat};
 use sysv_pool::Chain;
@@ -33,7 +33,7 @@ pub enum SlotCall {
         id: i32,
         cred: Cred,
         mtype: i64,
-        letter: Letter,
+        loaded: LoadedChain,
         now: u64,
     },
     Take {
@@ -109,9 +109,9 @@ impl SlotCall {
                 id: _,
                 cred: _,
                 mtype: _,
-                letter,
+                loaded,
                 now: _,
-            } => letter.into_chain(),
+            } => loaded.into_chain(),
             SlotCall::Install {
                 id: _,
                 key: _,
@@ -175,11 +175,11 @@ impl SlotCall {
                 id,
                 cred,
                 mtype,
-                letter,
+                loaded,
                 now,
             } => {
-                let size = letter.size();
-                SlotReply::Placed(slot.place(id, cred, mtype, letter.into_chain(), size, now))
+                let size = loaded.size();
+                SlotReply::Placed(slot.place(id, cred, mtype, loaded.into_chain(), size, now))
             }
             SlotCall::Take {
                 id,

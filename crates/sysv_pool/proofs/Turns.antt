@@ -1,18 +1,18 @@
--- The turns of a pool that stands for a history.
+-- The turns of a pool that represents a history.
 use Rattle.std.proofs.Common.{◌≡◌, ℕ, ◌+◌, ◌-◌, ◌≤◌, ◌<◌, [], refl, sym, ap, subst, ◌∙◌, arith}
 use Rattle.sysv_model.specs.History.{Who}
 use Rattle.sysv_model.specs.Pool.{blocks_for, PoolCall, Reserve, Release, PoolReply, Reserved, TooFew, Released}
 use Rattle.sysv_model.specs.Pool.{Foreign, PoolEntry, PoolHistory, released}
 use Rattle.sysv_pool.specs.State.{State, free_after}
 use Rattle.sysv_pool.specs.LegalReply.{Legal, IsLegalHistory}
-use Rattle.sysv_pool.specs.StandsFor.{StandsFor, MakesTurn, then_turn}
+use Rattle.sysv_pool.specs.Represents.{Represents, MakesTurn, then_turn}
 use Rattle.sysv_pool.proofs.Legality.{legal_empty, legal_more}
 use Rattle.sysv_pool.proofs.Sums.{reserved-more, returned-more, released-more, within}
 
 abbrev pub pool : ℕ → ℕ → ℕ → State
 pool size free count = record { size = size; free = free; released = count }
 
-pub stands_empty : (size : ℕ) → StandsFor [] (pool size size 0)
+pub stands_empty : (size : ℕ) → Represents [] (pool size size 0)
 stands_empty size = record { legal = legal_empty size; seen = ap (λ n. pool size n 0) (omega arith) }
 
 -- A call makes a turn if its reply is legal and the pool changes as each history does.

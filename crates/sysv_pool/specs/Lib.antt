@@ -3,7 +3,7 @@ pub mod Blocks
 pub mod Chain
 pub mod State
 pub mod LegalReply
-pub mod StandsFor
+pub mod Represents
 pub mod Replies
 pub mod OneReply
 pub mod PoolLaw

@@ -27,8 +27,10 @@ impl Model for Chain {
 
     ghost Value = { Chained };
 
-    ghost view = { λ c.
-        record { blocks = length (contents_of c.link); bytes = take c.len (concat (contents_of c.link)) } };
+    ghost view = { λ c. record {
+      blocks = length (contents_of c.link);
+      bytes = take c.len (concat (contents_of c.link));
+    } };
 
     // The count is the largest u32 if there are more blocks.
     ghost invariant = { λ c. c.count ≡ counted (length (contents_of c.link)) };

@@ -121,7 +121,8 @@ fn take_whole(size_classes: &mut Vec<SizeClass>, blocks: u32) -> Option<Link>
 /// - The chain if its size class is full, or if there is no size class for its number of blocks.
 fn put_whole(size_classes: &mut Vec<SizeClass>, link: Link, blocks: u32) -> Result<(), Link>
     requires { length (contents_of link) ≡ blocks }
-    ensures { MatchResult result (λ _. sum size_classes.new.items ≡ sum size_classes.old.items + blocks)
+    ensures { MatchResult result (λ _. sum size_classes.new.items
+        ≡ sum size_classes.old.items + blocks)
         (λ back. (length (contents_of back) ≡ blocks)
         × (sum size_classes.new.items ≡ sum size_classes.old.items)) }
 {

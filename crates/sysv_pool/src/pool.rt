@@ -3,7 +3,7 @@
 ghost use Rattle.std.specs.Prelude.{◌≡◌, ◌+◌, ◌-◌, ◌^◌, ◌<◌, ◌≤◌, ◌⊎◌, ◌↔◌, [], IfOk, IfSome, Err, MatchOption, MatchResult};
 ghost use Rattle.sysv_model.specs.declared.limits.TheConstants.{MESSAGE_BYTES as most_bytes, MIN_BLOCKS as least_blocks, MAX_BLOCKS as most_blocks};
 ghost use Rattle.sysv_model.specs.Pool.{blocks_for, Reserve, Release};
-ghost use Rattle.sysv_pool.specs.StandsFor.{StandsFor, MakesTurn};
+ghost use Rattle.sysv_pool.specs.Represents.{Represents, MakesTurn};
 ghost use Rattle.sysv_pool.specs.Replies.{reserve_reply, release_reply};
 
 use crate::chain::Chain;
@@ -56,7 +56,7 @@ impl Pool {
     /// - `BadSize` if `blocks` is not in this range.
     /// - `NoMemory` if allocation fails.
     pub fn open(alloc: Global, blocks: u32) -> Result<Pool, PoolRefused>
-        ensures opened { IfOk result (λ pool. (pool.size ≡ blocks) × StandsFor [] pool) }
+        ensures opened { IfOk result (λ pool. (pool.size ≡ blocks) × Represents [] pool) }
         ensures bad_size { (result ≡ Err PoolRefused.BadSize)
             ↔ ((blocks < least_blocks) ⊎ (most_blocks < blocks)) }
     {
@@ -77,8 +77,9 @@ impl Pool {
     ///
     /// Returns `None`, with the pool unchanged, if fewer blocks are free. Allocates nothing.
     ///
-    /// It takes constant time if the pool keeps a chain of this length whole. Otherwise it takes time
-    /// in proportion to the number of blocks that it reserves, and looks at no more than 128 stacks.
+    /// It takes constant time if the pool keeps a chain of this length whole. Otherwise it takes
+    /// time in proportion to the number of blocks that it reserves, and looks at no more than 128
+    /// stacks.
     ///
     /// # Conditions
     ///
@@ -107,8 +108,9 @@ impl Pool {
     /// Makes the blocks of the chain free and adds 1 to the released count. A chain without blocks
     /// is counted too.
     ///
-    /// It allocates nothing. The pool keeps the chain whole in constant time, if it has space for one
-    /// more of this length. Otherwise it takes time in proportion to the number of blocks in the chain.
+    /// It allocates nothing. The pool keeps the chain whole in constant time, if it has space for
+    /// one more of this length. Otherwise it takes time in proportion to the number of blocks in
+    /// the chain.
     ///
     /// # Errors
     ///
@@ -122,7 +124,10 @@ impl Pool {
         requires { self.old.released < 2 ^ 63 }
         ensures turn { MakesTurn self.old (Release chain.blocks) (release_reply result) self.new }
         ensures after { MatchResult result (λ _.
-            self.new ≡ record self.old { free = self.old.free + chain.blocks; released = self.old.released + 1 }) (λ back. (back ≡ chain) × (self.new ≡ self.old)) }
+            self.new ≡ record self.old {
+              free = self.old.free + chain.blocks;
+              released = self.old.released + 1;
+            }) (λ back. (back ≡ chain) × (self.new ≡ self.old)) }
     {
         if chain.count > self.size - self.count {
             return Err(chain);

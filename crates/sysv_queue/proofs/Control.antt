@@ -13,7 +13,7 @@ use Rattle.sysv_queue.specs.Slot.{Slot}
 use Rattle.sysv_queue.specs.Granted.{MayControl, MayLimit}
 use Rattle.sysv_queue.specs.Barred.{BarsControl}
 use Rattle.sysv_queue.specs.LegalReply.{LegalSet, LegalRemove}
-use Rattle.sysv_queue.specs.StandsFor.{MakesTurn}
+use Rattle.sysv_queue.specs.Represents.{MakesTurn}
 use Rattle.sysv_queue.proofs.Turns.{quiet_set_refused, quiet_remove_refused}
 use Rattle.sysv_queue.proofs.Stands.{slot, turn_quiet, turn_changed, turn_removed}
 

@@ -13,7 +13,7 @@ use Rattle.sysv_queue.specs.Slot.{Slot}
 use Rattle.sysv_queue.specs.Granted.{MayRead}
 use Rattle.sysv_queue.specs.Named.{types_of}
 use Rattle.sysv_queue.specs.LegalReply.{IsGivable}
-use Rattle.sysv_queue.specs.StandsFor.{MakesTurn}
+use Rattle.sysv_queue.specs.Represents.{MakesTurn}
 use Rattle.sysv_queue.proofs.NamedMessage.{never_given, none_named}
 use Rattle.sysv_queue.proofs.Turns.{quiet_take_no_match, quiet_take_too_long}
 use Rattle.sysv_queue.proofs.Stands.{slot, turn_quiet, turn_taken}

@@ -1,4 +1,4 @@
--- The turns of a slot that stands for a history.
+-- The turns of a slot that represents a history.
 use Rattle.std.proofs.Common.{◌≡◌, ℕ, ℤ, ◌+◌, Bool, true, List, [], ◌∷◌, ◌++◌, Option, None, Some, refl, sym, ap, subst}
 use Rattle.std.proofs.Common.{◌∙◌, option_map, remove, slice_get}
 use Rattle.sysv_model.specs.declared.cred.Cred.{Cred}
@@ -12,7 +12,7 @@ use Rattle.sysv_model.specs.Live.{live, HasId, created, sent_to, received_from, 
 use Rattle.sysv_model.specs.Waiting.{waiting_on, waiting, held}
 use Rattle.sysv_queue.specs.Slot.{Slot, slot_of}
 use Rattle.sysv_queue.specs.LegalReply.{Legal, IsLegalHistory}
-use Rattle.sysv_queue.specs.StandsFor.{StandsFor, MakesTurn}
+use Rattle.sysv_queue.specs.Represents.{Represents, MakesTurn}
 use Rattle.sysv_queue.proofs.Legality.{legal_empty, legal_more}
 use Rattle.sysv_queue.proofs.Turns.{IsStill, IsQuiet, live-more, arrived-more, freed-more, arrived-still, freed-still}
 use Rattle.sysv_queue.proofs.Turns.{waiting-still, still_install, silent_install, still_set}
@@ -20,7 +20,7 @@ use Rattle.sysv_queue.proofs.Ids.{waiting_on-id, keeps_id}
 use Rattle.sysv_queue.proofs.Facts.{facts, waiting-sent, arrived-sent, waiting-taken, arrived-taken}
 use Rattle.std.proofs.Common.{add-zero}
 
-pub stands_empty : StandsFor [] record { live = None; messages = []; arrived = 0; freed = 0 }
+pub stands_empty : Represents [] record { live = None; messages = []; arrived = 0; freed = 0 }
 stands_empty = record { legal = legal_empty; seen = refl }
 
 abbrev pub slot : Option Attributes → List Message → ℕ → ℕ → Slot
@@ -121,7 +121,7 @@ after_removed h who id cred messages =
 
 -- A call makes a turn if its reply is legal and the slot changes as each history does.
 makes_turn : (old new : Slot) (call : Call) (reply : Reply) → Legal old call reply →
-    ((h : History) (who : Who) → StandsFor h old → slot_of (then_turn h who call reply) ≡ new) →
+    ((h : History) (who : Who) → Represents h old → slot_of (then_turn h who call reply) ≡ new) →
     MakesTurn old call reply new
 makes_turn old new call reply legal goes_on = record {
   legal = legal;
@@ -137,7 +137,7 @@ pub turn_quiet : (s : Slot) (call : Call) (reply : Reply) → IsQuiet call reply
 turn_quiet s call reply q legal = makes_turn s s call reply legal (λ h who st. after_quiet h who call reply q ∙ st.seen)
 
 -- Nothing is queued in a vacant slot.
-vacant_holds : (s : Slot) (h : History) → StandsFor h s → s.live ≡ None → s.messages ≡ []
+vacant_holds : (s : Slot) (h : History) → Represents h s → s.live ≡ None → s.messages ≡ []
 vacant_holds s h st vacant =
     sym (ap (λ (x : Slot). x.messages) st.seen) ∙ ap (λ l. waiting_on l h) (ap (λ (x : Slot). x.live) st.seen ∙ vacant)
 

@@ -8,7 +8,7 @@ use Rattle.sysv_model.specs.History.{then_turn}
 use Rattle.sysv_model.specs.Waiting.{held}
 use Rattle.sysv_queue.specs.Slot.{Slot}
 use Rattle.sysv_queue.specs.LegalReply.{IsLegalReply, IsLegalHistory}
-use Rattle.sysv_queue.specs.StandsFor.{StandsFor, MakesTurn}
+use Rattle.sysv_queue.specs.Represents.{Represents, MakesTurn}
 use Rattle.sysv_queue.specs.Blocks.{blocks_of}
 
 -- The number of blocks of the message that a turn put on the queue.
@@ -28,8 +28,8 @@ TurnKeepsBlocks =
     (h : History) (who : Who) (call : Call) (reply : Reply) → IsLegalHistory h → IsLegalReply h call reply →
     blocks_of (held (then_turn h who call reply)) + blocks_off call reply ≡ blocks_of (held h) + blocks_put call reply
 
--- Blocks are kept at each turn of a slot that stands for a history.
+-- Blocks are kept at each turn of a slot that represents a history.
 abbrev pub SlotKeepsBlocks : Type 0
-SlotKeepsBlocks = (h : History) (who : Who) (old new : Slot) (call : Call) (reply : Reply) → StandsFor h old →
+SlotKeepsBlocks = (h : History) (who : Who) (old new : Slot) (call : Call) (reply : Reply) → Represents h old →
     MakesTurn old call reply new →
     blocks_of new.messages + blocks_off call reply ≡ blocks_of old.messages + blocks_put call reply

@@ -18,7 +18,7 @@ pub mod Barred
 pub mod Named
 pub mod Shown
 pub mod LegalReply
-pub mod StandsFor
+pub mod Represents
 pub mod BlocksKept
 pub mod Tally
 pub mod Delivery

@@ -16,7 +16,7 @@ ghost use Rattle.sysv_queue.specs.Fits.{Fits as FitsOn};
 ghost use Rattle.sysv_queue.specs.Granted.{IsGranted, MayAsAsked, MayControl};
 ghost use Rattle.sysv_queue.specs.Barred.{Bars, BarsControl};
 ghost use Rattle.sysv_queue.specs.Probes.{IsBarred};
-ghost use Rattle.sysv_queue.specs.StandsFor.{StandsFor, MakesTurn};
+ghost use Rattle.sysv_queue.specs.Represents.{Represents, MakesTurn};
 ghost use Rattle.sysv_queue.specs.Replies.{probe_reply, stat_reply, set_reply, remove_reply, look_reply, place_reply, take_reply};
 
 use crate::discarded::Discarded;
@@ -144,7 +144,7 @@ impl QueueSlot {
     ///
     /// - `NoMemory` if allocation fails.
     pub fn open(alloc: Global) -> Result<QueueSlot, NoMemory>
-        ensures { IfOk result (λ slot. StandsFor [] slot) }
+        ensures { IfOk result (λ slot. Represents [] slot) }
     {
         Ok(QueueSlot {
             live: None,

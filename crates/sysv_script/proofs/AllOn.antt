@@ -5,17 +5,17 @@ use Rattle.std.proofs.Common.{refl, arith}
 use Rattle.std.proofs.lemmas.List.{append-nil}
 use Rattle.std.specs.List.{range_with_len}
 use Rattle.sysv_core.specs.World.{actor_at}
-use Rattle.sysv_script.specs.Scene.{Scene, OneRuns, AllRun, under_way}
-use Rattle.sysv_script.specs.Staged.{IsSceneOf}
+use Rattle.sysv_script.specs.ScriptState.{ScriptState, OneRuns, AllRun, pending}
+use Rattle.sysv_script.specs.Staged.{IsScriptStateOf}
 use Rattle.sysv_script.specs.declared.stage.Stage.{Stage}
 
--- From one scene, with its output, to another one in which the actors from this one on are left.
+-- From one script state, with its output, to another one in which the actors from this one on are left.
 pub record AllSofar (start now : Stage) (before composed : List ℕ) (actor : ℕ) : Type 0 where
   pub least : 1 ≤ actor
   pub most : actor ≤ 17
-  pub sofar : (s : Scene) → IsSceneOf s start →
-      (m : Scene) × (out : List ℕ) × IsSceneOf m now × (composed ≡ before ++ out)
-      × ((rest : List ℕ) (after : Scene) → AllRun (range_with_len actor (17 - actor)) m rest after →
+  pub sofar : (s : ScriptState) → IsScriptStateOf s start →
+      (m : ScriptState) × (out : List ℕ) × IsScriptStateOf m now × (composed ≡ before ++ out)
+      × ((rest : List ℕ) (after : ScriptState) → AllRun (range_with_len actor (17 - actor)) m rest after →
       AllRun (range_with_len 1 16) s (out ++ rest) after)
 
 pub none_on : (start : Stage) (before : List ℕ) → AllSofar start start before before 1
@@ -27,9 +27,9 @@ none_on start before = record {
 
 pub one_on : (start now new : Stage) (before composed more : List ℕ) (actor : ℕ) → actor < 17 →
     AllSofar start now before composed actor →
-    ((s : Scene) → IsSceneOf s now →
-    (after : Scene) × (out : List ℕ) × OneRuns s actor (under_way (actor_at s.world.actors actor)) out after
-    × IsSceneOf after new × (more ≡ composed ++ out)) →
+    ((s : ScriptState) → IsScriptStateOf s now →
+    (after : ScriptState) × (out : List ℕ) × OneRuns s actor (pending (actor_at s.world.actors actor)) out after
+    × IsScriptStateOf after new × (more ≡ composed ++ out)) →
     AllSofar start new before more (actor + 1)
 one_on start now new before composed more actor few old runs = record {
   least = omega (arith, old.least);
@@ -55,8 +55,8 @@ one_on start now new before composed more actor few old runs = record {
 -- No actor is left.
 pub all_on : (start now : Stage) (before composed : List ℕ) (actor : ℕ) → actor ≡ 17 →
     AllSofar start now before composed actor →
-    (s : Scene) → IsSceneOf s start →
-    (after : Scene) × (out : List ℕ) × AllRun (range_with_len 1 16) s out after × IsSceneOf after now
+    (s : ScriptState) → IsScriptStateOf s start →
+    (after : ScriptState) × (out : List ℕ) × AllRun (range_with_len 1 16) s out after × IsScriptStateOf after now
     × (composed ≡ before ++ out)
 all_on start now before composed actor e old s seen =
     let g = old.sofar s seen in

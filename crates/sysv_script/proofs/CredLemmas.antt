@@ -6,7 +6,7 @@ use Rattle.std.proofs.lemmas.Bool.{cases_eq}
 use Rattle.std.proofs.lemmas.List.{get_or-set_same, get_or-set_other}
 use Rattle.std.proofs.lemmas.List.FromFn.{fill_by_all}
 use Rattle.sysv_model.specs.declared.cred.Cred.{Cred}
-use Rattle.sysv_script.specs.Scene.{first_cred}
+use Rattle.sysv_script.specs.ScriptState.{first_cred}
 
 -- The places below this one have the first credentials of their actors.
 abbrev pub AreFirst : List Cred → ℕ → Type 0

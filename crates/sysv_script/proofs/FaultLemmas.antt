@@ -7,7 +7,7 @@ use Rattle.std.specs.Io.KnownBytes.{Appends}
 use Rattle.std.proofs.KnownBytes.{Appends-trans}
 use Rattle.sysv_script.specs.declared.fault.ScriptFault.{ScriptFault}
 use Rattle.sysv_script.specs.declared.fault.ScriptFault.TheVariants.{Line, Read, Write, NoMemory, Bound}
-use Rattle.sysv_model.specs.Watched.{failures_after}
+use Rattle.sysv_model.specs.Instrumented.{failures_after}
 use Rattle.sysv_model.specs.Writing.{AppendsPrefix}
 use Rattle.sysv_script.proofs.StreamLemmas.{Grows-trans, Grows-part}
 use Rattle.sysv_script.specs.Faults.{Grows, IsStreamFault, LeavesBadLine, TellsBadLine, bad_line_text, is_read_fault}

@@ -1,14 +1,15 @@
--- What a stage keeps of its scene, and what follows of a result that was examined or mapped.
+-- What a stage keeps of its script state, and what follows of a result that was examined or mapped.
 use Rattle.std.proofs.Common.{◌≡◌, ◌∙◌, true, false, sym, ap, subst}
 use Rattle.std.specs.Prelude.{⊤, Result, Ok, Err, OnOk, OnErr, IfOk, MatchResult, is_ok}
 use Rattle.sysv_model.specs.declared.no_memory.NoMemory.{NoMemory}
-use Rattle.sysv_script.specs.Scene.{Scene}
-use Rattle.sysv_script.specs.Staged.{IsSceneOf}
+use Rattle.sysv_script.specs.ScriptState.{ScriptState}
+use Rattle.sysv_script.specs.Staged.{IsScriptStateOf}
 use Rattle.sysv_script.specs.declared.stage.Stage.{Stage}
 
 -- A stage in which only the spare bodies have changed is seen as before.
-pub kept : (s : Scene) (old new : Stage) → new ≡ record old { spares = new.spares } → IsSceneOf s old → IsSceneOf s new
-kept s old new e seen = subst (IsSceneOf s) (sym e)
+pub kept : (s : ScriptState) (old new : Stage) → new ≡ record old { spares = new.spares } → IsScriptStateOf s old →
+    IsScriptStateOf s new
+kept s old new e seen = subst (IsScriptStateOf s) (sym e)
     (record { world = seen.world; creds = seen.creds; moment = seen.moment; fresh = seen.fresh })
 
 pub on_ok : {P Q : Type 0} (r : Result ⊤ NoMemory) → OnOk r P → (P → Q) → OnOk r Q

@@ -7,7 +7,7 @@ pub mod PositionSeen
 pub mod StepsOfCall
 pub mod AllOn
 pub mod Kept
-pub mod LineOnScene
+pub mod LineOnScriptState
 pub mod NoneLeft
 pub mod Prefixed
 pub mod FirstLines

@@ -7,7 +7,7 @@ use Rattle.sysv_steps.specs.Call.{SystemCall}
 use Rattle.sysv_steps.specs.State.{State, Goes, Waits, Over}
 use Rattle.sysv_steps.specs.Resume.{awaited, resume}
 use Rattle.sysv_core.specs.Run.{Leads}
-use Rattle.sysv_core.specs.World.{World, Opening, Invocation, Doing, Happening, Response, Preset, Start, Step, Makes}
+use Rattle.sysv_core.specs.World.{World, Opening, Invocation, Doing, Transition, Response, Preset, Start, Step, Makes}
 use Rattle.sysv_core.specs.World.{actor_at, doing_in, response_in, begun, starting, value_of, Continues}
 use Rattle.sysv_core.specs.World.{StartsAt, StepsAt, StaysWith, opening}
 use Rattle.sysv_core.proofs.Lists.{get_set_same}
@@ -15,32 +15,32 @@ use Rattle.sysv_core.proofs.SoundStays.{does, moved, other}
 use Rattle.sysv_script.specs.declared.names.Operation.{Operation}
 use Rattle.sysv_script.specs.declared.names.Operation.TheVariants.{Get}
 use Rattle.sysv_script.specs.Names.{operation_in, operation_of}
-use Rattle.sysv_script.specs.Scene.{under_way}
+use Rattle.sysv_script.specs.ScriptState.{pending}
 use Rattle.sysv_script.proofs.StepKeepsOperation.{StandsAs, next_as, resumed_as, begin_as_asked, operation_goes}
 
 -- ---- the actors
 
--- The call is under way, in a state of its own operation.
-abbrev pub IsUnderWayAs : Operation → State → Type 0
-IsUnderWayAs operation (Goes phase) = StandsAs operation (Goes phase)
-IsUnderWayAs operation (Waits wait) = StandsAs operation (Waits wait)
-IsUnderWayAs operation (Over ending) = ⊥
+-- The call is pending, in a state of its own operation.
+abbrev pub IsPendingAs : Operation → State → Type 0
+IsPendingAs operation (Goes phase) = StandsAs operation (Goes phase)
+IsPendingAs operation (Waits wait) = StandsAs operation (Waits wait)
+IsPendingAs operation (Over ending) = ⊥
 
 abbrev pub AreOwn : List (Option Doing) → Type 0
 AreOwn actors = (place : ℕ) (d : Doing) → slice_get actors place ≡ Some (Some d) →
-    IsUnderWayAs (operation_of d.call.asked) d.state
+    IsPendingAs (operation_of d.call.asked) d.state
 
 none_at : (n place : ℕ) (d : Doing) → slice_get (replicate n None) place ≡ Some (Some d) → ⊥
 none_at zero place d e = absurd cc
 none_at (suc n) zero d e = absurd cc
 none_at (suc n) (suc place) d e = none_at n place d e
 
-is_under_way : (call : Invocation) (state : State) (d : Doing) → doing_in call state ≡ Some d →
+is_pending : (call : Invocation) (state : State) (d : Doing) → doing_in call state ≡ Some d →
     StandsAs (operation_of call.asked) state →
-    IsUnderWayAs (operation_of call.asked) state
-is_under_way call (Goes phase) d e s = s
-is_under_way call (Waits wait) d e s = s
-is_under_way call (Over ending) d e s = absurd cc
+    IsPendingAs (operation_of call.asked) state
+is_pending call (Goes phase) d e s = s
+is_pending call (Waits wait) d e s = s
+is_pending call (Over ending) d e s = absurd cc
 
 -- An actor's call comes to a state.
 own_set : (actors : List (Option Doing)) (place : ℕ) (was : Option Doing) (call : Invocation) (state : State) →
@@ -52,8 +52,8 @@ own_set actors place was call state there own stands = λ at d here.
           let got : doing_in call state ≡ Some d =
           some_is (sym (get_set_same actors place (doing_in call state) was there)
           ∙ subst (λ n. slice_get (slice_set actors place (doing_in call state)) n ≡ Some (Some d)) (sym same) here) in
-          subst (λ (x : Invocation). IsUnderWayAs (operation_of x.asked) d.state) (sym c)
-          (subst (IsUnderWayAs (operation_of call.asked)) (sym s) (is_under_way call state d got stands))
+          subst (λ (x : Invocation). IsPendingAs (operation_of x.asked) d.state) (sym c)
+          (subst (IsPendingAs (operation_of call.asked)) (sym s) (is_pending call state d got stands))
       | other old ↦ own at d old
     ]
   where
@@ -83,7 +83,7 @@ calls_as call (Goes phase) = refl
 calls_as call (Waits wait) = refl
 calls_as call (Over ending) = tt
 
--- What a happening leaves of an actor and of the calls that end.
+-- What a transition leaves of an actor and of the calls that end.
 pub record Leaves (operation : Operation) (actor : ℕ) (given : List Response) (after : World) : Type 0 where
   pub own : AreOwn after.actors
   pub of : AreOf operation given
@@ -115,7 +115,7 @@ comes actors place was call state given after there own stands g e = record {
 continues : (w after : World) (given : List Response) (place now : ℕ) (call : Invocation) (state : State) →
     AreOwn w.actors →
     slice_get w.actors place ≡ Some (Some record { call = call; state = state }) →
-    IsUnderWayAs (operation_of call.asked) state → Continues w (suc place) now call state given after →
+    IsPendingAs (operation_of call.asked) state → Continues w (suc place) now call state given after →
     Leaves (operation_of call.asked) (suc place) given after
 continues w after given place now call (Goes phase) own there u t =
     comes w.actors place (Some record { call = call; state = Goes phase }) call t.1 given after there own
@@ -148,13 +148,13 @@ step_leaves o w after given actor now own calls (inl worn) = stays o w actor giv
 step_leaves o w after given actor now own calls (inr t) =
     step_at o w after given actor now (actor_at w.actors actor) own refl calls t.1
 
-busy : (o : Operation) (state : State) → IsUnderWayAs o state → operation_in state ≡ None → ⊥
+busy : (o : Operation) (state : State) → IsPendingAs o state → operation_in state ≡ None → ⊥
 busy o (Goes phase) u e = absurd cc
 busy o (Waits wait) u e = absurd cc
 busy o (Over ending) u e = u
 
 idle_at : (actors : List (Option Doing)) (actor : ℕ) (o : Operation) (at : Option (Option Doing)) → AreOwn actors →
-    actor_at actors actor ≡ at → under_way at ≡ None → CallsAs o at
+    actor_at actors actor ≡ at → pending at ≡ None → CallsAs o at
 idle_at actors actor o None own is idle = tt
 idle_at actors actor o (Some None) own is idle = tt
 idle_at actors zero o (Some (Some d)) own is idle = absurd cc
@@ -162,7 +162,7 @@ idle_at actors (suc place) o (Some (Some d)) own is idle =
     absurd (busy (operation_of d.call.asked) d.state (own place d is) idle)
 
 start_at : (w after : World) (given : List Response) (actor : ℕ) (cred : Cred) (asked : SystemCall)
-    (at : Option (Option Doing)) → AreOwn w.actors → actor_at w.actors actor ≡ at → under_way at ≡ None →
+    (at : Option (Option Doing)) → AreOwn w.actors → actor_at w.actors actor ≡ at → pending at ≡ None →
     StartsAt w actor cred asked at given after → Leaves (operation_of asked) actor given after
 start_at w after given actor cred asked None own is idle t =
     stays (operation_of asked) w actor given after own (subst (CallsAs (operation_of asked)) (sym is) tt) t
@@ -174,9 +174,9 @@ start_at w after given (suc place) cred asked (Some None) own is idle t =
 start_at w after given (suc place) cred asked (Some (Some d)) own is idle t =
     absurd (busy (operation_of d.call.asked) d.state (own place d is) idle)
 
--- The start of a call of an actor without a call under way.
+-- The start of a call of an actor without a pending call.
 pub start_leaves : (w after : World) (given : List Response) (actor : ℕ) (cred : Cred) (asked : SystemCall) →
-    AreOwn w.actors → under_way (actor_at w.actors actor) ≡ None → Makes w (Start actor cred asked) given after →
+    AreOwn w.actors → pending (actor_at w.actors actor) ≡ None → Makes w (Start actor cred asked) given after →
     Leaves (operation_of asked) actor given after
 start_leaves w after given actor cred asked own idle (inl worn) =
     stays (operation_of asked) w actor given after own
@@ -187,14 +187,14 @@ start_leaves w after given actor cred asked own idle (inr t) =
 one_operation : (o p : Operation) → Some o ≡ Some p → o ≡ p
 one_operation o p e = cc
 
-calls_in : (o operation : Operation) (state : State) → IsUnderWayAs o state → operation_in state ≡ Some operation →
+calls_in : (o operation : Operation) (state : State) → IsPendingAs o state → operation_in state ≡ Some operation →
     o ≡ operation
 calls_in o operation (Goes phase) u e = sym (operation_goes o phase u) ∙ one_operation _ operation e
 calls_in o operation (Waits wait) u e = sym u ∙ one_operation _ operation e
 calls_in o operation (Over ending) u e = absurd u
 
 calls_at : (actors : List (Option Doing)) (actor : ℕ) (o : Operation) (at : Option (Option Doing)) → AreOwn actors →
-    actor_at actors actor ≡ at → under_way at ≡ Some o → CallsAs o at
+    actor_at actors actor ≡ at → pending at ≡ Some o → CallsAs o at
 calls_at actors actor o None own is e = tt
 calls_at actors actor o (Some None) own is e = tt
 calls_at actors zero o (Some (Some d)) own is e = absurd cc
@@ -202,9 +202,9 @@ calls_at actors (suc place) o (Some (Some d)) own is e =
     calls_in (operation_of d.call.asked) o d.state (own place d is) e
 
 -- The actor is in a call of the operation that its state tells.
-pub calls_under_way : (actors : List (Option Doing)) (actor : ℕ) (o : Operation) → AreOwn actors →
-    under_way (actor_at actors actor) ≡ Some o → CallsAs o (actor_at actors actor)
-calls_under_way actors actor o own e = calls_at actors actor o (actor_at actors actor) own refl e
+pub calls_pending : (actors : List (Option Doing)) (actor : ℕ) (o : Operation) → AreOwn actors →
+    pending (actor_at actors actor) ≡ Some o → CallsAs o (actor_at actors actor)
+calls_pending actors actor o own e = calls_at actors actor o (actor_at actors actor) own refl e
 
 -- ---- the worlds of runs
 
@@ -230,7 +230,7 @@ own_start w after given actor cred asked (Some None) own is t =
     (start_at w after given actor cred asked (Some None) own is refl t).own
 own_start w after given actor cred asked (Some (Some d)) own is t = own_same w after own t.1
 
-own_makes : (w after : World) (x : Happening) (given : List Response) → AreOwn w.actors → Makes w x given after →
+own_makes : (w after : World) (x : Transition) (given : List Response) → AreOwn w.actors → Makes w x given after →
     AreOwn after.actors
 own_makes w after Preset given own (none, (made, inl p)) = subst (λ (x : World). AreOwn x.actors) (sym p.2) own
 own_makes w after Preset given own (none, (made, inr p)) = own_same w after own p.2
@@ -241,7 +241,7 @@ own_makes w after (Step actor now) given own t =
     let at = actor_at w.actors actor in
     (step_leaves (operation_here at) w after given actor now own (calls_here at) t).own
 
-pub own_leads : (w : World) (list : List Happening) (given : List Response) (after : World) → AreOwn w.actors →
+pub own_leads : (w : World) (list : List Transition) (given : List Response) (after : World) → AreOwn w.actors →
     Leads w list given after → AreOwn after.actors
 own_leads w [] given after own l = own_same w after own l.1
 own_leads w (x ∷ list) given after own l = own_leads l.0 list l.2 after (own_makes w l.0 x l.1 own l.3) l.4

@@ -1,4 +1,4 @@
--- The position of the actor's call that the stage's world reports is that in the scene.
+-- The position of the actor's call that the stage's world reports is that in the script state.
 use Rattle.std.proofs.Common.{◌≡◌, ℕ, zero, suc, List, [], ◌∷◌, ◌++◌, Option, Some, None, option_map, map, slice_get}
 use Rattle.std.proofs.Common.{refl, sym, ap, subst, ◌∙◌}
 use Rattle.std.proofs.lemmas.Option.{slice_get-map}
@@ -12,7 +12,7 @@ use Rattle.sysv_script.specs.Names.{operation_in, standing_text}
 use Rattle.sysv_script.specs.declared.head.Head.{Head}
 use Rattle.sysv_script.specs.declared.head.Head.TheVariants as head
 use Rattle.sysv_script.specs.declared.names.Operation.{Operation}
-use Rattle.sysv_script.specs.Scene.{under_way, standing_line}
+use Rattle.sysv_script.specs.ScriptState.{pending, standing_line}
 
 seen_at : (actors : List (Option Doing)) (states : List (Option State)) (actor : ℕ) → map state_in actors ≡ states →
     state_at states actor ≡ option_map state_in (actor_at actors actor)
@@ -46,7 +46,7 @@ going_line actor (Some (Some d)) told line stands says =
 
 pub going_way : (o : Option (Option Doing)) (told : DoingKept) (operation : Operation) →
     StandsThere (option_map state_in o) told →
-    operation_in (doing_state told) ≡ Some operation → Some operation ≡ under_way o
+    operation_in (doing_state told) ≡ Some operation → Some operation ≡ pending o
 going_way None told operation stands says = absurd stands
 going_way (Some None) told operation stands says = absurd stands
 going_way (Some (Some d)) told operation stands says = sym says ∙ sym (ap operation_in stands)

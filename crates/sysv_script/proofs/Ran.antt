@@ -5,9 +5,9 @@ use Rattle.std.specs.Prelude.{Result, Ok, Err, IfOk}
 use Rattle.sysv_model.specs.declared.no_memory.NoMemory.{NoMemory}
 use Rattle.sysv_script.specs.Said.{Said}
 use Rattle.sysv_script.specs.Lines.{Says}
-use Rattle.sysv_script.specs.Scene.{Scene, LineRuns}
+use Rattle.sysv_script.specs.ScriptState.{ScriptState, LineRuns}
 use Rattle.sysv_script.specs.ScriptSofar.{LineEnds}
-use Rattle.sysv_script.specs.Staged.{IsSceneOf}
+use Rattle.sysv_script.specs.Staged.{IsScriptStateOf}
 use Rattle.sysv_script.specs.declared.stage.Stage.{Stage}
 
 none_behind : (before out : List ℕ) → before ++ out ≡ before → out ≡ []
@@ -19,13 +19,13 @@ none_behind before (x ∷ out) e =
 pub ran : (line : List ℕ) (said : Said) (r : Result Bool NoMemory) (old new : Stage) (before now : List ℕ) →
     Says line said →
     IfOk r (λ understood.
-    (s : Scene) → IsSceneOf s old →
-    (after : Scene) × (out : List ℕ) × LineRuns s said understood out after × IsSceneOf after new
+    (s : ScriptState) → IsScriptStateOf s old →
+    (after : ScriptState) × (out : List ℕ) × LineRuns s said understood out after × IsScriptStateOf after new
     × (now ≡ before ++ out)) →
     IfOk r (λ understood. understood ≡ false → now ≡ before) →
     IfOk r (λ understood.
-    (s : Scene) → IsSceneOf s old →
-    (after : Scene) × (out : List ℕ) × LineEnds s line understood out after × IsSceneOf after new
+    (s : ScriptState) → IsScriptStateOf s old →
+    (after : ScriptState) × (out : List ℕ) × LineEnds s line understood out after × IsScriptStateOf after new
     × (now ≡ before ++ out))
 ran line said (Err e) old new before now says runs quiet = tt
 ran line said (Ok true) old new before now says runs quiet = λ s seen.

@@ -5,12 +5,13 @@ use Rattle.sysv_steps.specs.Call.{SystemCall, Msgget, Msgsnd, Msgrcv, MsgctlStat
 use Rattle.sysv_steps.specs.Asked.{asked_of}
 use Rattle.sysv_core.specs.Run.{Leads}
 use Rattle.sysv_core.specs.Seen.{Gives, Tells}
-use Rattle.sysv_core.specs.World.{World, Happening, Response, Doing, Start, Step, Makes, actor_at}
+use Rattle.sysv_core.specs.World.{World, Transition, Response, Doing, Start, Step, Makes, actor_at}
 use Rattle.sysv_core.specs.declared.event.Stepped.{Stepped}
 use Rattle.sysv_core.specs.declared.event.Stepped.TheVariants as stepped
 use Rattle.sysv_script.specs.declared.names.Operation.{Operation}
 use Rattle.sysv_script.specs.Names.{operation_of}
-use Rattle.sysv_script.specs.Scene.{Scene, GoesOn, CallRuns, call_for, most_steps, printed, standing_line, under_way}
+use Rattle.sysv_script.specs.ScriptState.{ScriptState, GoesOn, CallRuns, call_for, most_steps, printed, standing_line}
+use Rattle.sysv_script.specs.ScriptState.{pending}
 use Rattle.sysv_script.specs.Results.{IsResultOf, IsWithoutResult, HasResults, Empty, Result, Without, LeadsPrinting}
 use Rattle.sysv_script.proofs.OwnOperation.{AreOwn, AreOf, CallsAs, step_leaves, start_leaves}
 
@@ -26,7 +27,7 @@ results_append given more out rest (Without left line tail is a) b =
     subst (HasResults (left ++ more)) (sym (append_assoc line tail rest))
     (Without (left ++ more) line (tail ++ rest) is (results_append left more tail rest a b))
 
-pub leads_append : (w : World) (xs ys : List Happening) (given more : List Response) (mid after : World) →
+pub leads_append : (w : World) (xs ys : List Transition) (given more : List Response) (mid after : World) →
     Leads w xs given mid → Leads mid ys more after → Leads w (xs ++ ys) (given ++ more) after
 leads_append w [] ys given more mid after l k =
     subst (λ gs. Leads w ys (gs ++ more) after) (sym l.0) (subst (λ (v : World). Leads v ys more after) l.1 k)
@@ -52,7 +53,7 @@ print_both w out rest mid after a b = (
 pub rests : (w after : World) → after ≡ w → LeadsPrinting w [] after
 rests w after e = ([], [], (refl, e), Empty)
 
-pub one_makes : (w after : World) (x : Happening) (given : List Response) → Makes w x given after →
+pub one_makes : (w after : World) (x : Transition) (given : List Response) → Makes w x given after →
     Leads w (x ∷ []) given after
 one_makes w after x given m = (after, given, [], m, (refl, refl), sym (append-nil given))
 
@@ -102,14 +103,14 @@ ends_as o w given (stepped.Answer answer) of g =
 
 -- The steps lead to another world, in which each actor is again in a state of its own call.
 pub record StepsTo (o : Operation) (w : World) (result : Stepped) (after : World) : Type 0 where
-  pub list : List Happening
+  pub list : List Transition
   pub given : List Response
   pub leads : Leads w list given after
   pub ends : EndsAs o given result
   pub own : AreOwn after.actors
 
 -- After an event without a result.
-goes_further : (o : Operation) (w mid after : World) (x : Happening) (given : List Response) (result : Stepped) →
+goes_further : (o : Operation) (w mid after : World) (x : Transition) (given : List Response) (result : Stepped) →
     Makes w x given mid → given ≡ [] → StepsTo o mid result after → StepsTo o w result after
 goes_further o w mid after x given result makes none s = record {
   list = x ∷ s.list;
@@ -119,18 +120,20 @@ goes_further o w mid after x given result makes none s = record {
   own = s.own;
 }
 
-stops : (o : Operation) (w : World) (mid after : Scene) (x : Happening) (given : List Response)
+stops : (o : Operation) (w : World) (mid after : ScriptState) (x : Transition) (given : List Response)
     (first result : Stepped) →
     AreOwn mid.world.actors → Makes w x given mid.world → EndsAs o given first → result ≡ first → after ≡ mid →
     StepsTo o w result after.world
 stops o w mid after x given first result own makes ends r a =
-    subst (λ (y : Scene). StepsTo o w result y.world) (sym a)
+    subst (λ (y : ScriptState). StepsTo o w result y.world) (sym a)
     (subst (λ r. StepsTo o w r mid.world) (sym r)
     (record { list = x ∷ []; given = given; leads = one_makes w mid.world x given makes; ends = ends; own = own }))
 
 -- After an event with this result the call makes more steps.
-after_event : (n : ℕ) (o : Operation) (w : World) (mid : Scene) (actor : ℕ) (x : Happening) (given : List Response)
-    (first result : Stepped) (after : Scene) → AreOwn mid.world.actors → CallsAs o (actor_at mid.world.actors actor) →
+after_event : (n : ℕ) (o : Operation) (w : World) (mid : ScriptState) (actor : ℕ) (x : Transition)
+    (given : List Response)
+    (first result : Stepped) (after : ScriptState) → AreOwn mid.world.actors →
+    CallsAs o (actor_at mid.world.actors actor) →
     Makes w x given mid.world → EndsAs o given first → GoesOn n mid actor first result after →
     StepsTo o w result after.world
 after_event zero o w mid actor x given stepped.Nothing result after own calls makes ends g =
@@ -151,11 +154,11 @@ after_event (suc n) o w mid actor x given stepped.Nothing result after own calls
     (ends_as o mid.world steps.0 g.1 left.of steps.2) g.3)
 
 -- The call of the actor makes at most this many steps.
-pub goes_on_to : (n : ℕ) (o : Operation) (s : Scene) (actor : ℕ) (result : Stepped) (after : Scene) →
+pub goes_on_to : (n : ℕ) (o : Operation) (s : ScriptState) (actor : ℕ) (result : Stepped) (after : ScriptState) →
     AreOwn s.world.actors → CallsAs o (actor_at s.world.actors actor) → GoesOn n s actor stepped.Nothing result after →
     StepsTo o s.world result after.world
 goes_on_to zero o s actor result after own calls g =
-    subst (λ (y : Scene). StepsTo o s.world result y.world) (sym g.1)
+    subst (λ (y : ScriptState). StepsTo o s.world result y.world) (sym g.1)
     (subst (λ r. StepsTo o s.world r s.world) (sym g.0)
     (record { list = []; given = []; leads = (refl, refl); ends = refl; own = own }))
 goes_on_to (suc n) o s actor result after own calls g =
@@ -173,8 +176,9 @@ asked_for (MsgctlSet id to) = refl
 asked_for (MsgctlRmid id) = refl
 
 -- A call is started, and makes its first steps.
-pub call_runs_to : (s : Scene) (actor : ℕ) (asked : SystemCall) (goes : Bool) (result : Stepped) (after : Scene) →
-    AreOwn s.world.actors → under_way (actor_at s.world.actors actor) ≡ None →
+pub call_runs_to : (s : ScriptState) (actor : ℕ) (asked : SystemCall) (goes : Bool) (result : Stepped)
+    (after : ScriptState) →
+    AreOwn s.world.actors → pending (actor_at s.world.actors actor) ≡ None →
     CallRuns s actor asked goes result after →
     StepsTo (operation_of asked) s.world result after.world
 call_runs_to s actor asked goes result after own idle r =

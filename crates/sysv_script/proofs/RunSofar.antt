@@ -1,4 +1,4 @@
--- The run of a script under way: what was written and composed so far, and what the rest of the
+-- The run of a pending script: what was written and composed so far, and what the rest of the
 -- text adds to it.
 use Rattle.std.proofs.Common.{◌≡◌, ◌+◌, ◌<◌, ◌≤◌, ℕ, suc, Bool, true, false, List, [], ◌∷◌, ◌++◌, Option, Some, None}
 use Rattle.std.proofs.Common.{length, length-append, take, drop, refl, sym, ap, subst, ◌∙◌, append_assoc, append-nil}
@@ -8,9 +8,9 @@ use Rattle.std.proofs.lemmas.List.{take-append-drop}
 use Rattle.std.proofs.lemmas.Option.{slice_get_within, get_or_from_slice_get}
 use Rattle.std.specs.Io.KnownBytes.{Appends, Consumes, IsAtEnd}
 use Rattle.std.proofs.KnownBytes.{Appends-nil, Appends-trans}
-use Rattle.sysv_script.specs.Scene.{Scene}
+use Rattle.sysv_script.specs.ScriptState.{ScriptState}
 use Rattle.sysv_script.specs.declared.stage.Stage.{Stage}
-use Rattle.sysv_script.specs.Staged.{IsSceneOf}
+use Rattle.sysv_script.specs.Staged.{IsScriptStateOf}
 use Rattle.std.proofs.lemmas.List.Elements.{Contains-append_cases}
 use Rattle.sysv_words.specs.Words.{SplitsAt}
 use Rattle.sysv_words.specs.OneSplit.{OneSplit}
@@ -27,8 +27,9 @@ use Rattle.sysv_script.specs.ScriptSofar.{Halt, AtEnd, Before, Runs, IsText, Run
 use Rattle.sysv_script.specs.ScriptSofar.{LeavesRead}
 use Rattle.sysv_script.specs.declared.line_reader.Found.{Found}
 
-pub begins_text : (s : Scene) (now : Stage) (text waiting : List ℕ) (left old : Option (List ℕ)) (composed : List ℕ) →
-    composed ≡ [] → IsSceneOf s now → IsText waiting left text →
+pub begins_text : (s : ScriptState) (now : Stage) (text waiting : List ℕ) (left old : Option (List ℕ))
+    (composed : List ℕ) →
+    composed ≡ [] → IsScriptStateOf s now → IsText waiting left text →
     RunsOn s text old 1 now waiting left old composed
 begins_text s now text waiting left old composed none seen t = record {
   mid = s;
@@ -52,7 +53,7 @@ text_taken waiting more text left rest taken t =
     let found = text_behind waiting read t.0 rest (subst (λ l. Consumes l rest read) t.1 taken.2) in
     (found.0, found.1, t.2 ∙ found.2 ∙ ap (λ l. l ++ found.0) (sym taken.1))
 
-pub takes_more : (s : Scene) (text : List ℕ) (old : Option (List ℕ)) (n : ℕ) (now : Stage) (waiting more : List ℕ)
+pub takes_more : (s : ScriptState) (text : List ℕ) (old : Option (List ℕ)) (n : ℕ) (now : Stage) (waiting more : List ℕ)
     (left rest new : Option (List ℕ)) (composed : List ℕ) →
     TakesIn left waiting rest more → RunsOn s text old n now waiting left new composed →
     RunsOn s text old n now more rest new composed
@@ -67,7 +68,7 @@ takes_more s text old n now waiting more left rest new composed taken on =
       prints = on.prints;
     }
 
-pub hands_more : (s : Scene) (text : List ℕ) (old : Option (List ℕ)) (n : ℕ) (now : Stage) (waiting : List ℕ)
+pub hands_more : (s : ScriptState) (text : List ℕ) (old : Option (List ℕ)) (n : ℕ) (now : Stage) (waiting : List ℕ)
     (left new newer : Option (List ℕ)) (composed fewer : List ℕ) →
     HandsOn new composed newer fewer → RunsOn s text old n now waiting left new composed →
     RunsOn s text old n now waiting left newer fewer
@@ -85,7 +86,7 @@ hands_more s text old n now waiting left new newer composed fewer given on =
       prints = λ more halt p. subst (λ l. Runs s 1 text (l ++ more) halt) same (on.prints more halt p);
     }
 
-pub hands_all : (s : Scene) (text : List ℕ) (old : Option (List ℕ)) (n : ℕ) (now : Stage) (waiting : List ℕ)
+pub hands_all : (s : ScriptState) (text : List ℕ) (old : Option (List ℕ)) (n : ℕ) (now : Stage) (waiting : List ℕ)
     (left new newer : Option (List ℕ)) (composed none : List ℕ) →
     Appends new newer composed → none ≡ [] → RunsOn s text old n now waiting left new composed →
     RunsOn s text old n now waiting left newer none
@@ -118,7 +119,8 @@ joined_more handed composed out more =
     sym (append_assoc (handed ++ composed) out more) ∙ ap (λ l. l ++ more) (append_assoc handed composed out)
 
 -- A run passes over a line that does something.
-past_line : (s : Scene) (n : ℕ) (text line rest out : List ℕ) (after : Scene) (more : List ℕ) (halt : Halt) →
+past_line : (s : ScriptState) (n : ℕ) (text line rest out : List ℕ) (after : ScriptState) (more : List ℕ)
+    (halt : Halt) →
     n ≤ 1000000 → BeginsWith text line rest → LineDoes s line out after →
     Runs after (n + 1) rest more halt → Runs s n text (out ++ more) halt
 past_line s n text line rest out after more (AtEnd ending) few begins does p =
@@ -126,11 +128,12 @@ past_line s n text line rest out after more (AtEnd ending) few begins does p =
 past_line s n text line rest out after more (Before left there) few begins does p =
     Past s n text line rest out after more left there few begins does p
 
-pub runs_line : (s : Scene) (text : List ℕ) (old : Option (List ℕ)) (n : ℕ) (now then : Stage) (waiting behind : List ℕ)
+pub runs_line : (s : ScriptState) (text : List ℕ) (old : Option (List ℕ)) (n : ℕ) (now then : Stage)
+    (waiting behind : List ℕ)
     (left new : Option (List ℕ)) (composed told : List ℕ) (len : ℕ) →
     n ≤ 1000000 → IsFirstLine len waiting → behind ≡ drop (len + 1) waiting →
-    ((m : Scene) → IsSceneOf m now →
-    (after : Scene) × (out : List ℕ) × LineDoes m (take len waiting) out after × IsSceneOf after then
+    ((m : ScriptState) → IsScriptStateOf m now →
+    (after : ScriptState) × (out : List ℕ) × LineDoes m (take len waiting) out after × IsScriptStateOf after then
     × (told ≡ composed ++ out)) →
     RunsOn s text old n now waiting left new composed → RunsOn s text old (n + 1) then behind left new told
 runs_line s text old n now then waiting behind left new composed told len few first passed does on =
@@ -172,11 +175,11 @@ last_line len waiting text left last end t =
       refl,
     )
 
-pub runs_last : (s : Scene) (text : List ℕ) (old : Option (List ℕ)) (n : ℕ) (now then : Stage) (waiting : List ℕ)
+pub runs_last : (s : ScriptState) (text : List ℕ) (old : Option (List ℕ)) (n : ℕ) (now then : Stage) (waiting : List ℕ)
     (left new : Option (List ℕ)) (composed told : List ℕ) (len : ℕ) →
     n ≤ 1000000 → IsLastLine len waiting left → len ≤ 9000 →
-    ((m : Scene) → IsSceneOf m now →
-    (after : Scene) × (out : List ℕ) × LineDoes m (take len waiting) out after × IsSceneOf after then
+    ((m : ScriptState) → IsScriptStateOf m now →
+    (after : ScriptState) × (out : List ℕ) × LineDoes m (take len waiting) out after × IsScriptStateOf after then
     × (told ≡ composed ++ out)) →
     RunsOn s text old n now waiting left new composed → LeavesAll s text Whole old new told
 runs_last s text old n now then waiting left new composed told len few last short does on =
@@ -190,7 +193,7 @@ runs_last s text old n now then waiting left new composed told len few last shor
     ∙ ap (λ l. on.handed ++ l) (sym d.4) in
     (on.handed ++ told, subst (λ l. Prints s 1 text l Whole) same printed, (on.handed, on.grown, refl))
 
-pub ends_text : (s : Scene) (text : List ℕ) (old : Option (List ℕ)) (n : ℕ) (now : Stage) (waiting : List ℕ)
+pub ends_text : (s : ScriptState) (text : List ℕ) (old : Option (List ℕ)) (n : ℕ) (now : Stage) (waiting : List ℕ)
     (left new : Option (List ℕ)) (composed : List ℕ) →
     HasNoLine waiting left → RunsOn s text old n now waiting left new composed → LeavesAll s text Whole old new composed
 ends_text s text old n now waiting left new composed none on =
@@ -201,7 +204,7 @@ ends_text s text old n now waiting left new composed none on =
       (on.handed, on.grown, refl),
     )
 
-stops_here : (s : Scene) (text : List ℕ) (old : Option (List ℕ)) (n : ℕ) (now : Stage) (waiting : List ℕ)
+stops_here : (s : ScriptState) (text : List ℕ) (old : Option (List ℕ)) (n : ℕ) (now : Stage) (waiting : List ℕ)
     (left new : Option (List ℕ)) (composed : List ℕ) →
     (on : RunsOn s text old n now waiting left new composed) →
     PrintsSofar s 1 text (on.handed ++ composed) on.rest on.mid
@@ -209,7 +212,7 @@ stops_here s text old n now waiting left new composed on =
     subst (λ out. PrintsSofar s 1 text out on.rest on.mid) (append-nil (on.handed ++ composed))
     (on.prints [] (Before on.rest on.mid) (Here on.mid n on.rest))
 
-pub stops_part : (s : Scene) (text : List ℕ) (old : Option (List ℕ)) (n : ℕ) (now : Stage) (waiting : List ℕ)
+pub stops_part : (s : ScriptState) (text : List ℕ) (old : Option (List ℕ)) (n : ℕ) (now : Stage) (waiting : List ℕ)
     (left new newer : Option (List ℕ)) (composed none : List ℕ) →
     AppendsPrefix new newer composed → none ≡ [] → RunsOn s text old n now waiting left new composed →
     LeavesPrefix s text old newer none
@@ -228,7 +231,7 @@ stops_part s text old n now waiting left new newer composed none part e on =
       ),
     )
 
-pub stops_front : (s : Scene) (text : List ℕ) (old : Option (List ℕ)) (n : ℕ) (now : Stage) (waiting : List ℕ)
+pub stops_front : (s : ScriptState) (text : List ℕ) (old : Option (List ℕ)) (n : ℕ) (now : Stage) (waiting : List ℕ)
     (left new : Option (List ℕ)) (composed fewer : List ℕ) →
     IsPrefixOf fewer composed → RunsOn s text old n now waiting left new composed → LeavesPrefix s text old new fewer
 stops_front s text old n now waiting left new composed fewer front on = (
@@ -240,7 +243,7 @@ stops_front s text old n now waiting left new composed fewer front on = (
 )
 
 -- All was written, and the reader failed before the end of the next line.
-pub stops_read : (s : Scene) (text : List ℕ) (old : Option (List ℕ)) (n : ℕ) (now : Stage) (waiting : List ℕ)
+pub stops_read : (s : ScriptState) (text : List ℕ) (old : Option (List ℕ)) (n : ℕ) (now : Stage) (waiting : List ℕ)
     (left new newer : Option (List ℕ)) (composed none : List ℕ) →
     HasNoEnd waiting → Appends new newer composed → none ≡ [] → RunsOn s text old n now waiting left new composed →
     LeavesRead s text old newer none left
@@ -259,7 +262,8 @@ pub no_end_in_none : (old new : List ℕ) → length old ≤ 0 → new ≡ old �
 no_end_in_none old new none same = λ has. omega (arith, none, ap length same, has.1)
 
 -- A line that is too long is bad as soon as that is known, whatever follows.
-overruns : OneSplit → (m : Scene) (n : ℕ) (front rest : List ℕ) → n ≤ 1000000 → 9000 < length front → HasNoEnd front →
+overruns : OneSplit → (m : ScriptState) (n : ℕ) (front rest : List ℕ) → n ≤ 1000000 → 9000 < length front →
+    HasNoEnd front →
     Prints m n (front ++ rest) (bad_line_text n) (BadLine n)
 overruns split m n front rest few long endless = elim (split.either 10 rest) [
   | inl found ↦
@@ -284,7 +288,7 @@ overruns split m n front rest few long endless = elim (split.either 10 rest) [
       (inl (λ said says. omega (arith, long, more, says.0)))
 ]
 
-bad_printed : OneSplit → (n len : ℕ) (m : Scene) (waiting rest : List ℕ) (left : Option (List ℕ)) (found : Found)
+bad_printed : OneSplit → (n len : ℕ) (m : ScriptState) (waiting rest : List ℕ) (left : Option (List ℕ)) (found : Found)
     (last : Bool) → found.is_last ≡ last → n ≤ 1000000 → IsNextLine found waiting left →
     IsBad m (take found.len waiting) → IsText waiting left rest → Prints m n rest (bad_line_text n) (BadLine n)
 bad_printed split n len m waiting rest left found false e few next bad t =
@@ -300,9 +304,10 @@ bad_printed split n len m waiting rest left found true e few next bad t =
     ]
 
 pub fails_at : OneSplit →
-    (s : Scene) (text : List ℕ) (old : Option (List ℕ)) (n : ℕ) (now : Stage) (waiting : List ℕ)
+    (s : ScriptState) (text : List ℕ) (old : Option (List ℕ)) (n : ℕ) (now : Stage) (waiting : List ℕ)
     (left new : Option (List ℕ)) (composed told : List ℕ) (found : Found) →
-    n ≤ 1000000 → IsNextLine found waiting left → ((m : Scene) → IsSceneOf m now → IsBad m (take found.len waiting)) →
+    n ≤ 1000000 → IsNextLine found waiting left →
+    ((m : ScriptState) → IsScriptStateOf m now → IsBad m (take found.len waiting)) →
     told ≡ composed ++ bad_line_text n →
     RunsOn s text old n now waiting left new composed → LeavesAll s text (BadLine n) old new told
 fails_at split s text old n now waiting left new composed told found few next bad e on =
@@ -313,7 +318,7 @@ fails_at split s text old n now waiting left new composed told found few next ba
     append_assoc on.handed composed (bad_line_text n) ∙ ap (λ l. on.handed ++ l) (sym e) in
     (on.handed ++ told, subst (λ l. Prints s 1 text l (BadLine n)) same printed, (on.handed, on.grown, refl))
 
-pub exceeds_at : (s : Scene) (text : List ℕ) (old : Option (List ℕ)) (n : ℕ) (now : Stage) (waiting : List ℕ)
+pub exceeds_at : (s : ScriptState) (text : List ℕ) (old : Option (List ℕ)) (n : ℕ) (now : Stage) (waiting : List ℕ)
     (left new : Option (List ℕ)) (composed : List ℕ) →
     1000000 < n → 0 < length waiting → RunsOn s text old n now waiting left new composed →
     LeavesAll s text TooMany old new composed

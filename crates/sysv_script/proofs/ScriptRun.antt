@@ -12,14 +12,15 @@ use Rattle.sysv_script.specs.Said.{AllContinue, GivesBlocks}
 use Rattle.sysv_script.specs.Names.{operation_of}
 use Rattle.sysv_script.specs.declared.actor.TheConstants.{SCRIPT_ACTORS}
 use Rattle.sysv_script.specs.declared.names.Operation.{Operation}
-use Rattle.sysv_script.specs.Scene.{Scene, in_world, begun_scene, opening_scene, opening_world, LineActs}
-use Rattle.sysv_script.specs.Scene.{GoesOn, CallRuns, StartRuns, StepsRun, OneRuns, AllRun, LineRuns, under_way}
-use Rattle.sysv_script.specs.Scene.{most_steps}
+use Rattle.sysv_script.specs.ScriptState.{ScriptState, in_world, begun_script_state, opening_script_state}
+use Rattle.sysv_script.specs.ScriptState.{opening_world, LineActs}
+use Rattle.sysv_script.specs.ScriptState.{GoesOn, CallRuns, StartRuns, StepsRun, OneRuns, AllRun, LineRuns, pending}
+use Rattle.sysv_script.specs.ScriptState.{most_steps}
 use Rattle.sysv_script.specs.ScriptText.{Ending, Prints, Ends, Exceeds, Fails, Goes}
 use Rattle.sysv_script.specs.Sofar.{PrintsSofar, Here, Past}
 use Rattle.sysv_script.specs.Results.{HasResults, Empty, LeadsPrinting, IsOfRunPrinting}
 use Rattle.sysv_script.specs.ScriptRun.{IsOfRun, FollowsPrinting, last_text, EachScriptIsARun}
-use Rattle.sysv_script.proofs.OwnOperation.{AreOwn, own_leads, own_opening, calls_under_way}
+use Rattle.sysv_script.proofs.OwnOperation.{AreOwn, own_leads, own_opening, calls_pending}
 use Rattle.sysv_script.proofs.ResultsPrinted.{leads_append, print_both, rests, one_makes, without_result, goes_on_to}
 use Rattle.sysv_script.proofs.ResultsPrinted.{call_runs_to, steps_print}
 
@@ -35,162 +36,173 @@ run_on w out after run l =
 
 -- ---- what a line does
 
--- What a line that is not skipped does to a scene: whether all were skipped stays as it is.
-abbrev Does : Scene → List ℕ → Scene → Type 0
+-- What a line that is not skipped does to a script state: whether all were skipped stays as it is.
+abbrev Does : ScriptState → List ℕ → ScriptState → Type 0
 Does s out a = (a.fresh ≡ s.fresh) × LeadsPrinting s.world out a.world
 
--- The scene is another, and nothing was printed.
-unchanged : (s a : Scene) (out : List ℕ) → out ≡ [] → a ≡ s → Does s out a
+-- The script state is another, and nothing was printed.
+unchanged : (s a : ScriptState) (out : List ℕ) → out ≡ [] → a ≡ s → Does s out a
 unchanged s a out o e = (
-  ap (λ (m : Scene). m.fresh) e,
-  subst (λ out. LeadsPrinting s.world out a.world) (sym o) (rests s.world a.world (ap (λ (m : Scene). m.world) e)),
+  ap (λ (m : ScriptState). m.fresh) e,
+  subst (λ out. LeadsPrinting s.world out a.world) (sym o)
+      (rests s.world a.world (ap (λ (m : ScriptState). m.world) e)),
 )
 
--- The scene is as it was, and a line without a result was printed.
-told : (s a : Scene) (out line : List ℕ) → HasResults [] line → out ≡ line → a ≡ s → Does s out a
+-- The script state is as it was, and a line without a result was printed.
+told : (s a : ScriptState) (out line : List ℕ) → HasResults [] line → out ≡ line → a ≡ s → Does s out a
 told s a out line has o e = (
-  ap (λ (m : Scene). m.fresh) e,
-  ([], [], (refl, ap (λ (m : Scene). m.world) e), subst (HasResults []) (sym o) has),
+  ap (λ (m : ScriptState). m.fresh) e,
+  ([], [], (refl, ap (λ (m : ScriptState). m.world) e), subst (HasResults []) (sym o) has),
 )
 
-goes_on_fresh : (n : ℕ) (s : Scene) (actor : ℕ) (first given : Stepped) (a : Scene) → GoesOn n s actor first given a →
+goes_on_fresh : (n : ℕ) (s : ScriptState) (actor : ℕ) (first given : Stepped) (a : ScriptState) →
+    GoesOn n s actor first given a →
     a.fresh ≡ s.fresh
-goes_on_fresh zero s actor stepped.Nothing given a h = ap (λ (m : Scene). m.fresh) h.1
-goes_on_fresh zero s actor (stepped.Answer answer) given a h = ap (λ (m : Scene). m.fresh) h.1
-goes_on_fresh zero s actor stepped.Worn given a h = ap (λ (m : Scene). m.fresh) h.1
+goes_on_fresh zero s actor stepped.Nothing given a h = ap (λ (m : ScriptState). m.fresh) h.1
+goes_on_fresh zero s actor (stepped.Answer answer) given a h = ap (λ (m : ScriptState). m.fresh) h.1
+goes_on_fresh zero s actor stepped.Worn given a h = ap (λ (m : ScriptState). m.fresh) h.1
 goes_on_fresh (suc n) s actor stepped.Nothing given a h =
-    goes_on_fresh n h.0 actor h.1 given a h.3 ∙ ap (λ (m : Scene). m.fresh) h.2.1
-goes_on_fresh (suc n) s actor (stepped.Answer answer) given a h = ap (λ (m : Scene). m.fresh) h.1
-goes_on_fresh (suc n) s actor stepped.Worn given a h = ap (λ (m : Scene). m.fresh) h.1
+    goes_on_fresh n h.0 actor h.1 given a h.3 ∙ ap (λ (m : ScriptState). m.fresh) h.2.1
+goes_on_fresh (suc n) s actor (stepped.Answer answer) given a h = ap (λ (m : ScriptState). m.fresh) h.1
+goes_on_fresh (suc n) s actor stepped.Worn given a h = ap (λ (m : ScriptState). m.fresh) h.1
 
-start_does : (s : Scene) (actor : ℕ) (asked : SystemCall) (goes : Bool) (o : Option Operation) (out : List ℕ)
-    (a : Scene) → AreOwn s.world.actors → under_way (actor_at s.world.actors actor) ≡ o →
+start_does : (s : ScriptState) (actor : ℕ) (asked : SystemCall) (goes : Bool) (o : Option Operation) (out : List ℕ)
+    (a : ScriptState) → AreOwn s.world.actors → pending (actor_at s.world.actors actor) ≡ o →
     StartRuns s actor asked goes o out a → Does s out a
 start_does s actor asked goes (Some operation) out a own is h =
     told s a out _ (without_result _ (actor, inr (inl refl))) h.0 h.1
 start_does s actor asked goes None out a own is h =
     let c : CallRuns s actor asked goes h.0 a = h.1 in (
-      goes_on_fresh (most_steps goes) c.0 actor c.1 h.0 a c.3 ∙ ap (λ (m : Scene). m.fresh) c.2.2.1,
+      goes_on_fresh (most_steps goes) c.0 actor c.1 h.0 a c.3 ∙ ap (λ (m : ScriptState). m.fresh) c.2.2.1,
       steps_print (operation_of asked) s.world h.0 actor out a.world (call_runs_to s actor asked goes h.0 a own is c)
           h.2,
     )
 
-steps_do : (n : ℕ) (s : Scene) (actor : ℕ) (o : Option Operation) (out : List ℕ) (a : Scene) → AreOwn s.world.actors →
-    under_way (actor_at s.world.actors actor) ≡ o → StepsRun n s actor o out a → Does s out a
+steps_do : (n : ℕ) (s : ScriptState) (actor : ℕ) (o : Option Operation) (out : List ℕ) (a : ScriptState) →
+    AreOwn s.world.actors →
+    pending (actor_at s.world.actors actor) ≡ o → StepsRun n s actor o out a → Does s out a
 steps_do n s actor None out a own is h = told s a out _ (without_result _ (actor, inr (inr (inl refl)))) h.0 h.1
 steps_do n s actor (Some operation) out a own is h = (
   goes_on_fresh n s actor stepped.Nothing h.0 a h.1,
   steps_print operation s.world h.0 actor out a.world
-      (goes_on_to n operation s actor h.0 a own (calls_under_way s.world.actors actor operation own is) h.1) h.2,
+      (goes_on_to n operation s actor h.0 a own (calls_pending s.world.actors actor operation own is) h.1) h.2,
 )
 
-one_does : (s : Scene) (actor : ℕ) (o : Option Operation) (out : List ℕ) (a : Scene) → AreOwn s.world.actors →
-    under_way (actor_at s.world.actors actor) ≡ o → OneRuns s actor o out a → Does s out a
+one_does : (s : ScriptState) (actor : ℕ) (o : Option Operation) (out : List ℕ) (a : ScriptState) →
+    AreOwn s.world.actors →
+    pending (actor_at s.world.actors actor) ≡ o → OneRuns s actor o out a → Does s out a
 one_does s actor None out a own is h = unchanged s a out h.0 h.1
 one_does s actor (Some operation) out a own is h = steps_do 16 s actor (Some operation) out a own is h
 
-own_after : (s a : Scene) (out : List ℕ) → AreOwn s.world.actors → Does s out a → AreOwn a.world.actors
+own_after : (s a : ScriptState) (out : List ℕ) → AreOwn s.world.actors → Does s out a → AreOwn a.world.actors
 own_after s a out own d = own_leads s.world d.1.0 d.1.1 a.world own d.1.2
 
-all_do : (actors : List ℕ) (s : Scene) (out : List ℕ) (a : Scene) → AreOwn s.world.actors → AllRun actors s out a →
+all_do : (actors : List ℕ) (s : ScriptState) (out : List ℕ) (a : ScriptState) → AreOwn s.world.actors →
+    AllRun actors s out a →
     Does s out a
 all_do [] s out a own h = unchanged s a out h.0 h.1
 all_do (actor ∷ actors) s out a own h =
-    let one = one_does s actor (under_way (actor_at s.world.actors actor)) h.1 h.0 own refl h.3 in
+    let one = one_does s actor (pending (actor_at s.world.actors actor)) h.1 h.0 own refl h.3 in
     let rest = all_do actors h.0 h.2 a (own_after s h.0 h.1 own one) h.4 in (
       rest.0 ∙ one.0,
       subst (λ out. LeadsPrinting s.world out a.world) (sym h.5)
           (print_both s.world h.1 h.2 h.0.world a.world one.1 rest.1),
     )
 
-act_does : (s : Scene) (said : Said) (understood : Bool) (out : List ℕ) (a : Scene) → AreOwn s.world.actors →
+act_does : (s : ScriptState) (said : Said) (understood : Bool) (out : List ℕ) (a : ScriptState) →
+    AreOwn s.world.actors →
     LineActs s said understood out a → Does s out a
 act_does s Nothing understood out a own h = unchanged s a out h.1 h.2
 act_does s (GivesBlocks blocks) understood out a own h = unchanged s a out h.1 h.2
 act_does s MakesPreset understood out a own h = (
-  ap (λ (m : Scene). m.fresh) h.2,
+  ap (λ (m : ScriptState). m.fresh) h.2,
   subst (λ out. LeadsPrinting s.world out a.world) (sym h.1)
       (Preset ∷ [], [], one_makes s.world a.world Preset [] (refl, (understood, h.0)), Empty),
 )
 act_does s (GivesCred actor cred) understood out a own h = (
-  ap (λ (m : Scene). m.fresh) h.2,
-  subst (λ out. LeadsPrinting s.world out a.world) (sym h.1) (rests s.world a.world (ap (λ (m : Scene). m.world) h.2)),
+  ap (λ (m : ScriptState). m.fresh) h.2,
+  subst (λ out. LeadsPrinting s.world out a.world) (sym h.1)
+      (rests s.world a.world (ap (λ (m : ScriptState). m.world) h.2)),
 )
 act_does s (GivesMoment moment) understood out a own h = (
-  ap (λ (m : Scene). m.fresh) h.2,
-  subst (λ out. LeadsPrinting s.world out a.world) (sym h.1) (rests s.world a.world (ap (λ (m : Scene). m.world) h.2)),
+  ap (λ (m : ScriptState). m.fresh) h.2,
+  subst (λ out. LeadsPrinting s.world out a.world) (sym h.1)
+      (rests s.world a.world (ap (λ (m : ScriptState). m.world) h.2)),
 )
 act_does s (Starts actor asked goes) understood out a own h =
-    start_does s actor asked goes (under_way (actor_at s.world.actors actor)) out a own refl h.1
+    start_does s actor asked goes (pending (actor_at s.world.actors actor)) out a own refl h.1
 act_does s (StepsOnce actor) understood out a own h =
-    steps_do 1 s actor (under_way (actor_at s.world.actors actor)) out a own refl h.1
+    steps_do 1 s actor (pending (actor_at s.world.actors actor)) out a own refl h.1
 act_does s (Continues actor) understood out a own h =
-    steps_do 16 s actor (under_way (actor_at s.world.actors actor)) out a own refl h.1
+    steps_do 16 s actor (pending (actor_at s.world.actors actor)) out a own refl h.1
 act_does s AllContinue understood out a own h = all_do (range_with_len 1 16) s out a own h.1
 
 -- ---- a line
 
 -- A line leads on. If every line so far, this one too, was skipped, it printed nothing.
-record Follows (s : Scene) (out : List ℕ) (a : Scene) : Type 0 where
+record Follows (s : ScriptState) (out : List ℕ) (a : ScriptState) : Type 0 where
   printing : FollowsPrinting s out a.world
   skipped : a.fresh ≡ true → (out ≡ []) × (s.fresh ≡ true)
 
 -- A line that is not skipped.
-begun : (s : Scene) (out : List ℕ) (a : Scene) → Does (begun_scene s) out a → Follows s out a
+begun : (s : ScriptState) (out : List ℕ) (a : ScriptState) → Does (begun_script_state s) out a → Follows s out a
 begun s out a d = record {
   printing = inl d.1;
   skipped = λ e. let never : true ≡ false = sym e ∙ d.0 in absurd cc;
 }
 
 -- The size of the pool opens a new world, or comes too late.
-pool_follows : (fresh : Bool) (s : Scene) (blocks : ℕ) (out : List ℕ) (a : Scene) → s.fresh ≡ fresh → out ≡ [] →
-    a ≡ (if fresh then in_world (begun_scene s) (opening_world blocks) else s) → Follows s out a
+pool_follows : (fresh : Bool) (s : ScriptState) (blocks : ℕ) (out : List ℕ) (a : ScriptState) → s.fresh ≡ fresh →
+    out ≡ [] →
+    a ≡ (if fresh then in_world (begun_script_state s) (opening_world blocks) else s) → Follows s out a
 pool_follows true s blocks out a is o e = record {
   printing = inr (
     is,
     (
       blocks,
       subst (λ out. LeadsPrinting (opening_world blocks) out a.world) (sym o)
-          (rests (opening_world blocks) a.world (ap (λ (m : Scene). m.world) e)),
+          (rests (opening_world blocks) a.world (ap (λ (m : ScriptState). m.world) e)),
     ),
   );
-  skipped = λ f. let never : true ≡ false = sym f ∙ ap (λ (m : Scene). m.fresh) e in absurd cc;
+  skipped = λ f. let never : true ≡ false = sym f ∙ ap (λ (m : ScriptState). m.fresh) e in absurd cc;
 }
 pool_follows false s blocks out a is o e = record {
   printing = inl (unchanged s a out o e).1;
-  skipped = λ f. (o, sym (ap (λ (m : Scene). m.fresh) e) ∙ f);
+  skipped = λ f. (o, sym (ap (λ (m : ScriptState). m.fresh) e) ∙ f);
 }
 
-line_follows : (s : Scene) (said : Said) (understood : Bool) (out : List ℕ) (a : Scene) → AreOwn s.world.actors →
+line_follows : (s : ScriptState) (said : Said) (understood : Bool) (out : List ℕ) (a : ScriptState) →
+    AreOwn s.world.actors →
     LineRuns s said understood out a → Follows s out a
 line_follows s Nothing understood out a own h = record {
   printing = inl (unchanged s a out h.1 h.2).1;
-  skipped = λ f. (h.1, sym (ap (λ (m : Scene). m.fresh) h.2) ∙ f);
+  skipped = λ f. (h.1, sym (ap (λ (m : ScriptState). m.fresh) h.2) ∙ f);
 }
 line_follows s (GivesBlocks blocks) understood out a own h = pool_follows s.fresh s blocks out a refl h.0 h.1.1
 line_follows s MakesPreset understood out a own h =
-    begun s out a (act_does (begun_scene s) MakesPreset understood out a own h)
+    begun s out a (act_does (begun_script_state s) MakesPreset understood out a own h)
 line_follows s (GivesCred actor cred) understood out a own h =
-    begun s out a (act_does (begun_scene s) (GivesCred actor cred) understood out a own h)
+    begun s out a (act_does (begun_script_state s) (GivesCred actor cred) understood out a own h)
 line_follows s (GivesMoment moment) understood out a own h =
-    begun s out a (act_does (begun_scene s) (GivesMoment moment) understood out a own h)
+    begun s out a (act_does (begun_script_state s) (GivesMoment moment) understood out a own h)
 line_follows s (Starts actor asked goes) understood out a own h =
-    begun s out a (act_does (begun_scene s) (Starts actor asked goes) understood out a own h)
+    begun s out a (act_does (begun_script_state s) (Starts actor asked goes) understood out a own h)
 line_follows s (StepsOnce actor) understood out a own h =
-    begun s out a (act_does (begun_scene s) (StepsOnce actor) understood out a own h)
+    begun s out a (act_does (begun_script_state s) (StepsOnce actor) understood out a own h)
 line_follows s (Continues actor) understood out a own h =
-    begun s out a (act_does (begun_scene s) (Continues actor) understood out a own h)
+    begun s out a (act_does (begun_script_state s) (Continues actor) understood out a own h)
 line_follows s AllContinue understood out a own h =
-    begun s out a (act_does (begun_scene s) AllContinue understood out a own h)
+    begun s out a (act_does (begun_script_state s) AllContinue understood out a own h)
 
-run_after : (s : Scene) (out : List ℕ) (after : World) → IsOfRun s.world → FollowsPrinting s out after → IsOfRun after
+run_after : (s : ScriptState) (out : List ℕ) (after : World) → IsOfRun s.world → FollowsPrinting s out after →
+    IsOfRun after
 run_after s out after run (inl l) = run_on s.world out after run l
 run_after s out after run (inr l) = run_on (opening_world l.1.0) out after (opens l.1.0) l.1.1
 
 -- ---- a text
 
--- A line, and what follows on the scene that it leaves.
-past : (s : Scene) (out : List ℕ) (mid : Scene) (more : List ℕ) (after : World) → Follows s out mid →
+-- A line, and what follows on the script state that it leaves.
+past : (s : ScriptState) (out : List ℕ) (mid : ScriptState) (more : List ℕ) (after : World) → Follows s out mid →
     FollowsPrinting mid more after → FollowsPrinting s (out ++ more) after
 past s out mid more after f (inr l) =
     let skipped = f.skipped l.0 in
@@ -200,7 +212,8 @@ past s out mid more after f (inl l) = elim f.printing [
   | inr first ↦ inr (first.0, (first.1.0, print_both (opening_world first.1.0) out more mid.world after first.1.1 l))
 ]
 
-text_follows : (s : Scene) (n : ℕ) (text out left : List ℕ) (there : Scene) → PrintsSofar s n text out left there →
+text_follows : (s : ScriptState) (n : ℕ) (text out left : List ℕ) (there : ScriptState) →
+    PrintsSofar s n text out left there →
     IsOfRun s.world → FollowsPrinting s out there.world
 text_follows s n text out left there (Here _ _ _) run = inl (rests s.world s.world refl)
 text_follows s n text out left there (Past _ _ _ line rest first after more _ _ few begins does p) run =
@@ -209,14 +222,14 @@ text_follows s n text out left there (Past _ _ _ line rest first after more _ _ 
     (text_follows after (n + 1) rest more left there p (run_after s first after.world run f.printing))
 
 -- A whole text, but for what it prints last.
-record PrintsUpTo (s : Scene) (n : ℕ) (text out : List ℕ) (ending : Ending) : Type 0 where
+record PrintsUpTo (s : ScriptState) (n : ℕ) (text out : List ℕ) (ending : Ending) : Type 0 where
   told : List ℕ
   left : List ℕ
-  there : Scene
+  there : ScriptState
   whole : out ≡ told ++ last_text ending
   sofar : PrintsSofar s n text told left there
 
-up_to : (s : Scene) (n : ℕ) (text out : List ℕ) (ending : Ending) → Prints s n text out ending →
+up_to : (s : ScriptState) (n : ℕ) (text out : List ℕ) (ending : Ending) → Prints s n text out ending →
     PrintsUpTo s n text out ending
 up_to s n text out ending (Ends _ _) =
     record { told = []; left = []; there = s; whole = refl; sofar = Here s n [] }
@@ -236,15 +249,16 @@ up_to s n text out ending (Goes _ _ _ line rest first after more _ few begins do
 
 -- ---- the law
 
-from_opening : (out : List ℕ) (after : World) → FollowsPrinting opening_scene out after → IsOfRunPrinting out after
+from_opening : (out : List ℕ) (after : World) → FollowsPrinting opening_script_state out after →
+    IsOfRunPrinting out after
 from_opening out after (inl l) = (record { actors = SCRIPT_ACTORS; blocks = 1024; first = 0; generation = 0 }, l)
 from_opening out after (inr l) =
     (record { actors = SCRIPT_ACTORS; blocks = l.1.0; first = 0; generation = 0 }, l.1.1)
 
-sofar_prints : (text out left : List ℕ) (there : Scene) → PrintsSofar opening_scene 1 text out left there →
+sofar_prints : (text out left : List ℕ) (there : ScriptState) → PrintsSofar opening_script_state 1 text out left there →
     IsOfRunPrinting out there.world
 sofar_prints text out left there p =
-    from_opening out there.world (text_follows opening_scene 1 text out left there p (opens 1024))
+    from_opening out there.world (text_follows opening_script_state 1 text out left there p (opens 1024))
 
 pub each_script_is_a_run : EachScriptIsARun
 each_script_is_a_run = record {
@@ -256,6 +270,6 @@ each_script_is_a_run = record {
       let f = text_follows s n text out left there h run in (run_after s out there.world run f, f);
   sofar = λ text out left there h. sofar_prints text out left there h;
   whole = λ text out ending h.
-      let u = up_to opening_scene 1 text out ending h in
+      let u = up_to opening_script_state 1 text out ending h in
       (u.told, u.there.world, u.whole, sofar_prints text u.told u.left u.there u.sofar);
 }

@@ -193,7 +193,7 @@ pub begin_as_asked : (cred : Cred) (asked : SystemCall) (released : ℕ) →
     StandsAs (operation_of asked) (begin cred asked released)
 begin_as_asked cred asked released = begun_by (is_refused asked) cred asked released
 
--- The operation of a call under way is that of its state.
+-- The operation of a pending call is that of its state.
 pub operation_goes : (o : Operation) (phase : Phase) → GoesAs o phase → operation_at phase ≡ o
 operation_goes o (AtSendGiveback blocks afterwards) g = g.0
 operation_goes o phase g = g

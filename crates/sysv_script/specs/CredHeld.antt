@@ -1,9 +1,9 @@
--- Each actor of a scene has credentials: those at its place (this project's script language).
+-- Each actor of a script state has credentials: those at its place (this project's script language).
 use Rattle.std.specs.Prelude.{◌≡◌, ◌-◌, ◌≤◌, ℕ, zero, suc, List, Some, length}
 use Rattle.std.proofs.Common.{get_or, sym, ap, ◌∙◌, arith}
 use Rattle.std.proofs.lemmas.Option.{slice_get-get_or}
 use Rattle.sysv_model.specs.declared.cred.Cred.{Cred}
-use Rattle.sysv_script.specs.Scene.{cred_at}
+use Rattle.sysv_script.specs.ScriptState.{cred_at}
 
 pub cred_held : (creds : List Cred) (actor : ℕ) (d : Cred) → 1 ≤ actor → actor ≤ length creds →
     cred_at creds actor ≡ Some (get_or creds (actor - 1) d)

@@ -1,4 +1,4 @@
--- From the opening scene each text prints something as a whole (this project's script language).
+-- From the opening script state each text prints something as a whole (this project's script language).
 use Rattle.std.specs.Prelude.{ℕ, List}
 use Rattle.sysv_script.specs.ScriptText.{Ending, ScriptPrints}
 

@@ -11,7 +11,7 @@ pub mod Said
 pub mod Lines
 pub mod SaidBy
 pub mod OneLine
-pub mod Scene
+pub mod ScriptState
 pub mod CredHeld
 pub mod Staged
 pub mod Streams

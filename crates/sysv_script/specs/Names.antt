@@ -68,7 +68,7 @@ operation_of_wait (OnFreed goal send) = Send
 operation_of_wait (OnReleased goal send) = Send
 operation_of_wait (OnArrived goal receive) = Receive
 
--- The kind of a call under way, by its state.
+-- The kind of a pending call, by its state.
 abbrev pub operation_in : State → Option Operation
 operation_in (Goes phase) = Some (operation_at phase)
 operation_in (Waits wait) = Some (operation_of_wait wait)

@@ -1,16 +1,16 @@
 -- What a script writes, as a run of its world (this project's script language): its lines lead by a
--- list of happenings to a world that obeys the laws of the headline, and what is written are the
+-- list of transitions to a world that obeys the laws of the headline, and what is written are the
 -- results of that run.
 use Rattle.std.specs.Prelude.{◌≡◌, ℕ, List, ◌++◌, Option, Result, Ok, Err, ⊤}
 use Rattle.std.specs.Io.KnownBytes.{Appends}
 use Rattle.sysv_model.specs.Writing.{AppendsPrefix}
 use Rattle.sysv_core.specs.Headline.{Obeys}
 use Rattle.sysv_core.specs.Run.{Leads}
-use Rattle.sysv_core.specs.World.{World, Opening, Happening, Response, opening}
+use Rattle.sysv_core.specs.World.{World, Opening, Transition, Response, opening}
 use Rattle.sysv_script.specs.declared.fault.ScriptFault.{ScriptFault}
 use Rattle.sysv_script.specs.declared.fault.ScriptFault.TheVariants.{Line, Read, Write, NoMemory, Bound}
 use Rattle.sysv_script.specs.Results.{HasResults}
-use Rattle.sysv_script.specs.Scene.{Scene, opening_scene}
+use Rattle.sysv_script.specs.ScriptState.{ScriptState, opening_script_state}
 use Rattle.sysv_script.specs.ScriptRun.{last_text}
 use Rattle.sysv_script.specs.ScriptText.{Ending, Whole, BadLine, TooMany, ScriptPrints}
 use Rattle.sysv_script.specs.Sofar.{PrintsSofar, IsUnended}
@@ -20,7 +20,7 @@ use Rattle.sysv_script.specs.Written.{WritesScript}
 -- has the results of its calls, and no other results.
 pub record IsOfObeyingRun (out : List ℕ) (w : World) : Type 0 where
   pub opened : Opening
-  pub list : List Happening
+  pub list : List Transition
   pub given : List Response
   pub leads : Leads (opening opened) list given w
   pub obeys : Obeys opened w given
@@ -48,7 +48,7 @@ WritesRunPrefix text old new =
 -- reader returned only a part of one line.
 abbrev pub WritesRunSofar : List ℕ → Option (List ℕ) → Option (List ℕ) → Option (List ℕ) → Type 0
 WritesRunSofar text old new left =
-    (out : List ℕ) × (rest : List ℕ) × (there : Scene) × PrintsSofar opening_scene 1 text out rest there
+    (out : List ℕ) × (rest : List ℕ) × (there : ScriptState) × PrintsSofar opening_script_state 1 text out rest there
     × IsUnended left rest × IsOfObeyingRun out there.world × Appends old new out
 
 -- What the writer took of the results, if the script ended with this fault, with what the reader has

@@ -2,7 +2,7 @@
 -- call that is over, and between these, lines for calls that have no result yet.
 use Rattle.std.specs.Prelude.{◌≡◌, ◌⊎◌, ℕ, List, [], ◌∷◌, ◌++◌, unwrap_or}
 use Rattle.sysv_steps.specs.State.{State}
-use Rattle.sysv_core.specs.World.{World, Opening, Happening, Response, opening}
+use Rattle.sysv_core.specs.World.{World, Opening, Transition, Response, opening}
 use Rattle.sysv_core.specs.Run.{Leads}
 use Rattle.sysv_core.specs.Seen.{Tells}
 use Rattle.sysv_core.specs.declared.event.Answer.{Answer}
@@ -37,7 +37,7 @@ pub data HasResults : List Response → List ℕ → Type 0 where
 -- the way, and no other results.
 abbrev pub LeadsPrinting : World → List ℕ → World → Type 0
 LeadsPrinting w out after =
-    (list : List Happening) × (given : List Response) × Leads w list given after × HasResults given out
+    (list : List Transition) × (given : List Response) × Leads w list given after × HasResults given out
 
 -- A run leads to the world from an opening, and the text has the results of its calls, and no other
 -- results.

@@ -1,6 +1,6 @@
 -- The meanings of the lines of a script (this project's script language): nothing, the size of the
 -- pool, the preset queue, the credentials of an actor's later calls, the time of later steps, a
--- call that an actor starts, or steps of calls under way.
+-- call that an actor starts, or steps of pending calls.
 use Rattle.std.specs.Prelude.{ℕ, Bool}
 use Rattle.sysv_model.specs.declared.cred.Cred.{Cred}
 use Rattle.sysv_steps.specs.Call.{SystemCall}
@@ -18,5 +18,5 @@ pub data Said : Type 0 where
   StepsOnce : (actor : ℕ) → Said
   -- An actor continues its call.
   Continues : (actor : ℕ) → Said
-  -- Each call under way continues.
+  -- Each pending call continues.
   AllContinue : Said

@@ -5,7 +5,7 @@ use Rattle.std.specs.Io.KnownBytes.{Appends}
 use Rattle.sysv_model.specs.Writing.{AppendsPrefix}
 use Rattle.sysv_script.specs.declared.fault.ScriptFault.{ScriptFault}
 use Rattle.sysv_script.specs.declared.fault.ScriptFault.TheVariants.{Line, Read, Write, NoMemory, Bound}
-use Rattle.sysv_script.specs.Scene.{Scene, opening_scene}
+use Rattle.sysv_script.specs.ScriptState.{ScriptState, opening_script_state}
 use Rattle.sysv_script.specs.ScriptText.{Ending, Whole, BadLine, TooMany, ScriptPrints}
 use Rattle.sysv_script.specs.Sofar.{PrintsSofar, IsUnended}
 
@@ -22,7 +22,7 @@ WritesPrefix text old new =
 -- on, the reader returned only a part of one line.
 abbrev pub WritesRead : List ℕ → Option (List ℕ) → Option (List ℕ) → Option (List ℕ) → Type 0
 WritesRead text old new left =
-    (out : List ℕ) × (rest : List ℕ) × (there : Scene) × PrintsSofar opening_scene 1 text out rest there
+    (out : List ℕ) × (rest : List ℕ) × (there : ScriptState) × PrintsSofar opening_script_state 1 text out rest there
     × IsUnended left rest × Appends old new out
 
 -- What the writer took, if the run of the text ended with this fault, with what the reader has left.

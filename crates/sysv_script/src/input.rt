@@ -1,7 +1,7 @@
 //! The bytes of a script that were read and not yet run.
 ghost use Rattle.std.specs.Prelude.{◌≡◌, ◌+◌, ◌<◌, ◌≤◌, [], ◌++◌, length, take, drop, slice_range, vec_len, IfOk, IfErr, OnErr};
 ghost use Rattle.std.specs.Io.KnownBytes.{Consumes, IsAtEnd};
-ghost use Rattle.sysv_model.specs.Watched.{stream_of, KeepsStream};
+ghost use Rattle.sysv_model.specs.Instrumented.{stream_of, KeepsStream};
 ghost use Rattle.sysv_script.specs.Faults.{is_read_fault};
 ghost use Rattle.sysv_script.specs.Streams.{TakesIn};
 ghost use Rattle.sysv_script.specs.declared.input.TheConstants.{INPUT_ROOM};
@@ -11,7 +11,7 @@ use crate::fault::ScriptFault;
 use std::alloc::Global;
 use std::io::Read;
 use std::marker::Model;
-use sysv_model::{NoMemory, Watched};
+use sysv_model::{Instrumented, NoMemory};
 
 /// The capacity of the input in bytes: one line of the maximum length and its LF. So of a line
 /// without an end, at most this many bytes are read.
@@ -91,7 +91,10 @@ impl Input {
     /// # Conditions
     ///
     /// Fewer than `INPUT_ROOM` bytes must be pending.
-    pub fn read_from<R: Read>(&mut self, reader: &mut Watched<'_, R>) -> Result<usize, ScriptFault>
+    pub fn read_from<R: Read>(
+        &mut self,
+        reader: &mut Instrumented<'_, R>,
+    ) -> Result<usize, ScriptFault>
         requires { length self.old < INPUT_ROOM }
         ensures text { TakesIn (R.remaining (stream_of reader.old)) self.old
             (R.remaining (stream_of reader.new)) self.new }

@@ -9,7 +9,7 @@ use crate::{each_line_is_decided, one_saying};
 use sysv_core::{each_world_is_sound, every_run_obeys, one_step, some_step};
 use sysv_words::one_split;
 
-/// States that a text prints one thing only from a scene, which is a world with its actors'
+/// States that a text prints one thing only from a script state, which is a world with its actors'
 /// credentials, and ends in one way, and that what it has printed before a line is a prefix of
 /// that.
 pub fn one_text()
@@ -33,8 +33,8 @@ pub fn each_text_prints()
 }
 
 /// States that the world before and after each line of a script is one to which a run leads from an
-/// opening, so that what is stated of each run is stated of it, and that the lines print the results
-/// of the calls of that run, in their order, and no other results.
+/// opening, so that what is stated of each run is stated of it, and that the lines print the
+/// results of the calls of that run, in their order, and no other results.
 pub fn each_script_is_a_run()
     ensures { EachScriptIsARun }
 {}

@@ -5,8 +5,8 @@
 //! ```rust
 //! let mut script = b"preset\n1 snd 0 5 - =hello\n2 rcv 0 9 0 -\n".as_slice();
 //! let mut printed = Vec::new(rt.alloc());
-//! let mut reader = Watched::new(&mut script);
-//! let mut writer = Watched::new(&mut printed);
+//! let mut reader = Instrumented::new(&mut script);
+//! let mut writer = Instrumented::new(&mut printed);
 //! run_script(rt.alloc(), &mut reader, &mut writer)?;
 //! ```
 #![tactic(auto)]

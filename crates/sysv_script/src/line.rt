@@ -48,7 +48,7 @@ pub enum Line<'a> {
     Go {
         actor: u32,
     },
-    /// `all`: each call under way continues.
+    /// `all`: each pending call continues.
     All,
 }
 

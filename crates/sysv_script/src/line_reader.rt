@@ -1,7 +1,7 @@
 //! Finds the next line of a script, and reads more if its end is not there yet.
 ghost use Rattle.std.specs.Prelude.{ℕ, false, true, ◌≡◌, ◌+◌, ◌<◌, ◌≤◌, [], length, take, MatchOption, IfOk, IfErr, OnOk, OnErr, IfSome};
 ghost use Rattle.std.specs.Io.KnownBytes.{Appends, IsAtEnd};
-ghost use Rattle.sysv_model.specs.Watched.{stream_of, KeepsStream};
+ghost use Rattle.sysv_model.specs.Instrumented.{stream_of, KeepsStream};
 ghost use Rattle.sysv_model.specs.Writing.{AppendsPrefix};
 ghost use Rattle.sysv_script.specs.Faults.{IsStreamFault, is_read_fault, is_write_fault};
 ghost use Rattle.sysv_script.specs.Found.{HasNoEnd, IsFirstLine, IsNextLine, FindsLine};
@@ -15,7 +15,7 @@ use crate::input::Input;
 use crate::output::Output;
 use memchr::memchr;
 use std::io::{Read, Write};
-use sysv_model::Watched;
+use sysv_model::Instrumented;
 
 /// The next line: the first pending bytes.
 #[derive(Clone, Copy)]
@@ -40,8 +40,8 @@ pub struct Found {
 pub fn next_line<R: Read, W: Write>(
     input: &mut Input,
     output: &mut Output,
-    reader: &mut Watched<'_, R>,
-    writer: &mut Watched<'_, W>,
+    reader: &mut Instrumented<'_, R>,
+    writer: &mut Instrumented<'_, W>,
 ) -> Result<Option<Found>, ScriptFault>
     ensures text { TakesIn (R.remaining (stream_of reader.old)) input.old
         (R.remaining (stream_of reader.new)) input.new }
@@ -150,8 +150,8 @@ fn first_end(text: &[u8]) -> Option<usize>
 pub fn read_on<R: Read, W: Write>(
     input: &mut Input,
     output: &mut Output,
-    reader: &mut Watched<'_, R>,
-    writer: &mut Watched<'_, W>,
+    reader: &mut Instrumented<'_, R>,
+    writer: &mut Instrumented<'_, W>,
 ) -> Result<usize, ScriptFault>
     requires { length input.old < INPUT_ROOM }
     ensures text { TakesIn (R.remaining (stream_of reader.old)) input.old

@@ -43,7 +43,7 @@ impl Operation {
         }
     }
 
-    /// Returns the kind of a call under way.
+    /// Returns the kind of a pending call.
     pub fn of_doing(doing: &Doing) -> Operation
         ensures { operation_in (doing_state doing.now) ≡ Some result }
     {
@@ -105,7 +105,7 @@ pub enum Step {
 }
 
 impl Step {
-    /// Returns the next step of a call under way, or `None` if the call waits.
+    /// Returns the next step of a pending call, or `None` if the call waits.
     pub(crate) fn of_doing(doing: &Doing) -> Option<Step>
         ensures { option_map step_name result ≡ step_now (doing_state doing.now) }
     {

@@ -2,7 +2,7 @@
 ghost use Rattle.std.specs.Prelude.{◌≡◌, ◌≤◌, [], ◌∷◌, ◌++◌, length, IfOk, IfErr, IsOk, OnOk, OnErr};
 ghost use Rattle.std.specs.Io.KnownBytes.{Appends};
 ghost use Rattle.sysv_script.specs.Heads.{head_text};
-ghost use Rattle.sysv_model.specs.Watched.{stream_of, KeepsStream};
+ghost use Rattle.sysv_model.specs.Instrumented.{stream_of, KeepsStream};
 ghost use Rattle.sysv_model.specs.Writing.{AppendsPrefix};
 ghost use Rattle.sysv_script.specs.Faults.{is_write_fault};
 ghost use Rattle.sysv_script.specs.Streams.{HandsOn};
@@ -13,7 +13,7 @@ use crate::fault::ScriptFault;
 use std::alloc::Global;
 use std::io::Write;
 use std::marker::Model;
-use sysv_model::{BLOCK_BYTES, Body, NoMemory, Watched, WriteFault};
+use sysv_model::{BLOCK_BYTES, Body, Instrumented, NoMemory, WriteFault};
 
 /// The capacity of the output in bytes.
 const OUTPUT_ROOM: usize = 65536;
@@ -99,7 +99,10 @@ impl Output {
     ///
     /// `Write` if the writer fails or takes no byte. The writer took a prefix of the composed
     /// lines, and no line is left composed.
-    pub fn make_room<W: Write>(&mut self, writer: &mut Watched<'_, W>) -> Result<(), ScriptFault>
+    pub fn make_room<W: Write>(
+        &mut self,
+        writer: &mut Instrumented<'_, W>,
+    ) -> Result<(), ScriptFault>
         ensures ok { OnOk result (HandsOn (W.contents (stream_of writer.old)) self.old
             (W.contents (stream_of writer.new)) self.new) }
         ensures room { OnOk result (length self.new ≤ MOST_COMPOSED) }
@@ -122,7 +125,10 @@ impl Output {
     ///
     /// `Write` if the writer fails or takes no byte. The writer took a prefix of the composed
     /// lines.
-    pub fn write_to<W: Write>(&mut self, writer: &mut Watched<'_, W>) -> Result<(), ScriptFault>
+    pub fn write_to<W: Write>(
+        &mut self,
+        writer: &mut Instrumented<'_, W>,
+    ) -> Result<(), ScriptFault>
         ensures ok { OnOk result (Appends (W.contents (stream_of writer.old))
             (W.contents (stream_of writer.new)) self.old) }
         ensures none_left { self.new ≡ [] }

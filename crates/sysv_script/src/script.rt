@@ -2,15 +2,15 @@
 ghost use Rattle.std.specs.Prelude.{false, true, ◌≡◌, ◌+◌, ◌<◌, ◌≤◌, ◌++◌, [], ℕ, List, Option, Some, length, take, drop, IfOk, IfErr, IsOk, OnOk, OnErr};
 ghost use Rattle.std.specs.Io.KnownBytes.{Appends, IsAtEnd};
 ghost use Rattle.sysv_lists.specs.Prefix.{IsPrefixOf};
-ghost use Rattle.sysv_model.specs.Watched.{stream_of, KeepsStream};
+ghost use Rattle.sysv_model.specs.Instrumented.{stream_of, KeepsStream};
 ghost use Rattle.sysv_model.specs.Writing.{AppendsPrefix};
 ghost use Rattle.sysv_script.specs.Faults.{Grows, IsLineFault, IsStreamFault, EndsAtLine, LeavesBadLine, TellsBadLine, is_read_fault, is_write_fault};
-ghost use Rattle.sysv_script.specs.Scene.{Scene, opening_scene};
+ghost use Rattle.sysv_script.specs.ScriptState.{ScriptState, opening_script_state};
 ghost use Rattle.sysv_script.specs.ScriptText.{LineDoes, IsBad};
 ghost use Rattle.sysv_script.specs.Written.{WritesScript};
 ghost use Rattle.sysv_script.specs.ObeyingRun.{WritesRun};
 ghost use Rattle.sysv_script.specs.ScriptSofar.{LineEnds, Leaves, IsText, RunsOn, RunsNext};
-ghost use Rattle.sysv_script.specs.Staged.{IsSceneOf};
+ghost use Rattle.sysv_script.specs.Staged.{IsScriptStateOf};
 ghost use Rattle.sysv_script.specs.Found.{IsFirstLine};
 ghost use Rattle.sysv_script.specs.declared.fault.TheConstants.{SCRIPT_LINES};
 ghost use Rattle.sysv_script.specs.declared.output.TheConstants.{MOST_COMPOSED};
@@ -25,7 +25,7 @@ use crate::stage::Stage;
 use crate::{Head, LINE_BYTES, line_of};
 use std::alloc::Global;
 use std::io::{Read, Write};
-use sysv_model::{NoMemory, Watched};
+use sysv_model::{Instrumented, NoMemory};
 use sysv_words::one_split;
 
 /// Runs the script that `reader` returns on a world of 16 actors, and writes what it prints to
@@ -49,16 +49,17 @@ use sysv_words::one_split;
 /// what the script prints was written.
 pub fn run_script<R: Read, W: Write>(
     alloc: Global,
-    reader: &mut Watched<'_, R>,
-    writer: &mut Watched<'_, W>,
+    reader: &mut Instrumented<'_, R>,
+    writer: &mut Instrumented<'_, W>,
 ) -> Result<(), ScriptFault>
     // What the writer took is what the text prints. After a fault of the writer or of memory, it is
     // a prefix of that. After a fault of the reader, it is what the lines print that were read.
     ensures prints { (text : List ℕ) → R.remaining (stream_of reader.old) ≡ Some text →
         WritesScript result text (W.contents (stream_of writer.old))
         (W.contents (stream_of writer.new)) (R.remaining (stream_of reader.new)) }
-    // The lines are a list of happenings that leads to a world that obeys the laws of the headline,
-    // and what the writer took are the results of that run, or a prefix of them, as above.
+    // The lines are a list of transitions that leads to a world that obeys the laws of the
+    // headline, and what the writer took are the results of that run, or a prefix of them, as
+    // above.
     ensures obeys { (text : List ℕ) → R.remaining (stream_of reader.old) ≡ Some text →
         WritesRun result text (W.contents (stream_of writer.old))
         (W.contents (stream_of writer.new)) (R.remaining (stream_of reader.new)) }
@@ -85,7 +86,7 @@ pub fn run_script<R: Read, W: Write>(
     run.end(writer).and(ended)
 }
 
-/// A script under way: the stage on which it runs, the pending bytes, and the composed lines.
+/// A pending script: the stage on which it runs, the pending bytes, and the composed lines.
 struct Run {
     stage: Stage,
     input: Input,
@@ -95,7 +96,8 @@ struct Run {
 impl Run {
     /// Opens a script of which nothing has been read.
     fn open(alloc: Global) -> Result<Run, NoMemory>
-        ensures { IfOk result (λ run. IsSceneOf opening_scene run.stage × (run.input ≡ [])
+        ensures { IfOk result (λ run. IsScriptStateOf opening_script_state run.stage
+            × (run.input ≡ [])
             × (run.output ≡ [])) }
     {
         let input = Input::open(alloc)?;
@@ -113,11 +115,11 @@ impl Run {
     fn run_lines<R: Read, W: Write>(
         &mut self,
         alloc: Global,
-        reader: &mut Watched<'_, R>,
-        writer: &mut Watched<'_, W>,
+        reader: &mut Instrumented<'_, R>,
+        writer: &mut Instrumented<'_, W>,
     ) -> Result<(), ScriptFault>
         requires { self.old.output ≡ [] }
-        ensures prints { (s : Scene) → IsSceneOf s self.old.stage → (text : List ℕ) →
+        ensures prints { (s : ScriptState) → IsScriptStateOf s self.old.stage → (text : List ℕ) →
             IsText self.old.input (R.remaining (stream_of reader.old)) text →
             Leaves result s text (W.contents (stream_of writer.old))
             (W.contents (stream_of writer.new)) self.new.output
@@ -144,13 +146,13 @@ impl Run {
     fn run_next<R: Read, W: Write>(
         &mut self,
         alloc: Global,
-        reader: &mut Watched<'_, R>,
-        writer: &mut Watched<'_, W>,
+        reader: &mut Instrumented<'_, R>,
+        writer: &mut Instrumented<'_, W>,
         number: u32,
     ) -> Result<bool, ScriptFault>
         requires first { 1 ≤ number }
         requires last { number ≤ SCRIPT_LINES }
-        ensures runs { (s : Scene) → (text : List ℕ) → (old : Option (List ℕ)) →
+        ensures runs { (s : ScriptState) → (text : List ℕ) → (old : Option (List ℕ)) →
             RunsOn s text old number self.old.stage self.old.input
             (R.remaining (stream_of reader.old))
             (W.contents (stream_of writer.old)) self.old.output →
@@ -185,14 +187,16 @@ impl Run {
         ensures short { OnOk result (found.len ≤ LINE_BYTES) }
         ensures rest { OnOk result (found.is_last ≡ false →
             self.new.input ≡ drop (found.len + 1) self.old.input) }
-        ensures does { OnOk result ((s : Scene) → IsSceneOf s self.old.stage → (after : Scene)
+        ensures does { OnOk result ((s : ScriptState) → IsScriptStateOf s self.old.stage →
+            (after : ScriptState)
             × (out : List ℕ)
-            × LineDoes s (take found.len self.old.input) out after × IsSceneOf after self.new.stage
+            × LineDoes s (take found.len self.old.input) out after
+            × IsScriptStateOf after self.new.stage
             × (self.new.output ≡ self.old.output ++ out)) }
         ensures fault { IfErr result (λ fault.
             EndsAtLine fault number self.old.output self.new.output) }
-        ensures bad { IfErr result (λ fault. IsLineFault fault → (s : Scene) →
-            IsSceneOf s self.old.stage → IsBad s (take found.len self.old.input)) }
+        ensures bad { IfErr result (λ fault. IsLineFault fault → (s : ScriptState) →
+            IsScriptStateOf s self.old.stage → IsBad s (take found.len self.old.input)) }
     {
         let line = &self.input.waiting()[..found.len];
         match run_line(alloc, &mut self.stage, &mut self.output, line) {
@@ -209,10 +213,11 @@ impl Run {
     /// Checks that no line begins after the last one that a script may have.
     fn expect_end<R: Read, W: Write>(
         &mut self,
-        reader: &mut Watched<'_, R>,
-        writer: &mut Watched<'_, W>,
+        reader: &mut Instrumented<'_, R>,
+        writer: &mut Instrumented<'_, W>,
     ) -> Result<(), ScriptFault>
-        ensures runs { (s : Scene) → (text : List ℕ) → (old : Option (List ℕ)) → (number : ℕ) →
+        ensures runs { (s : ScriptState) → (text : List ℕ) → (old : Option (List ℕ)) →
+            (number : ℕ) →
             SCRIPT_LINES < number →
             RunsOn s text old number self.old.stage self.old.input
             (R.remaining (stream_of reader.old))
@@ -238,7 +243,7 @@ impl Run {
     }
 
     /// Writes the last lines and ends the world.
-    fn end<W: Write>(self, writer: &mut Watched<'_, W>) -> Result<(), ScriptFault>
+    fn end<W: Write>(self, writer: &mut Instrumented<'_, W>) -> Result<(), ScriptFault>
         ensures ok { OnOk result (Appends (W.contents (stream_of writer.old))
             (W.contents (stream_of writer.new)) self.output) }
         ensures err { OnErr result (AppendsPrefix (W.contents (stream_of writer.old))
@@ -264,9 +269,10 @@ fn run_line(
     output: &mut Output,
     line: &[u8],
 ) -> Result<bool, NoMemory>
-    ensures runs { IfOk result (λ understood. (s : Scene) → IsSceneOf s stage.old → (after : Scene)
+    ensures runs { IfOk result (λ understood. (s : ScriptState) → IsScriptStateOf s stage.old →
+        (after : ScriptState)
         × (out : List ℕ)
-        × LineEnds s line.now understood out after × IsSceneOf after stage.new
+        × LineEnds s line.now understood out after × IsScriptStateOf after stage.new
         × (output.new ≡ output.old ++ out)) }
     ensures short { IfOk result (λ understood. understood ≡ true → length line.now ≤ LINE_BYTES) }
     ensures quiet { IfOk result (λ understood. understood ≡ false → output.new ≡ output.old) }

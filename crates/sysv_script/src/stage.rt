@@ -5,11 +5,11 @@ ghost use Rattle.std.specs.List.{range_with_len};
 ghost use Rattle.sysv_lists.specs.Prefix.{IsPrefixOf};
 ghost use Rattle.sysv_model.specs.declared.limits.TheConstants.{BLOCK_BYTES, BODY_ROOM};
 ghost use Rattle.sysv_script.specs.Heads.{head_text};
-ghost use Rattle.sysv_script.specs.Scene.{Scene, opening_scene, Advances, LineRuns, LineActs, PoolGiven, StartRuns, StartsAs, call_for, GoesOn, StepsRun, OneRuns, AllRun, printed, standing_line, first_cred as script_cred, under_way as doing_at, most_steps as steps_at_start};
+ghost use Rattle.sysv_script.specs.ScriptState.{ScriptState, opening_script_state, Advances, LineRuns, LineActs, PoolGiven, StartRuns, StartsAs, call_for, GoesOn, StepsRun, OneRuns, AllRun, printed, standing_line, first_cred as script_cred, pending as doing_at, most_steps as steps_at_start};
 ghost use Rattle.sysv_core.specs.World.{actor_at};
 ghost use Rattle.sysv_script.specs.declared.actor.TheConstants.{SCRIPT_ACTORS};
 ghost use Rattle.sysv_script.specs.SaidBy.{CallFits, FitsBody, LineFits, IsOfActors, IsPoolSize, text_bytes, call_asked, said_of};
-ghost use Rattle.sysv_script.specs.Staged.{IsSceneOf};
+ghost use Rattle.sysv_script.specs.Staged.{IsScriptStateOf};
 
 use crate::output::Output;
 use crate::{Head, Line, Operation, SCRIPT_ACTORS, Text};
@@ -28,7 +28,7 @@ const LETTERS: [u8; BLOCK_BYTES] = [b'x'; BLOCK_BYTES];
 const MAX_STEPS: u32 = 16;
 
 /// The world of a script, the credentials of its actors, the time of each step, and the bodies that
-/// no call under way has.
+/// no pending call has.
 pub struct Stage {
     world: World,
     /// The credentials of actor A are at place A - 1.
@@ -48,7 +48,7 @@ impl Stage {
     ///
     /// `NoMemory` if memory is refused.
     pub fn open(alloc: Global) -> Result<Stage, NoMemory>
-        ensures { IfOk result (λ stage. IsSceneOf opening_scene stage) }
+        ensures { IfOk result (λ stage. IsScriptStateOf opening_script_state stage) }
     {
         let spares = Vec::with_capacity(alloc, SCRIPT_ACTORS as usize).map_err(|_| NoMemory)?;
         let world = World::open(alloc, SCRIPT_ACTORS, SCRIPT_BLOCKS).map_err(|_| NoMemory)?;
@@ -91,9 +91,10 @@ impl Stage {
         output: &mut Output,
     ) -> Result<bool, NoMemory>
         requires { LineFits line }
-        ensures runs { IfOk result (λ understood. (s : Scene) → IsSceneOf s self.old →
-            (after : Scene) × (out : List ℕ) × LineRuns s (said_of line.entry) understood out after
-            × IsSceneOf after self.new × (output.new ≡ output.old ++ out)) }
+        ensures runs { IfOk result (λ understood. (s : ScriptState) → IsScriptStateOf s self.old →
+            (after : ScriptState) × (out : List ℕ)
+            × LineRuns s (said_of line.entry) understood out after
+            × IsScriptStateOf after self.new × (output.new ≡ output.old ++ out)) }
         // A bad line composes nothing. If memory is refused, a prefix of what was composed is left.
         ensures quiet { IfOk result (λ understood. understood ≡ false → output.new ≡ output.old) }
         ensures err { OnErr result (IsPrefixOf output.new output.old) }
@@ -111,8 +112,9 @@ impl Stage {
     /// Opens a new world with `blocks` blocks, if every line so far was skipped.
     fn size_pool(&mut self, alloc: Global, blocks: u32) -> Result<bool, NoMemory>
         requires { IsPoolSize blocks }
-        ensures { IfOk result (λ understood. (s : Scene) → IsSceneOf s self.old →
-            (after : Scene) × PoolGiven s blocks understood after × IsSceneOf after self.new) }
+        ensures { IfOk result (λ understood. (s : ScriptState) → IsScriptStateOf s self.old →
+            (after : ScriptState) × PoolGiven s blocks understood after
+            × IsScriptStateOf after self.new) }
     {
         if !self.fresh {
             return Ok(false);
@@ -127,9 +129,10 @@ impl Stage {
     /// prints.
     fn act(&mut self, alloc: Global, line: Line<'_>, output: &mut Output) -> Result<bool, NoMemory>
         requires { LineFits line }
-        ensures runs { IfOk result (λ understood. (s : Scene) → IsSceneOf s self.old →
-            (after : Scene) × (out : List ℕ) × LineActs s (said_of line.entry) understood out after
-            × IsSceneOf after self.new × (output.new ≡ output.old ++ out)) }
+        ensures runs { IfOk result (λ understood. (s : ScriptState) → IsScriptStateOf s self.old →
+            (after : ScriptState) × (out : List ℕ)
+            × LineActs s (said_of line.entry) understood out after
+            × IsScriptStateOf after self.new × (output.new ≡ output.old ++ out)) }
         ensures quiet { IfOk result (λ understood. understood ≡ false → output.new ≡ output.old) }
         ensures err { OnErr result (IsPrefixOf output.new output.old) }
     {
@@ -159,14 +162,15 @@ impl Stage {
     ) -> Result<(), NoMemory>
         requires actor { IsOfActors actor }
         requires fits { CallFits call }
-        ensures runs { OnOk result ((s : Scene) → IsSceneOf s self.old → (after : Scene)
+        ensures runs { OnOk result ((s : ScriptState) → IsScriptStateOf s self.old →
+            (after : ScriptState)
             × (out : List ℕ)
             × StartRuns s actor (call_asked call.entry) goes
             (doing_at (actor_at s.world.actors actor)) out after
-            × IsSceneOf after self.new × (output.new ≡ output.old ++ out)) }
+            × IsScriptStateOf after self.new × (output.new ≡ output.old ++ out)) }
         ensures err { OnErr result (IsPrefixOf output.new output.old) }
     {
-        if let Some(_operation) = self.under_way(actor) {
+        if let Some(_operation) = self.pending(actor) {
             return output.tell(Head::Busy { actor });
         }
         let operation = Operation::of_call(&call);
@@ -178,24 +182,26 @@ impl Stage {
 
     /// Makes at most `steps` steps of an actor's call, and composes the line that it prints.
     fn take_on(&mut self, actor: u32, steps: u32, output: &mut Output) -> Result<(), NoMemory>
-        ensures runs { OnOk result ((s : Scene) → IsSceneOf s self.old → (after : Scene)
+        ensures runs { OnOk result ((s : ScriptState) → IsScriptStateOf s self.old →
+            (after : ScriptState)
             × (out : List ℕ)
             × StepsRun steps s actor (doing_at (actor_at s.world.actors actor)) out after
-            × IsSceneOf after self.new × (output.new ≡ output.old ++ out)) }
+            × IsScriptStateOf after self.new × (output.new ≡ output.old ++ out)) }
         ensures err { OnErr result (output.new ≡ []) }
     {
-        match self.under_way(actor) {
+        match self.pending(actor) {
             Some(operation) => self.go_on(actor, operation, steps, output),
             None => output.tell(Head::Idle { actor }),
         }
     }
 
-    /// Continues each call under way, in the order of the actors.
+    /// Continues each pending call, in the order of the actors.
     fn take_all_on(&mut self, output: &mut Output) -> Result<(), NoMemory>
-        ensures runs { OnOk result ((s : Scene) → IsSceneOf s self.old → (after : Scene)
+        ensures runs { OnOk result ((s : ScriptState) → IsScriptStateOf s self.old →
+            (after : ScriptState)
             × (out : List ℕ)
             × AllRun (range_with_len 1 SCRIPT_ACTORS) s out after
-            × IsSceneOf after self.new × (output.new ≡ output.old ++ out)) }
+            × IsScriptStateOf after self.new × (output.new ≡ output.old ++ out)) }
         ensures err { OnErr result (IsPrefixOf output.new output.old) }
     {
         for actor in 1..SCRIPT_ACTORS + 1 {
@@ -206,13 +212,14 @@ impl Stage {
 
     /// Continues the call of an actor, if it is in one.
     fn take_one_on(&mut self, actor: u32, output: &mut Output) -> Result<(), NoMemory>
-        ensures runs { OnOk result ((s : Scene) → IsSceneOf s self.old → (after : Scene)
+        ensures runs { OnOk result ((s : ScriptState) → IsScriptStateOf s self.old →
+            (after : ScriptState)
             × (out : List ℕ)
             × OneRuns s actor (doing_at (actor_at s.world.actors actor)) out after
-            × IsSceneOf after self.new × (output.new ≡ output.old ++ out)) }
+            × IsScriptStateOf after self.new × (output.new ≡ output.old ++ out)) }
         ensures err { OnErr result (output.new ≡ []) }
     {
-        match self.under_way(actor) {
+        match self.pending(actor) {
             Some(operation) => self.go_on(actor, operation, MAX_STEPS, output),
             None => Ok(()),
         }
@@ -227,10 +234,11 @@ impl Stage {
         steps: u32,
         output: &mut Output,
     ) -> Result<(), NoMemory>
-        ensures runs { OnOk result ((s : Scene) → IsSceneOf s self.old → (after : Scene)
+        ensures runs { OnOk result ((s : ScriptState) → IsScriptStateOf s self.old →
+            (after : ScriptState)
             × (out : List ℕ)
             × StepsRun steps s actor (Some operation) out after
-            × IsSceneOf after self.new × (output.new ≡ output.old ++ out)) }
+            × IsScriptStateOf after self.new × (output.new ≡ output.old ++ out)) }
         ensures err { OnErr result (output.new ≡ []) }
     {
         let given = self.go(actor, Stepped::Nothing, steps);
@@ -238,8 +246,8 @@ impl Stage {
     }
 
     /// Returns the kind of the call that an actor is in, if it is in one.
-    fn under_way(&self, actor: u32) -> Option<Operation>
-        ensures { (s : Scene) → IsSceneOf s self.now →
+    fn pending(&self, actor: u32) -> Option<Operation>
+        ensures { (s : ScriptState) → IsScriptStateOf s self.now →
             result ≡ doing_at (actor_at s.world.actors actor) }
     {
         Some(Operation::of_doing(self.world.doing(actor)?))
@@ -309,8 +317,9 @@ impl Stage {
     /// Starts a call with the present credentials of the actor.
     fn begin(&mut self, actor: u32, call: Call) -> Stepped
         requires { IsOfActors actor }
-        ensures { (s : Scene) → IsSceneOf s self.old →
-            (after : Scene) × StartsAs s actor call result after × IsSceneOf after self.new }
+        ensures { (s : ScriptState) → IsScriptStateOf s self.old →
+            (after : ScriptState) × StartsAs s actor call result after
+            × IsScriptStateOf after self.new }
     {
         let cred = self.creds[actor as usize - 1];
         self.world.step(Event::Start { actor, cred, call })
@@ -318,8 +327,9 @@ impl Stage {
 
     /// Makes at most `steps` steps of a call whose last result was `last`, until the call is over.
     fn go(&mut self, actor: u32, last: Stepped, steps: u32) -> Stepped
-        ensures { (s : Scene) → IsSceneOf s self.old →
-            (after : Scene) × GoesOn steps s actor last result after × IsSceneOf after self.new }
+        ensures { (s : ScriptState) → IsScriptStateOf s self.old →
+            (after : ScriptState) × GoesOn steps s actor last result after
+            × IsScriptStateOf after self.new }
     {
         let mut given = last;
         for _ in 0..steps {
@@ -342,7 +352,7 @@ impl Stage {
         stepped: Stepped,
         output: &mut Output,
     ) -> Result<(), NoMemory>
-        ensures told { OnOk result ((s : Scene) → IsSceneOf s self.old →
+        ensures told { OnOk result ((s : ScriptState) → IsScriptStateOf s self.old →
             output.new ≡ output.old ++ printed s.world actor operation stepped) }
         ensures err { OnErr result (output.new ≡ []) }
         ensures kept { self.new ≡ record self.old { spares = self.new.spares } }
@@ -374,7 +384,7 @@ impl Stage {
 
     /// Returns the line for the present state of an actor's call.
     fn stands(&self, actor: u32) -> Head
-        ensures { (s : Scene) → IsSceneOf s self.now →
+        ensures { (s : ScriptState) → IsScriptStateOf s self.now →
             head_text result ++ 10 ∷ [] ≡ standing_line actor (actor_at s.world.actors actor) }
     {
         match self.world.doing(actor) {

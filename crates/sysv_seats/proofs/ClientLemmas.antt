@@ -17,7 +17,7 @@ use Rattle.sysv_session.specs.declared.handler.RequestOutcome.TheVariants.{Left 
 use Rattle.sysv_session.specs.declared.session.Session.{Session}
 use Rattle.sysv_session.specs.declared.session.TakenUp.{TakenUp}
 use Rattle.sysv_session.specs.Answers.{IsReplied}
-use Rattle.sysv_session.specs.Conversation.{HasRoom, Puts, Talk, report, reported, sent_on}
+use Rattle.sysv_session.specs.Conversation.{HasRoom, Puts, Dialogue, report, reported, sent_on}
 use Rattle.sysv_session.specs.Stands.{Stands, StandsAsking}
 use Rattle.sysv_session.specs.TakenUp.{EndsHere, TakesUp}
 use Rattle.sysv_session.proofs.GoesOn.{ends, leaves, opens, sends, sends_asking, sends_stopped}
@@ -42,18 +42,18 @@ use Rattle.sysv_seats.specs.Untold.{Closing}
 -- ---- what every client keeps
 
 -- The tally has room for each message in the outbox.
-pub has_room : (talk : Talk) (parked : Option Parked) → IsCounted talk parked → HasRoom talk
-has_room talk parked counted = omega (arith, counted.0, counted.1)
+pub has_room : (dialogue : Dialogue) (parked : Option Parked) → IsCounted dialogue parked → HasRoom dialogue
+has_room dialogue parked counted = omega (arith, counted.0, counted.1)
 
 -- The count, out of what every client keeps.
-pub counted_of : {C : Type 0} (start size : ℕ) (input : List ℕ) (talk : Talk) (parked : Option Parked) →
-    (start ≤ size) × HasFrame input parked × IsCounted talk parked × C → IsCounted talk parked
-counted_of start size input talk parked (fits, frame, counted, cause) = counted
+pub counted_of : {C : Type 0} (start size : ℕ) (input : List ℕ) (dialogue : Dialogue) (parked : Option Parked) →
+    (start ≤ size) × HasFrame input parked × IsCounted dialogue parked × C → IsCounted dialogue parked
+counted_of start size input dialogue parked (fits, frame, counted, cause) = counted
 
 -- A conversation that has taken up nothing.
-pub counted_none : (talk : Talk) → talk.session.tally ≡ record { written = 0; lost = 0 } →
-    talk.session.requests ≡ 0 → talk.unsent ≡ record { bytes = []; marks = [] } → IsCounted talk None
-counted_none talk tally requests unsent = (
+pub counted_none : (dialogue : Dialogue) → dialogue.session.tally ≡ record { written = 0; lost = 0 } →
+    dialogue.session.requests ≡ 0 → dialogue.unsent ≡ record { bytes = []; marks = [] } → IsCounted dialogue None
+counted_none dialogue tally requests unsent = (
   omega (
     arith,
     ap (λ t. t.written) tally,
@@ -66,30 +66,33 @@ counted_none talk tally requests unsent = (
 )
 
 -- The connection took n bytes more.
-pub counted_sent : (n : ℕ) (talk : Talk) (parked : Option Parked) → IsCounted talk parked →
-    IsCounted (sent_on n talk) parked
-counted_sent n talk parked counted =
-    (omega (arith, counted.0, each_once n talk.unsent.marks), counted.1, counted.2)
+pub counted_sent : (n : ℕ) (dialogue : Dialogue) (parked : Option Parked) → IsCounted dialogue parked →
+    IsCounted (sent_on n dialogue) parked
+counted_sent n dialogue parked counted =
+    (omega (arith, counted.0, each_once n dialogue.unsent.marks), counted.1, counted.2)
 
 -- A call that was parked is none any more.
-pub counted_left : (talk : Talk) (parked : Parked) → IsCounted talk (Some parked) → IsCounted talk None
-counted_left talk parked counted = (omega (arith, counted.0), counted.1, counted.2)
+pub counted_left : (dialogue : Dialogue) (parked : Parked) → IsCounted dialogue (Some parked) → IsCounted dialogue None
+counted_left dialogue parked counted = (omega (arith, counted.0), counted.1, counted.2)
 
-pub kept_sent : (start size : ℕ) (input : List ℕ) (talk : Talk) (parked : Option Parked) (talk' : Talk) (n : ℕ)
-    (breaks breaks' : Breaks) (stopped : Option End) (broken : Bool) → talk' ≡ sent_on n talk → breaks' ≡ breaks →
-    (start ≤ size) × HasFrame input parked × IsCounted talk parked × HasCause breaks stopped broken →
-    (start ≤ size) × HasFrame input parked × IsCounted talk' parked × HasCause breaks' stopped broken
-kept_sent start size input talk parked talk' n breaks breaks' stopped broken is same (fits, frame, counted, cause) = (
-  fits,
-  frame,
-  subst (λ (t : Talk). IsCounted t parked) (sym is) (counted_sent n talk parked counted),
-  subst (λ (b : Breaks). HasCause b stopped broken) (sym same) cause,
-)
+pub kept_sent : (start size : ℕ) (input : List ℕ) (dialogue : Dialogue) (parked : Option Parked) (dialogue' : Dialogue)
+    (n : ℕ)
+    (breaks breaks' : Breaks) (stopped : Option End) (broken : Bool) → dialogue' ≡ sent_on n dialogue →
+    breaks' ≡ breaks →
+    (start ≤ size) × HasFrame input parked × IsCounted dialogue parked × HasCause breaks stopped broken →
+    (start ≤ size) × HasFrame input parked × IsCounted dialogue' parked × HasCause breaks' stopped broken
+kept_sent start size input dialogue parked dialogue' n breaks breaks' stopped broken is same
+    (fits, frame, counted, cause) = (
+      fits,
+      frame,
+      subst (λ (t : Dialogue). IsCounted t parked) (sym is) (counted_sent n dialogue parked counted),
+      subst (λ (b : Breaks). HasCause b stopped broken) (sym same) cause,
+    )
 
 -- ---- why a session ends
 
 -- A call whose reply could not be gathered stops the client, and no call was left.
-pub put_cause : (breaks : Breaks) (version : Version) (outcome : RequestOutcome) (given : List ℕ) (old new : Talk)
+pub put_cause : (breaks : Breaks) (version : Version) (outcome : RequestOutcome) (given : List ℕ) (old new : Dialogue)
     (why : End) → IsReplied outcome → Puts (Err why) version outcome given old new → MayEnd breaks why
 put_cause breaks version outcome given old new NoMemory replied put = tt
 put_cause breaks version outcome given old new Left replied put =
@@ -169,11 +172,11 @@ finished_cause breaks parked (Some why) false (byte ∷ bytes) cause done =
 
 pub closing_cause : {T : Type 0} (breaks : Breaks) (client : Sitting T) →
     HasCause breaks client.stopped client.broken → MayClose breaks client →
-    MayEnd breaks (reported (end_at_close client.parked client.stopped) client.talk.unsent.bytes)
+    MayEnd breaks (reported (end_at_close client.parked client.stopped) client.dialogue.unsent.bytes)
 closing_cause breaks client cause (inl done) =
-    finished_cause breaks client.parked client.stopped client.broken client.talk.unsent.bytes cause done
+    finished_cause breaks client.parked client.stopped client.broken client.dialogue.unsent.bytes cause done
 closing_cause breaks client cause (inr may) =
-    reported_cause breaks (end_at_close client.parked client.stopped) client.talk.unsent.bytes
+    reported_cause breaks (end_at_close client.parked client.stopped) client.dialogue.unsent.bytes
     (any_cause breaks client.parked client.stopped cause.0 may) (λ some. may.1)
 
 -- ---- the input
@@ -221,7 +224,7 @@ module _ {T : Type 0} (incoming outgoing : T → Option (List ℕ)) where
   abbrev pub on : T → Sitting T → Sitting T
   on connection client = record {
     connection = connection;
-    talk = client.talk;
+    dialogue = client.dialogue;
     input = client.input;
     parked = client.parked;
     stopped = client.stopped;
@@ -232,7 +235,7 @@ module _ {T : Type 0} (incoming outgoing : T → Option (List ℕ)) where
   abbrev pub left_with : List ℕ → Sitting T → Sitting T
   left_with input client = record {
     connection = client.connection;
-    talk = client.talk;
+    dialogue = client.dialogue;
     input = input;
     parked = None;
     stopped = Some Left;
@@ -293,7 +296,7 @@ module _ {T : Type 0} (incoming outgoing : T → Option (List ℕ)) where
   read_at start origin client now sent ready = (
     prepend_known client.input (incoming client.connection),
     behind client.input (incoming client.connection),
-    stops_read (asks_with zero_moment ⊤) SLOTS client.talk start now (incoming origin)
+    stops_read (asks_with zero_moment ⊤) SLOTS client.dialogue start now (incoming origin)
         (prepend_known client.input (incoming client.connection)) sent ready,
   )
 
@@ -313,7 +316,7 @@ module _ {T : Type 0} (incoming outgoing : T → Option (List ℕ)) where
   reset_at start origin client now sent ready = (
     prepend_known client.input (incoming client.connection),
     behind client.input (incoming client.connection),
-    stops_reset (asks_with zero_moment ⊤) SLOTS client.talk start now (incoming origin)
+    stops_reset (asks_with zero_moment ⊤) SLOTS client.dialogue start now (incoming origin)
         (prepend_known client.input (incoming client.connection)) sent ready,
   )
 
@@ -327,7 +330,7 @@ module _ {T : Type 0} (incoming outgoing : T → Option (List ℕ)) where
   }
 
   -- The connection takes no more.
-  pub stops_writing : (client : Sitting T) → IsFree client → client.talk.unsent.bytes ≢ [] →
+  pub stops_writing : (client : Sitting T) → IsFree client → client.dialogue.unsent.bytes ≢ [] →
       Keeps incoming outgoing client (stopped_for Write client)
   stops_writing client free some = λ now start origin sits. record {
     sent = sits.sent;
@@ -335,9 +338,9 @@ module _ {T : Type 0} (incoming outgoing : T → Option (List ℕ)) where
     at = is_stopped start origin (stopped_for Write client) now sits.sent Write free.0 (
       prepend_known client.input (incoming client.connection),
       behind client.input (incoming client.connection),
-      stops_write (asks_with zero_moment ⊤) SLOTS client.talk start now (incoming origin)
+      stops_write (asks_with zero_moment ⊤) SLOTS client.dialogue start now (incoming origin)
           (prepend_known client.input (incoming client.connection)) sits.sent
-          (some_bytes client.talk.unsent.bytes some) (is_ready start origin client now sits.sent free sits.at),
+          (some_bytes client.dialogue.unsent.bytes some) (is_ready start origin client now sits.sent free sits.at),
     );
   }
 
@@ -351,7 +354,8 @@ module _ {T : Type 0} (incoming outgoing : T → Option (List ℕ)) where
     sent = sits.sent;
     wrote = subst (λ (o : Option (List ℕ)). Appends (outgoing origin) o sits.sent) (sym same) sits.wrote;
     at = is_at start origin (with_input (client.input ++ bytes) (on connection client)) now sits.sent free
-        (subst (λ (o : Option (List ℕ)). Stands (asks_with zero_moment ⊤) SLOTS client.talk start now (incoming origin)
+        (subst (λ (o : Option (List ℕ)).
+        Stands (asks_with zero_moment ⊤) SLOTS client.dialogue start now (incoming origin)
         o sits.sent)
         (same_unread client.input bytes (incoming client.connection) (incoming connection) took none)
         (is_ready start origin client now sits.sent free sits.at));
@@ -368,7 +372,7 @@ module _ {T : Type 0} (incoming outgoing : T → Option (List ℕ)) where
     at = is_stopped start origin (stopped_for NoMemory (on connection client)) now sits.sent NoMemory free.0 (
       prepend_known client.input (incoming client.connection),
       behind_read client.input bytes (incoming client.connection) (incoming connection) took,
-      stops_memory (asks_with zero_moment ⊤) SLOTS client.talk start now (incoming origin)
+      stops_memory (asks_with zero_moment ⊤) SLOTS client.dialogue start now (incoming origin)
           (prepend_known client.input (incoming client.connection)) sits.sent
           (is_ready start origin client now sits.sent free sits.at),
     );
@@ -417,7 +421,7 @@ module _ {T : Type 0} (incoming outgoing : T → Option (List ℕ)) where
       let last = stopped_for why client in
       let is : broken_off_for why client ≡ broken_off last = ap (λ (o : Option End). let s : Sitting T = record {
         connection = client.connection;
-        talk = client.talk;
+        dialogue = client.dialogue;
         input = client.input;
         parked = client.parked;
         stopped = Some (unwrap_or o why);
@@ -428,7 +432,7 @@ module _ {T : Type 0} (incoming outgoing : T → Option (List ℕ)) where
   broken_at_last client why (Some other) same stops =
       let is : broken_off_for why client ≡ broken_off client = ap (λ (o : Option End). let s : Sitting T = record {
         connection = client.connection;
-        talk = client.talk;
+        dialogue = client.dialogue;
         input = client.input;
         parked = client.parked;
         stopped = o;
@@ -444,10 +448,10 @@ module _ {T : Type 0} (incoming outgoing : T → Option (List ℕ)) where
       (broken_at_last mid (Fault Read) mid.stopped refl (λ going. stops_reading mid (none, going))))
 
   pub breaks_writing : (old mid new : Sitting T) → Keeps incoming outgoing old mid → mid.parked ≡ None →
-      mid.talk ≡ old.talk → old.talk.unsent.bytes ≢ [] → new ≡ broken_off_for Write mid →
+      mid.dialogue ≡ old.dialogue → old.dialogue.unsent.bytes ≢ [] → new ≡ broken_off_for Write mid →
       Keeps incoming outgoing old new
   breaks_writing old mid new keeps none same some is =
-      let left = subst (λ (t : Talk). t.unsent.bytes ≢ []) (sym same) some in
+      let left = subst (λ (t : Dialogue). t.unsent.bytes ≢ []) (sym same) some in
       keeps_to old (broken_off_for Write mid) new is
       (keeps_then old mid (broken_off_for Write mid) keeps
       (broken_at_last mid Write mid.stopped refl (λ going. stops_writing mid (none, going) left)))
@@ -468,7 +472,8 @@ module _ {T : Type 0} (incoming outgoing : T → Option (List ℕ)) where
       parked.waiting now tt waits.waits in (
         prepend_known waits.later (incoming client.connection),
         behind waits.later (incoming client.connection),
-        leaves (asks_with zero_moment ⊤) SLOTS parked.cred parked.request waits.text [] client.talk start waits.before
+        leaves (asks_with zero_moment ⊤) SLOTS parked.cred parked.request waits.text [] client.dialogue start
+            waits.before
             now (incoming origin) (prepend_known waits.later (incoming client.connection)) sent waits.asking told refl,
       )
   left_at start origin client input now sent parked (Some why) none = absurd none
@@ -489,14 +494,14 @@ module _ {T : Type 0} (incoming outgoing : T → Option (List ℕ)) where
       IsAt incoming outgoing start origin client now sent parked stopped →
       IsAt incoming outgoing start origin (on connection client) now sent parked stopped
   turned_at start origin client connection now sent None None same at =
-      subst (λ (o : Option (List ℕ)). Stands (asks_with zero_moment ⊤) SLOTS client.talk start now (incoming origin)
+      subst (λ (o : Option (List ℕ)). Stands (asks_with zero_moment ⊤) SLOTS client.dialogue start now (incoming origin)
       (prepend_known client.input o) sent) (sym same) at
   turned_at start origin client connection now sent (Some parked) None same at = record {
     text = at.text;
     before = at.before;
     later = at.later;
     asking = subst (λ (o : Option (List ℕ)). StandsAsking (asks_with zero_moment ⊤) SLOTS parked.cred parked.request
-        at.text client.talk start at.before (incoming origin) (prepend_known at.later o) sent) (sym same) at.asking;
+        at.text client.dialogue start at.before (incoming origin) (prepend_known at.later o) sent) (sym same) at.asking;
     frame = at.frame;
     size = at.size;
     waits = at.waits;
@@ -580,7 +585,7 @@ module _ {T : Type 0} (incoming outgoing : T → Option (List ℕ)) where
   abbrev pub with_sent : T → ℕ → Sitting T → Sitting T
   with_sent connection n client = record {
     connection = connection;
-    talk = sent_on n client.talk;
+    dialogue = sent_on n client.dialogue;
     input = client.input;
     parked = client.parked;
     stopped = client.stopped;
@@ -588,25 +593,28 @@ module _ {T : Type 0} (incoming outgoing : T → Option (List ℕ)) where
   }
 
   drained_at : (start : Pass) (origin : T) (client : Sitting T) (connection : T) (n : ℕ) (now : Pass) (sent : List ℕ)
-      (parked : Option Parked) (stopped : Option End) → n ≤ length client.talk.unsent.bytes →
+      (parked : Option Parked) (stopped : Option End) → n ≤ length client.dialogue.unsent.bytes →
       incoming connection ≡ incoming client.connection →
       IsAt incoming outgoing start origin client now sent parked stopped →
       IsAt incoming outgoing start origin (with_sent connection n client) now
-      (sent ++ take n client.talk.unsent.bytes) parked stopped
+      (sent ++ take n client.dialogue.unsent.bytes) parked stopped
   drained_at start origin client connection n now sent None None fits same at =
-      sends (asks_with zero_moment ⊤) SLOTS n client.talk (sent_on n client.talk) start now (incoming origin)
+      sends (asks_with zero_moment ⊤) SLOTS n client.dialogue (sent_on n client.dialogue) start now (incoming origin)
       (prepend_known client.input (incoming connection)) sent fits refl
-      (subst (λ (o : Option (List ℕ)). Stands (asks_with zero_moment ⊤) SLOTS client.talk start now (incoming origin)
+      (subst (λ (o : Option (List ℕ)).
+      Stands (asks_with zero_moment ⊤) SLOTS client.dialogue start now (incoming origin)
       (prepend_known client.input o) sent) (sym same) at)
   drained_at start origin client connection n now sent (Some parked) None fits same at = record {
     text = at.text;
     before = at.before;
     later = at.later;
-    asking = sends_asking (asks_with zero_moment ⊤) SLOTS parked.cred parked.request at.text n client.talk
-        (sent_on n client.talk) start at.before (incoming origin) (prepend_known at.later (incoming connection)) sent
+    asking = sends_asking (asks_with zero_moment ⊤) SLOTS parked.cred parked.request at.text n client.dialogue
+        (sent_on n client.dialogue) start at.before (incoming origin) (prepend_known at.later (incoming connection))
+        sent
         fits refl
         (subst (λ (o : Option (List ℕ)). StandsAsking (asks_with zero_moment ⊤) SLOTS parked.cred parked.request
-        at.text client.talk start at.before (incoming origin) (prepend_known at.later o) sent) (sym same) at.asking);
+        at.text client.dialogue start at.before (incoming origin) (prepend_known at.later o) sent) (sym same)
+        at.asking);
     frame = at.frame;
     size = at.size;
     waits = at.waits;
@@ -614,59 +622,60 @@ module _ {T : Type 0} (incoming outgoing : T → Option (List ℕ)) where
   drained_at start origin client connection n now sent None (Some why) fits same at = (
     at.0,
     subst (λ (o : Option (List ℕ)). IsBehind at.0 o) (sym same) at.1,
-    sends_stopped (asks_with zero_moment ⊤) SLOTS why n client.talk (sent_on n client.talk) start now (incoming origin)
+    sends_stopped (asks_with zero_moment ⊤) SLOTS why n client.dialogue (sent_on n client.dialogue) start now
+        (incoming origin)
         at.0 sent fits refl at.2,
   )
   drained_at start origin client connection n now sent (Some parked) (Some why) fits same at = absurd at
 
-  pub drained : (client : Sitting T) (connection : T) (n : ℕ) → n ≤ length client.talk.unsent.bytes →
+  pub drained : (client : Sitting T) (connection : T) (n : ℕ) → n ≤ length client.dialogue.unsent.bytes →
       incoming connection ≡ incoming client.connection →
-      Appends (outgoing client.connection) (outgoing connection) (take n client.talk.unsent.bytes) →
+      Appends (outgoing client.connection) (outgoing connection) (take n client.dialogue.unsent.bytes) →
       Keeps incoming outgoing client (with_sent connection n client)
   drained client connection n fits same wrote = λ now start origin sits. record {
-    sent = sits.sent ++ take n client.talk.unsent.bytes;
+    sent = sits.sent ++ take n client.dialogue.unsent.bytes;
     wrote = Appends-trans (outgoing origin) (outgoing client.connection) (outgoing connection) sits.sent
-        (take n client.talk.unsent.bytes) sits.wrote wrote;
+        (take n client.dialogue.unsent.bytes) sits.wrote wrote;
     at = drained_at start origin client connection n now sits.sent client.parked client.stopped fits same sits.at;
   }
 
-  abbrev pub with_talk : T → Talk → Sitting T → Sitting T
-  with_talk connection talk client = record {
+  abbrev pub with_dialogue : T → Dialogue → Sitting T → Sitting T
+  with_dialogue connection dialogue client = record {
     connection = connection;
-    talk = talk;
+    dialogue = dialogue;
     input = client.input;
     parked = client.parked;
     stopped = client.stopped;
     broken = client.broken;
   }
 
-  pub took : (client : Sitting T) (connection : T) (talk : Talk) (n : ℕ) (bytes : List ℕ) →
-      bytes ≡ client.talk.unsent.bytes → talk ≡ sent_on n client.talk →
+  pub took : (client : Sitting T) (connection : T) (dialogue : Dialogue) (n : ℕ) (bytes : List ℕ) →
+      bytes ≡ client.dialogue.unsent.bytes → dialogue ≡ sent_on n client.dialogue →
       incoming connection ≡ incoming client.connection →
       DrainAppends (outgoing client.connection) (outgoing connection) (Took n) bytes →
-      Keeps incoming outgoing client (with_talk connection talk client)
-  took client connection talk n bytes all is same appends =
-      keeps_to client (with_sent connection n client) (with_talk connection talk client)
-      (ap (λ (t : Talk). with_talk connection t client) is)
+      Keeps incoming outgoing client (with_dialogue connection dialogue client)
+  took client connection dialogue n bytes all is same appends =
+      keeps_to client (with_sent connection n client) (with_dialogue connection dialogue client)
+      (ap (λ (t : Dialogue). with_dialogue connection t client) is)
       (drained client connection n (subst (λ (l : List ℕ). n ≤ length l) all appends.1.0) same
       (subst (λ (l : List ℕ). Appends (outgoing client.connection) (outgoing connection) (take n l)) all appends.2))
 
   -- ---- the first and the last event
 
   -- A new client.
-  pub opened : (client : Sitting T) (pass : Pass) → client.talk.session.caller ≡ None →
-      client.talk.session.tally ≡ record { written = 0; lost = 0 } → client.talk.session.requests ≡ 0 →
-      client.talk.unsent ≡ record { bytes = []; marks = [] } → client.input ≡ [] → IsFree client →
+  pub opened : (client : Sitting T) (pass : Pass) → client.dialogue.session.caller ≡ None →
+      client.dialogue.session.tally ≡ record { written = 0; lost = 0 } → client.dialogue.session.requests ≡ 0 →
+      client.dialogue.unsent ≡ record { bytes = []; marks = [] } → client.input ≡ [] → IsFree client →
       Sits incoming outgoing pass client.connection client pass
   opened client pass caller tally requests unsent none free = record {
     sent = [];
     wrote = Appends-nil (outgoing client.connection);
     at = is_at pass client.connection client pass [] free
-        (subst (λ (o : Option (List ℕ)). Stands (asks_with zero_moment ⊤) SLOTS client.talk pass pass
+        (subst (λ (o : Option (List ℕ)). Stands (asks_with zero_moment ⊤) SLOTS client.dialogue pass pass
         (incoming client.connection) o [])
         (sym (ap (λ (l : List ℕ). prepend_known l (incoming client.connection)) none
         ∙ prepend_known-nil (incoming client.connection)))
-        (opens (asks_with zero_moment ⊤) SLOTS client.talk pass (incoming client.connection) caller tally requests
+        (opens (asks_with zero_moment ⊤) SLOTS client.dialogue pass (incoming client.connection) caller tally requests
         unsent));
   }
 
@@ -685,7 +694,7 @@ module _ {T : Type 0} (incoming outgoing : T → Option (List ℕ)) where
       (book book' : B) → Sits incoming outgoing start origin client now →
       closes.leaves book (incoming client.connection) (outgoing client.connection) book' →
       IsOver incoming outgoing closes start origin
-      (report (end_at_close client.parked client.stopped) client.talk) now book book'
+      (report (end_at_close client.parked client.stopped) client.dialogue) now book book'
   closed closes start origin client now book book' sits done =
       let why = end_at_close client.parked client.stopped in
       let stopped = closing_at start origin client now sits.sent client.parked client.stopped sits.at in
@@ -693,7 +702,7 @@ module _ {T : Type 0} (incoming outgoing : T → Option (List ℕ)) where
         rest = stopped.0;
         kept = incoming client.connection;
         more = outgoing client.connection;
-        serves = ends (asks_with zero_moment ⊤) SLOTS why client.talk start now (incoming origin) stopped.0
+        serves = ends (asks_with zero_moment ⊤) SLOTS why client.dialogue start now (incoming origin) stopped.0
             (outgoing origin) (outgoing client.connection) sits.sent stopped.2 sits.wrote;
         behind = stopped.1;
         closed = done;
@@ -701,12 +710,12 @@ module _ {T : Type 0} (incoming outgoing : T → Option (List ℕ)) where
 
   pub closed_over : {B : Type 0} (closes : Closing T B) (old client : Sitting T) (why : End) (served : Served)
       (book book' : B) → client ≡ old → why ≡ end_at_close client.parked client.stopped →
-      served ≡ report why client.talk →
+      served ≡ report why client.dialogue →
       closes.leaves book (incoming client.connection) (outgoing client.connection) book' →
       (start now : Pass) (origin : T) → Sits incoming outgoing start origin old now →
       IsOver incoming outgoing closes start origin served now book book'
   closed_over closes old client why served book book' same reason is done start now origin sits =
       let here = subst (λ (c : Sitting T). Sits incoming outgoing start origin c now) (sym same) sits in
       subst (λ (s : Served). IsOver incoming outgoing closes start origin s now book book')
-      (sym (is ∙ ap (λ (w : End). report w client.talk) reason))
+      (sym (is ∙ ap (λ (w : End). report w client.dialogue) reason))
       (closed closes start origin client now book book' here done)

@@ -22,7 +22,7 @@ use Rattle.sysv_session.specs.declared.session.TakenUp.{TakenUp}
 use Rattle.sysv_session.specs.declared.session.TakenUp.TheVariants.{Hello, Request as Asked}
 use Rattle.sysv_session.specs.Answers.{IsAsked, IsReplied as HasReply, MayAnswer}
 use Rattle.sysv_session.specs.Calls.{Meaning}
-use Rattle.sysv_session.specs.Conversation.{Puts, Talk, gathered}
+use Rattle.sysv_session.specs.Conversation.{Puts, Dialogue, gathered}
 use Rattle.sysv_session.specs.Outbox.{Unsent, with_frame}
 use Rattle.sysv_session.specs.Output.{hello_frame}
 use Rattle.sysv_session.specs.Stands.{Stands, StandsAsking, StandsGreeting}
@@ -45,7 +45,7 @@ use Rattle.sysv_wire.specs.declared.reply.ReplyContent.TheVariants as content
 use Rattle.sysv_wire.specs.declared.request.Ask.{Ask}
 use Rattle.sysv_wire.specs.declared.request.Ask.TheVariants as kind
 use Rattle.sysv_wire.specs.declared.request.Request.{Request}
-use Rattle.sysv_wire.specs.Requests.{ask_text, op_of, request_spelling}
+use Rattle.sysv_wire.specs.Requests.{ask_text, op_of, request_encoding}
 use Rattle.sysv_seats.specs.declared.parked.Parked.{Parked}
 use Rattle.sysv_seats.specs.declared.waiting.Waiting.{Waiting}
 use Rattle.sysv_seats.specs.declared.waiting.Waiting.TheVariants.{Send, Receive}
@@ -57,7 +57,7 @@ use Rattle.sysv_seats.specs.Parked.{receive_progress, send_progress}
 use Rattle.sysv_seats.specs.Replies.{done_reply, given_reply, id_reply, row_reply, stat_reply}
 use Rattle.sysv_seats.specs.Sits.{GreetsAs, HasAsked, HasFrame, HasStopped, IsAt, IsBehind, IsFree, IsPending, IsReady}
 use Rattle.sysv_seats.specs.Sits.{IsWaiting, ReadsNext, Sits, Sitting, is_early, is_wait_of}
-use Rattle.sysv_seats.specs.Sits.{messages_so_far, stopped_for, talking, with_input, zero_moment}
+use Rattle.sysv_seats.specs.Sits.{messages_so_far, stopped_for, conversing, with_input, zero_moment}
 
 -- What the calls of a client mean.
 abbrev Means : Meaning Pass
@@ -71,16 +71,16 @@ behind bytes None = (bytes, tt)
 behind bytes (Some xs) = (bytes, refl)
 
 -- Without a frame at its front the input is what follows the frame.
-drops : (size : ℕ) (input spelling later : List ℕ) → size ≡ length spelling → input ≡ spelling ++ later →
+drops : (size : ℕ) (input encoding later : List ℕ) → size ≡ length encoding → input ≡ encoding ++ later →
     drop size input ≡ later
-drops size input spelling later whole frame =
-    ap (drop size) frame ∙ drop_at spelling later size (sym whole)
+drops size input encoding later whole frame =
+    ap (drop size) frame ∙ drop_at encoding later size (sym whole)
 
 -- So many bytes were read, which were those of a frame.
-read_whole : (size : ℕ) (input spelling rest : List ℕ) → size ≡ length input - length rest →
-    input ≡ spelling ++ rest → size ≡ length spelling
-read_whole size input spelling rest read frame =
-    omega (arith, read, ap (length {A = ℕ}) frame, length-append spelling rest)
+read_whole : (size : ℕ) (input encoding rest : List ℕ) → size ≡ length input - length rest →
+    input ≡ encoding ++ rest → size ≡ length encoding
+read_whole size input encoding rest read frame =
+    omega (arith, read, ap (length {A = ℕ}) frame, length-append encoding rest)
 
 -- The frame of a parked call is in the input.
 pub frame_fits : (input : List ℕ) (parked : Option Parked) (call : Parked) → parked ≡ Some call →
@@ -89,12 +89,12 @@ frame_fits input parked call is has =
     (subst (λ (p : Option Parked). HasFrame input p) is has).0
 
 -- A frame at the front of the input is its first bytes.
-pub front : (input bytes later spelling : List ℕ) (start size until : ℕ) → until ≡ start + size →
-    drop start bytes ≡ input → size ≡ length spelling → input ≡ spelling ++ later →
-    take (until - start) (drop start bytes) ≡ spelling
-front input bytes later spelling start size until is same whole frame =
+pub front : (input bytes later encoding : List ℕ) (start size until : ℕ) → until ≡ start + size →
+    drop start bytes ≡ input → size ≡ length encoding → input ≡ encoding ++ later →
+    take (until - start) (drop start bytes) ≡ encoding
+front input bytes later encoding start size until is same whole frame =
     let n : until - start ≡ size = omega (arith, is) in
-    ap₂ (λ (k : ℕ) (l : List ℕ). take k l) n (same ∙ frame) ∙ take_at spelling later size (sym whole)
+    ap₂ (λ (k : ℕ) (l : List ℕ). take k l) n (same ∙ frame) ∙ take_at encoding later size (sym whole)
 
 -- ---- the kinds of waits
 
@@ -267,12 +267,13 @@ rest_from start items bytes same =
 -- What was taken up from the bytes of the input was taken up by the client.
 pub reads_from : {T : Type 0} (old new : Sitting T) (size : ℕ) (result : Result TakenUp End)
     (text bytes rest : List ℕ) → bytes ≡ old.input →
-    TakesUp old.talk.session new.talk.session result (Some bytes) (Some rest) text →
-    new.talk.unsent ≡ old.talk.unsent → new ≡ talking new.talk old → size ≡ length bytes - length rest →
+    TakesUp old.dialogue.session new.dialogue.session result (Some bytes) (Some rest) text →
+    new.dialogue.unsent ≡ old.dialogue.unsent → new ≡ conversing new.dialogue old → size ≡ length bytes - length rest →
     ReadsNext old size result text new
 reads_from old new size result text bytes rest same takes unsent still read = record {
   rest = rest;
-  takes = subst (λ (l : List ℕ). TakesUp old.talk.session new.talk.session result (Some l) (Some rest) text) same takes;
+  takes = subst (λ (l : List ℕ). TakesUp old.dialogue.session new.dialogue.session result (Some l) (Some rest) text)
+      same takes;
   unsent = unsent;
   same = still;
   read = subst (λ (l : List ℕ). size ≡ length l - length rest) same read;
@@ -280,10 +281,10 @@ reads_from old new size result text bytes rest same takes unsent still read = re
 
 -- A request that was taken up has no outcome yet.
 pub pending_next : {T : Type 0} (old new : Sitting T) (size : ℕ) (result : Result TakenUp End) (text : List ℕ)
-    (cred : Cred) (request : Request) → messages_so_far old.talk ≤ old.talk.session.requests →
+    (cred : Cred) (request : Request) → messages_so_far old.dialogue ≤ old.dialogue.session.requests →
     ReadsNext old size result text new → result ≡ Ok (Asked cred request) → IsPending new
 pending_next old new size result text cred request counted reads is =
-    let took = subst (λ (r : Result TakenUp End). TakesUp old.talk.session new.talk.session r (Some old.input)
+    let took = subst (λ (r : Result TakenUp End). TakesUp old.dialogue.session new.dialogue.session r (Some old.input)
     (Some reads.rest) text) is reads.takes in
     omega (
       arith,
@@ -345,30 +346,32 @@ module _ {T : Type 0} (incoming outgoing : T → Option (List ℕ)) where
           before p given now) is begun)
 
       -- Its reply was gathered.
-      pub put_reply : Puts (Ok tt) request.version outcome given old.talk new.talk → new.input ≡ drop size old.input →
+      pub put_reply : Puts (Ok tt) request.version outcome given old.dialogue new.dialogue →
+          new.input ≡ drop size old.input →
           new.parked ≡ None → new.stopped ≡ old.stopped → Sits incoming outgoing start origin new now
       put_reply put input parked stopped =
-          let stands = puts Means SLOTS cred request text outcome given old.talk start before now (incoming origin)
+          let stands = puts Means SLOTS cred request text outcome given old.dialogue start before now (incoming origin)
           (prepend_known asked.later (incoming old.connection)) asked.sent asked.asking means
-          (answers request.version request.ask came given outcome is may) new.talk put in
+          (answers request.version request.ask came given outcome is may) new.dialogue put in
           let left : new.input ≡ asked.later =
-          input ∙ drops size old.input (request_spelling request text) asked.later asked.whole asked.frame in
+          input ∙ drops size old.input (request_encoding request text) asked.later asked.whole asked.frame in
           record {
             sent = asked.sent;
             wrote = wrote;
             at = at_ready start origin new now asked.sent parked (stopped ∙ asked.going)
-                (subst₂ (λ (l : List ℕ) (t : T). Stands Means SLOTS new.talk start now (incoming origin)
+                (subst₂ (λ (l : List ℕ) (t : T). Stands Means SLOTS new.dialogue start now (incoming origin)
                 (prepend_known l (incoming t)) asked.sent) (sym left) (sym connection) stands);
           }
 
       -- It has no reply, and the client stops.
-      pub put_none : (why : End) → Puts (Err why) request.version outcome given old.talk new.talk →
+      pub put_none : (why : End) → Puts (Err why) request.version outcome given old.dialogue new.dialogue →
           new.parked ≡ None → new.stopped ≡ Some why → Sits incoming outgoing start origin new now
       put_none why put parked stopped =
           let rest = prepend_known asked.later (incoming old.connection) in
-          let stood = put_ends Means SLOTS cred request text outcome given old.talk start before now (incoming origin)
+          let stood =
+          put_ends Means SLOTS cred request text outcome given old.dialogue start before now (incoming origin)
           rest asked.sent asked.asking means (answers request.version request.ask came given outcome is may) why
-          new.talk put in
+          new.dialogue put in
           record {
             sent = asked.sent;
             wrote = wrote;
@@ -384,10 +387,10 @@ module _ {T : Type 0} (incoming outgoing : T → Option (List ℕ)) where
     pub parks : (came : Progress Waiting RequestOutcome) (waiting : Waiting) (given : List ℕ) →
         came ≡ progress.Waits waiting →
         HasBegun zero_moment request.version cred request.ask text before came given now →
-        new.talk ≡ old.talk → new.input ≡ old.input →
+        new.dialogue ≡ old.dialogue → new.input ≡ old.input →
         new.parked ≡ Some (record { cred = cred; request = request; waiting = waiting; length = size }) →
         new.stopped ≡ old.stopped → Sits incoming outgoing start origin new now
-    parks came waiting given is begun talk input parked stopped =
+    parks came waiting given is begun dialogue input parked stopped =
         let waits = subst (λ (p : Progress Waiting RequestOutcome). HasBegun zero_moment request.version cred
         request.ask text before p given now) is begun in
         record {
@@ -399,8 +402,9 @@ module _ {T : Type 0} (incoming outgoing : T → Option (List ℕ)) where
                 text = text;
                 before = before;
                 later = asked.later;
-                asking = subst₂ (λ (k : Talk) (t : T). StandsAsking Means SLOTS cred request text k start before
-                    (incoming origin) (prepend_known asked.later (incoming t)) asked.sent) (sym talk) (sym connection)
+                asking = subst₂ (λ (k : Dialogue) (t : T). StandsAsking Means SLOTS cred request text k start before
+                    (incoming origin) (prepend_known asked.later (incoming t)) asked.sent) (sym dialogue)
+                    (sym connection)
                     asked.asking;
                 frame = input ∙ asked.frame;
                 size = asked.whole;
@@ -452,9 +456,9 @@ module _ {T : Type 0} (incoming outgoing : T → Option (List ℕ)) where
     wrote_still = subst (λ (t : T). Appends (outgoing origin) (outgoing t) sits.sent) (sym stays) sits.wrote
 
     took : (is : Result TakenUp End) → result ≡ is →
-        TakesUp old.talk.session new.talk.session is (Some old.input) (Some reads.rest) text
+        TakesUp old.dialogue.session new.dialogue.session is (Some old.input) (Some reads.rest) text
     took is same =
-        subst (λ (r : Result TakenUp End). TakesUp old.talk.session new.talk.session r (Some old.input)
+        subst (λ (r : Result TakenUp End). TakesUp old.dialogue.session new.dialogue.session r (Some old.input)
         (Some reads.rest) text) same reads.takes
 
     -- A request is taken up.
@@ -462,20 +466,20 @@ module _ {T : Type 0} (incoming outgoing : T → Option (List ℕ)) where
         HasAsked incoming outgoing start origin new cred request text size now
     asks_next cred request is =
         let takes = took (Ok (Asked cred request)) is in
-        let took_more = takes_up_more old.talk.session new.talk.session (Ok (Asked cred request)) old.input
+        let took_more = takes_up_more old.dialogue.session new.dialogue.session (Ok (Asked cred request)) old.input
         reads.rest text
         (incoming old.connection) tt takes in
-        let stands = takes_request Means SLOTS cred request old.talk new.talk start now (incoming origin)
+        let stands = takes_request Means SLOTS cred request old.dialogue new.dialogue start now (incoming origin)
         (prepend_known old.input (incoming old.connection)) (prepend_known reads.rest (incoming old.connection))
         sits.sent text (ready start origin old now free sits) took_more reads.unsent in
         record {
           sent = sits.sent;
           wrote = wrote_still;
           later = reads.rest;
-          asking = subst (λ (t : T). StandsAsking Means SLOTS cred request text new.talk start now (incoming origin)
+          asking = subst (λ (t : T). StandsAsking Means SLOTS cred request text new.dialogue start now (incoming origin)
               (prepend_known reads.rest (incoming t)) sits.sent) (sym stays) stands;
           frame = ap (λ (s : Sitting T). s.input) reads.same ∙ takes.3.0;
-          whole = read_whole size old.input (request_spelling request text) reads.rest reads.read takes.3.0;
+          whole = read_whole size old.input (request_encoding request text) reads.rest reads.read takes.3.0;
           going = ap (λ (s : Sitting T). s.stopped) reads.same ∙ free.1;
         }
 
@@ -483,10 +487,10 @@ module _ {T : Type 0} (incoming outgoing : T → Option (List ℕ)) where
     pub stops_next : (why : End) (last : Sitting T) → result ≡ Err why → IsSettled (Err why) (incoming old.connection) →
         last ≡ stopped_for why new → Sits incoming outgoing start origin last now
     stops_next why last is settled same =
-        let took_more = takes_up_more old.talk.session new.talk.session (Err why) old.input reads.rest text
+        let took_more = takes_up_more old.dialogue.session new.dialogue.session (Err why) old.input reads.rest text
         (incoming old.connection) settled (took (Err why) is) in
         let rest = prepend_known reads.rest (incoming old.connection) in
-        let stood = stops Means SLOTS why old.talk new.talk start now (incoming origin)
+        let stood = stops Means SLOTS why old.dialogue new.dialogue start now (incoming origin)
         (prepend_known old.input (incoming old.connection)) rest sits.sent text
         (ready start origin old now free sits) took_more reads.unsent in
         let at_new : HasStopped incoming outgoing start origin (stopped_for why new) now sits.sent why = (
@@ -504,11 +508,11 @@ module _ {T : Type 0} (incoming outgoing : T → Option (List ℕ)) where
         })
 
     -- A hello is taken up, and its reply is gathered, or memory is refused for it.
-    greeted : (version : Version) (last : Sitting T) → StandsGreeting version new.talk start now (incoming origin)
+    greeted : (version : Version) (last : Sitting T) → StandsGreeting version new.dialogue start now (incoming origin)
         (prepend_known (drop size new.input) (incoming new.connection)) sits.sent →
         GreetsAs version (with_input (drop size new.input) new) last → Sits incoming outgoing start origin last now
     greeted version last stands (inl same) =
-        let answered = talking (gathered (with_frame (hello_frame version SLOTS)) new.talk)
+        let answered = conversing (gathered (with_frame (hello_frame version SLOTS)) new.dialogue)
         (with_input (drop size new.input) new) in
         subst (λ (s : Sitting T). Sits incoming outgoing start origin s now) (sym same)
         (record {
@@ -516,7 +520,7 @@ module _ {T : Type 0} (incoming outgoing : T → Option (List ℕ)) where
           wrote = wrote_still;
           at = at_ready start origin answered now sits.sent (ap (λ (s : Sitting T). s.parked) reads.same ∙ free.0)
               (ap (λ (s : Sitting T). s.stopped) reads.same ∙ free.1)
-              (greets Means SLOTS version new.talk answered.talk start now (incoming origin)
+              (greets Means SLOTS version new.dialogue answered.dialogue start now (incoming origin)
               (prepend_known (drop size new.input) (incoming new.connection)) sits.sent stands refl);
         })
     greeted version last stands (inr same) =
@@ -529,7 +533,7 @@ module _ {T : Type 0} (incoming outgoing : T → Option (List ℕ)) where
               (ap (λ (s : Sitting T). s.parked) reads.same ∙ free.0) refl (
                 prepend_known (drop size new.input) (incoming new.connection),
                 behind (drop size new.input) (incoming new.connection),
-                greet_ends Means SLOTS version new.talk start now (incoming origin)
+                greet_ends Means SLOTS version new.dialogue start now (incoming origin)
                     (prepend_known (drop size new.input) (incoming new.connection)) sits.sent stands,
               );
         })
@@ -538,16 +542,17 @@ module _ {T : Type 0} (incoming outgoing : T → Option (List ℕ)) where
         GreetsAs version (with_input (drop size new.input) new) last → Sits incoming outgoing start origin last now
     greets_next version last is greets_as =
         let takes = took (Ok (Hello version)) is in
-        let spelled = takes.2.1 in
-        let took_more = takes_up_more old.talk.session new.talk.session (Ok (Hello version)) old.input reads.rest text
+        let encoded = takes.2.1 in
+        let took_more =
+        takes_up_more old.dialogue.session new.dialogue.session (Ok (Hello version)) old.input reads.rest text
         (incoming old.connection) tt takes in
-        let stands = takes_hello Means SLOTS version old.talk new.talk start now (incoming origin)
+        let stands = takes_hello Means SLOTS version old.dialogue new.dialogue start now (incoming origin)
         (prepend_known old.input (incoming old.connection)) (prepend_known reads.rest (incoming old.connection))
         sits.sent text (ready start origin old now free sits) took_more reads.unsent in
         let input : new.input ≡ old.input = ap (λ (s : Sitting T). s.input) reads.same in
         let left : drop size new.input ≡ reads.rest =
-        drops size new.input _ reads.rest (read_whole size old.input _ reads.rest reads.read spelled)
-        (input ∙ spelled) in
+        drops size new.input _ reads.rest (read_whole size old.input _ reads.rest reads.read encoded)
+        (input ∙ encoded) in
         greeted version last
-        (subst₂ (λ (l : List ℕ) (t : T). StandsGreeting version new.talk start now (incoming origin)
+        (subst₂ (λ (l : List ℕ) (t : T). StandsGreeting version new.dialogue start now (incoming origin)
         (prepend_known l (incoming t)) sits.sent) (sym left) (sym stays) stands) greets_as

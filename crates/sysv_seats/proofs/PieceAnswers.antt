@@ -11,7 +11,7 @@ use Rattle.sysv_steps.specs.declared.receive.ReceiveWait.{ReceiveWait}
 use Rattle.sysv_steps.specs.declared.send.SendWait.{SendWait}
 use Rattle.sysv_service.specs.Ran.{Pass}
 use Rattle.sysv_service.specs.Told.{TellsGot}
-use Rattle.sysv_service.specs.UnderWay.{ReceivesOn}
+use Rattle.sysv_service.specs.Pending.{ReceivesOn}
 use Rattle.sysv_steps.specs.State.{State, Ending, Got, Refused}
 use Rattle.sysv_wire.specs.declared.frame.Version.{Version}
 use Rattle.sysv_wire.specs.declared.request.Ask.{Ask}

@@ -11,7 +11,7 @@ use Rattle.sysv_wire.specs.declared.request.Ask.TheVariants.{Hello, Get, Snd, Rc
 use Rattle.sysv_wire.specs.declared.request.Request.{Request}
 use Rattle.sysv_wire.specs.Frames.{frame, op_number, version_number}
 use Rattle.sysv_wire.specs.Numbers.{u32_bytes, i32_bytes, i64_bytes}
-use Rattle.sysv_wire.specs.Requests.{ask_fields, ask_text, op_of, request_spelling}
+use Rattle.sysv_wire.specs.Requests.{ask_fields, ask_text, op_of, request_encoding}
 
 -- The operation is a send.
 abbrev IsSnd : Op → Type 0
@@ -36,15 +36,15 @@ after_fields n version (Rm id) body is = absurd is
 after_fields n version (Row slot) body is = absurd is
 
 pub body_begins : (request : Request) (body : List ℕ) → op_of request.ask ≡ op.Snd →
-    (drop 22 (request_spelling request body) ≡ body) × (length (request_spelling request body) ≡ 22 + length body)
+    (drop 22 (request_encoding request body) ≡ body) × (length (request_encoding request body) ≡ 22 + length body)
 unfolding frame
 body_begins request body is = after_fields _ request.version request.ask body (subst IsSnd (sym is) tt)
 
 -- What follows the first 22 bytes of such a frame is the body.
-pub rest_is_body : (request : Request) (body spelled rest : List ℕ) → op_of request.ask ≡ op.Snd →
-    spelled ≡ request_spelling request body → rest ≡ slice_range spelled 22 (length spelled) → rest ≡ body
-rest_is_body request body spelled rest is same cut =
+pub rest_is_body : (request : Request) (body encoded rest : List ℕ) → op_of request.ask ≡ op.Snd →
+    encoded ≡ request_encoding request body → rest ≡ slice_range encoded 22 (length encoded) → rest ≡ body
+rest_is_body request body encoded rest is same cut =
     let begins = body_begins request body is in
-    let long : length spelled ≡ 22 + length body = ap length same ∙ begins.1 in
-    let after : drop 22 spelled ≡ body = ap (drop 22) same ∙ begins.0 in
-    cut ∙ ap (take (length spelled - 22)) after ∙ take_all (length spelled - 22) body (omega (arith, long))
+    let long : length encoded ≡ 22 + length body = ap length same ∙ begins.1 in
+    let after : drop 22 encoded ≡ body = ap (drop 22) same ∙ begins.0 in
+    cut ∙ ap (take (length encoded - 22)) after ∙ take_all (length encoded - 22) body (omega (arith, long))

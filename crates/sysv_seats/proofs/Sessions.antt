@@ -42,25 +42,25 @@ module _ {K S C : Type 0} (service : K → S) (clock : K → C) (pass : K → Pa
             counts = stays.counts;
           }),
         )
-        | inr talks ↦
-            let led = leads talks.cred old talks.calls new talks.leads in (
+        | inr converses ↦
+            let led = leads converses.cred old converses.calls new converses.leads in (
               led.0,
               led.1,
               inr (record {
-                version = talks.version;
-                cred = talks.cred;
-                known = talks.known;
-                calls = talks.calls;
-                are_calls = talks.are_calls;
+                version = converses.version;
+                cred = converses.cred;
+                known = converses.known;
+                calls = converses.calls;
+                are_calls = converses.are_calls;
                 leads = led.2;
-                unread = talks.unread;
-                reads = talks.reads;
-                ends = talks.ends;
-                replies = talks.replies;
-                writes = talks.writes;
-                tallies = talks.tallies;
-                counts = talks.counts;
-                bounded = talks.bounded;
+                unread = converses.unread;
+                reads = converses.reads;
+                ends = converses.ends;
+                replies = converses.replies;
+                writes = converses.writes;
+                tallies = converses.tallies;
+                counts = converses.counts;
+                bounded = converses.bounded;
               }),
             )
       ]

@@ -14,7 +14,7 @@ use Rattle.sysv_steps.specs.declared.send.SendWait.{SendWait}
 use Rattle.sysv_service.specs.Pieces.{sends_on, receives_on, comes_to_goal, comes_to_wait}
 use Rattle.sysv_service.specs.Ran.{Pass}
 use Rattle.sysv_steps.specs.Seen.{receive_wait, send_wait}
-use Rattle.sysv_service.specs.UnderWay.{ReceivesOn, SendsOn, IsReached, StillWaits}
+use Rattle.sysv_service.specs.Pending.{ReceivesOn, SendsOn, IsReached, StillWaits}
 use Rattle.sysv_steps.specs.Begin.{begin}
 use Rattle.sysv_steps.specs.Call.{Msgsnd, Msgrcv}
 use Rattle.sysv_steps.specs.State.{Phase, Goes}

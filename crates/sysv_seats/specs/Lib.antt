@@ -4,7 +4,7 @@ pub mod Requests
 pub mod Asked
 pub mod HandlesKept
 pub mod Parked
-pub mod News
+pub mod Notification
 pub mod InPieces
 pub mod Breaking
 pub mod Untold

@@ -16,7 +16,7 @@ use Rattle.sysv_steps.specs.declared.receive.ReceiveWait.{ReceiveWait}
 use Rattle.sysv_steps.specs.declared.send.SendWait.{SendWait}
 use Rattle.sysv_service.specs.Ran.{Pass}
 use Rattle.sysv_steps.specs.Seen.{receive_wait, send_wait}
-use Rattle.sysv_service.specs.UnderWay.{ReceivesOn, SendsOn, IsReached, StillWaits}
+use Rattle.sysv_service.specs.Pending.{ReceivesOn, SendsOn, IsReached, StillWaits}
 use Rattle.sysv_steps.specs.Call.{Msgsnd, Msgrcv}
 use Rattle.sysv_steps.specs.Resume.{Count, ArrivedOf, FreedOf, Released}
 use Rattle.sysv_steps.specs.State.{Phase, Wait, Goes, Waits}

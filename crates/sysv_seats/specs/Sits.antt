@@ -15,7 +15,7 @@ use Rattle.sysv_session.specs.declared.served.Served.{Served}
 use Rattle.sysv_session.specs.declared.served.End.TheVariants.{Ended, NoMemory, NoHello, Fault, Write, Bound, Left}
 use Rattle.sysv_session.specs.declared.served.End.TheVariants.{Reset}
 use Rattle.sysv_session.specs.declared.session.TakenUp.{TakenUp}
-use Rattle.sysv_session.specs.Conversation.{Talk, gathered}
+use Rattle.sysv_session.specs.Conversation.{Dialogue, gathered}
 use Rattle.sysv_session.specs.Outbox.{with_frame}
 use Rattle.sysv_session.specs.Output.{hello_frame}
 use Rattle.sysv_session.specs.TakenUp.{TakesUp}
@@ -26,7 +26,7 @@ use Rattle.sysv_wire.specs.declared.frame.Version.{Version}
 use Rattle.sysv_wire.specs.declared.request.Ask.{Ask}
 use Rattle.sysv_wire.specs.declared.request.Ask.TheVariants.{Snd, Rcv}
 use Rattle.sysv_wire.specs.declared.request.Request.{Request}
-use Rattle.sysv_wire.specs.Requests.{request_spelling}
+use Rattle.sysv_wire.specs.Requests.{request_encoding}
 use Rattle.sysv_seats.specs.declared.parked.Parked.{Parked}
 use Rattle.sysv_seats.specs.declared.waiting.Waiting.{Waiting}
 use Rattle.sysv_seats.specs.declared.waiting.Waiting.TheVariants.{Send, Receive}
@@ -48,7 +48,7 @@ parked_bytes (Some parked) = parked.length
 -- What the contracts see of a client.
 pub record Sitting (T : Type 0) : Type 0 where
   pub connection : T
-  pub talk : Talk
+  pub dialogue : Dialogue
   pub input : List ℕ
   pub parked : Option Parked
   pub stopped : Option End
@@ -70,7 +70,7 @@ module _ {T : Type 0} (incoming outgoing : T → Option (List ℕ)) where
   -- More can be taken up. The session began with the pass `start` and on the connection `origin`.
   abbrev pub IsReady : Pass → T → Sitting T → Pass → List ℕ → Type 0
   IsReady start origin client now sent =
-      Stands (asks_with zero_moment ⊤) SLOTS client.talk start now (incoming origin) (unread client) sent
+      Stands (asks_with zero_moment ⊤) SLOTS client.dialogue start now (incoming origin) (unread client) sent
 
   -- The request of this call was taken up, and its frame is still at the front of the input. The call
   -- waits.
@@ -79,16 +79,17 @@ module _ {T : Type 0} (incoming outgoing : T → Option (List ℕ)) where
     pub text : List ℕ
     pub before : Pass
     pub later : List ℕ
-    pub asking : StandsAsking (asks_with zero_moment ⊤) SLOTS parked.cred parked.request text client.talk start before
+    pub asking : StandsAsking (asks_with zero_moment ⊤) SLOTS parked.cred parked.request text client.dialogue start
+        before
         (incoming origin) (prepend_known later (incoming client.connection)) sent
-    pub frame : client.input ≡ request_spelling parked.request text ++ later
-    pub size : parked.length ≡ length (request_spelling parked.request text)
+    pub frame : client.input ≡ request_encoding parked.request text ++ later
+    pub size : parked.length ≡ length (request_encoding parked.request text)
     pub waits : IsParked zero_moment parked.cred parked.request.ask text before parked.waiting now
 
   -- It takes up no more, for this reason.
   abbrev pub HasStopped : Pass → T → Sitting T → Pass → List ℕ → End → Type 0
   HasStopped start origin client now sent why = (rest : Option (List ℕ)) × IsBehind rest (incoming client.connection)
-      × Stopped (asks_with zero_moment ⊤) SLOTS why client.talk start now (incoming origin) rest sent
+      × Stopped (asks_with zero_moment ⊤) SLOTS why client.dialogue start now (incoming origin) rest sent
 
   abbrev pub IsAt : Pass → T → Sitting T → Pass → List ℕ → Option Parked → Option End → Type 0
   IsAt start origin client now sent None None = IsReady start origin client now sent
@@ -130,10 +131,10 @@ module _ {T : Type 0} (incoming outgoing : T → Option (List ℕ)) where
     pub sent : List ℕ
     pub wrote : Appends (outgoing origin) (outgoing client.connection) sent
     pub later : List ℕ
-    pub asking : StandsAsking (asks_with zero_moment ⊤) SLOTS cred request text client.talk start before
+    pub asking : StandsAsking (asks_with zero_moment ⊤) SLOTS cred request text client.dialogue start before
         (incoming origin) (prepend_known later (incoming client.connection)) sent
-    pub frame : client.input ≡ request_spelling request text ++ later
-    pub whole : size ≡ length (request_spelling request text)
+    pub frame : client.input ≡ request_encoding request text ++ later
+    pub whole : size ≡ length (request_encoding request text)
     pub going : client.stopped ≡ None
 
 -- ---- steps within an event
@@ -143,11 +144,11 @@ module _ {T : Type 0} where
   abbrev pub IsFree : Sitting T → Type 0
   IsFree client = (client.parked ≡ None) × (client.stopped ≡ None)
 
-  -- The client with this talk, input or reason to stop.
-  abbrev pub talking : Talk → Sitting T → Sitting T
-  talking talk client = record {
+  -- The client with this dialogue, input or reason to stop.
+  abbrev pub conversing : Dialogue → Sitting T → Sitting T
+  conversing dialogue client = record {
     connection = client.connection;
-    talk = talk;
+    dialogue = dialogue;
     input = client.input;
     parked = client.parked;
     stopped = client.stopped;
@@ -157,7 +158,7 @@ module _ {T : Type 0} where
   abbrev pub with_input : List ℕ → Sitting T → Sitting T
   with_input input client = record {
     connection = client.connection;
-    talk = client.talk;
+    dialogue = client.dialogue;
     input = input;
     parked = client.parked;
     stopped = client.stopped;
@@ -167,7 +168,7 @@ module _ {T : Type 0} where
   abbrev pub stopped_for : End → Sitting T → Sitting T
   stopped_for why client = record {
     connection = client.connection;
-    talk = client.talk;
+    dialogue = client.dialogue;
     input = client.input;
     parked = client.parked;
     stopped = Some why;
@@ -178,7 +179,7 @@ module _ {T : Type 0} where
   abbrev pub broken_off : Sitting T → Sitting T
   broken_off client = record {
     connection = client.connection;
-    talk = client.talk;
+    dialogue = client.dialogue;
     input = client.input;
     parked = client.parked;
     stopped = client.stopped;
@@ -189,7 +190,7 @@ module _ {T : Type 0} where
   abbrev pub broken_off_for : End → Sitting T → Sitting T
   broken_off_for why client = record {
     connection = client.connection;
-    talk = client.talk;
+    dialogue = client.dialogue;
     input = client.input;
     parked = client.parked;
     stopped = Some (unwrap_or client.stopped why);
@@ -199,7 +200,7 @@ module _ {T : Type 0} where
   -- Nothing is left to do but to close the client: its connection takes no more replies, or it has
   -- stopped and its connection has taken all of them.
   abbrev pub is_finished : Sitting T → Bool
-  is_finished client = client.broken || (is_some client.stopped && (length client.talk.unsent.bytes == 0))
+  is_finished client = client.broken || (is_some client.stopped && (length client.dialogue.unsent.bytes == 0))
 
   -- Nothing is left to do but to close the client, or its session may be broken off.
   abbrev pub MayClose : Breaks → Sitting T → Type 0
@@ -211,7 +212,7 @@ module _ {T : Type 0} where
 
   -- The reply to a hello of this version was gathered, or memory for it was refused.
   abbrev pub GreetsAs : Version → Sitting T → Sitting T → Type 0
-  GreetsAs version old new = (new ≡ talking (gathered (with_frame (hello_frame version SLOTS)) old.talk) old)
+  GreetsAs version old new = (new ≡ conversing (gathered (with_frame (hello_frame version SLOTS)) old.dialogue) old)
       ⊎ (new ≡ stopped_for NoMemory old)
 
   -- This was taken up at the front of the input, or this is why nothing was. So many bytes were
@@ -219,9 +220,9 @@ module _ {T : Type 0} where
   pub record ReadsNext (old : Sitting T) (size : ℕ) (result : Result TakenUp End) (text : List ℕ)
       (new : Sitting T) : Type 0 where
     pub rest : List ℕ
-    pub takes : TakesUp old.talk.session new.talk.session result (Some old.input) (Some rest) text
-    pub unsent : new.talk.unsent ≡ old.talk.unsent
-    pub same : new ≡ talking new.talk old
+    pub takes : TakesUp old.dialogue.session new.dialogue.session result (Some old.input) (Some rest) text
+    pub unsent : new.dialogue.unsent ≡ old.dialogue.unsent
+    pub same : new ≡ conversing new.dialogue old
     pub read : size ≡ length old.input - length rest
 
 -- The end may only mean that more bytes are to come, unless this is the end of the input. No read of
@@ -261,8 +262,8 @@ HasFrame input parked =
     IfSome parked (λ p. (p.length ≤ length input) × (is_wait_of p.request.ask p.waiting ≡ true))
 
 -- The number of messages that were counted or are in the outbox.
-abbrev pub messages_so_far : Talk → ℕ
-messages_so_far talk = taken_in talk.session.tally + length talk.unsent.marks
+abbrev pub messages_so_far : Dialogue → ℕ
+messages_so_far dialogue = taken_in dialogue.session.tally + length dialogue.unsent.marks
 
 -- 1 for a parked call, whose request has no outcome yet.
 abbrev pub parked_calls : Option Parked → ℕ
@@ -271,10 +272,10 @@ parked_calls (Some parked) = 1
 
 -- There was at most one message for each request that was taken up, and none yet for that of a parked
 -- call.
-abbrev pub IsCounted : Talk → Option Parked → Type 0
-IsCounted talk parked = (messages_so_far talk + parked_calls parked ≤ talk.session.requests)
-    × (talk.session.requests < 2 ^ 32) × (talk.session.caller ≡ None → talk.session.requests ≡ 0)
+abbrev pub IsCounted : Dialogue → Option Parked → Type 0
+IsCounted dialogue parked = (messages_so_far dialogue + parked_calls parked ≤ dialogue.session.requests)
+    × (dialogue.session.requests < 2 ^ 32) × (dialogue.session.caller ≡ None → dialogue.session.requests ≡ 0)
 
 -- A request was taken up that has no outcome yet.
 abbrev pub IsPending : {T : Type 0} → Sitting T → Type 0
-IsPending client = messages_so_far client.talk < client.talk.session.requests
+IsPending client = messages_so_far client.dialogue < client.dialogue.session.requests

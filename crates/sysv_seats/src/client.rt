@@ -4,16 +4,16 @@ ghost use Rattle.std.specs.Io.KnownBytes.{IsAtEnd};
 ghost use Rattle.sysv_service.specs.Ran.{Pass};
 ghost use Rattle.sysv_session.specs.Answers.{IsAsked};
 ghost use Rattle.sysv_session.specs.TakenUp.{TakesUp};
-ghost use Rattle.sysv_wire.specs.Requests.{op_of, request_spelling};
+ghost use Rattle.sysv_wire.specs.Requests.{op_of, request_encoding};
 ghost use Rattle.sysv_seats.specs.Breaking.{MayBreak, MayEnd};
 ghost use Rattle.sysv_seats.specs.HandlesKept.{KeepsHandles};
-ghost use Rattle.sysv_seats.specs.News.{Keeps as KeepsNews, news_of, told_of};
+ghost use Rattle.sysv_seats.specs.Notification.{Keeps as KeepsNotification, notifications_of, told_of};
 ghost use Rattle.sysv_seats.specs.Parked.{HasBegun, IsReplied, MayProgress};
 ghost use Rattle.sysv_seats.specs.Sits.{Arrives, GreetsAs, HasAsked, IsFree, IsOver, IsPending, Keeps, KeepsWith, MayClose, ReadsNext, Sits, broken_off_for, end_at_close, is_early as early, is_finished, parked_bytes, parked_wait, stopped_for, zero_moment};
 
 use crate::handler::ServiceHandler;
-use crate::news::Told;
 use crate::non_blocking::{Drained, Filled, NonBlocking, Over};
+use crate::notification::Told;
 use crate::parked::Parked;
 use crate::send_frame::snd_text;
 use crate::tools::{SHARE, Tools};
@@ -24,7 +24,7 @@ use std::io::Read;
 use std::marker::Model;
 use std::sync::Wait;
 use sysv_keys::SLOTS;
-use sysv_model::{Body, Cred, MESSAGE_BYTES, Watched};
+use sysv_model::{Body, Cred, Instrumented, MESSAGE_BYTES};
 use sysv_service::Progress;
 use sysv_session::{Conversation, End, RequestOutcome, Served, TakenUp};
 use sysv_wire::{Ask, Fault, FrameIn, Op, Request, Version, frame_in};
@@ -37,10 +37,10 @@ const MOST_KEPT: usize = 1_024;
 
 /// One client on a connection, from the first byte of its session to the last.
 ///
-/// All that happens to it is an event: bytes may be there to be read (`note_readable`, `take_turn`),
-/// the connection may take bytes (`drain`), what its parked call waits for may have changed
-/// (`go_on`), its peer has left (`leave`), or a limit has passed (`cut`). No event waits for the
-/// client or for a count. After each event `is_over` states whether to close it.
+/// All that happens to it is an event: bytes may be there to be read (`note_readable`,
+/// `take_turn`), the connection may take bytes (`drain`), what its parked call waits for may have
+/// changed (`go_on`), its peer has left (`leave`), or a limit has passed (`cut`). No event waits
+/// for the client or for a count. After each event `is_over` states whether to close it.
 ///
 /// A client can be neither dropped nor copied. Spend it with `close`.
 pub struct Client<T: NonBlocking> {
@@ -75,7 +75,7 @@ impl<T: NonBlocking> Model for Client<T> {
 
     ghost view = { λ c. record {
       connection = c.connection;
-      talk = c.conversation;
+      dialogue = c.conversation;
       input = drop c.start c.input.items;
       parked = c.parked;
       stopped = c.stopped;
@@ -145,14 +145,14 @@ impl<T: NonBlocking> Client<T> {
 
     /// Returns whether replies wait for the connection.
     pub fn has_unsent(&self) -> bool
-        ensures { result ≡ not (length self.now.talk.unsent.bytes == 0) }
+        ensures { result ≡ not (length self.now.dialogue.unsent.bytes == 0) }
     {
         !self.conversation.is_empty()
     }
 
     /// Returns the number of bytes of replies that the connection has not taken.
     pub fn unsent_bytes(&self) -> usize
-        ensures { result ≡ length self.now.talk.unsent.bytes }
+        ensures { result ≡ length self.now.dialogue.unsent.bytes }
     {
         self.conversation.waiting_bytes()
     }
@@ -349,7 +349,7 @@ impl<T: NonBlocking> Client<T> {
         ensures keeps { Keeps T.incoming T.outgoing self.old self.new }
         ensures none { self.new.parked ≡ None }
         ensures same { (self.new.connection ≡ self.old.connection)
-            × (self.new.talk ≡ self.old.talk) × (self.new.broken ≡ self.old.broken) }
+            × (self.new.dialogue ≡ self.old.dialogue) × (self.new.broken ≡ self.old.broken) }
     {
         let Some(parked) = self.parked else {
             return;
@@ -381,7 +381,7 @@ impl<T: NonBlocking> Client<T> {
 
     /// Ends the client because a write failed.
     fn fail(&mut self)
-        requires unsent { self.old.talk.unsent.bytes ≢ [] }
+        requires unsent { self.old.dialogue.unsent.bytes ≢ [] }
         requires writing { (T.closes.breaks self.old.connection).writing ≡ true }
         ensures keeps { Keeps T.incoming T.outgoing self.old self.new }
         ensures broken { self.new.broken ≡ true }
@@ -451,6 +451,8 @@ impl<T: NonBlocking> Client<T> {
     {
         if self.input.extend_from_slice(bytes).is_err() {
             self.stop(End::NoMemory);
+        } else {
+            self.conversation.make_room(bytes.len());
         }
     }
 
@@ -509,6 +511,7 @@ impl<T: NonBlocking> Client<T> {
 
     /// Takes up what is at the front of the input. Returns the number of bytes that were read, and
     /// what was taken up or why nothing was. The bytes are still in the input.
+    #[inline(always)]
     fn read_next(&mut self, text: &mut Body) -> (usize, Result<TakenUp, End>)
         requires free { IsFree self.old }
         ensures takes { ReadsNext self.old result.0 result.1 text.new self.new }
@@ -536,6 +539,7 @@ impl<T: NonBlocking> Client<T> {
 
     /// Begins the call of a request that was taken up, whose frame of this length is at the front
     /// of the input. `tools.text` is the body of the request.
+    #[inline(always)]
     fn ask<R: Wait>(
         &mut self,
         cred: Cred,
@@ -562,6 +566,7 @@ impl<T: NonBlocking> Client<T> {
 
     /// Gathers the outcome of a request whose frame of this length is at the front of the input, or
     /// parks its call.
+    #[inline(always)]
     fn settle(
         &mut self,
         cred: Cred,
@@ -579,7 +584,8 @@ impl<T: NonBlocking> Client<T> {
             HasBegun zero_moment request.version cred request.ask text before progress
             tools.old.given now →
             Sits T.incoming T.outgoing start origin self.new now }
-        ensures news { KeepsNews (news_of (told_of request.ask progress)) tools.old tools.new }
+        ensures notifications { KeepsNotification (notifications_of (told_of request.ask progress))
+            tools.old tools.new }
         ensures breaks { T.closes.breaks self.new.connection
             ≡ T.closes.breaks self.old.connection }
     {
@@ -611,8 +617,8 @@ impl<T: NonBlocking> Client<T> {
     fn recall(&self, parked: &Parked, text: &mut Body)
         requires { self.now.parked ≡ Some parked.now }
         ensures { (body later : List ℕ) → IsAsked parked.now.request body →
-            parked.now.length ≡ length (request_spelling parked.now.request body) →
-            self.now.input ≡ request_spelling parked.now.request body ++ later → text.new ≡ body }
+            parked.now.length ≡ length (request_encoding parked.now.request body) →
+            self.now.input ≡ request_encoding parked.now.request body ++ later → text.new ≡ body }
     {
         text.clear();
         if let Ask::Snd { .. } = parked.request.ask {
@@ -637,6 +643,7 @@ impl<T: NonBlocking> Client<T> {
 }
 
 /// Takes up what the input holds next, as `Conversation::take_up` does.
+#[inline(always)]
 fn take_up_from<R: Read>(
     conversation: &mut Conversation,
     input: &mut R,
@@ -646,7 +653,7 @@ fn take_up_from<R: Read>(
         (R.remaining input.old) (R.remaining input.new) text.new }
     ensures unsent { conversation.new.unsent ≡ conversation.old.unsent }
 {
-    conversation.take_up(&mut Watched::new(input), text)
+    conversation.take_up(&mut Instrumented::new(input), text)
 }
 
 /// Returns why the session of a client ends that is closed with this call and for this reason.

@@ -1,10 +1,10 @@
 //! The handler of a session over a service.
 
 ghost use Rattle.std.specs.Prelude.{◌≡◌, ◌≢◌, ◌≤◌, ℕ, List, [], Some};
-ghost use Rattle.sysv_model.specs.Watched.{stream_of, KeepsStream};
+ghost use Rattle.sysv_model.specs.Instrumented.{stream_of, KeepsStream};
 ghost use Rattle.sysv_service.specs.Seats.{AreOf};
 ghost use Rattle.sysv_session.specs.Answers.{MayAnswer};
-ghost use Rattle.sysv_session.specs.Course.{Course, Follows, Takes};
+ghost use Rattle.sysv_session.specs.Parse.{Parse, Follows, Takes};
 ghost use Rattle.sysv_session.specs.Failing.{is_failed_read, is_failed_write};
 ghost use Rattle.sysv_seats.specs.Asked.{Gets, Sends, Receives, Stats, Sets, Removes, ServesPass, Shows};
 ghost use Rattle.sysv_seats.specs.Replies.{reply as the_reply, shown_stat as stat_shown, shown_row as row_shown};
@@ -13,9 +13,9 @@ use std::alloc::Global;
 use std::io::{Read, Write};
 use std::sync::Wait;
 use sysv_keys::SLOTS;
-use sysv_model::{Body, Cred, Flags, Row, SetTo, Stat, Watched};
+use sysv_model::{Body, Cred, Flags, Instrumented, Row, SetTo, Stat};
 use sysv_service::{Clock, Pass, Service};
-use sysv_session::{End, Handler, RequestOutcome, Served, Texts, serve, serve_watched};
+use sysv_session::{End, Handler, RequestOutcome, Served, Texts, serve_instrumented};
 use sysv_wire::{Ask, MAX_MODE, Op, Reply, ReplyContent, Request, Version};
 
 /// The handler of one session over a service. Each request, except one for a row, is one call of
@@ -58,53 +58,39 @@ impl<'a, C: Clock, R: Wait> ServiceHandler<'a, C, R> {
         }
     }
 
-    /// Runs one session with this handler, like `sysv_session::serve`.
+    /// Runs one session with this handler, like `sysv_session::serve_instrumented`. Allocates
+    /// nothing for the session.
     ///
     /// The reply to a hello of version 2 states `sysv_keys::SLOTS` slots.
-    pub fn serve<I: Read, O: Write>(
-        &mut self,
-        alloc: Global,
-        reader: &mut I,
-        writer: &mut O,
-    ) -> Served
-        ensures serves { ServesPass (C.may self.old.clock.now) ⊥ result self.old.pass
-            self.new.pass (I.remaining reader.old) (I.remaining reader.new)
-            (O.contents writer.old) (O.contents writer.new) }
-        // The session ends as its input determines, unless it is cut short.
-        ensures only { (input : List ℕ) (course : Course) → I.remaining reader.old ≡ Some input →
-            Takes input course → Follows course result }
-        ensures memory { result.«end» ≡ End.NoMemory → (reader.new ≡ reader.old)
-            × (writer.new ≡ writer.old) }
-        ensures handles { KeepsHandles self.old self.new }
-    {
-        serve(alloc, reader, writer, self)
-    }
-
-    /// Runs one session like `serve`, but with two bodies that exist already, and records which
-    /// stream failed. Allocates nothing for the session.
     ///
     /// The reader fails if and only if the session ends with `Fault(Read)`, and the writer fails if
     /// and only if it ends with `Write`.
-    pub fn serve_watched<I: Read, O: Write>(
+    pub fn serve_instrumented<I: Read, O: Write>(
         &mut self,
         texts: &mut Texts,
-        reader: &mut Watched<'_, I>,
-        writer: &mut Watched<'_, O>,
+        reader: &mut Instrumented<'_, I>,
+        writer: &mut Instrumented<'_, O>,
     ) -> Served
         ensures serves { ServesPass (C.may self.old.clock.now) ⊥ result self.old.pass
             self.new.pass (I.remaining (stream_of reader.old)) (I.remaining (stream_of reader.new))
             (O.contents (stream_of writer.old)) (O.contents (stream_of writer.new)) }
         // The session ends as its input determines, unless it is cut short.
-        ensures only { (input : List ℕ) (course : Course) →
-            I.remaining (stream_of reader.old) ≡ Some input → Takes input course →
-            Follows course result }
+        ensures only { (input : List ℕ) (parse : Parse) →
+            I.remaining (stream_of reader.old) ≡ Some input → Takes input parse →
+            Follows parse result }
         ensures memory { result.«end» ≢ End.NoMemory }
         // The streams stay the same, and each fails in this call if and only if the end says so.
         ensures reader { KeepsStream reader.old reader.new (is_failed_read result.«end») }
         ensures writer { KeepsStream writer.old writer.new (is_failed_write result.«end») }
         ensures handles { KeepsHandles self.old self.new }
     {
-        serve_watched(texts, reader, writer, self)
+        serve_instrumented(texts, reader, writer, self)
+    }
+
+    /// Returns the number of blocks that the calls of this handler's pass reserved and did not
+    /// release, modulo 2^64, like `Pass::blocks_in_use`.
+    pub fn blocks_in_use(&self) -> u64 {
+        self.pass.blocks_in_use()
     }
 
     /// Ends the handler and returns its pass.

@@ -28,6 +28,7 @@ impl<'a, C: Clock, R: Wait> ServiceHandler<'a, C, R> {
     ///
     /// - `request` is not a hello.
     /// - `given` is empty.
+    #[inline(always)]
     pub fn begin(
         &mut self,
         cred: Cred,
@@ -56,6 +57,7 @@ impl<'a, C: Clock, R: Wait> ServiceHandler<'a, C, R> {
     }
 
     /// Begins a `msgsnd` of the body.
+    #[inline(always)]
     fn begin_send(
         &mut self,
         version: Version,
@@ -78,6 +80,7 @@ impl<'a, C: Clock, R: Wait> ServiceHandler<'a, C, R> {
     }
 
     /// Begins a `msgrcv` into `given`.
+    #[inline(always)]
     fn begin_receive(
         &mut self,
         version: Version,

@@ -2,7 +2,7 @@
 
 ghost use Rattle.std.specs.Prelude.{◌≡◌, ◌≤◌, ℕ, List, length};
 ghost use Rattle.sysv_model.specs.declared.limits.TheConstants.{BODY_ROOM};
-ghost use Rattle.sysv_wire.specs.Requests.{op_of, request_spelling};
+ghost use Rattle.sysv_wire.specs.Requests.{op_of, request_encoding};
 
 use sysv_model::Body;
 use sysv_wire::{Op, Request};
@@ -18,7 +18,7 @@ const SND_FIELDS: usize = 16;
 /// not the whole frame of a send, the contents of `text` are unspecified.
 pub fn snd_text(frame: &[u8], text: &mut Body)
     ensures { (request : Request) (body : List ℕ) → op_of request.ask ≡ Op.Snd →
-        length body ≤ BODY_ROOM → frame.now ≡ request_spelling request body → text.new ≡ body }
+        length body ≤ BODY_ROOM → frame.now ≡ request_encoding request body → text.new ≡ body }
 {
     text.clear();
     if let Some(body) = frame.get(HEAD_BYTES + SND_FIELDS..) {

@@ -1,10 +1,10 @@
 //! What the clients of one worker use one after another.
 ghost use Rattle.std.specs.Prelude.{◌≡◌, ◌∷◌, [], IfOk, vec_capacity};
 ghost use Rattle.std.specs.List.{list_any};
-ghost use Rattle.sysv_seats.specs.declared.tools.TheConstants.{MOST_NEWS};
-ghost use Rattle.sysv_seats.specs.News.{Keeps, TakesLast, is_taken, news_in, news_of};
+ghost use Rattle.sysv_seats.specs.declared.tools.TheConstants.{MOST_NOTIFICATIONS};
+ghost use Rattle.sysv_seats.specs.Notification.{Keeps, TakesLast, is_taken, notifications_in, notifications_of};
 
-use crate::news::{News, Told};
+use crate::notification::{Notification, Told};
 use std::alloc::Global;
 use sysv_model::{Body, NoMemory};
 
@@ -16,7 +16,7 @@ pub const SHARE: u32 = 64;
 
 /// The number of things that one event may tell: two for each request of a share, and for a call
 /// that waited before.
-const MOST_NEWS: usize = 2 * (SHARE as usize + 2);
+const MOST_NOTIFICATIONS: usize = 2 * (SHARE as usize + 2);
 
 /// The buffers that the clients of one worker use one after another, and what their calls may have
 /// changed for calls that wait.
@@ -25,68 +25,71 @@ pub struct Tools {
     pub(crate) arrived: Vec<u8>,
     pub(crate) text: Body,
     pub(crate) given: Body,
-    pub(crate) news: Vec<News>,
+    pub(crate) notifications: Vec<Notification>,
 }
 
 impl Tools {
-    /// Allocates the buffers. There are no news.
+    /// Allocates the buffers. There are no notifications.
     ///
     /// # Errors
     ///
     /// - `NoMemory` if allocation fails.
     pub fn open(alloc: Global) -> Result<Tools, NoMemory>
-        ensures news { IfOk result (λ tools. news_in tools ≡ []) }
-        ensures room { IfOk result (λ tools. vec_capacity tools.news ≡ MOST_NEWS) }
+        ensures notifications { IfOk result (λ tools. notifications_in tools ≡ []) }
+        ensures room { IfOk result (λ tools. vec_capacity tools.notifications
+            ≡ MOST_NOTIFICATIONS) }
     {
         let text = Body::open(alloc)?;
         let given = Body::open(alloc)?;
         let Ok(arrived) = vec![in alloc; 0u8; FILL_BYTES] else {
             return Err(NoMemory);
         };
-        let Ok(news) = Vec::with_capacity(alloc, MOST_NEWS) else {
+        let Ok(notifications) = Vec::with_capacity(alloc, MOST_NOTIFICATIONS) else {
             return Err(NoMemory);
         };
         Ok(Tools {
             arrived,
             text,
             given,
-            news,
+            notifications,
         })
     }
 
     /// Removes the last of the things that calls may have changed since the tools were opened, and
     /// returns it.
-    pub fn take_news(&mut self) -> Option<News>
+    pub fn take_notification(&mut self) -> Option<Notification>
         ensures { TakesLast self.old result self.new }
     {
-        self.news.pop()
+        self.notifications.pop()
     }
 
-    /// Returns whether a message of this type was taken since the news were taken.
+    /// Returns whether a message of this type was taken since the notifications were taken.
     pub fn has_taken(&self, taken: i64) -> bool
-        ensures { result ≡ list_any (is_taken taken) (news_in self.now) }
+        ensures { result ≡ list_any (is_taken taken) (notifications_in self.now) }
     {
-        self.news.iter().any(|news| matches!(news, News::Freed { mtype, .. } if *mtype == taken))
+        self.notifications.iter().any(
+            |it| matches!(it, Notification::Freed { mtype, .. } if *mtype == taken),
+        )
     }
 
     /// Keeps what a call may have changed.
     pub(crate) fn tell(&mut self, told: Told)
-        ensures { Keeps (news_of told) self.old self.new }
+        ensures { Keeps (notifications_of told) self.old self.new }
     {
         if let Some(there) = told.there {
             self.keep(there);
         }
         if told.released {
-            self.keep(News::Released);
+            self.keep(Notification::Released);
         }
     }
 
     /// Keeps one more thing, if there is room.
-    fn keep(&mut self, news: News)
-        ensures { Keeps (news ∷ []) self.old self.new }
+    fn keep(&mut self, notifications: Notification)
+        ensures { Keeps (notifications ∷ []) self.old self.new }
     {
-        if self.news.len() < self.news.capacity() {
-            self.news.push_reserved(news);
+        if self.notifications.len() < self.notifications.capacity() {
+            self.notifications.push_reserved(notifications);
         }
     }
 }

@@ -28,7 +28,7 @@ use Rattle.sysv_engine.specs.declared.fault.ServeFault.TheVariants as faults
 use Rattle.sysv_engine.specs.Serving.{HasLived, LeavesConnections}
 use Rattle.sysv_server.specs.Serving.{EndsFrom, FailsFrom, HasCause, HasReason}
 use Rattle.sysv_server.specs.Serving.{ServesOn}
-use Rattle.sysv_engine.specs.Talks.{tally_of}
+use Rattle.sysv_engine.specs.Converses.{tally_of}
 use Rattle.sysv_seats.specs.Untold.{leaves_nothing, untold}
 use Rattle.sysv_engine.proofs.SessionsPerConnection.{as_books, one_each}
 
@@ -211,16 +211,16 @@ module _ {L I H : Type 0} (told : L → Option (List SocketStream)) (listens : L
     opened = served.opened;
     shifts = served.shifts;
     worked = record {
-      places = as_books untold untold leaves_nothing served.gates books served.desks served.shifts books' served.crewed
+      places = as_books untold untold leaves_nothing served.gates books served.desks served.shifts books' served.in_team
           ∙ counted;
-      passes = served.crewed.passes;
+      passes = served.in_team.passes;
       sums = served.sums;
       lost = served.lost;
     };
     bounded = λ some.
         let fits : s.most ≤ 2 ^ 64 - 1 = omega arith in
         let all = bounded served.given s s' served.gave none fits (λ z. some (sym same ∙ z)) in
-        let each = one_each untold untold leaves_nothing served.desks served.shifts served.given served.crewed.sat
+        let each = one_each untold untold leaves_nothing served.desks served.shifts served.given served.in_team.sat
         served.dealt in
         omega arith;
     accepted = served.given;
@@ -228,7 +228,7 @@ module _ {L I H : Type 0} (told : L → Option (List SocketStream)) (listens : L
     dealt = served.dealt;
     ordered = served.ordered;
     alone = λ one. served.alone (counted ∙ one);
-    sat = served.crewed.sat;
+    sat = served.in_team.sat;
     removed = ended.removed;
     lived = served.lived;
   }
@@ -257,7 +257,7 @@ module _ {L I H : Type 0} (told : L → Option (List SocketStream)) (listens : L
       → HasCause reads input m ended.sums.sessions reason
   ends_for shows blocks m s s' books books' ended input reason none same small unended of_input of_reason served =
       let gave = served.gave in
-      let each = one_each untold untold leaves_nothing served.desks served.shifts served.given served.crewed.sat
+      let each = one_each untold untold leaves_nothing served.desks served.shifts served.given served.in_team.sat
       served.dealt in
       let sums : ended.sums.sessions
       ≡ capped (sum_by (λ (s : Sums). s.sessions) (map (λ t. one_session (tally_of t)) (told_in served.shifts))) =

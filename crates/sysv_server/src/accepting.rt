@@ -297,9 +297,9 @@ impl<H: Host> Acceptor<'_, '_, H> {
         pause(HOLD_MILLIS);
     }
 
-    /// Waits until the input, whose descriptor is given, can be read, until something happens at the
-    /// desk, or until there is a connection and room for one more client. It may return early. Tells
-    /// the host of the first session whose memory was refused.
+    /// Waits until the input, whose descriptor is given, can be read, until something happens at
+    /// the desk, or until there is a connection and room for one more client. It may return early.
+    /// Tells the host of the first session whose memory was refused.
     fn wait(&self, told: &mut bool, input: i32, desk: &Desk) -> Arrived {
         let View {
             server,
@@ -325,12 +325,12 @@ impl<H: Host> Acceptor<'_, '_, H> {
         arrived
     }
 
-    /// Waits until the input, the listener or the bell can be read, or something happens at the
-    /// desk, for at most `limit` milliseconds, and hushes the bell.
+    /// Waits until the input, the listener or the doorbell can be read, or something happens at the
+    /// desk, for at most `limit` milliseconds, and hushes the doorbell.
     fn arrived(&self, input: i32, listener: i32, desk: &Desk, limit: i32) -> Arrived {
         let server = self.view.server;
-        let [input, listener, bell] = [input, listener, server.bell()].map(readable);
-        let mut asked = [input, listener, bell, desk.asking()];
+        let [input, listener, doorbell] = [input, listener, server.doorbell()].map(readable);
+        let mut asked = [input, listener, doorbell, desk.asking()];
         let any = poll(&mut asked, limit) > 0;
         if any && asked[2].revents != 0 {
             server.hush();
@@ -365,8 +365,8 @@ fn is_passing(why: &io::Error) -> bool {
     }
 }
 
-/// Reads a piece of the input, which can be read and is dropped. Returns whether the input is at its
-/// end or cannot be read.
+/// Reads a piece of the input, which can be read and is dropped. Returns whether the input is at
+/// its end or cannot be read.
 fn has_ended<I: Input>(input: &mut Option<I>) -> bool
     ensures input { is_some input.new ≡ is_some input.old }
     ensures ended { result ≡ true → (is_some input.old ≡ true) × IsOver I.reads }

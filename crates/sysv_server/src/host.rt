@@ -8,8 +8,8 @@ pub trait Host {
     /// its memory and its threads.
     fn listen(&self) -> io::Result<UnixListener>;
 
-    /// Opens the socket on which the state of the server is shown, if there is one. The server calls
-    /// it once, just before its listener is opened, if its terms have `stats`.
+    /// Opens the socket on which the state of the server is shown, if there is one. The server
+    /// calls it once, just before its listener is opened, if its terms have `stats`.
     fn listen_for_readers(&self) -> io::Result<Option<UnixListener>> {
         Ok(None)
     }

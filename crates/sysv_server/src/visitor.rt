@@ -29,7 +29,7 @@ const HTTP: &[u8] = b"GET ";
 /// What is asked for as a JSON object begins so.
 const JSON: &[u8] = b"json";
 
-/// A blank line in its two spellings, each with the end of the line before it.
+/// A blank line in its two encodings, each with the end of the line before it.
 const LF_LF: &[u8] = b"\n\n";
 
 const CRLF_CRLF: &[u8] = b"\r\n\r\n";

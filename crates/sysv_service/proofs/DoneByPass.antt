@@ -1,4 +1,4 @@
--- Proves that what a call does is what its pass does, as a member of a crew.
+-- Proves that what a call does is what its pass does, as a member of a team.
 use Rattle.std.proofs.Common.{◌≡◌, ℕ, ℤ, inl, inr, List, [], ◌++◌, sym, subst}
 use Rattle.std.proofs.lemmas.List.{append-nil}
 use Rattle.sysv_model.specs.Registry.{Forget, Changed}

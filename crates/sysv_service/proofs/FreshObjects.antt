@@ -6,10 +6,10 @@ use Rattle.std.proofs.lemmas.List.{length-map, length-append}
 use Rattle.sysv_model.specs.Members.{first_with}
 use Rattle.sysv_keys.specs.declared.identifier.TheConstants.{SLOTS}
 use Rattle.sysv_keys.specs.State.{State as RegistryState}
-use Rattle.sysv_keys.specs.StandsFor.{StandsFor as RegistryStandsFor}
-use Rattle.sysv_pool.specs.StandsFor.{StandsFor as PoolStandsFor}
+use Rattle.sysv_keys.specs.Represents.{Represents as RegistryRepresents}
+use Rattle.sysv_pool.specs.Represents.{Represents as PoolRepresents}
 use Rattle.sysv_queue.specs.Slot.{Slot}
-use Rattle.sysv_queue.specs.StandsFor.{StandsFor as SlotStandsFor}
+use Rattle.sysv_queue.specs.Represents.{Represents as SlotRepresents}
 use Rattle.sysv_gate.specs.History.{AreUpTo}
 use Rattle.sysv_gate.specs.Gates.{Gateway, opened}
 use Rattle.sysv_bank.specs.Banks.{AreOpened}
@@ -40,12 +40,12 @@ all_head P x xs all = all 0 x (omega arith)
 
 -- ---- the counts of fresh objects are 0
 
-slot_low : (o : Gated) → IsSlot o → SlotStandsFor [] (slot_in o) → AreUpTo (2 ^ 61) (gated_counts o)
+slot_low : (o : Gated) → IsSlot o → SlotRepresents [] (slot_in o) → AreUpTo (2 ^ 61) (gated_counts o)
 slot_low (gated.Slot s) is stands = subst (λ x. AreUpTo (2 ^ 61) (slot_counts x)) stands.seen (omega arith, omega arith)
 slot_low (gated.Registry s) is stands = absurd is
 slot_low (gated.Pool s) is stands = absurd is
 
-registry_low : (generation : ℕ) (o : Gated) → IsRegistry o → RegistryStandsFor generation [] (registry_in o) →
+registry_low : (generation : ℕ) (o : Gated) → IsRegistry o → RegistryRepresents generation [] (registry_in o) →
     AreUpTo (2 ^ 61) (gated_counts o)
 registry_low generation (gated.Registry s) is stands =
     let none = ap (λ (s : RegistryState). s.settled) stands.seen in
@@ -53,7 +53,7 @@ registry_low generation (gated.Registry s) is stands =
 registry_low generation (gated.Slot s) is stands = absurd is
 registry_low generation (gated.Pool s) is stands = absurd is
 
-pool_low : (o : Gated) → IsPool o → PoolStandsFor [] (pool_in o) → AreUpTo (2 ^ 61) (gated_counts o)
+pool_low : (o : Gated) → IsPool o → PoolRepresents [] (pool_in o) → AreUpTo (2 ^ 61) (gated_counts o)
 pool_low (gated.Pool s) is stands = subst (λ x. AreUpTo (2 ^ 61) (pool_counts x)) stands.seen (omega arith, omega arith)
 pool_low (gated.Registry s) is stands = absurd is
 pool_low (gated.Slot s) is stands = absurd is
@@ -80,13 +80,13 @@ fresh_many generation blocks (r ∷ p ∷ ss) fresh = let many = fresh.3 in omeg
 
 -- ---- one more slot
 
-vacant_snoc : (ss : List Gated) (s : Gated) → AreVacantSlots ss → IsSlot s → SlotStandsFor [] (slot_in s) →
+vacant_snoc : (ss : List Gated) (s : Gated) → AreVacantSlots ss → IsSlot s → SlotRepresents [] (slot_in s) →
     AreVacantSlots (ss ++ s ∷ [])
 vacant_snoc [] s are is stands = ((is, stands), tt)
 vacant_snoc (x ∷ xs) s are is stands = (are.0, vacant_snoc xs s are.1 is stands)
 
 pub fresh_snoc : (slots generation blocks : ℕ) (objects : List Gated) (s : Gated) →
-    AreFreshUpTo slots generation blocks objects → IsSlot s → SlotStandsFor [] (slot_in s) →
+    AreFreshUpTo slots generation blocks objects → IsSlot s → SlotRepresents [] (slot_in s) →
     AreFreshUpTo (slots + 1) generation blocks (objects ++ s ∷ [])
 fresh_snoc slots generation blocks [] s fresh is stands = absurd fresh
 fresh_snoc slots generation blocks (r ∷ []) s fresh is stands = absurd fresh
@@ -97,9 +97,9 @@ fresh_snoc slots generation blocks (r ∷ p ∷ ss) s fresh is stands =
 -- ---- the bank
 
 slots_vacant : (gs : List (Gateway Gated)) → AreVacantSlots (map (λ (g : Gateway Gated). g.opening) gs) →
-    All (SlotStandsFor []) (map (λ (g : Gateway Slot). g.opening) (map (gate_as as_slot) gs))
-slots_vacant [] are = all_none (SlotStandsFor [])
-slots_vacant (g ∷ gs) are = all_one (SlotStandsFor []) (slot_in g.opening)
+    All (SlotRepresents []) (map (λ (g : Gateway Slot). g.opening) (map (gate_as as_slot) gs))
+slots_vacant [] are = all_none (SlotRepresents [])
+slots_vacant (g ∷ gs) are = all_one (SlotRepresents []) (slot_in g.opening)
     (map (λ (h : Gateway Slot). h.opening) (map (gate_as as_slot) gs)) are.0.1 (slots_vacant gs are.1)
 
 slots_first : (first : ℕ) (gs : List (Gateway Gated)) → All (λ (g : Gateway Gated). g.first ≡ first) gs →

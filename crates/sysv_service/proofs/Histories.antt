@@ -6,10 +6,10 @@ use Rattle.sysv_model.specs.Registry.{RegistryHistory}
 use Rattle.sysv_model.specs.Pool.{PoolHistory}
 use Rattle.sysv_queue.specs.Slot.{Slot}
 use Rattle.sysv_keys.specs.State.{Registry}
-use Rattle.sysv_keys.specs.StandsFor.{StandsFor as RegistryStandsFor}
+use Rattle.sysv_keys.specs.Represents.{Represents as RegistryRepresents}
 use Rattle.sysv_pool.specs.State.{State}
-use Rattle.sysv_pool.specs.StandsFor.{StandsFor as PoolStandsFor}
-use Rattle.sysv_queue.specs.StandsFor.{StandsFor as SlotStandsFor}
+use Rattle.sysv_pool.specs.Represents.{Represents as PoolRepresents}
+use Rattle.sysv_queue.specs.Represents.{Represents as SlotRepresents}
 use Rattle.sysv_gate.specs.declared.table.view.Turn.{Turn}
 use Rattle.sysv_gate.specs.History.{Moves, IsLegal, after_all}
 use Rattle.sysv_gate.specs.Gates.{Holding}
@@ -28,33 +28,33 @@ use Rattle.sysv_service.specs.Counts.{pool_counts}
 use Rattle.sysv_service.specs.Seats.{entries, slot_entry, registry_entry, pool_entry, TakesTurn}
 use Rattle.sysv_service.specs.SeenHistories.{SeenHistories, OwnTurnsAreLast}
 
--- ---- the objects stand for what was seen
+-- ---- the objects represent what was seen
 
-pub slot_on : (h : History) (slot : Slot) (ts : List (Turn Slot SlotCall SlotReply)) → SlotStandsFor h slot →
-    IsLegal (Moves SlotMoves slot_counts) slot ts → SlotStandsFor (h ++ entries slot_entry slot ts) (after_all slot ts)
-slot_on h slot [] st legal = subst (λ x. SlotStandsFor x slot) (sym (append-nil h)) st
+pub slot_on : (h : History) (slot : Slot) (ts : List (Turn Slot SlotCall SlotReply)) → SlotRepresents h slot →
+    IsLegal (Moves SlotMoves slot_counts) slot ts → SlotRepresents (h ++ entries slot_entry slot ts) (after_all slot ts)
+slot_on h slot [] st legal = subst (λ x. SlotRepresents x slot) (sym (append-nil h)) st
 slot_on h slot (t ∷ ts) st legal =
-    subst (λ x. SlotStandsFor x (after_all t.after ts))
+    subst (λ x. SlotRepresents x (after_all t.after ts))
     (append_assoc h (slot_entry slot t ∷ []) (entries slot_entry t.after ts))
     (slot_on (h ++ slot_entry slot t ∷ []) t.after ts (legal.0.0.turn.stands h (Seat t.by) st) legal.1)
 
 pub registry_on : (generation : ℕ) (h : RegistryHistory) (registry : Registry)
-    (ts : List (Turn Registry RegistryCall RegistryReply)) → RegistryStandsFor generation h registry →
+    (ts : List (Turn Registry RegistryCall RegistryReply)) → RegistryRepresents generation h registry →
     IsLegal (Moves RegistryMoves registry_counts) registry ts →
-    RegistryStandsFor generation (h ++ entries registry_entry registry ts) (after_all registry ts)
+    RegistryRepresents generation (h ++ entries registry_entry registry ts) (after_all registry ts)
 registry_on generation h registry [] st legal =
-    subst (λ x. RegistryStandsFor generation x registry) (sym (append-nil h)) st
+    subst (λ x. RegistryRepresents generation x registry) (sym (append-nil h)) st
 registry_on generation h registry (t ∷ ts) st legal =
-    subst (λ x. RegistryStandsFor generation x (after_all t.after ts))
+    subst (λ x. RegistryRepresents generation x (after_all t.after ts))
     (append_assoc h (registry_entry registry t ∷ []) (entries registry_entry t.after ts))
     (registry_on generation (h ++ registry_entry registry t ∷ []) t.after ts
     (legal.0.0.turn.stands generation h (Seat t.by) st) legal.1)
 
-pub pool_on : (h : PoolHistory) (pool : State) (ts : List (Turn State PoolCall PoolReply)) → PoolStandsFor h pool →
-    IsLegal (Moves PoolMoves pool_counts) pool ts → PoolStandsFor (h ++ entries pool_entry pool ts) (after_all pool ts)
-pool_on h pool [] st legal = subst (λ x. PoolStandsFor x pool) (sym (append-nil h)) st
+pub pool_on : (h : PoolHistory) (pool : State) (ts : List (Turn State PoolCall PoolReply)) → PoolRepresents h pool →
+    IsLegal (Moves PoolMoves pool_counts) pool ts → PoolRepresents (h ++ entries pool_entry pool ts) (after_all pool ts)
+pool_on h pool [] st legal = subst (λ x. PoolRepresents x pool) (sym (append-nil h)) st
 pool_on h pool (t ∷ ts) st legal =
-    subst (λ x. PoolStandsFor x (after_all t.after ts))
+    subst (λ x. PoolRepresents x (after_all t.after ts))
     (append_assoc h (pool_entry pool t ∷ []) (entries pool_entry t.after ts))
     (pool_on (h ++ pool_entry pool t ∷ []) t.after ts (legal.0.0.turn.stands h (Seat t.by) st) legal.1)
 

@@ -16,11 +16,11 @@ use Rattle.sysv_model.specs.Turn.{registry_entry as world_registry_entry, pool_e
 use Rattle.sysv_model.specs.Turn.{registry_history, pool_history}
 use Rattle.sysv_model.specs.Turns.{turn_of, turns_of}
 use Rattle.sysv_queue.specs.Slot.{Slot}
-use Rattle.sysv_queue.specs.StandsFor.{StandsFor as SlotStandsFor}
+use Rattle.sysv_queue.specs.Represents.{Represents as SlotRepresents}
 use Rattle.sysv_queue.specs.LegalReply.{IsLegalHistory}
-use Rattle.sysv_keys.specs.StandsFor.{StandsFor as RegistryStandsFor}
+use Rattle.sysv_keys.specs.Represents.{Represents as RegistryRepresents}
 use Rattle.sysv_keys.specs.LegalReply.{IsLegalHistory as IsLegalRegistryHistory}
-use Rattle.sysv_pool.specs.StandsFor.{StandsFor as PoolStandsFor}
+use Rattle.sysv_pool.specs.Represents.{Represents as PoolRepresents}
 use Rattle.sysv_pool.specs.LegalReply.{IsLegalHistory as IsLegalPoolHistory}
 use Rattle.sysv_objects.specs.LegalOp.{AreLegal}
 use Rattle.sysv_gate.specs.declared.table.view.Turn.{Turn}
@@ -50,7 +50,7 @@ use Rattle.sysv_service.specs.Banked.{AreSlots, AreByKind, gates_seen, seats_see
 use Rattle.sysv_service.specs.Sharing.{LegalIfOpen}
 use Rattle.sysv_service.specs.Order.{GatedTurn, GatedPlaced, GatedPass, opening_at, object_at, op_at, ops_after}
 use Rattle.sysv_service.specs.Order.{ops_of}
-use Rattle.sysv_service.specs.Ordered.{IsLegalOrder, OrdersAreOfCrews}
+use Rattle.sysv_service.specs.Ordered.{IsLegalOrder, OrdersAreOfTeams}
 use Rattle.sysv_service.proofs.GateOfKind.{legal_as}
 use Rattle.sysv_service.proofs.KindsKept.{keeps_slot, keeps_registry, keeps_pool}
 use Rattle.sysv_service.proofs.Histories.{slot_on, registry_on, pool_on, pool_sized}
@@ -188,21 +188,21 @@ module _ (gates : List (Gateway Gated)) where
 
 -- The slots were vacant.
 vacant_at : (ss : List (Gateway Gated)) (k : ℕ) (g : Gateway Gated)
-    → All (SlotStandsFor []) (map (λ (g : Gateway Slot). g.opening) (map (gate_as as_slot) ss)) → AreSlots ss
+    → All (SlotRepresents []) (map (λ (g : Gateway Slot). g.opening) (map (gate_as as_slot) ss)) → AreSlots ss
     → get_elem? ss k ≡ some g
-    → (opening_at ss k ≡ g.opening) × IsSlot g.opening × SlotStandsFor [] (slot_in g.opening)
+    → (opening_at ss k ≡ g.opening) × IsSlot g.opening × SlotRepresents [] (slot_in g.opening)
 vacant_at [] k g vacant slots at = absurd (some-ne-none g (sym at))
 vacant_at (s ∷ ss) zero g vacant slots at =
     let e : s ≡ g = some-injective s g at in
-    let first = All-head (SlotStandsFor []) (slot_in s.opening)
+    let first = All-head (SlotRepresents []) (slot_in s.opening)
     (map (λ (g : Gateway Slot). g.opening) (map (gate_as as_slot) ss)) vacant in (
       ap (λ (x : Gateway Gated). x.opening) e,
       subst (λ (x : Gateway Gated). IsSlot x.opening) e slots.0,
-      subst (λ (x : Gateway Gated). SlotStandsFor [] (slot_in x.opening)) e first,
+      subst (λ (x : Gateway Gated). SlotRepresents [] (slot_in x.opening)) e first,
     )
 vacant_at (s ∷ ss) (suc k) g vacant slots at =
     vacant_at ss k g
-    (All-tail (SlotStandsFor []) (slot_in s.opening) (map (λ (g : Gateway Slot). g.opening) (map (gate_as as_slot) ss))
+    (All-tail (SlotRepresents []) (slot_in s.opening) (map (λ (g : Gateway Slot). g.opening) (map (gate_as as_slot) ss))
     vacant) slots.1 at
 
 no_turn_is_legal : IsLegalHistory []
@@ -212,7 +212,7 @@ no_turn_is_legal (x ∷ xs) e after is = cc
 abbrev Turns : Gated → List GatedTurn → Type 0
 Turns = IsLegal (Moves GatedMoves gated_counts)
 
-slot_legal : (o : Gated) (ts : List GatedTurn) → IsSlot o → SlotStandsFor [] (slot_in o) → Turns o ts →
+slot_legal : (o : Gated) (ts : List GatedTurn) → IsSlot o → SlotRepresents [] (slot_in o) → Turns o ts →
     IsLegalHistory (entries slot_entry (slot_in o) (map (turn_as as_slot) ts))
 slot_legal o ts is stands legal =
     (slot_on [] (slot_in o) (map (turn_as as_slot) ts) stands
@@ -220,14 +220,14 @@ slot_legal o ts is stands legal =
     keeps_slot o ts is legal)).legal
 
 registry_legal : (generation : ℕ) (o : Gated) (ts : List GatedTurn) → IsRegistry o →
-    RegistryStandsFor generation [] (registry_in o) → Turns o ts →
+    RegistryRepresents generation [] (registry_in o) → Turns o ts →
     IsLegalRegistryHistory generation (entries registry_entry (registry_in o) (map (turn_as as_registry) ts))
 registry_legal generation o ts is stands legal =
     (registry_on generation [] (registry_in o) (map (turn_as as_registry) ts) stands
     (legal_as as_registry IsRegistry (Moves GatedMoves gated_counts) gated_counts (Moves RegistryMoves registry_counts)
     registry_counts keeps_registry o ts is legal)).legal
 
-pool_legal : (blocks : ℕ) (o : Gated) (ts : List GatedTurn) → IsPool o → PoolStandsFor [] (pool_in o) →
+pool_legal : (blocks : ℕ) (o : Gated) (ts : List GatedTurn) → IsPool o → PoolRepresents [] (pool_in o) →
     (pool_in o).size ≡ blocks → Turns o ts →
     IsLegalPoolHistory blocks (entries pool_entry (pool_in o) (map (turn_as as_pool) ts))
 pool_legal blocks o ts is stands many legal =
@@ -276,8 +276,8 @@ order_legal last closings kinds many c generation blocks first gates fresh fit =
     legal generation blocks first (gates_of last.seats) c.order kinds
     (subst (AreOpen generation blocks first) (sym (gates_known last gates fit)) fresh) (ends last closings many c)
 
-pub orders_are_of_crews : OrdersAreOfCrews
-orders_are_of_crews = record {
+pub orders_are_of_teams : OrdersAreOfTeams
+orders_are_of_teams = record {
   opens = opens;
   sees = sees;
   makes = makes;

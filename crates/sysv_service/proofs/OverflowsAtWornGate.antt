@@ -13,7 +13,7 @@ use Rattle.sysv_model.specs.Registry.{Forget, Unbound, Changed}
 use Rattle.sysv_model.specs.Pool.{Released as WasReleased, Foreign}
 use Rattle.sysv_model.specs.Turn.{OfSlot, OfRegistry, Op, AtSlot, AtRegistry, AtPool}
 use Rattle.sysv_keys.specs.LegalReply.{IsLegalReply}
-use Rattle.sysv_keys.specs.StandsFor.{StandsFor as RegistryStandsFor}
+use Rattle.sysv_keys.specs.Represents.{Represents as RegistryRepresents}
 use Rattle.sysv_keys.specs.Identifier.{slot_of_id}
 use Rattle.sysv_queue.specs.LegalReply.{Legal}
 use Rattle.sysv_queue.specs.Slot.{Slot}
@@ -163,20 +163,20 @@ module _ (may : ℕ → Type 0) (from : State) (old : Pass) where
 
 module _ (histories : SeenHistories) (lasts : OwnTurnsAreLast) (generation : ℕ) where
   registry_turn : (call : RegistryCall) (reply : RegistryReply) (before after : RegistrySeat) →
-      RegistryStandsFor generation [] before.gate.opening →
+      RegistryRepresents generation [] before.gate.opening →
       TakesTurn RegistryMoves registry_counts registry_entry
       (record { who = Seat before.number; call = call; reply = reply }) before after → IsProperUnbound reply
   registry_turn call reply before after fresh took =
       let e : RegistryEntry = record { who = Seat before.number; call = call; reply = reply } in
       let last = lasts.registry before after e took in
-      let began = subst (λ (g : Gateway Registry). RegistryStandsFor generation [] g.opening)
+      let began = subst (λ (g : Gateway Registry). RegistryRepresents generation [] g.opening)
       (sym (ap (λ (s : RegistrySeat). s.gate) took.answers.made)) fresh in
       let stands = histories.registry generation after began took.answers.legal in
       legal_is_proper_there generation (registry_seen before ++ last.0) call reply
       (stands.legal (registry_seen before ++ last.0) e [] last.1)
 
   proper_at_registry : (before after : Seats) (op : Op) →
-      RegistryStandsFor generation [] before.registry.gate.opening → MakesTurnAt before op after →
+      RegistryRepresents generation [] before.registry.gate.opening → MakesTurnAt before op after →
       IsProperAtRegistry op
   proper_at_registry before after (AtSlot slot call reply) fresh makes = tt
   proper_at_registry before after (AtRegistry call reply) fresh makes =
@@ -184,14 +184,14 @@ module _ (histories : SeenHistories) (lasts : OwnTurnsAreLast) (generation : ℕ
   proper_at_registry before after (AtPool call reply) fresh makes = tt
 
   module _ (may : ℕ → Type 0) (from : State) (old : Pass)
-      (fresh : RegistryStandsFor generation [] old.seats.registry.gate.opening) where
+      (fresh : RegistryRepresents generation [] old.seats.registry.gate.opening) where
     registry_turns : (ops : List Op) (state : State) (new : Pass) (ran : Ran may from old ops state new) →
         FindsTurns ran →
         (new.seats.registry.gate ≡ old.seats.registry.gate) × AllByRecursion IsProperAtRegistry ops
     registry_turns _ _ _ begins found = (refl, tt)
     registry_turns _ _ _ (steps {ops} {phase} {mid} state new ran step) found =
         let so = registry_turns ops (Goes phase) mid ran found in
-        let there = subst (λ (g : Gateway Registry). RegistryStandsFor generation [] g.opening) (sym so.0) fresh in (
+        let there = subst (λ (g : Gateway Registry). RegistryRepresents generation [] g.opening) (sym so.0) fresh in (
           keeps_gate mid.seats new.seats step.op step.makes.turn ∙ so.0,
           pushed IsProperAtRegistry ops step.op so.1
               (proper_at_registry mid.seats new.seats step.op there step.makes.turn),
@@ -325,7 +325,7 @@ module _ (histories : SeenHistories) (lasts : OwnTurnsAreLast) (may : ℕ → Ty
   proper_for : (asked : SystemCall) (from : State) (old : Pass) (ops : List Op) (state : State) (new : Pass) →
       IsOpenFor asked old.seats → (ran : Ran may from old ops state new) → FindsTurns ran → IsProperFor asked ops
   proper_for (Msgget key flags) from old ops state new opened ran found =
-      let fresh = subst (λ (g : Gateway Registry). RegistryStandsFor opened.0 [] g.opening) (sym opened.5.registry)
+      let fresh = subst (λ (g : Gateway Registry). RegistryRepresents opened.0 [] g.opening) (sym opened.5.registry)
       opened.4.registry.0 in
       (registry_turns histories lasts opened.0 may from old fresh ops state new ran found).1
   proper_for asked from old ops state new opened ran found = tt

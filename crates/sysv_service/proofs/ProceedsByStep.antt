@@ -17,7 +17,7 @@ use Rattle.sysv_steps.specs.declared.state.State.{State as StateKept}
 use Rattle.sysv_steps.specs.Bodies.{StillCanSend}
 use Rattle.sysv_service.specs.declared.progress.Progress.{Progress}
 use Rattle.sysv_service.specs.declared.progress.Progress.TheVariants as progress
-use Rattle.sysv_service.specs.UnderWay.{stopped_at, StoppedBy, GetsOn, SendsOn}
+use Rattle.sysv_service.specs.Pending.{stopped_at, StoppedBy, GetsOn, SendsOn}
 use Rattle.sysv_service.specs.declared.waiting.Waited.TheVariants.{Above, Still, Worn}
 use Rattle.sysv_service.specs.Reading.{Reads, GivesUp}
 use Rattle.sysv_service.specs.Told.{TellsId, TellsZero, TellsStat}

@@ -10,11 +10,11 @@ use Rattle.sysv_model.specs.Pool.{released}
 use Rattle.sysv_model.specs.Turn.{slot_history, registry_history, pool_history}
 use Rattle.sysv_model.specs.Turns.{turns_of}
 use Rattle.sysv_queue.specs.Slot.{Slot}
-use Rattle.sysv_queue.specs.StandsFor.{StandsFor as SlotStandsFor}
+use Rattle.sysv_queue.specs.Represents.{Represents as SlotRepresents}
 use Rattle.sysv_keys.specs.State.{State as RegistryState}
-use Rattle.sysv_keys.specs.StandsFor.{StandsFor as RegistryStandsFor}
+use Rattle.sysv_keys.specs.Represents.{Represents as RegistryRepresents}
 use Rattle.sysv_pool.specs.State.{State}
-use Rattle.sysv_pool.specs.StandsFor.{StandsFor as PoolStandsFor}
+use Rattle.sysv_pool.specs.Represents.{Represents as PoolRepresents}
 use Rattle.sysv_gate.specs.declared.count.Count.{Count}
 use Rattle.sysv_gate.specs.declared.count.Count.TheVariants.{Arrived, Freed}
 use Rattle.sysv_gate.specs.Counts.{of_count}
@@ -49,7 +49,7 @@ There order place h = IsLegal (Moves GatedMoves gated_counts) h.gate.opening (tu
 
 module _ (order : List GatedPlaced) (gates : List (Gateway Gated)) where
   slot_read : (slot : ℕ) (h : Mark) → IsSlot h.gate.opening → opening_at gates (suc (suc slot)) ≡ h.gate.opening →
-      There order (suc (suc slot)) h → SlotStandsFor [] (as_slot.object h.gate.opening) →
+      There order (suc (suc slot)) h → SlotRepresents [] (as_slot.object h.gate.opening) →
       (h.read.0 ≤ arrived (slot_history slot (turns_of (ops_of gates order))) + 1)
       × (h.read.1 ≤ freed (slot_history slot (turns_of (ops_of gates order))) + 1)
   slot_read slot h kind opens known stands =
@@ -73,7 +73,7 @@ module _ (order : List GatedPlaced) (gates : List (Gateway Gated)) where
       (omega arith, omega arith)
 
   registry_read : (generation : ℕ) (h : Mark) → IsRegistry h.gate.opening → opening_at gates 0 ≡ h.gate.opening →
-      There order 0 h → RegistryStandsFor generation [] (as_registry.object h.gate.opening) →
+      There order 0 h → RegistryRepresents generation [] (as_registry.object h.gate.opening) →
       h.read.0 ≤ settled (registry_history (turns_of (ops_of gates order))) + 1
   registry_read generation h kind opens known stands =
       let o = h.gate.opening in
@@ -92,7 +92,7 @@ module _ (order : List GatedPlaced) (gates : List (Gateway Gated)) where
       omega arith
 
   pool_read : (h : Mark) → IsPool h.gate.opening → opening_at gates 1 ≡ h.gate.opening → There order 1 h →
-      PoolStandsFor [] (as_pool.object h.gate.opening) →
+      PoolRepresents [] (as_pool.object h.gate.opening) →
       h.read.0 ≤ released (pool_history (turns_of (ops_of gates order))) + 1
   pool_read h kind opens known stands =
       let o = h.gate.opening in
@@ -126,7 +126,7 @@ each_read order number numbers shares (r ∷ p ∷ ss) kinds known =
           (h.read.0 ≤ arrived (slot_history slot (turns_of (ops_of gates order))) + 1)
           × (h.read.1 ≤ freed (slot_history slot (turns_of (ops_of gates order))) + 1)) (sym s.2)
           (slot_read order gates slot s.0 kind (opened_there ss slot s.0 s.1) (known (suc (suc slot)) s.0 s.1)
-          (subst (λ (h : SlotSeat). SlotStandsFor [] h.gate.opening) s.2 stands));
+          (subst (λ (h : SlotSeat). SlotRepresents [] h.gate.opening) s.2 stands));
       registry = λ generation stands. registry_read order gates generation r kinds.0 refl (known 0 r refl) stands;
       pool = λ stands. pool_read order gates p kinds.1 refl (known 1 p refl) stands;
     }

@@ -1,5 +1,5 @@
 -- Proves that a turn raises the counts of its object by at most one, and that the object then
--- stands for some history.
+-- represents some history.
 use Rattle.std.proofs.Common.{◌≡◌, ◌+◌, ◌≤◌, Bool, true, false, cond, [], ◌∷◌, ◌++◌, ap, arith}
 use Rattle.std.proofs.lemmas.List.Sums.{sum_by-append}
 use Rattle.sysv_model.specs.History.{Actor, Call, Reply, Entry, announces_arrival, announces_room, arrived, freed}
@@ -7,11 +7,11 @@ use Rattle.sysv_model.specs.History.{then_turn}
 use Rattle.sysv_model.specs.Registry.{RegistryCall, RegistryReply, RegistryEntry, changes_row, settled}
 use Rattle.sysv_model.specs.Pool.{PoolCall, PoolReply, PoolEntry, frees, released}
 use Rattle.sysv_queue.specs.Slot.{Slot}
-use Rattle.sysv_queue.specs.StandsFor.{MakesTurn as SlotMakesTurn}
+use Rattle.sysv_queue.specs.Represents.{MakesTurn as SlotMakesTurn}
 use Rattle.sysv_keys.specs.State.{Registry, State as RegistryState}
-use Rattle.sysv_keys.specs.StandsFor.{MakesTurn as RegistryMakesTurn}
+use Rattle.sysv_keys.specs.Represents.{MakesTurn as RegistryMakesTurn}
 use Rattle.sysv_pool.specs.State.{State}
-use Rattle.sysv_pool.specs.StandsFor.{MakesTurn as PoolMakesTurn}
+use Rattle.sysv_pool.specs.Represents.{MakesTurn as PoolMakesTurn}
 use Rattle.sysv_gate.specs.History.{RiseByOneAtMost}
 use Rattle.sysv_service.specs.Counts.{SlotStands, slot_counts}
 use Rattle.sysv_service.specs.Counts.{RegistryStands, registry_counts}

@@ -3,10 +3,10 @@ use Rattle.std.proofs.Common.{◌≡◌, ℕ, zero, suc, List, [], ◌∷◌, ma
 use Rattle.std.specs.List.{All}
 use mathlib.Core.Option.{some, some-injective, some-ne-none}
 use lib.ListN.{get_elem?}
-use Rattle.sysv_keys.specs.StandsFor.{StandsFor as RegistryStandsFor}
-use Rattle.sysv_pool.specs.StandsFor.{StandsFor as PoolStandsFor}
+use Rattle.sysv_keys.specs.Represents.{Represents as RegistryRepresents}
+use Rattle.sysv_pool.specs.Represents.{Represents as PoolRepresents}
 use Rattle.sysv_queue.specs.Slot.{Slot}
-use Rattle.sysv_queue.specs.StandsFor.{StandsFor as SlotStandsFor}
+use Rattle.sysv_queue.specs.Represents.{Represents as SlotRepresents}
 use Rattle.sysv_gate.specs.Gates.{Gateway}
 use Rattle.sysv_service.specs.Seats.{SlotSeat, Seats}
 use Rattle.sysv_service.specs.SeenHistories.{SeenHistoriesObey, EachKnowsItsOwn, ObeysIfOpen}
@@ -28,12 +28,13 @@ pub each_obeys : (seats : Seats) → EachKnowsItsOwn seats → SeenHistoriesObey
 each_obeys seats known law generation blocks first gates began fit = record {
   slots = λ slot seat at.
       let vacant = subst (λ (gs : List (Gateway Slot)).
-      All (SlotStandsFor []) (map (λ (g : Gateway Slot). g.opening) gs)) (sym fit.slots) began.slots.1 in
+      All (SlotRepresents []) (map (λ (g : Gateway Slot). g.opening) gs)) (sym fit.slots) began.slots.1 in
       let there = there_too (λ (h : SlotSeat). h.gate) seats.slots slot seat at in
-      let stands = all_there (SlotStandsFor []) (λ (g : Gateway Slot). g.opening)
+      let stands = all_there (SlotRepresents []) (λ (g : Gateway Slot). g.opening)
       (map (λ (h : SlotSeat). h.gate) seats.slots) slot seat.gate vacant there in
       law.slots seat stands (known.slots slot seat at).legal;
   registry = law.registry generation seats.registry
-      (subst (λ g. RegistryStandsFor generation [] g.opening) (sym fit.registry) began.registry.0) known.registry.legal;
-  pool = law.pool seats.pool (subst (λ g. PoolStandsFor [] g.opening) (sym fit.pool) began.pool.0) known.pool.legal;
+      (subst (λ g. RegistryRepresents generation [] g.opening) (sym fit.registry) began.registry.0)
+      known.registry.legal;
+  pool = law.pool seats.pool (subst (λ g. PoolRepresents [] g.opening) (sym fit.pool) began.pool.0) known.pool.legal;
 }

@@ -54,7 +54,7 @@ pool_seat [] = opened no_gates.pool
 pool_seat (r ∷ []) = opened no_gates.pool
 pool_seat (r ∷ p ∷ ss) = seat_as as_pool p
 
--- The seats at all objects, with what they have together as one member of a crew.
+-- The seats at all objects, with what they have together as one member of a team.
 abbrev pub seats_at : List (Holding Gated ObjectCall ObjectReply) → Member → Seats
 seats_at seats member =
     record { slots = slot_seats seats; registry = registry_seat seats; pool = pool_seat seats; member = member }

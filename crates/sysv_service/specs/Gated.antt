@@ -122,7 +122,7 @@ as_pool = record { object = pool_in; call = pool_call_in; reply = pool_reply_in 
 
 -- ---- turns
 
--- The object stands for some history of its kind.
+-- The object represents some history of its kind.
 abbrev pub Stands : Gated → Type 0
 Stands (gated.Slot slot) = SlotStands slot
 Stands (gated.Registry registry) = RegistryStands registry

@@ -16,6 +16,7 @@ pub mod ObjectKinds
 pub mod Gated
 pub mod Order
 pub mod Seats
+pub mod BlocksMoved
 pub mod Banked
 pub mod Reading
 pub mod SharedCounts
@@ -31,7 +32,7 @@ pub mod Stopped
 pub mod Closing
 pub mod RightAnswers
 pub mod Delivered
-pub mod UnderWay
+pub mod Pending
 pub mod Pieces
 pub mod Retried
 pub mod Marks

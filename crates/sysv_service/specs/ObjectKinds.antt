@@ -11,6 +11,14 @@ pub record Kind (O C R O' C' R' : Type 0) : Type 0 where
   pub call : C → C'
   pub reply : R → R'
 
+-- What a closed gate returns, with its object seen in this way. If no object is returned, nothing
+-- is stated of what the slot had.
+pub record IsClosingBy {O O' : Type 0} (object_in : O → O') (c : Closing O) (c' : Closing O') : Type 0 where
+  pub object : c'.object ≡ option_map object_in c.object
+  pub rest : c.rest ≡ None → c'.rest ≡ None
+  pub turns : c'.turns ≡ c.turns
+  pub next_ticket : c'.next_ticket ≡ c.next_ticket
+
 module _ {O C R O' C' R' : Type 0} (kind : Kind O C R O' C' R') where
   -- A turn, as one of the kind.
   abbrev pub turn_as : Turn O C R → Turn O' C' R'
@@ -33,10 +41,6 @@ module _ {O C R O' C' R' : Type 0} (kind : Kind O C R O' C' R') where
     alone = h.alone;
   }
 
-  -- What a closed gate returns, as an object of the kind. If no object is returned, nothing is
-  -- stated of what the slot had.
-  pub record IsClosingAs (c : Closing O) (c' : Closing O') : Type 0 where
-    pub object : c'.object ≡ option_map kind.object c.object
-    pub rest : c.rest ≡ None → c'.rest ≡ None
-    pub turns : c'.turns ≡ c.turns
-    pub next_ticket : c'.next_ticket ≡ c.next_ticket
+  -- What a closed gate returns, as an object of the kind.
+  abbrev pub IsClosingAs : Closing O → Closing O' → Type 0
+  IsClosingAs = IsClosingBy kind.object

@@ -67,7 +67,7 @@ ops_of gates order = ops_after gates [] order
 
 -- ---- passes
 
--- A pass of the bank, as a member of a crew.
+-- A pass of the bank, as a member of a team.
 abbrev pub member_of : List (Gateway Gated) → GatedPass → Member
 member_of gates pass =
     record { number = pass.number; numbers = pass.numbers; shares = pass.shares; order = ops_of gates pass.order }

@@ -49,7 +49,7 @@ pub record IsLegalOrder (gates : List (Gateway Gated)) (order : List GatedPlaced
       IsLegal (Moves GatedMoves gated_counts) gate.opening (turns_at place order)
 
 -- What a bank promises of its passes holds in the terms of the world.
-pub record OrdersAreOfCrews : Type 0 where
+pub record OrdersAreOfTeams : Type 0 where
   pub opens : (gates : List (Gateway Gated)) (pass : GatedPass) →
       (pass.order ≡ []) × (pass.number ≡ 0) × (pass.numbers ≡ 0 ∷ []) → pass.shares ≡ 0 ∷ [] →
       member_of gates pass ≡ first_with 0

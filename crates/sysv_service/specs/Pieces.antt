@@ -14,7 +14,7 @@ use Rattle.sysv_steps.specs.declared.send.SendWait.{SendWait}
 use Rattle.sysv_steps.specs.declared.get.GetWait.{GetWait}
 use Rattle.sysv_service.specs.Ran.{Pass, Ran, begins, steps, turns_back, reads, resumes, gives_up, Comes}
 use Rattle.sysv_service.specs.Delivered.{HasGiven}
-use Rattle.sysv_service.specs.UnderWay.{ReceivesOn, SendsOn, GetsOn, IsReached, StillWaits}
+use Rattle.sysv_service.specs.Pending.{ReceivesOn, SendsOn, GetsOn, IsReached, StillWaits}
 
 -- ---- what was taken was taken on the whole way
 

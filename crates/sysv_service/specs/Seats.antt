@@ -11,11 +11,11 @@ use Rattle.sysv_model.specs.Turn.{registry_history, pool_history}
 use Rattle.sysv_model.specs.Turns.{turns_of}
 use Rattle.sysv_model.specs.Members.{Member, SeesMore, MakesTurn}
 use Rattle.sysv_queue.specs.Slot.{Slot}
-use Rattle.sysv_queue.specs.StandsFor.{StandsFor as SlotStandsFor}
+use Rattle.sysv_queue.specs.Represents.{Represents as SlotRepresents}
 use Rattle.sysv_keys.specs.State.{Registry}
-use Rattle.sysv_keys.specs.StandsFor.{StandsFor as RegistryStandsFor}
+use Rattle.sysv_keys.specs.Represents.{Represents as RegistryRepresents}
 use Rattle.sysv_pool.specs.State.{State}
-use Rattle.sysv_pool.specs.StandsFor.{StandsFor as PoolStandsFor}
+use Rattle.sysv_pool.specs.Represents.{Represents as PoolRepresents}
 use Rattle.sysv_gate.specs.declared.table.view.Turn.{Turn}
 use Rattle.sysv_gate.specs.History.{Moves, after_all}
 use Rattle.sysv_gate.specs.Gates.{Gateway, Holding, Answers, marked}
@@ -53,7 +53,7 @@ pub record Gates : Type 0 where
   pub registry : Gateway Registry
   pub pool : Gateway State
 
--- A seat at each gate, and what the seats together have seen and done, as one member of a crew.
+-- A seat at each gate, and what the seats together have seen and done, as one member of a team.
 pub record Seats : Type 0 where
   pub slots : List SlotSeat
   pub registry : RegistrySeat
@@ -108,12 +108,12 @@ object_of seat = after_all seat.gate.opening seat.seen
 -- another seat has announced in a turn that has not ended. A read after these turns can find more.
 pub record KnowWhatTheyRead (seats : Seats) : Type 0 where
   pub slots : (slot : ℕ) (seat : SlotSeat) → get_elem? seats.slots slot ≡ some seat →
-      SlotStandsFor [] seat.gate.opening →
+      SlotRepresents [] seat.gate.opening →
       (seat.read.0 ≤ arrived (slot_history slot (turns_of seats.member.order)) + 1)
       × (seat.read.1 ≤ freed (slot_history slot (turns_of seats.member.order)) + 1)
-  pub registry : (generation : ℕ) → RegistryStandsFor generation [] seats.registry.gate.opening →
+  pub registry : (generation : ℕ) → RegistryRepresents generation [] seats.registry.gate.opening →
       seats.registry.read.0 ≤ settled (registry_history (turns_of seats.member.order)) + 1
-  pub pool : PoolStandsFor [] seats.pool.gate.opening →
+  pub pool : PoolRepresents [] seats.pool.gate.opening →
       seats.pool.read.0 ≤ released (pool_history (turns_of seats.member.order)) + 1
 
 -- ---- turns

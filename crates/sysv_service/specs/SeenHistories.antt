@@ -1,4 +1,4 @@
--- What a seat has seen of an object is a history that the object stands for, if the object stood
+-- What a seat has seen of an object is a history that the object represents, if the object stood
 -- for no turn when its gate was opened. A turn of the seat's own is the last entry of what the seat
 -- has seen afterwards, after all that it had seen before and the turns of others. This project's
 -- profile.
@@ -7,11 +7,11 @@ use Rattle.sysv_model.specs.History.{Entry, History}
 use Rattle.sysv_model.specs.Registry.{RegistryEntry, RegistryHistory}
 use Rattle.sysv_model.specs.Pool.{PoolEntry, PoolHistory}
 use Rattle.sysv_keys.specs.RegistryLaw.{RegistryLaw}
-use Rattle.sysv_keys.specs.StandsFor.{StandsFor as RegistryStandsFor}
+use Rattle.sysv_keys.specs.Represents.{Represents as RegistryRepresents}
 use Rattle.sysv_pool.specs.PoolLaw.{PoolLaw}
 use Rattle.sysv_queue.specs.QueueLaw.{QueueLaw}
-use Rattle.sysv_pool.specs.StandsFor.{StandsFor as PoolStandsFor}
-use Rattle.sysv_queue.specs.StandsFor.{StandsFor as SlotStandsFor}
+use Rattle.sysv_pool.specs.Represents.{Represents as PoolRepresents}
+use Rattle.sysv_queue.specs.Represents.{Represents as SlotRepresents}
 use mathlib.Core.Option.{some}
 use lib.ListN.{get_elem?}
 use Rattle.sysv_gate.specs.History.{Moves, IsLegal}
@@ -26,27 +26,27 @@ use Rattle.sysv_service.specs.Opened.{AreOpen}
 use Rattle.sysv_service.specs.Seats.{SlotSeat, RegistrySeat, PoolSeat, Gates, Seats, AreOf, slot_entry, registry_entry}
 use Rattle.sysv_service.specs.Seats.{pool_entry, slot_seen, registry_seen, pool_seen, object_of, TakesTurn}
 
--- A legal history that a seat has seen of an object is one that the object stands for, if nothing
+-- A legal history that a seat has seen of an object is one that the object represents, if nothing
 -- had happened at the object when its gate was opened.
 pub record SeenHistories : Type 0 where
-  pub slots : (seat : SlotSeat) → SlotStandsFor [] seat.gate.opening →
+  pub slots : (seat : SlotSeat) → SlotRepresents [] seat.gate.opening →
       IsLegal (Moves SlotMoves slot_counts) seat.gate.opening seat.seen →
-      SlotStandsFor (slot_seen seat) (object_of seat)
-  pub registry : (generation : ℕ) (seat : RegistrySeat) → RegistryStandsFor generation [] seat.gate.opening →
+      SlotRepresents (slot_seen seat) (object_of seat)
+  pub registry : (generation : ℕ) (seat : RegistrySeat) → RegistryRepresents generation [] seat.gate.opening →
       IsLegal (Moves RegistryMoves registry_counts) seat.gate.opening seat.seen →
-      RegistryStandsFor generation (registry_seen seat) (object_of seat)
-  pub pool : (seat : PoolSeat) → PoolStandsFor [] seat.gate.opening →
+      RegistryRepresents generation (registry_seen seat) (object_of seat)
+  pub pool : (seat : PoolSeat) → PoolRepresents [] seat.gate.opening →
       IsLegal (Moves PoolMoves pool_counts) seat.gate.opening seat.seen →
-      PoolStandsFor (pool_seen seat) (object_of seat)
+      PoolRepresents (pool_seen seat) (object_of seat)
 
 -- Such a history obeys the law of its object.
 pub record SeenHistoriesObey : Type 0 where
-  pub slots : (seat : SlotSeat) → SlotStandsFor [] seat.gate.opening →
+  pub slots : (seat : SlotSeat) → SlotRepresents [] seat.gate.opening →
       IsLegal (Moves SlotMoves slot_counts) seat.gate.opening seat.seen → QueueLaw (slot_seen seat)
-  pub registry : (generation : ℕ) (seat : RegistrySeat) → RegistryStandsFor generation [] seat.gate.opening →
+  pub registry : (generation : ℕ) (seat : RegistrySeat) → RegistryRepresents generation [] seat.gate.opening →
       IsLegal (Moves RegistryMoves registry_counts) seat.gate.opening seat.seen →
       RegistryLaw generation (registry_seen seat)
-  pub pool : (seat : PoolSeat) → PoolStandsFor [] seat.gate.opening →
+  pub pool : (seat : PoolSeat) → PoolRepresents [] seat.gate.opening →
       IsLegal (Moves PoolMoves pool_counts) seat.gate.opening seat.seen → PoolLaw (object_of seat).size (pool_seen seat)
 
 -- ---- the seats at all objects

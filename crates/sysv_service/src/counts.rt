@@ -27,8 +27,8 @@ impl Gates {
             .count(count.place(), &mut seats.seat, count.there())
     }
 
-    /// Waits until `count` is at least `goal`. Returns `Reached` with the value, or `Worn` only if the
-    /// value that was read last is below `goal` and the gate of the object is worn out.
+    /// Waits until `count` is at least `goal`. Returns `Reached` with the value, or `Worn` only if
+    /// the value that was read last is below `goal` and the gate of the object is worn out.
     ///
     /// # Conditions
     ///

@@ -6,7 +6,7 @@ ghost use Rattle.sysv_steps.specs.Begin.{begin as begins};
 ghost use Rattle.sysv_steps.specs.State.{Goes, AtBegin};
 ghost use Rattle.sysv_steps.specs.Seen.{getting, get_wait};
 ghost use Rattle.sysv_service.specs.Seats.{AreOf};
-ghost use Rattle.sysv_service.specs.UnderWay.{GetsOn, IsReached, StillWaits};
+ghost use Rattle.sysv_service.specs.Pending.{GetsOn, IsReached, StillWaits};
 
 use crate::get::GetStepper;
 use crate::pass::Pass;

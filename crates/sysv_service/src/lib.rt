@@ -50,7 +50,7 @@ pub use opening::{GatesClosed, OpenRefused};
 pub use pass::Pass;
 pub use progress::Progress;
 pub use seat_laws::{
-    each_seat_obeys, orders_are_of_crews, own_turns_are_last, seen_histories, seen_histories_obey,
+    each_seat_obeys, orders_are_of_teams, own_turns_are_last, seen_histories, seen_histories_obey,
 };
 pub use seats::Seats;
 pub use service::Service;

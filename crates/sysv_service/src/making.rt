@@ -7,7 +7,7 @@ ghost use Rattle.sysv_service.specs.Gated.{place_of as the_place_of};
 ghost use Rattle.sysv_service.specs.Seats.{AreOf, MakesTurnAt, FindsWorn};
 
 use crate::gates::{FIRST_SLOT, Gates, POOL, REGISTRY};
-use crate::seats::Seats;
+use crate::seats::{Seats, handed_by};
 use std::sync::Wait;
 use sysv_gate::Worn;
 use sysv_objects::{ObjectCall, ObjectReply, Turns};
@@ -59,7 +59,8 @@ fn place_of(call: &ObjectCall) -> usize
     }
 }
 
-/// The gates, for a caller that may wait. They make turns with the caller's seats.
+/// The gates, for a caller that may wait. They make turns with the caller's seats, which count the
+/// blocks that are reserved and released.
 #[derive(Clone, Copy)]
 pub struct AtGates<'a, R: Wait> {
     rt: &'a R,
@@ -88,6 +89,12 @@ impl<'a, R: Wait> Turns for AtGates<'a, R> {
 
     #[inline(always)]
     fn make(&self, seats: &mut Seats, call: ObjectCall) -> Result<ObjectReply, ObjectCall> {
-        self.gates.make(self.rt, seats, call)
+        if !matches!(&call, ObjectCall::Pool(_)) {
+            return self.gates.make(self.rt, seats, call);
+        }
+        let handed = handed_by(&call);
+        let made = self.gates.make(self.rt, seats, call);
+        seats.count_blocks(handed, &made);
+        made
     }
 }

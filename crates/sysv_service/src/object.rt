@@ -8,7 +8,7 @@ use std::marker::Model;
 use sysv_gate::Object;
 use sysv_objects::{ObjectCall, ObjectReply};
 
-/// An object behind a gate, which stands for some history. It stays of its kind, and accepts only
+/// An object behind a gate, which represents some history. It stays of its kind, and accepts only
 /// the calls of its kind. It cannot be dropped; end it with `into_kind`.
 pub struct SharedObject {
     object: Gated,
@@ -30,7 +30,7 @@ impl SharedObject {
     ///
     /// # Conditions
     ///
-    /// - `object` stands for some history.
+    /// - `object` represents some history.
     pub fn of(object: Gated) -> SharedObject
         requires { Stands object }
         ensures { result ≡ object }

@@ -83,7 +83,7 @@ impl Gates {
             return Err(OpenRefused::NoMemory);
         };
         match Bank::open(alloc, objects, first) {
-            Ok((bank, seat)) => Ok((Gates { bank, closings }, Seats { seat })),
+            Ok((bank, seat)) => Ok((Gates { bank, closings }, Seats { seat, in_use: 0 })),
             Err(GateRefused::NoMemory(objects) | GateRefused::BadStart(objects)) => {
                 end_all(objects);
                 closings.destroy_empty();

@@ -34,6 +34,16 @@ impl Pass {
         empty.end();
     }
 
+    /// Returns the number of blocks that calls with this pass reserved and did not release, modulo
+    /// 2^64. A message that another pass receives stays counted here, and its release is subtracted
+    /// there: the numbers of all passes of a service add up to the number of blocks in use.
+    ///
+    /// A new pass starts at 0, and `Service::join_pass` adds the number of the other pass. A chain
+    /// that the pass keeps is in use.
+    pub fn blocks_in_use(&self) -> u64 {
+        self.seats.in_use
+    }
+
     /// Returns the seats, and the chains that could not be returned to the pool, as one chain.
     pub(crate) fn into_seats(self) -> (Seats, Chain)
         ensures { (result.0 ≡ self.seats) × (result.1.blocks ≡ self.held) }

@@ -9,7 +9,7 @@ ghost use Rattle.sysv_steps.specs.Bodies.{IsSized};
 ghost use Rattle.sysv_service.specs.Told.{TellsGot};
 ghost use Rattle.sysv_service.specs.Seats.{AreOf};
 ghost use Rattle.sysv_steps.specs.Giving.{GivesNothing};
-ghost use Rattle.sysv_service.specs.UnderWay.{ReceivesOn, IsReached, StillWaits};
+ghost use Rattle.sysv_service.specs.Pending.{ReceivesOn, IsReached, StillWaits};
 
 use crate::pass::Pass;
 use crate::progress::Progress;

@@ -11,7 +11,7 @@ ghost use Rattle.sysv_steps.specs.Stepping.{no_moment};
 ghost use Rattle.sysv_service.specs.Seats.{AreOf};
 ghost use Rattle.sysv_service.specs.SharedCounts.{count_of};
 ghost use Rattle.sysv_service.specs.Ran.{StepsOn, Comes};
-ghost use Rattle.sysv_service.specs.UnderWay.{stopped_at, StoppedBy};
+ghost use Rattle.sysv_service.specs.Pending.{stopped_at, StoppedBy};
 ghost use Rattle.sysv_service.specs.Waited.{EndsWait};
 
 use crate::pass::Pass;

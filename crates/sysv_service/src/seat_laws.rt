@@ -1,6 +1,6 @@
 //! Laws over the definitions alone. Each function's contract is its law.
 
-ghost use Rattle.sysv_service.specs.Ordered.{OrdersAreOfCrews};
+ghost use Rattle.sysv_service.specs.Ordered.{OrdersAreOfTeams};
 ghost use Rattle.sysv_service.specs.SeenHistories.{SeenHistories, SeenHistoriesObey, EachKnowsItsOwn, ObeysIfOpen, OwnTurnsAreLast};
 
 use crate::seats::Seats;
@@ -9,7 +9,7 @@ use sysv_keys::registry_law;
 use sysv_pool::pool_law;
 use sysv_queue::queue_law;
 
-/// States that a legal history that a seat has seen of an object is one that the object stands for,
+/// States that a legal history that a seat has seen of an object is one that the object represents,
 /// if nothing had happened at the object when its gate was opened. So each reply in it is the legal
 /// one.
 pub fn seen_histories()
@@ -49,6 +49,6 @@ pub fn own_turns_are_last()
 /// what a pass of a service does, in turns of the world. The replies in the order that is found
 /// when the bank is closed are legal, if nothing had happened at the objects when the gates were
 /// opened.
-pub fn orders_are_of_crews()
-    ensures { OrdersAreOfCrews }
+pub fn orders_are_of_teams()
+    ensures { OrdersAreOfTeams }
 {}

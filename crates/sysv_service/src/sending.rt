@@ -10,7 +10,7 @@ ghost use Rattle.sysv_steps.specs.Seen.{sending, send_wait};
 ghost use Rattle.sysv_service.specs.Seats.{AreOf};
 ghost use Rattle.sysv_service.specs.Reading.{Reads};
 ghost use Rattle.sysv_service.specs.Ran.{Pass as Seen};
-ghost use Rattle.sysv_service.specs.UnderWay.{SendsOn, IsReached, StillWaits};
+ghost use Rattle.sysv_service.specs.Pending.{SendsOn, IsReached, StillWaits};
 
 use crate::pass::Pass;
 use crate::progress::Progress;

@@ -1,9 +1,10 @@
 //! Sharing the gates among threads: splitting and joining seats, and closing the gates.
 
-ghost use Rattle.std.specs.Prelude.{◌≡◌, length, IfSome, option_map};
+ghost use Rattle.std.specs.Prelude.{◌≡◌, length, IfSome, option_map, Some};
 ghost use Rattle.sysv_keys.specs.declared.identifier.TheConstants.{SLOTS};
-ghost use Rattle.sysv_service.specs.ObjectKinds.{IsClosingAs};
-ghost use Rattle.sysv_service.specs.Gated.{IsSlot, IsRegistry, IsPool, slot_in, registry_in, pool_in, as_slot, as_registry, as_pool};
+ghost use Rattle.sysv_service.specs.declared.kinds.Gated.{Gated as Seen};
+ghost use Rattle.sysv_service.specs.ObjectKinds.{IsClosingBy};
+ghost use Rattle.sysv_service.specs.Gated.{IsSlot, IsRegistry, IsPool, slot_in, registry_in, pool_in};
 ghost use Rattle.sysv_service.specs.Seats.{AreOf};
 ghost use Rattle.sysv_service.specs.Sharing.{AreSplit, AreJoined, AllClose};
 
@@ -30,7 +31,7 @@ impl Gates {
         ensures other { AreOf self.now result × AreSplit seats.old seats.new result }
     {
         let seat = self.bank.split_off(&mut seats.seat);
-        Seats { seat }
+        Seats { seat, in_use: 0 }
     }
 
     /// Merges `other` into `seats`, object by object: what both have seen, and the turns of both.
@@ -44,8 +45,9 @@ impl Gates {
         ensures seats { AreOf self.now seats.new }
         ensures joined { AreJoined seats.old other seats.new }
     {
-        let Seats { seat } = other;
+        let Seats { seat, in_use } = other;
         self.bank.join(&mut seats.seat, seat);
+        seats.in_use = seats.in_use.wrapping_add(in_use);
     }
 
     /// Closes the gates. Returns, for each slot in the order of the numbers, for the registry and
@@ -65,13 +67,13 @@ impl Gates {
             bank,
             closings: mut slots,
         } = self;
-        let Seats { seat } = seats;
+        let Seats { seat, in_use: _ } = seats;
         let mut closings = bank.close(seat);
         for _ in 0..SLOTS {
             let Some(closing) = closings.pop() else {
                 unreachable!()
             };
-            slots.push_reserved(slot_closing(closing));
+            slots.push_reserved(closing_of(closing));
         }
         slots.reverse();
         let Some(pool) = closings.pop() else {
@@ -83,15 +85,76 @@ impl Gates {
         closings.destroy_empty();
         GatesClosed {
             slots,
-            registry: registry_closing(registry),
-            pool: pool_closing(pool),
+            registry: closing_of(registry),
+            pool: closing_of(pool),
         }
     }
 }
 
-/// Returns what the closed gate of a slot holds, as a slot.
-fn slot_closing(closing: Closing<SharedObject>) -> Closing<QueueSlot>
-    ensures { IfSome closing.object IsSlot → IsClosingAs as_slot closing result }
+/// An object of one kind, which a gate of the service holds.
+trait OfKind: Sized {
+    /// Whether an object is of this kind.
+    ghost is: { Seen → Type 0 };
+
+    /// An object of this kind, as one of it.
+    ghost seen_as: { Seen → Self };
+
+    /// Returns the object if it is of this kind. Any other object is freed.
+    fn of(object: SharedObject) -> Option<Self>
+        ensures { is object → result ≡ Some (seen_as object) };
+}
+
+impl OfKind for QueueSlot {
+    ghost is = { IsSlot };
+
+    ghost seen_as = { slot_in };
+
+    fn of(object: SharedObject) -> Option<QueueSlot> {
+        match object.into_kind() {
+            Gated::Slot(slot) => Some(slot),
+            other => {
+                other.end();
+                None
+            }
+        }
+    }
+}
+
+impl OfKind for Registry {
+    ghost is = { IsRegistry };
+
+    ghost seen_as = { registry_in };
+
+    fn of(object: SharedObject) -> Option<Registry> {
+        match object.into_kind() {
+            Gated::Registry(registry) => Some(registry),
+            other => {
+                other.end();
+                None
+            }
+        }
+    }
+}
+
+impl OfKind for Pool {
+    ghost is = { IsPool };
+
+    ghost seen_as = { pool_in };
+
+    fn of(object: SharedObject) -> Option<Pool> {
+        match object.into_kind() {
+            Gated::Pool(pool) => Some(pool),
+            other => {
+                other.end();
+                None
+            }
+        }
+    }
+}
+
+/// Returns what a closed gate holds, as an object of its kind.
+fn closing_of<O: OfKind>(closing: Closing<SharedObject>) -> Closing<O>
+    ensures { IfSome closing.object O.is → IsClosingBy O.seen_as closing result }
 {
     let Closing {
         object,
@@ -100,84 +163,16 @@ fn slot_closing(closing: Closing<SharedObject>) -> Closing<QueueSlot>
         next_ticket,
     } = closing;
     Closing {
-        object: slot_of(object),
-        rest: slot_of(rest),
+        object: kept(object),
+        rest: kept(rest),
         turns,
         next_ticket,
     }
 }
 
-/// Returns what the closed gate of the registry holds, as a registry.
-fn registry_closing(closing: Closing<SharedObject>) -> Closing<Registry>
-    ensures { IfSome closing.object IsRegistry → IsClosingAs as_registry closing result }
+/// Returns the object, if there is one and it is of this kind. Any other object is freed.
+fn kept<O: OfKind>(object: Option<SharedObject>) -> Option<O>
+    ensures { IfSome object O.is → result ≡ option_map O.seen_as object }
 {
-    let Closing {
-        object,
-        rest,
-        turns,
-        next_ticket,
-    } = closing;
-    Closing {
-        object: registry_of(object),
-        rest: registry_of(rest),
-        turns,
-        next_ticket,
-    }
-}
-
-/// Returns what the closed gate of the pool holds, as a pool.
-fn pool_closing(closing: Closing<SharedObject>) -> Closing<Pool>
-    ensures { IfSome closing.object IsPool → IsClosingAs as_pool closing result }
-{
-    let Closing {
-        object,
-        rest,
-        turns,
-        next_ticket,
-    } = closing;
-    Closing {
-        object: pool_of(object),
-        rest: pool_of(rest),
-        turns,
-        next_ticket,
-    }
-}
-
-/// Returns the slot if the object is one. Any other object is freed.
-fn slot_of(object: Option<SharedObject>) -> Option<QueueSlot>
-    ensures { IfSome object IsSlot → result ≡ option_map slot_in object }
-{
-    match object?.into_kind() {
-        Gated::Slot(slot) => Some(slot),
-        other => {
-            other.end();
-            None
-        }
-    }
-}
-
-/// Returns the registry if the object is one. Any other object is freed.
-fn registry_of(object: Option<SharedObject>) -> Option<Registry>
-    ensures { IfSome object IsRegistry → result ≡ option_map registry_in object }
-{
-    match object?.into_kind() {
-        Gated::Registry(registry) => Some(registry),
-        other => {
-            other.end();
-            None
-        }
-    }
-}
-
-/// Returns the pool if the object is one. Any other object is freed.
-fn pool_of(object: Option<SharedObject>) -> Option<Pool>
-    ensures { IfSome object IsPool → result ≡ option_map pool_in object }
-{
-    match object?.into_kind() {
-        Gated::Pool(pool) => Some(pool),
-        other => {
-            other.end();
-            None
-        }
-    }
+    O::of(object?)
 }

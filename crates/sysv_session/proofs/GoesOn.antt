@@ -17,11 +17,11 @@ use Rattle.sysv_session.specs.declared.session.Session.{Session}
 use Rattle.sysv_session.specs.declared.session.TakenUp.TheVariants.{Hello, Request as Asked}
 use Rattle.sysv_session.specs.Answers.{IsReplied, MayAnswer, messages_in}
 use Rattle.sysv_session.specs.Calls.{Call, Meaning}
-use Rattle.sysv_session.specs.Conversation.{HasRoom, Puts, Talk, gathered, report, reported, sent_on, with_outcome}
+use Rattle.sysv_session.specs.Conversation.{HasRoom, Puts, Dialogue, gathered, report, reported, sent_on, with_outcome}
 use Rattle.sysv_session.specs.Failing.{is_reset}
 use Rattle.sysv_session.specs.Gathered.{Gathered, Gathers, all_bytes, ends_message, marks_from, messages_among}
 use Rattle.sysv_session.specs.Gathered.{messages_passed, messages_within}
-use Rattle.sysv_session.specs.Input.{hello_spelling}
+use Rattle.sysv_session.specs.Input.{hello_encoding}
 use Rattle.sysv_session.specs.Outbox.{Mark, Unsent, at_end, with_frame}
 use Rattle.sysv_session.specs.Output.{AreReplied, hello_frame}
 use Rattle.sysv_session.specs.Stands.{Stands, StandsAsking, StandsGreeting, Stopped}
@@ -29,13 +29,13 @@ use Rattle.sysv_session.specs.Stands.{only_lost}
 use Rattle.sysv_session.specs.TakenUp.{EndsHere, TakesRequest, TakesUp}
 use Rattle.sysv_session.specs.Together.{IsStoppedWithin, Replied, Reports, ServesTogether, StopsAfter, StopsBefore}
 use Rattle.sysv_session.specs.Together.{unread_at}
-use Rattle.sysv_session.specs.UnderWay.{Fresh, Greeted, UnderWay, greeting, replies_to, reply_for, reply_to}
+use Rattle.sysv_session.specs.Pending.{Fresh, Greeted, Pending, greeting, replies_to, reply_for, reply_to}
 use Rattle.sysv_session.proofs.GatheredLemmas.{closes, gathers_message, gathers_none, gathers_on, gathers_reply}
 use Rattle.sysv_session.proofs.ListLemmas.{all_more, few_messages, messages_more}
 use Rattle.sysv_session.proofs.OutboxLemmas.{each_once, few_within}
 use Rattle.sysv_session.proofs.TogetherLemmas.{fault_within, last_of_replies, replies_messages, stops_before}
-use Rattle.sysv_session.proofs.UnderWayLemmas.{Called, call_replied, hello_replied, hello_taken, request_called}
-use Rattle.sysv_session.proofs.UnderWayLemmas.{request_taken}
+use Rattle.sysv_session.proofs.PendingLemmas.{Called, call_replied, hello_replied, hello_taken, request_called}
+use Rattle.sysv_session.proofs.PendingLemmas.{request_taken}
 use Rattle.sysv_wire.specs.declared.fault.Fault.TheVariants.{Read}
 use Rattle.sysv_wire.specs.declared.frame.Version.{Version}
 use Rattle.sysv_wire.specs.declared.request.Request.{Request}
@@ -157,51 +157,57 @@ written_at_end Reset version slots calls replies lost taken box tally replied ol
 
 module _ {K : Type 0} (Means : Meaning K) (slots : ℕ) where
   -- A new conversation stands.
-  pub opens : (talk : Talk) (k : K) (left : Option (List ℕ)) → talk.session.caller ≡ None →
-      talk.session.tally ≡ record { written = 0; lost = 0 } → talk.session.requests ≡ 0 →
-      talk.unsent ≡ record { bytes = []; marks = [] } → Stands Means slots talk k k left left []
-  opens talk k left caller tally counts unsent = record {
+  pub opens : (dialogue : Dialogue) (k : K) (left : Option (List ℕ)) → dialogue.session.caller ≡ None →
+      dialogue.session.tally ≡ record { written = 0; lost = 0 } → dialogue.session.requests ≡ 0 →
+      dialogue.unsent ≡ record { bytes = []; marks = [] } → Stands Means slots dialogue k k left left []
+  opens dialogue k left caller tally counts unsent = record {
     replies = [];
-    under_way = inl (record { caller = caller; counts = counts; handler = refl; reads = refl; gathered = refl });
-    gathers = regathered (only_lost 0) [] [] _ talk.unsent _ talk.session.tally unsent tally
+    pending = inl (record { caller = caller; counts = counts; handler = refl; reads = refl; gathered = refl });
+    gathers = regathered (only_lost 0) [] [] _ dialogue.unsent _ dialogue.session.tally unsent tally
         (gathers_none (only_lost 0));
   }
 
   -- A hello is taken up.
-  pub takes_hello : (version : Version) (talk talk' : Talk) (old now : K) (left unread rest : Option (List ℕ))
-      (taken text : List ℕ) → Stands Means slots talk old now left unread taken →
-      TakesUp talk.session talk'.session (Ok (Hello version)) unread rest text → talk'.unsent ≡ talk.unsent →
-      StandsGreeting version talk' old now left rest taken
-  takes_hello version talk talk' old now left unread rest taken text stands takes same = record {
+  pub takes_hello : (version : Version) (dialogue dialogue' : Dialogue) (old now : K)
+      (left unread rest : Option (List ℕ))
+      (taken text : List ℕ) → Stands Means slots dialogue old now left unread taken →
+      TakesUp dialogue.session dialogue'.session (Ok (Hello version)) unread rest text →
+      dialogue'.unsent ≡ dialogue.unsent →
+      StandsGreeting version dialogue' old now left rest taken
+  takes_hello version dialogue dialogue' old now left unread rest taken text stands takes same = record {
     replies = stands.replies;
-    greets = hello_taken Means slots version talk.session talk'.session old now left unread rest text stands.replies
-        stands.under_way takes;
-    gathers = regathered (only_lost 0) stands.replies taken talk.unsent talk'.unsent talk.session.tally
-        talk'.session.tally same (ap (λ (s : Session). s.tally) takes.3) stands.gathers;
+    greets =
+        hello_taken Means slots version dialogue.session dialogue'.session old now left unread rest text stands.replies
+        stands.pending takes;
+    gathers = regathered (only_lost 0) stands.replies taken dialogue.unsent dialogue'.unsent dialogue.session.tally
+        dialogue'.session.tally same (ap (λ (s : Session). s.tally) takes.3) stands.gathers;
   }
 
   -- The reply to the hello is gathered.
-  pub greets : (version : Version) (talk talk' : Talk) (old now : K) (left unread : Option (List ℕ)) (taken : List ℕ)
-      → StandsGreeting version talk old now left unread taken →
-      talk' ≡ gathered (with_frame (hello_frame version slots)) talk →
-      Stands Means slots talk' old now left unread taken
-  greets version talk talk' old now left unread taken stands is =
+  pub greets : (version : Version) (dialogue dialogue' : Dialogue) (old now : K) (left unread : Option (List ℕ))
+      (taken : List ℕ)
+      → StandsGreeting version dialogue old now left unread taken →
+      dialogue' ≡ gathered (with_frame (hello_frame version slots)) dialogue →
+      Stands Means slots dialogue' old now left unread taken
+  greets version dialogue dialogue' old now left unread taken stands is =
       let replies = stands.replies ++ greeting version slots ∷ [] in
       record {
         replies = replies;
-        under_way = hello_replied Means slots version talk.session talk'.session old now left unread stands.replies
-            stands.greets (ap (λ (t : Talk). t.session.caller) is) (ap (λ (t : Talk). t.session.requests) is);
-        gathers = regathered (only_lost 0) replies taken _ talk'.unsent _ talk'.session.tally
-            (ap (λ (t : Talk). t.unsent) is) (ap (λ (t : Talk). t.session.tally) is)
-            (gathers_reply (only_lost 0) stands.replies taken talk.unsent talk.session.tally
+        pending =
+            hello_replied Means slots version dialogue.session dialogue'.session old now left unread stands.replies
+            stands.greets (ap (λ (t : Dialogue). t.session.caller) is) (ap (λ (t : Dialogue). t.session.requests) is);
+        gathers = regathered (only_lost 0) replies taken _ dialogue'.unsent _ dialogue'.session.tally
+            (ap (λ (t : Dialogue). t.unsent) is) (ap (λ (t : Dialogue). t.session.tally) is)
+            (gathers_reply (only_lost 0) stands.replies taken dialogue.unsent dialogue.session.tally
             (hello_frame version slots) stands.gathers);
       }
 
   -- Memory was refused for the reply to the hello.
-  pub greet_ends : (version : Version) (talk : Talk) (old now : K) (left unread : Option (List ℕ)) (taken : List ℕ) →
-      StandsGreeting version talk old now left unread taken →
-      Stopped Means slots NoMemory talk old now left unread taken
-  greet_ends version talk old now left unread taken stands =
+  pub greet_ends : (version : Version) (dialogue : Dialogue) (old now : K) (left unread : Option (List ℕ))
+      (taken : List ℕ) →
+      StandsGreeting version dialogue old now left unread taken →
+      Stopped Means slots NoMemory dialogue old now left unread taken
+  greet_ends version dialogue old now left unread taken stands =
       let hello = stands.greets in
       inr (record {
         version = version;
@@ -211,7 +217,7 @@ module _ {K : Type 0} (Means : Meaning K) (slots : ℕ) where
         are_calls = tt;
         leads = hello.handler;
         unread = unread;
-        reads = subst (Consumes left unread) (sym (append-nil (hello_spelling version hello.cred))) hello.reads;
+        reads = subst (Consumes left unread) (sym (append-nil (hello_encoding version hello.cred))) hello.reads;
         ends = refl;
         within = tt;
         replies = stands.replies;
@@ -224,52 +230,59 @@ module _ {K : Type 0} (Means : Meaning K) (slots : ℕ) where
       })
 
   -- A request is taken up.
-  pub takes_request : (cred : Cred) (request : Request) (talk talk' : Talk) (old now : K)
-      (left unread rest : Option (List ℕ)) (taken text : List ℕ) → Stands Means slots talk old now left unread taken →
-      TakesUp talk.session talk'.session (Ok (Asked cred request)) unread rest text → talk'.unsent ≡ talk.unsent →
-      StandsAsking Means slots cred request text talk' old now left rest taken
-  takes_request cred request talk talk' old now left unread rest taken text stands takes same = record {
+  pub takes_request : (cred : Cred) (request : Request) (dialogue dialogue' : Dialogue) (old now : K)
+      (left unread rest : Option (List ℕ)) (taken text : List ℕ) →
+      Stands Means slots dialogue old now left unread taken →
+      TakesUp dialogue.session dialogue'.session (Ok (Asked cred request)) unread rest text →
+      dialogue'.unsent ≡ dialogue.unsent →
+      StandsAsking Means slots cred request text dialogue' old now left rest taken
+  takes_request cred request dialogue dialogue' old now left unread rest taken text stands takes same = record {
     replies = stands.replies;
-    asking = request_taken Means slots cred request talk.session talk'.session old now left unread rest text
-        stands.replies stands.under_way takes;
-    gathers = regathered (only_lost 0) stands.replies taken talk.unsent talk'.unsent talk.session.tally
-        talk'.session.tally same (ap (λ (s : Session). s.tally) takes.4) stands.gathers;
+    asking = request_taken Means slots cred request dialogue.session dialogue'.session old now left unread rest text
+        stands.replies stands.pending takes;
+    gathers = regathered (only_lost 0) stands.replies taken dialogue.unsent dialogue'.unsent dialogue.session.tally
+        dialogue'.session.tally same (ap (λ (s : Session). s.tally) takes.4) stands.gathers;
   }
 
   -- One more call, whose outcome is there.
-  module _ (cred : Cred) (request : Request) (text : List ℕ) (outcome : RequestOutcome) (given : List ℕ) (talk : Talk)
+  module _ (cred : Cred) (request : Request) (text : List ℕ) (outcome : RequestOutcome) (given : List ℕ)
+      (dialogue : Dialogue)
       (old now new : K) (left unread : Option (List ℕ)) (taken : List ℕ)
-      (stands : StandsAsking Means slots cred request text talk old now left unread taken)
+      (stands : StandsAsking Means slots cred request text dialogue old now left unread taken)
       (means : Means now cred request text outcome given new)
       (may : MayAnswer request.version request.ask outcome given) where
     abbrev call : Call
     call = record { request = request; text = text; outcome = outcome; given = given }
 
-    called : Called Means slots call talk.session old new left unread stands.replies
+    called : Called Means slots call dialogue.session old new left unread stands.replies
     called =
-        request_called Means slots cred call talk.session old now new left unread stands.replies stands.asking means may
+        request_called Means slots cred call dialogue.session old now new left unread stands.replies stands.asking means
+        may
 
     -- The reply is gathered.
-    pub puts : (talk' : Talk) → Puts (Ok tt) request.version outcome given talk talk' →
-        Stands Means slots talk' old new left unread taken
-    puts talk' put = record {
+    pub puts : (dialogue' : Dialogue) → Puts (Ok tt) request.version outcome given dialogue dialogue' →
+        Stands Means slots dialogue' old new left unread taken
+    puts dialogue' put = record {
       replies = stands.replies ++ reply_to call ∷ [];
-      under_way = call_replied Means slots call talk.session talk'.session old new left unread stands.replies called
-          put.0 (ap (λ (t : Talk). t.session.caller) put.1) (ap (λ (t : Talk). t.session.requests) put.1);
-      gathers = regathered (only_lost 0) (stands.replies ++ reply_to call ∷ []) taken _ talk'.unsent _
-          talk'.session.tally (ap (λ (t : Talk). t.unsent) put.1) (ap (λ (t : Talk). t.session.tally) put.1)
-          (gathers_outcome (only_lost 0) stands.replies taken talk.unsent talk.session.tally request.version
+      pending =
+          call_replied Means slots call dialogue.session dialogue'.session old new left unread stands.replies called
+          put.0 (ap (λ (t : Dialogue). t.session.caller) put.1) (ap (λ (t : Dialogue). t.session.requests) put.1);
+      gathers = regathered (only_lost 0) (stands.replies ++ reply_to call ∷ []) taken _ dialogue'.unsent _
+          dialogue'.session.tally (ap (λ (t : Dialogue). t.unsent) put.1) (ap (λ (t : Dialogue). t.session.tally) put.1)
+          (gathers_outcome (only_lost 0) stands.replies taken dialogue.unsent dialogue.session.tally request.version
           outcome given put.0 stands.gathers);
     }
 
     -- It stops with this call, whose reply was not gathered.
-    stops_asking : (why : End) (talk' : Talk) (lost : ℕ) → StopsAfter called.version why unread unread →
-        IsStoppedWithin why talk'.session.requests →
-        Replied why called.version slots (called.done ++ call ∷ []) stands.replies → talk'.unsent ≡ talk.unsent →
-        talk'.session.requests ≡ talk.session.requests →
-        talk'.session.tally ≡ record { written = talk.session.tally.written; lost = talk.session.tally.lost + lost } →
-        messages_in outcome ≡ lost → Stopped Means slots why talk' old new left unread taken
-    stops_asking why talk' lost ends within replied same count tally one = inr (record {
+    stops_asking : (why : End) (dialogue' : Dialogue) (lost : ℕ) → StopsAfter called.version why unread unread →
+        IsStoppedWithin why dialogue'.session.requests →
+        Replied why called.version slots (called.done ++ call ∷ []) stands.replies →
+        dialogue'.unsent ≡ dialogue.unsent →
+        dialogue'.session.requests ≡ dialogue.session.requests →
+        dialogue'.session.tally
+        ≡ record { written = dialogue.session.tally.written; lost = dialogue.session.tally.lost + lost } →
+        messages_in outcome ≡ lost → Stopped Means slots why dialogue' old new left unread taken
+    stops_asking why dialogue' lost ends within replied same count tally one = inr (record {
       version = called.version;
       cred = called.cred;
       known = called.known;
@@ -301,10 +314,11 @@ module _ {K : Type 0} (Means : Meaning K) (slots : ℕ) where
     })
 
     -- Memory was refused for the reply, or the call was left.
-    pub put_ends : (why : End) (talk' : Talk) → Puts (Err why) request.version outcome given talk talk' →
-        Stopped Means slots why talk' old new left unread taken
-    put_ends NoMemory talk' put =
-        stops_asking NoMemory talk' (messages_in outcome) refl tt
+    pub put_ends : (why : End) (dialogue' : Dialogue) →
+        Puts (Err why) request.version outcome given dialogue dialogue' →
+        Stopped Means slots why dialogue' old new left unread taken
+    put_ends NoMemory dialogue' put =
+        stops_asking NoMemory dialogue' (messages_in outcome) refl tt
         (inr (inr (
           called.done,
           call,
@@ -313,42 +327,44 @@ module _ {K : Type 0} (Means : Meaning K) (slots : ℕ) where
               put.0,
           called.gathered,
         )))
-        (ap (λ (t : Talk). t.unsent) put.1) (ap (λ (t : Talk). t.session.requests) put.1)
-        (ap (λ (t : Talk). t.session.tally) put.1) refl
-    put_ends Left talk' put =
-        stops_asking Left talk' 0 refl tt
+        (ap (λ (t : Dialogue). t.unsent) put.1) (ap (λ (t : Dialogue). t.session.requests) put.1)
+        (ap (λ (t : Dialogue). t.session.tally) put.1) refl
+    put_ends Left dialogue' put =
+        stops_asking Left dialogue' 0 refl tt
         (called.done, call, refl, put.0, (called.replied, called.gathered))
-        (ap (λ (t : Talk). t.unsent) put.1) (ap (λ (t : Talk). t.session.requests) put.1)
-        (ap (λ (t : Talk). t.session.tally) put.1
-        ∙ ap (λ (n : ℕ). let t : Tallied = record { written = talk.session.tally.written; lost = n } in t)
-        (sym (add-zero talk.session.tally.lost)))
+        (ap (λ (t : Dialogue). t.unsent) put.1) (ap (λ (t : Dialogue). t.session.requests) put.1)
+        (ap (λ (t : Dialogue). t.session.tally) put.1
+        ∙ ap (λ (n : ℕ). let t : Tallied = record { written = dialogue.session.tally.written; lost = n } in t)
+        (sym (add-zero dialogue.session.tally.lost)))
         (ap messages_in put.0)
-    put_ends Ended talk' put = absurd put
-    put_ends NoHello talk' put = absurd put
-    put_ends (Fault fault) talk' put = absurd put
-    put_ends Write talk' put = absurd put
-    put_ends Bound talk' put = absurd put
-    put_ends Reset talk' put = absurd put
+    put_ends Ended dialogue' put = absurd put
+    put_ends NoHello dialogue' put = absurd put
+    put_ends (Fault fault) dialogue' put = absurd put
+    put_ends Write dialogue' put = absurd put
+    put_ends Bound dialogue' put = absurd put
+    put_ends Reset dialogue' put = absurd put
 
   -- The call is left.
-  pub leaves : (cred : Cred) (request : Request) (text given : List ℕ) (talk : Talk) (old now new : K)
+  pub leaves : (cred : Cred) (request : Request) (text given : List ℕ) (dialogue : Dialogue) (old now new : K)
       (left unread : Option (List ℕ)) (taken : List ℕ)
-      → StandsAsking Means slots cred request text talk old now left unread taken
+      → StandsAsking Means slots cred request text dialogue old now left unread taken
       → Means now cred request text WasLeft given new → MayAnswer request.version request.ask WasLeft given
-      → Stopped Means slots Left talk old new left unread taken
-  leaves cred request text given talk old now new left unread taken stands means may =
-      put_ends cred request text WasLeft given talk old now new left unread taken stands means may Left talk
+      → Stopped Means slots Left dialogue old new left unread taken
+  leaves cred request text given dialogue old now new left unread taken stands means may =
+      put_ends cred request text WasLeft given dialogue old now new left unread taken stands means may Left dialogue
       (refl, refl)
 
   -- It stops where it stands, after its hello.
-  stops_greeted : (why : End) (talk talk' : Talk) (old now : K) (left unread rest : Option (List ℕ)) (taken : List ℕ)
-      (stands : Stands Means slots talk old now left unread taken)
-      (greeted : Greeted Means slots talk.session old now left unread stands.replies)
-      → StopsAfter greeted.version why unread rest → IsStoppedWithin why talk.session.requests
-      → Replied why greeted.version slots greeted.calls stands.replies → talk' ≡ talk
-      → Stopped Means slots why talk' old now left rest taken
-  stops_greeted why talk talk' old now left unread rest taken stands greeted ends within replied same =
-      let count : talk'.session.requests ≡ talk.session.requests = ap (λ (t : Talk). t.session.requests) same in
+  stops_greeted : (why : End) (dialogue dialogue' : Dialogue) (old now : K) (left unread rest : Option (List ℕ))
+      (taken : List ℕ)
+      (stands : Stands Means slots dialogue old now left unread taken)
+      (greeted : Greeted Means slots dialogue.session old now left unread stands.replies)
+      → StopsAfter greeted.version why unread rest → IsStoppedWithin why dialogue.session.requests
+      → Replied why greeted.version slots greeted.calls stands.replies → dialogue' ≡ dialogue
+      → Stopped Means slots why dialogue' old now left rest taken
+  stops_greeted why dialogue dialogue' old now left unread rest taken stands greeted ends within replied same =
+      let count : dialogue'.session.requests ≡ dialogue.session.requests =
+      ap (λ (t : Dialogue). t.session.requests) same in
       inr (record {
         version = greeted.version;
         cred = greeted.cred;
@@ -363,8 +379,8 @@ module _ {K : Type 0} (Means : Meaning K) (slots : ℕ) where
         replies = stands.replies;
         replied = replied;
         lost = 0;
-        gathers = regathered (only_lost 0) stands.replies taken talk.unsent talk'.unsent talk.session.tally
-            talk'.session.tally (ap (λ (t : Talk). t.unsent) same) (ap (λ (t : Talk). t.session.tally) same)
+        gathers = regathered (only_lost 0) stands.replies taken dialogue.unsent dialogue'.unsent dialogue.session.tally
+            dialogue'.session.tally (ap (λ (t : Dialogue). t.unsent) same) (ap (λ (t : Dialogue). t.session.tally) same)
             stands.gathers;
         all = omega (
           arith,
@@ -376,142 +392,150 @@ module _ {K : Type 0} (Means : Meaning K) (slots : ℕ) where
       })
 
   -- It stops before its hello.
-  stops_fresh : (why : End) (talk talk' : Talk) (old now : K) (left unread rest : Option (List ℕ)) (taken : List ℕ)
-      (stands : Stands Means slots talk old now left unread taken)
-      (fresh : Fresh talk.session old now left unread stands.replies)
-      → StopsBefore why unread rest → talk' ≡ talk → Stopped Means slots why talk' old now left rest taken
-  stops_fresh why talk talk' old now left unread rest taken stands fresh ends same = inl (record {
+  stops_fresh : (why : End) (dialogue dialogue' : Dialogue) (old now : K) (left unread rest : Option (List ℕ))
+      (taken : List ℕ)
+      (stands : Stands Means slots dialogue old now left unread taken)
+      (fresh : Fresh dialogue.session old now left unread stands.replies)
+      → StopsBefore why unread rest → dialogue' ≡ dialogue → Stopped Means slots why dialogue' old now left rest taken
+  stops_fresh why dialogue dialogue' old now left unread rest taken stands fresh ends same = inl (record {
     handler = fresh.handler;
     ends = subst (λ (l : Option (List ℕ)). StopsBefore why l rest) fresh.reads ends;
-    gathers = subst (λ (l : List Gathered). Gathers (only_lost 0) l taken talk'.unsent talk'.session.tally)
+    gathers = subst (λ (l : List Gathered). Gathers (only_lost 0) l taken dialogue'.unsent dialogue'.session.tally)
         fresh.gathered
-        (regathered (only_lost 0) stands.replies taken talk.unsent talk'.unsent talk.session.tally
-        talk'.session.tally (ap (λ (t : Talk). t.unsent) same) (ap (λ (t : Talk). t.session.tally) same)
+        (regathered (only_lost 0) stands.replies taken dialogue.unsent dialogue'.unsent dialogue.session.tally
+        dialogue'.session.tally (ap (λ (t : Dialogue). t.unsent) same) (ap (λ (t : Dialogue). t.session.tally) same)
         stands.gathers);
-    counts = ap (λ (t : Talk). t.session.requests) same ∙ fresh.counts;
+    counts = ap (λ (t : Dialogue). t.session.requests) same ∙ fresh.counts;
   })
 
-  reads_stop_at : (why : End) (talk talk' : Talk) (old now : K) (left unread rest : Option (List ℕ))
-      (taken text : List ℕ) (stands : Stands Means slots talk old now left unread taken)
-      (greeted : Greeted Means slots talk.session old now left unread stands.replies) → talk' ≡ talk →
-      EndsHere (Some (greeted.version, greeted.cred)) talk.session.requests why unread rest text →
-      Stopped Means slots why talk' old now left rest taken
-  reads_stop_at why talk talk' old now left unread rest taken text stands greeted same (inl bound) =
-      let most : talk.session.requests ≡ SESSION_REQUESTS = omega (arith, bound.0, greeted.bounded) in
-      subst (λ (w : End). Stopped Means slots w talk' old now left rest taken) (sym bound.1)
-      (stops_greeted Bound talk talk' old now left unread rest taken stands greeted bound.2 most
+  reads_stop_at : (why : End) (dialogue dialogue' : Dialogue) (old now : K) (left unread rest : Option (List ℕ))
+      (taken text : List ℕ) (stands : Stands Means slots dialogue old now left unread taken)
+      (greeted : Greeted Means slots dialogue.session old now left unread stands.replies) → dialogue' ≡ dialogue →
+      EndsHere (Some (greeted.version, greeted.cred)) dialogue.session.requests why unread rest text →
+      Stopped Means slots why dialogue' old now left rest taken
+  reads_stop_at why dialogue dialogue' old now left unread rest taken text stands greeted same (inl bound) =
+      let most : dialogue.session.requests ≡ SESSION_REQUESTS = omega (arith, bound.0, greeted.bounded) in
+      subst (λ (w : End). Stopped Means slots w dialogue' old now left rest taken) (sym bound.1)
+      (stops_greeted Bound dialogue dialogue' old now left unread rest taken stands greeted bound.2 most
       (greeted.replied, greeted.gathered) same)
-  reads_stop_at why talk talk' old now left unread rest taken text stands greeted same (inr read) =
-      let ends = stops_after greeted.version why talk.session.requests unread rest text read.0 read.1 in
-      stops_greeted why talk talk' old now left unread rest taken stands greeted ends.0 ends.1
+  reads_stop_at why dialogue dialogue' old now left unread rest taken text stands greeted same (inr read) =
+      let ends = stops_after greeted.version why dialogue.session.requests unread rest text read.0 read.1 in
+      stops_greeted why dialogue dialogue' old now left unread rest taken stands greeted ends.0 ends.1
       (all_reply why greeted.version slots greeted.calls unread rest text stands.replies read.1
       (greeted.replied, greeted.gathered)) same
 
   -- What it reads stops it.
-  reads_stop : (why : End) (talk talk' : Talk) (old now : K) (left unread rest : Option (List ℕ)) (taken text : List ℕ)
-      (stands : Stands Means slots talk old now left unread taken) →
-      UnderWay Means slots talk.session old now left unread stands.replies → talk' ≡ talk →
-      EndsHere talk.session.caller talk.session.requests why unread rest text →
-      Stopped Means slots why talk' old now left rest taken
-  reads_stop why talk talk' old now left unread rest taken text stands (inl fresh) same here =
-      let ends = subst (λ (c : Option (Version × Cred)). EndsHere c talk.session.requests why unread rest text)
+  reads_stop : (why : End) (dialogue dialogue' : Dialogue) (old now : K) (left unread rest : Option (List ℕ))
+      (taken text : List ℕ)
+      (stands : Stands Means slots dialogue old now left unread taken) →
+      Pending Means slots dialogue.session old now left unread stands.replies → dialogue' ≡ dialogue →
+      EndsHere dialogue.session.caller dialogue.session.requests why unread rest text →
+      Stopped Means slots why dialogue' old now left rest taken
+  reads_stop why dialogue dialogue' old now left unread rest taken text stands (inl fresh) same here =
+      let ends = subst (λ (c : Option (Version × Cred)). EndsHere c dialogue.session.requests why unread rest text)
       fresh.caller here in
-      stops_fresh why talk talk' old now left unread rest taken stands fresh (stops_before why unread rest ends.0) same
-  reads_stop why talk talk' old now left unread rest taken text stands (inr greeted) same here =
-      reads_stop_at why talk talk' old now left unread rest taken text stands greeted same
-      (subst (λ (c : Option (Version × Cred)). EndsHere c talk.session.requests why unread rest text)
+      stops_fresh why dialogue dialogue' old now left unread rest taken stands fresh
+      (stops_before why unread rest ends.0) same
+  reads_stop why dialogue dialogue' old now left unread rest taken text stands (inr greeted) same here =
+      reads_stop_at why dialogue dialogue' old now left unread rest taken text stands greeted same
+      (subst (λ (c : Option (Version × Cred)). EndsHere c dialogue.session.requests why unread rest text)
       greeted.caller here)
 
-  pub stops : (why : End) (talk talk' : Talk) (old now : K) (left unread rest : Option (List ℕ)) (taken text : List ℕ)
-      → Stands Means slots talk old now left unread taken →
-      TakesUp talk.session talk'.session (Err why) unread rest text → talk'.unsent ≡ talk.unsent →
-      Stopped Means slots why talk' old now left rest taken
-  stops why talk talk' old now left unread rest taken text stands takes same =
-      reads_stop why talk talk' old now left unread rest taken text stands stands.under_way
-      (ap₂ (λ (s : Session) (u : Unsent). let t : Talk = record { session = s; unsent = u } in t) takes.0 same) takes.1
+  pub stops : (why : End) (dialogue dialogue' : Dialogue) (old now : K) (left unread rest : Option (List ℕ))
+      (taken text : List ℕ)
+      → Stands Means slots dialogue old now left unread taken →
+      TakesUp dialogue.session dialogue'.session (Err why) unread rest text → dialogue'.unsent ≡ dialogue.unsent →
+      Stopped Means slots why dialogue' old now left rest taken
+  stops why dialogue dialogue' old now left unread rest taken text stands takes same =
+      reads_stop why dialogue dialogue' old now left unread rest taken text stands stands.pending
+      (ap₂ (λ (s : Session) (u : Unsent). let t : Dialogue = record { session = s; unsent = u } in t) takes.0 same)
+      takes.1
 
   -- It stops without reading.
-  stops_quiet : (why : End) (talk : Talk) (old now : K) (left unread : Option (List ℕ)) (taken : List ℕ)
-      (stands : Stands Means slots talk old now left unread taken)
-      → UnderWay Means slots talk.session old now left unread stands.replies → StopsBefore why unread unread
-      → ((version : Version) → StopsAfter version why unread unread) → IsStoppedWithin why talk.session.requests
+  stops_quiet : (why : End) (dialogue : Dialogue) (old now : K) (left unread : Option (List ℕ)) (taken : List ℕ)
+      (stands : Stands Means slots dialogue old now left unread taken)
+      → Pending Means slots dialogue.session old now left unread stands.replies → StopsBefore why unread unread
+      → ((version : Version) → StopsAfter version why unread unread) → IsStoppedWithin why dialogue.session.requests
       → ((version : Version) (calls : List Call) (replies : List Gathered)
       → AreReplied calls × (replies ≡ replies_to version slots calls) → Replied why version slots calls replies)
-      → Stopped Means slots why talk old now left unread taken
-  stops_quiet why talk old now left unread taken stands (inl fresh) before after within all =
-      stops_fresh why talk talk old now left unread unread taken stands fresh before refl
-  stops_quiet why talk old now left unread taken stands (inr greeted) before after within all =
-      stops_greeted why talk talk old now left unread unread taken stands greeted (after greeted.version) within
+      → Stopped Means slots why dialogue old now left unread taken
+  stops_quiet why dialogue old now left unread taken stands (inl fresh) before after within all =
+      stops_fresh why dialogue dialogue old now left unread unread taken stands fresh before refl
+  stops_quiet why dialogue old now left unread taken stands (inr greeted) before after within all =
+      stops_greeted why dialogue dialogue old now left unread unread taken stands greeted (after greeted.version) within
       (all greeted.version greeted.calls stands.replies (greeted.replied, greeted.gathered)) refl
 
-  stops_waiting : (talk : Talk) (old now : K) (left unread : Option (List ℕ)) (taken : List ℕ) →
-      0 < length talk.unsent.bytes → (stands : Stands Means slots talk old now left unread taken) →
-      UnderWay Means slots talk.session old now left unread stands.replies →
-      Stopped Means slots Write talk old now left unread taken
-  stops_waiting talk old now left unread taken some stands (inl fresh) =
+  stops_waiting : (dialogue : Dialogue) (old now : K) (left unread : Option (List ℕ)) (taken : List ℕ) →
+      0 < length dialogue.unsent.bytes → (stands : Stands Means slots dialogue old now left unread taken) →
+      Pending Means slots dialogue.session old now left unread stands.replies →
+      Stopped Means slots Write dialogue old now left unread taken
+  stops_waiting dialogue old now left unread taken some stands (inl fresh) =
       absurd (omega (
         arith,
         some,
         ap (λ (l : List Gathered). length (all_bytes l)) fresh.gathered,
         ap (length {A = ℕ}) stands.gathers.bytes,
-        length-append taken talk.unsent.bytes,
+        length-append taken dialogue.unsent.bytes,
       ))
-  stops_waiting talk old now left unread taken some stands (inr greeted) =
-      stops_greeted Write talk talk old now left unread unread taken stands greeted refl tt
+  stops_waiting dialogue old now left unread taken some stands (inr greeted) =
+      stops_greeted Write dialogue dialogue old now left unread unread taken stands greeted refl tt
       (greeted.replied, greeted.gathered) refl
 
   -- Memory was refused for what it reads.
-  pub stops_memory : (talk : Talk) (old now : K) (left unread : Option (List ℕ)) (taken : List ℕ)
-      → Stands Means slots talk old now left unread taken → Stopped Means slots NoMemory talk old now left unread taken
-  stops_memory talk old now left unread taken stands =
-      stops_quiet NoMemory talk old now left unread taken stands stands.under_way refl (λ v. refl) tt
+  pub stops_memory : (dialogue : Dialogue) (old now : K) (left unread : Option (List ℕ)) (taken : List ℕ)
+      → Stands Means slots dialogue old now left unread taken
+      → Stopped Means slots NoMemory dialogue old now left unread taken
+  stops_memory dialogue old now left unread taken stands =
+      stops_quiet NoMemory dialogue old now left unread taken stands stands.pending refl (λ v. refl) tt
       (λ v calls replies all. inl all)
 
   -- The connection cannot be read.
-  pub stops_read : (talk : Talk) (old now : K) (left unread : Option (List ℕ)) (taken : List ℕ)
-      → Stands Means slots talk old now left unread taken →
-      Stopped Means slots (Fault Read) talk old now left unread taken
-  stops_read talk old now left unread taken stands =
-      stops_quiet (Fault Read) talk old now left unread taken stands stands.under_way
+  pub stops_read : (dialogue : Dialogue) (old now : K) (left unread : Option (List ℕ)) (taken : List ℕ)
+      → Stands Means slots dialogue old now left unread taken →
+      Stopped Means slots (Fault Read) dialogue old now left unread taken
+  stops_read dialogue old now left unread taken stands =
+      stops_quiet (Fault Read) dialogue old now left unread taken stands stands.pending
       ([], Consumes-nil unread, tt, tt) (λ v. ([], Consumes-nil unread, tt, tt)) tt (λ v calls replies all. all)
 
   -- The client has reset the connection.
-  pub stops_reset : (talk : Talk) (old now : K) (left unread : Option (List ℕ)) (taken : List ℕ)
-      → Stands Means slots talk old now left unread taken → Stopped Means slots Reset talk old now left unread taken
-  stops_reset talk old now left unread taken stands =
-      stops_quiet Reset talk old now left unread taken stands stands.under_way refl (λ v. refl) tt
+  pub stops_reset : (dialogue : Dialogue) (old now : K) (left unread : Option (List ℕ)) (taken : List ℕ)
+      → Stands Means slots dialogue old now left unread taken
+      → Stopped Means slots Reset dialogue old now left unread taken
+  stops_reset dialogue old now left unread taken stands =
+      stops_quiet Reset dialogue old now left unread taken stands stands.pending refl (λ v. refl) tt
       (λ v calls replies all. all)
 
   -- The connection takes no more, and some replies are left.
-  pub stops_write : (talk : Talk) (old now : K) (left unread : Option (List ℕ)) (taken : List ℕ)
-      → 0 < length talk.unsent.bytes → Stands Means slots talk old now left unread taken →
-      Stopped Means slots Write talk old now left unread taken
-  stops_write talk old now left unread taken some stands =
-      stops_waiting talk old now left unread taken some stands stands.under_way
+  pub stops_write : (dialogue : Dialogue) (old now : K) (left unread : Option (List ℕ)) (taken : List ℕ)
+      → 0 < length dialogue.unsent.bytes → Stands Means slots dialogue old now left unread taken →
+      Stopped Means slots Write dialogue old now left unread taken
+  stops_write dialogue old now left unread taken some stands =
+      stops_waiting dialogue old now left unread taken some stands stands.pending
 
   -- The connection takes n bytes more.
-  gathers_sent : (lost : ℕ) (replies : List Gathered) (taken : List ℕ) (n : ℕ) (talk talk' : Talk) →
-      n ≤ length talk.unsent.bytes → talk' ≡ sent_on n talk →
-      Gathers (only_lost lost) replies taken talk.unsent talk.session.tally →
-      Gathers (only_lost lost) replies (taken ++ take n talk.unsent.bytes) talk'.unsent talk'.session.tally
-  gathers_sent lost replies taken n talk talk' fits is old =
-      regathered (only_lost lost) replies (taken ++ take n talk.unsent.bytes) _ talk'.unsent _ talk'.session.tally
-      (ap (λ (t : Talk). t.unsent) is) (ap (λ (t : Talk). t.session.tally) is)
-      (gathers_on (only_lost lost) replies taken talk.unsent talk.session.tally n fits old)
+  gathers_sent : (lost : ℕ) (replies : List Gathered) (taken : List ℕ) (n : ℕ) (dialogue dialogue' : Dialogue) →
+      n ≤ length dialogue.unsent.bytes → dialogue' ≡ sent_on n dialogue →
+      Gathers (only_lost lost) replies taken dialogue.unsent dialogue.session.tally →
+      Gathers (only_lost lost) replies (taken ++ take n dialogue.unsent.bytes) dialogue'.unsent dialogue'.session.tally
+  gathers_sent lost replies taken n dialogue dialogue' fits is old =
+      regathered (only_lost lost) replies (taken ++ take n dialogue.unsent.bytes) _ dialogue'.unsent _
+      dialogue'.session.tally
+      (ap (λ (t : Dialogue). t.unsent) is) (ap (λ (t : Dialogue). t.session.tally) is)
+      (gathers_on (only_lost lost) replies taken dialogue.unsent dialogue.session.tally n fits old)
 
-  -- What is under way does not depend on the tally.
-  same_way : (talk talk' : Talk) (old now : K) (left unread : Option (List ℕ)) (replies : List Gathered) →
-      talk'.session.caller ≡ talk.session.caller → talk'.session.requests ≡ talk.session.requests →
-      UnderWay Means slots talk.session old now left unread replies →
-      UnderWay Means slots talk'.session old now left unread replies
-  same_way talk talk' old now left unread replies caller count (inl fresh) = inl (record {
+  -- What is pending does not depend on the tally.
+  same_way : (dialogue dialogue' : Dialogue) (old now : K) (left unread : Option (List ℕ)) (replies : List Gathered) →
+      dialogue'.session.caller ≡ dialogue.session.caller → dialogue'.session.requests ≡ dialogue.session.requests →
+      Pending Means slots dialogue.session old now left unread replies →
+      Pending Means slots dialogue'.session old now left unread replies
+  same_way dialogue dialogue' old now left unread replies caller count (inl fresh) = inl (record {
     caller = caller ∙ fresh.caller;
     counts = count ∙ fresh.counts;
     handler = fresh.handler;
     reads = fresh.reads;
     gathered = fresh.gathered;
   })
-  same_way talk talk' old now left unread replies caller count (inr greeted) = inr (record {
+  same_way dialogue dialogue' old now left unread replies caller count (inr greeted) = inr (record {
     version = greeted.version;
     cred = greeted.cred;
     known = greeted.known;
@@ -526,23 +550,28 @@ module _ {K : Type 0} (Means : Meaning K) (slots : ℕ) where
     gathered = greeted.gathered;
   })
 
-  pub sends : (n : ℕ) (talk talk' : Talk) (old now : K) (left unread : Option (List ℕ)) (taken : List ℕ) →
-      n ≤ length talk.unsent.bytes → talk' ≡ sent_on n talk → Stands Means slots talk old now left unread taken →
-      Stands Means slots talk' old now left unread (taken ++ take n talk.unsent.bytes)
-  sends n talk talk' old now left unread taken fits is stands = record {
+  pub sends : (n : ℕ) (dialogue dialogue' : Dialogue) (old now : K) (left unread : Option (List ℕ)) (taken : List ℕ) →
+      n ≤ length dialogue.unsent.bytes → dialogue' ≡ sent_on n dialogue →
+      Stands Means slots dialogue old now left unread taken →
+      Stands Means slots dialogue' old now left unread (taken ++ take n dialogue.unsent.bytes)
+  sends n dialogue dialogue' old now left unread taken fits is stands = record {
     replies = stands.replies;
-    under_way = same_way talk talk' old now left unread stands.replies (ap (λ (t : Talk). t.session.caller) is)
-        (ap (λ (t : Talk). t.session.requests) is) stands.under_way;
-    gathers = gathers_sent 0 stands.replies taken n talk talk' fits is stands.gathers;
+    pending =
+        same_way dialogue dialogue' old now left unread stands.replies (ap (λ (t : Dialogue). t.session.caller) is)
+        (ap (λ (t : Dialogue). t.session.requests) is) stands.pending;
+    gathers = gathers_sent 0 stands.replies taken n dialogue dialogue' fits is stands.gathers;
   }
 
   -- The same while a call is not over.
-  pub sends_asking : (cred : Cred) (request : Request) (text : List ℕ) (n : ℕ) (talk talk' : Talk) (old now : K)
-      (left unread : Option (List ℕ)) (taken : List ℕ) → n ≤ length talk.unsent.bytes → talk' ≡ sent_on n talk →
-      StandsAsking Means slots cred request text talk old now left unread taken →
-      StandsAsking Means slots cred request text talk' old now left unread (taken ++ take n talk.unsent.bytes)
-  sends_asking cred request text n talk talk' old now left unread taken fits is stands =
-      let count : talk'.session.requests ≡ talk.session.requests = ap (λ (t : Talk). t.session.requests) is in
+  pub sends_asking : (cred : Cred) (request : Request) (text : List ℕ) (n : ℕ) (dialogue dialogue' : Dialogue)
+      (old now : K)
+      (left unread : Option (List ℕ)) (taken : List ℕ) → n ≤ length dialogue.unsent.bytes →
+      dialogue' ≡ sent_on n dialogue →
+      StandsAsking Means slots cred request text dialogue old now left unread taken →
+      StandsAsking Means slots cred request text dialogue' old now left unread (taken ++ take n dialogue.unsent.bytes)
+  sends_asking cred request text n dialogue dialogue' old now left unread taken fits is stands =
+      let count : dialogue'.session.requests ≡ dialogue.session.requests =
+      ap (λ (t : Dialogue). t.session.requests) is in
       record {
         replies = stands.replies;
         asking = record {
@@ -556,27 +585,28 @@ module _ {K : Type 0} (Means : Meaning K) (slots : ℕ) where
           asks = stands.asking.asks;
           asked = stands.asking.asked;
           replied = stands.asking.replied;
-          caller = ap (λ (t : Talk). t.session.caller) is ∙ stands.asking.caller;
+          caller = ap (λ (t : Dialogue). t.session.caller) is ∙ stands.asking.caller;
           counts = count ∙ stands.asking.counts;
           bounded = omega (arith, count, stands.asking.bounded);
           gathered = stands.asking.gathered;
         };
-        gathers = gathers_sent 0 stands.replies taken n talk talk' fits is stands.gathers;
+        gathers = gathers_sent 0 stands.replies taken n dialogue dialogue' fits is stands.gathers;
       }
 
   -- The same once it stopped.
-  pub sends_stopped : (why : End) (n : ℕ) (talk talk' : Talk) (old now : K) (left rest : Option (List ℕ))
-      (taken : List ℕ) → n ≤ length talk.unsent.bytes → talk' ≡ sent_on n talk →
-      Stopped Means slots why talk old now left rest taken →
-      Stopped Means slots why talk' old now left rest (taken ++ take n talk.unsent.bytes)
-  sends_stopped why n talk talk' old now left rest taken fits is (inl before) = inl (record {
+  pub sends_stopped : (why : End) (n : ℕ) (dialogue dialogue' : Dialogue) (old now : K) (left rest : Option (List ℕ))
+      (taken : List ℕ) → n ≤ length dialogue.unsent.bytes → dialogue' ≡ sent_on n dialogue →
+      Stopped Means slots why dialogue old now left rest taken →
+      Stopped Means slots why dialogue' old now left rest (taken ++ take n dialogue.unsent.bytes)
+  sends_stopped why n dialogue dialogue' old now left rest taken fits is (inl before) = inl (record {
     handler = before.handler;
     ends = before.ends;
-    gathers = gathers_sent 0 [] taken n talk talk' fits is before.gathers;
-    counts = ap (λ (t : Talk). t.session.requests) is ∙ before.counts;
+    gathers = gathers_sent 0 [] taken n dialogue dialogue' fits is before.gathers;
+    counts = ap (λ (t : Dialogue). t.session.requests) is ∙ before.counts;
   })
-  sends_stopped why n talk talk' old now left rest taken fits is (inr after) =
-      let count : talk'.session.requests ≡ talk.session.requests = ap (λ (t : Talk). t.session.requests) is in
+  sends_stopped why n dialogue dialogue' old now left rest taken fits is (inr after) =
+      let count : dialogue'.session.requests ≡ dialogue.session.requests =
+      ap (λ (t : Dialogue). t.session.requests) is in
       inr (record {
         version = after.version;
         cred = after.cred;
@@ -591,16 +621,16 @@ module _ {K : Type 0} (Means : Meaning K) (slots : ℕ) where
         replies = after.replies;
         replied = after.replied;
         lost = after.lost;
-        gathers = gathers_sent after.lost after.replies taken n talk talk' fits is after.gathers;
+        gathers = gathers_sent after.lost after.replies taken n dialogue dialogue' fits is after.gathers;
         all = after.all;
         counts = count ∙ after.counts;
         bounded = omega (arith, count, after.bounded);
       })
 
-  few_under_way : (talk : Talk) (old now : K) (left unread : Option (List ℕ)) (replies : List Gathered) →
-      UnderWay Means slots talk.session old now left unread replies → messages_among replies < 2 ^ 32
-  few_under_way talk old now left unread replies (inl fresh) = omega (arith, ap messages_among fresh.gathered)
-  few_under_way talk old now left unread replies (inr greeted) =
+  few_pending : (dialogue : Dialogue) (old now : K) (left unread : Option (List ℕ)) (replies : List Gathered) →
+      Pending Means slots dialogue.session old now left unread replies → messages_among replies < 2 ^ 32
+  few_pending dialogue old now left unread replies (inl fresh) = omega (arith, ap messages_among fresh.gathered)
+  few_pending dialogue old now left unread replies (inr greeted) =
       omega (
         arith,
         few_replies greeted.version slots greeted.calls replies greeted.gathered,
@@ -609,43 +639,44 @@ module _ {K : Type 0} (Means : Meaning K) (slots : ℕ) where
       )
 
   -- The tally has room for each message in the outbox, and for one more.
-  pub has_room : (talk : Talk) (old now : K) (left unread : Option (List ℕ)) (taken : List ℕ) →
-      Stands Means slots talk old now left unread taken → HasRoom talk
-  has_room talk old now left unread taken stands =
+  pub has_room : (dialogue : Dialogue) (old now : K) (left unread : Option (List ℕ)) (taken : List ℕ) →
+      Stands Means slots dialogue old now left unread taken → HasRoom dialogue
+  has_room dialogue old now left unread taken stands =
       omega (
         arith,
-        each_counted 0 stands.replies taken talk.unsent talk.session.tally stands.gathers,
-        few_under_way talk old now left unread stands.replies stands.under_way,
+        each_counted 0 stands.replies taken dialogue.unsent dialogue.session.tally stands.gathers,
+        few_pending dialogue old now left unread stands.replies stands.pending,
       )
 
-  pub has_room_asking : (cred : Cred) (request : Request) (text : List ℕ) (talk : Talk) (old now : K)
+  pub has_room_asking : (cred : Cred) (request : Request) (text : List ℕ) (dialogue : Dialogue) (old now : K)
       (left unread : Option (List ℕ)) (taken : List ℕ) →
-      StandsAsking Means slots cred request text talk old now left unread taken →
-      HasRoom talk × (taken_in talk.session.tally < 2 ^ 64 - 1)
-  has_room_asking cred request text talk old now left unread taken stands =
-      let each = each_counted 0 stands.replies taken talk.unsent talk.session.tally stands.gathers in
+      StandsAsking Means slots cred request text dialogue old now left unread taken →
+      HasRoom dialogue × (taken_in dialogue.session.tally < 2 ^ 64 - 1)
+  has_room_asking cred request text dialogue old now left unread taken stands =
+      let each = each_counted 0 stands.replies taken dialogue.unsent dialogue.session.tally stands.gathers in
       let few = few_replies stands.asking.version slots stands.asking.calls stands.replies stands.asking.gathered in (
         omega (arith, each, few, stands.asking.counts, stands.asking.bounded),
         omega (arith, each, few, stands.asking.counts, stands.asking.bounded),
       )
 
-  pub has_room_greeting : (version : Version) (talk : Talk) (old now : K) (left unread : Option (List ℕ))
-      (taken : List ℕ) → StandsGreeting version talk old now left unread taken → HasRoom talk
-  has_room_greeting version talk old now left unread taken stands =
+  pub has_room_greeting : (version : Version) (dialogue : Dialogue) (old now : K) (left unread : Option (List ℕ))
+      (taken : List ℕ) → StandsGreeting version dialogue old now left unread taken → HasRoom dialogue
+  has_room_greeting version dialogue old now left unread taken stands =
       omega (
         arith,
-        each_counted 0 stands.replies taken talk.unsent talk.session.tally stands.gathers,
+        each_counted 0 stands.replies taken dialogue.unsent dialogue.session.tally stands.gathers,
         ap messages_among stands.greets.gathered,
       )
 
-  pub has_room_stopped : (why : End) (talk : Talk) (old now : K) (left rest : Option (List ℕ)) (taken : List ℕ) →
-      Stopped Means slots why talk old now left rest taken → HasRoom talk
-  has_room_stopped why talk old now left rest taken (inl before) =
-      omega (arith, each_counted 0 [] taken talk.unsent talk.session.tally before.gathers)
-  has_room_stopped why talk old now left rest taken (inr after) =
+  pub has_room_stopped : (why : End) (dialogue : Dialogue) (old now : K) (left rest : Option (List ℕ))
+      (taken : List ℕ) →
+      Stopped Means slots why dialogue old now left rest taken → HasRoom dialogue
+  has_room_stopped why dialogue old now left rest taken (inl before) =
+      omega (arith, each_counted 0 [] taken dialogue.unsent dialogue.session.tally before.gathers)
+  has_room_stopped why dialogue old now left rest taken (inr after) =
       omega (
         arith,
-        each_counted after.lost after.replies taken talk.unsent talk.session.tally after.gathers,
+        each_counted after.lost after.replies taken dialogue.unsent dialogue.session.tally after.gathers,
         after.all,
         few_messages after.calls,
         after.counts,
@@ -653,23 +684,24 @@ module _ {K : Type 0} (Means : Meaning K) (slots : ℕ) where
       )
 
   -- It ends.
-  pub ends : (why : End) (talk : Talk) (old now : K) (left rest before after : Option (List ℕ)) (taken : List ℕ) →
-      Stopped Means slots why talk old now left rest taken → Appends before after taken →
-      ServesTogether Means slots (report why talk) old now left rest before after
-  ends why talk old now left rest before after taken (inl none) writes =
-      let nothing : taken ++ talk.unsent.bytes ≡ [] = sym none.gathers.bytes in
-      let sent : taken ≡ [] = append_empty taken talk.unsent.bytes nothing in
-      let empty : talk.unsent.bytes ≡ [] =
-      sym (ap (λ (l : List ℕ). l ++ talk.unsent.bytes) sent) ∙ nothing in
+  pub ends : (why : End) (dialogue : Dialogue) (old now : K) (left rest before after : Option (List ℕ))
+      (taken : List ℕ) →
+      Stopped Means slots why dialogue old now left rest taken → Appends before after taken →
+      ServesTogether Means slots (report why dialogue) old now left rest before after
+  ends why dialogue old now left rest before after taken (inl none) writes =
+      let nothing : taken ++ dialogue.unsent.bytes ≡ [] = sym none.gathers.bytes in
+      let sent : taken ≡ [] = append_empty taken dialogue.unsent.bytes nothing in
+      let empty : dialogue.unsent.bytes ≡ [] =
+      sym (ap (λ (l : List ℕ). l ++ dialogue.unsent.bytes) sent) ∙ nothing in
       inl (record {
         handler = none.handler;
         ends = subst (λ (l : List ℕ). StopsBefore (reported why l) left rest) (sym empty) none.ends;
         writes = subst (Appends before after) sent writes;
-        tallies = none_at_end (is_reset why) talk.unsent.marks talk.session.tally
-            (each_counted 0 [] taken talk.unsent talk.session.tally none.gathers);
+        tallies = none_at_end (is_reset why) dialogue.unsent.marks dialogue.session.tally
+            (each_counted 0 [] taken dialogue.unsent dialogue.session.tally none.gathers);
         counts = none.counts;
       })
-  ends why talk old now left rest before after taken (inr stopped) writes =
+  ends why dialogue old now left rest before after taken (inr stopped) writes =
       inr (record {
         version = stopped.version;
         cred = stopped.cred;
@@ -685,16 +717,17 @@ module _ {K : Type 0} (Means : Meaning K) (slots : ℕ) where
         replies = stopped.replies;
         replied = stopped.replied;
         sent = taken;
-        prefix = (talk.unsent.bytes, stopped.gathers.bytes);
+        prefix = (dialogue.unsent.bytes, stopped.gathers.bytes);
         writes = writes;
-        reports = reports_of why talk.unsent.bytes taken (all_bytes stopped.replies) stopped.gathers.bytes;
+        reports = reports_of why dialogue.unsent.bytes taken (all_bytes stopped.replies) stopped.gathers.bytes;
         all = omega (
           arith,
-          each_counted stopped.lost stopped.replies taken talk.unsent talk.session.tally stopped.gathers,
-          all_at_end (is_reset why) talk.unsent.marks talk.session.tally,
+          each_counted stopped.lost stopped.replies taken dialogue.unsent dialogue.session.tally stopped.gathers,
+          all_at_end (is_reset why) dialogue.unsent.marks dialogue.session.tally,
           stopped.all,
         );
-        written = written_at_end why stopped.version slots stopped.calls stopped.replies stopped.lost taken talk.unsent
-            talk.session.tally stopped.replied stopped.gathers;
+        written =
+            written_at_end why stopped.version slots stopped.calls stopped.replies stopped.lost taken dialogue.unsent
+            dialogue.session.tally stopped.replied stopped.gathers;
         counts = stopped.counts;
       })

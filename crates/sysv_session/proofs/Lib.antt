@@ -1,10 +1,10 @@
 pub mod ListLemmas
 pub mod LaterLemmas
-pub mod Courses
+pub mod Parses
 pub mod OutboxLemmas
 pub mod GatheredLemmas
 pub mod TogetherLemmas
-pub mod UnderWayLemmas
+pub mod PendingLemmas
 pub mod SessionLemmas
 pub mod GoesOn
 pub mod Arrived

@@ -9,11 +9,11 @@ use Rattle.std.specs.List.{AllByRecursion, concat}
 use Rattle.sysv_model.specs.declared.cred.Cred.{Cred}
 use Rattle.sysv_session.specs.declared.handler.RequestOutcome.{RequestOutcome}
 use Rattle.sysv_session.specs.declared.handler.RequestOutcome.TheVariants.{Left}
-use Rattle.sysv_session.specs.Answers.{is_message, messages_in, outcome_spelling}
+use Rattle.sysv_session.specs.Answers.{is_message, messages_in, outcome_encoding}
 use Rattle.sysv_session.specs.Calls.{Call, Leads, Meaning, messages_of}
-use Rattle.sysv_session.specs.Input.{asked_spelling}
+use Rattle.sysv_session.specs.Input.{asked_encoding}
 use Rattle.sysv_session.specs.Output.{frames_of}
-use Rattle.sysv_wire.specs.Requests.{request_spelling}
+use Rattle.sysv_wire.specs.Requests.{request_encoding}
 
 pub all_more : {A : Type 0} (P : A → Type 0) (xs : List A) (x : A) → AllByRecursion P xs → P x →
     AllByRecursion P (xs ++ x ∷ [])
@@ -29,16 +29,16 @@ leads_more Means cred (first ∷ calls) call a b c leads means =
     (leads.0, leads.1, leads_more Means cred calls call leads.0 b c leads.2 means)
 
 pub asked_more : (calls : List Call) (call : Call) →
-    asked_spelling (calls ++ call ∷ []) ≡ asked_spelling calls ++ request_spelling call.request call.text
+    asked_encoding (calls ++ call ∷ []) ≡ asked_encoding calls ++ request_encoding call.request call.text
 asked_more calls call =
-    flat_map-append (λ (c : Call). request_spelling c.request c.text) calls (call ∷ [])
-    ∙ ap (λ l. asked_spelling calls ++ l) (append-nil (request_spelling call.request call.text))
+    flat_map-append (λ (c : Call). request_encoding c.request c.text) calls (call ∷ [])
+    ∙ ap (λ l. asked_encoding calls ++ l) (append-nil (request_encoding call.request call.text))
 
 pub frames_more : (calls : List Call) (call : Call) →
     frames_of (calls ++ call ∷ [])
-    ≡ frames_of calls ++ outcome_spelling call.request.version call.outcome call.given ∷ []
+    ≡ frames_of calls ++ outcome_encoding call.request.version call.outcome call.given ∷ []
 frames_more calls call =
-    map-append (λ (c : Call). outcome_spelling c.request.version c.outcome c.given) calls (call ∷ [])
+    map-append (λ (c : Call). outcome_encoding c.request.version c.outcome c.given) calls (call ∷ [])
 
 pub concat_more : (frames : List (List ℕ)) (frame : List ℕ) → concat (frames ++ frame ∷ []) ≡ concat frames ++ frame
 concat_more frames frame = concat-append frames (frame ∷ []) ∙ ap (λ l. concat frames ++ l) (append-nil frame)
@@ -48,7 +48,7 @@ pub left_frames : (calls : List Call) (call : Call) → call.outcome ≡ Left �
     concat (frames_of (calls ++ call ∷ [])) ≡ concat (frames_of calls)
 left_frames calls call left =
     ap concat (frames_more calls call) ∙ concat_more (frames_of calls) _
-    ∙ ap (λ (o : RequestOutcome). concat (frames_of calls) ++ outcome_spelling call.request.version o call.given) left
+    ∙ ap (λ (o : RequestOutcome). concat (frames_of calls) ++ outcome_encoding call.request.version o call.given) left
     ∙ append-nil (concat (frames_of calls))
 
 pub messages_more : (calls : List Call) (call : Call) →

@@ -22,7 +22,7 @@ use Rattle.sysv_session.specs.declared.session.TakenUp.TheVariants.{Hello, Reque
 use Rattle.sysv_session.specs.Answers.{IsReplied, MayAnswer, messages_in}
 use Rattle.sysv_session.specs.Calls.{Call, Meaning, messages_of}
 use Rattle.sysv_session.specs.Gathered.{Gathered, all_bytes, marks_at, marks_from, messages_among}
-use Rattle.sysv_session.specs.Input.{EndsAfter, EndsBefore, hello_spelling}
+use Rattle.sysv_session.specs.Input.{EndsAfter, EndsBefore, hello_encoding}
 use Rattle.sysv_session.specs.Outbox.{Mark}
 use Rattle.sysv_session.specs.Output.{AreReplied, Replies, Tallies, Writes, answered, frames_of, hello_frame}
 use Rattle.sysv_session.specs.Output.{hello_reply}
@@ -30,13 +30,13 @@ use Rattle.sysv_session.specs.HandedOver.{HandedOver, Proceeds}
 use Rattle.sysv_session.specs.Session.{IsBounded, ServesBy}
 use Rattle.sysv_session.specs.TakenUp.{EndsHere, TakesRequest, TakesUp}
 use Rattle.sysv_session.specs.Turn.{Answers, one_lost, one_written}
-use Rattle.sysv_session.specs.UnderWay.{Greeted, Greets, UnderWay, replies_to, reply_for}
+use Rattle.sysv_session.specs.Pending.{Greeted, Greets, Pending, replies_to, reply_for}
 use Rattle.sysv_session.proofs.GatheredLemmas.{all_more as bytes_more, marks_more}
 use Rattle.sysv_session.proofs.ListLemmas.{all_but_last, all_more, few_messages, frames_more, left_frames}
 use Rattle.sysv_session.proofs.ListLemmas.{messages_more}
 use Rattle.sysv_session.proofs.TogetherLemmas.{marks_in, replies_bytes, replies_messages, reply_bytes}
-use Rattle.sysv_session.proofs.UnderWayLemmas.{Called, call_replied, hello_replied, hello_taken, request_called}
-use Rattle.sysv_session.proofs.UnderWayLemmas.{request_taken}
+use Rattle.sysv_session.proofs.PendingLemmas.{Called, call_replied, hello_replied, hello_taken, request_called}
+use Rattle.sysv_session.proofs.PendingLemmas.{request_taken}
 use Rattle.sysv_wire.specs.declared.frame.Version.{Version}
 
 -- One more reply has its message, if there is one.
@@ -100,14 +100,14 @@ module _ {K : Type 0} (Means : Meaning K) (slots : ℕ) (old : K) (left taken : 
       session.requests ≡ 0 → HandedOver Means slots session old old left left taken taken
   begins session caller tally counts = record {
     replies = [];
-    under_way = inl (record { caller = caller; counts = counts; handler = refl; reads = refl; gathered = refl });
+    pending = inl (record { caller = caller; counts = counts; handler = refl; reads = refl; gathered = refl });
     writes = Appends-nil taken;
     quiet = λ none. refl;
     tally = tally;
   }
 
   few_messages_of : (session : Session) (now : K) (unread : Option (List ℕ)) (replies : List Gathered) →
-      UnderWay Means slots session old now left unread replies → messages_among replies < 2 ^ 32
+      Pending Means slots session old now left unread replies → messages_among replies < 2 ^ 32
   few_messages_of session now unread replies (inl fresh) = omega (arith, ap messages_among fresh.gathered)
   few_messages_of session now unread replies (inr greeted) =
       omega (
@@ -126,35 +126,35 @@ module _ {K : Type 0} (Means : Meaning K) (slots : ℕ) (old : K) (left taken : 
       omega (
         arith,
         ap taken_in so_far.tally,
-        few_messages_of session now unread so_far.replies so_far.under_way,
+        few_messages_of session now unread so_far.replies so_far.pending,
       )
 
   most_requests : (session : Session) (now : K) (unread : Option (List ℕ)) (replies : List Gathered) →
-      UnderWay Means slots session old now left unread replies → session.requests ≤ SESSION_REQUESTS
+      Pending Means slots session old now left unread replies → session.requests ≤ SESSION_REQUESTS
   most_requests session now unread replies (inl fresh) = omega (arith, fresh.counts)
   most_requests session now unread replies (inr greeted) = greeted.bounded
 
   -- It has had at most the maximum number of requests.
   pub few_requests : (session : Session) (now : K) (unread more : Option (List ℕ)) →
       HandedOver Means slots session old now left unread taken more → session.requests ≤ SESSION_REQUESTS
-  few_requests session now unread more so_far = most_requests session now unread so_far.replies so_far.under_way
+  few_requests session now unread more so_far = most_requests session now unread so_far.replies so_far.pending
 
   fresh_count : (session : Session) (now : K) (unread : Option (List ℕ)) (replies : List Gathered) →
-      UnderWay Means slots session old now left unread replies → session.caller ≡ None → session.requests ≡ 0
+      Pending Means slots session old now left unread replies → session.caller ≡ None → session.requests ≡ 0
   fresh_count session now unread replies (inl fresh) none = fresh.counts
   fresh_count session now unread replies (inr greeted) none = absurd (grind (arith, greeted.caller, none))
 
   module _ (session : Session) (now : K) (unread rest more : Option (List ℕ)) (text : List ℕ)
       (so_far : HandedOver Means slots session old now left unread taken more) where
     -- It ends where it stands, after its hello, and all calls have their replies.
-    talks : (why : End) (greeted : Greeted Means slots session old now left unread so_far.replies) →
+    converses : (why : End) (greeted : Greeted Means slots session old now left unread so_far.replies) →
         EndsAfter greeted.version why unread rest → IsBounded why session.requests →
         (AreReplied greeted.calls → Replies why greeted.calls) →
         (Appends taken more (concat (hello_frame greeted.version slots ∷ frames_of greeted.calls)) →
         Writes why (hello_frame greeted.version slots ∷ frames_of greeted.calls) taken more) →
         answered why greeted.calls ≡ greeted.calls →
         ServesBy Means slots why session.tally session.requests old now left rest taken more
-    talks why greeted ends bounded replies writes all =
+    converses why greeted ends bounded replies writes all =
         let told = all_told greeted.version slots greeted.calls so_far.replies session.tally greeted.gathered
         so_far.tally in
         inr (record {
@@ -181,8 +181,8 @@ module _ {K : Type 0} (Means : Meaning K) (slots : ℕ) (old : K) (left taken : 
     reads_stop_at : (why : End) (greeted : Greeted Means slots session old now left unread so_far.replies) →
         session.requests < SESSION_REQUESTS → TakesRequest greeted.version (Err why) unread rest text →
         ServesBy Means slots why session.tally session.requests old now left rest taken more
-    reads_stop_at Ended greeted few takes = talks Ended greeted takes few (λ r. r) (λ w. w) refl
-    reads_stop_at (Fault fault) greeted few takes = talks (Fault fault) greeted takes few (λ r. r) (λ w. w) refl
+    reads_stop_at Ended greeted few takes = converses Ended greeted takes few (λ r. r) (λ w. w) refl
+    reads_stop_at (Fault fault) greeted few takes = converses (Fault fault) greeted takes few (λ r. r) (λ w. w) refl
     reads_stop_at NoMemory greeted few takes = absurd takes
     reads_stop_at NoHello greeted few takes = absurd takes
     reads_stop_at Write greeted few takes = absurd takes
@@ -196,10 +196,10 @@ module _ {K : Type 0} (Means : Meaning K) (slots : ℕ) (old : K) (left taken : 
     reads_stop why greeted (inl bound) =
         let most : session.requests ≡ SESSION_REQUESTS = omega (arith, bound.0, greeted.bounded) in
         subst (λ (w : End). ServesBy Means slots w session.tally session.requests old now left rest taken more)
-        (sym bound.1) (talks Bound greeted bound.2 most (λ r. r) (λ w. w) refl)
+        (sym bound.1) (converses Bound greeted bound.2 most (λ r. r) (λ w. w) refl)
     reads_stop why greeted (inr read) = reads_stop_at why greeted read.0 read.1
 
-    stops_at : (why : End) → UnderWay Means slots session old now left unread so_far.replies →
+    stops_at : (why : End) → Pending Means slots session old now left unread so_far.replies →
         EndsHere session.caller session.requests why unread rest text →
         ServesBy Means slots why session.tally session.requests old now left rest taken more
     stops_at why (inl fresh) here =
@@ -223,21 +223,21 @@ module _ {K : Type 0} (Means : Meaning K) (slots : ℕ) (old : K) (left taken : 
         Proceeds Means slots (Err why) session.requests session' old now left rest taken more
     stops why session' takes =
         subst (λ (s : Session). ServesBy Means slots why s.tally s.requests old now left rest taken more) (sym takes.0)
-        (stops_at why so_far.under_way takes.1)
+        (stops_at why so_far.pending takes.1)
 
     -- It answers what it took up.
     module _ (mid new : Session) (most : Option (List ℕ)) (caller : new.caller ≡ mid.caller)
         (count : new.requests ≡ mid.requests) where
       serves_on : (version : Version) (outcome : RequestOutcome) (given : List ℕ) (next : K) →
           mid.tally ≡ session.tally → mid.requests ≡ session.requests + 1 →
-          UnderWay Means slots new old next left rest (so_far.replies ++ reply_for version outcome given ∷ []) →
+          Pending Means slots new old next left rest (so_far.replies ++ reply_for version outcome given ∷ []) →
           Answers (Ok tt) version outcome given more most mid.tally new.tally →
           Proceeds Means slots (Ok tt) session.requests new old next left rest taken most
-      serves_on version outcome given next kept one under_way answers = (
+      serves_on version outcome given next kept one pending answers = (
         count ∙ one,
         record {
           replies = so_far.replies ++ reply_for version outcome given ∷ [];
-          under_way = under_way;
+          pending = pending;
           writes = writes_more so_far.replies (reply_for version outcome given) _ taken more most
               (reply_bytes version outcome given) so_far.writes answers.1;
           quiet = λ none. absurd (omega (
@@ -255,7 +255,7 @@ module _ {K : Type 0} (Means : Meaning K) (slots : ℕ) (old : K) (left taken : 
       module _ (version : Version) (takes : TakesUp session mid (Ok (Hello version)) unread rest text) where
         hello : Greets version mid old now left rest so_far.replies
         hello =
-            hello_taken Means slots version session mid old now left unread rest text so_far.replies so_far.under_way
+            hello_taken Means slots version session mid old now left unread rest text so_far.replies so_far.pending
             takes
 
         pub answers_hello : (result : Result ⊤ End) →
@@ -263,7 +263,7 @@ module _ {K : Type 0} (Means : Meaning K) (slots : ℕ) (old : K) (left taken : 
             Proceeds Means slots result session.requests new old now left rest taken most
         answers_hello (Ok done) answers =
             serves_on version (Reply (hello_reply version slots)) [] now (ap (λ (s : Session). s.tally) takes.3)
-            (omega (arith, hello.counts, fresh_count session now unread so_far.replies so_far.under_way takes.1))
+            (omega (arith, hello.counts, fresh_count session now unread so_far.replies so_far.pending takes.1))
             (hello_replied Means slots version mid new old now left rest so_far.replies hello caller count) answers
         answers_hello (Err Write) answers =
             let told : new.tally ≡ record { written = messages_among so_far.replies; lost = 0 } =
@@ -277,7 +277,7 @@ module _ {K : Type 0} (Means : Meaning K) (slots : ℕ) (old : K) (left taken : 
               are_calls = tt;
               leads = hello.handler;
               unread = rest;
-              reads = subst (Consumes left rest) (sym (append-nil (hello_spelling version hello.cred))) hello.reads;
+              reads = subst (Consumes left rest) (sym (append-nil (hello_encoding version hello.cred))) hello.reads;
               ends = refl;
               replies = tt;
               writes = (
@@ -313,7 +313,7 @@ module _ {K : Type 0} (Means : Meaning K) (slots : ℕ) (old : K) (left taken : 
         called =
             request_called Means slots cred call mid old now next left rest so_far.replies
             (request_taken Means slots cred call.request session mid old now left unread rest call.text so_far.replies
-            so_far.under_way takes) means may
+            so_far.pending takes) means may
 
         told : mid.tally ≡ record { written = messages_of called.done; lost = 0 }
         told =
@@ -325,11 +325,11 @@ module _ {K : Type 0} (Means : Meaning K) (slots : ℕ) (old : K) (left taken : 
             all_written called.version slots called.done so_far.replies taken more called.gathered so_far.writes
 
         -- It ends with this call.
-        talks_last : (why : End) → EndsAfter called.version why rest rest → Replies why (called.done ++ call ∷ []) →
+        converses_last : (why : End) → EndsAfter called.version why rest rest → Replies why (called.done ++ call ∷ []) →
             Writes why (hello_frame called.version slots ∷ frames_of (called.done ++ call ∷ [])) taken most →
             Tallies why (called.done ++ call ∷ []) new.tally → IsBounded why new.requests →
             ServesBy Means slots why new.tally new.requests old next left rest taken most
-        talks_last why ends replied writes tallies bounded = inr (record {
+        converses_last why ends replied writes tallies bounded = inr (record {
           version = called.version;
           cred = called.cred;
           known = called.known;
@@ -355,7 +355,7 @@ module _ {K : Type 0} (Means : Meaning K) (slots : ℕ) (old : K) (left taken : 
             (call_replied Means slots call mid new old next left rest so_far.replies called answers.0 caller count)
             answers
         answers_call (Err Write) answers =
-            talks_last Write refl
+            converses_last Write refl
             (all_more (λ (c : Call). IsReplied c.outcome) called.done call called.replied answers.0) (
               hello_frame called.version slots ∷ frames_of called.done,
               _,
@@ -366,7 +366,7 @@ module _ {K : Type 0} (Means : Meaning K) (slots : ℕ) (old : K) (left taken : 
             )
             (lost_more called.done call mid.tally new.tally answers.2 told) tt
         answers_call (Err Left) answers =
-            talks_last Left refl (called.done, call, refl, called.replied, answers.0)
+            converses_last Left refl (called.done, call, refl, called.replied, answers.0)
             (subst₂ (Appends taken) (sym answers.1)
             (ap (λ (l : List ℕ). hello_frame called.version slots ++ l) (sym (left_frames called.done call answers.0)))
             written)

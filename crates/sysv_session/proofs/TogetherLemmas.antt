@@ -17,17 +17,17 @@ use Rattle.sysv_session.specs.declared.handler.RequestOutcome.TheVariants.{Reply
 use Rattle.sysv_session.specs.declared.served.End.{End}
 use Rattle.sysv_session.specs.declared.served.End.TheVariants.{Ended, NoMemory, NoHello, Fault, Write, Bound, Left}
 use Rattle.sysv_session.specs.declared.served.End.TheVariants.{Reset}
-use Rattle.sysv_session.specs.Answers.{IsReplied, is_message, message_reply, messages_in, outcome_spelling}
+use Rattle.sysv_session.specs.Answers.{IsReplied, is_message, message_reply, messages_in, outcome_encoding}
 use Rattle.sysv_session.specs.Calls.{Call, Meaning, messages_of}
 use Rattle.sysv_session.specs.Gathered.{Gathered, all_bytes, ends_message, has_end, marks_at, marks_from}
 use Rattle.sysv_session.specs.Gathered.{messages_among, messages_passed, messages_within}
 use Rattle.sysv_session.specs.Input.{EndsBefore}
 use Rattle.sysv_session.specs.Outbox.{Mark, mark_at, passed, within}
 use Rattle.sysv_session.specs.Output.{AreReplied, BreaksOff, frames_of, hello_frame}
-use Rattle.sysv_session.specs.Session.{IsBounded, Talks}
+use Rattle.sysv_session.specs.Session.{IsBounded, Converses}
 use Rattle.sysv_session.specs.Together.{AreTogether, FailsEarly, IsStoppedWithin, Replied, StopsAfter, StopsBefore}
-use Rattle.sysv_session.specs.Together.{TalksTogether, unread_at}
-use Rattle.sysv_session.specs.UnderWay.{greeting, replies_to, reply_for, reply_to}
+use Rattle.sysv_session.specs.Together.{ConversesTogether, unread_at}
+use Rattle.sysv_session.specs.Pending.{greeting, replies_to, reply_for, reply_to}
 use Rattle.sysv_session.proofs.GatheredLemmas.{all_more, breaks_off, breaks_off_far, marks_more, within-append}
 use Rattle.sysv_session.proofs.ListLemmas.{all_but_last, concat_more, frames_more, left_frames}
 use Rattle.sysv_session.proofs.OutboxLemmas.{first_passed, first_within}
@@ -37,11 +37,11 @@ use Rattle.sysv_wire.specs.declared.frame.Version.{Version}
 use Rattle.sysv_wire.specs.declared.reply.Reply.{Reply as Answer}
 use Rattle.sysv_wire.specs.Frames.{frame}
 use Rattle.sysv_wire.specs.Numbers.{u32_bytes}
-use Rattle.sysv_wire.specs.Replies.{reply_spelling}
+use Rattle.sysv_wire.specs.Replies.{reply_encoding}
 
 -- A reply has the bytes that are written for its outcome.
 pub reply_bytes : (version : Version) (outcome : RequestOutcome) (given : List ℕ) →
-    (reply_for version outcome given).frame ≡ outcome_spelling version outcome given
+    (reply_for version outcome given).frame ≡ outcome_encoding version outcome given
 reply_bytes version (Reply reply) given = refl
 reply_bytes version (Got delivery) given = refl
 reply_bytes version WasLeft given = refl
@@ -126,12 +126,12 @@ front_within n front reply le lt =
     )
 
 -- A frame has bytes.
-some_bytes : (reply : Answer) (text : List ℕ) → 0 < length (reply_spelling reply text)
+some_bytes : (reply : Answer) (text : List ℕ) → 0 < length (reply_encoding reply text)
 unfolding frame u32_bytes
 some_bytes reply text = omega arith
 
 pub replied_bytes : (version : Version) (outcome : RequestOutcome) (given : List ℕ) → IsReplied outcome →
-    0 < length (outcome_spelling version outcome given)
+    0 < length (outcome_encoding version outcome given)
 replied_bytes version (Reply reply) given replied = some_bytes reply given
 replied_bytes version (Got delivery) given replied = some_bytes (message_reply version delivery.mtype) given
 replied_bytes version WasLeft given replied = absurd replied
@@ -353,24 +353,24 @@ module _ {K : Type 0} where
   -- All was sent: the replies to the hello and to these calls.
   whole : (Means : Meaning K) (slots : ℕ) (why : End) (tally : Tallied) (requests : ℕ) (old new : K)
       (left rest taken more : Option (List ℕ))
-      (talks : Talks Means slots why tally requests old new left rest taken more) (done : List Call)
-      → StopsAfter talks.version why talks.unread rest → IsStoppedWithin why requests
-      → Replied why talks.version slots talks.calls (replies_to talks.version slots done)
-      → Appends taken more (concat (hello_frame talks.version slots ∷ frames_of done))
+      (converses : Converses Means slots why tally requests old new left rest taken more) (done : List Call)
+      → StopsAfter converses.version why converses.unread rest → IsStoppedWithin why requests
+      → Replied why converses.version slots converses.calls (replies_to converses.version slots done)
+      → Appends taken more (concat (hello_frame converses.version slots ∷ frames_of done))
       → tally.written ≡ messages_of done → ((n : ℕ) (l : List Gathered) → unread_at why n l ≡ 0)
-      → TalksTogether Means slots why tally requests old new left rest taken more
-  whole Means slots why tally requests old new left rest taken more talks done ends bounded replied writes written
+      → ConversesTogether Means slots why tally requests old new left rest taken more
+  whole Means slots why tally requests old new left rest taken more converses done ends bounded replied writes written
       read =
-      let replies = replies_to talks.version slots done in
+      let replies = replies_to converses.version slots done in
       record {
-        version = talks.version;
-        cred = talks.cred;
-        known = talks.known;
-        calls = talks.calls;
-        are_calls = talks.are_calls;
-        leads = talks.leads;
-        unread = talks.unread;
-        reads = talks.reads;
+        version = converses.version;
+        cred = converses.cred;
+        known = converses.known;
+        calls = converses.calls;
+        are_calls = converses.are_calls;
+        leads = converses.leads;
+        unread = converses.unread;
+        reads = converses.reads;
         stopped = why;
         ends = ends;
         bounded = bounded;
@@ -378,47 +378,48 @@ module _ {K : Type 0} where
         replied = replied;
         sent = all_bytes replies;
         prefix = ([], sym (append-nil (all_bytes replies)));
-        writes = subst (Appends taken more) (sym (replies_bytes talks.version slots done)) writes;
+        writes = subst (Appends taken more) (sym (replies_bytes converses.version slots done)) writes;
         reports = inl (refl, refl);
-        all = talks.tallies.0;
+        all = converses.tallies.0;
         written = omega (
           arith,
           written,
           read (length (all_bytes replies)) replies,
           all_within (length (all_bytes replies)) 0 replies (omega arith),
-          replies_messages talks.version slots done,
+          replies_messages converses.version slots done,
         );
-        counts = talks.counts;
+        counts = converses.counts;
       }
 
   -- The writer failed at the last reply.
   failed : (Means : Meaning K) (slots : ℕ) (tally : Tallied) (requests : ℕ) (old new : K)
       (left rest taken more : Option (List ℕ))
-      (talks : Talks Means slots Write tally requests old new left rest taken more) (front : List Gathered)
+      (converses : Converses Means slots Write tally requests old new left rest taken more) (front : List Gathered)
       (last : Gathered) (before : List (List ℕ))
-      → replies_to talks.version slots talks.calls ≡ front ++ last ∷ []
+      → replies_to converses.version slots converses.calls ≡ front ++ last ∷ []
       → all_bytes (front ++ last ∷ []) ≡ concat (before ++ last.frame ∷ []) → all_bytes front ≡ concat before
       → tally.written ≡ messages_among front → Broken before last.frame taken more
-      → TalksTogether Means slots Write tally requests old new left rest taken more
-  failed Means slots tally requests old new left rest taken more talks front last before are bytes first written cut =
-      let replies = replies_to talks.version slots talks.calls in
+      → ConversesTogether Means slots Write tally requests old new left rest taken more
+  failed Means slots tally requests old new left rest taken more converses front last before are bytes first written
+      cut =
+      let replies = replies_to converses.version slots converses.calls in
       let all : all_bytes replies ≡ cut.sent ++ cut.rest = ap all_bytes are ∙ bytes ∙ cut.whole in
       let long : length (all_bytes (front ++ last ∷ [])) ≡ length cut.sent + length cut.rest =
       ap (length {A = ℕ}) (bytes ∙ cut.whole) ∙ length-append cut.sent cut.rest in
       record {
-        version = talks.version;
-        cred = talks.cred;
-        known = talks.known;
-        calls = talks.calls;
-        are_calls = talks.are_calls;
-        leads = talks.leads;
-        unread = talks.unread;
-        reads = talks.reads;
+        version = converses.version;
+        cred = converses.cred;
+        known = converses.known;
+        calls = converses.calls;
+        are_calls = converses.are_calls;
+        leads = converses.leads;
+        unread = converses.unread;
+        reads = converses.reads;
         stopped = Write;
-        ends = talks.ends;
+        ends = converses.ends;
         bounded = tt;
         replies = replies;
-        replied = (talks.replies, refl);
+        replied = (converses.replies, refl);
         sent = cut.sent;
         prefix = (cut.rest, all);
         writes = cut.writes;
@@ -431,7 +432,7 @@ module _ {K : Type 0} where
             length-append cut.sent cut.rest,
           )),
         );
-        all = talks.tallies.0;
+        all = converses.tallies.0;
         written = omega (
           arith,
           written,
@@ -439,87 +440,94 @@ module _ {K : Type 0} where
           front_within (length cut.sent) front last
               (omega (arith, cut.far, ap (length {A = ℕ}) first)) (omega (arith, cut.some, long)),
         );
-        counts = talks.counts;
+        counts = converses.counts;
       }
 
   fails : (Means : Meaning K) (slots : ℕ) (tally : Tallied) (requests : ℕ) (old new : K)
       (left rest taken more : Option (List ℕ))
-      (talks : Talks Means slots Write tally requests old new left rest taken more)
-      → FailsEarly Write (hello_frame talks.version slots ∷ frames_of talks.calls) taken more
-      → (talks.calls ≡ []) ⊎ ((done : List Call) × (last : Call) × (talks.calls ≡ done ++ last ∷ []))
-      → TalksTogether Means slots Write tally requests old new left rest taken more
-  fails Means slots tally requests old new left rest taken more talks early (inl none) =
-      failed Means slots tally requests old new left rest taken more talks [] (greeting talks.version slots) []
-      (rw none refl) (replies_bytes talks.version slots []) refl
-      (talks.tallies.1 ∙ rw none refl)
-      (broken [] (hello_frame talks.version slots) taken more (hello_bytes talks.version slots)
-      (rw none at early refl) (rw none at talks.writes))
-  fails Means slots tally requests old new left rest taken more talks early (inr some) =
-      let version = talks.version in
+      (converses : Converses Means slots Write tally requests old new left rest taken more)
+      → FailsEarly Write (hello_frame converses.version slots ∷ frames_of converses.calls) taken more
+      → (converses.calls ≡ []) ⊎ ((done : List Call) × (last : Call) × (converses.calls ≡ done ++ last ∷ []))
+      → ConversesTogether Means slots Write tally requests old new left rest taken more
+  fails Means slots tally requests old new left rest taken more converses early (inl none) =
+      failed Means slots tally requests old new left rest taken more converses [] (greeting converses.version slots) []
+      (rw none refl) (replies_bytes converses.version slots []) refl
+      (converses.tallies.1 ∙ rw none refl)
+      (broken [] (hello_frame converses.version slots) taken more (hello_bytes converses.version slots)
+      (rw none at early refl) (rw none at converses.writes))
+  fails Means slots tally requests old new left rest taken more converses early (inr some) =
+      let version = converses.version in
       let done = some.0 in
       let last = some.1 in
-      let frame = outcome_spelling last.request.version last.outcome last.given in
+      let frame = outcome_encoding last.request.version last.outcome last.given in
       let before = hello_frame version slots ∷ frames_of done in
       let same : (reply_to last).frame ≡ frame = reply_bytes last.request.version last.outcome last.given in
-      let frames : hello_frame version slots ∷ frames_of talks.calls ≡ before ++ frame ∷ [] =
+      let frames : hello_frame version slots ∷ frames_of converses.calls ≡ before ++ frame ∷ [] =
       ap (λ (l : List Call). hello_frame version slots ∷ frames_of l) some.2
       ∙ ap (λ (l : List (List ℕ)). hello_frame version slots ∷ l) (frames_more done last) in
       let cut : Broken before frame taken more =
       broken before frame taken more
       (replied_bytes last.request.version last.outcome last.given
-      (last_replied done last (subst AreReplied some.2 talks.replies)))
+      (last_replied done last (subst AreReplied some.2 converses.replies)))
       (subst (λ (l : List (List ℕ)). (known : List ℕ) → taken ≡ Some known → more ≢ Some (known ++ concat l)) frames
       (early refl))
-      (subst (λ (l : List (List ℕ)). BreaksOff l taken more) frames talks.writes) in
-      failed Means slots tally requests old new left rest taken more talks (replies_to version slots done)
+      (subst (λ (l : List (List ℕ)). BreaksOff l taken more) frames converses.writes) in
+      failed Means slots tally requests old new left rest taken more converses (replies_to version slots done)
       (reply_to last) before (ap (replies_to version slots) some.2 ∙ replies_more version slots done last)
       (all_more (replies_to version slots done) (reply_to last)
       ∙ ap (λ (l : List ℕ). l ++ (reply_to last).frame) (replies_bytes version slots done)
       ∙ sym (concat_more before (reply_to last).frame))
       (replies_bytes version slots done)
-      (talks.tallies.1 ∙ ap (λ (l : List Call). messages_of (take (length l - 1) l)) some.2
+      (converses.tallies.1 ∙ ap (λ (l : List Call). messages_of (take (length l - 1) l)) some.2
       ∙ ap messages_of (all_but_last done last) ∙ sym (replies_messages version slots done))
       (subst (λ (l : List ℕ). Broken before l taken more) (sym same) cut)
 
   -- The last call was left.
   leaves : (Means : Meaning K) (slots : ℕ) (tally : Tallied) (requests : ℕ) (old new : K)
       (left rest taken more : Option (List ℕ))
-      (talks : Talks Means slots Left tally requests old new left rest taken more)
-      → TalksTogether Means slots Left tally requests old new left rest taken more
-  leaves Means slots tally requests old new left rest taken more talks =
-      let version = talks.version in
-      let done = talks.replies.0 in
-      let last = talks.replies.1 in
-      let is : talks.calls ≡ done ++ last ∷ [] = talks.replies.2 in
-      let frames : concat (frames_of talks.calls) ≡ concat (frames_of done) =
-      ap (λ (l : List Call). concat (frames_of l)) is ∙ left_frames done last talks.replies.4 in
-      whole Means slots Left tally requests old new left rest taken more talks done talks.ends tt
-      (done, last, is, talks.replies.4, (talks.replies.3, refl))
-      (subst (λ (l : List ℕ). Appends taken more (hello_frame version slots ++ l)) frames talks.writes)
-      (talks.tallies.1 ∙ ap (λ (l : List Call). messages_of (take (length l - 1) l)) is
+      (converses : Converses Means slots Left tally requests old new left rest taken more)
+      → ConversesTogether Means slots Left tally requests old new left rest taken more
+  leaves Means slots tally requests old new left rest taken more converses =
+      let version = converses.version in
+      let done = converses.replies.0 in
+      let last = converses.replies.1 in
+      let is : converses.calls ≡ done ++ last ∷ [] = converses.replies.2 in
+      let frames : concat (frames_of converses.calls) ≡ concat (frames_of done) =
+      ap (λ (l : List Call). concat (frames_of l)) is ∙ left_frames done last converses.replies.4 in
+      whole Means slots Left tally requests old new left rest taken more converses done converses.ends tt
+      (done, last, is, converses.replies.4, (converses.replies.3, refl))
+      (subst (λ (l : List ℕ). Appends taken more (hello_frame version slots ++ l)) frames converses.writes)
+      (converses.tallies.1 ∙ ap (λ (l : List Call). messages_of (take (length l - 1) l)) is
       ∙ ap messages_of (all_but_last done last)) (λ n l. refl)
 
-  talks_together : (Means : Meaning K) (slots : ℕ) (why : End) (tally : Tallied) (requests : ℕ) (old new : K)
+  converses_together : (Means : Meaning K) (slots : ℕ) (why : End) (tally : Tallied) (requests : ℕ) (old new : K)
       (left rest taken more : Option (List ℕ))
-      (talks : Talks Means slots why tally requests old new left rest taken more)
-      → FailsEarly why (hello_frame talks.version slots ∷ frames_of talks.calls) taken more
-      → TalksTogether Means slots why tally requests old new left rest taken more
-  talks_together Means slots Ended tally requests old new left rest taken more talks early =
-      whole Means slots Ended tally requests old new left rest taken more talks talks.calls talks.ends talks.bounded
-      (talks.replies, refl) talks.writes talks.tallies.1 (λ n l. refl)
-  talks_together Means slots NoMemory tally requests old new left rest taken more talks early = absurd talks.ends
-  talks_together Means slots NoHello tally requests old new left rest taken more talks early = absurd talks.ends
-  talks_together Means slots (Fault fault) tally requests old new left rest taken more talks early =
-      whole Means slots (Fault fault) tally requests old new left rest taken more talks talks.calls talks.ends
-      (fault_within fault requests talks.bounded) (talks.replies, refl) talks.writes talks.tallies.1 (λ n l. refl)
-  talks_together Means slots Write tally requests old new left rest taken more talks early =
-      fails Means slots tally requests old new left rest taken more talks early (last_of talks.calls)
-  talks_together Means slots Bound tally requests old new left rest taken more talks early =
-      whole Means slots Bound tally requests old new left rest taken more talks talks.calls talks.ends talks.bounded
-      (talks.replies, refl) talks.writes talks.tallies.1 (λ n l. refl)
-  talks_together Means slots Left tally requests old new left rest taken more talks early =
-      leaves Means slots tally requests old new left rest taken more talks
-  talks_together Means slots Reset tally requests old new left rest taken more talks early = absurd talks.ends
+      (converses : Converses Means slots why tally requests old new left rest taken more)
+      → FailsEarly why (hello_frame converses.version slots ∷ frames_of converses.calls) taken more
+      → ConversesTogether Means slots why tally requests old new left rest taken more
+  converses_together Means slots Ended tally requests old new left rest taken more converses early =
+      whole Means slots Ended tally requests old new left rest taken more converses converses.calls converses.ends
+      converses.bounded
+      (converses.replies, refl) converses.writes converses.tallies.1 (λ n l. refl)
+  converses_together Means slots NoMemory tally requests old new left rest taken more converses early =
+      absurd converses.ends
+  converses_together Means slots NoHello tally requests old new left rest taken more converses early =
+      absurd converses.ends
+  converses_together Means slots (Fault fault) tally requests old new left rest taken more converses early =
+      whole Means slots (Fault fault) tally requests old new left rest taken more converses converses.calls
+      converses.ends
+      (fault_within fault requests converses.bounded) (converses.replies, refl) converses.writes converses.tallies.1
+      (λ n l. refl)
+  converses_together Means slots Write tally requests old new left rest taken more converses early =
+      fails Means slots tally requests old new left rest taken more converses early (last_of converses.calls)
+  converses_together Means slots Bound tally requests old new left rest taken more converses early =
+      whole Means slots Bound tally requests old new left rest taken more converses converses.calls converses.ends
+      converses.bounded
+      (converses.replies, refl) converses.writes converses.tallies.1 (λ n l. refl)
+  converses_together Means slots Left tally requests old new left rest taken more converses early =
+      leaves Means slots tally requests old new left rest taken more converses
+  converses_together Means slots Reset tally requests old new left rest taken more converses early =
+      absurd converses.ends
 
   pub together : (Means : Meaning K) → AreTogether Means
   together Means slots served old new left rest taken more (inl stays) early = inl (record {
@@ -529,6 +537,7 @@ module _ {K : Type 0} where
     tallies = stays.tallies;
     counts = stays.counts;
   })
-  together Means slots served old new left rest taken more (inr talks) early =
-      inr (talks_together Means slots served.«end» served.tally served.requests old new left rest taken more talks
+  together Means slots served old new left rest taken more (inr converses) early =
+      inr (converses_together Means slots served.«end» served.tally served.requests old new left rest taken more
+      converses
       early)

@@ -11,7 +11,7 @@ use Rattle.sysv_wire.specs.declared.reply.Reply.{Reply as Answer}
 use Rattle.sysv_wire.specs.declared.request.Ask.{Ask}
 use Rattle.sysv_wire.specs.declared.request.Request.{Request}
 use Rattle.sysv_wire.specs.Frames.{op_number}
-use Rattle.sysv_wire.specs.Replies.{IsAnswer, gives_text, reply_spelling}
+use Rattle.sysv_wire.specs.Replies.{IsAnswer, gives_text, reply_encoding}
 use Rattle.sysv_wire.specs.Requests.{FitsRequest, ask_text, op_of}
 
 -- The request is not a hello, and its body is that of a send or empty.
@@ -47,10 +47,10 @@ HasAnswer Left = ⊤
 -- What is written for an outcome in this version: a reply as its frame, and a message as the frame
 -- of the reply to a receive, with its type and its body. For a call that was left nothing is
 -- written.
-abbrev pub outcome_spelling : Version → RequestOutcome → List ℕ → List ℕ
-outcome_spelling version (Reply reply) given = reply_spelling reply given
-outcome_spelling version (Got delivery) given = reply_spelling (message_reply version delivery.mtype) given
-outcome_spelling version Left given = []
+abbrev pub outcome_encoding : Version → RequestOutcome → List ℕ → List ℕ
+outcome_encoding version (Reply reply) given = reply_encoding reply given
+outcome_encoding version (Got delivery) given = reply_encoding (message_reply version delivery.mtype) given
+outcome_encoding version Left given = []
 
 -- The call was not left, so the outcome has a reply.
 abbrev pub IsReplied : RequestOutcome → Type 0

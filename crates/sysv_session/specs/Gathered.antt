@@ -13,7 +13,7 @@ use Rattle.sysv_session.specs.Outbox.{Mark, Unsent, at_end, beyond, mark_at, mor
 use Rattle.sysv_session.specs.Outbox.{with_message, within, without}
 use Rattle.sysv_session.specs.Output.{BreaksOff}
 use Rattle.sysv_wire.specs.declared.frame.Version.{Version}
-use Rattle.sysv_wire.specs.Replies.{reply_spelling}
+use Rattle.sysv_wire.specs.Replies.{reply_encoding}
 
 -- A reply: its frame, and the message in it, if there is one.
 pub record Gathered : Type 0 where
@@ -26,7 +26,7 @@ plain frame = record { frame = frame; message = None }
 
 -- The frame of the reply to a receive in this version.
 abbrev pub message_frame : Version → Given → List ℕ → List ℕ
-message_frame version given text = reply_spelling (message_reply version given.mtype) text
+message_frame version given text = reply_encoding (message_reply version given.mtype) text
 
 -- The reply to a receive in this version.
 abbrev pub message_of : Version → Given → List ℕ → Gathered

@@ -13,29 +13,29 @@ use Rattle.sysv_wire.specs.declared.frame.Version.{Version}
 use Rattle.sysv_wire.specs.declared.request.Ask.TheVariants.{Hello}
 use Rattle.sysv_wire.specs.declared.request.Request.{Request}
 use Rattle.sysv_wire.specs.Faults.{Faults, RequestFault}
-use Rattle.sysv_wire.specs.Requests.{FitsRequest, request_spelling}
+use Rattle.sysv_wire.specs.Requests.{FitsRequest, request_encoding}
 
 -- The hello of this version with these credentials.
 abbrev pub hello_of : Version → Cred → Request
 hello_of version cred = record { version = version; ask = Hello cred }
 
--- The one spelling of a hello.
-abbrev pub hello_spelling : Version → Cred → List ℕ
-hello_spelling version cred = request_spelling (hello_of version cred) []
+-- The one encoding of a hello.
+abbrev pub hello_encoding : Version → Cred → List ℕ
+hello_encoding version cred = request_encoding (hello_of version cred) []
 
--- The spellings of the requests that the handler received, in order.
-abbrev pub asked_spelling : List Call → List ℕ
-asked_spelling calls = flat_map (λ call. request_spelling call.request call.text) calls
+-- The encodings of the requests that the handler received, in order.
+abbrev pub asked_encoding : List Call → List ℕ
+asked_encoding calls = flat_map (λ call. request_encoding call.request call.text) calls
 
 -- These bytes are a hello of this version.
 abbrev pub IsHello : Version → List ℕ → Type 0
-IsHello version bytes = (cred : Cred) × FitsRequest (hello_of version cred) [] × (bytes ≡ hello_spelling version cred)
+IsHello version bytes = (cred : Cred) × FitsRequest (hello_of version cred) [] × (bytes ≡ hello_encoding version cred)
 
 -- These bytes are a request of another version, which may be a hello.
 abbrev pub IsOfAnother : Version → List ℕ → Type 0
 IsOfAnother version bytes =
     (request : Request) × (text : List ℕ) × (request.version ≢ version) × FitsRequest request text
-    × (bytes ≡ request_spelling request text)
+    × (bytes ≡ request_encoding request text)
 
 -- Why a request after the hello is refused in a session of this version, by the bytes that were
 -- taken: as any request is refused, or because it is another hello, or because it is of another
@@ -51,7 +51,7 @@ LaterFault version Read taken = RequestFault Read taken
 -- there is a fault.
 abbrev pub ReadsAsked : Version → Option (List ℕ) → Option (List ℕ) → Result (Option Request) Fault → List ℕ → Type 0
 ReadsAsked version old new (Ok (Some request)) text =
-    Consumes old new (request_spelling request text) × IsAskedIn version request text
+    Consumes old new (request_encoding request text) × IsAskedIn version request text
 ReadsAsked version old new (Ok None) text = Consumes old new [] × IsAtEnd new
 ReadsAsked version old new (Err fault) text = Faults (LaterFault version) fault old new
 
@@ -60,7 +60,7 @@ abbrev pub EndsBefore : End → Option (List ℕ) → Option (List ℕ) → Type
 EndsBefore «end».Ended old new = Consumes old new [] × IsAtEnd new
 EndsBefore «end».NoMemory old new = new ≡ old
 EndsBefore «end».NoHello old new =
-    (request : Request) × (text : List ℕ) × IsAsked request text × Consumes old new (request_spelling request text)
+    (request : Request) × (text : List ℕ) × IsAsked request text × Consumes old new (request_encoding request text)
 EndsBefore («end».Fault fault) old new = Faults RequestFault fault old new
 EndsBefore «end».Write old new = ⊥
 EndsBefore «end».Bound old new = ⊥
@@ -82,5 +82,5 @@ EndsAfter version «end».Reset old new = ⊥
 -- The version and the credentials of a hello are read, or there is a reason why there is no hello.
 abbrev pub Greets : Result (Version × Cred) End → Option (List ℕ) → Option (List ℕ) → Type 0
 Greets (Ok caller) old new =
-    FitsRequest (hello_of caller.0 caller.1) [] × Consumes old new (hello_spelling caller.0 caller.1)
+    FitsRequest (hello_of caller.0 caller.1) [] × Consumes old new (hello_encoding caller.0 caller.1)
 Greets (Err why) old new = EndsBefore why old new × (why ≢ «end».NoMemory)

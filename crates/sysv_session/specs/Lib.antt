@@ -5,14 +5,14 @@ pub mod Input
 pub mod Output
 pub mod Turn
 pub mod Session
-pub mod Course
+pub mod Parse
 pub mod Failing
 pub mod Outbox
 pub mod Layout
 pub mod Gathered
 pub mod TakenUp
 pub mod Conversation
-pub mod UnderWay
+pub mod Pending
 pub mod HandedOver
 pub mod Together
 pub mod Stands

@@ -8,7 +8,7 @@ use Rattle.sysv_session.specs.declared.served.End.{End}
 use Rattle.sysv_session.specs.declared.served.End.TheVariants.{Ended, NoMemory, NoHello, Fault, Write, Bound, Left}
 use Rattle.sysv_session.specs.declared.served.End.TheVariants.{Reset}
 use Rattle.sysv_session.specs.declared.handler.RequestOutcome.TheVariants as outcomes
-use Rattle.sysv_session.specs.Answers.{IsReplied, outcome_spelling}
+use Rattle.sysv_session.specs.Answers.{IsReplied, outcome_encoding}
 use Rattle.sysv_session.specs.Calls.{Call, messages_of}
 use Rattle.sysv_wire.specs.declared.frame.Op.TheVariants as op
 use Rattle.sysv_wire.specs.declared.frame.Version.{Version}
@@ -17,7 +17,7 @@ use Rattle.sysv_wire.specs.declared.reply.ReplyContent.{ReplyContent}
 use Rattle.sysv_wire.specs.declared.reply.ReplyContent.TheVariants.{Hello, HelloSlots}
 use Rattle.sysv_wire.specs.declared.reply.Reply.{Reply}
 use Rattle.sysv_wire.specs.Frames.{op_number}
-use Rattle.sysv_wire.specs.Replies.{reply_spelling}
+use Rattle.sysv_wire.specs.Replies.{reply_encoding}
 use Rattle.sysv_model.specs.Writing.{AppendsPrefix}
 
 -- The result of a hello of this version, with this number of slots.
@@ -31,11 +31,11 @@ hello_reply version slots = record { version = version; op = op_number op.Hello;
 
 -- The frame of the reply to a hello.
 abbrev pub hello_frame : Version → ℕ → List ℕ
-hello_frame version slots = reply_spelling (hello_reply version slots) []
+hello_frame version slots = reply_encoding (hello_reply version slots) []
 
 -- The frames of the replies to the calls, in order. A call that was left has no bytes.
 abbrev pub frames_of : List Call → List (List ℕ)
-frames_of calls = map (λ call. outcome_spelling call.request.version call.outcome call.given) calls
+frames_of calls = map (λ call. outcome_encoding call.request.version call.outcome call.given) calls
 
 -- None of the calls was left.
 abbrev pub AreReplied : List Call → Type 0

@@ -12,7 +12,7 @@ use Rattle.sysv_session.specs.declared.served.End.TheVariants.{Reset}
 use Rattle.sysv_session.specs.declared.served.Served.{Served}
 use Rattle.sysv_session.specs.declared.served.TheConstants.{SESSION_REQUESTS}
 use Rattle.sysv_session.specs.Calls.{Call, IsCall, Leads, Meaning}
-use Rattle.sysv_session.specs.Input.{EndsAfter, EndsBefore, asked_spelling, hello_of, hello_spelling}
+use Rattle.sysv_session.specs.Input.{EndsAfter, EndsBefore, asked_encoding, hello_of, hello_encoding}
 use Rattle.sysv_session.specs.Output.{Replies, Tallies, Writes, frames_of, hello_frame}
 use Rattle.sysv_wire.specs.declared.frame.Version.{Version}
 use Rattle.sysv_wire.specs.Requests.{FitsRequest}
@@ -43,7 +43,7 @@ module _ {K : Type 0} where
   -- version that was read after the hello, and it writes the frames of the replies to the hello and
   -- to these calls. Each call has a reply, except a last one that was left. The reply to the hello
   -- states this number of slots, if it is of version 2.
-  pub record Talks (Means : Meaning K) (slots : ℕ) (why : End) (tally : Tallied) (requests : ℕ) (old new : K)
+  pub record Converses (Means : Meaning K) (slots : ℕ) (why : End) (tally : Tallied) (requests : ℕ) (old new : K)
       (left rest taken more : Option (List ℕ)) : Type 0 where
     pub version : Version
     pub cred : Cred
@@ -52,7 +52,7 @@ module _ {K : Type 0} where
     pub are_calls : AllByRecursion (IsCall version) calls
     pub leads : Leads Means cred old calls new
     pub unread : Option (List ℕ)  -- what the reader had left after the last request that was taken up
-    pub reads : Consumes left unread (hello_spelling version cred ++ asked_spelling calls)
+    pub reads : Consumes left unread (hello_encoding version cred ++ asked_encoding calls)
     pub ends : EndsAfter version why unread rest
     pub replies : Replies why calls
     pub writes : Writes why (hello_frame version slots ∷ frames_of calls) taken more
@@ -65,7 +65,7 @@ module _ {K : Type 0} where
       Type 0
   ServesBy Means slots why tally requests old new left rest taken more =
       Stays why tally requests old new left rest taken more
-      ⊎ Talks Means slots why tally requests old new left rest taken more
+      ⊎ Converses Means slots why tally requests old new left rest taken more
 
   -- What a session that reported this did to its handler, to what its reader had left and to what
   -- its writer had taken.

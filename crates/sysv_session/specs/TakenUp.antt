@@ -16,13 +16,13 @@ use Rattle.sysv_session.specs.Input.{Greets, LaterFault}
 use Rattle.sysv_wire.specs.declared.frame.Version.{Version}
 use Rattle.sysv_wire.specs.declared.request.Request.{Request}
 use Rattle.sysv_wire.specs.Faults.{Faults}
-use Rattle.sysv_wire.specs.Requests.{request_spelling}
+use Rattle.sysv_wire.specs.Requests.{request_encoding}
 
 -- A request of this version is read for the handler; or the input is at its end; or there is a
 -- fault.
 abbrev pub TakesRequest : Version → Result Request End → (left rest : Option (List ℕ)) → List ℕ → Type 0
 TakesRequest version (Ok request) left rest text =
-    Consumes left rest (request_spelling request text) × IsAskedIn version request text
+    Consumes left rest (request_encoding request text) × IsAskedIn version request text
 TakesRequest version (Err Ended) left rest text = Consumes left rest [] × IsAtEnd rest
 TakesRequest version (Err (Fault fault)) left rest text = Faults (LaterFault version) fault left rest
 TakesRequest version (Err NoMemory) left rest text = ⊥

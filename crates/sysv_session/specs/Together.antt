@@ -15,10 +15,10 @@ use Rattle.sysv_session.specs.declared.served.End.TheVariants.{Reset}
 use Rattle.sysv_session.specs.declared.served.Served.{Served}
 use Rattle.sysv_session.specs.Calls.{Call, IsCall, Leads, Meaning, messages_of}
 use Rattle.sysv_session.specs.Gathered.{Gathered, all_bytes, ends_message, messages_within}
-use Rattle.sysv_session.specs.Input.{EndsAfter, EndsBefore, asked_spelling, hello_of, hello_spelling}
+use Rattle.sysv_session.specs.Input.{EndsAfter, EndsBefore, asked_encoding, hello_of, hello_encoding}
 use Rattle.sysv_session.specs.Output.{AreReplied, frames_of, hello_frame}
 use Rattle.sysv_session.specs.Session.{IsBounded, Serves}
-use Rattle.sysv_session.specs.UnderWay.{replies_to}
+use Rattle.sysv_session.specs.Pending.{replies_to}
 use Rattle.sysv_wire.specs.declared.fault.Fault.TheVariants.{Truncated, TooLong, BadOp, BadField, Read}
 use Rattle.sysv_wire.specs.declared.frame.Version.{Version}
 use Rattle.sysv_wire.specs.Requests.{FitsRequest}
@@ -131,7 +131,8 @@ module _ {K : Type 0} where
   -- this prefix count as written, and all others as lost. The one exception: if the client reset
   -- the connection, it has not read the last byte of the prefix; if that is the last byte of a
   -- message's frame, this message counts as lost.
-  pub record TalksTogether (Means : Meaning K) (slots : ℕ) (why : End) (tally : Tallied) (requests : ℕ) (old new : K)
+  pub record ConversesTogether (Means : Meaning K) (slots : ℕ) (why : End) (tally : Tallied) (requests : ℕ)
+      (old new : K)
       (left rest taken more : Option (List ℕ)) : Type 0 where
     pub version : Version
     pub cred : Cred
@@ -140,7 +141,7 @@ module _ {K : Type 0} where
     pub are_calls : AllByRecursion (IsCall version) calls
     pub leads : Leads Means cred old calls new
     pub unread : Option (List ℕ)  -- what was left of the input after the last request that was taken up
-    pub reads : Consumes left unread (hello_spelling version cred ++ asked_spelling calls)
+    pub reads : Consumes left unread (hello_encoding version cred ++ asked_encoding calls)
     pub stopped : End
     pub ends : StopsAfter version stopped unread rest
     pub bounded : IsStoppedWithin stopped requests
@@ -159,14 +160,14 @@ module _ {K : Type 0} where
       Type 0
   ServesTogether Means slots served old new left rest taken more =
       StaysTogether served.«end» served.tally served.requests old new left rest taken more
-      ⊎ TalksTogether Means slots served.«end» served.tally served.requests old new left rest taken more
+      ⊎ ConversesTogether Means slots served.«end» served.tally served.requests old new left rest taken more
 
   -- A writer that failed had not taken all the frames of this session.
   abbrev pub FailsWithin : (Means : Meaning K) (slots : ℕ) (served : Served) (old new : K)
       (left rest taken more : Option (List ℕ)) → Serves Means slots served old new left rest taken more → Type 0
   FailsWithin Means slots served old new left rest taken more (inl stays) = ⊤
-  FailsWithin Means slots served old new left rest taken more (inr talks) =
-      FailsEarly served.«end» (hello_frame talks.version slots ∷ frames_of talks.calls) taken more
+  FailsWithin Means slots served old new left rest taken more (inr converses) =
+      FailsEarly served.«end» (hello_frame converses.version slots ∷ frames_of converses.calls) taken more
 
   -- A session whose writer took one reply after another is one of these, if a writer that failed had
   -- not taken all of them.

@@ -8,7 +8,7 @@ use Rattle.sysv_session.specs.declared.handler.RequestOutcome.TheVariants as out
 use Rattle.sysv_session.specs.declared.served.End.{End}
 use Rattle.sysv_session.specs.declared.served.End.TheVariants.{Ended, NoMemory, NoHello, Fault, Write, Bound, Left}
 use Rattle.sysv_session.specs.declared.served.End.TheVariants.{Reset}
-use Rattle.sysv_session.specs.Answers.{IsReplied, messages_in, outcome_spelling}
+use Rattle.sysv_session.specs.Answers.{IsReplied, messages_in, outcome_encoding}
 use Rattle.sysv_wire.specs.declared.frame.Version.{Version}
 use Rattle.sysv_model.specs.Writing.{AppendsPrefix}
 
@@ -26,10 +26,10 @@ one_lost outcome tally = record { written = tally.written; lost = tally.lost + m
 abbrev pub Answers : Result ⊤ End → Version → RequestOutcome → List ℕ → (old new : Option (List ℕ)) →
     (before after : Tallied) → Type 0
 Answers (Ok done) version outcome given old new before after =
-    IsReplied outcome × Appends old new (outcome_spelling version outcome given)
+    IsReplied outcome × Appends old new (outcome_encoding version outcome given)
     × (after ≡ one_written outcome before)
 Answers (Err Write) version outcome given old new before after =
-    IsReplied outcome × AppendsPrefix old new (outcome_spelling version outcome given)
+    IsReplied outcome × AppendsPrefix old new (outcome_encoding version outcome given)
     × (after ≡ one_lost outcome before)
 Answers (Err Ended) version outcome given old new before after = ⊥
 Answers (Err NoMemory) version outcome given old new before after = ⊥

@@ -1,6 +1,6 @@
 //! A session whose replies are gathered.
 ghost use Rattle.std.specs.Prelude.{◌≡◌, ◌≤◌, ◌<◌, ◌+◌, ◌-◌, ◌^◌, ◌==◌, [], None, false, length, IfErr, OnErr, OnOk};
-ghost use Rattle.sysv_model.specs.Watched.{stream_of, KeepsStream};
+ghost use Rattle.sysv_model.specs.Instrumented.{stream_of, KeepsStream};
 ghost use Rattle.sysv_model.specs.declared.limits.TheConstants.{MESSAGE_BYTES};
 ghost use Rattle.sysv_queue.specs.Tally.{taken_in};
 ghost use Rattle.sysv_session.specs.Answers.{HasAnswer};
@@ -18,10 +18,10 @@ use crate::turn::hello_reply;
 use std::alloc::{AllocFailed, Global};
 use std::io::Read;
 use std::marker::Model;
-use sysv_model::{Body, NoMemory, Watched};
+use sysv_model::{Body, Instrumented, NoMemory};
 use sysv_wire::Version;
 
-/// A session under way, and the replies that its connection has not taken yet.
+/// A pending session, and the replies that its connection has not taken yet.
 ///
 /// It takes up requests from what has arrived of the input. Give `unsent` to the connection, and
 /// report with `sent` how many bytes it took.
@@ -33,9 +33,9 @@ pub struct Conversation {
 }
 
 impl Model for Conversation {
-    ghost use Rattle.sysv_session.specs.Conversation.{Talk};
+    ghost use Rattle.sysv_session.specs.Conversation.{Dialogue};
 
-    ghost Value = { Talk };
+    ghost Value = { Dialogue };
 
     ghost view = { λ c. record { session = c.session; unsent = c.outbox } };
 }
@@ -60,9 +60,10 @@ impl Conversation {
     /// # Errors
     ///
     /// Those of `Session::take_up`. The conversation is unchanged.
+    #[inline(always)]
     pub fn take_up<R: Read>(
         &mut self,
-        reader: &mut Watched<'_, R>,
+        reader: &mut Instrumented<'_, R>,
         text: &mut Body,
     ) -> Result<TakenUp, End>
         ensures takes { TakesUp self.old.session self.new.session result
@@ -72,6 +73,13 @@ impl Conversation {
         ensures write { ends_by_write result ≡ false }
     {
         self.session.take_up(reader, text)
+    }
+
+    /// Reserves memory for the replies to requests of `count` bytes, as `Outbox::make_room` does.
+    pub fn make_room(&mut self, count: usize)
+        ensures { self.new ≡ self.old }
+    {
+        self.outbox.make_room(count);
     }
 
     /// Gathers the reply to a hello of this version. `text` is ignored.
@@ -109,6 +117,7 @@ impl Conversation {
     /// - A reply in the outcome is one that its operation has in its version.
     /// - `given` has at most 8,192 bytes.
     /// - The tally can count one more message.
+    #[inline(always)]
     pub fn put(
         &mut self,
         version: Version,
@@ -175,8 +184,9 @@ impl Conversation {
     }
 
     /// Ends the session for this reason, and returns what it did. Messages that the connection has
-    /// not taken whole count as lost; after a reset, also the one whose frame ends with the last byte
-    /// that it took, if there is one. If it has not taken all bytes, the session ends with `Write`.
+    /// not taken whole count as lost; after a reset, also the one whose frame ends with the last
+    /// byte that it took, if there is one. If it has not taken all bytes, the session ends with
+    /// `Write`.
     ///
     /// # Conditions
     ///

@@ -11,7 +11,7 @@ pub fn numeral_of_requests()
     ensures { SESSION_REQUESTS ≡ 2 ^ 32 - 1 }
 {}
 
-/// States what an outbox stands for: the replies that were put into it, and the bytes of their
+/// States what an outbox represents: the replies that were put into it, and the bytes of their
 /// frames that the connection has taken.
 ///
 /// After any calls, what was taken is a prefix of the frames of all replies. `written` counts the

@@ -17,5 +17,5 @@ pub use handler::{Handler, RequestOutcome};
 pub use laws::{gathered_replies, numeral_of_requests, sessions_together};
 pub use outbox::Outbox;
 pub use served::{End, Served};
-pub use session::{Session, TakenUp, Texts, serve, serve_watched, serve_with};
+pub use session::{Session, TakenUp, Texts, serve, serve_instrumented};
 pub use turn::hello_reply;

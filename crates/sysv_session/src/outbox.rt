@@ -5,13 +5,13 @@ ghost use Rattle.sysv_queue.specs.Tally.{taken_in};
 ghost use Rattle.sysv_session.specs.Answers.{message_reply as the_reply};
 ghost use Rattle.sysv_session.specs.Layout.{IsAscending, begins_passed as is_begun, unspent};
 ghost use Rattle.sysv_session.specs.Outbox.{at_end, more_lost, more_written, nearer, passed, with_frame, with_message, without};
-ghost use Rattle.sysv_wire.specs.Replies.{IsAnswer, reply_spelling};
+ghost use Rattle.sysv_wire.specs.Replies.{IsAnswer, reply_encoding};
 
 use crate::turn::message_reply;
 use std::alloc::{AllocFailed, Global};
 use std::collections::VecDeque;
 use std::marker::Model;
-use sysv_model::{Body, NoMemory, Watched};
+use sysv_model::{Body, Instrumented, NoMemory};
 use sysv_queue::{Delivery, Tally};
 use sysv_wire::{Reply, Version, WriteFault, write_reply};
 
@@ -52,6 +52,12 @@ const KEPT_BYTES: usize = 512;
 
 const KEPT_MARKS: usize = 4;
 
+/// The maximum number of bytes for which an outbox reserves memory before there are replies.
+const MOST_EXPECTED: usize = 4_096;
+
+/// The number of bytes of requests for each of which it reserves memory for a delivery.
+const BYTES_EACH: usize = 64;
+
 /// A delivery whose frame ends in an outbox.
 struct Mark {
     /// The number of bytes up to the end of the frame, including those that were taken.
@@ -86,6 +92,21 @@ impl Outbox {
         &self.bytes[self.taken..]
     }
 
+    /// Reserves memory for the replies to requests of `count` bytes, so that it is not allocated
+    /// again and again for many small replies. Does nothing for a few requests, or if memory is
+    /// refused: each reply then allocates what it needs.
+    pub fn make_room(&mut self, count: usize)
+        ensures { self.new ≡ self.old }
+    {
+        if count <= KEPT_BYTES {
+            return;
+        }
+        let most = count.min(MOST_EXPECTED);
+        if self.bytes.reserve(most).is_ok() {
+            let _has_marks = self.marks.reserve(most / BYTES_EACH).is_ok();
+        }
+    }
+
     /// Appends the frame of a reply. If the reply carries a message, its body is `text`; for any
     /// other reply `text` is ignored.
     ///
@@ -101,7 +122,7 @@ impl Outbox {
         requires answer { IsAnswer reply.now.version reply.now.op reply.now.result }
         requires text { length text.now ≤ MESSAGE_BYTES }
         ensures ok { OnOk result
-            (self.new ≡ with_frame (reply_spelling reply.now text.now) self.old) }
+            (self.new ≡ with_frame (reply_encoding reply.now text.now) self.old) }
         ensures err { OnErr result (self.new ≡ self.old) }
     {
         append(&mut self.bytes, reply, text)
@@ -117,6 +138,7 @@ impl Outbox {
     /// # Conditions
     ///
     /// - `given` has at most 8,192 bytes.
+    #[inline(always)]
     pub fn put_message(
         &mut self,
         version: Version,
@@ -124,7 +146,7 @@ impl Outbox {
         given: &Body,
     ) -> Result<(), AllocFailed<Delivery>>
         requires text { length given.now ≤ MESSAGE_BYTES }
-        ensures ok { OnOk result (self.new ≡ with_message (reply_spelling
+        ensures ok { OnOk result (self.new ≡ with_message (reply_encoding
             (the_reply version delivery.mtype) given.now) delivery self.old) }
         ensures err { OnErr result (self.new ≡ self.old) }
         ensures returned { IfErr result (λ failed. failed.value ≡ delivery) }
@@ -139,8 +161,8 @@ impl Outbox {
     }
 
     /// Removes the first `n` bytes, which the connection has taken, and spends as written each
-    /// delivery whose frame ends before the last of them. If a frame ends with the last of them, its
-    /// delivery is kept: a reset of the connection would show that the client has not read it.
+    /// delivery whose frame ends before the last of them. If a frame ends with the last of them,
+    /// its delivery is kept: a reset of the connection would show that the client has not read it.
     ///
     /// # Conditions
     ///
@@ -189,8 +211,8 @@ impl Outbox {
     }
 
     /// Ends the outbox, and spends each delivery in it: as written if the connection has taken its
-    /// frame whole, and else as lost. After a reset of the connection all are lost, since the client
-    /// has not read the last byte that the connection took.
+    /// frame whole, and else as lost. After a reset of the connection all are lost, since the
+    /// client has not read the last byte that the connection took.
     ///
     /// # Conditions
     ///
@@ -284,15 +306,16 @@ fn bring_nearer(marks: &mut VecDeque<Mark>, n: usize)
 }
 
 /// Appends the frame of a reply. After an error the bytes are unchanged.
+#[inline(always)]
 fn append(bytes: &mut Vec<u8>, reply: &Reply, text: &Body) -> Result<(), NoMemory>
     requires answer { IsAnswer reply.now.version reply.now.op reply.now.result }
     requires text { length text.now ≤ MESSAGE_BYTES }
     ensures ok { OnOk result
-        (bytes.new.items ≡ bytes.old.items ++ reply_spelling reply.now text.now) }
+        (bytes.new.items ≡ bytes.old.items ++ reply_encoding reply.now text.now) }
     ensures err { OnErr result (bytes.new.items ≡ bytes.old.items) }
 {
     let before = bytes.len();
-    match write_reply(&mut Watched::new(bytes), reply, text) {
+    match write_reply(&mut Instrumented::new(bytes), reply, text) {
         Ok(()) => Ok(()),
         Err(WriteFault) => {
             bytes.truncate(before);

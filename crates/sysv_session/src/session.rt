@@ -1,12 +1,12 @@
 //! A session, from its hello to its end.
 ghost use Rattle.std.specs.Prelude.{◌≡◌, ◌≢◌, ◌<◌, ◌≤◌, length, ◌-◌, ◌^◌, List, ℕ, Option, false, None, Some, IfErr};
-ghost use Rattle.sysv_model.specs.Watched.{stream_of, KeepsStream};
+ghost use Rattle.sysv_model.specs.Instrumented.{stream_of, KeepsStream};
 ghost use Rattle.sysv_model.specs.declared.limits.TheConstants.{MESSAGE_BYTES};
 ghost use Rattle.sysv_queue.specs.Tally.{taken_in};
 ghost use Rattle.sysv_session.specs.Answers.{HasAnswer};
 ghost use Rattle.sysv_session.specs.Failing.{ends_by_read, ends_by_write, is_failed_read, is_failed_write};
 ghost use Rattle.sysv_session.specs.Session.{Serves};
-ghost use Rattle.sysv_session.specs.Course.{Course, Follows, Takes};
+ghost use Rattle.sysv_session.specs.Parse.{Parse, Follows, Takes};
 ghost use Rattle.sysv_session.specs.HandedOver.{HandedOver, Proceeds};
 ghost use Rattle.sysv_session.specs.TakenUp.{TakesUp};
 ghost use Rattle.sysv_session.specs.Turn.{Answers};
@@ -16,7 +16,7 @@ use crate::served::{End, SESSION_REQUESTS, Served};
 use crate::turn::{deliver, hello_reply, read_asked, read_hello, send};
 use std::alloc::Global;
 use std::io::{Read, Write};
-use sysv_model::{Body, Cred, NoMemory, Watched};
+use sysv_model::{Body, Cred, Instrumented, NoMemory};
 use sysv_queue::Tally;
 use sysv_wire::{Request, Version, one_answer_to_requests, one_request};
 
@@ -42,8 +42,8 @@ pub fn serve<R: Read, W: Write, K: Handler>(
         (R.remaining reader.old) (R.remaining reader.new) (W.contents writer.old)
         (W.contents writer.new) }
     // The session ends as its input determines, unless it is cut short.
-    ensures only { (input : List ℕ) (course : Course) → R.remaining reader.old ≡ Some input →
-        Takes input course → Follows course result }
+    ensures only { (input : List ℕ) (parse : Parse) → R.remaining reader.old ≡ Some input →
+        Takes input parse → Follows parse result }
     ensures memory { result.«end» ≡ End.NoMemory → (reader.new ≡ reader.old)
         × (writer.new ≡ writer.old) }
 {
@@ -54,50 +54,32 @@ pub fn serve<R: Read, W: Write, K: Handler>(
             requests: 0,
         };
     };
-    serve_with(&mut texts, reader, writer, handler)
-}
-
-/// Runs one session like `serve`, but with two bodies that exist already, whatever they hold.
-/// Allocates nothing.
-pub fn serve_with<R: Read, W: Write, K: Handler>(
-    texts: &mut Texts,
-    reader: &mut R,
-    writer: &mut W,
-    handler: &mut K,
-) -> Served
-    ensures serves { Serves K.meaning (K.slots handler.old) result handler.old handler.new
-        (R.remaining reader.old) (R.remaining reader.new) (W.contents writer.old)
-        (W.contents writer.new) }
-    // The session ends as its input determines, unless it is cut short.
-    ensures only { (input : List ℕ) (course : Course) → R.remaining reader.old ≡ Some input →
-        Takes input course → Follows course result }
-    ensures memory { result.«end» ≢ End.NoMemory }
-{
-    serve_watched(
-        texts,
-        &mut Watched::new(reader),
-        &mut Watched::new(writer),
+    serve_instrumented(
+        &mut texts,
+        &mut Instrumented::new(reader),
+        &mut Instrumented::new(writer),
         handler,
     )
 }
 
-/// Runs one session like `serve_with`, and records which stream failed.
+/// Runs one session like `serve`, but with two bodies that exist already, whatever they hold, and
+/// records which stream failed. Allocates nothing.
 ///
 /// The reader fails if and only if the session ends with `Fault(Read)`, and the writer fails if and
 /// only if it ends with `Write`.
-pub fn serve_watched<R: Read, W: Write, K: Handler>(
+pub fn serve_instrumented<R: Read, W: Write, K: Handler>(
     texts: &mut Texts,
-    reader: &mut Watched<'_, R>,
-    writer: &mut Watched<'_, W>,
+    reader: &mut Instrumented<'_, R>,
+    writer: &mut Instrumented<'_, W>,
     handler: &mut K,
 ) -> Served
     ensures serves { Serves K.meaning (K.slots handler.old) result handler.old handler.new
         (R.remaining (stream_of reader.old)) (R.remaining (stream_of reader.new))
         (W.contents (stream_of writer.old)) (W.contents (stream_of writer.new)) }
     // The session ends as its input determines, unless it is cut short.
-    ensures only { (input : List ℕ) (course : Course) →
-        R.remaining (stream_of reader.old) ≡ Some input → Takes input course →
-        Follows course result }
+    ensures only { (input : List ℕ) (parse : Parse) →
+        R.remaining (stream_of reader.old) ≡ Some input → Takes input parse →
+        Follows parse result }
     ensures memory { result.«end» ≢ End.NoMemory }
     // The streams stay the same, and each fails in this call if and only if the end says so.
     ensures reader { KeepsStream reader.old reader.new (is_failed_read result.«end») }
@@ -119,8 +101,8 @@ fn serve_next<R: Read, W: Write, K: Handler>(
     session: &mut Session,
     slots: u32,
     texts: &mut Texts,
-    reader: &mut Watched<'_, R>,
-    writer: &mut Watched<'_, W>,
+    reader: &mut Instrumented<'_, R>,
+    writer: &mut Instrumented<'_, W>,
     handler: &mut K,
 ) -> Result<(), End>
     requires room { taken_in session.old.tally < 2 ^ 64 - 1 }
@@ -168,7 +150,7 @@ impl Texts {
     }
 }
 
-/// A session under way: what it has done so far.
+/// A pending session: what it has done so far.
 #[derive(Drop)]
 pub struct Session {
     /// The version and the credentials of the hello, once it was read.
@@ -204,9 +186,10 @@ impl Session {
     /// - `NoHello` if the first request is not a hello.
     /// - `Fault` if there is no request, or one of another version or a later hello.
     /// - `Bound` if 4,294,967,295 requests were taken up. Nothing is read.
+    #[inline(always)]
     pub fn take_up<R: Read>(
         &mut self,
-        reader: &mut Watched<'_, R>,
+        reader: &mut Instrumented<'_, R>,
         text: &mut Body,
     ) -> Result<TakenUp, End>
         ensures takes { TakesUp self.old self.new result (R.remaining (stream_of reader.old))
@@ -246,7 +229,7 @@ impl Session {
     /// - The tally can count one more message.
     pub fn answer<W: Write>(
         &mut self,
-        writer: &mut Watched<'_, W>,
+        writer: &mut Instrumented<'_, W>,
         version: Version,
         outcome: RequestOutcome,
         given: &Body,

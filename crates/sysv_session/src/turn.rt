@@ -4,19 +4,19 @@ ghost use Rattle.std.specs.Io.KnownBytes.{Appends};
 ghost use Rattle.sysv_model.specs.declared.limits.TheConstants.{MESSAGE_BYTES};
 ghost use Rattle.sysv_queue.specs.Tally.{taken_in};
 ghost use Rattle.sysv_session.specs.Answers.{message_reply as the_reply};
-ghost use Rattle.sysv_model.specs.Watched.{stream_of, KeepsStream};
+ghost use Rattle.sysv_model.specs.Instrumented.{stream_of, KeepsStream};
 ghost use Rattle.sysv_session.specs.Failing.{ends_by_read, ends_by_write};
 ghost use Rattle.sysv_session.specs.Input.{Greets, ReadsAsked};
 ghost use Rattle.sysv_session.specs.Output.{hello_reply as the_hello_reply};
 ghost use Rattle.sysv_session.specs.Turn.{Answers};
 ghost use Rattle.sysv_wire.specs.Faults.{is_read_fault};
-ghost use Rattle.sysv_wire.specs.Replies.{IsAnswer, reply_spelling};
+ghost use Rattle.sysv_wire.specs.Replies.{IsAnswer, reply_encoding};
 ghost use Rattle.sysv_model.specs.Writing.{AppendsPrefix};
 
 use crate::handler::RequestOutcome;
 use crate::served::End;
 use std::io::{Read, Write};
-use sysv_model::{Body, Cred, Watched};
+use sysv_model::{Body, Cred, Instrumented};
 use sysv_queue::{Delivery, Tally};
 use sysv_wire::{
     Ask, Fault, Op, Reply, ReplyContent, Request, Version, WriteFault, read_request, write_reply,
@@ -24,7 +24,7 @@ use sysv_wire::{
 
 /// Reads the first request. Returns the version and the credentials of the hello.
 pub(crate) fn read_hello<R: Read>(
-    reader: &mut Watched<'_, R>,
+    reader: &mut Instrumented<'_, R>,
     text: &mut Body,
 ) -> Result<(Version, Cred), End>
     ensures greets { Greets result (R.remaining (stream_of reader.old))
@@ -61,8 +61,9 @@ pub fn hello_reply(version: Version, slots: u32) -> Reply
 }
 
 /// Reads a later request in a session of this version. Returns `None` at the end of the input.
+#[inline(always)]
 pub(crate) fn read_asked<R: Read>(
-    reader: &mut Watched<'_, R>,
+    reader: &mut Instrumented<'_, R>,
     version: Version,
     text: &mut Body,
 ) -> Result<Option<Request>, Fault>
@@ -84,16 +85,16 @@ pub(crate) fn read_asked<R: Read>(
 
 /// Writes a reply and flushes it.
 pub(crate) fn send<W: Write>(
-    writer: &mut Watched<'_, W>,
+    writer: &mut Instrumented<'_, W>,
     reply: &Reply,
     text: &Body,
 ) -> Result<(), WriteFault>
     requires answer { IsAnswer reply.now.version reply.now.op reply.now.result }
     requires text { length text.now ≤ MESSAGE_BYTES }
     ensures ok { OnOk result (Appends (W.contents (stream_of writer.old))
-        (W.contents (stream_of writer.new)) (reply_spelling reply.now text.now)) }
+        (W.contents (stream_of writer.new)) (reply_encoding reply.now text.now)) }
     ensures err { OnErr result (AppendsPrefix (W.contents (stream_of writer.old))
-        (W.contents (stream_of writer.new)) (reply_spelling reply.now text.now)) }
+        (W.contents (stream_of writer.new)) (reply_encoding reply.now text.now)) }
     ensures stream { KeepsStream writer.old writer.new (is_err result) }
 {
     write_reply(writer, reply, text)?;
@@ -119,7 +120,7 @@ pub(crate) fn message_reply(version: Version, delivery: &Delivery) -> Reply
 /// Writes a message that the handler returned, and spends its delivery: as written if the reply was
 /// written whole and flushed, otherwise as lost.
 pub(crate) fn deliver<W: Write>(
-    writer: &mut Watched<'_, W>,
+    writer: &mut Instrumented<'_, W>,
     version: Version,
     delivery: Delivery,
     given: &Body,

@@ -1,5 +1,5 @@
 -- A send or a receive that waits was refused. One that does not wait was never refused for want of
--- room or of a message while it is under way.
+-- room or of a message while it is pending.
 use Rattle.std.proofs.Common.{◌≡◌, ℕ, ℤ, inl, inr, Bool, true, false, List, [], refl, ap, ◌∙◌}
 use Rattle.std.specs.List.{list_any}
 use Rattle.sysv_model.specs.declared.cred.Cred.{Cred}

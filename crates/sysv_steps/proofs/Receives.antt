@@ -1,4 +1,4 @@
--- A receive that plays to its end has a right result. While it is under way, it has taken no
+-- A receive that plays to its end has a right result. While it is pending, it has taken no
 -- message, its identifier was not found gone, and it remembers whether the identifier was found
 -- live; one that does not wait has met no want of a message.
 use Rattle.std.proofs.Common.{◌≡◌, ℕ, ℤ, ◌+◌, inl, inr, Bool, true, false, List, [], ◌∷◌, ◌++◌, Some, cond, refl}
@@ -44,7 +44,7 @@ module _ (id : ℤ) (size : ℕ) (mtype : ℤ) (flags : Flags) where
   abbrev IsRight : List Op → Ending → Type 0
   IsRight ops ending = IsRightReceive (Msgrcv id size mtype flags) size flags ops ending
 
-  pub record UnderWay (receive : Receiving) (ops : List Op) : Type 0 where
+  pub record Pending (receive : Receiving) (ops : List Op) : Type 0 where
     pub allowed : is_refused (Msgrcv id size mtype flags) ≡ false
     pub nowait : receive.nowait ≡ has_flag IPC_NOWAIT flags
     pub wanted : receive.size ≡ size
@@ -57,9 +57,9 @@ module _ (id : ℤ) (size : ℕ) (mtype : ℤ) (flags : Flags) where
 
   -- What is known of a receive in this state after these operations.
   abbrev pub ReceiveAt : List Op → State → Type 0
-  ReceiveAt ops (Goes (AtTake receive)) = UnderWay receive ops
+  ReceiveAt ops (Goes (AtTake receive)) = Pending receive ops
   ReceiveAt ops (Goes (AtReceiveGiveback blocks type text)) = IsRight ops (Got type text)
-  ReceiveAt ops (Waits (OnArrived goal receive)) = UnderWay receive ops
+  ReceiveAt ops (Waits (OnArrived goal receive)) = Pending receive ops
   ReceiveAt ops (Over ending) = IsRight ops ending
   ReceiveAt ops state = ⊥
 
@@ -91,7 +91,7 @@ module _ (id : ℤ) (size : ℕ) (mtype : ℤ) (flags : Flags) where
         live = refl;
       }
 
-  module _ (receive : Receiving) (ops : List Op) (u : UnderWay receive ops) (slot : ℕ) (call : Call) where
+  module _ (receive : Receiving) (ops : List Op) (u : Pending receive ops) (slot : ℕ) (call : Call) where
     abbrev with : Reply → List Op
     with reply = ops ++ AtSlot slot call reply ∷ []
 
@@ -182,7 +182,7 @@ module _ (id : ℤ) (size : ℕ) (mtype : ℤ) (flags : Flags) where
         }
 
     none_waits : (arrived : ℕ) → receive.nowait ≡ false →
-        UnderWay (record receive { seen = true }) (with (NoMatch arrived))
+        Pending (record receive { seen = true }) (with (NoMatch arrived))
     none_waits arrived nowait = record {
       allowed = u.allowed;
       nowait = u.nowait;

@@ -1,4 +1,4 @@
--- A send that plays to its end has a right result. While it is under way, its body was not
+-- A send that plays to its end has a right result. While it is pending, its body was not
 -- accepted, its identifier was not found gone, and it remembers whether the identifier was found
 -- live; one that does not wait has met no want of room.
 use Rattle.std.proofs.Common.{◌≡◌, ℕ, ℤ, ◌+◌, inl, inr, Bool, true, false, List, [], ◌∷◌, ◌++◌, Some, cond, refl, sym}
@@ -26,7 +26,7 @@ module _ (id mtype : ℤ) (flags : Flags) (text : List ℕ) where
   abbrev IsRight : List Op → Ending → Type 0
   IsRight ops ending = IsRightSend (Msgsnd id mtype flags text) flags ops ending
 
-  pub record UnderWay (send : Sending) (ops : List Op) : Type 0 where
+  pub record Pending (send : Sending) (ops : List Op) : Type 0 where
     pub allowed : is_refused (Msgsnd id mtype flags text) ≡ false
     pub nowait : send.nowait ≡ has_flag IPC_NOWAIT flags
     pub accepted : list_any was_accepted ops ≡ false
@@ -38,17 +38,17 @@ module _ (id mtype : ℤ) (flags : Flags) (text : List ℕ) where
   -- What is known of a send that has yet to release its chain.
   abbrev pub AfterAt : List Op → Afterwards → Type 0
   AfterAt ops (IsRefused why) = IsRight ops (Refused why)
-  AfterAt ops (WaitsOn (OnFreed goal send)) = UnderWay send ops
+  AfterAt ops (WaitsOn (OnFreed goal send)) = Pending send ops
   AfterAt ops (WaitsOn wait) = ⊥
 
   -- What is known of a send in this state after these operations.
   abbrev pub SendAt : List Op → State → Type 0
-  SendAt ops (Goes (AtLook send)) = UnderWay send ops
-  SendAt ops (Goes (AtReserve send)) = UnderWay send ops
-  SendAt ops (Goes (AtPlace send blocks)) = UnderWay send ops
+  SendAt ops (Goes (AtLook send)) = Pending send ops
+  SendAt ops (Goes (AtReserve send)) = Pending send ops
+  SendAt ops (Goes (AtPlace send blocks)) = Pending send ops
   SendAt ops (Goes (AtSendGiveback blocks afterwards)) = AfterAt ops afterwards
-  SendAt ops (Waits (OnFreed goal send)) = UnderWay send ops
-  SendAt ops (Waits (OnReleased goal send)) = UnderWay send ops
+  SendAt ops (Waits (OnFreed goal send)) = Pending send ops
+  SendAt ops (Waits (OnReleased goal send)) = Pending send ops
   SendAt ops (Over ending) = IsRight ops ending
   SendAt ops state = ⊥
 
@@ -98,9 +98,9 @@ module _ (id mtype : ℤ) (flags : Flags) (text : List ℕ) where
         only = r.only;
       }
 
-  under_way_still : (send : Sending) (ops : List Op) (op : Op) → IsQuiet op → UnderWay send ops →
-      UnderWay send (ops ++ op ∷ [])
-  under_way_still send ops op q u = record {
+  pending_still : (send : Sending) (ops : List Op) (op : Op) → IsQuiet op → Pending send ops →
+      Pending send (ops ++ op ∷ [])
+  pending_still send ops op q u = record {
     allowed = u.allowed;
     nowait = u.nowait;
     accepted = kept was_accepted ops op q.accepted ∙ u.accepted;
@@ -112,7 +112,7 @@ module _ (id mtype : ℤ) (flags : Flags) (text : List ℕ) where
 
   -- ---- its turns at the pool
 
-  module _ (send : Sending) (ops : List Op) (u : UnderWay send ops) (call : PoolCall) where
+  module _ (send : Sending) (ops : List Op) (u : Pending send ops) (call : PoolCall) where
     few_right : send.nowait ≡ true → IsRight (ops ++ AtPool call TooFew ∷ []) (Refused EAGAIN)
     few_right n =
         let a : list_any was_accepted (ops ++ AtPool call TooFew ∷ []) ≡ false =
@@ -133,7 +133,7 @@ module _ (id mtype : ℤ) (flags : Flags) (text : List ℕ) where
           only = inr (inl refl);
         }
 
-    few_waits : send.nowait ≡ false → UnderWay send (ops ++ AtPool call TooFew ∷ [])
+    few_waits : send.nowait ≡ false → Pending send (ops ++ AtPool call TooFew ∷ [])
     few_waits n = record {
       allowed = u.allowed;
       nowait = u.nowait;
@@ -154,7 +154,7 @@ module _ (id mtype : ℤ) (flags : Flags) (text : List ℕ) where
     reserve_step (Reserved blocks) after n =
         let e : Goes (AtPlace send blocks) ≡ after = cc in
         subst (SendAt (ops ++ AtPool call (Reserved blocks) ∷ [])) e
-        (under_way_still send ops (AtPool call (Reserved blocks))
+        (pending_still send ops (AtPool call (Reserved blocks))
         record { accepted = refl; full = refl; denied = refl; gone = refl; live = refl } u)
     reserve_step TooFew after n =
         let e : goes_on (waits_or send.nowait (OnReleased (send.released + 1) send) EAGAIN) ≡ after = cc in
@@ -164,7 +164,7 @@ module _ (id mtype : ℤ) (flags : Flags) (text : List ℕ) where
   given_back : (ops : List Op) (afterwards : Afterwards) (op : Op) → IsQuiet op → AfterAt ops afterwards →
       SendAt (ops ++ op ∷ []) (goes_on afterwards)
   given_back ops (IsRefused why) op q at = right_still ops op (Refused why) q at
-  given_back ops (WaitsOn (OnFreed goal send)) op q at = under_way_still send ops op q at
+  given_back ops (WaitsOn (OnFreed goal send)) op q at = pending_still send ops op q at
   given_back ops (WaitsOn wait) op q at = absurd at
 
   giveback_step : (ops : List Op) (blocks : ℕ) (afterwards : Afterwards) (call : PoolCall) (reply : PoolReply)
@@ -185,7 +185,7 @@ module _ (id mtype : ℤ) (flags : Flags) (text : List ℕ) where
 
   -- ---- and those at its queue
 
-  module _ (send : Sending) (ops : List Op) (u : UnderWay send ops) (slot : ℕ) (call : Call) where
+  module _ (send : Sending) (ops : List Op) (u : Pending send ops) (slot : ℕ) (call : Call) where
     abbrev with : Reply → List Op
     with reply = ops ++ AtSlot slot call reply ∷ []
 
@@ -266,7 +266,7 @@ module _ (id mtype : ℤ) (flags : Flags) (text : List ℕ) where
           only = inr (inl refl);
         }
 
-    full_waits : (freed : ℕ) → send.nowait ≡ false → UnderWay (record send { seen = true }) (with (Full freed))
+    full_waits : (freed : ℕ) → send.nowait ≡ false → Pending (record send { seen = true }) (with (Full freed))
     full_waits freed n = record {
       allowed = u.allowed;
       nowait = u.nowait;
@@ -287,7 +287,7 @@ module _ (id mtype : ℤ) (flags : Flags) (text : List ℕ) where
     full_after freed true n = full_right freed n
     full_after freed false n = full_waits freed n
 
-    fits_goes : UnderWay (record send { seen = true }) (with Fits)
+    fits_goes : Pending (record send { seen = true }) (with Fits)
     fits_goes = record {
       allowed = u.allowed;
       nowait = u.nowait;
@@ -361,8 +361,8 @@ module _ (id mtype : ℤ) (flags : Flags) (text : List ℕ) where
   one_step ops (AtSendGiveback blocks afterwards) op after at n = absurd cc
   one_step ops phase op after at n = absurd at
 
-  started_again : (send : Sending) (released : ℕ) (ops : List Op) → UnderWay send ops →
-      UnderWay (record send { released = released }) ops
+  started_again : (send : Sending) (released : ℕ) (ops : List Op) → Pending send ops →
+      Pending (record send { released = released }) ops
   started_again send released ops u =
       record {
         allowed = u.allowed;

@@ -1,4 +1,4 @@
--- The body of a send or a receive under way, which its driver keeps beside the state of the call
+-- The body of a send or a pending receive, which its driver keeps beside the state of the call
 -- (this project's profile).
 use Rattle.std.specs.Prelude.{◌≡◌, ◌≤◌, ℕ, List, length, Ok, ⊤}
 use Rattle.sysv_model.specs.declared.limits.TheConstants.{MESSAGE_BYTES}

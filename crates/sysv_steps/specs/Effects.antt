@@ -1,5 +1,5 @@
 -- The effects of a call (POSIX.1-2017, msgget, msgsnd, msgrcv and msgctl, each DESCRIPTION). A call
--- that is over or under way has had at most one: it made one identifier, put one message on a
+-- that is over or pending has had at most one: it made one identifier, put one message on a
 -- queue, took one message from a queue, changed the attributes of one queue, or removed one queue.
 use Rattle.std.specs.Prelude.{ℕ, ◌+◌, ◌≤◌, List, length, count_by}
 use Rattle.std.specs.List.{flat_map}

@@ -1,5 +1,5 @@
 -- What the code keeps of each of the six calls, with the body that its driver holds, as a state of
--- the definitions (this project's profile). `text` is the body of a send under way, and `out` the
+-- the definitions (this project's profile). `text` is the body of a pending send, and `out` the
 -- bytes that a receive returned. The code's wait keeps the value that its count must exceed, which
 -- is one below the goal. The definitions keep only the number of blocks of a chain, and only the
 -- type of a delivery.

@@ -19,7 +19,7 @@ pub fn each_answer_is_right()
     ensures { EachAnswerIsRight }
 {}
 
-/// States that a call, over or under way, has had at most one effect: it made one identifier, put
+/// States that a call, over or pending, has had at most one effect: it made one identifier, put
 /// one message on a queue, took one message, changed the attributes of one queue, or removed one
 /// queue.
 pub fn each_has_one_effect()

@@ -27,7 +27,7 @@ use sysv_objects::{ObjectCall, ObjectReply, SlotCall, SlotReply, Turns};
 use sysv_pool::Chain;
 use sysv_queue::{Delivery, TakeRefused, Tally};
 
-/// A receive under way (POSIX.1-2017, `msgrcv`). Its driver keeps the body that it fills.
+/// A pending receive (POSIX.1-2017, `msgrcv`). Its driver keeps the body that it fills.
 #[derive(Clone, Copy, PartialEq, Eq, Debug)]
 pub struct Receiving {
     /// The receiver's credentials.

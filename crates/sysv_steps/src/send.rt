@@ -23,12 +23,12 @@ use crate::worn::{give_back, overflow};
 use bitflags::Flags as _;
 use sysv_model::{Body, Cred, Errno, Flags, MESSAGE_BYTES};
 use sysv_objects::{
-    Letter, ObjectCall, ObjectReply, PoolCall, PoolReply, SlotCall, SlotReply, TextSize, Turns,
+    LoadedChain, ObjectCall, ObjectReply, PoolCall, PoolReply, SlotCall, SlotReply, TextSize, Turns,
 };
 use sysv_pool::Chain;
 use sysv_queue::{Look, PlaceRefused, Unplaced};
 
-/// A send under way (POSIX.1-2017, `msgsnd`). Its driver keeps the body.
+/// A pending send (POSIX.1-2017, `msgsnd`). Its driver keeps the body.
 #[derive(Clone, Copy, PartialEq, Eq, Debug)]
 pub struct Sending {
     /// The sender's credentials.
@@ -367,7 +367,7 @@ fn place<T: Turns, C: Clock>(
         id: send.id,
         cred: send.cred,
         mtype: send.mtype,
-        letter: Letter::of(chain, text),
+        loaded: LoadedChain::of(chain, text),
         now: clock.now(),
     };
     match turns.make(at, ObjectCall::Slot(call)) {

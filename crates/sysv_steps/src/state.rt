@@ -1,4 +1,4 @@
-//! The state of a call under way.
+//! The state of a pending call.
 
 ghost use Rattle.std.specs.Prelude.{◌≡◌, Err};
 ghost use Rattle.sysv_steps.specs.Next.{gone as finds_gone};

@@ -1,4 +1,4 @@
--- If no call is under way, no call holds a block or has a row to settle or to forget.
+-- If no call is pending, no call holds a block or has a row to settle or to forget.
 use Rattle.std.proofs.Common.{◌≡◌, ◌⊎◌, inl, inr, ℕ, ℤ, zero, suc, ◌+◌, Bool, true, false, List, [], ◌∷◌, Option, None}
 use Rattle.std.proofs.Common.{Some, refl, sym, ap, subst, ◌∙◌, arith, map, slice_get}
 use Rattle.std.specs.List.{range_with_len}
@@ -113,17 +113,17 @@ module _ (blocks : ℕ) (turns : List Turn) (w : World) (calls : List Called) (s
       ((row.live ≡ false) ⊎ ¬ IsLive (slot_history (slot_of_id row.id) w.turns) row.id → IsTended w row.id) →
       (row.live ≡ true) × IsLive (slot_history (slot_of_id row.id) turns) row.id
   settled_row row tends =
-      (by_stage row.live refl, by_life (has_id_or_not (live (slot_history (slot_of_id row.id) turns)) row.id))
+      (by_stage row.live refl, by_lifetime (has_id_or_not (live (slot_history (slot_of_id row.id) turns)) row.id))
     where
       by_stage : (b : Bool) → row.live ≡ b → b ≡ true
       by_stage true e = refl
       by_stage false e = absurd (untended row.id (tends (inl e)))
 
-      by_life : HasId (live (slot_history (slot_of_id row.id) turns)) row.id
+      by_lifetime : HasId (live (slot_history (slot_of_id row.id) turns)) row.id
           ⊎ ¬ HasId (live (slot_history (slot_of_id row.id) turns)) row.id →
           IsLive (slot_history (slot_of_id row.id) turns) row.id
-      by_life (inl lives) = lives
-      by_life (inr gone) =
+      by_lifetime (inl lives) = lives
+      by_lifetime (inr gone) =
           absurd (untended row.id (tends (inr (λ h.
           gone (subst (λ o. HasId o row.id) (lives_alike (slot_of_id row.id) w.turns turns same) h)))))
 

@@ -12,12 +12,12 @@ use Rattle.sysv_steps.specs.State.{AtSendGiveback, AtTake, AtReceiveGiveback, At
 use Rattle.sysv_steps.specs.State.{AtForget, AtRemoveGiveback, State, Goes, Waits, Over}
 use Rattle.sysv_steps.specs.Played.{Plays}
 use Rattle.sysv_core.specs.declared.event.Event.TheVariants as event
-use Rattle.sysv_core.specs.World.{World, Invocation, Doing, Response, Happening, Step, opening, response_in}
+use Rattle.sysv_core.specs.World.{World, Invocation, Doing, Response, Transition, Step, opening, response_in}
 use Rattle.sysv_core.specs.World.{in_state, with_turn, begun, Turns, StepsAt, Makes}
 use Rattle.sysv_core.specs.Run.{Leads}
 use Rattle.sysv_core.specs.Sound.{IsSound, OpensSound, StaysSound}
 use Rattle.sysv_core.specs.SomeRun.{SomeStep}
-use Rattle.sysv_core.specs.AnswerLaw.{Fate, stands_in, standing, standing_of}
+use Rattle.sysv_core.specs.AnswerLaw.{Outcome, stands_in, standing, standing_of}
 use Rattle.sysv_core.specs.Headline.{EveryRunObeys}
 use Rattle.sysv_core.proofs.Lists.{get_set_same}
 use Rattle.sysv_core.proofs.PartsOfOneCall.{same_itself, at_actor}
@@ -45,7 +45,7 @@ some_left (AtRemoveGiveback blocks) = omega arith
 
 -- ---- one step after another
 
-leads_sound : StaysSound → (w after : World) (xs : List Happening) (responses : List Response) → IsSound w →
+leads_sound : StaysSound → (w after : World) (xs : List Transition) (responses : List Response) → IsSound w →
     Leads w xs responses after → IsSound after
 leads_sound stays w after [] responses s l = subst IsSound (sym l.1) s
 leads_sound stays w after (x ∷ xs) responses s l =
@@ -139,24 +139,26 @@ its_state (Goes phase) state e = cc
 its_state (Waits wait) state e = cc
 its_state (Over ending) state e = absurd cc
 
-plays_there : (w : World) (responses : List Response) (place start : ℕ) (d : Doing) → Fate w responses d.call →
+plays_there : (w : World) (responses : List Response) (place start : ℕ) (d : Doing) → Outcome w responses d.call →
     d.call.who ≡ Actor (suc place) start → slice_get w.actors place ≡ Some (Some d) →
     Plays (begun d.call) (ops_of d.call.who w.turns) d.state
-plays_there w responses place start d fate who there =
+plays_there w responses place start d outcome who there =
     let named : standing_of d.call.who w.actors ≡ Some d.state =
     at_actor d.call.who place start w.actors who
     ∙ (ap (stands_in d.call.who) there
     ∙ ap (λ b. cond b (Some d.state) None) (same_itself place start d.call.who who)) in
-    subst (Plays (begun d.call) (ops_of d.call.who w.turns)) (its_state fate.state d.state (sym fate.stands ∙ named))
-    fate.plays
+    subst (Plays (begun d.call) (ops_of d.call.who w.turns))
+    (its_state outcome.state d.state (sym outcome.stands ∙ named))
+    outcome.plays
 
 pub comes_to_rest : OpensSound → StaysSound → SomeStep → EveryRunObeys → EachCallComesToRest
 comes_to_rest opens stays some law o list responses w led zero d phase there is young times long = absurd cc
 comes_to_rest opens stays some law o list responses w led (suc place) d phase there is young times long =
     let lawful = (law o list responses w led).lawful in
-    let own = lawful.calls.under_way place d there in
-    let fate : Fate w responses d.call = All-contains (Fate w responses) w.calls d.call lawful.calls.fates own.0 in
-    let play = plays_there w responses place own.1.0 d fate own.1.1 there in
+    let own = lawful.calls.pending place d there in
+    let outcome : Outcome w responses d.call =
+    All-contains (Outcome w responses) w.calls d.call lawful.calls.outcomes own.0 in
+    let play = plays_there w responses place own.1.0 d outcome own.1.1 there in
     let left : left_at phase ≤ most_turns d.call.asked =
     subst (λ st. left_in st ≤ most_turns d.call.asked) is
     (left_few d.call.cred d.call.asked d.call.released (ops_of d.call.who w.turns) d.state play) in

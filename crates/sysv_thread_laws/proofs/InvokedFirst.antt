@@ -18,8 +18,8 @@ use Rattle.sysv_steps.specs.OneAnswer.{OneAnswer}
 use Rattle.sysv_core.specs.World.{World, Opening, Invocation, Doing, Response, opening, doing_in, response_in, begun}
 use Rattle.sysv_core.specs.World.{in_state}
 use Rattle.sysv_core.specs.World.{with_call}
-use Rattle.sysv_core.specs.AnswerLaw.{Fate, stands_in, standing_of, ended, standing}
-use Rattle.sysv_thread_laws.specs.FreeRun.{Moment, Starts, LeadsOnThreads, starting_with}
+use Rattle.sysv_core.specs.AnswerLaw.{Outcome, stands_in, standing_of, ended, standing}
+use Rattle.sysv_thread_laws.specs.Execution.{Moment, Starts, LeadsOnThreads, starting_with}
 use Rattle.sysv_thread_laws.specs.OnThreads.{ObeysOnThreads, EveryThreadedRunObeys}
 use Rattle.sysv_model.specs.Turns.{Numbered, turns_of}
 use Rattle.sysv_thread_laws.specs.Order.{Called, IsPlayed, ops_in, AreAll}
@@ -27,25 +27,25 @@ use Rattle.sysv_thread_laws.specs.OrderIsRun.{opening_for, name_at, started_at, 
 use Rattle.sysv_thread_laws.specs.OrderIsRun.{renamed_turn, turn_as, turns_in, IsRunWith, EveryOrderIsARun}
 use Rattle.sysv_thread_laws.proofs.Places.{same_name}
 use Rattle.sysv_thread_laws.proofs.PlayedCallGoesOn.{leads_more, PlaysOn, is_there, plays_on, IsSettled}
-use Rattle.sysv_thread_laws.proofs.NextCall.{Underway, doing_of, done_of, IsRight, left_of, left_in, ops}
+use Rattle.sysv_thread_laws.proofs.NextCall.{PendingCall, doing_of, done_of, IsRight, left_of, left_in, ops}
 use Rattle.sysv_thread_laws.proofs.OrderLeadsOn.{Holds, Went, goes}
 
 -- ---- the calls at their starts
 
-abbrev underway_at : ℕ → Called → Underway
-underway_at place c =
+abbrev pending_at : ℕ → Called → PendingCall
+pending_at place c =
     record { by = c.by; call = started_at place c; state = begun (started_at place c); rest = c.ops; to = c.state }
 
-abbrev all_underway : ℕ → List Called → List Underway
-all_underway place [] = []
-all_underway place (c ∷ cs) = underway_at place c ∷ all_underway (suc place) cs
+abbrev all_pending : ℕ → List Called → List PendingCall
+all_pending place [] = []
+all_pending place (c ∷ cs) = pending_at place c ∷ all_pending (suc place) cs
 
 settled_at_start : (refused : Bool) (c : Called) →
     IsSettled c.state (cond refused (Over (Refused EINVAL)) (Goes (first c.cred c.asked c.released))) c.ops
 settled_at_start true c = tt
 settled_at_start false c = tt
 
-right_at_start : (place : ℕ) (c : Called) → IsPlayed c → IsRight place (underway_at place c)
+right_at_start : (place : ℕ) (c : Called) → IsPlayed c → IsRight place (pending_at place c)
 right_at_start place c plays = record {
   name = refl;
   plays = subst (PlaysOn c.state (begin c.cred c.asked c.released)) (append-nil c.ops)
@@ -54,20 +54,20 @@ right_at_start place c plays = record {
 }
 
 all_right : (start : ℕ) (cs : List Called) → ((place : ℕ) (c : Called) → slice_get cs place ≡ Some c → IsPlayed c) →
-    (place : ℕ) (u : Underway) → slice_get (all_underway start cs) place ≡ Some u → IsRight (start + place) u
+    (place : ℕ) (u : PendingCall) → slice_get (all_pending start cs) place ≡ Some u → IsRight (start + place) u
 all_right start [] played place u there = absurd cc
 all_right start (c ∷ cs) played zero u there =
-    let is : underway_at start c ≡ u = cc in
+    let is : pending_at start c ≡ u = cc in
     subst (λ n. IsRight n u) (omega arith) (subst (IsRight start) is (right_at_start start c (played zero c refl)))
 all_right start (c ∷ cs) played (suc place) u there =
     subst (λ n. IsRight n u) (omega arith) (all_right (suc start) cs (λ p d at. played (suc p) d at) place u there)
 
 -- At the start, all turns of a pass in calls are left.
 left_at_start : (number start : ℕ) (cs : List Called) →
-    left_in number (all_underway start cs) ≡ turns_in number start cs
+    left_in number (all_pending start cs) ≡ turns_in number start cs
 left_at_start number start [] = refl
 left_at_start number start (c ∷ cs) =
-    ap (λ ts. left_of number (underway_at start c) ++ ts) (left_at_start number (suc start) cs)
+    ap (λ ts. left_of number (pending_at start c) ++ ts) (left_at_start number (suc start) cs)
 
 ops_of_turns : (who : Who) (ds : List Op) → ops (map (turn_as who) ds) ≡ ds
 ops_of_turns who [] = refl
@@ -85,7 +85,7 @@ whole_at_start number start (c ∷ cs) =
     by_test true = ops_of_turns (name_at start) c.ops
     by_test false = refl
 
-done_at_start : (start : ℕ) (cs : List Called) → map done_of (all_underway start cs) ≡ all_standing start cs
+done_at_start : (start : ℕ) (cs : List Called) → map done_of (all_pending start cs) ≡ all_standing start cs
 done_at_start start [] = refl
 done_at_start start (c ∷ cs) = ap (λ ds. doing_in (started_at start c) c.state ∷ ds) (done_at_start (suc start) cs)
 
@@ -98,7 +98,7 @@ pub record AllStart (w : World) (cs : List Called) (done : List (Option Doing)) 
   pub leads : LeadsOnThreads w moments responses mid
   pub turns : mid.turns ≡ w.turns
   pub calls : mid.calls ≡ w.calls ++ all_started w.steps cs
-  pub actors : mid.actors ≡ done ++ map doing_of (all_underway w.steps cs)
+  pub actors : mid.actors ≡ done ++ map doing_of (all_pending w.steps cs)
   pub generation : mid.generation ≡ w.generation
   pub blocks : mid.blocks ≡ w.blocks
 
@@ -145,8 +145,8 @@ all_start (c ∷ cs) w done steps actors =
           ∙ (append_assoc w.calls (call ∷ []) (all_started (w.steps + 1) cs)
           ∙ ap (λ n. w.calls ++ call ∷ all_started n cs) one_more);
       actors = r.actors
-          ∙ (append_assoc done (doing ∷ []) (map doing_of (all_underway (w.steps + 1) cs))
-          ∙ ap (λ n. done ++ doing ∷ map doing_of (all_underway n cs)) one_more);
+          ∙ (append_assoc done (doing ∷ []) (map doing_of (all_pending (w.steps + 1) cs))
+          ∙ ap (λ n. done ++ doing ∷ map doing_of (all_pending n cs)) one_more);
       generation = r.generation;
       blocks = r.blocks;
     }
@@ -173,14 +173,14 @@ started_there start (d ∷ cs) zero c there =
 started_there start (d ∷ cs) (suc place) c there =
     started_there (suc start) cs place c there ∙ ap (λ n. Some (started_at n c)) (omega arith)
 
-underway_there : (start : ℕ) (cs : List Called) (place : ℕ) (c : Called) → slice_get cs place ≡ Some c →
-    slice_get (all_underway start cs) place ≡ Some (underway_at (start + place) c)
-underway_there start [] place c there = absurd cc
-underway_there start (d ∷ cs) zero c there =
+pending_there : (start : ℕ) (cs : List Called) (place : ℕ) (c : Called) → slice_get cs place ≡ Some c →
+    slice_get (all_pending start cs) place ≡ Some (pending_at (start + place) c)
+pending_there start [] place c there = absurd cc
+pending_there start (d ∷ cs) zero c there =
     let is : d ≡ c = cc in
-    ap (λ (x : Called). Some (underway_at start x)) is ∙ ap (λ n. Some (underway_at n c)) (omega arith)
-underway_there start (d ∷ cs) (suc place) c there =
-    underway_there (suc start) cs place c there ∙ ap (λ n. Some (underway_at n c)) (omega arith)
+    ap (λ (x : Called). Some (pending_at start x)) is ∙ ap (λ n. Some (pending_at n c)) (omega arith)
+pending_there start (d ∷ cs) (suc place) c there =
+    pending_there (suc start) cs place c there ∙ ap (λ n. Some (pending_at n c)) (omega arith)
 
 in_its_place : (call : Invocation) (state : State) → is_same call.who call.who ≡ true →
     stands_in call.who (Some (doing_in call state)) ≡ standing state
@@ -218,7 +218,7 @@ module _ (obeys : EveryThreadedRunObeys) (one : OneAnswer) (gen size : ℕ) (ord
   started = all_start calls (opening o) [] refl refl
 
   module _ (s : AllStart (opening o) calls []) where
-    start_holds : Holds gen size [] order s.mid (all_underway 0 calls)
+    start_holds : Holds gen size [] order s.mid (all_pending 0 calls)
     start_holds = record {
       legal = legal;
       generation = s.generation;
@@ -230,7 +230,7 @@ module _ (obeys : EveryThreadedRunObeys) (one : OneAnswer) (gen size : ℕ) (ord
           all.whole number ∙ sym (ap ops (left_at_start number 0 calls) ∙ whole_at_start number 0 calls);
     }
 
-    module _ (r : Went order s.mid (all_underway 0 calls)) where
+    module _ (r : Went order s.mid (all_pending 0 calls)) where
       leads : LeadsOnThreads (opening o) (s.moments ++ r.moments) (s.responses ++ r.responses) r.world
       leads = leads_more s.moments r.moments (opening o) s.mid r.world s.responses r.responses s.leads r.leads
 
@@ -258,16 +258,16 @@ module _ (obeys : EveryThreadedRunObeys) (one : OneAnswer) (gen size : ℕ) (ord
         call_at = ap (λ cs. slice_get cs place) calls_are
             ∙ (started_there 0 calls place c there ∙ at_place (λ n. Some (started_at n c)))
 
-        fate : Fate r.world (s.responses ++ r.responses) call
-        fate =
-            subst (Fate r.world (s.responses ++ r.responses))
+        outcome : Outcome r.world (s.responses ++ r.responses) call
+        outcome =
+            subst (Outcome r.world (s.responses ++ r.responses))
             (get_or_from_slice_get r.world.calls place call call call_at)
-            (it_obeys.calls.fates place call (slice_get_within r.world.calls place call call_at))
+            (it_obeys.calls.outcomes place call (slice_get_within r.world.calls place call call_at))
 
         its_ops : ops_of (name_at place) r.world.turns ≡ c.ops
         its_ops = ap (ops_of (name_at place)) turns_are
-            ∙ r.own place (underway_at place c)
-            (underway_there 0 calls place c there ∙ at_place (λ n. Some (underway_at n c)))
+            ∙ r.own place (pending_at place c)
+            (pending_there 0 calls place c there ∙ at_place (λ n. Some (pending_at n c)))
 
         its_place : standing_of (name_at place) r.world.actors ≡ standing c.state
         its_place =
@@ -279,11 +279,11 @@ module _ (obeys : EveryThreadedRunObeys) (one : OneAnswer) (gen size : ℕ) (ord
         ends_as : EndsAs r.world (s.responses ++ r.responses) (name_at place) c
         ends_as = record {
           ops = its_ops;
-          answered = fate.answered
-              ∙ one_ending one c.cred c.asked c.released c.ops fate.state c.state
-              (subst (λ ds. Plays (begin c.cred c.asked c.released) ds fate.state) its_ops fate.plays)
+          answered = outcome.answered
+              ∙ one_ending one c.cred c.asked c.released c.ops outcome.state c.state
+              (subst (λ ds. Plays (begin c.cred c.asked c.released) ds outcome.state) its_ops outcome.plays)
               (played_at place c there)
-              (sym fate.stands ∙ its_place);
+              (sym outcome.stands ∙ its_place);
         }
 
       is_run : IsRunWith gen size order calls
@@ -309,5 +309,5 @@ pub every_order_is_a_run : EveryThreadedRunObeys → OneAnswer → EveryOrderIsA
 every_order_is_a_run obeys one gen size order calls legal all =
     let s = started obeys one gen size order calls legal all in
     let r =
-    goes gen size [] order s.mid (all_underway 0 calls) (start_holds obeys one gen size order calls legal all s) in
+    goes gen size [] order s.mid (all_pending 0 calls) (start_holds obeys one gen size order calls legal all s) in
     is_run obeys one gen size order calls legal all s r

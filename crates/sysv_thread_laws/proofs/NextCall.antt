@@ -1,4 +1,4 @@
--- The calls under way, with what each still has to do, and which of them makes the next turn of its
+-- The pending calls, with what each still has to do, and which of them makes the next turn of its
 -- pass: the first one that has a turn left.
 use Rattle.std.proofs.Common.{◌≡◌, ◌≢◌, inl, inr, ℕ, zero, suc, ◌==◌, cond, List, [], ◌∷◌, ◌++◌, Option, Some, refl}
 use Rattle.std.proofs.Common.{sym, ap, ◌∙◌, map, slice_get, slice_set}
@@ -14,57 +14,57 @@ use Rattle.sysv_thread_laws.proofs.PlayedCallGoesOn.{PlaysOn, IsSettled}
 
 -- A call of a pass in the world: its state, the turns that it still has to make, and the state that
 -- it then reaches.
-pub record Underway : Type 0 where
+pub record PendingCall : Type 0 where
   pub by : ℕ
   pub call : Invocation
   pub state : State
   pub rest : List Op
   pub to : State
 
-abbrev pub doing_of : Underway → Option Doing
+abbrev pub doing_of : PendingCall → Option Doing
 doing_of u = doing_in u.call u.state
 
-abbrev pub done_of : Underway → Option Doing
+abbrev pub done_of : PendingCall → Option Doing
 done_of u = doing_in u.call u.to
 
-pub record IsRight (place : ℕ) (u : Underway) : Type 0 where
+pub record IsRight (place : ℕ) (u : PendingCall) : Type 0 where
   pub name : u.call.who ≡ name_at place
   pub plays : PlaysOn u.to u.state u.rest
   pub settled : IsSettled u.to u.state u.rest
 
 -- The turns that the pass still has to make in this call.
-abbrev pub left_of : ℕ → Underway → List Turn
+abbrev pub left_of : ℕ → PendingCall → List Turn
 left_of number u = cond (u.by == number) (map (turn_as u.call.who) u.rest) []
 
-abbrev pub left_in : ℕ → List Underway → List Turn
+abbrev pub left_in : ℕ → List PendingCall → List Turn
 left_in number us = flat_map (left_of number) us
 
 abbrev pub ops : List Turn → List Op
 ops turns = map (λ (t : Turn). t.op) turns
 
 -- The call at a place makes the next turn of its pass.
-pub record Picked (number : ℕ) (op : Op) (us : List Underway) : Type 0 where
+pub record Picked (number : ℕ) (op : Op) (us : List PendingCall) : Type 0 where
   pub place : ℕ
-  pub u : Underway
+  pub u : PendingCall
   pub rest : List Op
   pub there : slice_get us place ≡ Some u
   pub by : u.by ≡ number
   pub first : u.rest ≡ op ∷ rest
-  pub next : (v : Underway) → v.by ≡ number → v.call ≡ u.call → v.rest ≡ rest →
+  pub next : (v : PendingCall) → v.by ≡ number → v.call ≡ u.call → v.rest ≡ rest →
       left_in number us ≡ turn_as u.call.who op ∷ left_in number (slice_set us place v)
-  pub others : (v : Underway) → v.by ≡ number → (other : ℕ) → other ≢ number →
+  pub others : (v : PendingCall) → v.by ≡ number → (other : ℕ) → other ≢ number →
       left_in other (slice_set us place v) ≡ left_in other us
 
 module _ (number : ℕ) (op : Op) where
   -- What is left of one call.
-  of_its_pass : (u : Underway) → u.by ≡ number → left_of number u ≡ map (turn_as u.call.who) u.rest
+  of_its_pass : (u : PendingCall) → u.by ≡ number → left_of number u ≡ map (turn_as u.call.who) u.rest
   of_its_pass u by =
       ap (λ b. cond b (map (turn_as u.call.who) u.rest) []) (ap (λ n. n == number) by ∙ number_same number)
 
-  of_another : (u : Underway) (other : ℕ) → u.by ≢ other → left_of other u ≡ []
+  of_another : (u : PendingCall) (other : ℕ) → u.by ≢ other → left_of other u ≡ []
   of_another u other apart = ap (λ b. cond b (map (turn_as u.call.who) u.rest) []) (number_other u.by other apart)
 
-  here : (u : Underway) (us : List Underway) (rest : List Op) → u.by ≡ number → u.rest ≡ op ∷ rest →
+  here : (u : PendingCall) (us : List PendingCall) (rest : List Op) → u.by ≡ number → u.rest ≡ op ∷ rest →
       Picked number op (u ∷ us)
   here u us rest by first = record {
     place = zero;
@@ -86,7 +86,7 @@ module _ (number : ℕ) (op : Op) where
         (of_another v other (λ e. apart (sym e ∙ its)) ∙ sym (of_another u other (λ e. apart (sym e ∙ by))));
   }
 
-  later : (u : Underway) (us : List Underway) → left_of number u ≡ [] → Picked number op us →
+  later : (u : PendingCall) (us : List PendingCall) → left_of number u ≡ [] → Picked number op us →
       Picked number op (u ∷ us)
   later u us none p = record {
     place = suc p.place;
@@ -103,7 +103,7 @@ module _ (number : ℕ) (op : Op) where
   }
 
   -- The two cases of what is left of the first call.
-  by_rest : (u : Underway) (us : List Underway) (ds : List Op) (remains : List Op) → u.by ≡ number →
+  by_rest : (u : PendingCall) (us : List PendingCall) (ds : List Op) (remains : List Op) → u.by ≡ number →
       u.rest ≡ remains → ops (left_in number (u ∷ us)) ≡ op ∷ ds →
       (ops (left_in number us) ≡ op ∷ ds → Picked number op us) → Picked number op (u ∷ us)
   by_rest u us ds [] by none more again =
@@ -117,7 +117,7 @@ module _ (number : ℕ) (op : Op) where
       let same : d ≡ op = cc in
       here u us remains by (some ∙ ap (λ x. x ∷ remains) same)
 
-  pub pick : (us : List Underway) (ds : List Op) → ops (left_in number us) ≡ op ∷ ds → Picked number op us
+  pub pick : (us : List PendingCall) (ds : List Op) → ops (left_in number us) ≡ op ∷ ds → Picked number op us
   pick [] ds more = absurd cc
   pick (u ∷ us) ds more = elim (eqb_tells u.by number) [
     | inl same ↦ by_rest u us ds u.rest same.1 refl more (pick us ds)
@@ -137,13 +137,14 @@ nothing_mapped who [] none = refl
 nothing_mapped who (d ∷ ds) none = absurd cc
 
 -- If no pass has a turn left to make in calls, no call has one.
-pub none_left : (us : List Underway) → ((number : ℕ) → ops (left_in number us) ≡ []) → (place : ℕ) (u : Underway) →
+pub none_left : (us : List PendingCall) → ((number : ℕ) → ops (left_in number us) ≡ []) →
+    (place : ℕ) (u : PendingCall) →
     slice_get us place ≡ Some u → u.rest ≡ []
 none_left [] none place u there = absurd cc
 none_left (v ∷ us) none zero u there =
     let same : v ≡ u = cc in
     let first : left_of v.by v ≡ [] = (none_of_both (left_of v.by v) (left_in v.by us) (none v.by)).0 in
-    ap (λ (x : Underway). x.rest) (sym same)
+    ap (λ (x : PendingCall). x.rest) (sym same)
     ∙ nothing_mapped v.call.who v.rest
     (sym (ap (λ b. cond b (map (turn_as v.call.who) v.rest) []) (number_same v.by)) ∙ first)
 none_left (v ∷ us) none (suc place) u there =

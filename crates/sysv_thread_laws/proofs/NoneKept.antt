@@ -16,13 +16,13 @@ use Rattle.sysv_steps.specs.Begin.{begin}
 use Rattle.sysv_model.specs.Turns.{Numbered}
 use Rattle.sysv_thread_laws.specs.Order.{Called, is_in_call_of, ops_by, ops_in}
 use Rattle.sysv_thread_laws.specs.OrderIsRun.{Renamed, renamed_turn}
-use Rattle.sysv_thread_laws.specs.Crew.{IsServed}
+use Rattle.sysv_thread_laws.specs.Team.{IsServed}
 use Rattle.sysv_service.specs.Seats.{Gates}
 use Rattle.sysv_steps.specs.Stepping.{refused_blocks}
 use Rattle.sysv_service.specs.Ran.{Pass, Ran, FindsTurns, begins, steps, turns_back, reads, resumes, gives_up}
 use Rattle.sysv_service.specs.Told.{TellsRow}
-use Rattle.sysv_thread_laws.specs.Life as life
-use Rattle.sysv_thread_laws.specs.Life.{any_moment, call_of, Lives}
+use Rattle.sysv_thread_laws.specs.Lifetime as lifetime
+use Rattle.sysv_thread_laws.specs.Lifetime.{any_moment, call_of, Lives}
 
 -- ---- what turns leave with the passes
 
@@ -79,8 +79,8 @@ row_keeps slot one (Err why) after (inr worn) = worn.3
 module _ (generation blocks first : ℕ) (gates : Gates) where
   passes_keep : (passes : List Pass) (made : List Called) → Lives generation blocks first gates passes made →
       held_by passes ≡ left_in_all made
-  passes_keep _ _ (life.opens fresh) = refl
-  passes_keep _ _ (life.calls {one} {rest} {made} cred asked released ops state after lives ran found) =
+  passes_keep _ _ (lifetime.opens fresh) = refl
+  passes_keep _ _ (lifetime.calls {one} {rest} {made} cred asked released ops state after lives ran found) =
       let call : Called = call_of one cred asked released ops state in
       let last = call_keeps (begin cred asked released) one ops state after ran found in
       omega (
@@ -93,7 +93,7 @@ module _ (generation blocks first : ℕ) (gates : Gates) where
         sum_by-cons left_by_call call [],
         no_call_left,
       )
-  passes_keep _ _ (life.reads_count {one} {rest} {made} count value after lives r same) =
+  passes_keep _ _ (lifetime.reads_count {one} {rest} {made} count value after lives r same) =
       omega (
         arith,
         same,
@@ -101,7 +101,7 @@ module _ (generation blocks first : ℕ) (gates : Gates) where
         sum_by-cons held_of one rest,
         sum_by-cons held_of after rest,
       )
-  passes_keep _ _ (life.asks_row {one} {rest} {made} slot result after lives told) =
+  passes_keep _ _ (lifetime.asks_row {one} {rest} {made} slot result after lives told) =
       omega (
         arith,
         row_keeps slot one result after told,
@@ -109,7 +109,7 @@ module _ (generation blocks first : ℕ) (gates : Gates) where
         sum_by-cons held_of one rest,
         sum_by-cons held_of after rest,
       )
-  passes_keep _ _ (life.splits {one} {rest} {made} kept new lives split held empty) =
+  passes_keep _ _ (lifetime.splits {one} {rest} {made} kept new lives split held empty) =
       omega (
         arith,
         held,
@@ -119,7 +119,7 @@ module _ (generation blocks first : ℕ) (gates : Gates) where
         sum_by-cons held_of kept (new ∷ rest),
         sum_by-cons held_of new rest,
       )
-  passes_keep _ _ (life.joins {one} {two} {rest} {made} after lives joined held) =
+  passes_keep _ _ (lifetime.joins {one} {two} {rest} {made} after lives joined held) =
       omega (
         arith,
         held,
@@ -128,7 +128,7 @@ module _ (generation blocks first : ℕ) (gates : Gates) where
         sum_by-cons held_of two rest,
         sum_by-cons held_of after rest,
       )
-  passes_keep _ _ (life.turns_to {one} {made} before rest lives) =
+  passes_keep _ _ (lifetime.turns_to {one} {made} before rest lives) =
       omega (
         arith,
         passes_keep (before ++ one ∷ rest) made lives,

@@ -12,7 +12,7 @@ use Rattle.sysv_model.specs.Turn.{Op, AtSlot, AtRegistry, AtPool, Turn, is_same,
 use Rattle.sysv_model.specs.Turn.{pool_entry, slot_history, registry_history, pool_history}
 use Rattle.sysv_objects.specs.LegalOp.{IsLegalOp, AreLegal}
 use Rattle.sysv_core.specs.World.{World, Response, doing_in, with_turn}
-use Rattle.sysv_thread_laws.specs.FreeRun.{nobody, Moment, Reads, LeadsOnThreads}
+use Rattle.sysv_thread_laws.specs.Execution.{nobody, Moment, Reads, LeadsOnThreads}
 use Rattle.sysv_model.specs.Turns.{Numbered, turn_of, turns_of}
 use Rattle.sysv_thread_laws.specs.Order.{shows_row, is_in_call_of, ops_by}
 use Rattle.sysv_thread_laws.specs.OrderIsRun.{name_at, Renamed, turn_as, renamed_turn, turns_by}
@@ -20,7 +20,7 @@ use Rattle.sysv_thread_laws.proofs.Places.{number_same, number_other, and_false,
 use Rattle.sysv_thread_laws.proofs.Places.{get_set_other, set_same, same_name, other_name, not_nobody}
 use Rattle.sysv_thread_laws.proofs.LegalWhoever.{Acts, legal_alike}
 use Rattle.sysv_thread_laws.proofs.PlayedCallGoesOn.{leads_more, PlaysOn, IsSettled, is_at_its_end, Makes, makes_turn}
-use Rattle.sysv_thread_laws.proofs.NextCall.{Underway, doing_of, done_of, IsRight, left_in, ops, Picked, pick}
+use Rattle.sysv_thread_laws.proofs.NextCall.{PendingCall, doing_of, done_of, IsRight, left_in, ops, Picked, pick}
 use Rattle.sysv_thread_laws.proofs.NextCall.{none_left}
 
 -- ---- a turn of the order is legal after those before it
@@ -95,20 +95,20 @@ row_form op e = absurd cc
 
 -- ---- what is so of each world on the way
 
-pub record Holds (gen size : ℕ) (before rest : List Numbered) (w : World) (us : List Underway) : Type 0 where
+pub record Holds (gen size : ℕ) (before rest : List Numbered) (w : World) (us : List PendingCall) : Type 0 where
   pub legal : AreLegal gen size (turns_of (before ++ rest))
   pub generation : w.generation ≡ gen
   pub blocks : w.blocks ≡ size
   pub acts : Acts w.turns (turns_of before)
   pub actors : w.actors ≡ map doing_of us
-  pub right : (place : ℕ) (u : Underway) → slice_get us place ≡ Some u → IsRight place u
+  pub right : (place : ℕ) (u : PendingCall) → slice_get us place ≡ Some u → IsRight place u
   pub whole : (number : ℕ) → ops_by number rest ≡ ops (left_in number us)
 
 abbrev pub IsNobodys : Renamed → Type 0
 IsNobodys r = shows_row r.turn.op ≡ true → r.name ≡ nobody
 
 -- The rest of the order was made.
-pub record Went (rest : List Numbered) (w : World) (us : List Underway) : Type 0 where
+pub record Went (rest : List Numbered) (w : World) (us : List PendingCall) : Type 0 where
   pub moments : List Moment
   pub responses : List Response
   pub world : World
@@ -118,12 +118,13 @@ pub record Went (rest : List Numbered) (w : World) (us : List Underway) : Type 0
   pub after : world.turns ≡ w.turns ++ map renamed_turn renamed
   pub rows : All IsNobodys renamed
   pub whose : (number : ℕ) → turns_by number renamed ≡ left_in number us
-  pub own : (place : ℕ) (u : Underway) → slice_get us place ≡ Some u →
+  pub own : (place : ℕ) (u : PendingCall) → slice_get us place ≡ Some u →
       ops_of u.call.who (map renamed_turn renamed) ≡ u.rest
   pub actors : world.actors ≡ map done_of us
   pub calls : world.calls ≡ w.calls
 
-same_all : (us : List Underway) → ((place : ℕ) (u : Underway) → slice_get us place ≡ Some u → doing_of u ≡ done_of u) →
+same_all : (us : List PendingCall) →
+    ((place : ℕ) (u : PendingCall) → slice_get us place ≡ Some u → doing_of u ≡ done_of u) →
     map doing_of us ≡ map done_of us
 same_all [] same = refl
 same_all (u ∷ us) same = ap (λ d. d ∷ map doing_of us) (same zero u refl)
@@ -147,10 +148,10 @@ no_turns (t ∷ ts) none = absurd cc
 
 module _ (gen size : ℕ) where
   abbrev Goes : List Numbered → List Numbered → Type 0
-  Goes before rest = (w : World) (us : List Underway) → Holds gen size before rest w us → Went rest w us
+  Goes before rest = (w : World) (us : List PendingCall) → Holds gen size before rest w us → Went rest w us
 
   -- The order has come to its end.
-  at_end : (place : ℕ) (u : Underway) → IsRight place u → u.rest ≡ [] → doing_of u ≡ done_of u
+  at_end : (place : ℕ) (u : PendingCall) → IsRight place u → u.rest ≡ [] → doing_of u ≡ done_of u
   at_end place u r none =
       ap (doing_in u.call)
       (is_at_its_end (subst (PlaysOn u.to u.state) none r.plays) (subst (IsSettled u.to u.state) none r.settled))
@@ -180,7 +181,7 @@ module _ (gen size : ℕ) where
     moved : more_before ++ rest ≡ before ++ t ∷ rest
     moved = append_assoc before (t ∷ []) rest
 
-    module _ (w : World) (us : List Underway) (h : Holds gen size before (t ∷ rest) w us) where
+    module _ (w : World) (us : List PendingCall) (h : Holds gen size before (t ∷ rest) w us) where
       legal_here : IsLegalOp w.generation w.blocks w.turns t.op
       legal_here =
           subst (λ n. IsLegalOp n w.blocks w.turns t.op) (sym h.generation)
@@ -254,7 +255,7 @@ module _ (gen size : ℕ) where
 
       -- A call makes its turn.
       module _ (quiet : shows_row t.op ≡ false) (again : Goes more_before rest) (p : Picked t.by t.op us) where
-        abbrev u : Underway
+        abbrev u : PendingCall
         u = p.u
 
         u_right : IsRight p.place u
@@ -271,10 +272,10 @@ module _ (gen size : ℕ) where
             (subst (IsSettled u.to u.state) p.first u_right.settled)
 
         module _ (m : Makes w p.place u.call u.to t.op p.rest) where
-          abbrev v : Underway
+          abbrev v : PendingCall
           v = record { by = t.by; call = u.call; state = m.state; rest = p.rest; to = u.to }
 
-          abbrev then_us : List Underway
+          abbrev then_us : List PendingCall
           then_us = slice_set us p.place v
 
           v_there : slice_get then_us p.place ≡ Some v
@@ -296,7 +297,7 @@ module _ (gen size : ℕ) where
                 ∙ (h.whole number ∙ ap ops (sym (p.others v refl number (λ e. other (sym e)))))
           ]
 
-          right_then : (place : ℕ) (x : Underway) → slice_get then_us place ≡ Some x → IsRight place x
+          right_then : (place : ℕ) (x : PendingCall) → slice_get then_us place ≡ Some x → IsRight place x
           right_then place x there = elim (same_or_other p.place place) [
             | inl same ↦
                 let is : v ≡ x =
@@ -332,13 +333,13 @@ module _ (gen size : ℕ) where
                   ∙ (r.whose number ∙ p.others v refl number (λ e. other (sym e)))
             ]
 
-            own_now : (place : ℕ) (x : Underway) → slice_get us place ≡ Some x →
+            own_now : (place : ℕ) (x : PendingCall) → slice_get us place ≡ Some x →
                 ops_of x.call.who (map renamed_turn (named ∷ r.renamed)) ≡ x.rest
             own_now place x there = elim (same_or_other p.place place) [
               | inl same ↦
                   let is : u ≡ x =
                   (let both : Some u ≡ Some x = sym p.there ∙ (ap (slice_get us) same ∙ there) in cc) in
-                  subst (λ (y : Underway). ops_of y.call.who (map renamed_turn (named ∷ r.renamed)) ≡ y.rest) is
+                  subst (λ (y : PendingCall). ops_of y.call.who (map renamed_turn (named ∷ r.renamed)) ≡ y.rest) is
                   (own_first u.call.who u.call.who t.op (map renamed_turn r.renamed)
                   (same_name u.call.who p.place u_right.name)
                   ∙ (ap (λ ds. t.op ∷ ds) (r.own p.place v v_there) ∙ sym p.first))

@@ -1,4 +1,4 @@
--- A call of a free run that waits below its goal has a reason to.
+-- A call of an execution that waits below its goal has a reason to.
 use Rattle.std.proofs.Common.{◌≡◌, ◌⊎◌, ◌<◌, inl, inr, ℕ, ℤ, List, [], ◌∷◌, ◌++◌}
 use Rattle.std.proofs.Common.{map, length, Option, None, Some, refl, sym, ap, subst, ◌∙◌, arith}
 use Rattle.std.proofs.Common.{slice_get}
@@ -20,14 +20,14 @@ use Rattle.sysv_steps.specs.WaitsFor.{WaitsFor, EachWaitsForItsRefusal}
 use Rattle.sysv_core.specs.World.{World, Opening, Invocation, Doing, Response, opening, doing_in, begun}
 use Rattle.sysv_core.specs.Parked.{IsToBeWoken, HasTooFewBlocks, IsBeingChanged, HasReason, IsParked, AreParkedRightly}
 use Rattle.sysv_core.specs.Tending.{AreTended}
-use Rattle.sysv_core.proofs.LifeGoesOn.{EachObeys}
+use Rattle.sysv_core.proofs.LifetimeGoesOn.{EachObeys}
 use Rattle.sysv_core.proofs.Histories.{turn_of}
 use Rattle.sysv_core.proofs.ParkedRightly.{parked_rightly}
 use Rattle.sysv_core.proofs.PartsOfOneCall.{same_who}
 use Rattle.sysv_core.proofs.TurnInHistory.{made_at}
-use Rattle.sysv_core.proofs.LifeLaws.{settled_once_installed}
+use Rattle.sysv_core.proofs.LifetimeLaws.{settled_once_installed}
 use Rattle.sysv_core.proofs.WorldsObey.{Inv, stands_there}
-use Rattle.sysv_thread_laws.specs.FreeRun.{Moment, LeadsOnThreads}
+use Rattle.sysv_thread_laws.specs.Execution.{Moment, LeadsOnThreads}
 use Rattle.sysv_thread_laws.specs.OnThreads.{IsRowRead, ObeysOnThreads, EveryThreadedRunObeys}
 use Rattle.sysv_thread_laws.specs.ParkedOnThreads.{HadReleased, HasReasonOnThreads, EveryThreadedRunParksRightly}
 use Rattle.sysv_thread_laws.specs.ParkedOnThreads.{EveryOrderParksRightly}
@@ -186,7 +186,7 @@ module _ (stays : StaysRight) (o : Opening) (w : World) (responses : List Respon
       parked_rightly stays.laws (calmed w) i.sound.legal (λ place d there. played place d (was_there w place d there).0)
       stays.no_match stays.full stays.full_for_look stays.counts stays.refused stays.holds
       (tended_calmly w lawful.lives.tended) lawful.lives.removed
-      (settled_once_installed w.turns i.life.facts)
+      (settled_once_installed w.turns i.lifetime.facts)
       (λ place d goal send there is below. absurd (none_for_blocks place goal d send there is))
       (λ place d goal send there is below. absurd (none_for_blocks place goal d send there is))
 

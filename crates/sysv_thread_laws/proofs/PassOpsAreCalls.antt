@@ -16,8 +16,8 @@ use Rattle.sysv_thread_laws.specs.OrderIsRun.{EveryOrderIsARun}
 use Rattle.sysv_thread_laws.specs.AtRest.{OrdersAtRest}
 use Rattle.sysv_model.specs.Members.{Member, under, AreWhole, AreOfOthers, AreOwn, Does, starts, sees, makes, Splits}
 use Rattle.sysv_model.specs.Members.{Joins, Closes}
-use Rattle.sysv_thread_laws.specs.Crew.{IsCrew, opens, calls, reads, goes_on, splits, joins, turns_to}
-use Rattle.sysv_thread_laws.specs.Crew.{EveryServiceIsARun}
+use Rattle.sysv_thread_laws.specs.Team.{IsTeam, opens, calls, reads, goes_on, splits, joins, turns_to}
+use Rattle.sysv_thread_laws.specs.Team.{EveryServiceIsARun}
 use Rattle.sysv_thread_laws.proofs.Places.{number_other, none_or_some}
 use Rattle.sysv_thread_laws.proofs.RowsApart.{no_call_reads_a_row}
 use Rattle.sysv_thread_laws.proofs.SharesAreWhole.{all_have_the_whole}
@@ -404,46 +404,46 @@ turn_sound one before rest made apart earlier =
 
 -- ---- all that was done
 
-pub all_sound : {passes : List Member} {made : List Called} → IsCrew passes made → NoneTwice (numbers_of passes) →
+pub all_sound : {passes : List Member} {made : List Called} → IsTeam passes made → NoneTwice (numbers_of passes) →
     IsSound passes made
 all_sound (opens number) apart = record {
   each = (record { named = times-same number; own = λ x has. refl }, tt);
   none = λ x absent. refl;
   played = All-nil IsPlayed;
 }
-all_sound (calls {one = one} {rest = rest} {made = made} call after crew by played done) apart =
+all_sound (calls {one = one} {rest = rest} {made = made} call after team by played done) apart =
     let d = did done in
     let was = same_numbers one after rest d.numbers apart in
-    let sound = all_sound crew was in
+    let sound = all_sound team was in
     first_step one after rest call.ops made (made ++ call ∷ []) d
     (more_by_call call made one.number by (all_quiet call.ops (no_call_reads_a_row call played)))
     (All-push IsPlayed made call sound.played played) was sound
-all_sound (reads {one = one} {rest = rest} {made = made} slot reply after crew turn) apart =
+all_sound (reads {one = one} {rest = rest} {made = made} slot reply after team turn) apart =
     let d = did (makes (AtSlot slot ReadRow reply) after starts turn) in
     let was = same_numbers one after rest d.numbers apart in
-    let sound = all_sound crew was in
+    let sound = all_sound team was in
     first_step one after rest (AtSlot slot ReadRow reply ∷ []) made made d
     (more_by_none one.number (AtSlot slot ReadRow reply ∷ []) made refl) sound.played was sound
-all_sound (goes_on {one = one} {rest = rest} {made = made} after crew more) apart =
+all_sound (goes_on {one = one} {rest = rest} {made = made} after team more) apart =
     let d = did (sees after starts more) in
     let was = same_numbers one after rest d.numbers apart in
-    let sound = all_sound crew was in
+    let sound = all_sound team was in
     first_step one after rest [] made made d (more_by_none one.number [] made refl) sound.played was sound
-all_sound (splits {one = one} {rest = rest} {made = made} kept new crew s) apart =
-    split_sound one kept new rest made s apart (all_sound crew)
-all_sound (joins {one = one} {two = two} {rest = rest} {made = made} after crew j) apart =
-    join_sound one two after rest made j apart (all_sound crew)
-all_sound (turns_to {one = one} {made = made} before rest crew) apart =
-    turn_sound one before rest made apart (all_sound crew)
+all_sound (splits {one = one} {rest = rest} {made = made} kept new team s) apart =
+    split_sound one kept new rest made s apart (all_sound team)
+all_sound (joins {one = one} {two = two} {rest = rest} {made = made} after team j) apart =
+    join_sound one two after rest made j apart (all_sound team)
+all_sound (turns_to {one = one} {made = made} before rest team) apart =
+    turn_sound one before rest made apart (all_sound team)
 
-pub last_is_whole : (last : Member) (made : List Called) → IsCrew (last ∷ []) made → AreWhole last.shares
-last_is_whole last made crew = subst AreWhole (append-nil last.shares) (all_have_the_whole crew)
+pub last_is_whole : (last : Member) (made : List Called) → IsTeam (last ∷ []) made → AreWhole last.shares
+last_is_whole last made team = subst AreWhole (append-nil last.shares) (all_have_the_whole team)
 
-pub all_home : (last : Member) (made : List Called) (order : List Numbered) → IsCrew (last ∷ []) made →
+pub all_home : (last : Member) (made : List Called) (order : List Numbered) → IsTeam (last ∷ []) made →
     Closes last order → AreAll order made
-all_home last made order crew c =
-    let sound : IsSound (last ∷ []) made = all_sound crew (subst NoneTwice (sym (append-nil last.numbers)) c.apart) in
-    let own = c.all (last_is_whole last made crew) in
+all_home last made order team c =
+    let sound : IsSound (last ∷ []) made = all_sound team (subst NoneTwice (sym (append-nil last.numbers)) c.apart) in
+    let own = c.all (last_is_whole last made team) in
     record {
       played = sound.played;
       whole = λ x. elim (none_or_some (times x last.numbers)) [
@@ -455,8 +455,8 @@ all_home last made order crew c =
     }
 
 pub every_service_is_a_run : EveryOrderIsARun → OrdersAtRest → EveryServiceIsARun
-every_service_is_a_run runs rests generation blocks last made order crew c legal =
-    let all = all_home last made order crew c in
+every_service_is_a_run runs rests generation blocks last made order team c legal =
+    let all = all_home last made order team c in
     record {
       all = all;
       run = runs generation blocks order made legal all;

@@ -6,7 +6,7 @@ use Rattle.std.proofs.lemmas.List.Sums.{sum_by-cons}
 use Rattle.std.proofs.lemmas.Bool.Decides.{eqb_tells}
 use Rattle.sysv_model.specs.History.{Who}
 use Rattle.sysv_model.specs.Turn.{is_same}
-use Rattle.sysv_thread_laws.specs.FreeRun.{nobody}
+use Rattle.sysv_thread_laws.specs.Execution.{nobody}
 use Rattle.sysv_thread_laws.specs.OrderIsRun.{name_at}
 
 -- ---- numbers

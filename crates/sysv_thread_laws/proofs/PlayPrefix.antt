@@ -4,12 +4,12 @@ use Rattle.std.proofs.Common.{subst, ◌∙◌}
 use Rattle.std.specs.List.{All, filter, list_any}
 use Rattle.std.proofs.lemmas.List.{map-append}
 use Rattle.std.proofs.lemmas.List.Elements.{All-head, All-tail, filter-append}
+use Rattle.std.proofs.lemmas.Bool.{or_cases}
 use Rattle.sysv_model.specs.History.{Who}
 use Rattle.sysv_model.specs.Turn.{Op, asked_by, Turn, is_same, ops_of}
 use Rattle.sysv_steps.specs.State.{Phase, State, Goes, Waits}
 use Rattle.sysv_steps.specs.Asks.{asks}
 use Rattle.sysv_steps.specs.Played.{Plays, begins, steps, resumes}
-use Rattle.sysv_core.proofs.Life.{one_of}
 
 -- ---- lists
 
@@ -106,7 +106,7 @@ first_turn : (test : Op → Bool) (who : Who) (t : Turn) (turns : List Turn) →
     (filter (λ (x : Turn). is_same who x.who) turns))) ≡ true →
     HasTurn test who (t ∷ turns)
 first_turn test who t turns rest true own some =
-    elim (one_of (test t.op) (list_any test (ops_of who turns)) some) [
+    elim (or_cases (test t.op) (list_any test (ops_of who turns)) some) [
       | inl here ↦ record { before = []; turn = t; after = turns; whole = refl; own = own; passes = here }
       | inr more ↦ later_turn test who t turns (rest more)
     ]

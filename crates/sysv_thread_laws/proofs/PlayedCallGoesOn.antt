@@ -11,7 +11,7 @@ use Rattle.sysv_steps.specs.Next.{next}
 use Rattle.sysv_steps.specs.Resume.{goal_of, resume}
 use Rattle.sysv_steps.specs.Played.{Plays, begins, steps, resumes}
 use Rattle.sysv_core.specs.World.{World, Invocation, Response, doing_in, response_in, in_state, with_turn}
-use Rattle.sysv_thread_laws.specs.FreeRun.{Moment, TakesTurn, Wakes, LeadsOnThreads}
+use Rattle.sysv_thread_laws.specs.Execution.{Moment, TakesTurn, Wakes, LeadsOnThreads}
 use Rattle.sysv_thread_laws.specs.OrderIsRun.{turn_as}
 use Rattle.sysv_thread_laws.proofs.Places.{get_set_same}
 

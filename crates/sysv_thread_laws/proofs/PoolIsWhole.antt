@@ -17,12 +17,12 @@ use Rattle.sysv_model.specs.Waiting.{held as waiting_on}
 use Rattle.sysv_model.specs.Turns.{turns_of}
 use Rattle.sysv_keys.specs.declared.identifier.TheConstants.{SLOTS}
 use Rattle.sysv_pool.specs.State.{State, state_of}
-use Rattle.sysv_pool.specs.StandsFor.{StandsFor as PoolStandsFor}
+use Rattle.sysv_pool.specs.Represents.{Represents as PoolRepresents}
 use Rattle.sysv_queue.specs.Slot.{Slot}
 use Rattle.sysv_queue.specs.Blocks.{blocks_of}
-use Rattle.sysv_queue.specs.StandsFor.{StandsFor as SlotStandsFor}
+use Rattle.sysv_queue.specs.Represents.{Represents as SlotRepresents}
 use Rattle.sysv_core.specs.Conserved.{blocks_waiting}
-use Rattle.sysv_thread_laws.specs.Crew.{EveryServiceIsARun, EveryLastPassIsWhole}
+use Rattle.sysv_thread_laws.specs.Team.{EveryServiceIsARun, EveryLastPassIsWhole}
 use Rattle.sysv_gate.specs.declared.gate.closing.Closing.{Closing}
 use Rattle.sysv_gate.specs.History.{Moves, after_all}
 use Rattle.sysv_gate.specs.Gates.{Gateway}
@@ -40,8 +40,8 @@ use Rattle.sysv_service.specs.Closing.{is_held, all_held, takes_back, with_chain
 use Rattle.sysv_thread_laws.specs.PoolWhole.{NoHiringLeavesAGateHeld, EveryPoolIsWhole, EveryHiringLeavesThePoolWhole}
 use Rattle.sysv_thread_laws.specs.Hiring.{all_of}
 use Rattle.sysv_service.proofs.UnwornAtTheEnd.{many_entries, unmarked_at_the_end}
-use Rattle.sysv_thread_laws.proofs.WorkersOfLife.{hired}
-use Rattle.sysv_thread_laws.proofs.PassesAreCrew.{crew_of, opened_so, every_service}
+use Rattle.sysv_thread_laws.proofs.WorkersOfLifetime.{hired}
+use Rattle.sysv_thread_laws.proofs.PassesAreTeam.{team_of, opened_so, every_service}
 use Rattle.sysv_thread_laws.proofs.NoneKept.{none_kept}
 use Rattle.sysv_thread_laws.proofs.Whole.{last_is_whole}
 
@@ -125,7 +125,7 @@ is_there None x Q is gone = absurd (omega (arith, gone))
 is_there (Some y) x Q is gone = ap (λ z. Some z) is.0
 
 module _ (histories : SeenHistories) where
-  slot_blocks : (seat : SlotSeat) (c : Closing Slot) (h : History) → SlotStandsFor [] seat.gate.opening →
+  slot_blocks : (seat : SlotSeat) (c : Closing Slot) (h : History) → SlotRepresents [] seat.gate.opening →
       (closes : Closes (Moves SlotMoves slot_counts) seat c) →
       entries slot_entry seat.gate.opening closes.log ≡ h → is_held c.object ≡ 0 →
       blocks_in c.object ≡ blocks_of (waiting_on h)
@@ -135,7 +135,7 @@ module _ (histories : SeenHistories) where
       ∙ (ap (λ (s : Slot). blocks_of s.messages) (sym stands.seen) ∙ ap (λ x. blocks_of (waiting_on x)) part)
 
   pool_there : (seat : PoolSeat) (c : Closing State) (h : PoolHistory) (blocks : ℕ) →
-      PoolStandsFor [] seat.gate.opening → seat.gate.opening.size ≡ blocks →
+      PoolRepresents [] seat.gate.opening → seat.gate.opening.size ≡ blocks →
       (closes : Closes (Moves PoolMoves pool_counts) seat c) → entries pool_entry seat.gate.opening closes.log ≡ h →
       is_held c.object ≡ 0 → c.object ≡ Some (state_of blocks h)
   pool_there seat c h blocks fresh many closes part gone =
@@ -166,15 +166,15 @@ unfolding blocks_waiting
 is_sum turns = refl
 
 pub vacant_seat : (seats : List SlotSeat) (k : ℕ) (seat : SlotSeat) →
-    All (SlotStandsFor []) (map (λ (g : Gateway Slot). g.opening) (gates_of seats)) → get_elem? seats k ≡ some seat →
-    SlotStandsFor [] seat.gate.opening
+    All (SlotRepresents []) (map (λ (g : Gateway Slot). g.opening) (gates_of seats)) → get_elem? seats k ≡ some seat →
+    SlotRepresents [] seat.gate.opening
 vacant_seat [] k seat vacant at = absurd (some-ne-none seat (sym at))
 vacant_seat (s ∷ ss) zero seat vacant at =
-    subst (λ (x : SlotSeat). SlotStandsFor [] x.gate.opening) (some-injective s seat at)
-    (All-head (SlotStandsFor []) s.gate.opening (map (λ (g : Gateway Slot). g.opening) (gates_of ss)) vacant)
+    subst (λ (x : SlotSeat). SlotRepresents [] x.gate.opening) (some-injective s seat at)
+    (All-head (SlotRepresents []) s.gate.opening (map (λ (g : Gateway Slot). g.opening) (gates_of ss)) vacant)
 vacant_seat (s ∷ ss) (suc k) seat vacant at =
     vacant_seat ss k seat
-    (All-tail (SlotStandsFor []) s.gate.opening (map (λ (g : Gateway Slot). g.opening) (gates_of ss)) vacant) at
+    (All-tail (SlotRepresents []) s.gate.opening (map (λ (g : Gateway Slot). g.opening) (gates_of ss)) vacant) at
 
 -- ---- the laws
 
@@ -202,7 +202,7 @@ every_pool histories law home generation blocks first gates last calls closed li
     let kept = none_kept generation blocks first gates last calls end.all.order lives served in
     let fresh = opened_so generation blocks first gates (last ∷ []) calls lives in
     let back =
-    end.all.home (home last.seats.member calls (crew_of generation blocks first gates (last ∷ []) calls lives)) in
+    end.all.home (home last.seats.member calls (team_of generation blocks first gates (last ∷ []) calls lives)) in
     let none : all_held items ≡ 0 = all_there items back.0 in
     let there_registry : is_held end.parts.registry.object ≡ 0 = not_held end.parts.registry back.1 in
     let there_pool : is_held end.parts.pool.object ≡ 0 = not_held end.parts.pool back.2 in
@@ -213,8 +213,8 @@ every_pool histories law home generation blocks first gates last calls closed li
     let below = parts.pool.0.few in
     let few : released h + SLOTS ≤ 2 ^ 63 =
     omega (arith, count_by-le-length (λ (e : PoolEntry). frees e.reply) h, long, below) in
-    let vacant : All (SlotStandsFor []) (map (λ (g : Gateway Slot). g.opening) (gates_of seats.slots)) =
-    subst (λ (gs : List (Gateway Slot)). All (SlotStandsFor []) (map (λ (g : Gateway Slot). g.opening) gs))
+    let vacant : All (SlotRepresents []) (map (λ (g : Gateway Slot). g.opening) (gates_of seats.slots)) =
+    subst (λ (gs : List (Gateway Slot)). All (SlotRepresents []) (map (λ (g : Gateway Slot). g.opening) gs))
     (sym fits.slots) fresh.slots.1 in
     let same_long : length seats.slots ≡ length items =
     as_long (Closes (Moves SlotMoves slot_counts)) seats.slots items end.all.slots in
@@ -232,7 +232,7 @@ every_pool histories law home generation blocks first gates last calls closed li
     let start : State = state_of blocks h in
     let pool_is : end.parts.pool.object ≡ Some start =
     pool_there histories seats.pool end.parts.pool h blocks
-    (subst (λ (g : Gateway State). PoolStandsFor [] g.opening) (sym fits.pool) fresh.pool.0)
+    (subst (λ (g : Gateway State). PoolRepresents [] g.opening) (sym fits.pool) fresh.pool.0)
     (ap (λ (g : Gateway State). g.opening.size) fits.pool ∙ fresh.pool.1) parts.pool.0 parts.pool.1 there_pool in
     record {
       held = omega (arith, count, none, there_registry, there_pool);

@@ -25,11 +25,11 @@ use Rattle.sysv_core.specs.Sound.{IsSound, IsMadeIn}
 use Rattle.sysv_core.proofs.Histories.{turn_of, slot_more, registry_more, pool_stays}
 use Rattle.sysv_core.proofs.BlocksConserved.{waiting_at, is_sum, same_sum}
 use Rattle.sysv_core.proofs.SoundStays.{all_made, still_made}
-use Rattle.sysv_core.proofs.Life.{does, jobs_of, not_both, no_job}
-use Rattle.sysv_core.proofs.LifeGoesOn.{life_apart}
+use Rattle.sysv_core.proofs.Lifetime.{does, jobs_of, not_both, no_job}
+use Rattle.sysv_core.proofs.LifetimeGoesOn.{lifetime_apart}
 use Rattle.sysv_core.proofs.WorldsObey.{HasMaker, Inv}
 use Rattle.sysv_core.proofs.PartsOfOneCall.{not_same, other_op}
-use Rattle.sysv_thread_laws.specs.FreeRun.{nobody}
+use Rattle.sysv_thread_laws.specs.Execution.{nobody}
 use Rattle.sysv_thread_laws.specs.OnThreads.{IsRowRead}
 
 module _ (turns : List Turn) (slot : ℕ) (reply : Reply) where
@@ -104,14 +104,14 @@ module _
   pub row_keeps : (responses : List Response) → Inv IsRowRead w responses → Inv IsRowRead read responses
   row_keeps responses i = record {
     sound = row_sound i.sound;
-    life = life_apart w.turns nobody (AtSlot slot ReadRow reply) (jobs_of w.actors) i.life (record {
+    lifetime = lifetime_apart w.turns nobody (AtSlot slot ReadRow reply) (jobs_of w.actors) i.lifetime (record {
       seemly = (tt, tt, tt);
       legal = legal;
       next = λ j does_it.
           not_both (does j (AtSlot slot ReadRow reply)) does_it (no_job j (AtSlot slot ReadRow reply) refl);
     }) refl;
-    fates = λ c has.
-        let f = i.fates c has in
+    outcomes = λ c has.
+        let f = i.outcomes c has in
         record {
           state = f.state;
           plays = subst (λ ds. Plays (begun c) ds f.state) (sym (same c has)) f.plays;

@@ -1,4 +1,4 @@
--- A send of a free run that waits for blocks on a queue that is closed to it will be told: a set or
+-- A send of an execution that waits for blocks on a queue that is closed to it will be told: a set or
 -- a removal of the queue is still before its giveback.
 use Rattle.std.proofs.Common.{◌≡◌, ◌≢◌, ◌⊎◌, ◌<◌, ◌≤◌, ◌+◌, inl, inr, ℕ, ℤ, Bool, true, false, cond}
 use Rattle.std.proofs.Common.{List, [], ◌∷◌, ◌++◌, length, Option, None, Some, option_map, refl, sym, ap, subst, ◌∙◌}
@@ -10,6 +10,7 @@ use Rattle.std.proofs.lemmas.Grind.{flat_map-append}
 use Rattle.std.proofs.lemmas.List.{append-nil}
 use Rattle.std.proofs.lemmas.List.Elements.{All-contains}
 use Rattle.std.proofs.lemmas.List.Folds.{list_any-append}
+use Rattle.std.proofs.lemmas.Bool.{or_left, or_right, cases_eq}
 use Rattle.sysv_model.specs.declared.attributes.Attributes.{Attributes}
 use Rattle.sysv_model.specs.declared.attributes.SetTo.{SetTo}
 use Rattle.sysv_model.specs.declared.cred.Cred.{Cred}
@@ -44,11 +45,9 @@ use Rattle.sysv_steps.specs.Answers.{is_at_slot}
 use Rattle.sysv_steps.specs.AsksFor.{AsksFor, AllAskFor}
 use Rattle.sysv_steps.specs.WaitsFor.{WaitsFor}
 use Rattle.sysv_core.specs.World.{World, Opening, Invocation, Doing, Response, begun}
-use Rattle.sysv_core.specs.AnswerLaw.{Fate, stands_in, standing, standing_of, AsksAsItWasAsked}
+use Rattle.sysv_core.specs.AnswerLaw.{Outcome, stands_in, standing, standing_of, AsksAsItWasAsked}
 use Rattle.sysv_core.specs.Parked.{HasTooFewBlocks, HasChangeToTell, IsToBeWoken, HasToGiveBack}
-use Rattle.sysv_core.proofs.Life.{or_left, or_right}
 use Rattle.sysv_core.proofs.Histories.{turn_of, slot_more, live_more, one, released_more}
-use Rattle.sysv_core.proofs.Lists.{same_place}
 use Rattle.sysv_core.proofs.PartsOfOneCall.{same_who, same_itself, at_actor}
 use Rattle.sysv_core.proofs.TurnInHistory.{made_at, slot_around}
 use Rattle.sysv_core.proofs.WorldsObey.{Inv}
@@ -245,7 +244,7 @@ module _ (id : ℤ) (cred : Cred) where
         inl (elsewhere_open turns (turn_of who (AtRegistry call reply)) refl opens)
     one_open turns rest who (AtPool call reply) whole opens =
         inl (elsewhere_open turns (turn_of who (AtPool call reply)) refl opens)
-    one_open turns rest who (AtSlot at call reply) whole opens = elim (same_place at slot_of_it) [
+    one_open turns rest who (AtSlot at call reply) whole opens = elim (cases_eq at slot_of_it) [
       | inl same ↦
           subst (λ n. OpenAfter (turns ++ turn_of who (AtSlot n call reply) ∷ []) ⊎ IsChange id (AtSlot n call reply))
           (sym same) (here_open turns rest who call reply
@@ -592,19 +591,19 @@ module _ (o : Opening) (w : World) (responses : List Response) (i : Inv IsRowRea
         let asks_it = all_at (λ (d : Op). AsksFor call.cred call.asked (asked_by d)) front op back
         (subst (All (λ (d : Op). AsksFor call.cred call.asked (asked_by d))) ops_are asks_all) in
         let c = changing id call.cred call.asked op change asks_it in
-        let fate : Fate w responses call = i.fates call by.1 in
-        elim (tells call.cred call.asked call.released op c.leads (ops_of call.who w.turns) fate.state fate.plays
+        let outcome : Outcome w responses call = i.outcomes call by.1 in
+        elim (tells call.cred call.asked call.released op c.leads (ops_of call.who w.turns) outcome.state outcome.plays
         front back ops_are) [
           | inl telling ↦
-              let at = in_call call by.1 fate.state
-              (fate.stands ∙ telling_goes call.asked fate.state telling) in
+              let at = in_call call by.1 outcome.state
+              (outcome.stands ∙ telling_goes call.asked outcome.state telling) in
               inl record {
                 place = at.place;
                 doing = at.doing;
                 there = at.there;
                 gives = subst (λ (x : Invocation). HasToGiveBack x.asked at.doing.state id) at.call_is
                     (subst (λ s. HasToGiveBack call.asked s id) at.state_is
-                    (gives_it id call.asked fate.state c.changes telling));
+                    (gives_it id call.asked outcome.state c.changes telling));
               }
           | inr told ↦
               let after : w.turns ≡ ((turns ++ more) ++ t ∷ []) ++ rest =

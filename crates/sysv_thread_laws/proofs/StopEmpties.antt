@@ -6,6 +6,7 @@ use Rattle.std.specs.List.{All}
 use Rattle.std.proofs.lemmas.List.{append-nil, length-map, map-append}
 use mathlib.Core.Option.{some}
 use lib.ListN.{get_elem?}
+use Rattle.std.proofs.lemmas.Bool.{cases_eq}
 use Rattle.sysv_lists.proofs.Places.{at_below, there}
 use Rattle.sysv_model.specs.declared.attributes.Attributes.{Attributes}
 use Rattle.sysv_model.specs.declared.attributes.Row.{Row}
@@ -22,7 +23,7 @@ use Rattle.sysv_model.specs.Members.{Member}
 use Rattle.sysv_queue.specs.LegalReply.{IsLegalReply}
 use Rattle.sysv_queue.specs.Shown.{row_of}
 use Rattle.sysv_queue.specs.Slot.{Slot}
-use Rattle.sysv_queue.specs.StandsFor.{StandsFor as SlotStandsFor}
+use Rattle.sysv_queue.specs.Represents.{Represents as SlotRepresents}
 use Rattle.sysv_keys.specs.declared.identifier.TheConstants.{SLOTS}
 use Rattle.sysv_keys.specs.Identifier.{slot_of_id}
 use Rattle.sysv_steps.specs.Call.{MsgctlRmid}
@@ -52,14 +53,13 @@ use Rattle.sysv_service.proofs.DoneByPass.{turn_is_made, worn_is_seen, does}
 use Rattle.sysv_service.proofs.MarkStays.{finds_turns, no_mark_by_row, not_worn}
 use Rattle.sysv_service.proofs.PlaysOwnTurns.{plays}
 use Rattle.sysv_core.specs.World.{World, Opening, Response, opening}
-use Rattle.sysv_core.proofs.Life.{Facts}
-use Rattle.sysv_core.proofs.Lists.{same_place}
+use Rattle.sysv_core.proofs.Lifetime.{Facts}
 use Rattle.sysv_core.proofs.TurnInHistory.{slot_around}
-use Rattle.sysv_thread_laws.specs.FreeRun.{Moment, LeadsOnThreads}
+use Rattle.sysv_thread_laws.specs.Execution.{Moment, LeadsOnThreads}
 use Rattle.sysv_thread_laws.specs.Order.{Called}
 use Rattle.sysv_thread_laws.specs.OrderIsRun.{opening_for}
-use Rattle.sysv_thread_laws.specs.Crew.{IsServed}
-use Rattle.sysv_thread_laws.specs.Life.{call_of}
+use Rattle.sysv_thread_laws.specs.Team.{IsServed}
+use Rattle.sysv_thread_laws.specs.Lifetime.{call_of}
 use Rattle.sysv_thread_laws.specs.Hiring.{all_of, EveryHiringObeys, EveryStopRemoves}
 use Rattle.sysv_thread_laws.specs.Working as working
 use Rattle.sysv_thread_laws.specs.Working.{Works}
@@ -209,7 +209,7 @@ module _ (right : EachAnswerIsRight) (asked : EachOpIsAskedFor) where
   one_more : (slot : ℕ) (worn found : Bool) (mid new : Pass) → StopsAll mid slot worn → StopsAlone slot mid new found →
       StopsAll new (suc slot) (worn || found)
   one_more slot worn found mid new rest here = record {
-    vacant = λ k low. elim (same_place k slot) [
+    vacant = λ k low. elim (cases_eq k slot) [
       | inl same ↦ subst (λ n. IsVacant n new) (sym same) here.vacant
       | inr apart ↦ here.leaves k (rest.vacant k (omega (arith, low, apart)))
     ];
@@ -226,7 +226,7 @@ module _ (right : EachAnswerIsRight) (asked : EachOpIsAskedFor) where
 
 -- ---- what is queued
 
-empty_slot : SeenHistories → (seat : SlotSeat) (c : Closing Slot) (h : History) → SlotStandsFor [] seat.gate.opening →
+empty_slot : SeenHistories → (seat : SlotSeat) (c : Closing Slot) (h : History) → SlotRepresents [] seat.gate.opening →
     (closes : Closes (Moves SlotMoves slot_counts) seat c) → entries slot_entry seat.gate.opening closes.log ≡ h →
     live h ≡ None → waiting_in c.object ≡ 0
 empty_slot histories seat c h fresh closes part none = by_object c.object closes.object
@@ -265,7 +265,7 @@ works_more old made mid _ _ first (working.asks_row {made = more} {mid = last} s
 
 -- ---- the law
 
--- What the turns of every free run say of the identifiers.
+-- What the turns of every execution say of the identifiers.
 abbrev HasFacts : Type 0
 HasFacts = (o : Opening) (list : List Moment) (responses : List Response) (w : World) →
     LeadsOnThreads (opening o) list responses w → Facts w.turns
@@ -305,8 +305,8 @@ stop_empties histories hiring stopping no_mark right asked facts generation bloc
     let parts = end.all.parts in
     let seats = last.seats in
     let items = end.parts.slots.items in
-    let fresh : All (SlotStandsFor []) (map (λ (g : Gateway Slot). g.opening) (gates_of seats.slots)) =
-    subst (λ (gs : List (Gateway Slot)). All (SlotStandsFor []) (map (λ (g : Gateway Slot). g.opening) gs))
+    let fresh : All (SlotRepresents []) (map (λ (g : Gateway Slot). g.opening) (gates_of seats.slots)) =
+    subst (λ (gs : List (Gateway Slot)). All (SlotRepresents []) (map (λ (g : Gateway Slot). g.opening) gs))
     (sym fits.slots) opened.slots.1 in
     let same_long : length seats.slots ≡ length items =
     as_long (Closes (Moves SlotMoves slot_counts)) seats.slots items end.all.slots in

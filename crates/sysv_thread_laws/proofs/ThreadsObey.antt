@@ -18,15 +18,15 @@ use Rattle.sysv_core.proofs.Histories.{turn_of}
 use Rattle.sysv_core.proofs.BlocksConserved.{BlockLaws, stands_conserves, resumed_holds, begun_holds}
 use Rattle.sysv_core.proofs.StepKeepsKind.{later_of, blocks_later, begun_later, resumed_later}
 use Rattle.sysv_core.proofs.SoundStays.{own_still, later_installs, turn_sound, look_sound}
-use Rattle.sysv_core.proofs.Life.{begun_none, resumed_none}
-use Rattle.sysv_core.proofs.LifeGoesOn.{lives_stand}
+use Rattle.sysv_core.proofs.Lifetime.{begun_none, resumed_none}
+use Rattle.sysv_core.proofs.LifetimeGoesOn.{lives_stand}
 use Rattle.sysv_core.proofs.WorldsObey.{Inv, Laws, stands_there, goes_on, starts, turns_keep, opens, lawful}
-use Rattle.sysv_thread_laws.specs.FreeRun.{starting_with, Moment, Starts, TakesTurn, Wakes, Reads, StartsCall}
-use Rattle.sysv_thread_laws.specs.FreeRun.{TakesItsTurn, WakesUp, ReadsRow, Brings, LeadsOnThreads}
+use Rattle.sysv_thread_laws.specs.Execution.{starting_with, Moment, Starts, TakesTurn, Wakes, Reads, StartsCall}
+use Rattle.sysv_thread_laws.specs.Execution.{TakesItsTurn, WakesUp, ReadsRow, Brings, LeadsOnThreads}
 use Rattle.sysv_thread_laws.specs.OnThreads.{IsRowRead, IsMadeOrRead, ObeysOnThreads}
 use Rattle.sysv_thread_laws.proofs.RowReadIsNeutral.{row_keeps}
 
--- What holds of each world of a free run.
+-- What holds of each world of an execution.
 abbrev IsHeld : World → List Response → Type 0
 IsHeld w responses = Inv IsRowRead w responses
 
@@ -128,7 +128,7 @@ module _
         subst (IsHeld (in_state w (suc place) call on)) (append-nil responses)
         (goes_on w responses i place d there w.turns on
         (look_sound more b w i.sound place call d on refl there l (resumed_none wait value) (resumed_holds wait value))
-        (lives_stand w.turns w.actors place (Some d) call on there refl (resumed_none wait value) i.life)
+        (lives_stand w.turns w.actors place (Some d) call on there refl (resumed_none wait value) i.lifetime)
         (λ other apart. refl) (record { plays = resumes value here.plays reached; quiet = here.quiet }) i.made)
 
   nothing_given : (after : World) (responses one : List Response) → one ≡ [] → IsHeld after responses →

@@ -1,4 +1,4 @@
--- Each queue of a free run is installed in the slot of its identifier, and the identifier is not
+-- Each queue of an execution is installed in the slot of its identifier, and the identifier is not
 -- negative.
 use Rattle.std.proofs.Common.{◌≡◌, ◌<◌, ℕ, ℤ, pos, true, false, List, [], ◌∷◌, map}
 use Rattle.std.proofs.Common.{refl, sym, ap, subst, ◌∙◌, arith, int_lt, length}
@@ -12,7 +12,7 @@ use Rattle.sysv_model.specs.Turn.{Op, AtSlot, Turn, registry_history}
 use Rattle.sysv_model.specs.Turns.{Numbered}
 use Rattle.sysv_keys.specs.RegistryLaw.{RegistryLaw}
 use Rattle.sysv_core.specs.Removed.{IsInItsSlot}
-use Rattle.sysv_core.proofs.Life.{installing, does, done, same_int, Facts, ordered, made_for}
+use Rattle.sysv_core.proofs.Lifetime.{installing, does, done, same_int, Facts, ordered, made_for}
 use Rattle.sysv_thread_laws.specs.OrderIsRun.{Renamed, renamed_turn}
 use Rattle.sysv_thread_laws.proofs.RemovalAlone.{IsWellInstalled}
 

@@ -15,7 +15,7 @@ use Rattle.sysv_thread_laws.specs.Order.{Called}
 use Rattle.sysv_bank.specs.Banks.{Each3}
 use Rattle.sysv_service.specs.Seats.{Gates}
 use Rattle.sysv_thread_laws.specs.Hiring.{first_pass, Gives, TakesIn, Hires}
-use Rattle.sysv_thread_laws.specs.Life.{any_moment}
+use Rattle.sysv_thread_laws.specs.Lifetime.{any_moment}
 use Rattle.sysv_service.specs.Ran.{Pass}
 use Rattle.sysv_service.specs.Told.{TellsRow}
 use Rattle.sysv_thread_laws.specs.Working as working

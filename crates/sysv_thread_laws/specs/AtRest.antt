@@ -1,4 +1,4 @@
--- An order of turns when no call of it is under way: each call is over, or was left at a wait. Then
+-- An order of turns when no call of it is pending: each call is over, or was left at a wait. Then
 -- no call holds a block, and no key is bound to nothing. It is not claimed that every order reaches
 -- this state (this project's profile).
 use Rattle.std.specs.Prelude.{◌≡◌, ℕ, ◌+◌, true, List, All}

@@ -5,7 +5,7 @@ use Rattle.std.specs.List.{AllByRecursion, FoldsTo, flat_map, sum_by}
 use Rattle.sysv_steps.specs.Call.{MsgctlRmid}
 use Rattle.sysv_steps.specs.State.{Ending, State, Over}
 use Rattle.sysv_thread_laws.specs.Order.{Called}
-use Rattle.sysv_thread_laws.specs.Crew.{IsServed}
+use Rattle.sysv_thread_laws.specs.Team.{IsServed}
 use Rattle.sysv_bank.specs.Banks.{Each3}
 use Rattle.sysv_service.specs.Opened.{AreOpen, all_opened}
 use Rattle.sysv_service.specs.Seats.{Gates, AreOf}

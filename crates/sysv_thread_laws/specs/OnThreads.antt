@@ -1,4 +1,4 @@
--- The headline of threads. A free run obeys every law of the headline but for that of waits, of
+-- The headline of threads. An execution obeys every law of the headline but for that of waits, of
 -- which ParkedOnThreads.antt has what holds: a call may have read its counts at any time before.
 -- All else holds: every accepted message is delivered exactly once, discarded when its queue is
 -- removed, or still queued; each receive takes the message that its selector names; messages of one
@@ -13,7 +13,7 @@ use Rattle.sysv_model.specs.Turn.{AtSlot, Turn}
 use Rattle.sysv_core.specs.World.{World, Opening, Invocation, Response, opening}
 use Rattle.sysv_core.specs.Forgotten.{AllTakeTheirRows}
 use Rattle.sysv_core.specs.Headline.{IsLawful}
-use Rattle.sysv_thread_laws.specs.FreeRun.{nobody, Moment, LeadsOnThreads}
+use Rattle.sysv_thread_laws.specs.Execution.{nobody, Moment, LeadsOnThreads}
 
 -- The turn reads a row and belongs to no call.
 abbrev pub IsRowRead : Turn → Type 0
@@ -33,7 +33,7 @@ abbrev pub EveryThreadedRunObeys : Type 0
 EveryThreadedRunObeys = (o : Opening) (list : List Moment) (responses : List Response) (w : World) →
     LeadsOnThreads (opening o) list responses w → ObeysOnThreads o w responses
 
--- In every free run each forget takes a row away: that of the identifier that was removed.
+-- In every execution each forget takes a row away: that of the identifier that was removed.
 abbrev pub EachForgetTakesItsRow : Type 0
 EachForgetTakesItsRow = (o : Opening) (list : List Moment) (responses : List Response) (w : World) →
     LeadsOnThreads (opening o) list responses w → AllTakeTheirRows w.turns

@@ -21,7 +21,7 @@ shows_row op = false
 
 -- A call of a pass: the number of the pass, the caller's credentials, the call's arguments, the
 -- released count that it read at its start, the turns that it made, in order, and its state. The
--- call is over, or it was left at a wait and remains there for good, or it is still under way.
+-- call is over, or it was left at a wait and remains there for good, or it is still pending.
 pub record Called : Type 0 where
   pub by : ℕ
   pub cred : Cred

@@ -1,9 +1,9 @@
--- Every order of turns, with the calls that its passes made, is a free run. The run has the turns
+-- Every order of turns, with the calls that its passes made, is an execution. The run has the turns
 -- of the order, in the same places, and the calls with their results. So the headline of threads
 -- holds of them.
 --
 -- In the run each call is the only one of an actor of its own, and all calls start before the first
--- turn. This loses nothing. A call of a free run may read any released count at its start, and no
+-- turn. This loses nothing. A call of an execution may read any released count at its start, and no
 -- law of the headline depends on when a call started, or compares two calls of one actor. A pass
 -- makes other calls after one that it left at a wait; an actor could not, because it is in that
 -- call for good. The run keeps that a pass makes one call after the other: this decides which of
@@ -16,7 +16,7 @@ use Rattle.sysv_model.specs.Turn.{Op, Turn, ops_of}
 use Rattle.sysv_objects.specs.LegalOp.{AreLegal}
 use Rattle.sysv_core.specs.World.{World, Opening, Invocation, Doing, Response, opening, doing_in}
 use Rattle.sysv_core.specs.AnswerLaw.{endings_of, ended}
-use Rattle.sysv_thread_laws.specs.FreeRun.{nobody, Moment, LeadsOnThreads}
+use Rattle.sysv_thread_laws.specs.Execution.{nobody, Moment, LeadsOnThreads}
 use Rattle.sysv_thread_laws.specs.OnThreads.{ObeysOnThreads}
 use Rattle.sysv_model.specs.Turns.{Numbered, turns_of}
 use Rattle.sysv_thread_laws.specs.Order.{shows_row, Called, is_in_call_of, AreAll}
@@ -90,7 +90,7 @@ pub record HasTurnsOf (order : List Numbered) (calls : List Called) (turns : Lis
 
 -- ---- the law
 
--- A free run that is the order with its calls.
+-- An execution that is the order with its calls.
 pub record IsRunWith (generation blocks : ℕ) (order : List Numbered) (calls : List Called) : Type 0 where
   pub moments : List Moment
   pub responses : List Response
@@ -107,7 +107,7 @@ pub record IsRunWith (generation blocks : ℕ) (order : List Numbered) (calls : 
   -- All laws of the headline of threads hold of the run.
   pub obeys : ObeysOnThreads (opening_for generation blocks calls) world responses
 
--- Every order of turns with legal replies, with the calls that its passes made, is a free run of
+-- Every order of turns with legal replies, with the calls that its passes made, is an execution of
 -- the world that is opened with that generation of identifiers and that number of blocks.
 abbrev pub EveryOrderIsARun : Type 0
 EveryOrderIsARun = (generation blocks : ℕ) (order : List Numbered) (calls : List Called) →

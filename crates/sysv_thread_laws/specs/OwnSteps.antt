@@ -12,7 +12,7 @@ use Rattle.sysv_steps.specs.Call.{SystemCall, Msgget, Msgsnd, Msgrcv, MsgctlStat
 use Rattle.sysv_steps.specs.State.{Phase, AtInstall, Wait, Ending, State, Goes, Waits}
 use Rattle.sysv_steps.specs.Begin.{is_refused, begin}
 use Rattle.sysv_steps.specs.Played.{Plays, begins, steps, resumes}
-use Rattle.sysv_core.specs.World.{World, Opening, Invocation, Doing, Response, Happening, Step, opening, actor_at}
+use Rattle.sysv_core.specs.World.{World, Opening, Invocation, Doing, Response, Transition, Step, opening, actor_at}
 use Rattle.sysv_core.specs.Run.{Leads}
 use Rattle.sysv_service.specs.Ran as ran
 use Rattle.sysv_service.specs.Ran.{Pass, Ran}
@@ -84,7 +84,7 @@ EachCallComesToFewGates may = (cred : Cred) (asked : SystemCall) (released : ℕ
 -- ---- in a world
 
 -- The steps of an actor at these times.
-abbrev pub steps_at : ℕ → List ℕ → List Happening
+abbrev pub steps_at : ℕ → List ℕ → List Transition
 steps_at actor times = map (Step actor) times
 
 -- The call is over, or its actor waits in it.
@@ -106,7 +106,7 @@ pub record ComesToRest (w : World) (actor : ℕ) (call : Invocation) (most : ℕ
 -- A call that is before a step is over or waits after at most that number of steps of its actor, if
 -- no other actor makes a step between them and the world is not worn out before.
 abbrev pub EachCallComesToRest : Type 0
-EachCallComesToRest = (o : Opening) (list : List Happening) (responses : List Response) (w : World) →
+EachCallComesToRest = (o : Opening) (list : List Transition) (responses : List Response) (w : World) →
     Leads (opening o) list responses w → (actor : ℕ) (d : Doing) (phase : Phase) →
     actor_at w.actors actor ≡ Some (Some d) → d.state ≡ Goes phase → w.steps + most_turns d.call.asked ≤ WORN →
     (times : List ℕ) → most_turns d.call.asked ≤ length times →

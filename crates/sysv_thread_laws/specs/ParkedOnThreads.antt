@@ -16,7 +16,7 @@ use Rattle.sysv_steps.specs.Resume.{awaited, goal_of}
 use Rattle.sysv_steps.specs.Answers.{is_at_slot}
 use Rattle.sysv_core.specs.World.{World, Opening, Invocation, Doing, Response, opening, value_of}
 use Rattle.sysv_core.specs.Parked.{HasTooFewBlocks, HasReason, IsParked}
-use Rattle.sysv_thread_laws.specs.FreeRun.{Moment, LeadsOnThreads}
+use Rattle.sysv_thread_laws.specs.Execution.{Moment, LeadsOnThreads}
 use Rattle.sysv_thread_laws.specs.Order.{Called}
 use Rattle.sysv_thread_laws.specs.OrderIsRun.{started_at, IsRunWith}
 
@@ -45,7 +45,7 @@ abbrev pub HasReasonOnThreads : World → Invocation → Wait → Type 0
 HasReasonOnThreads w call (OnReleased goal send) = WaitsForBlocks w call goal send
 HasReasonOnThreads w call wait = HasReason w call.cred call.asked wait
 
--- Each call of a free run that waits below its goal has its reason.
+-- Each call of an execution that waits below its goal has its reason.
 abbrev pub EveryThreadedRunParksRightly : Type 0
 EveryThreadedRunParksRightly = (o : Opening) (list : List Moment) (responses : List Response) (w : World) →
     LeadsOnThreads (opening o) list responses w → (place : ℕ) (d : Doing) (wait : Wait) → IsParked w place d wait →

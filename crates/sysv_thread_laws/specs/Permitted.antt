@@ -12,9 +12,9 @@ use Rattle.sysv_model.specs.Turn.{Op, AtSlot, Turn, slot_history, ops_of}
 use Rattle.sysv_model.specs.Turns.{Numbered, turns_of}
 use Rattle.sysv_queue.specs.Granted.{MayRead, MayWrite, MayAsAsked, MayControl, MayLimit}
 use Rattle.sysv_objects.specs.LegalOp.{AreLegal}
-use Rattle.sysv_core.specs.World.{World, Opening, Invocation, Happening, Response, opening}
+use Rattle.sysv_core.specs.World.{World, Opening, Invocation, Transition, Response, opening}
 use Rattle.sysv_core.specs.Run.{Leads}
-use Rattle.sysv_thread_laws.specs.FreeRun.{Moment, LeadsOnThreads}
+use Rattle.sysv_thread_laws.specs.Execution.{Moment, LeadsOnThreads}
 use Rattle.sysv_thread_laws.specs.Order.{Called, AreAll}
 
 -- ---- one turn
@@ -67,10 +67,10 @@ pub record ArePermitted (calls : List Invocation) (turns : List Turn) : Type 0 w
 
 -- This holds of every world to which a run leads.
 abbrev pub EveryRunIsPermitted : Type 0
-EveryRunIsPermitted = (o : Opening) (list : List Happening) (responses : List Response) (w : World) →
+EveryRunIsPermitted = (o : Opening) (list : List Transition) (responses : List Response) (w : World) →
     Leads (opening o) list responses w → ArePermitted w.calls w.turns
 
--- The same of a free run.
+-- The same of an execution.
 abbrev pub EveryThreadedRunIsPermitted : Type 0
 EveryThreadedRunIsPermitted = (o : Opening) (list : List Moment) (responses : List Response) (w : World) →
     LeadsOnThreads (opening o) list responses w → ArePermitted w.calls w.turns

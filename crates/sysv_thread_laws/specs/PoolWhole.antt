@@ -1,4 +1,4 @@
--- What is left of a closed service if all passes have come home, and each of their calls is over or
+-- What is left of a closed service if all passes have been joined, and each of their calls is over or
 -- was left at a wait. No gate is held, and all blocks are free: the pool's own, and those of the
 -- queued messages. This project's profile.
 use Rattle.std.specs.Prelude.{◌≡◌, ℕ, List, [], ◌∷◌, ◌++◌, All}
@@ -10,7 +10,7 @@ use Rattle.sysv_service.specs.Seats.{Gates, AreOf}
 use Rattle.sysv_service.specs.declared.closing.Closed.{Closed}
 use Rattle.sysv_service.specs.Closing.{IsCounted}
 use Rattle.sysv_thread_laws.specs.Hiring.{first_pass, Hires, all_of}
-use Rattle.sysv_thread_laws.specs.Life.{Lives}
+use Rattle.sysv_thread_laws.specs.Lifetime.{Lives}
 use Rattle.sysv_service.specs.Ran.{Pass}
 use Rattle.sysv_service.specs.TurnsLeft.{EachGateHasTurnsLeft}
 use Rattle.sysv_thread_laws.specs.Working.{Works}

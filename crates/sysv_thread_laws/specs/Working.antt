@@ -13,7 +13,7 @@ use Rattle.sysv_thread_laws.specs.Order.{Called}
 use Rattle.sysv_service.specs.Reading.{Reads}
 use Rattle.sysv_service.specs.Ran.{Pass, Ran}
 use Rattle.sysv_service.specs.Told.{TellsRow}
-use Rattle.sysv_thread_laws.specs.Life.{any_moment, call_of}
+use Rattle.sysv_thread_laws.specs.Lifetime.{any_moment, call_of}
 
 -- The pass made these calls, in this order. Each is over or was left at a wait.
 pub data Works (old : Pass) : List Called → Pass → Type 0 where

@@ -1,12 +1,12 @@
-//! Laws of free runs.
+//! Laws of executions.
 
 ghost use Rattle.sysv_service.specs.TurnsLeft.{NoMarkWithTurnsLeft};
 ghost use Rattle.sysv_steps.specs.Stepping.{no_moment};
 ghost use Rattle.sysv_thread_laws.specs.AfterStop.{EveryStopEmpties};
 ghost use Rattle.sysv_thread_laws.specs.AtRest.{OrdersAtRest};
-ghost use Rattle.sysv_thread_laws.specs.Crew.{EveryLastPassIsWhole, EveryServiceIsARun};
+ghost use Rattle.sysv_thread_laws.specs.Team.{EveryLastPassIsWhole, EveryServiceIsARun};
 ghost use Rattle.sysv_thread_laws.specs.Hiring.{EveryHiringObeys, EveryStopRemoves};
-ghost use Rattle.sysv_thread_laws.specs.Life.{EachRunIsAtAnyMoment, EveryServiceObeys};
+ghost use Rattle.sysv_thread_laws.specs.Lifetime.{EachRunIsAtAnyMoment, EveryServiceObeys};
 ghost use Rattle.sysv_thread_laws.specs.OnThreads.{EachForgetTakesItsRow, EveryThreadedRunObeys};
 ghost use Rattle.sysv_thread_laws.specs.Order.{NoCallReadsARow};
 ghost use Rattle.sysv_thread_laws.specs.OrderIsRun.{EveryOrderIsARun};
@@ -15,8 +15,8 @@ ghost use Rattle.sysv_thread_laws.specs.ParkedOnThreads.{EveryOrderParksRightly,
 ghost use Rattle.sysv_thread_laws.specs.Permitted.{EveryOrderIsPermitted, EveryRunIsPermitted, EveryThreadedRunIsPermitted};
 ghost use Rattle.sysv_thread_laws.specs.Points.{EachPointParksRightly};
 ghost use Rattle.sysv_thread_laws.specs.PoolWhole.{EveryHiringLeavesThePoolWhole, EveryPoolIsWhole, NoHiringLeavesAGateHeld};
-ghost use Rattle.sysv_thread_laws.specs.RunIsFree.{EachRunIsFree};
-ghost use Rattle.sysv_thread_laws.specs.WorkedCrew.{WorkedCrew};
+ghost use Rattle.sysv_thread_laws.specs.RunIsExecution.{EachRunIsAnExecution};
+ghost use Rattle.sysv_thread_laws.specs.WorkedTeam.{WorkedTeam};
 ghost use Rattle.sysv_thread_laws.specs.WorkedOrder.{WorkedOrder};
 
 use sysv_core::{each_world_is_sound, every_run_obeys, some_step};
@@ -51,7 +51,7 @@ pub fn every_threaded_run_obeys()
     after_removal();
 }
 
-/// States that each forget in a free run takes a row away: the row of the identifier that was
+/// States that each forget in an execution takes a row away: the row of the identifier that was
 /// removed, which exists until then.
 pub fn each_forget_takes_its_row()
     ensures { EachForgetTakesItsRow }
@@ -59,13 +59,13 @@ pub fn each_forget_takes_its_row()
     every_threaded_run_obeys();
 }
 
-/// States that each run of a world without a preset is a free run.
-pub fn each_run_is_free()
-    ensures { EachRunIsFree }
+/// States that each run of a world without a preset is an execution.
+pub fn each_run_is_an_execution()
+    ensures { EachRunIsAnExecution }
 {}
 
 /// States that every order of turns with legal replies, with the calls that its passes made, is a
-/// free run: a list of moments leads to a world that has the turns of the order and the calls with
+/// execution: a list of moments leads to a world that has the turns of the order and the calls with
 /// their results, and that obeys the laws.
 pub fn every_order_is_a_run()
     ensures { EveryOrderIsARun }
@@ -79,7 +79,7 @@ pub fn no_call_reads_a_row()
     ensures { NoCallReadsARow }
 {}
 
-/// States that, when no call of an order is under way, each block is free or under a queued
+/// States that, when no call of an order is pending, each block is free or under a queued
 /// message, and each row is settled and its queue is live.
 pub fn orders_at_rest()
     ensures { OrdersAtRest }
@@ -90,7 +90,7 @@ pub fn orders_at_rest()
 /// States that, after all passes of a service were joined into one, the order of all turns that its
 /// close finds is a run with all calls that its passes made, if each reply in it is legal and no
 /// call found a gate worn out. The one pass that is left has the whole service.
-pub fn every_service_that_came_home_is_a_run()
+pub fn every_joined_service_is_a_run()
     ensures run { EveryServiceIsARun }
     ensures whole { EveryLastPassIsWhole }
 {
@@ -111,12 +111,12 @@ pub fn worked_order()
 }
 
 /// States that the worked order is that of a service of three passes: it is opened, two passes are
-/// split off, calls are made, and all passes come home. Without one of the calls, they do not.
-pub fn worked_crew()
-    ensures { WorkedCrew }
+/// split off, calls are made, and all passes are joined. Without one of the calls, that is not so.
+pub fn worked_team()
+    ensures { WorkedTeam }
 {
     worked_order();
-    every_service_that_came_home_is_a_run();
+    every_joined_service_is_a_run();
 }
 
 /// States that the calls of all passes of a service are one run of a world. The service was opened,
@@ -129,7 +129,7 @@ pub fn every_service_obeys<C: Clock>(clock: &C)
     ensures stamped { EachRunIsAtAnyMoment (C.may clock.now) }
     ensures unstamped { EachRunIsAtAnyMoment no_moment }
 {
-    every_service_that_came_home_is_a_run();
+    every_joined_service_is_a_run();
 }
 
 /// States the same of a service whose first pass gave a pass to each worker and took all of them
@@ -146,12 +146,12 @@ pub fn every_hiring_obeys()
     ensures stops { EveryStopRemoves }
     ensures unmarked { NoMarkWithTurnsLeft }
 {
-    every_service_that_came_home_is_a_run();
+    every_joined_service_is_a_run();
 }
 
 /// States that no gate is held and all blocks of the pool are free after the close of a service, if
-/// all passes have come home, each of their calls is over or was left at a wait, and no call found
-/// a gate worn out.
+/// all passes have been joined, each of their calls is over or was left at a wait, and no call
+/// found a gate worn out.
 ///
 /// The clause `hired` states the same of a service whose first pass gave a pass to each worker and
 /// took all of them back, if fewer than 2^62 turns were made at each object, with tickets from 0
@@ -163,14 +163,14 @@ pub fn every_pool_is_whole()
     ensures none_held { NoHiringLeavesAGateHeld }
 {
     seen_histories();
-    every_service_that_came_home_is_a_run();
+    every_joined_service_is_a_run();
 }
 
 /// States that each send that was accepted, each message that was taken, each report of attributes,
 /// each queue that was found, each change and each removal was permitted: the queue was live at
 /// that turn, and its permissions allowed it to the credentials with which the call was started.
 ///
-/// The clause `runs` states this of every world to which a run leads, `threads` of every free run,
+/// The clause `runs` states this of every world to which a run leads, `threads` of every execution,
 /// and `orders` of every order of turns with legal replies.
 pub fn each_effect_is_permitted()
     ensures runs { EveryRunIsPermitted }
@@ -230,7 +230,7 @@ pub fn every_stop_empties()
     every_hiring_obeys();
 }
 
-/// States that each call of a free run that waits below its goal has the reason that the headline
+/// States that each call of an execution that waits below its goal has the reason that the headline
 /// names: a receive has nothing to take, a send has no room, and a get waits for a row that another
 /// call still has to settle or forget. For a send that waits for blocks this holds if it had read
 /// no more of the released count than there was when it last looked at its queue. Too few blocks

@@ -30,8 +30,8 @@ abbrev refused : Fault → Result (Option Request) Fault
 refused f = Err f
 
 -- The bytes of a whole frame, and those after it.
-whole_parts : (n : ℕ) (bytes spelling : List ℕ) → take n bytes ≡ spelling → bytes ≡ spelling ++ drop n bytes
-whole_parts n bytes spelling e = sym (take-append-drop n bytes) ∙ ap (λ l. l ++ drop n bytes) e
+whole_parts : (n : ℕ) (bytes encoding : List ℕ) → take n bytes ≡ encoding → bytes ≡ encoding ++ drop n bytes
+whole_parts n bytes encoding e = sym (take-append-drop n bytes) ∙ ap (λ l. l ++ drop n bytes) e
 
 whole_answer : (n : ℕ) (bytes : List ℕ) (h : HoldsRequest n bytes) → RequestAt bytes (found h.1.0)
 whole_answer n bytes h = (h.1.1, drop n bytes, h.1.2, whole_parts n bytes _ h.1.3)

@@ -1,4 +1,4 @@
--- A number that is taken from the start of some bytes is spelled by them.
+-- A number that is taken from the start of some bytes is encoded by them.
 use Rattle.std.proofs.Common.{◌≡◌, ℕ, ℤ, ◌+◌, ◌^◌, ◌<◌, ◌≤◌, List, [], ◌++◌, length, get_or, take, drop, sym, ap, ◌∙◌}
 use Rattle.std.proofs.Common.{arith, length-take, inl, inr}
 use Rattle.std.specs.Int.{w16, w32, w64, to_be_bytes, from_be_bytes, cast_signed, cast_unsigned}
@@ -19,10 +19,10 @@ IsBytes-take n bytes h i =
       | inr le ↦ rw (get_or_past (take n bytes) i 0 (omega (arith, length-take n bytes))) (omega arith)
     ]
 
--- The first bytes, spelled again, and the bytes after them.
-spelled_anew : (len : ℕ) (bytes front rest spelling : List ℕ) → front ≡ take len bytes → rest ≡ drop len bytes →
-    spelling ≡ front → bytes ≡ spelling ++ rest
-spelled_anew len bytes front rest spelling f r s = rw (s, f, r) (sym (take-append-drop len bytes))
+-- The first bytes, encoded again, and the bytes after them.
+encoded_anew : (len : ℕ) (bytes front rest encoding : List ℕ) → front ≡ take len bytes → rest ≡ drop len bytes →
+    encoding ≡ front → bytes ≡ encoding ++ rest
+encoded_anew len bytes front rest encoding f r s = rw (s, f, r) (sym (take-append-drop len bytes))
 
 IsBytes-front : (len : ℕ) (bytes front : List ℕ) → front ≡ take len bytes → IsBytes bytes → IsBytes front
 IsBytes-front len bytes front f fits = rw f (IsBytes-take len bytes fits)
@@ -34,21 +34,21 @@ pub u16_front : (bytes front rest : List ℕ) (n : ℕ) → 2 ≤ length bytes �
     rest ≡ drop 2 bytes → n ≡ from_be_bytes w16 front → bytes ≡ u16_bytes n ++ rest
 unfolding u16_bytes
 u16_front bytes front rest n within fits f r e =
-    spelled_anew 2 bytes front rest (u16_bytes n) f r
+    encoded_anew 2 bytes front rest (u16_bytes n) f r
     (be_bytes_2 front n (length_front 2 bytes front f within) (IsBytes-front 2 bytes front f fits) e)
 
 pub u32_front : (bytes front rest : List ℕ) (n : ℕ) → 4 ≤ length bytes → IsBytes bytes → front ≡ take 4 bytes →
     rest ≡ drop 4 bytes → n ≡ from_be_bytes w32 front → bytes ≡ u32_bytes n ++ rest
 unfolding u32_bytes
 u32_front bytes front rest n within fits f r e =
-    spelled_anew 4 bytes front rest (u32_bytes n) f r
+    encoded_anew 4 bytes front rest (u32_bytes n) f r
     (be_bytes_4 front n (length_front 4 bytes front f within) (IsBytes-front 4 bytes front f fits) e)
 
 pub u64_front : (bytes front rest : List ℕ) (n : ℕ) → 8 ≤ length bytes → IsBytes bytes → front ≡ take 8 bytes →
     rest ≡ drop 8 bytes → n ≡ from_be_bytes w64 front → bytes ≡ u64_bytes n ++ rest
 unfolding u64_bytes
 u64_front bytes front rest n within fits f r e =
-    spelled_anew 8 bytes front rest (u64_bytes n) f r
+    encoded_anew 8 bytes front rest (u64_bytes n) f r
     (be_bytes_8 front n (length_front 8 bytes front f within) (IsBytes-front 8 bytes front f fits) e)
 
 -- Four bytes with nothing after them.

@@ -1,4 +1,4 @@
--- Replies with the same spelling are equal.
+-- Replies with the same encoding are equal.
 use Rattle.std.proofs.Common.{◌≡◌, ℕ, ◌^◌, ◌<◌, ◌≤◌, true, false, cond, eqb, List, [], ◌∷◌, ◌++◌, length, Option, None}
 use Rattle.std.proofs.Common.{Some, refl, sym, ap, subst, ◌∙◌, append-nil, arith, length-append}
 use Rattle.std.specs.Prelude.{ℤ}
@@ -17,7 +17,7 @@ use Rattle.sysv_wire.specs.declared.reply.ReplyContent.TheVariants.{Refused, Hel
 use Rattle.sysv_wire.specs.declared.reply.ReplyContent.TheVariants.{Set, Rm, Row}
 use Rattle.sysv_wire.specs.declared.reply.Reply.{Reply}
 use Rattle.sysv_wire.specs.Numbers.{u16_bytes, u32_bytes, u64_bytes, i32_bytes, i64_bytes}
-use Rattle.sysv_wire.specs.OneSpelling.{OneReply}
+use Rattle.sysv_wire.specs.OneEncoding.{OneReply}
 use Rattle.sysv_wire.specs.Replies.{FitsPerm, FitsStat, FitsRow, FitsContent, IsAnswer, error_number, perm_fields}
 use Rattle.sysv_wire.specs.Replies.{count_fields, time_fields, stat_fields, row_fields, content_fields, content_text}
 use Rattle.sysv_wire.specs.Replies.{gives_text}

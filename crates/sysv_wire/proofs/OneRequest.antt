@@ -1,4 +1,4 @@
--- Requests with the same spelling are equal.
+-- Requests with the same encoding are equal.
 use Rattle.std.proofs.Common.{◌≡◌, ℕ, ◌^◌, ◌<◌, ◌≤◌, true, false, cond, eqb, List, [], ◌∷◌, ◌++◌, length, refl, sym, ap}
 use Rattle.std.proofs.Common.{◌∙◌, arith, length-append}
 use Rattle.sysv_model.specs.declared.attributes.SetTo.{SetTo}
@@ -12,7 +12,7 @@ use Rattle.sysv_wire.specs.declared.request.Ask.{Ask}
 use Rattle.sysv_wire.specs.declared.request.Ask.TheVariants.{Hello, Get, Snd, Rcv, Stat, Set, Rm, Row}
 use Rattle.sysv_wire.specs.declared.request.Request.{Request}
 use Rattle.sysv_wire.specs.Frames.{op_number, version_number}
-use Rattle.sysv_wire.specs.OneSpelling.{OneRequest}
+use Rattle.sysv_wire.specs.OneEncoding.{OneRequest}
 use Rattle.sysv_wire.specs.Requests.{FitsAsk, ask_fields, ask_text, fields_len, has_text, op_of}
 use Rattle.sysv_wire.proofs.RequestLemmas.{length-ask_fields}
 use Rattle.sysv_wire.proofs.Apart.{fronts_alike, rests_alike, frames_alike, u32_same, i32_same, u32_step, i32_step}

@@ -25,7 +25,7 @@ use Rattle.sysv_wire.specs.OneAnswer.{ReplyAt, OneAnswerToReplies}
 use Rattle.sysv_wire.specs.Reading.{ReadsReply}
 use Rattle.sysv_wire.specs.Replies.{FitsReply, FitsContent, IsAnswer, IsAnswerLength, IsRestLength, error_number}
 use Rattle.sysv_wire.specs.Replies.{hello_len, perm_fields, count_fields, time_fields, stat_fields, row_fields}
-use Rattle.sysv_wire.specs.Replies.{content_fields, content_text, reply_spelling}
+use Rattle.sysv_wire.specs.Replies.{content_fields, content_text, reply_encoding}
 use Rattle.sysv_wire.specs.ReplyFaults.{IsNoError, IsWideAt, IsBadMark, IsBadAnswer, IsReplyRest, ReplyFault}
 use Rattle.sysv_wire.proofs.Apart.{rests_alike, frames_alike, u16_step}
 use Rattle.sysv_wire.proofs.OneRequest.{op_at, op_back, version_at, version_back}
@@ -227,7 +227,7 @@ whole_fits r text n left h =
     ∙ ap (fits_rest r.version (op_at r.op) (error_number r.result)) left
     ∙ reply_fits r.version r.op r.result text h.0 h.2
 
-whole_verdict : (r : Reply) (text rest : List ℕ) → FitsReply r text → verdict (reply_spelling r text ++ rest) ≡ Whole
+whole_verdict : (r : Reply) (text rest : List ℕ) → FitsReply r text → verdict (reply_encoding r text ++ rest) ≡ Whole
 unfolding frame
 whole_verdict r text rest h =
     let v = version_number r.version in
@@ -237,7 +237,7 @@ whole_verdict r text rest h =
     let len : length (v ∷ r.op ∷ e ∷ behind) ≡ n = omega arith in
     let most : n ≤ 8203 = omega (arith, reply_small r.result text h.2) in
     let left : n - 3 ≡ length behind = omega arith in
-    let parts : reply_spelling r text ++ rest ≡ u32_bytes n ++ (v ∷ r.op ∷ e ∷ (behind ++ rest)) =
+    let parts : reply_encoding r text ++ rest ≡ u32_bytes n ++ (v ∷ r.op ∷ e ∷ (behind ++ rest)) =
     append_assoc (u32_bytes (length (v ∷ r.op ∷ e ∷ behind))) (v ∷ r.op ∷ e ∷ behind) rest
     ∙ ap (λ m. u32_bytes m ++ (v ∷ r.op ∷ e ∷ (behind ++ rest))) len in
     ap verdict parts ∙ verdict_op n v r.op e (behind ++ rest) most
@@ -304,11 +304,11 @@ late_case v o e a text bytes h fits errors fields (inr bad) =
     bad_not v o a text bytes h fits (sym errors ∙ bad.0) fields bad.1
 
 late_not : (r : Reply) (text rest taken behind : List ℕ) → FitsReply r text → IsReplyRest BadField taken →
-    taken ++ behind ≡ reply_spelling r text ++ rest → ⊥
-late_not r text rest taken behind fits (n, v, o, e, bytes, low, high, wanted, why, spelled) both =
+    taken ++ behind ≡ reply_encoding r text ++ rest → ⊥
+late_not r text rest taken behind fits (n, v, o, e, bytes, low, high, wanted, why, encoded) both =
     let len : n ≡ length (version_number v ∷ op_number o ∷ e ∷ bytes) = omega (arith, why.0) in
     let whole : taken ≡ frame (version_number v ∷ op_number o ∷ e ∷ bytes) =
-    spelled ∙ frame_whole n (version_number v ∷ op_number o ∷ e ∷ bytes) len in
+    encoded ∙ frame_whole n (version_number v ∷ op_number o ∷ e ∷ bytes) len in
     let f = frames_alike (version_number v ∷ op_number o ∷ e ∷ bytes)
     (version_number r.version ∷ r.op ∷ error_number r.result ∷ (content_fields r.result ++ content_text r.result text))
     behind rest
@@ -336,8 +336,8 @@ broken_verdict input (inl (inr h)) =
     ap verdict h.5 ∙ verdict_head n part (omega (arith, h.3))
     ∙ v_head (4 + length part) n (get_or part 0 0) (get_or part 1 0) (get_or part 2 0) (omega arith) h.2 h.3
     (omega (arith, h.4))
-broken_verdict input (inr (n, v, o, e, part, low, high, wanted, why, spelled)) =
-    ap verdict spelled ∙ verdict_op n (version_number v) (op_number o) e part high
+broken_verdict input (inr (n, v, o, e, part, low, high, wanted, why, encoded)) =
+    ap verdict encoded ∙ verdict_op n (version_number v) (op_number o) e part high
     ∙ v_rest (7 + length part) n (version_number v) (op_number o) e (omega arith) low high
     (version_known (version_number v) (v, refl)) (number_small o) (rest_fits v o e (n - 3) wanted) (omega (arith, why))
 
@@ -367,9 +367,9 @@ record Late (input : List ℕ) : Type 0 where
   told : verdict input ≡ Whole
 
 late_verdict : (input taken rest : List ℕ) → IsReplyRest BadField taken → input ≡ taken ++ rest → verdict input ≡ Whole
-late_verdict input taken rest (n, v, o, x, bytes, low, high, wanted, why, spelled) e =
+late_verdict input taken rest (n, v, o, x, bytes, low, high, wanted, why, encoded) e =
     let parts : taken ++ rest ≡ u32_bytes n ++ (version_number v ∷ op_number o ∷ x ∷ (bytes ++ rest)) =
-    ap (λ l. l ++ rest) spelled ∙ append_assoc (u32_bytes n) (version_number v ∷ op_number o ∷ x ∷ bytes) rest in
+    ap (λ l. l ++ rest) encoded ∙ append_assoc (u32_bytes n) (version_number v ∷ op_number o ∷ x ∷ bytes) rest in
     ap verdict (e ∙ parts) ∙ verdict_op n (version_number v) (op_number o) x (bytes ++ rest) high
     ∙ v_whole (7 + length (bytes ++ rest)) n (version_number v) (op_number o) x (omega arith) low high
     (version_known (version_number v) (v, refl)) (number_small o) (rest_fits v o x (n - 3) wanted)

@@ -20,7 +20,7 @@ use Rattle.sysv_wire.specs.declared.frame.Version.{Version}
 use Rattle.sysv_wire.specs.Numbers.{u16_bytes, u32_bytes, i32_bytes, i64_bytes}
 use Rattle.sysv_wire.specs.Replies.{FitsContent, IsAnswer, IsRestLength, perm_fields, count_fields, time_fields}
 use Rattle.sysv_wire.specs.Replies.{stat_fields, row_fields, content_fields, content_text, gives_text, error_number}
-use Rattle.sysv_wire.specs.Replies.{reply_spelling}
+use Rattle.sysv_wire.specs.Replies.{reply_encoding}
 use Rattle.sysv_wire.specs.ReplyFaults.{AnswerFault, IsWideAt, RestFault, ReplyFault}
 use Rattle.sysv_wire.proofs.RequestLemmas.{frame_whole}
 use Rattle.sysv_wire.proofs.StreamLemmas.{Faults-after}
@@ -171,7 +171,7 @@ text_short Set text n empty len most = let none = ap length empty in omega (arit
 text_short Rm text n empty len most = let none = ap length empty in omega (arith, none)
 text_short (Row r) text n empty len most = let none = ap length empty in omega (arith, none)
 
--- A reply that was read is spelled by what was taken.
+-- A reply that was read is encoded by what was taken.
 pub reply_read : (result : ReplyContent) (n rest : ℕ) (version : Version) (op : Op) (byte number error told : ℕ)
     (head text : List ℕ) (a b c : Option (List ℕ))
     → head ≡ byte ∷ number ∷ error ∷ [] → version_number version ≡ byte → op_number op ≡ number
@@ -198,10 +198,10 @@ reply_read result n rest version op byte number error told head text a b c h v o
     )
 
 -- The head of a reply and its fields, and then its body.
-spelled_head : (version number error : ℕ) (fields text : List ℕ) →
+encoded_head : (version number error : ℕ) (fields text : List ℕ) →
     (u32_bytes (3 + length fields + length text) ++ (version ∷ number ∷ error ∷ fields)) ++ text
     ≡ frame (version ∷ number ∷ error ∷ (fields ++ text))
-spelled_head version number error fields text =
+encoded_head version number error fields text =
     append_assoc (u32_bytes (3 + length fields + length text)) (version ∷ number ∷ error ∷ fields) text
     ∙ frame_whole (3 + length fields + length text) (version ∷ number ∷ error ∷ (fields ++ text))
     (omega (arith, length-append fields text))
@@ -211,17 +211,17 @@ reply_is : (version : Version) (number : ℕ) (result : ReplyContent) (fields te
     → head
     ≡ u32_bytes (3 + length fields + length (content_text result text))
     ++ (version_number version ∷ number ∷ error_number result ∷ fields)
-    → head ++ content_text result text ≡ reply_spelling record { version = version; op = number; result = result } text
+    → head ++ content_text result text ≡ reply_encoding record { version = version; op = number; result = result } text
 reply_is version number result fields text head f h =
     ap (λ l. l ++ content_text result text) h
-    ∙ spelled_head (version_number version) number (error_number result) fields (content_text result text)
+    ∙ encoded_head (version_number version) number (error_number result) fields (content_text result text)
     ∙ ap (λ l. frame (version_number version ∷ number ∷ error_number result ∷ (l ++ content_text result text))) f
 
 pub reply_with_text : (version : Version) (number : ℕ) (result : ReplyContent) (fields text head bytes : List ℕ)
     (size : ℕ) → fields ≡ content_fields result → gives_text result ≡ true
     → bytes ≡ head → size ≡ length text
     → head ≡ u32_bytes (3 + length fields + size) ++ (version_number version ∷ number ∷ error_number result ∷ fields)
-    → bytes ++ text ≡ reply_spelling record { version = version; op = number; result = result } text
+    → bytes ++ text ≡ reply_encoding record { version = version; op = number; result = result } text
 reply_with_text version number result fields text head bytes size f has b s h =
     let kept : content_text result text ≡ text = ap (λ x. cond x text []) has in
     let all : head
@@ -233,7 +233,7 @@ pub reply_without_text : (version : Version) (number : ℕ) (result : ReplyConte
     → fields ≡ content_fields result → gives_text result ≡ false
     → bytes ≡ head
     → head ≡ u32_bytes (3 + length fields + 0) ++ (version_number version ∷ number ∷ error_number result ∷ fields)
-    → bytes ≡ reply_spelling record { version = version; op = number; result = result } text
+    → bytes ≡ reply_encoding record { version = version; op = number; result = result } text
 reply_without_text version number result fields text head bytes f has b h =
     let none : content_text result text ≡ [] = ap (λ x. cond x text []) has in
     let all : head

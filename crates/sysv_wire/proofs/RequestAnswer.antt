@@ -22,7 +22,7 @@ use Rattle.sysv_wire.specs.Numbers.{u32_bytes}
 use Rattle.sysv_wire.specs.OneAnswer.{RequestAt, OneAnswerToRequests}
 use Rattle.sysv_wire.specs.Reading.{ReadsRequest}
 use Rattle.sysv_wire.specs.Requests.{IsRequestLength, ask_fields, ask_text, fields_len, has_text, op_of}
-use Rattle.sysv_wire.specs.Requests.{request_spelling}
+use Rattle.sysv_wire.specs.Requests.{request_encoding}
 use Rattle.sysv_wire.proofs.OneRequest.{op_at, op_back, one_request}
 use Rattle.sysv_wire.proofs.RequestLemmas.{length-ask_fields}
 
@@ -205,7 +205,7 @@ request_length (Row i) text h =
     (omega (arith, l, m), omega (arith, l, m))
 
 whole_verdict : (r : Request) (text rest : List ℕ) → length text ≤ 8256 →
-    verdict (request_spelling r text ++ rest) ≡ Whole
+    verdict (request_encoding r text ++ rest) ≡ Whole
 unfolding frame
 whole_verdict r text rest h =
     let v = version_number r.version in
@@ -214,7 +214,7 @@ whole_verdict r text rest h =
     let n = 2 + length behind in
     let sizes = request_length r.ask text h in
     let len : length (v ∷ o ∷ behind) ≡ n = omega arith in
-    let parts : request_spelling r text ++ rest ≡ u32_bytes n ++ (v ∷ o ∷ (behind ++ rest)) =
+    let parts : request_encoding r text ++ rest ≡ u32_bytes n ++ (v ∷ o ∷ (behind ++ rest)) =
     append_assoc (u32_bytes (length (v ∷ o ∷ behind))) (v ∷ o ∷ behind) rest
     ∙ ap (λ m. u32_bytes m ++ (v ∷ o ∷ (behind ++ rest))) len in
     ap verdict parts ∙ verdict_op n v o (behind ++ rest) sizes.1

@@ -14,7 +14,7 @@ use Rattle.sysv_wire.specs.Frames.{op_number, version_number, frame}
 use Rattle.sysv_wire.specs.Numbers.{u32_bytes, i32_bytes, i64_bytes}
 use Rattle.sysv_wire.specs.Reading.{ReadsRequest}
 use Rattle.sysv_wire.specs.Requests.{FitsAsk, IsRequestLength, fields_len, ask_fields, ask_text, has_text, op_of}
-use Rattle.sysv_wire.specs.Requests.{request_spelling}
+use Rattle.sysv_wire.specs.Requests.{request_encoding}
 use Rattle.sysv_wire.specs.declared.request.Ask.{Ask}
 use Rattle.sysv_wire.specs.declared.request.Ask.TheVariants.{Hello, Get, Snd, Rcv, Stat, Set, Rm, Row}
 use Rattle.sysv_wire.proofs.StreamLemmas.{Faults-after}
@@ -85,10 +85,10 @@ pair_is (a ∷ b ∷ []) e = refl
 pair_is (a ∷ b ∷ d ∷ rest) e = absurd (omega (arith, e))
 
 -- The head of a frame and its fields, and then its body.
-pub spelled_head : (version number : ℕ) (fields text : List ℕ) →
+pub encoded_head : (version number : ℕ) (fields text : List ℕ) →
     (u32_bytes (2 + length fields + length text) ++ (version ∷ number ∷ fields)) ++ text
     ≡ frame (version ∷ number ∷ (fields ++ text))
-spelled_head version number fields text =
+encoded_head version number fields text =
     append_assoc (u32_bytes (2 + length fields + length text)) (version ∷ number ∷ fields) text
     ∙ frame_whole (2 + length fields + length text) (version ∷ number ∷ (fields ++ text))
     (omega (arith, length-append fields text))
@@ -134,14 +134,14 @@ request_read ask n version op byte number head text a b c h v o most fits len sa
   subst (λ x. text ≡ ask_text x text) (sym same) empty,
 )
 
--- The head and the body of a request are its spelling.
+-- The head and the body of a request are its encoding.
 pub request_is : (version : Version) (ask : Ask) (op : Op) (fields text head : List ℕ) → op ≡ op_of ask
     → fields ≡ ask_fields ask
     → head
     ≡ u32_bytes (2 + length fields + length (ask_text op text)) ++ (version_number version ∷ op_number op ∷ fields)
-    → head ++ ask_text op text ≡ request_spelling record { version = version; ask = ask } text
+    → head ++ ask_text op text ≡ request_encoding record { version = version; ask = ask } text
 request_is version ask op fields text head o f h =
-    ap (λ l. l ++ ask_text op text) h ∙ spelled_head (version_number version) (op_number op) fields (ask_text op text)
+    ap (λ l. l ++ ask_text op text) h ∙ encoded_head (version_number version) (op_number op) fields (ask_text op text)
     ∙ ap (λ l. frame (version_number version ∷ op_number op ∷ (l ++ ask_text op text))) f
     ∙ ap (λ x. frame (version_number version ∷ op_number x ∷ (ask_fields ask ++ ask_text x text))) o
 
@@ -150,7 +150,7 @@ pub request_with_text : (version : Version) (ask : Ask) (op : Op) (fields text h
     → op ≡ op_of ask → fields ≡ ask_fields ask → has_text op ≡ true
     → bytes ≡ head → size ≡ length text
     → head ≡ u32_bytes (2 + length fields + size) ++ (version_number version ∷ op_number op ∷ fields)
-    → bytes ++ text ≡ request_spelling record { version = version; ask = ask } text
+    → bytes ++ text ≡ request_encoding record { version = version; ask = ask } text
 request_with_text version ask op fields text head bytes size o f has b s h =
     let kept : ask_text op text ≡ text = ap (λ x. cond x text []) has in
     let all : head
@@ -161,7 +161,7 @@ request_with_text version ask op fields text head bytes size o f has b s h =
 pub request_without_text : (version : Version) (ask : Ask) (op : Op) (fields text head bytes : List ℕ) → op ≡ op_of ask
     → fields ≡ ask_fields ask → has_text op ≡ false
     → bytes ≡ head → head ≡ u32_bytes (2 + length fields + 0) ++ (version_number version ∷ op_number op ∷ fields)
-    → bytes ≡ request_spelling record { version = version; ask = ask } text
+    → bytes ≡ request_encoding record { version = version; ask = ask } text
 request_without_text version ask op fields text head bytes o f has b h =
     let none : ask_text op text ≡ [] = ap (λ x. cond x text []) has in
     let all : head

@@ -1,4 +1,4 @@
--- Bytes with the head of a request, and as many after it as its length says, are its spelling.
+-- Bytes with the head of a request, and as many after it as its length says, are its encoding.
 use Rattle.std.proofs.Common.{◌≡◌, ◌⊎◌, ℕ, ◌+◌, ◌-◌, ◌^◌, ◌<◌, ◌≤◌, List, [], ◌∷◌, ◌++◌, length, get_or, take, drop}
 use Rattle.std.proofs.Common.{refl, sym, subst, ap, ◌∙◌, append_assoc, append-nil, arith, length-append, length-drop}
 use Rattle.std.proofs.Common.{inl, inr}
@@ -19,7 +19,7 @@ use Rattle.sysv_wire.specs.Arrived.{EndsWithin, HoldsRequest}
 use Rattle.sysv_wire.specs.Frames.{op_number, version_number, frame}
 use Rattle.sysv_wire.specs.Numbers.{u32_bytes, u64_bytes, i32_bytes, i64_bytes}
 use Rattle.sysv_wire.specs.Requests.{FitsAsk, IsRequestLength, ask_fields, ask_text, fields_len, op_of}
-use Rattle.sysv_wire.specs.Requests.{request_spelling}
+use Rattle.sysv_wire.specs.Requests.{request_encoding}
 use Rattle.sysv_wire.proofs.NumberLemmas.{IsBytes, IsBytes-take, u32_front, u64_front}
 use Rattle.sysv_wire.proofs.OneRequest.{asked, cred, flags, to}
 use Rattle.sysv_wire.proofs.RequestLemmas.{frame_whole}
@@ -29,8 +29,8 @@ IsBytes-drop n bytes h i = rw get_or-drop (h (n + i))
 
 -- A number at the start of some bytes, and the other bytes.
 abbrev At : {T : Type 0} → (T → Type 0) → (T → List ℕ) → List ℕ → ℕ → Type 0
-At {T} Fits spelled bytes m =
-    (n : T) × (rest : List ℕ) × Fits n × IsBytes rest × (length rest ≡ m) × (bytes ≡ spelled n ++ rest)
+At {T} Fits encoded bytes m =
+    (n : T) × (rest : List ℕ) × Fits n × IsBytes rest × (length rest ≡ m) × (bytes ≡ encoded n ++ rest)
 
 u32_at : (m : ℕ) (bytes : List ℕ) → IsBytes bytes → length bytes ≡ 4 + m → At (λ n. n < 2 ^ 32) u32_bytes bytes m
 u32_at m bytes fits len =
@@ -74,12 +74,12 @@ i64_at m bytes fits len =
 
 -- A number that is all of some bytes.
 abbrev Only : {T : Type 0} → (T → Type 0) → (T → List ℕ) → List ℕ → Type 0
-Only {T} Fits spelled bytes = (n : T) × Fits n × (bytes ≡ spelled n)
+Only {T} Fits encoded bytes = (n : T) × Fits n × (bytes ≡ encoded n)
 
-only_at : {T : Type 0} (Fits : T → Type 0) (spelled : T → List ℕ) (bytes : List ℕ) → At Fits spelled bytes 0 →
-    Only Fits spelled bytes
-only_at Fits spelled bytes h =
-    (h.0, h.2, h.5 ∙ ap (λ l. spelled h.0 ++ l) (nil_from_length h.1 h.4) ∙ append-nil (spelled h.0))
+only_at : {T : Type 0} (Fits : T → Type 0) (encoded : T → List ℕ) (bytes : List ℕ) → At Fits encoded bytes 0 →
+    Only Fits encoded bytes
+only_at Fits encoded bytes h =
+    (h.0, h.2, h.5 ∙ ap (λ l. encoded h.0 ++ l) (nil_from_length h.1 h.4) ∙ append-nil (encoded h.0))
 
 u32_only : (bytes : List ℕ) → IsBytes bytes → length bytes ≡ 4 → Only (λ n. n < 2 ^ 32) u32_bytes bytes
 u32_only bytes fits len = only_at (λ n. n < 2 ^ 32) u32_bytes bytes (u32_at 0 bytes fits len)
@@ -179,11 +179,11 @@ taken_frame n content rest len =
     ∙ frame_whole n content len
 
 -- The head of a request and its fields and body, whatever follows them.
-spelled_at : (version : Version) (a : Ask) (o : Op) (fields text : List ℕ) → op_of a ≡ o → fields ≡ ask_fields a →
+encoded_at : (version : Version) (a : Ask) (o : Op) (fields text : List ℕ) → op_of a ≡ o → fields ≡ ask_fields a →
     ask_text o text ≡ text
-    → frame (version_number version ∷ op_number o ∷ (fields ++ text)) ≡ request_spelling (asked version a) text
-spelled_at version a o fields text same spelled kept =
-    ap (λ l. frame (version_number version ∷ op_number o ∷ (l ++ text))) spelled
+    → frame (version_number version ∷ op_number o ∷ (fields ++ text)) ≡ request_encoding (asked version a) text
+encoded_at version a o fields text same encoded kept =
+    ap (λ l. frame (version_number version ∷ op_number o ∷ (l ++ text))) encoded
     ∙ ap (λ l. frame (version_number version ∷ op_number o ∷ (ask_fields a ++ l))) (sym kept)
     ∙ ap (λ x. frame (version_number version ∷ op_number x ∷ (ask_fields a ++ ask_text x text))) (sym same)
 
@@ -213,7 +213,7 @@ whole_at n version o behind fits most wanted enough =
         text,
         (ask.2, omega (arith, sizes.1, text_is)),
         ap (take (4 + n)) split ∙ taken_frame n content rest len
-            ∙ spelled_at version ask.0 o fields text ask.1 ask.3 (text_kept o n text wanted text_is),
+            ∙ encoded_at version ask.0 o fields text ask.1 ask.3 (text_kept o n text wanted text_is),
       ),
     )
 

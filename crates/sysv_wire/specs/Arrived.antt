@@ -11,13 +11,13 @@ use Rattle.sysv_wire.specs.declared.request.Request.{Request}
 use Rattle.sysv_wire.specs.Faults.{IsPartHead, IsPartRequest}
 use Rattle.sysv_wire.specs.OneAnswer.{RequestAt}
 use Rattle.sysv_wire.specs.Reading.{ReadsRequest}
-use Rattle.sysv_wire.specs.Requests.{FitsRequest, request_spelling}
+use Rattle.sysv_wire.specs.Requests.{FitsRequest, request_encoding}
 
--- The first bytes, this many, are the spelling of a request.
+-- The first bytes, this many, are the encoding of a request.
 abbrev pub HoldsRequest : ℕ → List ℕ → Type 0
 HoldsRequest n bytes =
     (n ≤ length bytes) × ((request : Request) × (text : List ℕ) × FitsRequest request text
-    × (take n bytes ≡ request_spelling request text))
+    × (take n bytes ≡ request_encoding request text))
 
 -- The bytes are the cause of this fault, whatever follows them.
 abbrev pub HoldsFault : Fault → List ℕ → Type 0

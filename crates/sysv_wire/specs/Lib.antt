@@ -6,6 +6,6 @@ pub mod Replies
 pub mod Faults
 pub mod ReplyFaults
 pub mod Reading
-pub mod OneSpelling
+pub mod OneEncoding
 pub mod OneAnswer
 pub mod Arrived

@@ -6,20 +6,20 @@ use Rattle.sysv_wire.specs.declared.fault.Fault.TheVariants.{Truncated, TooLong,
 use Rattle.sysv_wire.specs.declared.reply.Reply.{Reply}
 use Rattle.sysv_wire.specs.declared.request.Request.{Request}
 use Rattle.sysv_wire.specs.Faults.{RequestFault}
-use Rattle.sysv_wire.specs.Replies.{FitsReply, reply_spelling}
+use Rattle.sysv_wire.specs.Replies.{FitsReply, reply_encoding}
 use Rattle.sysv_wire.specs.ReplyFaults.{ReplyFault}
-use Rattle.sysv_wire.specs.Requests.{FitsRequest, request_spelling}
+use Rattle.sysv_wire.specs.Requests.{FitsRequest, request_encoding}
 
 -- The fault is caused by the first bytes of the input.
 abbrev pub FaultAt : (Fault → List ℕ → Type 0) → Fault → List ℕ → Type 0
 FaultAt IsWhy fault input = (taken : List ℕ) × (rest : List ℕ) × IsWhy fault taken × (input ≡ taken ++ rest)
 
--- The result fits the input: a request whose spelling begins the input, none if the input is empty,
+-- The result fits the input: a request whose encoding begins the input, none if the input is empty,
 -- or a fault that the first bytes of the input cause. An input that ends within a frame is the
 -- cause as a whole.
 abbrev pub RequestAt : List ℕ → Result (Option Request) Fault → Type 0
 RequestAt input (Ok (Some request)) =
-    (text : List ℕ) × (rest : List ℕ) × FitsRequest request text × (input ≡ request_spelling request text ++ rest)
+    (text : List ℕ) × (rest : List ℕ) × FitsRequest request text × (input ≡ request_encoding request text ++ rest)
 RequestAt input (Ok None) = input ≡ []
 RequestAt input (Err Truncated) = RequestFault Truncated input
 RequestAt input (Err TooLong) = FaultAt RequestFault TooLong input
@@ -30,7 +30,7 @@ RequestAt input (Err Read) = ⊥
 -- The result of reading a reply fits the input, in the same way.
 abbrev pub ReplyAt : List ℕ → Result (Option Reply) Fault → Type 0
 ReplyAt input (Ok (Some reply)) =
-    (text : List ℕ) × (rest : List ℕ) × FitsReply reply text × (input ≡ reply_spelling reply text ++ rest)
+    (text : List ℕ) × (rest : List ℕ) × FitsReply reply text × (input ≡ reply_encoding reply text ++ rest)
 ReplyAt input (Ok None) = input ≡ []
 ReplyAt input (Err Truncated) = ReplyFault Truncated input
 ReplyAt input (Err TooLong) = FaultAt ReplyFault TooLong input

@@ -1,4 +1,4 @@
--- The one spelling of each reply (this project's profile): the version, the operation, the number
+-- The one encoding of each reply (this project's profile): the version, the operation, the number
 -- of the error or 0, then the fields of the result in order, and after the fields of a receive the
 -- body of the message. An error has no fields.
 use Rattle.std.specs.Prelude.{◌≡◌, ◌≤◌, ◌<◌, ◌^◌, ◌==◌, length, ⊤, ◌⊎◌, ℕ, Bool, true, false, List, [], ◌∷◌, ◌++◌, None}
@@ -122,9 +122,9 @@ gives_text (Row row) = false
 abbrev pub content_text : ReplyContent → List ℕ → List ℕ
 content_text content text = if gives_text content then text else []
 
--- The one spelling of a reply.
-abbrev pub reply_spelling : Reply → List ℕ → List ℕ
-reply_spelling reply text =
+-- The one encoding of a reply.
+abbrev pub reply_encoding : Reply → List ℕ → List ℕ
+reply_encoding reply text =
     frame (version_number reply.version ∷ reply.op ∷ error_number reply.result
     ∷ (content_fields reply.result ++ content_text reply.result text))
 

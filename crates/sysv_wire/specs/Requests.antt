@@ -1,4 +1,4 @@
--- The one spelling of each request (this project's profile): the version, the operation, its fields
+-- The one encoding of each request (this project's profile): the version, the operation, its fields
 -- in order, and after the fields of a send its body.
 use Rattle.std.specs.Prelude.{◌≡◌, ◌≤◌, ◌<◌, ◌+◌, ◌^◌, ℕ, length, Bool, true, false, List, [], ◌∷◌, ◌++◌, MatchBool}
 use Rattle.std.specs.Prelude.{if◌then◌else◌}
@@ -51,9 +51,9 @@ has_text op.Row = false
 abbrev pub ask_text : Op → List ℕ → List ℕ
 ask_text o text = if has_text o then text else []
 
--- The one spelling of a request.
-abbrev pub request_spelling : Request → List ℕ → List ℕ
-request_spelling request text =
+-- The one encoding of a request.
+abbrev pub request_encoding : Request → List ℕ → List ℕ
+request_encoding request text =
     frame (version_number request.version ∷ op_number (op_of request.ask)
     ∷ (ask_fields request.ask ++ ask_text (op_of request.ask) text))
 

@@ -42,7 +42,7 @@ pub(crate) fn content_of(version: Version, op: Op, fields: &[u8]) -> Result<Repl
     ensures fits { IfOk result FitsContent }
     ensures error { IfOk result (λ content. error_number content ≡ 0) }
     ensures text { IfOk result (λ content. gives_text content ≡ false) }
-    ensures spelled { IfOk result (λ content. fields.now ≡ content_fields content) }
+    ensures encoded { IfOk result (λ content. fields.now ≡ content_fields content) }
     ensures err { IfErr result (λ fault. (fault ≡ Fault.BadField) × IsBadAnswer op fields.now) }
 {
     match op {
@@ -75,7 +75,7 @@ fn hello_of(version: Version, fields: &[u8]) -> ReplyContent
     ensures fits { FitsContent result }
     ensures error { error_number result ≡ 0 }
     ensures text { gives_text result ≡ false }
-    ensures spelled { fields.now ≡ content_fields result }
+    ensures encoded { fields.now ≡ content_fields result }
 {
     match version {
         Version::One => ReplyContent::Hello,
@@ -92,7 +92,7 @@ fn marked_row(mark: u8, rest: &[u8]) -> Result<ReplyContent, Fault>
     ensures fits { IfOk result FitsContent }
     ensures error { IfOk result (λ content. error_number content ≡ 0) }
     ensures text { IfOk result (λ content. gives_text content ≡ false) }
-    ensures spelled { IfOk result (λ content. mark ∷ rest.now ≡ content_fields content) }
+    ensures encoded { IfOk result (λ content. mark ∷ rest.now ≡ content_fields content) }
     ensures err { IfErr result (λ fault. (fault ≡ Fault.BadField)
         × (IsBadMark (mark ∷ rest.now) ⊎ IsWideAt 13 (mark ∷ rest.now))) }
 {
@@ -117,7 +117,7 @@ fn marked_row(mark: u8, rest: &[u8]) -> Result<ReplyContent, Fault>
 #[tactic(auto, unfolding(crate::specs::Replies::row_fields))]
 fn row_of(fields: &[u8]) -> Row
     requires { length fields.now ≡ 22 }
-    ensures spelled { fields.now ≡ row_fields result }
+    ensures encoded { fields.now ≡ row_fields result }
     ensures fits { FitsRow result }
 {
     let (id, fields) = take_i32(fields);
@@ -140,7 +140,7 @@ fn row_of(fields: &[u8]) -> Row
 #[tactic(auto, using(std::proofs::Common::append_assoc), unfolding(crate::specs::Replies::perm_fields))]
 fn take_perm(fields: &[u8]) -> (Perm, &[u8])
     requires { 18 ≤ length fields.now }
-    ensures spelled { fields.now ≡ perm_fields result.0 ++ result.1.now }
+    ensures encoded { fields.now ≡ perm_fields result.0 ++ result.1.now }
     ensures fits { FitsPerm result.0 }
     ensures len { length fields.now ≡ 18 + length result.1.now }
 {
@@ -163,7 +163,7 @@ fn take_perm(fields: &[u8]) -> (Perm, &[u8])
 #[tactic(auto, using(std::proofs::Common::append_assoc), unfolding(crate::specs::Replies::stat_fields, crate::specs::Replies::count_fields, crate::specs::Replies::time_fields))]
 fn stat_of(fields: &[u8]) -> Stat
     requires { length fields.now ≡ 66 }
-    ensures spelled { fields.now ≡ stat_fields result }
+    ensures encoded { fields.now ≡ stat_fields result }
     ensures fits { FitsStat result }
 {
     let (key, fields) = take_i32(fields);

@@ -1,17 +1,20 @@
 //! Reads bytes from a reader, only by its `read`.
 ghost use Rattle.std.specs.Prelude.{◌≡◌, ◌<◌, ◌≤◌, ◌++◌, [], ℕ, List, take, length, ⊤, IfOk, IfErr, OnOk, MatchOption};
 ghost use Rattle.std.specs.Io.KnownBytes.{Consumes, IsAtEnd};
-ghost use Rattle.sysv_model.specs.Watched.{stream_of, KeepsStream};
+ghost use Rattle.sysv_model.specs.Instrumented.{stream_of, KeepsStream};
 ghost use Rattle.sysv_wire.specs.Faults.{Faults, Breaks, HeadFault, LengthFault, IsPartLength, IsShorter, is_read_fault};
 ghost use Rattle.sysv_wire.specs.Numbers.{u32_bytes};
 
 use crate::fault::Fault;
 use crate::number::take_u32;
 use std::io::Read;
-use sysv_model::{BLOCK_BYTES, BODY_ROOM, Body, Watched};
+use sysv_model::{BLOCK_BYTES, BODY_ROOM, Body, Instrumented};
 
 /// Reads until `bytes` is full or the input ends. Returns the number of bytes read.
-pub(crate) fn fill<R: Read>(reader: &mut Watched<'_, R>, bytes: &mut [u8]) -> Result<usize, Fault>
+pub(crate) fn fill<R: Read>(
+    reader: &mut Instrumented<'_, R>,
+    bytes: &mut [u8],
+) -> Result<usize, Fault>
     ensures taken { IfOk result (λ count.
         Consumes (R.remaining (stream_of reader.old)) (R.remaining (stream_of reader.new))
         (take count bytes.new)) }
@@ -35,7 +38,10 @@ pub(crate) fn fill<R: Read>(reader: &mut Watched<'_, R>, bytes: &mut [u8]) -> Re
 }
 
 /// Reads until `bytes` is full. Fails with `Truncated` if the input ends before.
-pub(crate) fn fill_all<R: Read>(reader: &mut Watched<'_, R>, bytes: &mut [u8]) -> Result<(), Fault>
+pub(crate) fn fill_all<R: Read>(
+    reader: &mut Instrumented<'_, R>,
+    bytes: &mut [u8],
+) -> Result<(), Fault>
     ensures taken { OnOk result (Consumes (R.remaining (stream_of reader.old))
         (R.remaining (stream_of reader.new)) bytes.new) }
     ensures fault { IfErr result (λ fault.
@@ -51,7 +57,7 @@ pub(crate) fn fill_all<R: Read>(reader: &mut Watched<'_, R>, bytes: &mut [u8]) -
 }
 
 /// Reads a length field. Returns `None` if the input ends before it.
-fn read_length<R: Read>(reader: &mut Watched<'_, R>) -> Result<Option<u32>, Fault>
+fn read_length<R: Read>(reader: &mut Instrumented<'_, R>) -> Result<Option<u32>, Fault>
     ensures found { IfOk result (λ found. MatchOption found
         (Consumes (R.remaining (stream_of reader.old)) (R.remaining (stream_of reader.new)) []
         × IsAtEnd (R.remaining (stream_of reader.new)))
@@ -90,7 +96,7 @@ pub(crate) fn check_length(length: u32, least: usize, most: u32) -> Result<(), F
 /// Reads the head of a frame: the length field, and the first bytes after it into `head`, whose
 /// length is the minimum length of a frame. Returns `None` if the input ends before the frame.
 pub(crate) fn read_head<R: Read>(
-    reader: &mut Watched<'_, R>,
+    reader: &mut Instrumented<'_, R>,
     most: u32,
     head: &mut [u8],
 ) -> Result<Option<u32>, Fault>
@@ -114,7 +120,7 @@ pub(crate) fn read_head<R: Read>(
 
 /// Reads a body of `len` bytes into an empty `Body`.
 pub(crate) fn read_text<R: Read>(
-    reader: &mut Watched<'_, R>,
+    reader: &mut Instrumented<'_, R>,
     len: usize,
     text: &mut Body,
 ) -> Result<(), Fault>

@@ -3,7 +3,7 @@ ghost use Rattle.std.specs.Prelude.{◌≡◌};
 ghost use Rattle.sysv_wire.specs.declared.frame.TheConstants.{LENGTH_BYTES, MAX_MODE, MAX_REPLY, MAX_REQUEST, MIN_REPLY, MIN_REQUEST};
 ghost use Rattle.sysv_wire.specs.Arrived.{FrameAlone, FrameStays, FrameTaken, OneFrame};
 ghost use Rattle.sysv_wire.specs.OneAnswer.{OneAnswerToReplies, OneAnswerToRequests};
-ghost use Rattle.sysv_wire.specs.OneSpelling.{OneRequest, OneReply};
+ghost use Rattle.sysv_wire.specs.OneEncoding.{OneRequest, OneReply};
 
 /// States the number of bytes in the length field of a frame, the limits of its length, and the
 /// maximum mode.
@@ -16,14 +16,14 @@ pub fn numerals_of_frames()
     ensures mode { MAX_MODE ≡ 0o777 }
 {}
 
-/// States that each spelling of a request is that of one request, and that none is a prefix of
-/// another request's spelling.
+/// States that each encoding of a request is that of one request, and that none is a prefix of
+/// another request's encoding.
 pub fn one_request()
     ensures { OneRequest }
 {}
 
-/// States that each spelling of a reply is that of one reply, and that none is a prefix of another
-/// reply's spelling.
+/// States that each encoding of a reply is that of one reply, and that none is a prefix of another
+/// reply's encoding.
 pub fn one_reply()
     ensures { OneReply }
 {}

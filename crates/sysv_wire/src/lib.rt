@@ -1,14 +1,14 @@
 //! The frames of a session: requests and replies as bytes, read from any reader and written to any
-//! writer. `specs/` defines the spelling of each frame, and what a reader returns for bytes that
+//! writer. `specs/` defines the encoding of each frame, and what a reader returns for bytes that
 //! spell none.
 //!
 //! ```rust
 //! let ask = Ask::Get { key: 7, flags };
 //! let mut frame = Vec::new(rt.alloc());
 //! let request = Request { version: Version::Two, ask };
-//! write_request(&mut Watched::new(&mut frame), &request, &text)?;
+//! write_request(&mut Instrumented::new(&mut frame), &request, &text)?;
 //! let mut bytes = frame.as_slice();
-//! let read = read_request(&mut Watched::new(&mut bytes), &mut text)?;
+//! let read = read_request(&mut Instrumented::new(&mut bytes), &mut text)?;
 //! ```
 #![tactic(auto)]
 

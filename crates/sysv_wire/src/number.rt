@@ -5,7 +5,7 @@ ghost use Rattle.sysv_wire.specs.Numbers.{u16_bytes, u32_bytes, u64_bytes, i32_b
 /// Returns the number in the first two bytes, and the bytes after it.
 pub(crate) fn take_u16(bytes: &[u8]) -> (u16, &[u8])
     requires { 2 ≤ length bytes.now }
-    ensures spelled { bytes.now ≡ u16_bytes result.0 ++ result.1.now }
+    ensures encoded { bytes.now ≡ u16_bytes result.0 ++ result.1.now }
     ensures len { length bytes.now ≡ 2 + length result.1.now }
 {
     let (front, rest) = bytes.split_at(2);
@@ -15,7 +15,7 @@ pub(crate) fn take_u16(bytes: &[u8]) -> (u16, &[u8])
 /// Returns the number in the first four bytes, and the bytes after it.
 pub(crate) fn take_u32(bytes: &[u8]) -> (u32, &[u8])
     requires { 4 ≤ length bytes.now }
-    ensures spelled { bytes.now ≡ u32_bytes result.0 ++ result.1.now }
+    ensures encoded { bytes.now ≡ u32_bytes result.0 ++ result.1.now }
     ensures len { length bytes.now ≡ 4 + length result.1.now }
 {
     let (front, rest) = bytes.split_at(4);
@@ -26,7 +26,7 @@ pub(crate) fn take_u32(bytes: &[u8]) -> (u32, &[u8])
 /// Returns the number in the first eight bytes, and the bytes after it.
 pub(crate) fn take_u64(bytes: &[u8]) -> (u64, &[u8])
     requires { 8 ≤ length bytes.now }
-    ensures spelled { bytes.now ≡ u64_bytes result.0 ++ result.1.now }
+    ensures encoded { bytes.now ≡ u64_bytes result.0 ++ result.1.now }
     ensures len { length bytes.now ≡ 8 + length result.1.now }
 {
     let (front, rest) = bytes.split_at(8);
@@ -39,7 +39,7 @@ pub(crate) fn take_u64(bytes: &[u8]) -> (u64, &[u8])
 /// Returns the signed number in the first four bytes, and the bytes after it.
 pub(crate) fn take_i32(bytes: &[u8]) -> (i32, &[u8])
     requires { 4 ≤ length bytes.now }
-    ensures spelled { bytes.now ≡ i32_bytes result.0 ++ result.1.now }
+    ensures encoded { bytes.now ≡ i32_bytes result.0 ++ result.1.now }
     ensures len { length bytes.now ≡ 4 + length result.1.now }
 {
     let (number, rest) = take_u32(bytes);
@@ -49,7 +49,7 @@ pub(crate) fn take_i32(bytes: &[u8]) -> (i32, &[u8])
 /// Returns the signed number in the first eight bytes, and the bytes after it.
 pub(crate) fn take_i64(bytes: &[u8]) -> (i64, &[u8])
     requires { 8 ≤ length bytes.now }
-    ensures spelled { bytes.now ≡ i64_bytes result.0 ++ result.1.now }
+    ensures encoded { bytes.now ≡ i64_bytes result.0 ++ result.1.now }
     ensures len { length bytes.now ≡ 8 + length result.1.now }
 {
     let (number, rest) = take_u64(bytes);

@@ -1,15 +1,15 @@
 //! Writes message bodies, and frames that end with a body.
 ghost use Rattle.std.specs.Prelude.{◌++◌, is_err, OnOk, OnErr};
 ghost use Rattle.std.specs.Io.KnownBytes.{Appends};
-ghost use Rattle.sysv_model.specs.Watched.{stream_of, KeepsStream};
+ghost use Rattle.sysv_model.specs.Instrumented.{stream_of, KeepsStream};
 ghost use Rattle.sysv_model.specs.Writing.{AppendsPrefix};
 
 use std::io::Write;
-use sysv_model::{BLOCK_BYTES, Body, Watched, WriteFault};
+use sysv_model::{BLOCK_BYTES, Body, Instrumented, WriteFault};
 
 /// Writes a message body, block by block.
 pub(crate) fn write_text<W: Write>(
-    writer: &mut Watched<'_, W>,
+    writer: &mut Instrumented<'_, W>,
     text: &Body,
 ) -> Result<(), WriteFault>
     ensures ok { OnOk result (Appends (W.contents (stream_of writer.old))
@@ -27,7 +27,7 @@ pub(crate) fn write_text<W: Write>(
 
 /// Writes the bytes of a frame before its body, and then the body.
 pub(crate) fn write_both<W: Write>(
-    writer: &mut Watched<'_, W>,
+    writer: &mut Instrumented<'_, W>,
     front: &[u8],
     text: &Body,
 ) -> Result<(), WriteFault>

@@ -1,7 +1,7 @@
 //! Reads and writes replies.
 ghost use Rattle.std.specs.Prelude.{◌≡◌, ◌≢◌, ◌≤◌, ◌+◌, ◌-◌, ◌++◌, ◌∷◌, ◌⊎◌, [], ℕ, List, Option, Some, Result, Err, length, ◌==◌, ◌↔◌, true, false, IsTrue, is_err, IfOk, IfErr, OnOk, OnErr};
 ghost use Rattle.std.specs.Io.KnownBytes.{Appends, Consumes};
-ghost use Rattle.sysv_model.specs.Watched.{stream_of, KeepsStream};
+ghost use Rattle.sysv_model.specs.Instrumented.{stream_of, KeepsStream};
 ghost use Rattle.sysv_model.specs.Writing.{AppendsPrefix};
 ghost use Rattle.sysv_wire.specs.Faults.{Faults, is_read_fault};
 ghost use Rattle.sysv_wire.specs.Frames.{op_number, version_number};
@@ -9,7 +9,7 @@ ghost use Rattle.sysv_wire.specs.declared.frame.Version.{Version as Versions};
 ghost use Rattle.sysv_wire.specs.Numbers.{u32_bytes};
 ghost use Rattle.sysv_wire.specs.OneAnswer.{ReplyAt};
 ghost use Rattle.sysv_wire.specs.Reading.{ReadsReply};
-ghost use Rattle.sysv_wire.specs.Replies.{FitsContent, IsAnswer, IsAnswerLength, IsRestLength, count_fields, error_number, gives_text, hello_len as the_hello_len, content_fields, content_text, perm_fields, reply_spelling, row_fields, stat_fields, time_fields};
+ghost use Rattle.sysv_wire.specs.Replies.{FitsContent, IsAnswer, IsAnswerLength, IsRestLength, count_fields, error_number, gives_text, hello_len as the_hello_len, content_fields, content_text, perm_fields, reply_encoding, row_fields, stat_fields, time_fields};
 ghost use Rattle.sysv_wire.specs.ReplyFaults.{AnswerFault, RestFault};
 
 use crate::content::{content_of, errno_of};
@@ -21,7 +21,7 @@ use crate::number::only_i64;
 use crate::output::write_both;
 use crate::reply::{Reply, ReplyContent};
 use std::io::{Read, Write};
-use sysv_model::{Body, MESSAGE_BYTES, Perm, Row, Stat, Watched, WriteFault};
+use sysv_model::{Body, Instrumented, MESSAGE_BYTES, Perm, Row, Stat, WriteFault};
 
 /// The maximum number of bytes in the fields of a reply, without its body.
 const MAX_FIELDS: usize = 66;
@@ -87,7 +87,7 @@ fn may_take(version: Version, op: Op, rest: usize) -> bool
 
 /// Reads `rest` bytes, the fields of the result of an operation other than a receive.
 fn read_fields<R: Read>(
-    reader: &mut Watched<'_, R>,
+    reader: &mut Instrumented<'_, R>,
     version: Version,
     op: Op,
     rest: usize,
@@ -115,7 +115,7 @@ fn read_fields<R: Read>(
 
 /// Reads `rest` bytes, the type and the body of a message.
 fn read_message<R: Read>(
-    reader: &mut Watched<'_, R>,
+    reader: &mut Instrumented<'_, R>,
     rest: usize,
     text: &mut Body,
 ) -> Result<ReplyContent, Fault>
@@ -144,7 +144,7 @@ fn read_message<R: Read>(
 
 /// Reads what follows the error of a reply.
 fn read_rest<R: Read>(
-    reader: &mut Watched<'_, R>,
+    reader: &mut Instrumented<'_, R>,
     version: Version,
     op: Op,
     error: u8,
@@ -199,7 +199,7 @@ fn read_rest<R: Read>(
 /// - `BadOp` if the operation is above 7.
 /// - `Read` if and only if the reader fails.
 pub fn read_reply<R: Read>(
-    reader: &mut Watched<'_, R>,
+    reader: &mut Instrumented<'_, R>,
     text: &mut Body,
 ) -> Result<Option<Reply>, Fault>
     ensures reads { ReadsReply (R.remaining (stream_of reader.old))
@@ -215,7 +215,10 @@ pub fn read_reply<R: Read>(
 }
 
 /// Reads one reply, like `read_reply`. The contract states only what was taken of the input.
-fn next_reply<R: Read>(reader: &mut Watched<'_, R>, text: &mut Body) -> Result<Option<Reply>, Fault>
+fn next_reply<R: Read>(
+    reader: &mut Instrumented<'_, R>,
+    text: &mut Body,
+) -> Result<Option<Reply>, Fault>
     ensures reads { ReadsReply (R.remaining (stream_of reader.old))
         (R.remaining (stream_of reader.new)) result text.new }
     ensures stream { KeepsStream reader.old reader.new (is_read_fault result) }
@@ -247,16 +250,16 @@ fn next_reply<R: Read>(reader: &mut Watched<'_, R>, text: &mut Body) -> Result<O
 /// - The reply is one that its operation has in its version.
 /// - `text` has at most 8,192 bytes.
 pub fn write_reply<W: Write>(
-    writer: &mut Watched<'_, W>,
+    writer: &mut Instrumented<'_, W>,
     reply: &Reply,
     text: &Body,
 ) -> Result<(), WriteFault>
     requires answer { IsAnswer reply.now.version reply.now.op reply.now.result }
     requires text { length text.now ≤ MESSAGE_BYTES }
     ensures ok { OnOk result (Appends (W.contents (stream_of writer.old))
-        (W.contents (stream_of writer.new)) (reply_spelling reply.now text.now)) }
+        (W.contents (stream_of writer.new)) (reply_encoding reply.now text.now)) }
     ensures err { OnErr result (AppendsPrefix (W.contents (stream_of writer.old))
-        (W.contents (stream_of writer.new)) (reply_spelling reply.now text.now)) }
+        (W.contents (stream_of writer.new)) (reply_encoding reply.now text.now)) }
     // The writer stays the same, and fails in this call if and only if the result is an error.
     ensures stream { KeepsStream writer.old writer.new (is_err result) }
 {

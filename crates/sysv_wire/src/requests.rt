@@ -1,14 +1,14 @@
 //! Reads and writes requests.
 ghost use Rattle.std.specs.Prelude.{◌≡◌, ◌≤◌, ◌+◌, ◌-◌, ◌<◌, ◌++◌, ◌∷◌, ◌⊎◌, [], ℕ, List, Option, Some, Result, Err, length, is_err, IfOk, IfErr, OnOk, OnErr};
 ghost use Rattle.std.specs.Io.KnownBytes.{Appends, Consumes};
-ghost use Rattle.sysv_model.specs.Watched.{stream_of, KeepsStream};
+ghost use Rattle.sysv_model.specs.Instrumented.{stream_of, KeepsStream};
 ghost use Rattle.sysv_model.specs.Writing.{AppendsPrefix};
 ghost use Rattle.sysv_wire.specs.Faults.{Faults, Breaks, IsShorter, OpFault, is_read_fault};
 ghost use Rattle.sysv_wire.specs.Frames.{op_number, version_number};
 ghost use Rattle.sysv_wire.specs.Numbers.{u32_bytes};
 ghost use Rattle.sysv_wire.specs.OneAnswer.{RequestAt};
 ghost use Rattle.sysv_wire.specs.Reading.{ReadsRequest};
-ghost use Rattle.sysv_wire.specs.Requests.{FitsAsk, IsRequestLength, ask_fields, ask_text, fields_len, has_text, op_of, request_spelling};
+ghost use Rattle.sysv_wire.specs.Requests.{FitsAsk, IsRequestLength, ask_fields, ask_text, fields_len, has_text, op_of, request_encoding};
 
 use crate::fault::Fault;
 use crate::fields::Fields;
@@ -19,7 +19,7 @@ use crate::output::write_both;
 use crate::request::{Ask, Request};
 use bitflags::Flags as Set;
 use std::io::{Read, Write};
-use sysv_model::{BODY_ROOM, Body, Cred, Flags, SetTo, Watched, WriteFault};
+use sysv_model::{BODY_ROOM, Body, Cred, Flags, Instrumented, SetTo, WriteFault};
 
 /// The maximum number of bytes in the fields of a request, without its body.
 const MAX_FIELDS: usize = 20;
@@ -76,7 +76,7 @@ pub(crate) fn judge(length: u32, version: u8, number: u8) -> Result<(Version, Op
 fn ask_of(op: Op, fields: &[u8]) -> Ask
     requires { length fields.now ≡ fields_len op }
     ensures op { op_of result ≡ op }
-    ensures spelled { fields.now ≡ ask_fields result }
+    ensures encoded { fields.now ≡ ask_fields result }
     ensures fits { FitsAsk result }
 {
     match op {
@@ -95,7 +95,7 @@ fn ask_of(op: Op, fields: &[u8]) -> Ask
 fn hello_of(fields: &[u8]) -> Ask
     requires { length fields.now ≡ fields_len Op.Hello }
     ensures op { op_of result ≡ Op.Hello }
-    ensures spelled { fields.now ≡ ask_fields result }
+    ensures encoded { fields.now ≡ ask_fields result }
     ensures fits { FitsAsk result }
 {
     let (uid, fields) = take_u32(fields);
@@ -108,7 +108,7 @@ fn hello_of(fields: &[u8]) -> Ask
 fn get_of(fields: &[u8]) -> Ask
     requires { length fields.now ≡ fields_len Op.Get }
     ensures op { op_of result ≡ Op.Get }
-    ensures spelled { fields.now ≡ ask_fields result }
+    ensures encoded { fields.now ≡ ask_fields result }
     ensures fits { FitsAsk result }
 {
     let (key, fields) = take_i32(fields);
@@ -120,7 +120,7 @@ fn get_of(fields: &[u8]) -> Ask
 fn snd_of(fields: &[u8]) -> Ask
     requires { length fields.now ≡ fields_len Op.Snd }
     ensures op { op_of result ≡ Op.Snd }
-    ensures spelled { fields.now ≡ ask_fields result }
+    ensures encoded { fields.now ≡ ask_fields result }
     ensures fits { FitsAsk result }
 {
     let (id, fields) = take_i32(fields);
@@ -133,7 +133,7 @@ fn snd_of(fields: &[u8]) -> Ask
 fn rcv_of(fields: &[u8]) -> Ask
     requires { length fields.now ≡ fields_len Op.Rcv }
     ensures op { op_of result ≡ Op.Rcv }
-    ensures spelled { fields.now ≡ ask_fields result }
+    ensures encoded { fields.now ≡ ask_fields result }
     ensures fits { FitsAsk result }
 {
     let (id, fields) = take_i32(fields);
@@ -152,7 +152,7 @@ fn rcv_of(fields: &[u8]) -> Ask
 fn stat_of(fields: &[u8]) -> Ask
     requires { length fields.now ≡ fields_len Op.Stat }
     ensures op { op_of result ≡ Op.Stat }
-    ensures spelled { fields.now ≡ ask_fields result }
+    ensures encoded { fields.now ≡ ask_fields result }
     ensures fits { FitsAsk result }
 {
     Ask::Stat {
@@ -164,7 +164,7 @@ fn stat_of(fields: &[u8]) -> Ask
 fn set_of(fields: &[u8]) -> Ask
     requires { length fields.now ≡ fields_len Op.Set }
     ensures op { op_of result ≡ Op.Set }
-    ensures spelled { fields.now ≡ ask_fields result }
+    ensures encoded { fields.now ≡ ask_fields result }
     ensures fits { FitsAsk result }
 {
     let (id, fields) = take_i32(fields);
@@ -185,7 +185,7 @@ fn set_of(fields: &[u8]) -> Ask
 fn rm_of(fields: &[u8]) -> Ask
     requires { length fields.now ≡ fields_len Op.Rm }
     ensures op { op_of result ≡ Op.Rm }
-    ensures spelled { fields.now ≡ ask_fields result }
+    ensures encoded { fields.now ≡ ask_fields result }
     ensures fits { FitsAsk result }
 {
     Ask::Rm {
@@ -197,7 +197,7 @@ fn rm_of(fields: &[u8]) -> Ask
 fn row_of(fields: &[u8]) -> Ask
     requires { length fields.now ≡ fields_len Op.Row }
     ensures op { op_of result ≡ Op.Row }
-    ensures spelled { fields.now ≡ ask_fields result }
+    ensures encoded { fields.now ≡ ask_fields result }
     ensures fits { FitsAsk result }
 {
     Ask::Row {
@@ -207,7 +207,7 @@ fn row_of(fields: &[u8]) -> Ask
 
 /// Reads the fields and the body of a request whose length is `whole`.
 fn read_ask<R: Read>(
-    reader: &mut Watched<'_, R>,
+    reader: &mut Instrumented<'_, R>,
     whole: u32,
     op: Op,
     text: &mut Body,
@@ -256,7 +256,7 @@ fn read_ask<R: Read>(
 /// - `BadOp` if the operation is above 7.
 /// - `Read` if and only if the reader fails.
 pub fn read_request<R: Read>(
-    reader: &mut Watched<'_, R>,
+    reader: &mut Instrumented<'_, R>,
     text: &mut Body,
 ) -> Result<Option<Request>, Fault>
     ensures reads { ReadsRequest (R.remaining (stream_of reader.old))
@@ -273,7 +273,7 @@ pub fn read_request<R: Read>(
 
 /// Reads one request, like `read_request`. The contract states only what was taken of the input.
 fn next_request<R: Read>(
-    reader: &mut Watched<'_, R>,
+    reader: &mut Instrumented<'_, R>,
     text: &mut Body,
 ) -> Result<Option<Request>, Fault>
     ensures reads { ReadsRequest (R.remaining (stream_of reader.old))
@@ -298,14 +298,14 @@ fn next_request<R: Read>(
 /// - `WriteFault` if and only if a write fails or takes no byte. The writer has then taken a prefix
 ///   of the request.
 pub fn write_request<W: Write>(
-    writer: &mut Watched<'_, W>,
+    writer: &mut Instrumented<'_, W>,
     request: &Request,
     text: &Body,
 ) -> Result<(), WriteFault>
     ensures ok { OnOk result (Appends (W.contents (stream_of writer.old))
-        (W.contents (stream_of writer.new)) (request_spelling request.now text.now)) }
+        (W.contents (stream_of writer.new)) (request_encoding request.now text.now)) }
     ensures err { OnErr result (AppendsPrefix (W.contents (stream_of writer.old))
-        (W.contents (stream_of writer.new)) (request_spelling request.now text.now)) }
+        (W.contents (stream_of writer.new)) (request_encoding request.now text.now)) }
     // The writer stays the same, and fails in this call if and only if the result is an error.
     ensures stream { KeepsStream writer.old writer.new (is_err result) }
 {

@@ -14,7 +14,7 @@ use Rattle.sysv_workers.specs.declared.feed.Feed.{Feed}
 use Rattle.sysv_workers.specs.declared.feed.Feed.TheVariants.{Item, End}
 use Rattle.sysv_workers.specs.declared.worker.Done.{Done}
 use Rattle.sysv_workers.specs.declared.worker.Working.{Working}
-use Rattle.sysv_workers.specs.Crews.{Assigned, assigned_to, AreOn}
+use Rattle.sysv_workers.specs.Teams.{Assigned, assigned_to, AreOn}
 use Rattle.sysv_workers.specs.Doing.{Did, Gathered}
 use Rattle.sysv_workers.specs.Feeding.{Reads, items_in, mark}
 use Rattle.sysv_workers.specs.Parts.{Part, IsSubsequenceOf}

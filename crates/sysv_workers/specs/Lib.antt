@@ -5,4 +5,4 @@ pub mod Running
 pub mod Causes
 pub mod Feeding
 pub mod Doing
-pub mod Crews
+pub mod Teams

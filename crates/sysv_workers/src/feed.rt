@@ -53,8 +53,8 @@ pub(crate) fn put_all<T: Drop, S: Source<T>, R: Wait>(
 }
 
 /// Puts one more item, after this number of items. Returns `false` only if the buffer is worn out
-/// and at least 2^62 items were put before. No buffer is worn out by fewer, so a put that is refused
-/// before then is tried again.
+/// and at least 2^62 items were put before. No buffer is worn out by fewer, so a put that is
+/// refused before then is tried again.
 fn put_item<T: Drop, R: Wait>(
     rt: &R,
     buffer: &ManyBuffer<Feed<T>>,

@@ -2,12 +2,12 @@
 //! items that it takes, with a state of its own.
 #![tactic(auto)]
 
-mod crew;
 mod feed;
 mod job;
 mod laws;
 mod refusals;
 mod source;
+mod team;
 mod worker;
 mod workers;
 

@@ -40,8 +40,8 @@ impl<W, T, J: Job<W, T>> Promise<Done<W, T>> for Working<W, T, J> {
         (manually_drop_value d.state) d.seat d.ran };
 }
 
-/// Runs the job over the items that it takes, in the order in which they were put, until it takes an
-/// end mark or the buffer is worn out.
+/// Runs the job over the items that it takes, in the order in which they were put, until it takes
+/// an end mark or the buffer is worn out.
 pub(crate) fn work<W, T: Drop, J: Job<W, T>, R: Wait>(
     rt: &R,
     buffer: &ManyBuffer<Feed<T>>,

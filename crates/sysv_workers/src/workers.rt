@@ -3,16 +3,16 @@ ghost use Rattle.std.specs.Prelude.{◌≡◌, ◌+◌, ◌-◌, ◌^◌, ◌<�
 ghost use Rattle.std.specs.List.{All};
 ghost use Rattle.std.specs.Mem.{manually_drop_value};
 ghost use Rattle.std.specs.Thread.{IsSync};
-ghost use Rattle.sysv_workers.specs.Crews.{AreOn, CanStart, HasDone};
+ghost use Rattle.sysv_workers.specs.Teams.{AreOn, CanStart, HasDone};
 ghost use Rattle.sysv_workers.specs.Causes.{Told, HasCause, FailsBy};
 ghost use Rattle.sysv_workers.specs.Running.{RunsAll, GivesBack, GivesUp, LeavesSource, Ends, Fails};
 ghost use Rattle.sysv_workers.specs.declared.workers.TheConstants.{MAX_WORKERS};
 
-use crate::crew::{Handle, Tally, collect, join_all, start_all};
 use crate::feed::{Feed, WEAR, put_all, put_marks};
 use crate::job::Job;
 use crate::refusals::{WorkersFault, WorkersRefused};
 use crate::source::Source;
+use crate::team::{Handle, Tally, collect, join_all, start_all};
 use crate::worker::Done;
 use std::alloc::Global;
 use std::mem::ManuallyDrop;
@@ -30,8 +30,8 @@ pub const MAX_WORKERS: usize = 16;
 /// The calling thread alone reads the source, after all threads have started. Each item goes to the
 /// next free worker, through a buffer with one cell per worker. Each worker has a list of items,
 /// its state is one to which the job's runs over that list lead, and together the lists are the
-/// items of the source, each once. Each list is in the order in which the source returned its items,
-/// so a worker that is alone runs over all items in that order.
+/// items of the source, each once. Each list is in the order in which the source returned its
+/// items, so a worker that is alone runs over all items in that order.
 ///
 /// # Errors
 ///
@@ -48,8 +48,8 @@ pub const MAX_WORKERS: usize = 16;
 ///
 /// After `BadCount`, `NoMemory` and `Thread` the states are unchanged, and the source was not read.
 /// After `Worn` and `Missed` each state is one to which runs over some items lead. After `Worn` the
-/// source has returned some items, and may have reported its end. After `Missed` it is at its end or
-/// was not read.
+/// source has returned some items, and may have reported its end. After `Missed` it is at its end
+/// or was not read.
 ///
 /// # Conditions
 ///

@@ -69,7 +69,7 @@ shown_again command left same taken shown after before page text is empty whole_
       record {
         exchanges = clean.2.exchanges;
         ended = clean.2.ended;
-        talks = clean.2.talks;
+        converses = clean.2.converses;
         shows = again clean.2.shows;
       },
     )

@@ -11,4 +11,5 @@ pub mod Requests
 pub mod Room
 pub mod Ends
 pub mod Scripts
+pub mod Links
 pub mod Clients

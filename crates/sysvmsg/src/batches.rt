@@ -6,16 +6,16 @@ ghost use Rattle.sysv_clients.specs.declared.sending.Unsent.{Unsent as AnUnsent}
 ghost use Rattle.sysv_clients.specs.declared.stream.Stop.{Stop as AStop};
 ghost use Rattle.sysvmsg.specs.Clients.{HasCleared, HasReceived, HasSent};
 ghost use Rattle.sysvmsg.specs.Ends.{SucceedsIf, SucceedsOnlyIf};
+ghost use Rattle.sysvmsg.specs.Links.{left_by, taken_by};
 ghost use Rattle.sysvmsg.specs.Several.{is_of_options, is_of_stream, receiving_of, way_by};
 
 use crate::FAULT;
 use crate::asked::How;
-use crate::connection::failed;
-use crate::leaver::{Leaver, Outgoing, bound};
+use crate::connection::{failed, no_memory};
+use crate::link::{Link, Unlinked, linked};
 use crate::place::{Leave, Place};
 use crate::teller::Teller;
-use std::alloc::Global;
-use std::io::{BufReader, BufWriter, Eprint, Read, Write};
+use std::io::{Eprint, Read, Write};
 use std::process::ExitCode;
 use sysv_clients::{
     ClientFault, Cut, Form, Receipt, Receiving, Refusal, Sending, Stop, Target, Task, Unsent,
@@ -25,6 +25,12 @@ use sysv_model::{Cred, Errno};
 
 /// No memory for what a connection needs.
 const NO_MEMORY: ClientFault = ClientFault::NoMemory;
+
+/// No message came in time.
+const NO_MESSAGE: ClientFault = ClientFault::Refused(Errno::ENOMSG);
+
+/// No room came in time.
+const NO_ROOM: ClientFault = ClientFault::Refused(Errno::EAGAIN);
 
 /// How a command is done.
 #[derive(Clone, Copy, PartialEq, Eq, Debug)]
@@ -37,31 +43,6 @@ pub(crate) enum Way {
     Clear,
     /// By a client that runs this one command.
     Once,
-}
-
-/// The error of a client, and whether it left a call because the time was over.
-#[derive(Drop)]
-struct Failure<E> {
-    error: E,
-    is_late: bool,
-}
-
-impl<E> Failure<E> {
-    /// Returns the error of a client that left no call.
-    fn of(error: E) -> Failure<E> {
-        Failure {
-            error,
-            is_late: false,
-        }
-    }
-
-    /// Returns the error of a client that left a call.
-    fn late(error: E) -> Failure<E> {
-        Failure {
-            error,
-            is_late: true,
-        }
-    }
 }
 
 /// Returns how a task with these options is done.
@@ -124,8 +105,9 @@ fn receiving(cred: Cred, receipt: Receipt, how: &How) -> Receiving
     }
 }
 
-/// Connects to the server at `path` and receives messages there, each of which is waited for no
-/// longer than this number of milliseconds, if there is one. Faults are reported on standard error.
+/// Connects to the server at `place` and receives messages there, each of which is waited for no
+/// longer than this number of milliseconds, if there is one. A receive that is left then fails with
+/// ENOMSG. Faults are reported on standard error.
 pub(crate) fn receive_at<P: Place, S: Write>(
     rt: &(impl Eprint + AllocGlobal),
     place: P,
@@ -137,81 +119,51 @@ pub(crate) fn receive_at<P: Place, S: Write>(
     ensures { SucceedsOnlyIf (HasReceived receiving.now (Ok tt) (P.incoming place)
         (P.outgoing place) (S.contents screen.old) (S.contents screen.new)) result }
 {
-    let (reader, writer) = match place.connect() {
-        Ok(ends) => ends,
-        Err(why) => return teller.no_server_of_stream(rt, &why),
-    };
-    receive_on(rt, reader, writer, receiving, wait, teller, screen)
+    match linked(rt.alloc(), place, wait, true) {
+        Ok(mut link) => receive_on(rt, &mut link, teller, receiving, screen),
+        Err(Unlinked::NoServer(why)) => teller.no_server_of_stream(rt, &why),
+        Err(Unlinked::NoMemory) => {
+            teller.fault_of_stream(rt, NO_MEMORY.line());
+            failed(false)
+        }
+    }
 }
 
 /// Receives messages over a connection like `receive_at`.
-fn receive_on<R: Leave + Drop, W: Write + Drop, S: Write>(
+fn receive_on<R: Leave, W: Write + Drop, S: Write>(
     rt: &(impl Eprint + AllocGlobal),
-    reader: R,
-    writer: W,
-    receiving: &Receiving,
-    wait: Option<u64>,
+    link: &mut Link<R, W>,
     teller: &Teller<'_>,
+    receiving: &Receiving,
     screen: &mut S,
 ) -> ExitCode
     ensures { (ended : Result ⊤ AStop) × HasReceived receiving.now ended
-        (R.remaining reader) (W.contents writer) (S.contents screen.old) (S.contents screen.new)
-        × SucceedsIf (ended ≡ Ok tt) result }
+        (left_by R.remaining link.old) (taken_by W.contents link.old) (S.contents screen.old)
+        (S.contents screen.new) × SucceedsIf (ended ≡ Ok tt) result }
 {
-    match receive_over(rt.alloc(), reader, writer, receiving, wait, screen) {
-        Ok(()) => ExitCode::SUCCESS,
-        Err(failure) => {
-            teller.fault_of_stream(rt, failure.error.line());
-            failed(failure.is_late)
-        }
-    }
+    let Err(stop) = receive_all(
+        rt.alloc(),
+        receiving,
+        &mut link.reader,
+        &mut link.writer,
+        screen,
+    ) else {
+        return ExitCode::SUCCESS;
+    };
+    let is_late = matches!(stop, Stop::Fault(ClientFault::NoReply))
+        && (link.has_ended() || link.is_over());
+    let line = if is_late {
+        NO_MESSAGE.line()
+    } else {
+        stop.line()
+    };
+    teller.fault_of_stream(rt, line);
+    failed(is_late)
 }
 
-/// Receives messages over a connection. A receive that is left after this number of milliseconds
-/// fails with ENOMSG.
-fn receive_over<R: Leave + Drop, W: Write + Drop, S: Write>(
-    alloc: Global,
-    reader: R,
-    writer: W,
-    receiving: &Receiving,
-    wait: Option<u64>,
-    screen: &mut S,
-) -> Result<(), Failure<Stop>>
-    ensures { (ended : Result ⊤ AStop) × HasReceived receiving.now ended
-        (R.remaining reader) (W.contents writer) (S.contents screen.old) (S.contents screen.new)
-        × (is_ok result ≡ is_ok ended) }
-{
-    let (mut leaver, mut outgoing) = (Leaver::new(reader, wait), Outgoing::new(writer));
-    match receive_through(alloc, &mut leaver, &mut outgoing, receiving, screen) {
-        Err(Stop::Fault(ClientFault::NoReply)) if leaver.has_ended() || leaver.is_over(&outgoing) =>
-            { Err(Failure::late(Stop::Fault(ClientFault::Refused(Errno::ENOMSG)))) }
-        Err(stop) => Err(Failure::of(stop)),
-        Ok(()) => Ok(()),
-    }
-}
-
-/// Receives messages through buffers, so that a request is one write.
-fn receive_through<R: Read + Drop, W: Write + Drop, S: Write>(
-    alloc: Global,
-    reader: R,
-    writer: W,
-    receiving: &Receiving,
-    screen: &mut S,
-) -> Result<(), Stop>
-    ensures { HasReceived receiving.now result (R.remaining reader) (W.contents writer)
-        (S.contents screen.old) (S.contents screen.new) }
-{
-    match (BufReader::new(alloc, reader), BufWriter::new(alloc, writer)) {
-        (Ok(mut reader), Ok(mut writer)) => {
-            receive_all(alloc, receiving, &mut reader, &mut writer, screen)
-        }
-        _ => Err(Stop::Fault(NO_MEMORY)),
-    }
-}
-
-/// Connects to the server at `path` and sends each line of `input` there. Each send waits no longer
-/// than this number of milliseconds, if there is one. If the input cannot be read, the reason is
-/// reported on standard error.
+/// Connects to the server at `place` and sends each line of `input` there. Each send waits no
+/// longer than this number of milliseconds, if there is one. A send that is left then fails with
+/// EAGAIN. If the input cannot be read, the reason is reported on standard error.
 pub(crate) fn send_at<I: Read, P: Place>(
     rt: &(impl Print + Eprint + AllocGlobal),
     input: &mut I,
@@ -223,37 +175,43 @@ pub(crate) fn send_at<I: Read, P: Place>(
     ensures { SucceedsOnlyIf (HasSent sending.now (Ok tt) (P.incoming place)
         (P.outgoing place) (I.remaining input.old)) result }
 {
-    match place.connect() {
-        Ok((reader, writer)) => send_on(rt, input, reader, writer, sending, wait, teller),
-        Err(why) => teller.no_server(rt, &why),
+    match linked(rt.alloc(), place, wait, true) {
+        Ok(mut link) => send_on(rt, input, &mut link, teller, sending),
+        Err(Unlinked::NoServer(why)) => teller.no_server(rt, &why),
+        Err(Unlinked::NoMemory) => no_memory(rt, teller),
     }
 }
 
 /// Sends lines over a connection like `send_at`.
-fn send_on<I: Read, R: Leave + Drop, W: Write + Drop>(
+fn send_on<I: Read, R: Leave, W: Write + Drop>(
     rt: &(impl Print + Eprint + AllocGlobal),
     input: &mut I,
-    reader: R,
-    writer: W,
-    sending: &Sending,
-    wait: Option<u64>,
+    link: &mut Link<R, W>,
     teller: &Teller<'_>,
+    sending: &Sending,
 ) -> ExitCode
     ensures { (ended : Result ⊤ AnUnsent) × HasSent sending.now ended
-        (R.remaining reader) (W.contents writer) (I.remaining input.old)
+        (left_by R.remaining link.old) (taken_by W.contents link.old) (I.remaining input.old)
         × SucceedsIf (ended ≡ Ok tt) result }
 {
-    let failure = match send_over(rt.alloc(), input, reader, writer, sending, wait) {
-        Ok(()) => return ExitCode::SUCCESS,
-        Err(failure) => failure,
+    let Err(unsent) = send_lines(
+        rt.alloc(),
+        sending,
+        input,
+        &mut link.reader,
+        &mut link.writer,
+    ) else {
+        return ExitCode::SUCCESS;
     };
-    match &failure.error {
+    let (unsent, is_late) = in_time(unsent, link);
+    match &unsent {
         Unsent::Input(why) => return teller.no_input(rt, why),
         Unsent::Cut(cut) => explain(rt, cut),
+        Unsent::Long { before } => explain_line(rt, *before, Errno::EINVAL, 0),
         _ => {}
     }
-    teller.fault(rt, failure.error.line());
-    failed(failure.is_late)
+    teller.fault(rt, unsent.line());
+    failed(is_late)
 }
 
 /// Reports on standard error which lines were sent: the first that was refused and why, and how
@@ -265,76 +223,46 @@ fn explain(rt: &impl Eprint, cut: &Cut) {
         after,
         unknown,
     } = *cut;
-    let _ = match fault {
-        ClientFault::Refused(error) => {
-            let line = before.saturating_add(1);
-            eprintln!(rt; "sysvmsg: line {line}: {error}; later lines that were sent: {after}")
-        }
-        _ => eprintln!(rt; "sysvmsg: lines that were sent: {before}"),
-    };
+    if let ClientFault::Refused(error) = fault {
+        explain_line(rt, before, error, after);
+    } else {
+        let _ = eprintln!(rt; "sysvmsg: lines that were sent: {before}");
+    }
     if unknown > 0 {
         let _ = eprintln!(rt; "sysvmsg: lines that may have been sent: {unknown}");
     }
 }
 
-/// Sends lines over a connection. A send that is left after this number of milliseconds fails with
-/// EAGAIN.
-fn send_over<I: Read, R: Leave + Drop, W: Write + Drop>(
-    alloc: Global,
-    input: &mut I,
-    reader: R,
-    writer: W,
-    sending: &Sending,
-    wait: Option<u64>,
-) -> Result<(), Failure<Unsent>>
-    ensures { (ended : Result ⊤ AnUnsent) × HasSent sending.now ended
-        (R.remaining reader) (W.contents writer) (I.remaining input.old)
-        × (is_ok result ≡ is_ok ended) }
-{
-    let (mut leaver, mut outgoing) = (Leaver::new(reader, wait), Outgoing::new(writer));
-    match send_through(alloc, input, &mut leaver, &mut outgoing, sending) {
-        Err(Unsent::Fault(ClientFault::NoReply)) if leaver.is_over(&outgoing) => {
-            Err(Failure::late(Unsent::Fault(ClientFault::Refused(Errno::EAGAIN))))
-        }
-        Err(Unsent::Cut(cut)) if is_late(&cut, &leaver, &outgoing) => {
-            Err(Failure::late(Unsent::Cut(Cut {
-                fault: ClientFault::Refused(Errno::EAGAIN),
+/// Reports on standard error that the line after `before` lines was refused, and why, and how many
+/// later ones were sent.
+fn explain_line(rt: &impl Eprint, before: u64, error: Errno, after: u32) {
+    let line = before.saturating_add(1);
+    let _ = eprintln!(rt; "sysvmsg: line {line}: {error}; later lines that were sent: {after}");
+}
+
+/// Returns the error of sends as it is told, and whether the time was over. Then it is EAGAIN.
+fn in_time<R: Leave, W: Write + Drop>(unsent: Unsent, link: &Link<R, W>) -> (Unsent, bool) {
+    match unsent {
+        Unsent::Fault(ClientFault::NoReply) if link.is_over() => (Unsent::Fault(NO_ROOM), true),
+        Unsent::Cut(cut) if is_late(&cut, link) => {
+            let cut = Cut {
+                fault: NO_ROOM,
                 unknown: 0,
                 ..cut
-            })))
+            };
+            (Unsent::Cut(cut), true)
         }
-        Err(unsent) => Err(Failure::of(unsent)),
-        Ok(()) => Ok(()),
+        other => (other, false),
     }
 }
 
 /// Returns whether sends were cut off because the time was over, so that no line from that one on
 /// was sent: its send was left, or is the only one without a reply and could not be written.
-fn is_late<R: Leave, W: Write>(cut: &Cut, leaver: &Leaver<R>, outgoing: &Outgoing<W>) -> bool {
-    cut.fault == ClientFault::NoReply
-        && (leaver.has_left() || (cut.unknown == 1 && leaver.is_over(outgoing)))
+fn is_late<R: Leave, W: Write + Drop>(cut: &Cut, link: &Link<R, W>) -> bool {
+    cut.fault == ClientFault::NoReply && (link.has_left() || (cut.unknown == 1 && link.is_over()))
 }
 
-/// Sends lines through buffers, so that a request is one write.
-fn send_through<I: Read, R: Read + Drop, W: Write + Drop>(
-    alloc: Global,
-    input: &mut I,
-    reader: R,
-    writer: W,
-    sending: &Sending,
-) -> Result<(), Unsent>
-    ensures { HasSent sending.now result (R.remaining reader) (W.contents writer)
-        (I.remaining input.old) }
-{
-    match (BufReader::new(alloc, reader), BufWriter::new(alloc, writer)) {
-        (Ok(mut reader), Ok(mut writer)) => {
-            send_lines(alloc, sending, input, &mut reader, &mut writer)
-        }
-        _ => Err(Unsent::Fault(NO_MEMORY)),
-    }
-}
-
-/// Connects to the server at `path` and removes all queues there that the caller may remove. Each
+/// Connects to the server at `place` and removes all queues there that the caller may remove. Each
 /// other queue is named on standard error, and the status is that of a fault then. Each reply is
 /// waited for no longer than this number of milliseconds, if there is one.
 pub(crate) fn remove_at<P: Place>(
@@ -347,28 +275,32 @@ pub(crate) fn remove_at<P: Place>(
     ensures { SucceedsOnlyIf (HasCleared cred (Ok tt) (P.incoming place)
         (P.outgoing place) [] []) result }
 {
-    match place.connect() {
-        Ok((reader, writer)) => remove_on(rt, reader, writer, cred, wait, teller),
-        Err(why) => teller.no_server(rt, &why),
+    match linked(rt.alloc(), place, wait, false) {
+        Ok(mut link) => remove_on(rt, &mut link, teller, cred),
+        Err(Unlinked::NoServer(why)) => teller.no_server(rt, &why),
+        Err(Unlinked::NoMemory) => no_memory(rt, teller),
     }
 }
 
 /// Removes queues over a connection like `remove_at`.
-fn remove_on<R: Leave + Drop, W: Write + Drop>(
+fn remove_on<R: Leave, W: Write + Drop>(
     rt: &(impl Print + Eprint + AllocGlobal),
-    reader: R,
-    writer: W,
-    cred: Cred,
-    wait: Option<u64>,
+    link: &mut Link<R, W>,
     teller: &Teller<'_>,
+    cred: Cred,
 ) -> ExitCode
     ensures { (ended : Result ⊤ AFault) × (refusals : List ARefusal)
-        × HasCleared cred ended (R.remaining reader) (W.contents writer) [] refusals
-        × SucceedsIf ((ended ≡ Ok tt) × (refusals ≡ [])) result }
+        × HasCleared cred ended (left_by R.remaining link.old) (taken_by W.contents link.old) []
+        refusals × SucceedsIf ((ended ≡ Ok tt) × (refusals ≡ [])) result }
 {
     let mut refusals = Vec::new(rt.alloc());
-    bound(&reader, wait);
-    let outcome = remove_through(rt.alloc(), reader, writer, cred, &mut refusals);
+    let outcome = remove_all(
+        rt.alloc(),
+        cred,
+        &mut link.reader,
+        &mut link.writer,
+        &mut refusals,
+    );
     for refusal in &refusals {
         teller.refusal(rt, refusal);
     }
@@ -378,23 +310,4 @@ fn remove_on<R: Leave + Drop, W: Write + Drop>(
         Err(fault) => teller.fault(rt, fault.line()),
     }
     ExitCode::from(FAULT)
-}
-
-/// Removes queues through buffers, so that a request is one write.
-fn remove_through<R: Read + Drop, W: Write + Drop>(
-    alloc: Global,
-    reader: R,
-    writer: W,
-    cred: Cred,
-    refusals: &mut Vec<Refusal>,
-) -> Result<(), ClientFault>
-    ensures { HasCleared cred result (R.remaining reader) (W.contents writer)
-        refusals.old.items refusals.new.items }
-{
-    match (BufReader::new(alloc, reader), BufWriter::new(alloc, writer)) {
-        (Ok(mut reader), Ok(mut writer)) => {
-            remove_all(alloc, cred, &mut reader, &mut writer, refusals)
-        }
-        _ => Err(NO_MEMORY),
-    }
 }

@@ -4,18 +4,19 @@ ghost use Rattle.std.specs.Io.KnownBytes.{Appends};
 ghost use Rattle.sysv_clients.specs.Run.{HasShortText};
 ghost use Rattle.sysvmsg.specs.Bodies.{with_text};
 ghost use Rattle.sysvmsg.specs.Clients.{HasRun, HasRunFrom, IsDone, IsRun};
+ghost use Rattle.sysvmsg.specs.Links.{left_by, taken_by};
 ghost use Rattle.sysvmsg.specs.Several.{way_by};
 ghost use Rattle.sysvmsg.specs.Ends.{Succeeds, SucceedsIf, SucceedsOnlyIf};
 
 use crate::asked::How;
 use crate::batches::{Way, receive_at, remove_at, send_at, way_of};
 use crate::input::{Unread, read_body};
-use crate::leaver::{Leaver, bound};
+use crate::link::{Link, Unlinked, linked};
 use crate::place::{Leave, Place};
 use crate::teller::Teller;
 use crate::{FAULT, TIMED_OUT};
 use std::alloc::Global;
-use std::io::{BufReader, BufWriter, Eprint, Read, Write};
+use std::io::{Eprint, Read, Write};
 use std::process::ExitCode;
 use std::str;
 use sysv_clients::{ClientFault, Command, Task, run_client};
@@ -107,10 +108,7 @@ fn run_with_input<I: Read, P: Place, S: Write>(
 {
     match read_body(rt.alloc(), input) {
         Ok(body) => run_at(rt, place, teller, &with_body(command, &body), wait, screen),
-        Err(Unread::NoMemory) => {
-            teller.fault(rt, NO_MEMORY.line());
-            ExitCode::from(FAULT)
-        }
+        Err(Unread::NoMemory) => no_memory(rt, teller),
         Err(Unread::Failed(why)) => teller.no_input(rt, &why),
     }
 }
@@ -169,19 +167,14 @@ fn run_at<P: Place, S: Write>(
     ensures { SucceedsOnlyIf (HasRun command.now (pos 0) (P.incoming place) (P.outgoing place)
         (S.contents screen.old) (S.contents screen.new)) result }
 {
-    let (reader, writer) = match place.connect() {
-        Ok(ends) => ends,
-        Err(why) => return teller.no_server(rt, &why),
-    };
-    match wait {
-        Some(_) if can_wait(&command.task) => {
-            run_within(rt, reader, writer, command, wait, teller, screen)
+    let may_leave = wait.is_some() && can_wait(&command.task);
+    match linked(rt.alloc(), place, wait, may_leave) {
+        Ok(mut link) if may_leave || teller.is_aside => {
+            run_within(rt, &mut link, command, teller, screen)
         }
-        _ if teller.is_aside => run_within(rt, reader, writer, command, wait, teller, screen),
-        _ => {
-            bound(&reader, wait);
-            run_over(rt.alloc(), reader, writer, command, screen)
-        }
+        Ok(mut link) => ended(run_on(rt.alloc(), &mut link, command, screen)),
+        Err(Unlinked::NoServer(why)) => teller.no_server(rt, &why),
+        Err(Unlinked::NoMemory) => no_memory(rt, teller),
     }
 }
 
@@ -190,35 +183,29 @@ fn can_wait(task: &Task<'_>) -> bool {
     matches!(task, Task::Send { .. } | Task::Receive(_))
 }
 
-/// Runs a command over a connection like `run_over`, but tells its fault as the teller does, and
-/// leaves a call of a `snd` or a `rcv` that has no reply
-/// after this number of milliseconds. If the server then ends the session without a reply, the call
-/// had no effect: the line of ENOMSG or, for a `snd`, of EAGAIN is shown, and the status is that of
-/// a time-out.
+/// Runs a command over a connection like `run_at`, but tells its fault as the teller does. If the
+/// server ends the session without a reply after a call was left, the call had no effect: the line
+/// of ENOMSG or, for a `snd`, of EAGAIN is shown, and the status is that of a time-out.
 ///
 /// # Conditions
 ///
 /// - The body of a `snd` has at most 8,256 bytes.
-fn run_within<R: Leave + Drop, W: Write + Drop, S: Write>(
+fn run_within<R: Leave, W: Write + Drop, S: Write>(
     rt: &(impl Print + Eprint + AllocGlobal),
-    reader: R,
-    writer: W,
+    link: &mut Link<R, W>,
     command: &Command<'_>,
-    wait: Option<u64>,
     teller: &Teller<'_>,
     screen: &mut S,
 ) -> ExitCode
     requires { HasShortText command.now.task }
-    ensures { SucceedsOnlyIf (HasRun command.now (pos 0) (R.remaining reader)
-        (W.contents writer) (S.contents screen.old) (S.contents screen.new)) result }
+    ensures { SucceedsOnlyIf (HasRun command.now (pos 0) (left_by R.remaining link.old)
+        (taken_by W.contents link.old) (S.contents screen.old) (S.contents screen.new)) result }
 {
-    let mut leaver = Leaver::new(reader, wait).leaving_if(can_wait(&command.task));
     let Ok(mut page) = Vec::with_capacity(rt.alloc(), PAGE_ROOM) else {
-        teller.fault(rt, NO_MEMORY.line());
-        return ExitCode::from(FAULT);
+        return no_memory(rt, teller);
     };
-    let status = run_through(rt.alloc(), &mut leaver, writer, command, &mut page);
-    let has_left = leaver.has_left();
+    let status = run_on(rt.alloc(), link, command, &mut page);
+    let has_left = link.has_left();
     let text = text_within(command, status, page.as_slice(), has_left);
     if status != 0 && teller.is_aside {
         teller.fault(rt, str::from_utf8(text).unwrap_or(NO_MEMORY.line()));
@@ -239,8 +226,8 @@ fn status_within(status: i32, has_left: bool) -> i32
     }
 }
 
-/// Returns what is shown of a command that ended with this status: the page, or the line of an error
-/// if the call was left.
+/// Returns what is shown of a command that ended with this status: the page, or the line of an
+/// error if the call was left.
 fn text_within<'a>(command: &Command<'_>, status: i32, page: &'a [u8], has_left: bool) -> &'a [u8]
     ensures { status ≡ pos 0 → result.now ≡ page.now }
 {
@@ -266,51 +253,22 @@ fn show<S: Write>(screen: &mut S, text: &[u8], status: i32) -> ExitCode
     ended(status)
 }
 
-/// Runs a command over a connection.
+/// Runs a command over a connection. Returns the status of the client.
 ///
 /// # Conditions
 ///
 /// - The body of a `snd` has at most 8,256 bytes.
-fn run_over<R: Read + Drop, W: Write + Drop, S: Write>(
+fn run_on<R: Leave, W: Write + Drop, S: Write>(
     alloc: Global,
-    reader: R,
-    writer: W,
-    command: &Command<'_>,
-    screen: &mut S,
-) -> ExitCode
-    requires { HasShortText command.now.task }
-    ensures { SucceedsOnlyIf (HasRun command.now (pos 0) (R.remaining reader)
-        (W.contents writer) (S.contents screen.old) (S.contents screen.new)) result }
-{
-    ended(run_through(alloc, reader, writer, command, screen))
-}
-
-/// Runs a command through buffers, so that a request is one write. Returns the status of the client,
-/// or 1 if there is no memory for the buffers.
-///
-/// # Conditions
-///
-/// - The body of a `snd` has at most 8,256 bytes.
-fn run_through<R: Read + Drop, W: Write + Drop, S: Write>(
-    alloc: Global,
-    reader: R,
-    writer: W,
+    link: &mut Link<R, W>,
     command: &Command<'_>,
     screen: &mut S,
 ) -> i32
     requires { HasShortText command.now.task }
-    ensures { result ≡ pos 0 → HasRun command.now (pos 0) (R.remaining reader)
-        (W.contents writer) (S.contents screen.old) (S.contents screen.new) }
+    ensures { result ≡ pos 0 → HasRun command.now (pos 0) (left_by R.remaining link.old)
+        (taken_by W.contents link.old) (S.contents screen.old) (S.contents screen.new) }
 {
-    match (BufReader::new(alloc, reader), BufWriter::new(alloc, writer)) {
-        (Ok(mut reader), Ok(mut writer)) => {
-            run_client(alloc, command, &mut reader, &mut writer, screen)
-        }
-        _ => {
-            no_memory(screen);
-            1
-        }
-    }
+    run_client(alloc, command, &mut link.reader, &mut link.writer, screen)
 }
 
 /// Returns the status of a client as that of the program.
@@ -335,10 +293,10 @@ pub(crate) fn failed(is_late: bool) -> ExitCode
     }
 }
 
-/// Reports that memory was refused before anything was requested.
-fn no_memory<S: Write>(screen: &mut S) -> ExitCode
+/// Tells that memory was refused before anything was requested.
+pub(crate) fn no_memory(rt: &(impl Print + Eprint + AllocGlobal), teller: &Teller<'_>) -> ExitCode
     ensures { Succeeds result → ⊥ }
 {
-    let _ = screen.write_all(ClientFault::NoMemory.line().as_bytes());
-    ExitCode::from(FAULT)
+    teller.fault(rt, NO_MEMORY.line());
+    failed(false)
 }

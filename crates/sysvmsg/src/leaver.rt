@@ -10,8 +10,8 @@ use std::time::Duration;
 const TO_END: u64 = 60;
 
 /// The reader of a connection. A read that waits too long leaves the call that waits: it shuts down
-/// the writing half of the connection, and then reads what the server still sends. If the server has
-/// sent nothing at all, no call was made, and the read fails at once: there is no reply.
+/// the writing half of the connection, and then reads what the server still sends. If the server
+/// has sent nothing at all, no call was made, and the read fails at once: there is no reply.
 #[derive(Drop)]
 pub(crate) struct Leaver<R> {
     reader: R,
@@ -44,8 +44,8 @@ impl<R: Leave> Leaver<R> {
         }
     }
 
-    /// Returns the same reader, which leaves a call only if `may_leave` is true. If it leaves none, a
-    /// read that waits too long fails.
+    /// Returns the same reader, which leaves a call only if `may_leave` is true. If it leaves none,
+    /// a read that waits too long fails.
     pub(crate) fn leaving_if(self, may_leave: bool) -> Leaver<R>
         ensures { result.reader ≡ self.reader }
     {
@@ -57,8 +57,8 @@ impl<R: Leave> Leaver<R> {
         self.has_left
     }
 
-    /// Returns whether the call was left, and the session then ended, perhaps after further replies.
-    /// No call without a reply had an effect then.
+    /// Returns whether the call was left, and the session then ended, perhaps after further
+    /// replies. No call without a reply had an effect then.
     pub(crate) fn has_ended(&self) -> bool {
         self.has_ended
     }

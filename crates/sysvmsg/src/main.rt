@@ -9,6 +9,7 @@ mod commands;
 mod connection;
 mod input;
 mod leaver;
+mod link;
 mod place;
 mod plain;
 mod room;
@@ -69,30 +70,26 @@ fn main(rt: HostRuntime) -> ExitCode {
                 how,
             },
         ) => {
-            let how = How {
-                stderr: how.stderr || wants_stderr(&rt),
-                ..how
-            };
             let cred = credentials(&who, wants_me(&rt), own());
-            let command = Command { cred, task };
-            let mut stream = None;
-            let place = Socket::new(&rt, path, &mut stream);
-            let mut screen = io::writer(&rt);
-            run_as(
-                &rt,
-                &mut rt.stdin(),
-                place,
-                path,
-                &command,
-                &how,
-                &mut screen,
-            )
+            run_client(&rt, path, &Command { cred, task }, how)
         }
         Err(error) => {
             let is_aside = has_stderr(words.as_slice()) || wants_stderr(&rt);
             tell(&rt, &error, is_aside)
         }
     }
+}
+
+/// Runs a client's command on the server at `path`.
+fn run_client(rt: &HostRuntime, path: &str, command: &Command<'_>, how: How) -> ExitCode {
+    let how = How {
+        stderr: how.stderr || wants_stderr(rt),
+        ..how
+    };
+    let mut stream = None;
+    let place = Socket::new(rt, path, &mut stream);
+    let mut screen = io::writer(rt);
+    run_as(rt, &mut rt.stdin(), place, path, command, &how, &mut screen)
 }
 
 /// Prints the state of a server.

@@ -6,13 +6,13 @@ use libc::types::rlimit;
 use libc::{RLIMIT_NOFILE, getrlimit};
 
 /// The number of descriptors of a server beside those of its workers and its clients: the standard
-/// streams, the listener and a bell.
+/// streams, the listener and a doorbell.
 const OWN: u64 = 5;
 
 /// The number of descriptors of a server that shows its state, for that: a listener and a reader.
 const OF_STATS: u64 = 2;
 
-/// The number of descriptors of a worker: its bell and its poll.
+/// The number of descriptors of a worker: its doorbell and its poll.
 const OF_WORKER: u64 = 2;
 
 /// Returns the limit of open files of the process, or `None` if it is not known.

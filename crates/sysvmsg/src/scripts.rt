@@ -5,7 +5,7 @@ ghost use Rattle.sysvmsg.specs.Scripts.{AnswersScript};
 use crate::FAULT;
 use std::io::{Eprint, Read, Write};
 use std::process::ExitCode;
-use sysv_model::Watched;
+use sysv_model::Instrumented;
 use sysv_script::run_script;
 
 /// Runs the script that `script` returns, and writes its results to `answers`. A fault is reported
@@ -19,8 +19,8 @@ pub(crate) fn answer_script<R: Read, W: Write>(
         AnswersScript result text (W.contents answers.old) (W.contents answers.new)
         (R.remaining script.new) }
 {
-    let mut reader = Watched::new(script);
-    let mut writer = Watched::new(answers);
+    let mut reader = Instrumented::new(script);
+    let mut writer = Instrumented::new(answers);
     match run_script(rt.alloc(), &mut reader, &mut writer) {
         Ok(()) => ExitCode::SUCCESS,
         Err(fault) => {

@@ -42,7 +42,8 @@ struct Names {
     private: String,
 }
 
-/// Creates the socket and listens on it. If there is none, the reason is reported on standard error.
+/// Creates the socket and listens on it. If there is none, the reason is reported on standard
+/// error.
 pub(crate) fn listen_at<R: Files + Net + Eprint + AllocGlobal + Clone + Drop>(
     rt: &R,
     file: &SocketFile<'_>,
@@ -62,8 +63,8 @@ pub(crate) fn listen_at<R: Files + Net + Eprint + AllocGlobal + Clone + Drop>(
     }
 }
 
-/// Returns the outcome. If the file `path` is at fault, that is reported on standard error, with the
-/// hint if the file is there already.
+/// Returns the outcome. If the file `path` is at fault, that is reported on standard error, with
+/// the hint if the file is there already.
 fn told<T, R: Eprint + AllocGlobal>(
     rt: &R,
     path: &str,
@@ -97,8 +98,8 @@ fn clear<R: Files + Net + AllocGlobal + Clone + Drop>(
     left
 }
 
-/// Removes the file at `path` if it is a socket on which no server listens. Returns why it stays, or
-/// nothing if it does not.
+/// Removes the file at `path` if it is a socket on which no server listens. Returns why it stays,
+/// or nothing if it does not.
 fn remove_unused<R: Files + Net>(rt: &R, path: &str) -> &'static str {
     match fs::symlink_metadata(rt, path) {
         Ok(found) if !found.file_type().is_socket() => return NO_SOCKET,

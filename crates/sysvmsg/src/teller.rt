@@ -1,7 +1,7 @@
 //! What a user is told of the faults of a client.
 ghost use Rattle.sysvmsg.specs.Ends.{Succeeds};
 
-use crate::plain::{complain, reason, report};
+use crate::plain::{Reason, complain, report};
 use crate::{FAULT, say};
 use std::io::Eprint;
 use std::process::ExitCode;
@@ -78,9 +78,12 @@ impl Teller<'_> {
     fn no_server_said(&self, rt: &(impl Eprint + AllocGlobal), why: &io::Error) -> ExitCode
         ensures { Succeeds result → ⊥ }
     {
-        self.begin(rt);
-        let _ = eprint!(rt; "no server at {}", self.path);
-        reason(rt, why);
+        let reason = Reason::of(rt.alloc(), why);
+        let _ = eprintln!(rt;
+            "sysvmsg: {}: no server at {}{reason}",
+            self.head(),
+            self.path
+        );
         ExitCode::from(FAULT)
     }
 
@@ -93,9 +96,11 @@ impl Teller<'_> {
         ensures { Succeeds result → ⊥ }
     {
         if self.is_aside {
-            self.begin(rt);
-            let _ = eprint!(rt; "cannot read standard input");
-            reason(rt, why);
+            let reason = Reason::of(rt.alloc(), why);
+            let _ = eprintln!(rt;
+                "sysvmsg: {}: cannot read standard input{reason}",
+                self.head()
+            );
             ExitCode::from(FAULT)
         } else {
             complain(rt, "standard input", why, "");
@@ -122,31 +127,40 @@ impl Teller<'_> {
             return;
         }
         let words = words_of(name, has_id(self.task));
-        self.begin(rt);
+        let head = self.head();
         let _ = if words.is_empty() {
-            eprintln!(rt; "{name}")
+            eprintln!(rt; "sysvmsg: {head}: {name}")
         } else {
-            eprintln!(rt; "{words} ({name})")
+            eprintln!(rt; "sysvmsg: {head}: {words} ({name})")
         };
     }
 
-    /// Begins a sentence: the command, and the key or the identifier of its queue.
-    fn begin(&self, rt: &impl Eprint) {
-        let Some(task) = self.task else {
-            let _ = eprint!(rt; "sysvmsg: stats: ");
-            return;
+    /// Returns what a sentence begins with.
+    fn head(&self) -> Head<'_> {
+        Head(self.task)
+    }
+}
+
+/// What a sentence begins with: the command, and the key or the identifier of its queue.
+#[derive(Clone, Copy)]
+struct Head<'a>(Option<&'a Task<'a>>);
+
+impl fmt::Display for Head<'_> {
+    fn fmt<W: fmt::Write>(&self, f: &mut fmt::Formatter<W>) -> fmt::Result {
+        let Some(task) = self.0 else {
+            return write!(f, "stats");
         };
-        let _ = match *task {
-            Task::List(_) => eprint!(rt; "sysvmsg: ipcs: "),
-            Task::Show(id) => eprint!(rt; "sysvmsg: ipcs: identifier {id}: "),
-            Task::Remove(Target::Id(id)) => eprint!(rt; "sysvmsg: ipcrm: identifier {id}: "),
-            Task::Remove(Target::Key(key)) => eprint!(rt; "sysvmsg: ipcrm: key {}: ", Key(key)),
-            Task::Remove(Target::All) => eprint!(rt; "sysvmsg: ipcrm: "),
-            Task::Make(making) if making.key == 0 => eprint!(rt; "sysvmsg: ipcmk: "),
-            Task::Make(making) => eprint!(rt; "sysvmsg: ipcmk: key {}: ", Key(making.key)),
-            Task::Send { key, .. } => eprint!(rt; "sysvmsg: snd: key {}: ", Key(key)),
-            Task::Receive(receipt) => eprint!(rt; "sysvmsg: rcv: key {}: ", Key(receipt.key)),
-        };
+        match *task {
+            Task::List(_) => write!(f, "ipcs"),
+            Task::Show(id) => write!(f, "ipcs: identifier {id}"),
+            Task::Remove(Target::Id(id)) => write!(f, "ipcrm: identifier {id}"),
+            Task::Remove(Target::Key(key)) => write!(f, "ipcrm: key {}", Key(key)),
+            Task::Remove(Target::All) => write!(f, "ipcrm"),
+            Task::Make(making) if making.key == 0 => write!(f, "ipcmk"),
+            Task::Make(making) => write!(f, "ipcmk: key {}", Key(making.key)),
+            Task::Send { key, .. } => write!(f, "snd: key {}", Key(key)),
+            Task::Receive(receipt) => write!(f, "rcv: key {}", Key(receipt.key)),
+        }
     }
 }
 

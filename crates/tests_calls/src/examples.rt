@@ -2,7 +2,7 @@
 use crate::parts::assert_is;
 use std::test::Fail;
 use sysv_core::{Call, Event, Outcome, Stepped, World};
-use sysv_model::{Errno, Watched};
+use sysv_model::{Errno, Instrumented};
 use sysv_script::run_script;
 use tests_kit::USER;
 
@@ -32,8 +32,8 @@ fn a_call_takes_two_steps(rt: HostRuntime) -> Result<(), Fail> {
 fn a_script_prints_its_answers(rt: HostRuntime) -> Result<(), Fail> {
     let mut script = b"preset\n1 snd 0 5 - =hello\n2 rcv 0 9 0 -\n".as_slice();
     let mut printed = Vec::new(rt.alloc());
-    let mut reader = Watched::new(&mut script);
-    let mut writer = Watched::new(&mut printed);
+    let mut reader = Instrumented::new(&mut script);
+    let mut writer = Instrumented::new(&mut printed);
     run_script(rt.alloc(), &mut reader, &mut writer)?;
     let answers = b"1 snd = 0\n2 rcv = 5 type 5 =hello\n".as_slice();
     assert!(rt; printed.as_slice() == answers);

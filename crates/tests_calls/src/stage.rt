@@ -1,7 +1,7 @@
 //! A stage on which lines run.
 
 use std::alloc::Global;
-use sysv_model::{NoMemory, Watched};
+use sysv_model::{Instrumented, NoMemory};
 use sysv_script::{Output, Stage, line_of};
 use tests_kit::mark;
 
@@ -50,12 +50,13 @@ fn a_message_goes_through_the_stage(rt: HostRuntime) {
     }
     assert_eq!(rt; understood, Ok(true));
     assert_eq!(rt; late, Ok(false));
-    let mut writer = Watched::new(&mut written);
+    let mut writer = Instrumented::new(&mut written);
     assert!(rt; output.write_to(&mut writer).is_ok());
     assert!(rt; written.as_slice() == b"1 snd = 0\n2 rcv = 5 type 5 =hello\n".as_slice());
 }
 
-// The bodies of the first send and the first receive are used again, and the output has its memory from the start.
+// The bodies of the first send and the first receive are used again, and the output has its memory
+// from the start.
 #[test]
 fn no_growths_after_the_first_messages(rt: HostRuntime) {
     let Ok(mut output) = Output::open(rt.alloc()) else {

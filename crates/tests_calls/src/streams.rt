@@ -1,6 +1,6 @@
 //! Reading line by line, and writing.
 
-use sysv_model::{Body, Watched};
+use sysv_model::{Body, Instrumented};
 use sysv_script::{Head, Input, Output, next_line, read_on};
 
 #[test]
@@ -9,9 +9,9 @@ fn lines_are_found_one_by_one(rt: HostRuntime) {
         return;
     };
     let mut text = b"ab\ncde".as_slice();
-    let mut reader = Watched::new(&mut text);
+    let mut reader = Instrumented::new(&mut text);
     let mut written = Vec::new(rt.alloc());
-    let mut writer = Watched::new(&mut written);
+    let mut writer = Instrumented::new(&mut written);
     let Ok(Some(first)) = next_line(&mut input, &mut output, &mut reader, &mut writer) else {
         panic!(rt; "no first line");
     };
@@ -42,9 +42,13 @@ fn answers_are_written(rt: HostRuntime) {
     };
     assert!(rt; output.tell(Head::Worn { actor: 1 }).is_ok());
     assert!(rt; output.tell_text(Head::Bad { number: 2 }, &text).is_ok());
-    assert!(rt; output.make_room(&mut Watched::new(&mut written)).is_ok());
+    assert!(rt;
+        output
+            .make_room(&mut Instrumented::new(&mut written))
+            .is_ok()
+    );
     assert!(rt; written.is_empty());
-    let mut writer = Watched::new(&mut written);
+    let mut writer = Instrumented::new(&mut written);
     assert!(rt; output.write_to(&mut writer).is_ok());
     assert!(rt; writer.failures() == 0);
     assert!(rt; written.as_slice() == b"1 worn\nline 2: badhello\n".as_slice());

@@ -39,8 +39,8 @@ fn joined(rt: &impl Abort, alloc: Global, parts: &[&[u8]]) -> Vec<u8> {
 /// The room for the replies of a connection.
 const ROOM: usize = 512;
 
-/// Serves connections on which clients write these bytes, with a place for each book and this number
-/// of workers. Each read and write of a connection goes by the steps.
+/// Serves connections on which clients write these bytes, with a place for each book and this
+/// number of workers. Each read and write of a connection goes by the steps.
 fn served<R: Threads + Wait + Abort + Sync>(
     rt: &R,
     alloc: Global,

@@ -78,8 +78,8 @@ fn wanted_at_failure(taken: usize) -> Wanted<'static> {
     }
 }
 
-/// Asserts that a session did this with these replies, and that this is left of its service. `place`
-/// is named if not.
+/// Asserts that a session did this with these replies, and that this is left of its service.
+/// `place` is named if not.
 fn assert_done(
     rt: &impl Abort,
     told: &Served,

@@ -101,16 +101,16 @@ impl Write for Tape {
 
 /// What a client reads, writes and shows.
 #[derive(Drop)]
-struct Talk {
+struct Dialogue {
     replies: Tape,
     requests: Tape,
     screen: Tape,
 }
 
-impl Talk {
+impl Dialogue {
     /// Creates the streams of a client whose server sends these replies.
-    fn new(rt: &impl Abort, alloc: Global, replies: &[&[u8]]) -> Talk {
-        Talk {
+    fn new(rt: &impl Abort, alloc: Global, replies: &[&[u8]]) -> Dialogue {
+        Dialogue {
             replies: joined(rt, alloc, replies),
             requests: Tape::new(rt, alloc),
             screen: Tape::new(rt, alloc),
@@ -225,29 +225,29 @@ fn joined(rt: &impl Abort, alloc: Global, parts: &[&[u8]]) -> Tape {
 
 #[test]
 fn a_queue_is_removed_by_its_identifier(rt: HostRuntime) {
-    let mut talk = Talk::new(&rt, rt.alloc(), &[WELCOME, REMOVED]);
-    let status = talk.run(&rt, rt.alloc(), Task::Remove(Target::Id(2147483647)));
+    let mut dialogue = Dialogue::new(&rt, rt.alloc(), &[WELCOME, REMOVED]);
+    let status = dialogue.run(&rt, rt.alloc(), Task::Remove(Target::Id(2147483647)));
     assert_is(&rt, status, 0);
     let wanted = joined(
         &rt,
         rt.alloc(),
         &[HELLO, b"\0\0\0\x06\x02\x06\x7f\xff\xff\xff"],
     );
-    assert!(rt; talk.requests.text() == wanted.text());
-    assert_is(&rt, talk.requests.flushed, 2);
-    assert_is(&rt, talk.replies.read, 18);
-    assert_is(&rt, talk.screen.len(), 0);
+    assert!(rt; dialogue.requests.text() == wanted.text());
+    assert_is(&rt, dialogue.requests.flushed, 2);
+    assert_is(&rt, dialogue.replies.read, 18);
+    assert_is(&rt, dialogue.screen.len(), 0);
 }
 
 #[test]
 fn a_queue_is_removed_by_its_key(rt: HostRuntime) {
-    let mut talk = Talk::new(&rt, rt.alloc(), &[WELCOME, GOT, REMOVED, b"more"]);
-    let status = talk.run(&rt, rt.alloc(), Task::Remove(Target::Key(7)));
+    let mut dialogue = Dialogue::new(&rt, rt.alloc(), &[WELCOME, GOT, REMOVED, b"more"]);
+    let status = dialogue.run(&rt, rt.alloc(), Task::Remove(Target::Key(7)));
     assert_is(&rt, status, 0);
-    assert!(rt; talk.requests.text() == joined(&rt, rt.alloc(), &[HELLO, GET, REMOVE]).text());
-    assert_is(&rt, talk.requests.flushed, 3);
-    assert_is(&rt, talk.replies.read, 29);
-    assert_is(&rt, talk.screen.len(), 0);
+    assert!(rt; dialogue.requests.text() == joined(&rt, rt.alloc(), &[HELLO, GET, REMOVE]).text());
+    assert_is(&rt, dialogue.requests.flushed, 3);
+    assert_is(&rt, dialogue.replies.read, 29);
+    assert_is(&rt, dialogue.screen.len(), 0);
 }
 
 #[test]
@@ -258,14 +258,14 @@ fn a_message_is_sent(rt: HostRuntime) {
         (i64::MAX, false, b"\x7f\xff\xff\xff\xff\xff\xff\xff\0\0\0\0"),
     ];
     for (mtype, nowait, fields) in table {
-        let mut talk = Talk::new(&rt, rt.alloc(), &[WELCOME, GOT, SENT]);
+        let mut dialogue = Dialogue::new(&rt, rt.alloc(), &[WELCOME, GOT, SENT]);
         let task = Task::Send {
             key: 7,
             text: b"abc",
             mtype,
             nowait,
         };
-        assert_is(&rt, talk.run(&rt, rt.alloc(), task), 0);
+        assert_is(&rt, dialogue.run(&rt, rt.alloc(), task), 0);
         let wanted = joined(
             &rt,
             rt.alloc(),
@@ -277,22 +277,22 @@ fn a_message_is_sent(rt: HostRuntime) {
                 b"abc",
             ],
         );
-        assert!(rt; talk.requests.text() == wanted.text(), "{mtype}");
-        assert_is(&rt, talk.screen.len(), 0);
+        assert!(rt; dialogue.requests.text() == wanted.text(), "{mtype}");
+        assert_is(&rt, dialogue.screen.len(), 0);
     }
 }
 
 #[test]
 fn the_longest_text_is_sent(rt: HostRuntime) {
     let text = [b'x'; BODY_ROOM];
-    let mut talk = Talk::new(&rt, rt.alloc(), &[WELCOME, GOT, b"\0\0\0\x03\x02\x02\x16"]);
+    let mut dialogue = Dialogue::new(&rt, rt.alloc(), &[WELCOME, GOT, b"\0\0\0\x03\x02\x02\x16"]);
     let task = Task::Send {
         key: 7,
         text: &text,
         mtype: 1,
         nowait: false,
     };
-    assert_is(&rt, talk.run(&rt, rt.alloc(), task), 1);
+    assert_is(&rt, dialogue.run(&rt, rt.alloc(), task), 1);
     let wanted = joined(
         &rt,
         rt.alloc(),
@@ -303,23 +303,23 @@ fn the_longest_text_is_sent(rt: HostRuntime) {
             &text,
         ],
     );
-    assert!(rt; talk.requests.text() == wanted.text());
-    assert!(rt; talk.screen.text() == b"sysvmsg: EINVAL\n".as_slice());
+    assert!(rt; dialogue.requests.text() == wanted.text());
+    assert!(rt; dialogue.screen.text() == b"sysvmsg: EINVAL\n".as_slice());
 }
 
 #[test]
 fn a_message_is_received(rt: HostRuntime) {
-    let mut talk = Talk::new(&rt, rt.alloc(), &[WELCOME, GOT, MESSAGE]);
-    assert_is(&rt, talk.run(&rt, rt.alloc(), RECEIVE_ANY), 0);
-    assert!(rt; talk.requests.text() == joined(&rt, rt.alloc(), &[HELLO, GET, RECEIVE]).text());
-    assert_is(&rt, talk.requests.flushed, 3);
-    assert!(rt; talk.screen.text() == b"abc\n".as_slice());
-    assert_is(&rt, talk.screen.flushed, 1);
+    let mut dialogue = Dialogue::new(&rt, rt.alloc(), &[WELCOME, GOT, MESSAGE]);
+    assert_is(&rt, dialogue.run(&rt, rt.alloc(), RECEIVE_ANY), 0);
+    assert!(rt; dialogue.requests.text() == joined(&rt, rt.alloc(), &[HELLO, GET, RECEIVE]).text());
+    assert_is(&rt, dialogue.requests.flushed, 3);
+    assert!(rt; dialogue.screen.text() == b"abc\n".as_slice());
+    assert_is(&rt, dialogue.screen.flushed, 1);
 }
 
 #[test]
 fn a_receive_says_what_is_wanted(rt: HostRuntime) {
-    let mut talk = Talk::new(
+    let mut dialogue = Dialogue::new(
         &rt,
         rt.alloc(),
         &[WELCOME, GOT, b"\0\0\0\x0b\x02\x03\0\0\0\0\0\0\0\0\x05"],
@@ -331,7 +331,7 @@ fn a_receive_says_what_is_wanted(rt: HostRuntime) {
         noerror: true,
         ..ANY
     });
-    assert_is(&rt, talk.run(&rt, rt.alloc(), task), 0);
+    assert_is(&rt, dialogue.run(&rt, rt.alloc(), task), 0);
     let wanted = joined(
         &rt,
         rt.alloc(),
@@ -341,55 +341,55 @@ fn a_receive_says_what_is_wanted(rt: HostRuntime) {
             b"\0\0\0\x16\x02\x03\0\0\0\x40\xff\xff\xff\xff\xff\xff\xff\xff\xff\xff\xff\xfb\0\0\x18\0",
         ],
     );
-    assert!(rt; talk.requests.text() == wanted.text());
-    assert!(rt; talk.screen.text() == b"\n".as_slice());
+    assert!(rt; dialogue.requests.text() == wanted.text());
+    assert!(rt; dialogue.screen.text() == b"\n".as_slice());
 }
 
 #[test]
 fn the_longest_message_is_received(rt: HostRuntime) {
     let text = [b'y'; 8192];
     let front = b"\0\0\x20\x0b\x02\x03\0\0\0\0\0\0\0\0\x05";
-    let mut talk = Talk::new(&rt, rt.alloc(), &[WELCOME, GOT, front, &text]);
-    talk.replies.piece = 100;
-    assert_is(&rt, talk.run(&rt, rt.alloc(), RECEIVE_ANY), 0);
-    assert!(rt; talk.screen.text() == joined(&rt, rt.alloc(), &[&text, b"\n"]).text());
+    let mut dialogue = Dialogue::new(&rt, rt.alloc(), &[WELCOME, GOT, front, &text]);
+    dialogue.replies.piece = 100;
+    assert_is(&rt, dialogue.run(&rt, rt.alloc(), RECEIVE_ANY), 0);
+    assert!(rt; dialogue.screen.text() == joined(&rt, rt.alloc(), &[&text, b"\n"]).text());
 }
 
 /// Returns the streams of a client whose server has queues in slots 0 and 63.
-fn listed(rt: &impl Abort, alloc: Global) -> Talk {
-    let mut talk = Talk::new(rt, alloc, &[WELCOME, ROW]);
+fn listed(rt: &impl Abort, alloc: Global) -> Dialogue {
+    let mut dialogue = Dialogue::new(rt, alloc, &[WELCOME, ROW]);
     for _ in 0..62 {
-        talk.replies.put(VACANT);
+        dialogue.replies.put(VACANT);
     }
-    talk.replies.put(WIDE);
-    talk
+    dialogue.replies.put(WIDE);
+    dialogue
 }
 
 #[test]
 fn queues_are_listed(rt: HostRuntime) {
-    let mut talk = listed(&rt, rt.alloc());
-    assert_is(&rt, talk.run(&rt, rt.alloc(), LIST), 0);
+    let mut dialogue = listed(&rt, rt.alloc());
+    assert_is(&rt, dialogue.run(&rt, rt.alloc(), LIST), 0);
     let mut wanted = joined(&rt, rt.alloc(), &[HELLO]);
     for slot in 0..64 {
         wanted.put(b"\0\0\0\x06\x02\x07\0\0\0");
         wanted.put(&[slot]);
     }
-    assert!(rt; talk.requests.text() == wanted.text());
-    assert_is(&rt, talk.requests.flushed, 2);
-    assert!(rt; talk.screen.text() == joined(&rt, rt.alloc(), &[HEAD, LINE, WIDE_LINE]).text());
+    assert!(rt; dialogue.requests.text() == wanted.text());
+    assert_is(&rt, dialogue.requests.flushed, 2);
+    assert!(rt; dialogue.screen.text() == joined(&rt, rt.alloc(), &[HEAD, LINE, WIDE_LINE]).text());
 }
 
 #[test]
 fn no_queue_is_listed(rt: HostRuntime) {
-    let mut talk = Talk::new(&rt, rt.alloc(), &[WELCOME]);
+    let mut dialogue = Dialogue::new(&rt, rt.alloc(), &[WELCOME]);
     for _ in 0..64 {
-        talk.replies.put(VACANT);
+        dialogue.replies.put(VACANT);
     }
-    talk.replies.piece = 3;
-    talk.requests.piece = 5;
-    talk.screen.piece = 1;
-    assert_is(&rt, talk.run(&rt, rt.alloc(), LIST), 0);
-    assert!(rt; talk.screen.text() == HEAD);
+    dialogue.replies.piece = 3;
+    dialogue.requests.piece = 5;
+    dialogue.screen.piece = 1;
+    assert_is(&rt, dialogue.run(&rt, rt.alloc(), LIST), 0);
+    assert!(rt; dialogue.screen.text() == HEAD);
 }
 
 /// Returns a tape with a hello and the requests for the rows of this number of slots.
@@ -410,28 +410,28 @@ fn as_many_rows_are_asked_for_as_the_server_has_slots(rt: HostRuntime) {
         (b"\0\0\0\x07\x02\0\0\0\0\0\x05", 5),
     ];
     for (welcome, slots) in table {
-        let mut talk = Talk::new(&rt, rt.alloc(), &[welcome]);
+        let mut dialogue = Dialogue::new(&rt, rt.alloc(), &[welcome]);
         let mut wanted = joined(&rt, rt.alloc(), &[HELLO]);
         for slot in 0..slots {
-            talk.replies.put(VACANT);
+            dialogue.replies.put(VACANT);
             wanted.put(b"\0\0\0\x06\x02\x07\0\0\0");
             wanted.put(&[slot]);
         }
-        assert_is(&rt, talk.run(&rt, rt.alloc(), LIST), 0);
-        assert!(rt; talk.requests.text() == wanted.text(), "{slots}");
-        assert!(rt; talk.screen.text() == HEAD, "{slots}");
+        assert_is(&rt, dialogue.run(&rt, rt.alloc(), LIST), 0);
+        assert!(rt; dialogue.requests.text() == wanted.text(), "{slots}");
+        assert!(rt; dialogue.screen.text() == HEAD, "{slots}");
     }
 }
 
 #[test]
 fn a_server_says_that_it_has_the_most_slots(rt: HostRuntime) {
     let welcome = b"\0\0\0\x07\x02\0\0\xff\xff\xff\xff";
-    let mut talk = Talk::new(&rt, rt.alloc(), &[welcome, ROW, VACANT]);
-    assert_is(&rt, talk.run(&rt, rt.alloc(), LIST), 1);
-    assert!(rt; talk.screen.text() == NO_REPLY);
-    assert_is(&rt, talk.requests.flushed, 2);
+    let mut dialogue = Dialogue::new(&rt, rt.alloc(), &[welcome, ROW, VACANT]);
+    assert_is(&rt, dialogue.run(&rt, rt.alloc(), LIST), 1);
+    assert!(rt; dialogue.screen.text() == NO_REPLY);
+    assert_is(&rt, dialogue.requests.flushed, 2);
     let rows = requested_rows(&rt, rt.alloc(), 256);
-    assert!(rt; talk.requests.text() == rows.text());
+    assert!(rt; dialogue.requests.text() == rows.text());
 }
 
 #[test]
@@ -443,15 +443,15 @@ fn rows_are_requested_in_a_window(rt: HostRuntime) {
         (b"\0\0\0\x07\x02\0\0\0\0\x02\x58", 600, 4),
     ];
     for (welcome, slots, flushes) in table {
-        let mut talk = Talk::new(&rt, rt.alloc(), &[welcome]);
+        let mut dialogue = Dialogue::new(&rt, rt.alloc(), &[welcome]);
         for _ in 0..slots {
-            talk.replies.put(VACANT);
+            dialogue.replies.put(VACANT);
         }
-        assert_is(&rt, talk.run(&rt, rt.alloc(), LIST), 0);
+        assert_is(&rt, dialogue.run(&rt, rt.alloc(), LIST), 0);
         let wanted = requested_rows(&rt, rt.alloc(), slots);
-        assert!(rt; talk.requests.text() == wanted.text(), "{slots}");
-        assert!(rt; talk.screen.text() == HEAD, "{slots}");
-        assert_eq!(rt; talk.requests.flushed, flushes, "{slots}");
+        assert!(rt; dialogue.requests.text() == wanted.text(), "{slots}");
+        assert!(rt; dialogue.screen.text() == HEAD, "{slots}");
+        assert_eq!(rt; dialogue.requests.flushed, flushes, "{slots}");
     }
 }
 
@@ -459,35 +459,35 @@ fn rows_are_requested_in_a_window(rt: HostRuntime) {
 fn the_writer_fails_between_rows(rt: HostRuntime) {
     let all = requested_rows(&rt, rt.alloc(), 64);
     for room in 18..all.len() {
-        let mut talk = Talk::new(&rt, rt.alloc(), &[WELCOME, ROW, VACANT]);
-        talk.requests.good = room;
-        assert_eq!(rt; talk.run(&rt, rt.alloc(), LIST), 1, "{room}");
-        assert!(rt; talk.screen.text() == NO_REPLY, "{room}");
+        let mut dialogue = Dialogue::new(&rt, rt.alloc(), &[WELCOME, ROW, VACANT]);
+        dialogue.requests.good = room;
+        assert_eq!(rt; dialogue.run(&rt, rt.alloc(), LIST), 1, "{room}");
+        assert!(rt; dialogue.screen.text() == NO_REPLY, "{room}");
         assert!(rt;
-            Some(talk.requests.text()) == all.text().get(..room),
+            Some(dialogue.requests.text()) == all.text().get(..room),
             "{room}"
         );
-        assert_eq!(rt; talk.replies.read, WELCOME.len(), "{room}");
+        assert_eq!(rt; dialogue.replies.read, WELCOME.len(), "{room}");
     }
 }
 
 #[test]
 fn a_row_is_refused_with_others_on_their_way(rt: HostRuntime) {
     let refusal = b"\0\0\0\x03\x02\x07\x0d";
-    let mut talk = Talk::new(&rt, rt.alloc(), &[WELCOME, ROW, refusal, VACANT]);
-    assert_is(&rt, talk.run(&rt, rt.alloc(), LIST), 1);
-    assert!(rt; talk.screen.text() == b"sysvmsg: EACCES\n".as_slice());
+    let mut dialogue = Dialogue::new(&rt, rt.alloc(), &[WELCOME, ROW, refusal, VACANT]);
+    assert_is(&rt, dialogue.run(&rt, rt.alloc(), LIST), 1);
+    assert!(rt; dialogue.screen.text() == b"sysvmsg: EACCES\n".as_slice());
     let all = requested_rows(&rt, rt.alloc(), 64);
-    assert!(rt; talk.requests.text() == all.text());
+    assert!(rt; dialogue.requests.text() == all.text());
 }
 
 #[test]
 fn a_table_takes_memory_as_its_rows_come(rt: HostRuntime) {
     let welcome = b"\0\0\0\x07\x02\0\0\0\0\0\xa0";
-    let mut talk = Talk::new(&rt, rt.alloc(), &[welcome]);
+    let mut dialogue = Dialogue::new(&rt, rt.alloc(), &[welcome]);
     let mut shown = joined(&rt, rt.alloc(), &[HEAD]);
     for _ in 0..160 {
-        talk.replies.put(ROW);
+        dialogue.replies.put(ROW);
         shown.put(LINE);
     }
     let command = Command {
@@ -497,16 +497,16 @@ fn a_table_takes_memory_as_its_rows_come(rt: HostRuntime) {
     let status = run_client(
         rt.alloc(),
         &command,
-        &mut talk.replies,
-        &mut talk.requests,
-        &mut talk.screen,
+        &mut dialogue.replies,
+        &mut dialogue.requests,
+        &mut dialogue.screen,
     );
-    if talk.screen.text() == b"sysvmsg: no memory\n".as_slice() {
+    if dialogue.screen.text() == b"sysvmsg: no memory\n".as_slice() {
         assert_is(&rt, status, 1);
         return;
     }
     assert_is(&rt, status, 0);
-    assert!(rt; talk.screen.text() == shown.text());
+    assert!(rt; dialogue.screen.text() == shown.text());
 }
 
 #[test]
@@ -525,24 +525,28 @@ fn a_refusal_is_named(rt: HostRuntime) {
         (75, b"sysvmsg: EOVERFLOW\n"),
     ];
     for (number, line) in table {
-        let mut talk = Talk::new(&rt, rt.alloc(), &[b"\0\0\0\x03\x02\0", &[number], WELCOME]);
-        assert_is(&rt, talk.run(&rt, rt.alloc(), LIST), 1);
-        assert!(rt; talk.screen.text() == line, "{number}");
-        assert!(rt; talk.requests.text() == HELLO);
-        assert_is(&rt, talk.replies.read, 7);
+        let mut dialogue = Dialogue::new(
+            &rt,
+            rt.alloc(),
+            &[b"\0\0\0\x03\x02\0", &[number], WELCOME],
+        );
+        assert_is(&rt, dialogue.run(&rt, rt.alloc(), LIST), 1);
+        assert!(rt; dialogue.screen.text() == line, "{number}");
+        assert!(rt; dialogue.requests.text() == HELLO);
+        assert_is(&rt, dialogue.replies.read, 7);
     }
 }
 
 #[test]
 fn a_later_request_is_refused(rt: HostRuntime) {
-    let mut talk = Talk::new(
+    let mut dialogue = Dialogue::new(
         &rt,
         rt.alloc(),
         &[WELCOME, b"\0\0\0\x03\x02\x01\x02", MESSAGE],
     );
-    assert_is(&rt, talk.run(&rt, rt.alloc(), RECEIVE_ANY), 1);
-    assert!(rt; talk.requests.text() == joined(&rt, rt.alloc(), &[HELLO, GET]).text());
-    assert!(rt; talk.screen.text() == b"sysvmsg: ENOENT\n".as_slice());
+    assert_is(&rt, dialogue.run(&rt, rt.alloc(), RECEIVE_ANY), 1);
+    assert!(rt; dialogue.requests.text() == joined(&rt, rt.alloc(), &[HELLO, GET]).text());
+    assert!(rt; dialogue.screen.text() == b"sysvmsg: ENOENT\n".as_slice());
 }
 
 /// The one line that is shown if the server does not reply.
@@ -552,31 +556,31 @@ const NO_REPLY: &[u8] = b"sysvmsg: no reply\n";
 fn the_replies_are_cut_after_each_byte(rt: HostRuntime) {
     for cut in 0..40 {
         for fails in [false, true] {
-            let mut talk = Talk::new(&rt, rt.alloc(), &[WELCOME, GOT, MESSAGE]);
+            let mut dialogue = Dialogue::new(&rt, rt.alloc(), &[WELCOME, GOT, MESSAGE]);
             if fails {
-                talk.replies.good = cut;
+                dialogue.replies.good = cut;
             } else {
-                talk.replies.bytes.truncate(cut);
+                dialogue.replies.bytes.truncate(cut);
             }
-            assert_eq!(rt; talk.run(&rt, rt.alloc(), RECEIVE_ANY), 1, "{cut}");
-            assert!(rt; talk.screen.text() == NO_REPLY, "{cut}");
+            assert_eq!(rt; dialogue.run(&rt, rt.alloc(), RECEIVE_ANY), 1, "{cut}");
+            assert!(rt; dialogue.screen.text() == NO_REPLY, "{cut}");
             let asked = match cut {
                 0..=10 => joined(&rt, rt.alloc(), &[HELLO]),
                 11..=21 => joined(&rt, rt.alloc(), &[HELLO, GET]),
                 _ => joined(&rt, rt.alloc(), &[HELLO, GET, RECEIVE]),
             };
-            assert!(rt; talk.requests.text() == asked.text(), "{cut}");
+            assert!(rt; dialogue.requests.text() == asked.text(), "{cut}");
         }
     }
 }
 
 #[test]
 fn a_table_that_is_cut_leaves_one_line(rt: HostRuntime) {
-    let mut talk = listed(&rt, rt.alloc());
-    let len = talk.replies.len();
-    talk.replies.bytes.truncate(len.saturating_sub(1));
-    assert_is(&rt, talk.run(&rt, rt.alloc(), LIST), 1);
-    assert!(rt; talk.screen.text() == NO_REPLY);
+    let mut dialogue = listed(&rt, rt.alloc());
+    let len = dialogue.replies.len();
+    dialogue.replies.bytes.truncate(len.saturating_sub(1));
+    assert_is(&rt, dialogue.run(&rt, rt.alloc(), LIST), 1);
+    assert!(rt; dialogue.screen.text() == NO_REPLY);
 }
 
 #[test]
@@ -594,11 +598,11 @@ fn a_reply_to_another_request_is_none(rt: HostRuntime) {
         b"\0\0\x20\x0c\x02\0\0",
     ];
     for reply in table {
-        let mut talk = Talk::new(&rt, rt.alloc(), &[reply, WELCOME]);
-        let status = talk.run(&rt, rt.alloc(), Task::Remove(Target::Id(0)));
+        let mut dialogue = Dialogue::new(&rt, rt.alloc(), &[reply, WELCOME]);
+        let status = dialogue.run(&rt, rt.alloc(), Task::Remove(Target::Id(0)));
         assert_is(&rt, status, 1);
-        assert!(rt; talk.screen.text() == NO_REPLY);
-        assert!(rt; talk.requests.text() == HELLO);
+        assert!(rt; dialogue.screen.text() == NO_REPLY);
+        assert!(rt; dialogue.requests.text() == HELLO);
     }
 }
 
@@ -606,13 +610,13 @@ fn a_reply_to_another_request_is_none(rt: HostRuntime) {
 fn the_writer_fails(rt: HostRuntime) {
     let all = joined(&rt, rt.alloc(), &[HELLO, GET, RECEIVE]);
     for room in 0..58 {
-        let mut talk = Talk::new(&rt, rt.alloc(), &[WELCOME, GOT, MESSAGE]);
-        talk.requests.good = room;
-        assert_eq!(rt; talk.run(&rt, rt.alloc(), RECEIVE_ANY), 1, "{room}");
-        assert!(rt; talk.screen.text() == NO_REPLY, "{room}");
+        let mut dialogue = Dialogue::new(&rt, rt.alloc(), &[WELCOME, GOT, MESSAGE]);
+        dialogue.requests.good = room;
+        assert_eq!(rt; dialogue.run(&rt, rt.alloc(), RECEIVE_ANY), 1, "{room}");
+        assert!(rt; dialogue.screen.text() == NO_REPLY, "{room}");
         let text = all.text();
         assert!(rt;
-            talk.requests.text() == &text[..room.min(text.len())],
+            dialogue.requests.text() == &text[..room.min(text.len())],
             "{room}"
         );
         let read = match room {
@@ -620,19 +624,19 @@ fn the_writer_fails(rt: HostRuntime) {
             18..=31 => 11,
             _ => 22,
         };
-        assert_eq!(rt; talk.replies.read, read, "{room}");
+        assert_eq!(rt; dialogue.replies.read, read, "{room}");
     }
 }
 
 #[test]
 fn the_writer_cannot_be_flushed(rt: HostRuntime) {
     for flushes in 0..3 {
-        let mut talk = Talk::new(&rt, rt.alloc(), &[WELCOME, GOT, MESSAGE]);
-        talk.requests.flushes = flushes;
-        assert_eq!(rt; talk.run(&rt, rt.alloc(), RECEIVE_ANY), 1, "{flushes}");
-        assert!(rt; talk.screen.text() == NO_REPLY, "{flushes}");
+        let mut dialogue = Dialogue::new(&rt, rt.alloc(), &[WELCOME, GOT, MESSAGE]);
+        dialogue.requests.flushes = flushes;
+        assert_eq!(rt; dialogue.run(&rt, rt.alloc(), RECEIVE_ANY), 1, "{flushes}");
+        assert!(rt; dialogue.screen.text() == NO_REPLY, "{flushes}");
         let read = [0, 11, 22];
-        assert_eq!(rt; talk.replies.read, read[flushes], "{flushes}");
+        assert_eq!(rt; dialogue.replies.read, read[flushes], "{flushes}");
     }
 }
 
@@ -640,19 +644,19 @@ fn the_writer_cannot_be_flushed(rt: HostRuntime) {
 fn the_screen_fails(rt: HostRuntime) {
     let shown = joined(&rt, rt.alloc(), &[HEAD, LINE, WIDE_LINE]);
     for room in [0, 1, 54, 55, 56, 170] {
-        let mut talk = listed(&rt, rt.alloc());
-        talk.screen.good = room;
-        assert_eq!(rt; talk.run(&rt, rt.alloc(), LIST), 1, "{room}");
+        let mut dialogue = listed(&rt, rt.alloc());
+        dialogue.screen.good = room;
+        assert_eq!(rt; dialogue.run(&rt, rt.alloc(), LIST), 1, "{room}");
         let text = shown.text();
         assert!(rt;
-            talk.screen.text() == &text[..room.min(text.len())],
+            dialogue.screen.text() == &text[..room.min(text.len())],
             "{room}"
         );
     }
-    let mut talk = listed(&rt, rt.alloc());
-    talk.screen.flushes = 0;
-    assert_is(&rt, talk.run(&rt, rt.alloc(), LIST), 1);
-    assert!(rt; talk.screen.text() == shown.text());
+    let mut dialogue = listed(&rt, rt.alloc());
+    dialogue.screen.flushes = 0;
+    assert_is(&rt, dialogue.run(&rt, rt.alloc(), LIST), 1);
+    assert!(rt; dialogue.screen.text() == shown.text());
 }
 
 #[test]

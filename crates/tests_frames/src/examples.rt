@@ -1,7 +1,7 @@
 //! The example in the documentation of the frames, line by line.
 use bitflags::Flags as _;
 use std::test::Fail;
-use sysv_model::{Body, Flags, Watched};
+use sysv_model::{Body, Flags, Instrumented};
 use sysv_wire::{Ask, Request, Version, read_request, write_request};
 
 #[test]
@@ -14,9 +14,9 @@ fn a_request_is_written_and_read(rt: HostRuntime) -> Result<(), Fail> {
         version: Version::Two,
         ask,
     };
-    write_request(&mut Watched::new(&mut frame), &request, &text)?;
+    write_request(&mut Instrumented::new(&mut frame), &request, &text)?;
     let mut bytes = frame.as_slice();
-    let read = read_request(&mut Watched::new(&mut bytes), &mut text)?;
+    let read = read_request(&mut Instrumented::new(&mut bytes), &mut text)?;
     assert_eq!(rt; read, Some(request));
     Ok(())
 }

@@ -1,4 +1,5 @@
-//! Tests of the words of all calls, of the rules, of watched streams, of frames and of clients.
+//! Tests of the words of all calls, of the rules, of instrumented streams, of frames and of
+//! clients.
 #![tactic(auto)]
 
 #[cfg(test)]
@@ -6,12 +7,12 @@ mod clients;
 #[cfg(test)]
 mod examples;
 #[cfg(test)]
+mod instrumented;
+#[cfg(test)]
 mod model;
 #[cfg(test)]
 mod parts;
 #[cfg(test)]
 mod rules;
-#[cfg(test)]
-mod watched;
 #[cfg(test)]
 mod wire;

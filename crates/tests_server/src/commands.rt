@@ -1,7 +1,7 @@
 //! Clients of a server, by what they show.
 ghost use Rattle.sysv_clients.specs.Run.{HasShortText};
 
-use crate::server::{CREATE, FOUND, HELLO, KNOWN, SEND, SENT, talks};
+use crate::server::{CREATE, FOUND, HELLO, KNOWN, SEND, SENT, converses};
 use std::alloc::Global;
 use std::net::Net;
 use std::os::unix::net::UnixStream;
@@ -83,7 +83,7 @@ pub(crate) fn five_sessions(rt: &impl Net, alloc: Global, path: &str) -> bool {
         cred: OWNER,
         task: RECEIVE,
     };
-    talks(rt, path, &[HELLO, CREATE, SEND], &[KNOWN, FOUND, SENT])
+    converses(rt, path, &[HELLO, CREATE, SEND], &[KNOWN, FOUND, SENT])
         & shows(rt, alloc, path, &list, TABLE, 0)
         & shows(rt, alloc, path, &by_other, b"sysvmsg: EPERM\n", 1)
         & shows(rt, alloc, path, &by_owner, b"", 0)

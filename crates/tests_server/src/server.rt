@@ -123,7 +123,7 @@ fn gives(stream: &mut UnixStream, reply: &[u8]) -> bool {
 }
 
 /// Returns whether a session has these replies.
-pub(crate) fn talks(rt: &impl Net, path: &str, requests: &[&[u8]], replies: &[&[u8]]) -> bool {
+pub(crate) fn converses(rt: &impl Net, path: &str, requests: &[&[u8]], replies: &[&[u8]]) -> bool {
     match UnixStream::connect(rt, path) {
         Ok(mut stream) => asks(&mut stream, requests, replies),
         Err(_) => false,
@@ -135,17 +135,17 @@ pub(crate) fn talks(rt: &impl Net, path: &str, requests: &[&[u8]], replies: &[&[
 
 /// A message passes from one session to another.
 fn passing(rt: &impl Net, path: &str) -> bool {
-    talks(rt, path, &[HELLO, CREATE, SEND], &[KNOWN, FOUND, SENT])
-        & talks(rt, path, &[HELLO, RECEIVE_NOW], &[KNOWN, RECEIVED])
+    converses(rt, path, &[HELLO, CREATE, SEND], &[KNOWN, FOUND, SENT])
+        & converses(rt, path, &[HELLO, RECEIVE_NOW], &[KNOWN, RECEIVED])
 }
 
 /// A queue is created, shown, kept from another user, and removed.
 fn commanding(rt: &impl Net, path: &str) -> bool {
-    talks(rt, path, &[HELLO, CREATE, SEND], &[KNOWN, FOUND, SENT])
+    converses(rt, path, &[HELLO, CREATE, SEND], &[KNOWN, FOUND, SENT])
         & listing(rt, path)
-        & talks(rt, path, &[OTHER, REMOVE], &[KNOWN, NOT_REMOVED])
-        & talks(rt, path, &[HELLO, REMOVE], &[KNOWN, REMOVED])
-        & talks(rt, path, &[HELLO, FIND], &[KNOWN, NOT_FOUND])
+        & converses(rt, path, &[OTHER, REMOVE], &[KNOWN, NOT_REMOVED])
+        & converses(rt, path, &[HELLO, REMOVE], &[KNOWN, REMOVED])
+        & converses(rt, path, &[HELLO, FIND], &[KNOWN, NOT_FOUND])
 }
 
 /// Requests the rows of all slots, of which only the first has a queue.
@@ -173,24 +173,24 @@ fn waiting(rt: &impl Net, path: &str) -> bool {
         return false;
     };
     asks(&mut first, &[HELLO, CREATE, RECEIVE], &[KNOWN, FOUND])
-        & talks(rt, path, &[HELLO, SEND], &[KNOWN, SENT])
-        & talks(rt, path, &[HELLO, SEND], &[KNOWN, SENT])
+        & converses(rt, path, &[HELLO, SEND], &[KNOWN, SENT])
+        & converses(rt, path, &[HELLO, SEND], &[KNOWN, SENT])
         & gives(&mut first, RECEIVED)
 }
 
 /// One session waits for the message of another, and its client is gone before it is sent. A third
 /// session receives the message.
 fn vanishing(rt: &(impl Net + Wait + Clock), path: &str) -> bool {
-    let begun = talks(rt, path, &[HELLO, CREATE, RECEIVE], &[KNOWN, FOUND]);
+    let begun = converses(rt, path, &[HELLO, CREATE, RECEIVE], &[KNOWN, FOUND]);
     thread::sleep(rt, Duration::from_millis(300));
     begun
-        & talks(rt, path, &[HELLO, SEND], &[KNOWN, SENT])
-        & talks(rt, path, &[HELLO, RECEIVE_NOW], &[KNOWN, RECEIVED])
+        & converses(rt, path, &[HELLO, SEND], &[KNOWN, SENT])
+        & converses(rt, path, &[HELLO, RECEIVE_NOW], &[KNOWN, RECEIVED])
 }
 
 /// A client goes away within a frame, and another before it writes anything.
 fn breaking(rt: &impl Net, path: &str) -> bool {
-    talks(rt, path, &[HELLO, &CREATE[..5]], &[KNOWN]) & talks(rt, path, &[], &[])
+    converses(rt, path, &[HELLO, &CREATE[..5]], &[KNOWN]) & converses(rt, path, &[], &[])
 }
 
 /// A hello of version 2, of user and group 1000, pid 101.
@@ -223,7 +223,7 @@ fn both_versions(rt: &impl Net, path: &str) -> bool {
         return false;
     };
     asks(&mut second, &[SECOND_HELLO], &[&known])
-        & talks(rt, path, &[HELLO, CREATE], &[KNOWN, FOUND])
+        & converses(rt, path, &[HELLO, CREATE], &[KNOWN, FOUND])
         & asks(&mut second, &[SECOND_GET], &[SECOND_FOUND])
         & asks(&mut second, &[FIND], &[])
         & ends(&mut second)
@@ -231,8 +231,8 @@ fn both_versions(rt: &impl Net, path: &str) -> bool {
 
 /// The last session creates a queue, and leaves it.
 fn leaving(rt: &impl Net, path: &str) -> bool {
-    talks(rt, path, &[HELLO, FIND], &[KNOWN, NOT_FOUND])
-        & talks(rt, path, &[HELLO, CREATE, SEND], &[KNOWN, FOUND, SENT])
+    converses(rt, path, &[HELLO, FIND], &[KNOWN, NOT_FOUND])
+        & converses(rt, path, &[HELLO, CREATE, SEND], &[KNOWN, FOUND, SENT])
 }
 
 /// The path of the socket on which a server shows its state.
@@ -269,7 +269,7 @@ fn looking(rt: &impl Net, path: &str) -> bool {
     };
     let sent = asks(&mut session, &[HELLO, CREATE, SEND], &[KNOWN, FOUND, SENT]);
     let shown = shows(rt, STATE) || shows(rt, STATE);
-    sent & shown & talks(rt, path, &[HELLO, RECEIVE_NOW], &[KNOWN, RECEIVED])
+    sent & shown & converses(rt, path, &[HELLO, RECEIVE_NOW], &[KNOWN, RECEIVED])
 }
 
 /// The clients of a test.

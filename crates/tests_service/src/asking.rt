@@ -10,8 +10,8 @@ use std::sync::Wait;
 use sysv_keys::Begun;
 use sysv_model::{Cred, Errno, Flags, Row, Selector, SetTo, Stat};
 use sysv_objects::{
-    Letter, ObjectCall, ObjectReply, PoolCall, PoolReply, RegistryCall, RegistryReply, SlotCall,
-    SlotReply, TextSize,
+    LoadedChain, ObjectCall, ObjectReply, PoolCall, PoolReply, RegistryCall, RegistryReply,
+    SlotCall, SlotReply, TextSize,
 };
 use sysv_pool::Chain;
 use sysv_queue::{Discarded, Look, PlaceRefused, Probe, TakeRefused, Taken};
@@ -259,7 +259,7 @@ pub(crate) fn forget(
     }
 }
 
-/// Places a letter, which is handed back if the gate is worn out.
+/// Places a body, which is handed back if the gate is worn out.
 pub(crate) fn place(
     rt: &impl Wait,
     gates: &Gates,
@@ -267,7 +267,7 @@ pub(crate) fn place(
     id: i32,
     cred: Cred,
     mtype: i64,
-    letter: Letter,
+    loaded: LoadedChain,
     now: u64,
 ) -> Result<Result<u64, PlaceRefused>, Chain>
     requires { AreOf gates.now seats.old }
@@ -277,7 +277,7 @@ pub(crate) fn place(
         id,
         cred,
         mtype,
-        letter,
+        loaded,
         now,
     };
     match gates.make(rt, seats, ObjectCall::Slot(call)) {

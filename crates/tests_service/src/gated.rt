@@ -15,7 +15,7 @@ use std::sync::Wait;
 use sysv_gate::{Awaited, Closing};
 use sysv_keys::Begun;
 use sysv_model::{Errno, IPC_PRIVATE, MESSAGE_BYTES, Selector, SetTo};
-use sysv_objects::Letter;
+use sysv_objects::LoadedChain;
 use sysv_pool::{Chain, Pool};
 use sysv_queue::{Look, Probe, QueueSlot, Tally};
 use sysv_service::{Gates, GatesClosed, OpenRefused, Seats, SharedCount};
@@ -47,14 +47,14 @@ fn gates_at(rt: &impl Abort, alloc: Global, first: u64) -> (Gates, Seats)
     }
 }
 
-/// Returns a letter with this body, in blocks of the pool.
-fn letter_of<R: Wait + Abort>(
+/// Returns this body, in blocks of the pool.
+fn loaded_of<R: Wait + Abort>(
     rt: &R,
     alloc: Global,
     gates: &Gates,
     seats: &mut Seats,
     text: &[u8],
-) -> Letter
+) -> LoadedChain
     requires { AreOf gates.now seats.old }
     ensures { AreOf gates.now seats.new }
 {
@@ -62,21 +62,21 @@ fn letter_of<R: Wait + Abort>(
     assert!(rt; body.len() <= MESSAGE_BYTES);
     match reserve(rt, gates, seats, body.len()) {
         Ok(Some(chain)) => {
-            let letter = Letter::of(chain, &body);
-            assert_eq!(rt; letter.size(), text.len());
-            letter
+            let loaded = LoadedChain::of(chain, &body);
+            assert_eq!(rt; loaded.size(), text.len());
+            loaded
         }
         Ok(None) => panic!(rt; "no blocks"),
         Err(_) => panic!(rt; "worn"),
     }
 }
 
-/// Places a letter of type 9 in queue 1, and returns its number.
-fn placed<R: Wait + Abort>(rt: &R, gates: &Gates, seats: &mut Seats, letter: Letter) -> u64
+/// Places a body as a message of type 9 in queue 1, and returns its number.
+fn placed<R: Wait + Abort>(rt: &R, gates: &Gates, seats: &mut Seats, loaded: LoadedChain) -> u64
     requires { AreOf gates.now seats.old }
     ensures { AreOf gates.now seats.new }
 {
-    match place(rt, gates, seats, 1, USER, 9, letter, 60) {
+    match place(rt, gates, seats, 1, USER, 9, loaded, 60) {
         Ok(Ok(number)) => number,
         Ok(Err(refused)) => {
             refused.chain.end();
@@ -194,8 +194,8 @@ fn waits_end_at_their_goals(rt: HostRuntime) {
         gates.count(&mut seats, SharedCount::Arrived { id: 1 }),
         0,
     );
-    let letter = letter_of(&rt, rt.alloc(), &gates, &mut seats, b"hello");
-    assert_is(&rt, placed(&rt, &gates, &mut seats, letter), 0);
+    let loaded = loaded_of(&rt, rt.alloc(), &gates, &mut seats, b"hello");
+    assert_is(&rt, placed(&rt, &gates, &mut seats, loaded), 0);
     let arrived = gates.await_count(&rt, &mut seats, SharedCount::Arrived { id: 1 }, 1);
     assert_is(&rt, arrived, Awaited::Reached(1));
     assert_is(
@@ -221,13 +221,13 @@ fn a_message_goes_through_its_slot(rt: HostRuntime) {
     let (gates, mut seats) = gates_at(&rt, rt.alloc(), 5);
     let made = install(&rt, &gates, &mut seats, 1, 7, USER, 0o600, 50);
     assert_is(&rt, made, Ok(true));
-    let letter = letter_of(&rt, rt.alloc(), &gates, &mut seats, b"hello");
+    let loaded = loaded_of(&rt, rt.alloc(), &gates, &mut seats, b"hello");
     assert_is(
         &rt,
         look(&rt, &gates, &mut seats, 1, USER, 5),
         Ok(Look::Fits),
     );
-    assert_is(&rt, placed(&rt, &gates, &mut seats, letter), 0);
+    assert_is(&rt, placed(&rt, &gates, &mut seats, loaded), 0);
     let arrived = gates.await_count(&rt, &mut seats, SharedCount::Arrived { id: 1 }, 1);
     assert_is(&rt, arrived, Awaited::Reached(1));
     let mut out = empty_body(&rt, rt.alloc());
@@ -266,8 +266,8 @@ fn a_queue_is_told_changed_and_removed(rt: HostRuntime) {
     let (gates, mut seats) = gates_at(&rt, rt.alloc(), 0);
     let made = install(&rt, &gates, &mut seats, 1, 7, USER, 0o600, 50);
     assert_is(&rt, made, Ok(true));
-    let letter = letter_of(&rt, rt.alloc(), &gates, &mut seats, b"hello");
-    assert_is(&rt, placed(&rt, &gates, &mut seats, letter), 0);
+    let loaded = loaded_of(&rt, rt.alloc(), &gates, &mut seats, b"hello");
+    assert_is(&rt, placed(&rt, &gates, &mut seats, loaded), 0);
     let told = stat(&rt, &gates, &mut seats, 1, USER);
     assert_is(
         &rt,
@@ -375,8 +375,8 @@ fn worn_gates_of_slots_serve_nothing(rt: HostRuntime) {
         Err(Worn) => {}
         Ok(_) => panic!(rt; "a turn"),
     }
-    let letter = Letter::of(Chain::empty(), &empty_body(&rt, rt.alloc()));
-    match place(&rt, &gates, &mut seats, 1, USER, 9, letter, 60) {
+    let loaded = LoadedChain::of(Chain::empty(), &empty_body(&rt, rt.alloc()));
+    match place(&rt, &gates, &mut seats, 1, USER, 9, loaded, 60) {
         Err(chain) => assert_is(&rt, chain.end(), 0),
         Ok(_) => panic!(rt; "a turn"),
     }

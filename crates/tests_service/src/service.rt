@@ -2,12 +2,12 @@
 
 mod ask;
 mod board;
-mod crew;
 mod crowd;
 mod example;
 mod one_pass;
 mod part;
 mod pieces;
 mod stops;
+mod team;
 mod turns;
 mod waits;

@@ -12,7 +12,7 @@ use Rattle.sysv_objects.specs.SlotTurns.{slot_call}
 use Rattle.sysv_objects.specs.PoolTurns.{pool_call}
 use Rattle.sysv_objects.specs.Turns.{Takes}
 use Rattle.sysv_objects.specs.Objects.{Objects, CountsUpTo, raises, pool_raises, raises_by}
-use Rattle.sysv_objects.specs.StandsFor.{MakesTurn}
+use Rattle.sysv_objects.specs.Represents.{MakesTurn}
 
 -- Counts within a bound are within a higher bound.
 pub weaker : (m n : ℕ) (o : Objects) → m ≤ n → CountsUpTo m o → CountsUpTo n o

@@ -3,7 +3,7 @@
 ghost use Rattle.std.specs.Prelude.{◌+◌, ◌<◌};
 ghost use Rattle.sysv_objects.specs.Turns.{IsOfSomeSlot, Takes};
 ghost use Rattle.sysv_objects.specs.Objects.{CountsUpTo};
-ghost use Rattle.sysv_objects.specs.StandsFor.{MakesTurn};
+ghost use Rattle.sysv_objects.specs.Represents.{MakesTurn};
 
 use crate::parts::{assert_is, open_body};
 use std::alloc::Global;
@@ -11,8 +11,8 @@ use std::process::Abort;
 use sysv_keys::Begun;
 use sysv_model::{Errno, Row, Selector, SetTo, Stat};
 use sysv_objects::{
-    Letter, ObjectCall, ObjectReply, Objects, ObjectsRefused, PoolCall, PoolReply, RegistryCall,
-    RegistryReply, SlotCall, SlotReply, TextSize,
+    LoadedChain, ObjectCall, ObjectReply, Objects, ObjectsRefused, PoolCall, PoolReply,
+    RegistryCall, RegistryReply, SlotCall, SlotReply, TextSize,
 };
 use sysv_pool::Chain;
 use sysv_queue::{Look, Probe, TakeRefused, Tally};
@@ -185,11 +185,11 @@ fn row(objects: &mut Objects, slot: usize, raised: u64) -> Option<Row>
     }
 }
 
-/// Returns a letter with an empty body.
-fn empty_letter(rt: &impl Abort, alloc: Global) -> Letter {
+/// Returns an empty body in its chain.
+fn empty_loaded(rt: &impl Abort, alloc: Global) -> LoadedChain {
     let body = open_body(rt, alloc);
     assert!(rt; body.len() == 0);
-    Letter::of(Chain::empty(), &body)
+    LoadedChain::of(Chain::empty(), &body)
 }
 
 /// Places an empty message of type 5, the first of its queue.
@@ -202,7 +202,7 @@ fn place(rt: &impl Abort, alloc: Global, objects: &mut Objects, id: i32, raised:
         id,
         cred: USER,
         mtype: 5,
-        letter: empty_letter(rt, alloc),
+        loaded: empty_loaded(rt, alloc),
         now: 60,
     };
     match turn(objects, ObjectCall::Slot(call), raised) {
@@ -429,18 +429,18 @@ fn calls_tell_their_slot_and_hand_back_their_chain(rt: HostRuntime) {
     };
     assert_is(&rt, call.slot(), 1);
     assert_is(&rt, ObjectCall::Slot(call).into_chain().end(), 0);
-    let letter = empty_letter(&rt, rt.alloc());
-    assert_is(&rt, letter.size(), 0);
+    let loaded = empty_loaded(&rt, rt.alloc());
+    assert_is(&rt, loaded.size(), 0);
     let call = SlotCall::Place {
         id: 300,
         cred: USER,
         mtype: 5,
-        letter,
+        loaded,
         now: 60,
     };
     assert_is(&rt, call.slot(), 44);
     assert_is(&rt, ObjectCall::Slot(call).into_chain().end(), 0);
-    assert_is(&rt, empty_letter(&rt, rt.alloc()).into_chain().end(), 0);
+    assert_is(&rt, empty_loaded(&rt, rt.alloc()).into_chain().end(), 0);
     assert_is(&rt, TextSize::of(65).bytes(), 65);
 }
 

@@ -57,7 +57,7 @@ struct AtObjects;
 impl Turns for AtObjects {
     ghost use Rattle.std.specs.Prelude.{◌<◌};
     ghost use Rattle.sysv_objects.specs.Objects.{CountsUpTo};
-    ghost use Rattle.sysv_objects.specs.StandsFor.{MakesTurn};
+    ghost use Rattle.sysv_objects.specs.Represents.{MakesTurn};
 
     type At = Counted;
 

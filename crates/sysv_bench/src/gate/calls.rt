@@ -23,7 +23,7 @@ const PATIENCE: u64 = 300;
 
 /// How two threads raise a count for each other.
 #[derive(Clone, Copy)]
-pub(crate) struct Talk {
+pub(crate) struct Dialogue {
     pub(crate) rounds: u64,
     /// Whether they spend some time in each round, so that some waits sleep and others do not.
     pub(crate) pauses: bool,
@@ -35,9 +35,9 @@ pub(crate) enum Task {
     /// Calls `TIMES` times.
     Call(Raise),
     /// Raises the first count and waits for the second, in each round.
-    Say(Talk),
+    Say(Dialogue),
     /// Waits for the first count and raises the second, in each round.
-    Answer(Talk),
+    Answer(Dialogue),
     /// Looks at the second count until it has this value. If it stands still for seconds, wakes the
     /// threads that sleep.
     Watch(u64),
@@ -136,8 +136,8 @@ fn act<R: Wait + Clock>(rt: &R, gate: &Gate<Sum>, member: &mut Member)
 {
     match member.task {
         Task::Call(raise) => call_often(rt, gate, &mut member.seat, raise),
-        Task::Say(talk) => say_often(rt, gate, &mut member.seat, talk),
-        Task::Answer(talk) => answer_often(rt, gate, &mut member.seat, talk),
+        Task::Say(dialogue) => say_often(rt, gate, &mut member.seat, dialogue),
+        Task::Answer(dialogue) => answer_often(rt, gate, &mut member.seat, dialogue),
         Task::Watch(goal) => member.stood = watch(rt, gate, &mut member.seat, goal),
     }
 }
@@ -151,30 +151,30 @@ fn call_often(rt: &impl Wait, gate: &Gate<Sum>, seat: &mut Seat<Sum>, raise: Rai
 }
 
 /// Spends some time, in each round a different one.
-fn pause(talk: Talk, round: u64) {
-    if talk.pauses {
+fn pause(dialogue: Dialogue, round: u64) {
+    if dialogue.pauses {
         for _ in 0..round.wrapping_mul(977) % 4096 {
             hint::spin_loop();
         }
     }
 }
 
-fn say_often(rt: &impl Wait, gate: &Gate<Sum>, seat: &mut Seat<Sum>, talk: Talk)
+fn say_often(rt: &impl Wait, gate: &Gate<Sum>, seat: &mut Seat<Sum>, dialogue: Dialogue)
     requires { seat.old.gate ≡ gate.now }
 {
-    for round in 1..=talk.rounds {
-        pause(talk, round);
+    for round in 1..=dialogue.rounds {
+        pause(dialogue, round);
         let _ = gate.call(rt, seat, Raise::Arrived);
         gate.await_freed(rt, seat, round);
     }
 }
 
-fn answer_often(rt: &impl Wait, gate: &Gate<Sum>, seat: &mut Seat<Sum>, talk: Talk)
+fn answer_often(rt: &impl Wait, gate: &Gate<Sum>, seat: &mut Seat<Sum>, dialogue: Dialogue)
     requires { seat.old.gate ≡ gate.now }
 {
-    for round in 1..=talk.rounds {
+    for round in 1..=dialogue.rounds {
         gate.await_arrived(rt, seat, round);
-        pause(talk, round.wrapping_mul(31));
+        pause(dialogue, round.wrapping_mul(31));
         let _ = gate.call(rt, seat, Raise::Freed);
     }
 }

@@ -1,7 +1,7 @@
 //! The figures. Each is the median of five, which are taken in turn with those that it is compared
 //! to.
 use crate::figures::{show, show_ratio};
-use crate::gate::calls::{ROUNDS, TIMES, Talk, Task, act_at_gate};
+use crate::gate::calls::{Dialogue, ROUNDS, TIMES, Task, act_at_gate};
 use crate::gate::locked::time_at_lock;
 use crate::gate::places::time_at_places;
 use crate::gate::sum::Raise;
@@ -18,7 +18,7 @@ const REPEATS: usize = 5;
 #[derive(Clone, Copy)]
 enum What {
     Gate(Raise),
-    Talk,
+    Dialogue,
     Lock,
     Places,
 }
@@ -34,22 +34,22 @@ fn time_of<R: Threads + Wait + Clock + CpuClock + Sync>(
             let done = act_at_gate(rt, alloc, &[Task::Call(raise); 4][..threads.min(4)]);
             Some(done?.nanos)
         }
-        What::Talk => time_of_talk(rt, alloc, ROUNDS),
+        What::Dialogue => time_of_dialogue(rt, alloc, ROUNDS),
         What::Lock => time_at_lock(rt, threads),
         What::Places => time_at_places(rt, alloc, threads),
     }
 }
 
-fn time_of_talk<R: Threads + Wait + Clock + CpuClock + Sync>(
+fn time_of_dialogue<R: Threads + Wait + Clock + CpuClock + Sync>(
     rt: &R,
     alloc: Global,
     rounds: u64,
 ) -> Option<u64> {
-    let talk = Talk {
+    let dialogue = Dialogue {
         rounds,
         pauses: false,
     };
-    let done = act_at_gate(rt, alloc, &[Task::Say(talk), Task::Answer(talk)]);
+    let done = act_at_gate(rt, alloc, &[Task::Say(dialogue), Task::Answer(dialogue)]);
     Some(done?.nanos)
 }
 
@@ -154,12 +154,12 @@ pub(crate) fn measure<R: Threads + Wait + Clock + CpuClock + Print + Sync>(
     }
     show_places(rt, alloc, "two threads", 2)?;
     show_places(rt, alloc, "four threads", 4)?;
-    let (talk, _) = times_of(rt, alloc, (What::Talk, 2), (What::Lock, 1));
+    let (dialogue, _) = times_of(rt, alloc, (What::Dialogue, 2), (What::Lock, 1));
     show(
         rt,
         "two threads wait for one another",
         "by counts",
-        talk,
+        dialogue,
         ROUNDS,
         "ns a round",
     )
@@ -172,11 +172,15 @@ pub(crate) fn try_wakes<R: Threads + Wait + Clock + CpuClock + Print + Sync>(
     alloc: Global,
     rounds: u64,
 ) -> io::Result<()> {
-    let talk = Talk {
+    let dialogue = Dialogue {
         rounds,
         pauses: true,
     };
-    let tasks = [Task::Say(talk), Task::Answer(talk), Task::Watch(rounds)];
+    let tasks = [
+        Task::Say(dialogue),
+        Task::Answer(dialogue),
+        Task::Watch(rounds),
+    ];
     match act_at_gate(rt, alloc, &tasks) {
         Some(done) => match done.stood {
             Some(round) => println!(rt; "a wake was lost after round {round}"),
@@ -191,5 +195,5 @@ pub(crate) fn once<R: Threads + Wait + Clock + CpuClock + Sync>(
     rt: &R,
     alloc: Global,
 ) -> Option<u64> {
-    time_of_talk(rt, alloc, 100)
+    time_of_dialogue(rt, alloc, 100)
 }

@@ -1,9 +1,9 @@
 //! The figures.
 use crate::figures::{show, show_ratio};
-use crate::service::crew::run;
 use crate::service::pairs::Pairs;
 use crate::service::part::Part;
 use crate::service::rounds::Player;
+use crate::service::team::run;
 use std::alloc::Global;
 use std::io;
 use std::sync::Wait;

@@ -3,9 +3,9 @@ ghost use Rattle.std.specs.Prelude.{◌≡◌, ◌<◌};
 ghost use Rattle.sysv_service.specs.Seats.{AreOf};
 
 use crate::caller::{Still, USER};
-use crate::service::crew::{Left, run};
 use crate::service::part::Part;
 use crate::service::tallies::Tallies;
+use crate::service::team::{Left, run};
 use bitflags::Flags as _;
 use std::alloc::Global;
 use std::io;

@@ -2,7 +2,7 @@
 use std::alloc::Global;
 use std::io;
 use std::io::{BufReader, BufWriter, ErrorKind, Read, Write};
-use sysv_model::{Body, Watched};
+use sysv_model::{Body, Instrumented};
 use sysv_wire::{read_reply, read_request};
 
 /// The maximum number of bytes in a case.
@@ -37,12 +37,12 @@ pub(crate) fn tell_answers<R: io::Input + io::Print>(rt: &R, alloc: Global) -> i
         let bytes = &mut case[..len];
         input.read_exact(bytes)?;
         let mut rest = &bytes[..];
-        let answer = read_request(&mut Watched::new(&mut rest), &mut text);
+        let answer = read_request(&mut Instrumented::new(&mut rest), &mut text);
         let weight = weight_of(&text);
         let left = rest.len();
         writeln!(output, "{answer:?} {left} {weight}")?;
         let mut rest = &bytes[..];
-        let answer = read_reply(&mut Watched::new(&mut rest), &mut text);
+        let answer = read_reply(&mut Instrumented::new(&mut rest), &mut text);
         let weight = weight_of(&text);
         let left = rest.len();
         writeln!(output, "{answer:?} {left} {weight}")?;

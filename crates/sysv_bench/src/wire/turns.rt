@@ -4,7 +4,7 @@ use std::alloc::Global;
 use std::io;
 use std::io::Write;
 use std::time::{Clock, CpuClock};
-use sysv_model::{Body, Watched};
+use sysv_model::{Body, Instrumented};
 use sysv_wire::{Op, Reply, ReplyContent, Version, read_request, write_reply};
 
 /// The head and the fields of a send of 64 bytes.
@@ -48,7 +48,7 @@ pub(crate) fn time_of_turns<R: Clock + CpuClock>(rt: &R, alloc: Global, times: u
 /// Reads the send and writes its reply. Returns whether both succeeded.
 fn turn(frame: &[u8], text: &mut Body, slate: &mut Slate) -> bool {
     let mut input = frame;
-    let Ok(Some(_)) = read_request(&mut Watched::new(&mut input), text) else {
+    let Ok(Some(_)) = read_request(&mut Instrumented::new(&mut input), text) else {
         return false;
     };
     let reply = Reply {
@@ -56,5 +56,5 @@ fn turn(frame: &[u8], text: &mut Body, slate: &mut Slate) -> bool {
         op: Op::Snd.number(),
         result: ReplyContent::Snd,
     };
-    text.len() == 64 && write_reply(&mut Watched::new(slate), &reply, text).is_ok()
+    text.len() == 64 && write_reply(&mut Instrumented::new(slate), &reply, text).is_ok()
 }

@@ -179,14 +179,14 @@ impl<O: Object> PlaceLock<O> {
         ensures waits { result ≢ ticket
             → SawMore (me_at self.now.place token.old.me).0 (me_at self.now.place token.new.me) }
     {
-        let bell = self.turns.of(ticket);
+        let doorbell = self.turns.of(ticket);
         self.sleepers.fetch_add(1, SeqCst);
-        let rung = bell.enter();
+        let rung = doorbell.enter();
         let served = self.look(table, token);
         if served != ticket {
-            bell.sleep(rt, rung);
+            doorbell.sleep(rt, rung);
         }
-        bell.leave();
+        doorbell.leave();
         self.sleepers.fetch_sub(1, SeqCst);
         served
     }

@@ -7,7 +7,7 @@ ghost use Rattle.sysv_gate.specs.Locks.{IsLockIn, IsPassAt, IsSame};
 use crate::awaited::Awaited;
 use crate::count::Count;
 use crate::lock::PlaceLock;
-use crate::lock::bell::Bell;
+use crate::lock::doorbell::Doorbell;
 use crate::object::Object;
 use crate::table::words::LIMIT;
 use crate::table::{PlaceTable, TableToken};
@@ -88,8 +88,8 @@ impl<O: Object> PlaceLock<O> {
         None
     }
 
-    /// Returns the bell of the threads that wait for this count.
-    fn bell(&self, count: Count) -> &Bell {
+    /// Returns the doorbell of the threads that wait for this count.
+    fn doorbell(&self, count: Count) -> &Doorbell {
         match count {
             Count::Arrived => &self.arrived,
             Count::Freed => &self.freed,
@@ -115,14 +115,14 @@ impl<O: Object> PlaceLock<O> {
             (ReadMore count (me_at self.now.place token.old.me)
             (me_at self.now.place token.new.me)) }
     {
-        let bell = self.bell(count);
+        let doorbell = self.doorbell(count);
         self.sleepers.fetch_add(1, SeqCst);
-        let rung = bell.enter();
+        let rung = doorbell.enter();
         let found = self.judge(table, token, count, goal);
         if found.is_none() {
-            bell.sleep(rt, rung);
+            doorbell.sleep(rt, rung);
         }
-        bell.leave();
+        doorbell.leave();
         self.sleepers.fetch_sub(1, SeqCst);
         found
     }

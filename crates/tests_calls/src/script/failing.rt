@@ -5,7 +5,7 @@ use std::cell::Cell;
 use std::io::{Read, Write};
 use std::process::Abort;
 use std::test::Fail;
-use sysv_model::Watched;
+use sysv_model::Instrumented;
 use sysv_script::{ScriptFault, run_script};
 use tests_kit::{Page, Pieces};
 
@@ -33,8 +33,8 @@ fn run<R: Read, W: Write>(
     reader: &mut R,
     writer: &mut W,
 ) -> Result<(), ScriptFault> {
-    let mut reader = Watched::new(reader);
-    let mut writer = Watched::new(writer);
+    let mut reader = Instrumented::new(reader);
+    let mut writer = Instrumented::new(writer);
     let end = run_script(alloc, &mut reader, &mut writer);
     assert_eq!(rt; reader.failures() > 0, end == Err(ScriptFault::Read));
     assert_eq!(rt; writer.failures() > 0, end == Err(ScriptFault::Write));

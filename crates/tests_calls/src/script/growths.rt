@@ -1,7 +1,7 @@
 //! A script, with a growth of it refused: it has then printed a prefix of its output.
 use std::alloc::Global;
 use std::process::Abort;
-use sysv_model::Watched;
+use sysv_model::Instrumented;
 use sysv_script::{ScriptFault, run_script};
 use tests_kit::{Page, Pieces, mark};
 
@@ -25,8 +25,8 @@ line 7: bad
 /// Runs the script over two streams that do not fail.
 fn run(rt: &impl Abort, alloc: Global, page: &mut Page) -> Result<(), ScriptFault> {
     let mut text = Pieces::new(SCRIPT, usize::MAX);
-    let mut reader = Watched::new(&mut text);
-    let mut writer = Watched::new(page);
+    let mut reader = Instrumented::new(&mut text);
+    let mut writer = Instrumented::new(page);
     let ended = run_script(alloc, &mut reader, &mut writer);
     assert_eq!(rt; (reader.failures(), writer.failures()), (0, 0));
     ended

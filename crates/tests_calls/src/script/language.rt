@@ -2,7 +2,7 @@
 use std::alloc::Global;
 use std::process::Abort;
 use std::test::Fail;
-use sysv_model::Watched;
+use sysv_model::Instrumented;
 use sysv_script::{ScriptFault, run_script};
 
 /// The output of a script, and how the script ends.
@@ -17,8 +17,8 @@ pub(super) fn run(alloc: Global, script: &[u8]) -> Ending {
     let mut reader = script;
     let end = run_script(
         alloc,
-        &mut Watched::new(&mut reader),
-        &mut Watched::new(&mut written),
+        &mut Instrumented::new(&mut reader),
+        &mut Instrumented::new(&mut written),
     );
     Ending { written, end }
 }

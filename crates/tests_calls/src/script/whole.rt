@@ -1,5 +1,5 @@
 //! A script from its first byte to its last answer. Memory may be refused.
-use sysv_model::Watched;
+use sysv_model::Instrumented;
 use sysv_script::{ScriptFault, run_script};
 
 #[test]
@@ -9,8 +9,8 @@ fn runs_a_script(rt: HostRuntime) {
     let Ok(mut written) = Vec::with_capacity(rt.alloc(), answers.len()) else {
         return;
     };
-    let mut reader = Watched::new(&mut script);
-    let mut writer = Watched::new(&mut written);
+    let mut reader = Instrumented::new(&mut script);
+    let mut writer = Instrumented::new(&mut written);
     let ended = run_script(rt.alloc(), &mut reader, &mut writer);
     assert!(rt; reader.failures() == 0 && writer.failures() == 0);
     match ended {

@@ -166,8 +166,8 @@ fn the_connection_fails_to_read_after_each_byte(rt: HostRuntime) {
     }
 }
 
-// After four requests the last byte that the connection has taken is that of a message's frame, which
-// the client has not read.
+// After four requests the last byte that the connection has taken is that of a message's frame,
+// which the client has not read.
 #[test]
 fn the_connection_is_reset_after_each_byte(rt: HostRuntime) {
     for good in 0..SESSION.len() + 1 {
@@ -219,8 +219,8 @@ fn the_connection_fails_to_write_after_each_byte(rt: HostRuntime) {
     }
 }
 
-// All requests arrive at once: all replies are gathered before the connection takes any of them. The
-// message is written with the 42nd byte.
+// All requests arrive at once: all replies are gathered before the connection takes any of them.
+// The message is written with the 42nd byte.
 #[test]
 fn the_connection_fails_to_write_gathered_replies(rt: HostRuntime) {
     for taken in 0..ANSWERS.len() {

@@ -8,35 +8,15 @@ use super::{
 use std::alloc::Global;
 use std::process::Abort;
 use std::sync::Wait;
-use sysv_model::Watched;
+use sysv_model::Instrumented;
 use sysv_seats::{ServiceHandler, ZERO, Zero};
 use sysv_session::{End, Served, Texts};
 use sysv_wire::Fault;
 use tests_kit::worked::{ANSWERS, SESSION};
 use tests_kit::{Page, Pieces};
 
-/// Runs the session by `serve`. Tolerates one refusal of memory, after which nothing was read or
-/// written.
+/// Runs the session, and asserts that each stream has failed if and only if the end says so.
 fn serve<R: Abort + Wait>(
-    rt: &R,
-    alloc: Global,
-    reader: &mut Pieces<'_>,
-    page: &mut Page,
-    handler: &mut ServiceHandler<'_, Zero, R>,
-) -> Served
-    ensures { handler.new.service ≡ handler.old.service }
-{
-    let told = handler.serve(alloc, reader, page);
-    if told.end != End::NoMemory {
-        return told;
-    }
-    assert_eq!(rt; (page.written().len(), page.flushed().len()), (0, 0));
-    handler.serve(alloc, reader, page)
-}
-
-/// Runs the session by `serve_watched`, and asserts that each stream has failed if and only if the
-/// end says so.
-fn serve_watched<R: Abort + Wait>(
     rt: &R,
     alloc: Global,
     reader: &mut Pieces<'_>,
@@ -49,9 +29,9 @@ fn serve_watched<R: Abort + Wait>(
         Ok(texts) => texts,
         Err(_) => Texts::open(alloc).expect(rt, "a second try"),
     };
-    let mut reader = Watched::new(reader);
-    let mut page = Watched::new(page);
-    let told = handler.serve_watched(&mut texts, &mut reader, &mut page);
+    let mut reader = Instrumented::new(reader);
+    let mut page = Instrumented::new(page);
+    let told = handler.serve_instrumented(&mut texts, &mut reader, &mut page);
     let failures = (reader.failures(), page.failures());
     let wanted = match told.end {
         End::Fault(Fault::Read) => (1, 0),
@@ -62,12 +42,10 @@ fn serve_watched<R: Abort + Wait>(
     told
 }
 
-/// Serves the session on a new service, by `serve_watched` or else by `serve`, and asserts what it
-/// did and left.
+/// Serves the session on a new service, and asserts what it did and left.
 fn assert_served<R: Abort + Wait>(
     rt: &R,
     alloc: Global,
-    is_watched: bool,
     mut reader: Pieces<'_>,
     mut page: Page,
     wanted: &Wanted<'_>,
@@ -75,37 +53,26 @@ fn assert_served<R: Abort + Wait>(
 ) {
     let (service, pass) = opened(rt, alloc);
     let mut handler = ServiceHandler::new(rt, &service, &ZERO, pass);
-    let told = if is_watched {
-        serve_watched(rt, alloc, &mut reader, &mut page, &mut handler)
-    } else {
-        serve(rt, alloc, &mut reader, &mut page, &mut handler)
-    };
+    let told = serve(rt, alloc, &mut reader, &mut page, &mut handler);
     let pass = handler.into_pass();
     let closed = service.close(pass);
     assert_done(rt, &told, page.written(), closed, wanted, place);
 }
 
-/// The two ways to serve a session.
-const WAYS: [bool; 2] = [false, true];
-
 #[test]
 fn the_session_cut_after_each_byte(rt: HostRuntime) {
     for cut in 0..SESSION.len() + 1 {
-        for watched in WAYS {
-            let reader = Pieces::both(&SESSION[..cut], &SESSION[cut..]);
-            assert_served(&rt, rt.alloc(), watched, reader, Page::new(), &WHOLE, cut);
-        }
+        let reader = Pieces::both(&SESSION[..cut], &SESSION[cut..]);
+        assert_served(&rt, rt.alloc(), reader, Page::new(), &WHOLE, cut);
     }
 }
 
 #[test]
 fn the_session_by_pieces(rt: HostRuntime) {
     for piece in [1, 2, 3, 7, 64] {
-        for watched in WAYS {
-            let reader = Pieces::new(SESSION, piece);
-            let page = Page::taking(piece, usize::MAX, false);
-            assert_served(&rt, rt.alloc(), watched, reader, page, &WHOLE, piece);
-        }
+        let reader = Pieces::new(SESSION, piece);
+        let page = Page::taking(piece, usize::MAX, false);
+        assert_served(&rt, rt.alloc(), reader, page, &WHOLE, piece);
     }
 }
 
@@ -118,10 +85,8 @@ fn the_session_ended_after_each_byte(rt: HostRuntime) {
             End::Fault(Fault::Truncated)
         };
         let wanted = wanted_after(whole_requests(cut), end);
-        for watched in WAYS {
-            let reader = Pieces::new(&SESSION[..cut], usize::MAX);
-            assert_served(&rt, rt.alloc(), watched, reader, Page::new(), &wanted, cut);
-        }
+        let reader = Pieces::new(&SESSION[..cut], usize::MAX);
+        assert_served(&rt, rt.alloc(), reader, Page::new(), &wanted, cut);
     }
 }
 
@@ -129,11 +94,9 @@ fn the_session_ended_after_each_byte(rt: HostRuntime) {
 fn the_reader_fails_after_each_byte(rt: HostRuntime) {
     for good in 0..SESSION.len() + 1 {
         let wanted = wanted_after(whole_requests(good), End::Fault(Fault::Read));
-        for watched in WAYS {
-            let mut reader = Pieces::new(SESSION, usize::MAX);
-            reader.good = good;
-            assert_served(&rt, rt.alloc(), watched, reader, Page::new(), &wanted, good);
-        }
+        let mut reader = Pieces::new(SESSION, usize::MAX);
+        reader.good = good;
+        assert_served(&rt, rt.alloc(), reader, Page::new(), &wanted, good);
     }
 }
 
@@ -141,12 +104,10 @@ fn the_reader_fails_after_each_byte(rt: HostRuntime) {
 fn the_writer_fails_after_each_byte(rt: HostRuntime) {
     for room in 0..ANSWERS.len() {
         let wanted = wanted_at_failure(room);
-        for watched in WAYS {
-            for stalls in [false, true] {
-                let reader = Pieces::new(SESSION, usize::MAX);
-                let page = Page::taking(5, room, stalls);
-                assert_served(&rt, rt.alloc(), watched, reader, page, &wanted, room);
-            }
+        for stalls in [false, true] {
+            let reader = Pieces::new(SESSION, usize::MAX);
+            let page = Page::taking(5, room, stalls);
+            assert_served(&rt, rt.alloc(), reader, page, &wanted, room);
         }
     }
 }
@@ -167,11 +128,9 @@ fn the_writer_cannot_be_flushed(rt: HostRuntime) {
             counts: counts[flushes],
             ..wanted_after(flushes + 1, End::Write)
         };
-        for watched in WAYS {
-            let reader = Pieces::new(SESSION, usize::MAX);
-            let mut page = Page::new();
-            page.flushes = flushes;
-            assert_served(&rt, rt.alloc(), watched, reader, page, &wanted, flushes);
-        }
+        let reader = Pieces::new(SESSION, usize::MAX);
+        let mut page = Page::new();
+        page.flushes = flushes;
+        assert_served(&rt, rt.alloc(), reader, page, &wanted, flushes);
     }
 }

@@ -9,12 +9,12 @@ const TOO_BIG: &[u8] = b"\0\0\0\x03\x02\x03\x07";
 const UNTAKEN: &[u8] = b"\0\0\0\x03\x02\x03\x2a";
 
 /// Receives up to this number of messages, of which so many may be requested before they come.
-fn receive(talk: &mut Talk, alloc: Global, count: u64, ahead: u32) -> Result<(), Stop> {
-    receive_as(talk, alloc, count, ahead, ANY)
+fn receive(dialogue: &mut Dialogue, alloc: Global, count: u64, ahead: u32) -> Result<(), Stop> {
+    receive_as(dialogue, alloc, count, ahead, ANY)
 }
 
 fn receive_as(
-    talk: &mut Talk,
+    dialogue: &mut Dialogue,
     alloc: Global,
     count: u64,
     ahead: u32,
@@ -29,21 +29,21 @@ fn receive_as(
     receive_all(
         alloc,
         &receiving,
-        &mut talk.replies,
-        &mut talk.requests,
-        &mut talk.screen,
+        &mut dialogue.replies,
+        &mut dialogue.requests,
+        &mut dialogue.screen,
     )
 }
 
 const NO_MEMORY: Result<(), Stop> = Err(Stop::Fault(ClientFault::NoMemory));
 
-/// Returns a talk with this number of messages.
-fn talk_of(rt: &impl Abort, alloc: Global, messages: u64) -> Talk {
-    let mut talk = Talk::new(rt, alloc, &[WELCOME, GOT]);
+/// Returns a dialogue with this number of messages.
+fn dialogue_of(rt: &impl Abort, alloc: Global, messages: u64) -> Dialogue {
+    let mut dialogue = Dialogue::new(rt, alloc, &[WELCOME, GOT]);
     for _ in 0..messages {
-        talk.replies.put(MESSAGE);
+        dialogue.replies.put(MESSAGE);
     }
-    talk
+    dialogue
 }
 
 /// Returns the requests of a session with this number of receives.
@@ -79,27 +79,27 @@ fn receives_are_requested_in_a_window(rt: HostRuntime) {
         (5, 0, 5),
     ];
     for (count, ahead, flushes) in table {
-        let mut talk = talk_of(&rt, rt.alloc(), count);
-        let outcome = receive(&mut talk, rt.alloc(), count, ahead);
+        let mut dialogue = dialogue_of(&rt, rt.alloc(), count);
+        let outcome = receive(&mut dialogue, rt.alloc(), count, ahead);
         if outcome == NO_MEMORY {
             return;
         }
         assert!(rt; outcome.is_ok(), "{count}, {ahead}");
         assert!(rt;
-            talk.requests.text() == requested(&rt, rt.alloc(), count).text(),
+            dialogue.requests.text() == requested(&rt, rt.alloc(), count).text(),
             "{count}"
         );
         assert_eq!(rt;
-            talk.requests.flushed,
+            dialogue.requests.flushed,
             flushes.min(9) + 2,
             "{count}, {ahead}"
         );
         assert!(rt;
-            talk.screen.text() == shown(&rt, rt.alloc(), count).text(),
+            dialogue.screen.text() == shown(&rt, rt.alloc(), count).text(),
             "{count}"
         );
-        assert_eq!(rt; talk.screen.flushed as u64, count, "{count}");
-        assert_is(&rt, talk.replies.read, talk.replies.len());
+        assert_eq!(rt; dialogue.screen.flushed as u64, count, "{count}");
+        assert_is(&rt, dialogue.replies.read, dialogue.replies.len());
     }
 }
 
@@ -115,33 +115,36 @@ fn no_more_than_a_window_is_requested(rt: HostRuntime) {
     ];
     for (count, ahead, requests) in table {
         // (there is no reply to a receive)
-        let mut talk = talk_of(&rt, rt.alloc(), 0);
-        let outcome = receive(&mut talk, rt.alloc(), count, ahead);
+        let mut dialogue = dialogue_of(&rt, rt.alloc(), 0);
+        let outcome = receive(&mut dialogue, rt.alloc(), count, ahead);
         if outcome == NO_MEMORY {
             return;
         }
         assert!(rt; outcome == Err(Stop::Fault(ClientFault::NoReply)));
         let wanted = requested(&rt, rt.alloc(), requests);
-        assert!(rt; talk.requests.text() == wanted.text(), "{count}, {ahead}");
+        assert!(rt;
+            dialogue.requests.text() == wanted.text(),
+            "{count}, {ahead}"
+        );
     }
 }
 
 #[test]
 fn a_receive_that_does_not_wait_is_alone(rt: HostRuntime) {
-    let mut talk = Talk::new(&rt, rt.alloc(), &[WELCOME, GOT, MESSAGE, UNTAKEN, MESSAGE]);
+    let mut dialogue = Dialogue::new(&rt, rt.alloc(), &[WELCOME, GOT, MESSAGE, UNTAKEN, MESSAGE]);
     let receipt = Receipt {
         nowait: true,
         ..ANY
     };
-    let outcome = receive_as(&mut talk, rt.alloc(), 9, 64, receipt);
+    let outcome = receive_as(&mut dialogue, rt.alloc(), 9, 64, receipt);
     if outcome == NO_MEMORY {
         return;
     }
     assert!(rt; outcome == Err(Stop::Fault(ClientFault::Refused(Errno::ENOMSG))));
-    assert_is(&rt, talk.requests.flushed, 4);
-    assert!(rt; talk.screen.text() == b"abc\n".as_slice());
+    assert_is(&rt, dialogue.requests.flushed, 4);
+    assert!(rt; dialogue.screen.text() == b"abc\n".as_slice());
     let read = WELCOME.len() + GOT.len() + MESSAGE.len() + UNTAKEN.len();
-    assert_is(&rt, talk.replies.read, read);
+    assert_is(&rt, dialogue.replies.read, read);
 }
 
 #[test]
@@ -154,18 +157,18 @@ fn messages_that_come_after_a_refusal_are_shown(rt: HostRuntime) {
         (&[MESSAGE, TOO_BIG, MESSAGE], Errno::E2BIG, 2),
     ];
     for (replies, error, messages) in table {
-        let mut talk = talk_of(&rt, rt.alloc(), 0);
+        let mut dialogue = dialogue_of(&rt, rt.alloc(), 0);
         for reply in replies {
-            talk.replies.put(reply);
+            dialogue.replies.put(reply);
         }
-        let outcome = receive(&mut talk, rt.alloc(), 99, 4);
+        let outcome = receive(&mut dialogue, rt.alloc(), 99, 4);
         if outcome == NO_MEMORY {
             return;
         }
         assert!(rt; outcome == Err(Stop::Fault(ClientFault::Refused(error))));
-        assert!(rt; talk.requests.text() == requested(&rt, rt.alloc(), 4).text());
-        assert!(rt; talk.screen.text() == shown(&rt, rt.alloc(), messages).text());
-        assert_is(&rt, talk.replies.read, talk.replies.len());
+        assert!(rt; dialogue.requests.text() == requested(&rt, rt.alloc(), 4).text());
+        assert!(rt; dialogue.screen.text() == shown(&rt, rt.alloc(), messages).text());
+        assert_is(&rt, dialogue.replies.read, dialogue.replies.len());
     }
 }
 
@@ -179,21 +182,21 @@ fn messages_on_their_way_are_shown_if_the_writer_fails(rt: HostRuntime) {
     ];
     for (reply, fault, messages) in last {
         for room in sent..sent + 2 * RECEIVE.len() {
-            let mut talk = talk_of(&rt, rt.alloc(), 3);
-            talk.replies.put(reply);
-            talk.requests.good = room;
-            let outcome = receive(&mut talk, rt.alloc(), 99, 4);
+            let mut dialogue = dialogue_of(&rt, rt.alloc(), 3);
+            dialogue.replies.put(reply);
+            dialogue.requests.good = room;
+            let outcome = receive(&mut dialogue, rt.alloc(), 99, 4);
             if outcome == NO_MEMORY {
                 return;
             }
             assert!(rt; outcome == Err(Stop::Fault(fault)), "{room}");
             let all = requested(&rt, rt.alloc(), 6);
             assert!(rt;
-                Some(talk.requests.text()) == all.text().get(..room),
+                Some(dialogue.requests.text()) == all.text().get(..room),
                 "{room}"
             );
             assert!(rt;
-                talk.screen.text() == shown(&rt, rt.alloc(), messages).text(),
+                dialogue.screen.text() == shown(&rt, rt.alloc(), messages).text(),
                 "{room}"
             );
         }
@@ -204,42 +207,42 @@ fn messages_on_their_way_are_shown_if_the_writer_fails(rt: HostRuntime) {
 fn the_writer_fails_before_a_receive_is_on_its_way(rt: HostRuntime) {
     let begun = HELLO.len() + GET.len();
     for room in begun..begun + 4 * RECEIVE.len() {
-        let mut talk = talk_of(&rt, rt.alloc(), 4);
-        talk.requests.good = room;
-        let outcome = receive(&mut talk, rt.alloc(), 99, 4);
+        let mut dialogue = dialogue_of(&rt, rt.alloc(), 4);
+        dialogue.requests.good = room;
+        let outcome = receive(&mut dialogue, rt.alloc(), 99, 4);
         if outcome == NO_MEMORY {
             return;
         }
         assert!(rt; outcome == Err(Stop::Fault(ClientFault::NoReply)), "{room}");
         let all = requested(&rt, rt.alloc(), 4);
         assert!(rt;
-            Some(talk.requests.text()) == all.text().get(..room),
+            Some(dialogue.requests.text()) == all.text().get(..room),
             "{room}"
         );
-        assert_eq!(rt; talk.replies.read, WELCOME.len() + GOT.len(), "{room}");
+        assert_eq!(rt; dialogue.replies.read, WELCOME.len() + GOT.len(), "{room}");
     }
 }
 
 #[test]
 fn a_screen_that_fails_ends_the_receives_on_their_way(rt: HostRuntime) {
     for room in 4..8 {
-        let mut talk = talk_of(&rt, rt.alloc(), 9);
-        talk.screen.good = room;
-        let outcome = receive(&mut talk, rt.alloc(), 9, 4);
+        let mut dialogue = dialogue_of(&rt, rt.alloc(), 9);
+        dialogue.screen.good = room;
+        let outcome = receive(&mut dialogue, rt.alloc(), 9, 4);
         if outcome == NO_MEMORY {
             return;
         }
         assert!(rt; outcome == Err(Stop::Screen), "{room}");
         assert!(rt;
-            talk.requests.text() == requested(&rt, rt.alloc(), 4).text(),
+            dialogue.requests.text() == requested(&rt, rt.alloc(), 4).text(),
             "{room}"
         );
-        assert!(rt; talk.screen.text() == &b"abc\nabc\n"[..room], "{room}");
+        assert!(rt; dialogue.screen.text() == &b"abc\nabc\n"[..room], "{room}");
     }
     // (also at a message after a refusal)
-    let mut talk = Talk::new(&rt, rt.alloc(), &[WELCOME, GOT, TOO_BIG, MESSAGE, MESSAGE]);
-    talk.screen.good = 6;
-    let outcome = receive(&mut talk, rt.alloc(), 9, 4);
+    let mut dialogue = Dialogue::new(&rt, rt.alloc(), &[WELCOME, GOT, TOO_BIG, MESSAGE, MESSAGE]);
+    dialogue.screen.good = 6;
+    let outcome = receive(&mut dialogue, rt.alloc(), 9, 4);
     assert!(rt; outcome == NO_MEMORY || outcome == Err(Stop::Screen));
-    assert!(rt; outcome == NO_MEMORY || talk.screen.text() == b"abc\nab".as_slice());
+    assert!(rt; outcome == NO_MEMORY || dialogue.screen.text() == b"abc\nab".as_slice());
 }

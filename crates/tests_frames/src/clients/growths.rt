@@ -6,7 +6,7 @@ use tests_kit::mark;
 
 #[test]
 fn run_of_client(rt: HostRuntime) {
-    let mut talk = Talk::new(&rt, rt.alloc(), &[WELCOME, GOT, MESSAGE]);
+    let mut dialogue = Dialogue::new(&rt, rt.alloc(), &[WELCOME, GOT, MESSAGE]);
     let command = Command {
         cred: WHO,
         task: RECEIVE_ANY,
@@ -15,23 +15,27 @@ fn run_of_client(rt: HostRuntime) {
     let status = run_client(
         rt.alloc(),
         &command,
-        &mut talk.replies,
-        &mut talk.requests,
-        &mut talk.screen,
+        &mut dialogue.replies,
+        &mut dialogue.requests,
+        &mut dialogue.screen,
     );
     if status == 0 {
-        assert!(rt; talk.screen.text() == b"abc\n".as_slice());
-        assert_is(&rt, talk.replies.read, talk.replies.len());
+        assert!(rt; dialogue.screen.text() == b"abc\n".as_slice());
+        assert_is(&rt, dialogue.replies.read, dialogue.replies.len());
     } else {
         assert_is(&rt, status, 1);
-        assert!(rt; talk.screen.text() == b"sysvmsg: no memory\n".as_slice());
-        assert_is(&rt, (talk.replies.read, talk.requests.len()), (0, 0));
+        assert!(rt; dialogue.screen.text() == b"sysvmsg: no memory\n".as_slice());
+        assert_is(
+            &rt,
+            (dialogue.replies.read, dialogue.requests.len()),
+            (0, 0),
+        );
     }
 }
 
 #[test]
 fn receives_of_client(rt: HostRuntime) {
-    let mut talk = Talk::new(&rt, rt.alloc(), &[WELCOME, GOT, MESSAGE, MESSAGE]);
+    let mut dialogue = Dialogue::new(&rt, rt.alloc(), &[WELCOME, GOT, MESSAGE, MESSAGE]);
     let receiving = Receiving {
         cred: WHO,
         receipt: ANY,
@@ -42,23 +46,27 @@ fn receives_of_client(rt: HostRuntime) {
     let outcome = receive_all(
         rt.alloc(),
         &receiving,
-        &mut talk.replies,
-        &mut talk.requests,
-        &mut talk.screen,
+        &mut dialogue.replies,
+        &mut dialogue.requests,
+        &mut dialogue.screen,
     );
     if outcome.is_ok() {
-        assert!(rt; talk.screen.text() == b"abc\nabc\n".as_slice());
-        assert_is(&rt, talk.replies.read, talk.replies.len());
+        assert!(rt; dialogue.screen.text() == b"abc\nabc\n".as_slice());
+        assert_is(&rt, dialogue.replies.read, dialogue.replies.len());
     } else {
         assert!(rt; outcome == Err(Stop::Fault(ClientFault::NoMemory)));
-        assert_is(&rt, (talk.replies.read, talk.requests.len()), (0, 0));
-        assert_is(&rt, talk.screen.len(), 0);
+        assert_is(
+            &rt,
+            (dialogue.replies.read, dialogue.requests.len()),
+            (0, 0),
+        );
+        assert_is(&rt, dialogue.screen.len(), 0);
     }
 }
 
 #[test]
 fn sends_of_client(rt: HostRuntime) {
-    let mut talk = Talk::new(&rt, rt.alloc(), &[WELCOME, GOT, SENT, SENT]);
+    let mut dialogue = Dialogue::new(&rt, rt.alloc(), &[WELCOME, GOT, SENT, SENT]);
     let mut input = joined(&rt, rt.alloc(), &[b"one\ntwo\n"]);
     let sending = Sending {
         cred: WHO,
@@ -71,14 +79,18 @@ fn sends_of_client(rt: HostRuntime) {
         rt.alloc(),
         &sending,
         &mut input,
-        &mut talk.replies,
-        &mut talk.requests,
+        &mut dialogue.replies,
+        &mut dialogue.requests,
     );
     match outcome {
-        Ok(()) => assert_is(&rt, talk.replies.read, talk.replies.len()),
+        Ok(()) => assert_is(&rt, dialogue.replies.read, dialogue.replies.len()),
         Err(unsent) => {
             assert!(rt; unsent.line() == ClientFault::NoMemory.line());
-            assert_is(&rt, (talk.replies.read, talk.requests.len()), (0, 0));
+            assert_is(
+                &rt,
+                (dialogue.replies.read, dialogue.requests.len()),
+                (0, 0),
+            );
             assert_is(&rt, input.read, 0);
         }
     }
@@ -88,23 +100,23 @@ fn sends_of_client(rt: HostRuntime) {
 fn removals_of_client(rt: HostRuntime) {
     let welcome: &[u8] = b"\0\0\0\x07\x02\0\0\0\0\0\x01";
     let denied: &[u8] = b"\0\0\0\x03\x02\x06\x01";
-    let mut talk = Talk::new(&rt, rt.alloc(), &[welcome, ROW, denied]);
+    let mut dialogue = Dialogue::new(&rt, rt.alloc(), &[welcome, ROW, denied]);
     let mut refusals = Vec::new(rt.alloc());
     let _marked = mark(rt.alloc());
     let outcome = remove_all(
         rt.alloc(),
         WHO,
-        &mut talk.replies,
-        &mut talk.requests,
+        &mut dialogue.replies,
+        &mut dialogue.requests,
         &mut refusals,
     );
     if outcome.is_ok() {
         assert_is(&rt, refusals.len(), 1);
-        assert_is(&rt, talk.replies.read, talk.replies.len());
+        assert_is(&rt, dialogue.replies.read, dialogue.replies.len());
     } else {
         assert!(rt; outcome == Err(ClientFault::NoMemory));
         assert!(rt; refusals.is_empty());
-        let read = talk.replies.read;
-        assert!(rt; read == 0 || read == talk.replies.len());
+        let read = dialogue.replies.read;
+        assert!(rt; read == 0 || read == dialogue.replies.len());
     }
 }

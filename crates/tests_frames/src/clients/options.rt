@@ -1,7 +1,7 @@
 //! What the options and the further commands of clients request and show.
 use super::*;
-use sysv_clients::{ClientFault, Making, Receiving, Stop, receive_all, receive_watched};
-use sysv_model::{Errno, MESSAGE_BYTES, Watched};
+use sysv_clients::{ClientFault, Making, Receiving, Stop, receive_all, receive_instrumented};
+use sysv_model::{Errno, Instrumented, MESSAGE_BYTES};
 
 /// The reply with a message of type -3 and of these four bytes: `a`, LF, NUL, `b`.
 const ODD: &[u8] = b"\0\0\0\x0f\x02\x03\0\xff\xff\xff\xff\xff\xff\xff\xfda\n\0b";
@@ -34,15 +34,19 @@ fn a_message_is_shown_as_the_options_say(rt: HostRuntime) {
         (false, Form::Object, 0, b"{\"type\":-3,\"body\":\"\"}\n"),
     ];
     for (show_type, form, size, shown) in table {
-        let mut talk = Talk::new(&rt, rt.alloc(), &[WELCOME, GOT, ODD]);
+        let mut dialogue = Dialogue::new(&rt, rt.alloc(), &[WELCOME, GOT, ODD]);
         let receipt = Receipt {
             show_type,
             form,
             size,
             ..ANY
         };
-        assert_is(&rt, talk.run(&rt, rt.alloc(), Task::Receive(receipt)), 0);
-        assert!(rt; talk.screen.text() == shown, "{size}");
+        assert_is(
+            &rt,
+            dialogue.run(&rt, rt.alloc(), Task::Receive(receipt)),
+            0,
+        );
+        assert!(rt; dialogue.screen.text() == shown, "{size}");
     }
 }
 
@@ -55,13 +59,13 @@ fn is_object(rt: &(impl Abort + AllocGlobal), body: &[u8], wanted: &[u8]) {
         alloc,
         &[&len.to_be_bytes(), b"\x02\x03\0\0\0\0\0\0\0\0\x07"],
     );
-    let mut talk = Talk::new(rt, alloc, &[WELCOME, GOT, front.text(), body]);
+    let mut dialogue = Dialogue::new(rt, alloc, &[WELCOME, GOT, front.text(), body]);
     let receipt = Receipt {
         form: Form::Object,
         ..ANY
     };
-    assert_is(rt, talk.run(rt, alloc, Task::Receive(receipt)), 0);
-    assert!(rt; talk.screen.text() == wanted);
+    assert_is(rt, dialogue.run(rt, alloc, Task::Receive(receipt)), 0);
+    assert!(rt; dialogue.screen.text() == wanted);
 }
 
 #[test]
@@ -114,14 +118,18 @@ fn the_longest_message_is_shown_as_a_json_object(rt: HostRuntime) {
 fn the_longest_message_is_shown_with_its_type(rt: HostRuntime) {
     let text = [b'y'; 8192];
     let front = b"\0\0\x20\x0b\x02\x03\0\x80\0\0\0\0\0\0\0";
-    let mut talk = Talk::new(&rt, rt.alloc(), &[WELCOME, GOT, front, &text]);
+    let mut dialogue = Dialogue::new(&rt, rt.alloc(), &[WELCOME, GOT, front, &text]);
     let receipt = Receipt {
         show_type: true,
         ..ANY
     };
-    assert_is(&rt, talk.run(&rt, rt.alloc(), Task::Receive(receipt)), 0);
+    assert_is(
+        &rt,
+        dialogue.run(&rt, rt.alloc(), Task::Receive(receipt)),
+        0,
+    );
     let wanted = joined(&rt, rt.alloc(), &[b"-9223372036854775808\t", &text, b"\n"]);
-    assert!(rt; talk.screen.text() == wanted.text());
+    assert!(rt; dialogue.screen.text() == wanted.text());
 }
 
 #[test]
@@ -133,7 +141,7 @@ fn a_receive_may_except_a_type_and_create_the_queue(rt: HostRuntime) {
         (false, GET, false, true, b"\0\0\x10\0"),
     ];
     for (create, get, except, noerror, flags) in table {
-        let mut talk = Talk::new(&rt, rt.alloc(), &[WELCOME, GOT, MESSAGE]);
+        let mut dialogue = Dialogue::new(&rt, rt.alloc(), &[WELCOME, GOT, MESSAGE]);
         let receipt = Receipt {
             create,
             mode: 0o640,
@@ -141,16 +149,24 @@ fn a_receive_may_except_a_type_and_create_the_queue(rt: HostRuntime) {
             noerror,
             ..ANY
         };
-        assert_is(&rt, talk.run(&rt, rt.alloc(), Task::Receive(receipt)), 0);
+        assert_is(
+            &rt,
+            dialogue.run(&rt, rt.alloc(), Task::Receive(receipt)),
+            0,
+        );
         let wanted = joined(&rt, rt.alloc(), &[HELLO, get, WANTS, flags]);
-        assert!(rt; talk.requests.text() == wanted.text());
+        assert!(rt; dialogue.requests.text() == wanted.text());
     }
 }
 
 #[test]
 fn queues_are_listed_as_json(rt: HostRuntime) {
-    let mut talk = listed(&rt, rt.alloc());
-    assert_is(&rt, talk.run(&rt, rt.alloc(), Task::List(Format::Json)), 0);
+    let mut dialogue = listed(&rt, rt.alloc());
+    assert_is(
+        &rt,
+        dialogue.run(&rt, rt.alloc(), Task::List(Format::Json)),
+        0,
+    );
     let wanted = joined(
         &rt,
         rt.alloc(),
@@ -160,7 +176,7 @@ fn queues_are_listed_as_json(rt: HostRuntime) {
             b"\"bytes\":4294967295,\"messages\":4294967295}\n",
         ],
     );
-    assert!(rt; talk.screen.text() == wanted.text());
+    assert!(rt; dialogue.screen.text() == wanted.text());
 }
 
 #[test]
@@ -169,13 +185,13 @@ fn the_attributes_of_a_queue_are_shown(rt: HostRuntime) {
         b"\0\0\0\x45\x02\x04\0\0\0\0\x07\0\0\x03\xe8\0\0\x03\xe9\0\0\x03\xea\0\0\x03\xeb\x01\xa0\0\0\0\x03";
     let more: &[u8] =
         b"\0\0\0\x01\0\0\x40\0\0\0\0\x65\0\0\0\0\0\0\0\0\0\0\0\x09\0\0\0\0\0\0\0\0\0\0\0\0\0\0\0\x08";
-    let mut talk = Talk::new(&rt, rt.alloc(), &[WELCOME, told, more]);
-    assert_is(&rt, talk.run(&rt, rt.alloc(), Task::Show(64)), 0);
+    let mut dialogue = Dialogue::new(&rt, rt.alloc(), &[WELCOME, told, more]);
+    assert_is(&rt, dialogue.run(&rt, rt.alloc(), Task::Show(64)), 0);
     let asked = joined(&rt, rt.alloc(), &[HELLO, b"\0\0\0\x06\x02\x04\0\0\0\x40"]);
-    assert!(rt; talk.requests.text() == asked.text());
+    assert!(rt; dialogue.requests.text() == asked.text());
     let shown: &[u8] =
         b"key 0x00000007\nuid 1000\ngid 1001\ncuid 1002\ncgid 1003\nmode 640\ncbytes 3\nqnum 1\nqbytes 16384\nlspid 101\nlrpid 0\nstime 9\nrtime 0\nctime 8\n";
-    assert!(rt; talk.screen.text() == shown);
+    assert!(rt; dialogue.screen.text() == shown);
 }
 
 #[test]
@@ -188,21 +204,21 @@ fn a_queue_is_made(rt: HostRuntime) {
         mode: 0o640,
         qbytes: None,
     };
-    let mut talk = Talk::new(&rt, rt.alloc(), &[WELCOME, GOT]);
-    assert_is(&rt, talk.run(&rt, rt.alloc(), Task::Make(making)), 0);
-    assert!(rt; talk.requests.text() == joined(&rt, rt.alloc(), &[HELLO, get]).text());
-    assert!(rt; talk.screen.text() == b"64\n".as_slice());
+    let mut dialogue = Dialogue::new(&rt, rt.alloc(), &[WELCOME, GOT]);
+    assert_is(&rt, dialogue.run(&rt, rt.alloc(), Task::Make(making)), 0);
+    assert!(rt; dialogue.requests.text() == joined(&rt, rt.alloc(), &[HELLO, get]).text());
+    assert!(rt; dialogue.screen.text() == b"64\n".as_slice());
     let limited = Making {
         qbytes: Some(99),
         ..making
     };
-    let mut talk = Talk::new(&rt, rt.alloc(), &[WELCOME, GOT, done]);
-    assert_is(&rt, talk.run(&rt, rt.alloc(), Task::Make(limited)), 0);
-    assert!(rt; talk.requests.text() == joined(&rt, rt.alloc(), &[HELLO, get, set]).text());
-    assert!(rt; talk.screen.text() == b"64\n".as_slice());
+    let mut dialogue = Dialogue::new(&rt, rt.alloc(), &[WELCOME, GOT, done]);
+    assert_is(&rt, dialogue.run(&rt, rt.alloc(), Task::Make(limited)), 0);
+    assert!(rt; dialogue.requests.text() == joined(&rt, rt.alloc(), &[HELLO, get, set]).text());
+    assert!(rt; dialogue.screen.text() == b"64\n".as_slice());
 }
 
-impl Talk {
+impl Dialogue {
     /// Receives this number of messages.
     fn receive(&mut self, alloc: Global, count: u64) -> Result<(), Stop> {
         let receiving = Receiving {
@@ -224,9 +240,17 @@ impl Talk {
 #[test]
 fn each_of_several_messages_is_shown_as_it_comes(rt: HostRuntime) {
     for count in 0..4 {
-        let mut talk = Talk::new(&rt, rt.alloc(), &[WELCOME, GOT, MESSAGE, MESSAGE, MESSAGE]);
-        if talk.receive(rt.alloc(), count).is_err() {
-            assert_is(&rt, (talk.requests.len(), talk.screen.len()), (0, 0));
+        let mut dialogue = Dialogue::new(
+            &rt,
+            rt.alloc(),
+            &[WELCOME, GOT, MESSAGE, MESSAGE, MESSAGE],
+        );
+        if dialogue.receive(rt.alloc(), count).is_err() {
+            assert_is(
+                &rt,
+                (dialogue.requests.len(), dialogue.screen.len()),
+                (0, 0),
+            );
             return;
         }
         let mut asked = joined(&rt, rt.alloc(), &[HELLO, GET]);
@@ -235,9 +259,9 @@ fn each_of_several_messages_is_shown_as_it_comes(rt: HostRuntime) {
             asked.put(RECEIVE);
             shown.put(b"abc\n");
         }
-        assert!(rt; talk.requests.text() == asked.text(), "{count}");
-        assert!(rt; talk.screen.text() == shown.text(), "{count}");
-        assert!(rt; talk.screen.flushed as u64 == count, "{count}");
+        assert!(rt; dialogue.requests.text() == asked.text(), "{count}");
+        assert!(rt; dialogue.screen.text() == shown.text(), "{count}");
+        assert!(rt; dialogue.screen.flushed as u64 == count, "{count}");
     }
 }
 
@@ -249,13 +273,13 @@ fn only_the_messages_before_a_fault_are_shown(rt: HostRuntime) {
         (b"", ClientFault::NoReply),
     ];
     for (last, fault) in table {
-        let mut talk = Talk::new(&rt, rt.alloc(), &[WELCOME, GOT, MESSAGE, MESSAGE, last]);
-        let outcome = talk.receive(rt.alloc(), u64::MAX);
+        let mut dialogue = Dialogue::new(&rt, rt.alloc(), &[WELCOME, GOT, MESSAGE, MESSAGE, last]);
+        let outcome = dialogue.receive(rt.alloc(), u64::MAX);
         if outcome == Err(Stop::Fault(ClientFault::NoMemory)) {
             return;
         }
         assert!(rt; outcome == Err(Stop::Fault(fault)));
-        assert!(rt; talk.screen.text() == b"abc\nabc\n".as_slice());
+        assert!(rt; dialogue.screen.text() == b"abc\nabc\n".as_slice());
         assert!(rt; Stop::Fault(fault).line() == fault.line());
     }
     assert!(rt; Stop::Screen.line().is_empty());
@@ -264,40 +288,44 @@ fn only_the_messages_before_a_fault_are_shown(rt: HostRuntime) {
 #[test]
 fn a_screen_that_fails_ends_the_receives(rt: HostRuntime) {
     for room in 4..8 {
-        let mut talk = Talk::new(&rt, rt.alloc(), &[WELCOME, GOT, MESSAGE, MESSAGE, MESSAGE]);
-        talk.screen.good = room;
-        assert!(rt; talk.receive(rt.alloc(), 3).is_err());
-        if talk.requests.len() == 0 {
+        let mut dialogue = Dialogue::new(
+            &rt,
+            rt.alloc(),
+            &[WELCOME, GOT, MESSAGE, MESSAGE, MESSAGE],
+        );
+        dialogue.screen.good = room;
+        assert!(rt; dialogue.receive(rt.alloc(), 3).is_err());
+        if dialogue.requests.len() == 0 {
             return;
         }
         let asked = joined(&rt, rt.alloc(), &[HELLO, GET, RECEIVE, RECEIVE]);
-        assert!(rt; talk.requests.text() == asked.text(), "{room}");
-        assert!(rt; talk.screen.text() == &b"abc\nabc\n"[..room], "{room}");
+        assert!(rt; dialogue.requests.text() == asked.text(), "{room}");
+        assert!(rt; dialogue.screen.text() == &b"abc\nabc\n"[..room], "{room}");
     }
-    let mut talk = Talk::new(&rt, rt.alloc(), &[WELCOME, GOT, MESSAGE, MESSAGE]);
-    talk.screen.flushes = 0;
-    assert!(rt; talk.receive(rt.alloc(), 2).is_err());
+    let mut dialogue = Dialogue::new(&rt, rt.alloc(), &[WELCOME, GOT, MESSAGE, MESSAGE]);
+    dialogue.screen.flushes = 0;
+    assert!(rt; dialogue.receive(rt.alloc(), 2).is_err());
     let asked = joined(&rt, rt.alloc(), &[HELLO, GET, RECEIVE]);
-    assert!(rt; talk.requests.len() == 0 || talk.requests.text() == asked.text());
+    assert!(rt; dialogue.requests.len() == 0 || dialogue.requests.text() == asked.text());
 }
 
 #[test]
-fn a_watched_screen_has_failed_if_it_ended_the_receives(rt: HostRuntime) {
+fn a_instrumented_screen_has_failed_if_it_ended_the_receives(rt: HostRuntime) {
     for room in [4, 8] {
-        let mut talk = Talk::new(&rt, rt.alloc(), &[WELCOME, GOT, MESSAGE, MESSAGE]);
-        talk.screen.good = room;
+        let mut dialogue = Dialogue::new(&rt, rt.alloc(), &[WELCOME, GOT, MESSAGE, MESSAGE]);
+        dialogue.screen.good = room;
         let receiving = Receiving {
             cred: WHO,
             receipt: ANY,
             count: 2,
             ahead: 1,
         };
-        let mut screen = Watched::new(&mut talk.screen);
-        let outcome = receive_watched(
+        let mut screen = Instrumented::new(&mut dialogue.screen);
+        let outcome = receive_instrumented(
             rt.alloc(),
             &receiving,
-            &mut Watched::new(&mut talk.replies),
-            &mut Watched::new(&mut talk.requests),
+            &mut Instrumented::new(&mut dialogue.replies),
+            &mut Instrumented::new(&mut dialogue.requests),
             &mut screen,
         );
         if outcome == Err(Stop::Fault(ClientFault::NoMemory)) {

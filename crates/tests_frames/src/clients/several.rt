@@ -33,13 +33,13 @@ const SENDING: Sending = Sending {
 };
 
 /// Sends the lines of `input`, and returns what ended that.
-fn send(talk: &mut Talk, alloc: Global, input: &mut Tape) -> &'static str {
+fn send(dialogue: &mut Dialogue, alloc: Global, input: &mut Tape) -> &'static str {
     let outcome = send_lines(
         alloc,
         &SENDING,
         input,
-        &mut talk.replies,
-        &mut talk.requests,
+        &mut dialogue.replies,
+        &mut dialogue.requests,
     );
     line_of(&outcome)
 }
@@ -68,8 +68,8 @@ fn each_line_is_a_message(rt: HostRuntime) {
     for (lines, texts, flushes) in table {
         let mut input = joined(&rt, rt.alloc(), &[lines]);
         input.piece = 2;
-        let mut talk = Talk::new(&rt, rt.alloc(), &[WELCOME, GOT, SENT, SENT, SENT]);
-        let ended = send(&mut talk, rt.alloc(), &mut input);
+        let mut dialogue = Dialogue::new(&rt, rt.alloc(), &[WELCOME, GOT, SENT, SENT, SENT]);
+        let ended = send(&mut dialogue, rt.alloc(), &mut input);
         if ended == NO_MEMORY {
             return;
         }
@@ -78,8 +78,8 @@ fn each_line_is_a_message(rt: HostRuntime) {
         for text in texts {
             put_send(&mut asked, text);
         }
-        assert!(rt; talk.requests.text() == asked.text(), "{lines:?}");
-        assert_is(&rt, talk.requests.flushed, flushes.min(9) + 2);
+        assert!(rt; dialogue.requests.text() == asked.text(), "{lines:?}");
+        assert_is(&rt, dialogue.requests.flushed, flushes.min(9) + 2);
         assert_is(&rt, input.read, lines.len());
     }
 }
@@ -91,8 +91,8 @@ fn a_line_of_8192_bytes_is_sent(rt: HostRuntime) {
     let ends: [&[u8]; 2] = [b"", b"\n"];
     for end in ends {
         let mut input = joined(&rt, rt.alloc(), &[b"a\n", text, end]);
-        let mut talk = Talk::new(&rt, rt.alloc(), &[WELCOME, GOT, SENT, SENT]);
-        let ended = send(&mut talk, rt.alloc(), &mut input);
+        let mut dialogue = Dialogue::new(&rt, rt.alloc(), &[WELCOME, GOT, SENT, SENT]);
+        let ended = send(&mut dialogue, rt.alloc(), &mut input);
         if ended == NO_MEMORY {
             return;
         }
@@ -102,7 +102,7 @@ fn a_line_of_8192_bytes_is_sent(rt: HostRuntime) {
         asked.put(b"\0\0\x20\x12");
         asked.put(SENDS);
         asked.put(text);
-        assert!(rt; talk.requests.text() == asked.text());
+        assert!(rt; dialogue.requests.text() == asked.text());
     }
 }
 
@@ -113,15 +113,15 @@ fn a_longer_line_is_not_sent(rt: HostRuntime) {
     let ends: [&[u8]; 2] = [b"", b"\nmore\n"];
     for end in ends {
         let mut input = joined(&rt, rt.alloc(), &[b"a\n", text, end]);
-        let mut talk = Talk::new(&rt, rt.alloc(), &[WELCOME, GOT, SENT, SENT]);
-        let ended = send(&mut talk, rt.alloc(), &mut input);
+        let mut dialogue = Dialogue::new(&rt, rt.alloc(), &[WELCOME, GOT, SENT, SENT]);
+        let ended = send(&mut dialogue, rt.alloc(), &mut input);
         if ended == NO_MEMORY {
             return;
         }
         assert!(rt; ended == "sysvmsg: EINVAL\n");
         let mut asked = joined(&rt, rt.alloc(), &[HELLO, MAKE]);
         put_send(&mut asked, b"a");
-        assert!(rt; talk.requests.text() == asked.text());
+        assert!(rt; dialogue.requests.text() == asked.text());
     }
 }
 
@@ -132,8 +132,8 @@ fn nothing_is_sent_after_a_fault(rt: HostRuntime) {
         let mut input = joined(&rt, rt.alloc(), &[b"a\nb\nc\n"]);
         // (each read returns one line)
         input.piece = 2;
-        let mut talk = Talk::new(&rt, rt.alloc(), &[WELCOME, GOT, SENT, reply]);
-        let ended = send(&mut talk, rt.alloc(), &mut input);
+        let mut dialogue = Dialogue::new(&rt, rt.alloc(), &[WELCOME, GOT, SENT, reply]);
+        let ended = send(&mut dialogue, rt.alloc(), &mut input);
         if ended == NO_MEMORY {
             return;
         }
@@ -141,7 +141,7 @@ fn nothing_is_sent_after_a_fault(rt: HostRuntime) {
         let mut asked = joined(&rt, rt.alloc(), &[HELLO, MAKE]);
         put_send(&mut asked, b"a");
         put_send(&mut asked, b"b");
-        assert!(rt; talk.requests.text() == asked.text());
+        assert!(rt; dialogue.requests.text() == asked.text());
     }
 }
 
@@ -166,13 +166,13 @@ fn lines_of_one_read_are_sent_before_a_fault(rt: HostRuntime) {
     let table: [(&[u8], &[u8], Cut); 2] = [(UNSENT, SENT, REFUSED), (b"", b"", LOST)];
     for (second, third, wanted) in table {
         let mut input = joined(&rt, rt.alloc(), &[b"a\nb\nc\n"]);
-        let mut talk = Talk::new(&rt, rt.alloc(), &[WELCOME, GOT, SENT, second, third]);
+        let mut dialogue = Dialogue::new(&rt, rt.alloc(), &[WELCOME, GOT, SENT, second, third]);
         let outcome = send_lines(
             rt.alloc(),
             &SENDING,
             &mut input,
-            &mut talk.replies,
-            &mut talk.requests,
+            &mut dialogue.replies,
+            &mut dialogue.requests,
         );
         if line_of(&outcome) == NO_MEMORY {
             return;
@@ -186,7 +186,7 @@ fn lines_of_one_read_are_sent_before_a_fault(rt: HostRuntime) {
         for text in [b"a", b"b", b"c"] {
             put_send(&mut asked, text);
         }
-        assert!(rt; talk.requests.text() == asked.text());
+        assert!(rt; dialogue.requests.text() == asked.text());
     }
 }
 
@@ -195,8 +195,8 @@ fn an_input_that_fails_ends_the_sends(rt: HostRuntime) {
     for good in 0..4 {
         let mut input = joined(&rt, rt.alloc(), &[b"a\nb\n"]);
         input.good = good;
-        let mut talk = Talk::new(&rt, rt.alloc(), &[WELCOME, GOT, SENT, SENT]);
-        let ended = send(&mut talk, rt.alloc(), &mut input);
+        let mut dialogue = Dialogue::new(&rt, rt.alloc(), &[WELCOME, GOT, SENT, SENT]);
+        let ended = send(&mut dialogue, rt.alloc(), &mut input);
         if ended == NO_MEMORY {
             return;
         }
@@ -205,7 +205,7 @@ fn an_input_that_fails_ends_the_sends(rt: HostRuntime) {
         if good >= 2 {
             put_send(&mut asked, b"a");
         }
-        assert!(rt; talk.requests.text() == asked.text(), "{good}");
+        assert!(rt; dialogue.requests.text() == asked.text(), "{good}");
     }
 }
 
@@ -216,13 +216,13 @@ fn a_feed_has_the_failure_that_ended_the_sends(rt: HostRuntime) {
         input.good = good;
         let mut feed = Feed::new(&mut input);
         assert!(rt; feed.failure().is_none());
-        let mut talk = Talk::new(&rt, rt.alloc(), &[WELCOME, GOT, SENT]);
+        let mut dialogue = Dialogue::new(&rt, rt.alloc(), &[WELCOME, GOT, SENT]);
         let outcome = send_feed(
             rt.alloc(),
             &SENDING,
             &mut feed,
-            &mut talk.replies,
-            &mut talk.requests,
+            &mut dialogue.replies,
+            &mut dialogue.requests,
         );
         let ended = line_of(&outcome);
         if ended == NO_MEMORY {
@@ -259,13 +259,13 @@ fn all_queues_are_removed(rt: HostRuntime) {
         (DENIED, Some(REFUSAL)),
     ];
     for (reply, refusal) in table {
-        let mut talk = Talk::new(&rt, rt.alloc(), &[welcome, ROW, reply, WIDE, REMOVED]);
+        let mut dialogue = Dialogue::new(&rt, rt.alloc(), &[welcome, ROW, reply, WIDE, REMOVED]);
         let mut refusals = Vec::new(rt.alloc());
         let outcome = remove_all(
             rt.alloc(),
             WHO,
-            &mut talk.replies,
-            &mut talk.requests,
+            &mut dialogue.replies,
+            &mut dialogue.requests,
             &mut refusals,
         );
         if outcome == Err(ClientFault::NoMemory) {
@@ -275,20 +275,20 @@ fn all_queues_are_removed(rt: HostRuntime) {
         assert!(rt; refusals.first().copied() == refusal);
         assert!(rt; refusals.len() < 2);
         let asked: &[&[u8]] = &[HELLO, FIRST, REMOVE_FIRST, SECOND, REMOVE_SECOND];
-        assert!(rt; talk.requests.text() == joined(&rt, rt.alloc(), asked).text());
+        assert!(rt; dialogue.requests.text() == joined(&rt, rt.alloc(), asked).text());
     }
 }
 
 #[test]
 fn a_removal_without_a_reply_ends_it(rt: HostRuntime) {
     let welcome: &[u8] = b"\0\0\0\x07\x02\0\0\0\0\0\x02";
-    let mut talk = Talk::new(&rt, rt.alloc(), &[welcome, VACANT, WIDE]);
+    let mut dialogue = Dialogue::new(&rt, rt.alloc(), &[welcome, VACANT, WIDE]);
     let mut refusals = Vec::new(rt.alloc());
     let outcome = remove_all(
         rt.alloc(),
         WHO,
-        &mut talk.replies,
-        &mut talk.requests,
+        &mut dialogue.replies,
+        &mut dialogue.requests,
         &mut refusals,
     );
     if outcome == Err(ClientFault::NoMemory) {
@@ -296,5 +296,5 @@ fn a_removal_without_a_reply_ends_it(rt: HostRuntime) {
     }
     assert!(rt; outcome == Err(ClientFault::NoReply));
     let asked: &[&[u8]] = &[HELLO, FIRST, SECOND, REMOVE_SECOND];
-    assert!(rt; talk.requests.text() == joined(&rt, rt.alloc(), asked).text());
+    assert!(rt; dialogue.requests.text() == joined(&rt, rt.alloc(), asked).text());
 }

@@ -1,7 +1,7 @@
 //! Bytes that spell no frame, and frames that break off, each with its fault worked out by hand.
 use super::frames::{OTHERS, TOLD};
 use crate::parts::open_body;
-use sysv_model::Watched;
+use sysv_model::Instrumented;
 use sysv_wire::{Fault, Reply, Request, read_reply, read_request};
 use tests_kit::Pieces;
 use tests_kit::worked::{ANSWERS, SESSION};
@@ -193,7 +193,7 @@ fn requests(rt: HostRuntime) {
     for (i, (bytes, answer)) in REQUESTS.iter().enumerate() {
         for piece in [1, 200] {
             let mut reader = Pieces::new(bytes, piece);
-            let read = read_request(&mut Watched::new(&mut reader), &mut text);
+            let read = read_request(&mut Instrumented::new(&mut reader), &mut text);
             assert_eq!(rt; read, *answer, "at {i}");
         }
     }
@@ -205,7 +205,7 @@ fn replies(rt: HostRuntime) {
     for (i, (bytes, answer)) in REPLIES.iter().enumerate() {
         for piece in [1, 200] {
             let mut reader = Pieces::new(bytes, piece);
-            let read = read_reply(&mut Watched::new(&mut reader), &mut text);
+            let read = read_reply(&mut Instrumented::new(&mut reader), &mut text);
             assert_eq!(rt; read, *answer, "at {i}");
         }
     }
@@ -230,7 +230,7 @@ fn requests_that_break_off(rt: HostRuntime) {
             for cut in start.saturating_add(1)..end {
                 assert!(rt; start <= cut && cut <= all.len());
                 let mut reader = Pieces::new(&all[start..cut], 200);
-                let answer = read_request(&mut Watched::new(&mut reader), &mut text);
+                let answer = read_request(&mut Instrumented::new(&mut reader), &mut text);
                 assert_eq!(rt; answer, Err(Fault::Truncated), "{cut}");
             }
             start = end;
@@ -249,7 +249,7 @@ fn replies_that_break_off(rt: HostRuntime) {
             for cut in start.saturating_add(1)..end {
                 assert!(rt; start <= cut && cut <= all.len());
                 let mut reader = Pieces::new(&all[start..cut], 200);
-                let answer = read_reply(&mut Watched::new(&mut reader), &mut text);
+                let answer = read_reply(&mut Instrumented::new(&mut reader), &mut text);
                 assert_eq!(rt; answer, Err(Fault::Truncated), "{cut}");
             }
             start = end;

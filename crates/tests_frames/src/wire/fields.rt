@@ -1,7 +1,7 @@
 //! Each field of a frame with values that have no meaning there.
 use crate::parts::open_body;
 use std::process::Abort;
-use sysv_model::{Body, Watched};
+use sysv_model::{Body, Instrumented};
 use sysv_wire::{Fault, Reply, ReplyContent, Request, read_reply, read_request};
 use tests_kit::Pieces;
 
@@ -28,13 +28,13 @@ fn frame(length: u8, version: u8, op: u8, error: u8) -> [u8; 96] {
 /// Returns the result of reading a request from the first `len` bytes, one at a time.
 fn asked(text: &mut Body, bytes: &[u8; 96], len: u8) -> Result<Option<Request>, Fault> {
     let mut reader = Pieces::new(&bytes[..usize::from(len).min(96)], 1);
-    read_request(&mut Watched::new(&mut reader), text)
+    read_request(&mut Instrumented::new(&mut reader), text)
 }
 
 /// Returns the result of reading a reply from the first `len` bytes, one at a time.
 fn told(text: &mut Body, bytes: &[u8; 96], len: u8) -> Result<Option<Reply>, Fault> {
     let mut reader = Pieces::new(&bytes[..usize::from(len).min(96)], 1);
-    read_reply(&mut Watched::new(&mut reader), text)
+    read_reply(&mut Instrumented::new(&mut reader), text)
 }
 
 /// Returns `BadField` unless `is_good` is true.
@@ -183,10 +183,10 @@ fn modes_of_replies(rt: HostRuntime) {
 /// Asserts what both readers return for these four bytes followed by the end of the input.
 fn lengths_are(rt: &impl Abort, text: &mut Body, bytes: [u8; 4], request: Fault, reply: Fault) {
     let mut reader = Pieces::new(&bytes, 1);
-    let answer = read_request(&mut Watched::new(&mut reader), text);
+    let answer = read_request(&mut Instrumented::new(&mut reader), text);
     assert_eq!(rt; answer, Err(request), "{bytes:?}");
     let mut reader = Pieces::new(&bytes, 1);
-    let answer = read_reply(&mut Watched::new(&mut reader), text);
+    let answer = read_reply(&mut Instrumented::new(&mut reader), text);
     assert_eq!(rt; answer, Err(reply), "{bytes:?}");
 }
 

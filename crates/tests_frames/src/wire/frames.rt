@@ -3,7 +3,7 @@ use crate::parts::open_body;
 use bitflags::Flags as Set;
 use std::alloc::Global;
 use std::process::Abort;
-use sysv_model::{Cred, Errno, Flags, MESSAGE_BYTES, Perm, Row, SetTo, Stat, Watched};
+use sysv_model::{Cred, Errno, Flags, Instrumented, MESSAGE_BYTES, Perm, Row, SetTo, Stat};
 use sysv_wire::{
     Ask, Reply, ReplyContent, Request, Version, read_reply, read_request, write_reply,
     write_request,
@@ -45,9 +45,9 @@ fn reads_and_writes(
 ) {
     let mut text = open_body(rt, alloc);
     let mut pieces = Pieces::new(bytes, piece);
-    let mut reader = Watched::new(&mut pieces);
+    let mut reader = Instrumented::new(&mut pieces);
     let mut page = Page::taking(piece, 512, false);
-    let mut writer = Watched::new(&mut page);
+    let mut writer = Instrumented::new(&mut page);
     for ask in asks {
         let request = Request { version, ask: *ask };
         let read = read_request(&mut reader, &mut text);
@@ -69,9 +69,9 @@ fn reads_and_writes_replies(
 ) {
     let mut text = open_body(rt, alloc);
     let mut pieces = Pieces::new(bytes, piece);
-    let mut reader = Watched::new(&mut pieces);
+    let mut reader = Instrumented::new(&mut pieces);
     let mut page = Page::taking(piece, 512, false);
-    let mut writer = Watched::new(&mut page);
+    let mut writer = Instrumented::new(&mut page);
     for reply in replies {
         match read_reply(&mut reader, &mut text) {
             Ok(Some(read)) => {

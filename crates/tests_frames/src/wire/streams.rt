@@ -2,7 +2,7 @@
 use crate::parts::open_body;
 use bitflags::Flags as Set;
 use std::process::Abort;
-use sysv_model::{Body, Flags, Watched};
+use sysv_model::{Body, Flags, Instrumented};
 use sysv_wire::{
     Ask, Fault, Reply, ReplyContent, Request, Version, WriteFault, read_reply, read_request,
     write_reply, write_request,
@@ -15,7 +15,7 @@ use tests_kit::{Page, Pieces};
 fn end_of_requests(text: &mut Body, good: usize) -> (Result<Option<Request>, Fault>, bool) {
     let mut pieces = Pieces::new(SESSION, 5);
     pieces.good = good;
-    let mut reader = Watched::new(&mut pieces);
+    let mut reader = Instrumented::new(&mut pieces);
     let mut answer = Ok(None);
     for _ in 0..5 {
         answer = read_request(&mut reader, text);
@@ -30,7 +30,7 @@ fn end_of_requests(text: &mut Body, good: usize) -> (Result<Option<Request>, Fau
 fn end_of_replies(text: &mut Body, good: usize) -> (Result<Option<Reply>, Fault>, bool) {
     let mut pieces = Pieces::new(ANSWERS, 5);
     pieces.good = good;
-    let mut reader = Watched::new(&mut pieces);
+    let mut reader = Instrumented::new(&mut pieces);
     let mut answer = Ok(None);
     for _ in 0..5 {
         answer = read_reply(&mut reader, text);
@@ -66,7 +66,7 @@ fn assert_fails_after(rt: &impl Abort, end: End, page: &Page, taken: &[u8]) {
 
 /// Returns how the write of a request ends.
 fn end_of_request(page: &mut Page, request: &Request, text: &Body) -> End {
-    let mut writer = Watched::new(page);
+    let mut writer = Instrumented::new(page);
     let end = write_request(&mut writer, request, text);
     (end, writer.failures() > 0)
 }
@@ -104,7 +104,7 @@ fn a_writer_fails_within_a_reply(rt: HostRuntime) {
     };
     for room in 0..17 {
         let mut page = Page::taking(3, room, false);
-        let mut writer = Watched::new(&mut page);
+        let mut writer = Instrumented::new(&mut page);
         let end = write_reply(&mut writer, &reply, &text);
         let end = (end, writer.failures() > 0);
         assert_fails_after(&rt, end, &page, &ANSWERS[25..25 + room]);
@@ -121,7 +121,7 @@ fn the_longest_text(rt: HostRuntime) {
     let mut text = open_body(&rt, rt.alloc());
     for piece in [1, 63, 64, 65, 9000] {
         let mut pieces = Pieces::new(&frame, piece);
-        let mut reader = Watched::new(&mut pieces);
+        let mut reader = Instrumented::new(&mut pieces);
         let ask = Ask::Snd {
             id: 0,
             mtype: 9,

@@ -23,8 +23,8 @@ const ROUNDS: u64 = 500;
 /// How often a watcher looks, every 10 milliseconds, before it takes a standstill for a lost wake.
 const PATIENCE: u64 = 300;
 
-/// A test by time has this many trials. One that shows what is wanted is enough, because a thread of
-/// a busy machine may be late.
+/// A test by time has this many trials. One that shows what is wanted is enough, because a thread
+/// of a busy machine may be late.
 const TRIALS: u64 = 8;
 
 /// The thread that wakes others does so after this number of milliseconds, or after twice as many,
@@ -491,7 +491,8 @@ fn wait_out_a_try<R: Threads + Wait + Clock + Sync>(
     )
 }
 
-// No turn ends after the try, so only the wake ends a wait for the turn. A try that comes too late may be busy.
+// No turn ends after the try, so only the wake ends a wait for the turn. A try that comes too late
+// may be busy.
 #[test]
 fn a_wake_ends_the_wait_for_a_turn(rt: HostRuntime) -> Result<(), Fail> {
     let Ok((gate, mut seat)) = Gate::open(rt.alloc(), Slow { slow: 0 }) else {

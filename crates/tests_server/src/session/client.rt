@@ -7,7 +7,9 @@ use crate::parts::opened;
 use std::alloc::Global;
 use std::process::Abort;
 use std::sync::Wait;
-use sysv_seats::{Client, MemoryStream, News, Replies, ServiceHandler, Step, Tools, ZERO, Zero};
+use sysv_seats::{
+    Client, MemoryStream, Notification, Replies, ServiceHandler, Step, Tools, ZERO, Zero,
+};
 use sysv_service::{Pass, Service};
 use sysv_session::{End, Served};
 use tests_kit::worked::{ANSWERS, SESSION};
@@ -51,13 +53,13 @@ const CROWDED: &[u8] = &[
 ];
 
 /// A message of type 5 has arrived at the first slot.
-const ARRIVED: News = News::Arrived { slot: 0, mtype: 5 };
+const ARRIVED: Notification = Notification::Arrived { slot: 0, mtype: 5 };
 
 /// A message of type 5 was taken from the first slot.
-const FREED: News = News::Freed { slot: 0, mtype: 5 };
+const FREED: Notification = Notification::Freed { slot: 0, mtype: 5 };
 
 /// The queue of the first slot was set or removed.
-const CHANGED: News = News::Changed { slot: 0 };
+const CHANGED: Notification = Notification::Changed { slot: 0 };
 
 /// Returns the tools of a worker. Tolerates one refusal of memory.
 fn tools(rt: &impl Abort, alloc: Global) -> Tools {
@@ -128,16 +130,16 @@ fn assert_counts(
     assert_eq!(rt; client.has_more(), has_more);
 }
 
-/// Asserts that these are the news, the last one first, and removes them.
-fn assert_news(rt: &impl Abort, tools: &mut Tools, expected: &[News]) {
-    for news in expected {
-        assert_eq!(rt; tools.take_news(), Some(*news));
+/// Asserts that these are the notifications, the last one first, and removes them.
+fn assert_notifications(rt: &impl Abort, tools: &mut Tools, expected: &[Notification]) {
+    for notification in expected {
+        assert_eq!(rt; tools.take_notification(), Some(*notification));
     }
-    assert_eq!(rt; tools.take_news(), None);
+    assert_eq!(rt; tools.take_notification(), None);
 }
 
-/// Reports that there may be something to read, has the client take a turn, and gives its connection
-/// the replies.
+/// Reports that there may be something to read, has the client take a turn, and gives its
+/// connection the replies.
 fn turn<R: Abort + Wait>(
     handler: &mut ServiceHandler<'_, Zero, R>,
     tools: &mut Tools,
@@ -268,13 +270,13 @@ fn a_client_with_more_than_a_share(rt: HostRuntime) {
     assert!(rt; client.is_over());
     let served = closed_early(&rt, alloc, client);
     assert_served(&rt, &served, End::Ended, (71, 0, 0));
-    assert_news(&rt, &mut tools, &[]);
+    assert_notifications(&rt, &mut tools, &[]);
     let pass = handler.into_pass();
     ended(&rt, service, pass, 0);
 }
 
 #[test]
-fn the_news_of_a_send_and_a_receive(rt: HostRuntime) {
+fn the_notifications_of_a_send_and_a_receive(rt: HostRuntime) {
     let alloc = rt.alloc();
     let (service, pass) = opened(&rt, alloc, 128, 0);
     let mut handler = ServiceHandler::new(&rt, &service, &ZERO, pass);
@@ -282,15 +284,15 @@ fn the_news_of_a_send_and_a_receive(rt: HostRuntime) {
     let mut client = paced(&rt, alloc, SESSION, &[Step::AtMost(56)], &[]);
     turn(&mut handler, &mut tools, &mut client);
     assert!(rt; !tools.has_taken(5));
-    assert_news(&rt, &mut tools, &[ARRIVED]);
+    assert_notifications(&rt, &mut tools, &[ARRIVED]);
     turn(&mut handler, &mut tools, &mut client);
     assert!(rt; tools.has_taken(5) && !tools.has_taken(4));
-    assert_eq!(rt; tools.take_news(), Some(News::Released));
+    assert_eq!(rt; tools.take_notification(), Some(Notification::Released));
     assert!(rt; tools.has_taken(5));
-    assert_news(&rt, &mut tools, &[FREED]);
+    assert_notifications(&rt, &mut tools, &[FREED]);
     assert!(rt; !tools.has_taken(5));
     turn(&mut handler, &mut tools, &mut client);
-    assert_news(&rt, &mut tools, &[]);
+    assert_notifications(&rt, &mut tools, &[]);
     assert_closed(&rt, alloc, client, End::Ended, (5, 1, 0), ANSWERS);
     let pass = handler.into_pass();
     ended(&rt, service, pass, 0);
@@ -299,7 +301,7 @@ fn the_news_of_a_send_and_a_receive(rt: HostRuntime) {
 // A set and a removal are told to all that wait at the slot and to all that wait for blocks. A send
 // that is refused may have returned blocks. A removal that fails changes nothing.
 #[test]
-fn the_news_of_a_set_a_refused_send_and_a_removal(rt: HostRuntime) {
+fn the_notifications_of_a_set_a_refused_send_and_a_removal(rt: HostRuntime) {
     let alloc = rt.alloc();
     let (service, pass) = opened(&rt, alloc, 128, 0);
     let mut handler = ServiceHandler::new(&rt, &service, &ZERO, pass);
@@ -312,20 +314,21 @@ fn the_news_of_a_set_a_refused_send_and_a_removal(rt: HostRuntime) {
         &[],
     );
     turn(&mut handler, &mut tools, &mut client);
-    assert_news(&rt, &mut tools, &[News::Released, CHANGED]);
+    assert_notifications(&rt, &mut tools, &[Notification::Released, CHANGED]);
     turn(&mut handler, &mut tools, &mut client);
-    assert_news(&rt, &mut tools, &[News::Released]);
+    assert_notifications(&rt, &mut tools, &[Notification::Released]);
     turn(&mut handler, &mut tools, &mut client);
-    assert_news(&rt, &mut tools, &[News::Released, CHANGED]);
+    assert_notifications(&rt, &mut tools, &[Notification::Released, CHANGED]);
     turn(&mut handler, &mut tools, &mut client);
     assert_closed(&rt, alloc, client, End::Ended, (6, 0, 0), CONTROLS);
     let pass = handler.into_pass();
     ended(&rt, service, pass, 0);
 }
 
-// A send that waits for room may have returned blocks, and a receive that waits has changed nothing.
+// A send that waits for room may have returned blocks, and a receive that waits has changed
+// nothing.
 #[test]
-fn the_news_of_calls_that_wait(rt: HostRuntime) {
+fn the_notifications_of_calls_that_wait(rt: HostRuntime) {
     let alloc = rt.alloc();
     let (service, pass) = opened(&rt, alloc, 128, 0);
     let mut handler = ServiceHandler::new(&rt, &service, &ZERO, pass);
@@ -333,13 +336,13 @@ fn the_news_of_calls_that_wait(rt: HostRuntime) {
     let mut receives = client(&rt, alloc, WAITING, &[]);
     turn(&mut handler, &mut tools, &mut receives);
     assert!(rt; receives.waiting().is_some() && receives.is_within_request());
-    assert_news(&rt, &mut tools, &[]);
+    assert_notifications(&rt, &mut tools, &[]);
     let mut sends = paced(&rt, alloc, CROWDED, &[Step::AtMost(58)], &[]);
     turn(&mut handler, &mut tools, &mut sends);
-    assert_news(&rt, &mut tools, &[News::Released, CHANGED]);
+    assert_notifications(&rt, &mut tools, &[Notification::Released, CHANGED]);
     turn(&mut handler, &mut tools, &mut sends);
     assert!(rt; sends.waiting().is_some());
-    assert_news(&rt, &mut tools, &[News::Released]);
+    assert_notifications(&rt, &mut tools, &[Notification::Released]);
     let sent = closed_early(&rt, alloc, sends);
     assert_served(&rt, &sent, End::Left, (4, 0, 0));
     let received = closed_early(&rt, alloc, receives);

@@ -6,26 +6,26 @@ use super::served::counts_of;
 use super::test_handler::TestHandler;
 use std::alloc::Global;
 use std::process::Abort;
-use sysv_model::{Body, Watched};
+use sysv_model::{Body, Instrumented};
 use sysv_session::{Conversation, End, Handler, RequestOutcome, TakenUp};
 use sysv_wire::Version;
 use tests_kit::worked::{ANSWERS, SESSION};
 use tests_kit::{Pieces, open_body};
 
 /// A conversation and its two bodies.
-struct Talking {
+struct Conversing {
     conversation: Conversation,
     text: Body,
     given: Body,
 }
 
-impl Talking {
+impl Conversing {
     /// Opens a conversation. Tolerates one refusal of memory.
-    fn open(rt: &impl Abort, alloc: Global) -> Talking
+    fn open(rt: &impl Abort, alloc: Global) -> Conversing
         ensures { taken_in result.conversation.session.tally
             + length result.conversation.unsent.marks ≡ 0 }
     {
-        Talking {
+        Conversing {
             conversation: Conversation::open(alloc),
             text: open_body(alloc).expect(rt, "a second try"),
             given: open_body(alloc).expect(rt, "a second try"),
@@ -35,7 +35,7 @@ impl Talking {
     /// Takes up what the input holds next, and gathers its reply.
     fn step(
         &mut self,
-        reader: &mut Watched<'_, Pieces<'_>>,
+        reader: &mut Instrumented<'_, Pieces<'_>>,
         handler: &mut TestHandler,
     ) -> Result<(), End>
         requires room { taken_in self.old.conversation.session.tally
@@ -61,14 +61,14 @@ impl Talking {
 
     /// Takes up the five requests of the session whose bytes were worked out by hand, and its end.
     /// Ends earlier if memory is refused.
-    fn talk(&mut self, handler: &mut TestHandler) -> Result<(), End>
+    fn dialogue(&mut self, handler: &mut TestHandler) -> Result<(), End>
         requires none { taken_in self.old.conversation.session.tally
             + length self.old.conversation.unsent.marks ≡ 0 }
         ensures few { taken_in self.new.conversation.session.tally
             + length self.new.conversation.unsent.marks ≤ 6 }
     {
         let mut pieces = Pieces::new(SESSION, usize::MAX);
-        let mut reader = Watched::new(&mut pieces);
+        let mut reader = Instrumented::new(&mut pieces);
         self.step(&mut reader, handler)?;
         self.step(&mut reader, handler)?;
         self.step(&mut reader, handler)?;
@@ -84,14 +84,14 @@ fn gathered(rt: &impl Abort, alloc: Global, handler: &mut TestHandler) -> Option
     ensures { IfSome result (λ conversation. taken_in conversation.session.tally
         + length conversation.unsent.marks ≤ 6) }
 {
-    let mut talking = Talking::open(rt, alloc);
-    assert!(rt; talking.conversation.is_empty());
-    let end = talking.talk(handler);
-    let Talking {
+    let mut conversing = Conversing::open(rt, alloc);
+    assert!(rt; conversing.conversation.is_empty());
+    let end = conversing.dialogue(handler);
+    let Conversing {
         conversation,
         text: _,
         given: _,
-    } = talking;
+    } = conversing;
     if end == Err(End::NoMemory) {
         let served = conversation.end(End::NoMemory);
         assert!(rt; served.end == End::NoMemory || served.end == End::Write);
@@ -160,8 +160,8 @@ fn the_connection_takes_one_byte_after_another(rt: HostRuntime) {
     }
 }
 
-// The client resets the connection after it has taken this number of bytes. It has not read the last
-// of them, which may be the last byte of the message's frame, the 42nd.
+// The client resets the connection after it has taken this number of bytes. It has not read the
+// last of them, which may be the last byte of the message's frame, the 42nd.
 #[test]
 fn the_connection_is_reset_after_each_byte(rt: HostRuntime) {
     for count in 0..50 {
@@ -185,15 +185,15 @@ fn the_connection_is_reset_after_each_byte(rt: HostRuntime) {
 #[test]
 fn a_call_that_was_left_has_no_reply(rt: HostRuntime) {
     let mut handler = TestHandler::open(&rt, rt.alloc());
-    let mut talking = Talking::open(&rt, rt.alloc());
+    let mut conversing = Conversing::open(&rt, rt.alloc());
     let mut pieces = Pieces::new(SESSION, usize::MAX);
-    let mut reader = Watched::new(&mut pieces);
-    let hello = talking.step(&mut reader, &mut handler);
-    let Talking {
+    let mut reader = Instrumented::new(&mut pieces);
+    let hello = conversing.step(&mut reader, &mut handler);
+    let Conversing {
         mut conversation,
         text: _,
         mut given,
-    } = talking;
+    } = conversing;
     given.clear();
     let left = conversation.put(Version::One, RequestOutcome::Left, &given);
     assert_eq!(rt; left, Err(End::Left));

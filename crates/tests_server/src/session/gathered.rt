@@ -10,7 +10,7 @@ use super::served::counts_of;
 use super::test_handler::TestHandler;
 use std::alloc::{AllocFailed, Global};
 use std::process::Abort;
-use sysv_model::{Body, Watched};
+use sysv_model::{Body, Instrumented};
 use sysv_queue::{Delivery, Tally};
 use sysv_session::{End, Handler, Outbox, RequestOutcome, Session, TakenUp, hello_reply};
 use sysv_wire::{Ask, Op, Reply, ReplyContent, Request, Version};
@@ -158,8 +158,8 @@ fn a_message_is_written_once_a_byte_after_it_was_taken(rt: HostRuntime) {
     assert_eq!(rt; handler.end(), 128);
 }
 
-/// Lets the connection take this number of bytes, ends the outbox, and asserts how many messages were
-/// written. The others are lost.
+/// Lets the connection take this number of bytes, ends the outbox, and asserts how many messages
+/// were written. The others are lost.
 fn assert_written(rt: &impl Abort, alloc: Global, taken: usize, is_reset: bool, written: u64) {
     let mut handler = TestHandler::open(rt, alloc);
     let mut tally = Tally::open();
@@ -215,7 +215,7 @@ impl Gathering {
     fn step(
         &mut self,
         rt: &impl Abort,
-        reader: &mut Watched<'_, Pieces<'_>>,
+        reader: &mut Instrumented<'_, Pieces<'_>>,
         handler: &mut TestHandler,
     ) -> Result<(), End>
         ensures tally { self.new.session.tally ≡ self.old.session.tally }
@@ -242,7 +242,7 @@ impl Gathering {
 fn a_session_is_taken_up_step_by_step(rt: HostRuntime) {
     let mut handler = TestHandler::open(&rt, rt.alloc());
     let mut pieces = Pieces::new(SESSION, usize::MAX);
-    let mut reader = Watched::new(&mut pieces);
+    let mut reader = Instrumented::new(&mut pieces);
     let mut gathering = Gathering {
         session: Session::open(),
         outbox: Outbox::open(rt.alloc()),

@@ -246,8 +246,8 @@ fn two_passes(rt: &impl Abort, alloc: Global) -> (Service, Pass, Pass)
     (service, pass, other)
 }
 
-/// Closes the service. Asserts that this number of messages was queued, and that all blocks are then
-/// free.
+/// Closes the service. Asserts that this number of messages was queued, and that all blocks are
+/// then free.
 fn close(rt: &impl Abort, service: Service, mut pass: Pass, other: Pass, queued: u64)
     requires pass { AreOf service pass.seats }
     requires other { AreOf service other.seats }

@@ -6,9 +6,10 @@ use crate::parts::{CLOCK, Still, closed, opened};
 use std::alloc::Global;
 use std::process::Abort;
 use std::sync::Wait;
+use sysv_model::Instrumented;
 use sysv_seats::ServiceHandler;
 use sysv_service::{Pass, Service};
-use sysv_session::{End, Served};
+use sysv_session::{End, Served, Texts};
 use tests_kit::worked::{ANSWERS, SESSION};
 use tests_kit::{Page, Pieces};
 
@@ -20,8 +21,8 @@ pub(super) fn ended(rt: &impl Abort, service: Service, pass: Pass, waiting: u64)
     assert_eq!(rt; service.close(pass), closed(waiting, 128));
 }
 
-/// Serves one session. Tolerates one refusal of memory, after which nothing was read or written.
-fn talked<R: Abort + Wait>(
+/// Serves one session. Tolerates one refusal of memory.
+fn conversed<R: Abort + Wait>(
     rt: &R,
     alloc: Global,
     reader: &mut Pieces<'_>,
@@ -30,12 +31,12 @@ fn talked<R: Abort + Wait>(
 ) -> Served
     ensures { handler.new.service ≡ handler.old.service }
 {
-    let served = handler.serve(alloc, reader, page);
-    if served.end != End::NoMemory {
-        return served;
-    }
-    assert_eq!(rt; (page.written().len(), page.flushed().len()), (0, 0));
-    handler.serve(alloc, reader, page)
+    let mut texts = match Texts::open(alloc) {
+        Ok(texts) => texts,
+        Err(_) => Texts::open(alloc).expect(rt, "a second try"),
+    };
+    let mut reader = Instrumented::new(reader);
+    handler.serve_instrumented(&mut texts, &mut reader, &mut Instrumented::new(page))
 }
 
 /// Serves one session on a new service at time 7, and asserts that this number of messages is left
@@ -49,7 +50,7 @@ fn served<R: Abort + Wait>(
 ) -> Served {
     let (service, pass) = opened(rt, alloc, 128, 0);
     let mut handler = ServiceHandler::new(rt, &service, &CLOCK, pass);
-    let told = talked(rt, alloc, reader, page, &mut handler);
+    let told = conversed(rt, alloc, reader, page, &mut handler);
     let pass = handler.into_pass();
     ended(rt, service, pass, waiting);
     told

@@ -3,8 +3,8 @@ ghost use Rattle.sysv_service.specs.Seats.{AreOf};
 
 use super::ask::{Ask, waiting};
 use super::board::Moment;
-use super::crew::run;
 use super::part::Part;
+use super::team::run;
 use crate::parts::{body_of, closed, empty_body};
 use std::alloc::Global;
 use std::process::Abort;

@@ -180,6 +180,49 @@ fn a_queue_is_removed(rt: HostRuntime) {
     assert_is(&rt, service.close(pass), closed(0, 128));
 }
 
+/// Sends a message of type 5 and asserts that it was accepted.
+fn put(rt: &(impl Abort + Wait), alloc: Global, service: &Service, pass: &mut Pass, text: &[u8])
+    requires { AreOf service.now pass.old.seats }
+    ensures { AreOf service.now pass.new.seats }
+{
+    let sent = send(rt, alloc, service, pass, 0, 5, text);
+    assert_is(rt, sent, Ok(()));
+}
+
+/// Receives a message of type 5 and asserts its length.
+fn get_of(rt: &(impl Abort + Wait), alloc: Global, service: &Service, pass: &mut Pass, len: usize)
+    requires { AreOf service.now pass.old.seats }
+    ensures { AreOf service.now pass.new.seats }
+{
+    let got = receive(rt, alloc, service, pass, 0, 0);
+    assert_is(rt, got, Ok((5, len)));
+}
+
+#[test]
+fn passes_count_their_blocks(rt: HostRuntime) {
+    let (service, mut pass) = opened(&rt, rt.alloc(), 128, 0);
+    let id = service.msgget(&rt, &mut pass, &CLOCK, USER, 7, creating());
+    assert_is(&rt, id, Ok(0));
+    let Ok(mut other) = service.split_pass(rt.alloc(), &mut pass) else {
+        unreachable!()
+    };
+    put(&rt, rt.alloc(), &service, &mut pass, b"");
+    put(&rt, rt.alloc(), &service, &mut pass, &[b'x'; 64]);
+    put(&rt, rt.alloc(), &service, &mut pass, &[b'x'; 65]);
+    assert_is(&rt, pass.blocks_in_use(), 3);
+    assert_is(&rt, other.blocks_in_use(), 0);
+    get_of(&rt, rt.alloc(), &service, &mut other, 0);
+    get_of(&rt, rt.alloc(), &service, &mut other, 64);
+    assert_is(&rt, pass.blocks_in_use(), 3);
+    assert_is(&rt, other.blocks_in_use(), u64::MAX);
+    let removed = service.msgctl_rmid(&rt, &mut other, USER, 0);
+    assert_is(&rt, removed, Ok(()));
+    assert_is(&rt, other.blocks_in_use(), u64::MAX - 2);
+    service.join_pass(&mut pass, other);
+    assert_is(&rt, pass.blocks_in_use(), 0);
+    assert_is(&rt, service.close(pass), closed(0, 128));
+}
+
 /// Makes a private queue.
 fn get(rt: &impl Wait, service: &Service, pass: &mut Pass) -> Result<i32, Errno>
     requires { AreOf service.now pass.old.seats }

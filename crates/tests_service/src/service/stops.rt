@@ -2,8 +2,8 @@
 
 use super::ask::Ask;
 use super::board::{Board, Moment};
-use super::crew::run;
 use super::part::{Part, Turn, add, told_of};
+use super::team::run;
 use super::turns::{Tease, Then};
 use crate::parts::closed;
 use std::process::Abort;

@@ -3,8 +3,8 @@ ghost use Rattle.sysv_service.specs.Seats.{AreOf};
 
 use super::ask::Ask;
 use super::board::{Board, LOOKS, Moment};
-use super::crew::run;
 use super::part::{Part, Turn, add, told_of};
+use super::team::run;
 use crate::parts::{body_of, closed};
 use std::alloc::Global;
 use std::process::Abort;

@@ -2,8 +2,8 @@
 
 use super::ask::{Ask, Told};
 use super::board::{Board, Moment};
-use super::crew::run;
 use super::part::{Part, Turn, add, told_of};
+use super::team::run;
 use crate::parts::closed;
 use std::alloc::Global;
 use std::process::Abort;
@@ -124,8 +124,8 @@ fn a_receive_waits_for_a_message(rt: HostRuntime) {
     check_each(&rt, rt.alloc(), before, waits, ends);
 }
 
-// The message is for the receive that began to wait last. The other one is woken too, and waits until
-// the queue is removed. A receive that is not woken would sleep for ever.
+// The message is for the receive that began to wait last. The other one is woken too, and waits
+// until the queue is removed. A receive that is not woken would sleep for ever.
 #[test]
 fn an_arrival_wakes_every_receive_that_waits(rt: HostRuntime) {
     let alloc = rt.alloc();
@@ -244,8 +244,8 @@ fn one_settle_wakes_all_gets_that_wait(rt: HostRuntime) {
     }
 }
 
-/// The time of a call that waited, as the queue shows it. Two things were said when the wait could end, and one when the call
-/// began.
+/// The time of a call that waited, as the queue shows it. Two things were said when the wait could
+/// end, and one when the call began.
 fn stamped<R: Threads + Abort + Wait + Clock + Sync>(
     rt: &R,
     alloc: Global,

@@ -1,6 +1,6 @@
 -- The requests for the rows of the slots before this one were written.
 use Rattle.std.proofs.Common.{false}
-use Rattle.sysv_model.specs.Watched.{KeepsStream, stream_of}
+use Rattle.sysv_model.specs.Instrumented.{KeepsStream, stream_of}
 use Rattle.sysv_clients.proofs.RowLemmas.{Writing}
 use Rattle.sysv_clients.proofs.rows.request_rows.Given as goal
 

@@ -31,7 +31,7 @@ returns-in-Ok-outcome-clause-ok g c =
       stops = stop.2;
       tells = stop.3;
     } in
-    let laws = c.each_life_is_one_run.ensures in
+    let laws = c.each_lifetime_is_one_run.ensures in
     record {
       given = worked.given;
       gave = worked.gave;
@@ -42,7 +42,7 @@ returns-in-Ok-outcome-clause-ok g c =
       gates = c.in-Ok.service;
       opened = opened.0;
       shifts = shifts;
-      crewed = worked.crewed;
+      in_team = worked.in_team;
       sums = worked.adds;
       refused = worked.counts;
       lost = lost_at_an_end shifts c.in-Ok-outcome.sums worked.adds;
@@ -67,7 +67,7 @@ returns-in-Err-clause-err g c =
       stops = stop.2;
       tells = stop.3;
     } in
-    let laws = c.each_life_is_one_run.ensures in
+    let laws = c.each_lifetime_is_one_run.ensures in
     fault_says t.incoming t.outgoing t.closes g.S.Source.gives c.args.source.now c.serve_with-outcome.new.source
     c.args.books.now.items c.serve_with-outcome.new.books.items
     (HiredFrom false c.in-Ok.service first c.serve_with-outcome.new.pass) (HasLived false c.args.blocks)

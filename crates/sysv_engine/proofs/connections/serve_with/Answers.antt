@@ -4,16 +4,14 @@ use denote.Param.Send.{arg_send, param_send, param_sync}
 use Rattle.std.proofs.Common.{◌≡◌, ◌≤◌, ◌∙◌, ℕ, List, ◌++◌, map, reverse, length, ap, arith, inl, inr}
 use Rattle.std.proofs.Common.{subst, sym, vec_len}
 use Rattle.std.specs.Prelude.{false}
-use Rattle.std.specs.List.{All}
 use Rattle.sysv_workers.specs.declared.workers.TheConstants.{MAX_WORKERS}
 use Rattle.sysv_engine.specs.declared.dealing.Dealing.{Dealing}
 use Rattle.sysv_engine.specs.declared.worker.Worker.{Worker}
-use Rattle.sysv_engine.specs.Places.{IsOpened, Seated}
+use Rattle.sysv_engine.specs.Places.{Seated}
 use Rattle.sysv_engine.specs.Serving.{HiredFrom, LeavesConnections, WorkedFrom}
-use Rattle.sysv_engine.proofs.SharedOut.{all_counted, some_each}
+use Rattle.sysv_engine.proofs.SharedOut.{all_counted, each_booked, some_each}
 use Rattle.sysv_engine.proofs.Staffed.{Behind, Runs, all_left, all_worked, back_as_many, gates_again, leaves_behind}
 use Rattle.sysv_engine.proofs.Staffed.{leaves_name, ran_as_many, runs_behind, runs_name, staffed}
-use Rattle.sysv_engine.proofs.Reversed.{all_reverse}
 use Rattle.sysv_engine.proofs.Crossing.{serving_sync, worker_send}
 use Rattle.sysv_engine.proofs.connections.serve_with.Lts as lts
 use Rattle.sysv_engine.proofs.connections.serve_with.Given.{Over}
@@ -27,7 +25,7 @@ pub run_workers-outcome-requires-sync-J : goal.run_workers-outcome-requires-sync
 run_workers-outcome-requires-sync-J g c κs within =
     let t = serving_sync (record { mir = lifetime 8; lft = κs.1.1.1.1.1.1.1.1.0 })
     (record { mir = lifetime 11; lft = κs.1.1.1.1.1.1.1.1.1.1.1.0 }) _ c.type_bounds.sync-R in
-    param_sync 3 (lts.arg-13-3 g.row.T g.row.S g.row.W g.row.R g.row.T-Book g.T.laws g.S.laws g.W.laws g.R.laws
+    param_sync 3 (lts.arg-12-3 g.row.T g.row.S g.row.W g.row.R g.row.T-Book g.T.laws g.S.laws g.W.laws g.R.laws
     g.T.Book.laws g.T.NonBlocking g.T.NonBlocking-dict g.S.Source g.S.Source-dict g.W.Watch g.W.Watch-dict g.R.Threads
     g.R.Threads-dict g.R.Wait g.R.Wait-dict g.T.Destruct-dict g.W.Destruct-dict κs) (record { shared = t.shared })
 
@@ -37,9 +35,7 @@ run_workers-outcome-requires-after_bounds g c κs within =
     let t = g.T.NonBlocking in
     let own = c.args.service.now in
     let workers = c.staff.new.workers.items in
-    staffed t.incoming t.outgoing t.closes own (λ (w : W). w.places.items) workers
-    (subst (All (IsOpened own)) (sym c.staff.ensures.all)
-    (all_reverse (IsOpened own) c.hire.new.places.items c.hire.ensures.places))
+    staffed t.incoming t.outgoing t.closes own (λ (w : W). w.places.items) workers c.staff.ensures.places
     (some_each (λ (w : W). w.places) workers c.staff.ensures.each)
 
 -- ---- the number of places
@@ -51,14 +47,12 @@ gather-requires-clause-room g c =
     let t = g.T.NonBlocking in
     let many = ran_as_many t.incoming t.outgoing t.closes c.args.service.now (λ (w : W). w.places.items)
     (Behind (λ (d : D). d.source.now) (λ (d : D). d.source.ghost_name) g.S.Source.gives) c.new-dealing.result
-    c.run_workers-outcome.new.source c.staff.new.workers.items c.in-Ok-outcome.workers.items c.hire.new.places.items
-    c.hire.ensures.places c.staff.ensures.all
+    c.run_workers-outcome.new.source c.staff.new.workers.items c.in-Ok-outcome.workers.items c.staff.ensures.places
     (some_each (λ (w : W). w.places) c.staff.new.workers.items c.staff.ensures.each) c.in-Ok-outcome.ensures.ok in
     let count = all_counted (λ (w : W). w.places) c.in-Ok-outcome.workers.items in
-    let hired = c.hire.ensures.count in
-    let ok = c.hire.new.places.ok in
-    let room = c.hire.ensures.room in
-    let kept = c.staff.ensures.taken.1 in
+    let booked = each_booked (λ (w : W). w.places.items) (λ (p : Seated g.row.T-Book.Denot g.row.T.Denot). p.book)
+    c.staff.new.workers.items c.args.books.now.items c.staff.ensures.books in
+    let mine = c.args.books.now.ok in
     let most = c.in-Ok-with_capacity.ensures.capacity in
     omega arith
 
@@ -76,16 +70,16 @@ dismiss-requires-clause-room g c =
     let t = g.T.NonBlocking in
     let many = ran_as_many t.incoming t.outgoing t.closes c.args.service.now (λ (w : W). w.places.items)
     (Behind (λ (d : D). d.source.now) (λ (d : D). d.source.ghost_name) g.S.Source.gives) c.new-dealing.result
-    c.run_workers-outcome.new.source c.staff.new.workers.items c.in-Ok-outcome.workers.items c.hire.new.places.items
-    c.hire.ensures.places c.staff.ensures.all
+    c.run_workers-outcome.new.source c.staff.new.workers.items c.in-Ok-outcome.workers.items c.staff.ensures.places
     (some_each (λ (w : W). w.places) c.staff.new.workers.items c.staff.ensures.each) c.in-Ok-outcome.ensures.ok in
     let count = all_counted (λ (w : W). w.places) c.in-Ok-outcome.workers.items in
     let taken = c.gather.ensures.count in
-    let hired = c.hire.ensures.count in
-    let ok = c.hire.new.places.ok in
-    let none = ap length c.hire.ensures.taken.0 in
-    let books = c.hire.new.books.ok in
-    let kept = c.hire.ensures.taken.1 in
+    let booked = each_booked (λ (w : W). w.places.items) (λ (p : Seated g.row.T-Book.Denot g.row.T.Denot). p.book)
+    c.staff.new.workers.items c.args.books.now.items c.staff.ensures.books in
+    let mine = c.args.books.now.ok in
+    let none = ap length c.staff.ensures.taken.0 in
+    let books = c.staff.new.books.ok in
+    let kept = c.staff.ensures.taken.1 in
     let small = c.args.books.now.small in
     omega arith
 
@@ -96,15 +90,13 @@ gather-requires-in-Err-clause-room g c =
     let t = g.T.NonBlocking in
     let many = back_as_many t.incoming t.outgoing t.closes c.args.service.now (λ (w : W). w.places.items)
     (Behind (λ (d : D). d.source.now) (λ (d : D). d.source.ghost_name) g.S.Source.gives) c.new-dealing.result
-    c.run_workers-outcome.new.source c.staff.new.workers.items c.in-Err.refused.states.items c.hire.new.places.items
-    c.hire.ensures.places c.staff.ensures.all
+    c.run_workers-outcome.new.source c.staff.new.workers.items c.in-Err.refused.states.items c.staff.ensures.places
     (some_each (λ (w : W). w.places) c.staff.new.workers.items c.staff.ensures.each) c.in-Err.refused.why
     c.in-Err.ensures.err.0 in
     let count = all_counted (λ (w : W). w.places) c.in-Err.refused.states.items in
-    let hired = c.hire.ensures.count in
-    let ok = c.hire.new.places.ok in
-    let room = c.hire.ensures.room in
-    let kept = c.staff.ensures.taken.1 in
+    let booked = each_booked (λ (w : W). w.places.items) (λ (p : Seated g.row.T-Book.Denot g.row.T.Denot). p.book)
+    c.staff.new.workers.items c.args.books.now.items c.staff.ensures.books in
+    let mine = c.args.books.now.ok in
     let most = c.in-Ok-with_capacity.ensures.capacity in
     omega arith
 
@@ -123,17 +115,17 @@ dismiss-requires-in-Err-clause-room g c =
     let t = g.T.NonBlocking in
     let many = back_as_many t.incoming t.outgoing t.closes c.args.service.now (λ (w : W). w.places.items)
     (Behind (λ (d : D). d.source.now) (λ (d : D). d.source.ghost_name) g.S.Source.gives) c.new-dealing.result
-    c.run_workers-outcome.new.source c.staff.new.workers.items c.in-Err.refused.states.items c.hire.new.places.items
-    c.hire.ensures.places c.staff.ensures.all
+    c.run_workers-outcome.new.source c.staff.new.workers.items c.in-Err.refused.states.items c.staff.ensures.places
     (some_each (λ (w : W). w.places) c.staff.new.workers.items c.staff.ensures.each) c.in-Err.refused.why
     c.in-Err.ensures.err.0 in
     let count = all_counted (λ (w : W). w.places) c.in-Err.refused.states.items in
     let taken = c.gather-in-Err.ensures.count in
-    let hired = c.hire.ensures.count in
-    let ok = c.hire.new.places.ok in
-    let none = ap length c.hire.ensures.taken.0 in
-    let books = c.hire.new.books.ok in
-    let kept = c.hire.ensures.taken.1 in
+    let booked = each_booked (λ (w : W). w.places.items) (λ (p : Seated g.row.T-Book.Denot g.row.T.Denot). p.book)
+    c.staff.new.workers.items c.args.books.now.items c.staff.ensures.books in
+    let mine = c.args.books.now.ok in
+    let none = ap length c.staff.ensures.taken.0 in
+    let books = c.staff.new.books.ok in
+    let kept = c.staff.ensures.taken.1 in
     let small = c.args.books.now.small in
     omega arith
 
@@ -173,12 +165,12 @@ returns-in-Ok-outcome-clause-ok g c =
     let runs = Runs t.incoming t.outgoing t.closes own places in
     let ran = runs_behind of name g.S.Source.gives runs workers workers' old new c.in-Ok-outcome.ensures.ok in
     let worked = all_worked t.incoming t.outgoing t.closes own places g.S.Source.gives (of old) (of new) workers
-    workers' c.hire.new.places.items c.gather.new.places.items c.hire.ensures.places c.staff.ensures.all
+    workers' c.gather.new.places.items c.staff.ensures.places
     (some_each (λ (w : W). w.places) workers c.staff.ensures.each) c.gather.ensures.keeps c.gather.ensures.vacant
-    c.args.books.now.items c.dismiss.new.books.items c.args.pass.now c.hire.new.pass c.dismiss.new.pass
-    c.hire.ensures.books
-    (c.dismiss.ensures.books ∙ ap (λ l. l ++ reverse (map book c.gather.new.places.items)) c.hire.ensures.taken.0)
-    c.hire.ensures.gives c.dismiss.ensures.takes c.dismiss.result.0 c.dismiss.result.1 c.dismiss.ensures.sums
+    c.args.books.now.items c.dismiss.new.books.items c.args.pass.now c.staff.new.pass c.dismiss.new.pass
+    c.staff.ensures.books
+    (c.dismiss.ensures.books ∙ ap (λ l. l ++ reverse (map book c.gather.new.places.items)) c.staff.ensures.taken.0)
+    c.staff.ensures.gives c.dismiss.ensures.takes c.dismiss.result.0 c.dismiss.result.1 c.dismiss.ensures.sums
     c.dismiss.ensures.refused ran in
     subst (λ s. WorkedFrom t.incoming t.outgoing t.closes g.S.Source.gives false own c.args.pass.now c.args.source.now
     c.args.books.now.items c.dismiss.result.0 c.dismiss.result.1 c.dismiss.new.pass s c.dismiss.new.books.items)
@@ -217,13 +209,13 @@ returns-in-Err-clause-err g c =
     let leaves = leaves_behind of name g.S.Source.gives count why old new c.in-Err.ensures.asked in
     let same = leaves_name of name g.S.Source.gives count why old new c.in-Err.ensures.asked in
     let left = all_left t.incoming t.outgoing t.closes own places g.S.Source.gives (of old) (of new) workers
-    c.in-Err.refused.states.items c.hire.new.places.items c.gather-in-Err.new.places.items c.hire.ensures.places
-    c.staff.ensures.all (some_each (λ (w : W). w.places) workers c.staff.ensures.each) c.gather-in-Err.ensures.keeps
+    c.in-Err.refused.states.items c.gather-in-Err.new.places.items c.staff.ensures.places
+    (some_each (λ (w : W). w.places) workers c.staff.ensures.each) c.gather-in-Err.ensures.keeps
     c.gather-in-Err.ensures.vacant c.args.books.now.items c.dismiss-in-Err.new.books.items c.args.pass.now
-    c.hire.new.pass c.dismiss-in-Err.new.pass c.hire.ensures.books
+    c.staff.new.pass c.dismiss-in-Err.new.pass c.staff.ensures.books
     (c.dismiss-in-Err.ensures.books
-    ∙ ap (λ l. l ++ reverse (map book c.gather-in-Err.new.places.items)) c.hire.ensures.taken.0)
-    c.hire.ensures.gives c.dismiss-in-Err.ensures.takes count few why c.fault.result c.fault.ensures leaves
+    ∙ ap (λ l. l ++ reverse (map book c.gather-in-Err.new.places.items)) c.staff.ensures.taken.0)
+    c.staff.ensures.gives c.dismiss-in-Err.ensures.takes count few why c.fault.result c.fault.ensures leaves
     c.in-Err.ensures.err.0 in
     let name_is = c.into_source.ensures.same_reference ∙ (same ∙ c.new-dealing.ensures.same_reference) in
     let back = c.given_back.ensures ∙ c.into_source.ensures.source in

@@ -30,7 +30,7 @@ returns-in-Ok-outcome-clause-ok g c =
       stops = stop.2;
       tells = stop.3;
     } in
-    let laws = c.each_life_is_one_run.ensures in
+    let laws = c.each_lifetime_is_one_run.ensures in
     record {
       given = worked.given;
       gave = worked.gave;
@@ -41,7 +41,7 @@ returns-in-Ok-outcome-clause-ok g c =
       gates = c.in-Ok.service;
       opened = opened.0;
       shifts = shifts;
-      crewed = worked.crewed;
+      in_team = worked.in_team;
       sums = worked.adds;
       refused = worked.counts;
       lost = lost_at_an_end shifts c.in-Ok-outcome.sums worked.adds;
@@ -66,7 +66,7 @@ returns-in-Err-clause-err g c =
       stops = stop.2;
       tells = stop.3;
     } in
-    let laws = c.each_life_is_one_run.ensures in
+    let laws = c.each_lifetime_is_one_run.ensures in
     fault_says t.incoming t.outgoing t.closes g.S.Arrivals.gives c.args.source.now c.serve_seeing-outcome.new.source
     c.args.books.now.items c.serve_seeing-outcome.new.books.items
     (HiredFrom c.args.reads c.in-Ok.service first c.serve_seeing-outcome.new.pass) (HasLived c.args.reads c.args.blocks)

@@ -1,9 +1,11 @@
--- One kit more has room for its share of the places that were left.
+-- One kit more has room for its share of the places that were left. At the end the kits are reversed.
 use Rattle.std.proofs.Common.{◌≡◌, ◌∙◌, ◌≤◌, [], ap, arith, subst, sym, vec_capacity}
 use Rattle.std.proofs.lemmas.List.Elements.{All-push}
+use Rattle.std.proofs.lemmas.List.Sorted.{sum_by-IsPermutation}
 use Rattle.std.proofs.lemmas.List.Sums.{sum_by_push}
 use Rattle.std.specs.List.{All, sum_by}
 use Rattle.sysv_engine.specs.declared.worker.Kit.{Kit}
+use Rattle.sysv_engine.proofs.Reversed.{all_reverse}
 use Rattle.sysv_engine.proofs.staff.kits.Goals as goal
 
 pub loop-watch-preserved : goal.loop-watch-preserved
@@ -27,3 +29,19 @@ loop-watch-preserved g c =
       each = subst (All P) (sym c.push_reserved.ensures.items)
           (All-push P c.loop-watch.kits.items c.in-Some-open.kit was.each some);
     }
+
+pub returns-clause-room : goal.returns-clause-room
+returns-clause-room g c =
+    let K : Type 0 = Kit g.row.R.Denot g.row.T.Denot g.row.W.Denot g.row.T-Book.Denot in
+    let turned = sum_by-IsPermutation (λ (k : K). vec_capacity k.places) c.loop-watch.kits.items
+    c.reverse.new.self.items c.reverse.ensures.permutation in
+    let shared = c.loop-watch.invariant.shared in
+    let empty = c.in_default.ensures.cases.0 in
+    let none = c.loop-watch.invariant.last (omega arith) in
+    omega arith
+
+pub returns-clause-each : goal.returns-clause-each
+returns-clause-each g c =
+    let K : Type 0 = Kit g.row.R.Denot g.row.T.Denot g.row.W.Denot g.row.T-Book.Denot in
+    let P : K → Type 0 = λ k. (k.places.items ≡ []) × (1 ≤ vec_capacity k.places) in
+    subst (All P) (sym c.reverse.ensures.items) (all_reverse P c.loop-watch.kits.items c.loop-watch.invariant.each)

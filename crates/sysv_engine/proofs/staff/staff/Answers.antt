@@ -1,13 +1,18 @@
--- One worker more has the last places, as many as its kit has room for.
-use Rattle.std.proofs.Common.{◌≡◌, ◌∙◌, ◌≤◌, List, [], ◌++◌, reverse, ap, arith, refl, subst, sym, vec_capacity}
-use Rattle.std.proofs.Common.{vec_len}
-use Rattle.std.proofs.lemmas.List.Elements.{All-push}
+-- One worker more has a place for each of the last books, as many as its kit has room for. At the end
+-- the workers are in the order of the kits.
+use Rattle.std.proofs.Common.{◌≡◌, ◌∙◌, ◌≤◌, List, [], ◌++◌, map, reverse, ap, append_assoc, arith, subst, sym}
+use Rattle.std.proofs.Common.{vec_capacity, vec_len}
+use Rattle.std.proofs.lemmas.List.{map-append}
+use Rattle.std.proofs.lemmas.List.Elements.{All-append, All-push}
 use Rattle.std.proofs.lemmas.List.Sums.{sum_by_push}
-use Rattle.std.specs.List.{All, flat_map, sum_by}
+use Rattle.std.specs.List.{All, FoldsTo, flat_map, sum_by}
+use Rattle.sysv_service.specs.Ran.{Pass}
+use Rattle.sysv_thread_laws.specs.Hiring.{Gives}
 use Rattle.sysv_engine.specs.declared.worker.Kit.{Kit}
 use Rattle.sysv_engine.specs.declared.worker.Worker.{Worker}
-use Rattle.sysv_engine.specs.Places.{Seated}
-use Rattle.sysv_engine.proofs.SharedOut.{fewer, one_more}
+use Rattle.sysv_engine.specs.Places.{IsOpened, Seated}
+use Rattle.sysv_engine.proofs.Reversed.{all_reverse}
+use Rattle.sysv_engine.proofs.SharedOut.{fewer, given_before, one_before}
 use Rattle.sysv_engine.proofs.Shifts.{but_last, the_last}
 use Rattle.sysv_engine.proofs.staff.staff.Goals as goal
 
@@ -18,29 +23,49 @@ loop-kit-preserved g c =
     let S : Type 0 = Seated g.row.T-Book.Denot g.row.T.Denot in
     let P : K → Type 0 = λ k. (k.places.items ≡ []) × (1 ≤ vec_capacity k.places) in
     let Q : W → Type 0 = λ w. 1 ≤ vec_len w.places in
+    let O : S → Type 0 = IsOpened c.args.service.now in
     let was = c.loop-kit.invariant in
     let is = c.in-Some.ensures.items in
-    let moved = c.new.ensures.places in
     let places : W → List S = λ w. w.places.items in
-    let own = places c.new.result in
+    let of : S → Pass = λ p. p.pass in
+    let book : S → g.row.T-Book.Denot = λ p. p.book in
+    let own = c.hire.new.places.items in
+    let others = flat_map places (reverse c.loop-kit.workers.items) in
+    let grown = ap (λ l. flat_map places (reverse l)) c.push_reserved.ensures.items
+    ∙ one_before places c.loop-kit.workers.items c.new.result own (ap (λ v. v.items) c.new.ensures) in
     let room = ap (sum_by (λ (k : K). vec_capacity k.places)) is
     ∙ sum_by_push (λ (k : K). vec_capacity k.places) c.pop.new.self.items c.in-Some.kit in
     let one = the_last P c.pop.new.self.items c.loop-kit.kits.items c.in-Some.kit is was.kits in
-    let some : Q c.new.result = let most = one.1 in let all = c.new.ensures.count in omega arith in
+    let full = c.hire.ensures.count in
+    let some : Q c.new.result =
+    (let most = one.1 in let same = ap vec_len c.new.ensures in omega arith) in
     record {
       count = let len = c.push_reserved.ensures.len in let less = c.in-Some.ensures.cases in
           let before = was.count in
           omega arith;
       room = let same = c.push_reserved.ensures.capacity in let before = was.room in omega arith;
-      enough = let all = fewer c.loop-kit.places.items c.new.new.from.items own moved in
-          let before = was.enough in let count = c.new.ensures.count in let old = c.loop-kit.places.ok in
-          let new = c.new.new.from.ok in let mine = c.new.result.places.ok in
+      enough = let all = fewer book c.loop-kit.books.items c.hire.new.books.items own c.hire.ensures.books in
+          let before = was.enough in let old = c.loop-kit.books.ok in let new = c.hire.new.books.ok in
+          let mine = c.hire.new.places.ok in
           omega arith;
       kits = but_last P c.pop.new.self.items c.loop-kit.kits.items c.in-Some.kit is was.kits;
-      all = ap (λ l. flat_map places l ++ reverse c.new.new.from.items) c.push_reserved.ensures.items
-          ∙ one_more c.loop-kit.places.items c.new.new.from.items own moved places c.loop-kit.workers.items
-          c.new.result _ refl was.all;
       each = subst (All Q) (sym c.push_reserved.ensures.items)
           (All-push Q c.loop-kit.workers.items c.new.result was.each some);
-      same = c.new.ensures.room ∙ was.same;
+      pass = c.hire.ensures.pass;
+      places = subst (All O) (sym grown) (All-append O own others c.hire.ensures.places was.places);
+      gives = subst (λ l. FoldsTo Gives c.args.pass.now (reverse (map of l)) c.hire.new.pass) (sym grown)
+          (given_before Gives of c.args.pass.now c.loop-kit.pass c.hire.new.pass own others was.gives
+          c.hire.ensures.gives);
+      books = was.books
+          ∙ (ap (λ l. l ++ map book others) c.hire.ensures.books
+          ∙ (append_assoc c.hire.new.books.items (map book own) (map book others)
+          ∙ ap (λ l. c.hire.new.books.items ++ l)
+          (sym (map-append book own others) ∙ ap (map book) (sym grown))));
+      same = c.hire.ensures.room ∙ was.same;
     }
+
+pub returns-clause-each : goal.returns-clause-each
+returns-clause-each g c =
+    let W : Type 0 = Worker g.row.R.Denot g.row.T.Denot g.row.W.Denot g.row.T-Book.Denot in
+    let Q : W → Type 0 = λ w. 1 ≤ vec_len w.places in
+    subst (All Q) (sym c.reverse.ensures.items) (all_reverse Q c.loop-kit.workers.items c.loop-kit.invariant.each)

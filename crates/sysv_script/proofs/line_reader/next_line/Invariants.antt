@@ -1,5 +1,5 @@
 use Rattle.std.proofs.Common.{◌≡◌, ℕ, ◌-◌, ◌≤◌, length, take}
-use Rattle.sysv_model.specs.Watched.{failures_of, stream_name, stream_of}
+use Rattle.sysv_model.specs.Instrumented.{failures_of, stream_name, stream_of}
 use Rattle.sysv_script.specs.Found.{HasNoEnd, IsFirstLine}
 use Rattle.sysv_script.specs.Streams.{HandsOn, TakesIn}
 use Rattle.sysv_script.specs.declared.input.TheConstants.{INPUT_ROOM}

@@ -1,4 +1,4 @@
-use Rattle.sysv_model.specs.Watched.{stream_of}
+use Rattle.sysv_model.specs.Instrumented.{stream_of}
 use Rattle.sysv_script.proofs.Prefixed.{AppendsPrefix-all, OnErr-from}
 use Rattle.sysv_script.proofs.line_reader.read_on.Goals as goal
 

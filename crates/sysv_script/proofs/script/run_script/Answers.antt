@@ -1,6 +1,6 @@
 use Rattle.std.proofs.Common.{◌≡◌, ◌∙◌, Result, sym, subst}
 use Rattle.std.specs.Prelude.{Err, IfErr, ⊤}
-use Rattle.sysv_model.specs.Watched.{failures_of, failures_after, stream_of}
+use Rattle.sysv_model.specs.Instrumented.{failures_of, failures_after, stream_of}
 use Rattle.sysv_script.specs.declared.fault.ScriptFault.{ScriptFault}
 use Rattle.sysv_script.specs.declared.fault.ScriptFault.TheVariants.{NoMemory}
 use Rattle.sysv_script.specs.Faults.{TellsBadLine, is_read_fault, is_write_fault}

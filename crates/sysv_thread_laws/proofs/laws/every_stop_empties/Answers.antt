@@ -26,4 +26,4 @@ returns c =
     c.each_answer_is_right.ensures
     c.each_op_is_asked_for.ensures
     (λ o list responses w led.
-    (run_keeps c.legal_turns.ensures.more blocks laws c.legal_turns.ensures.none o list responses w led).life.facts)
+    (run_keeps c.legal_turns.ensures.more blocks laws c.legal_turns.ensures.none o list responses w led).lifetime.facts)

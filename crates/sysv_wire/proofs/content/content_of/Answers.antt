@@ -11,7 +11,7 @@ returns-then-stat-gt-MAX_MODE-clause-err c =
     let fields = c.args.fields.now in (
       refl,
       subst (λ op. IsBadAnswer op fields) (sym c.in-Stat.is)
-          (wide_stat c.stat_of-stat.result fields c.stat_of-stat.ensures.spelled c.if-stat-gt-MAX_MODE.true
+          (wide_stat c.stat_of-stat.result fields c.stat_of-stat.ensures.encoded c.if-stat-gt-MAX_MODE.true
           (omega arith)),
     )
 

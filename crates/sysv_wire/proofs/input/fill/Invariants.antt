@@ -1,7 +1,7 @@
 -- The bytes read so far are at the start, and fewer remain each time.
 use Rattle.std.proofs.Common.{◌≡◌, ◌-◌, ◌≤◌, length, take}
 use Rattle.std.specs.Io.KnownBytes.{Consumes}
-use Rattle.sysv_model.specs.Watched.{failures_of, stream_name, stream_of}
+use Rattle.sysv_model.specs.Instrumented.{failures_of, stream_name, stream_of}
 use Rattle.sysv_wire.proofs.input.fill.Given as goal
 
 abbrev pub invariant-loop-count : goal.invariant-loop-count

@@ -2,7 +2,7 @@ use Rattle.std.proofs.Common.{arith}
 use Rattle.sysv_wire.proofs.NumberLemmas.{u16_front}
 use Rattle.sysv_wire.proofs.number.take_u16.Goals as goal
 
-pub returns-clause-spelled : goal.returns-clause-spelled
-returns-clause-spelled c =
+pub returns-clause-encoded : goal.returns-clause-encoded
+returns-clause-encoded c =
     u16_front c.args.bytes.now c.split_at.result.0.now c.split_at.result.1.now c.from_be_bytes.result c.requires
     (λ i. omega (arith, c.type_inv.bytes i)) c.split_at.ensures.front c.split_at.ensures.back c.from_be_bytes.ensures

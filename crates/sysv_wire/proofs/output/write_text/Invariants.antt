@@ -2,7 +2,7 @@
 use Rattle.std.proofs.Common.{◌≡◌, ◌*◌, take}
 use Rattle.std.specs.Io.KnownBytes.{Appends}
 use Rattle.sysv_model.specs.declared.limits.TheConstants.{BLOCK_BYTES}
-use Rattle.sysv_model.specs.Watched.{failures_of, stream_name, stream_of}
+use Rattle.sysv_model.specs.Instrumented.{failures_of, stream_name, stream_of}
 use Rattle.sysv_wire.proofs.output.write_text.Given as goal
 
 abbrev pub invariant-loop-k : goal.invariant-loop-k

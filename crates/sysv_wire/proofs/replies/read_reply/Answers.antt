@@ -1,5 +1,5 @@
 use Rattle.std.proofs.Common.{List, ℕ, Option, subst}
-use Rattle.sysv_model.specs.Watched.{stream_of}
+use Rattle.sysv_model.specs.Instrumented.{stream_of}
 use Rattle.sysv_wire.specs.Reading.{ReadsReply}
 use Rattle.sysv_wire.proofs.ReplyAnswer.{reply_only}
 use Rattle.sysv_wire.proofs.replies.read_reply.Goals as goal

@@ -1,5 +1,5 @@
 use Rattle.std.proofs.Common.{List, ℕ, Option, subst}
-use Rattle.sysv_model.specs.Watched.{stream_of}
+use Rattle.sysv_model.specs.Instrumented.{stream_of}
 use Rattle.sysv_wire.specs.Reading.{ReadsRequest}
 use Rattle.sysv_wire.proofs.RequestAnswer.{request_only}
 use Rattle.sysv_wire.proofs.requests.read_request.Goals as goal

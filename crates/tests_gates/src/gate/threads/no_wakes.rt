@@ -1,5 +1,5 @@
-//! Threads that have slept are no longer counted as sleepers. A run counts the wakes after the mark,
-//! and expects none.
+//! Threads that have slept are no longer counted as sleepers. A run counts the wakes after the
+//! mark, and expects none.
 ghost use Rattle.std.specs.Prelude.{◌≡◌};
 
 use super::{Role, Slow, told_to_four, wait_out_a_turn};
@@ -10,10 +10,10 @@ use std::test::Fail;
 use sysv_gate::{Gate, Seat};
 use tests_kit::mark;
 
-/// The number of calls that follow. It is above the number of bells for turns.
+/// The number of calls that follow. It is above the number of doorbells for turns.
 const CALLS: u64 = 64;
 
-// A thread has slept at each of the bells for counts.
+// A thread has slept at each of the doorbells for counts.
 #[test]
 fn counts(rt: HostRuntime) -> Result<(), Fail> {
     let (gate, mut seat) = opened(&rt, 0).ok_or("no memory")?;

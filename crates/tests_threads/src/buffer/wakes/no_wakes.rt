@@ -1,5 +1,5 @@
-//! Ends and seats that have slept are no longer counted as sleepers. A run counts the wakes after the
-//! mark, and expects none.
+//! Ends and seats that have slept are no longer counted as sleepers. A run counts the wakes after
+//! the mark, and expects none.
 ghost use Rattle.std.specs.Prelude.{◌≡◌};
 
 use super::{LATE, put_and_take_of_many, take_and_put_of_many};

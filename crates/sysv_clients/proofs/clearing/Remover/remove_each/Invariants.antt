@@ -1,7 +1,7 @@
 -- The calls so far, and the refusals among them.
 use Rattle.std.proofs.Common.{◌≡◌, ◌+◌, ◌-◌, ◌*◌, [], is_some, cond}
 use Rattle.sysv_clients.specs.declared.command.TheConstants.{MAX_ROWS}
-use Rattle.sysv_model.specs.Watched.{stream_name, stream_of}
+use Rattle.sysv_model.specs.Instrumented.{stream_name, stream_of}
 use Rattle.sysv_clients.proofs.ClearLemmas.{Clears}
 use Rattle.sysv_clients.proofs.clearing.Remover.remove_each.Given as goal
 

@@ -2,13 +2,13 @@
 use Rattle.std.proofs.Common.{◌≡◌, ◌-◌, ◌≤◌, length}
 use Rattle.sysv_clients.specs.declared.command.TheConstants.{MAX_REQUESTS}
 use Rattle.sysv_clients.specs.Asks.{text_of}
-use Rattle.sysv_model.specs.Watched.{failures_of, stream_name, stream_of}
-use Rattle.sysv_clients.proofs.TalkLemmas.{Talking, page_most}
+use Rattle.sysv_model.specs.Instrumented.{failures_of, stream_name, stream_of}
+use Rattle.sysv_clients.proofs.DialogueLemmas.{Conversing, page_most}
 use Rattle.sysv_clients.proofs.client.Client.call.Given as goal
 
 abbrev pub invariant-loop-ask : goal.invariant-loop-ask
 invariant-loop-ask g l = record {
-  talking : Talking l.command (g.R.Read.remaining (stream_of l.initial.reader))
+  conversing : Conversing l.command (g.R.Read.remaining (stream_of l.initial.reader))
       (g.R.Read.remaining (stream_of l.reader))
       (g.W.Write.contents (stream_of l.initial.writer)) (g.W.Write.contents (stream_of l.writer)) l.self.page l.place
       l.slots l.id;

@@ -4,14 +4,14 @@ use Rattle.sysv_clients.specs.declared.style.Style.{Style}
 use Rattle.sysv_clients.specs.Style.{grows}
 use Rattle.sysv_wire.specs.declared.request.Ask.TheVariants.{Hello, Row}
 use Rattle.sysv_clients.specs.declared.fault.ClientFault.TheVariants.{NoReply}
-use Rattle.sysv_model.specs.Watched.{stream_of}
+use Rattle.sysv_model.specs.Instrumented.{stream_of}
 use Rattle.sysv_clients.proofs.RowLemmas.{asks_more, cannot_ask, heard_exchanged, hears_row, lacks_row, lists_all}
 use Rattle.sysv_clients.proofs.RowLemmas.{lists_from, loses_row, no_receive, row_blamed}
-use Rattle.sysv_clients.proofs.TalkLemmas.{begins, blamed, breaks_off, has_room, short_head, stays_within}
+use Rattle.sysv_clients.proofs.DialogueLemmas.{begins, blamed, breaks_off, has_room, short_head, stays_within}
 use Rattle.sysv_clients.proofs.client.Client.list.Goals as goal
 
-pub returns-in_err-welcome-clause-talks : goal.returns-in_err-welcome-clause-talks
-returns-in_err-welcome-clause-talks g c =
+pub returns-in_err-welcome-clause-converses : goal.returns-in_err-welcome-clause-converses
+returns-in_err-welcome-clause-converses g c =
     let command = c.args.command.now in
     let page = c.args.self.now.page in
     let p = err_from_is_err_and c.from_residual.result c.from_residual.ensures.1 in
@@ -48,8 +48,8 @@ loop-slot-init g c =
       writer_failed = c.in_ok-welcome.ensures.failed.1;
     }
 
-pub returns-in-Err-clause-talks : goal.returns-in-Err-clause-talks
-returns-in-Err-clause-talks g c =
+pub returns-in-Err-clause-converses : goal.returns-in-Err-clause-converses
+returns-in-Err-clause-converses g c =
     let r = c.in-Err.ensures.requests in
     cannot_ask c.args.command.now _ _ _ _ _ c.loop-slot.self.page c.loop-slot.self.page c.loop-slot.self.text
     c.loop-slot.slot
@@ -64,8 +64,8 @@ returns-in-Err-clause-failed g c =
     c.loop-slot.invariant.reader_failed c.loop-slot.invariant.writer_failed
     (inl (c.in-Err.ensures.stream.failed, refl, refl))
 
-pub returns-in_err-answer-clause-talks : goal.returns-in_err-answer-clause-talks
-returns-in_err-answer-clause-talks g c =
+pub returns-in_err-answer-clause-converses : goal.returns-in_err-answer-clause-converses
+returns-in_err-answer-clause-converses g c =
     let command = c.args.command.now in
     let r = c.in-Ok.ensures.requests in
     let page = c.loop-slot.self.page in
@@ -93,8 +93,8 @@ tell-requires-clause-room g c =
     (length c.loop-slot.self.page) c.in_ok-answer.ensures.hears.1
     (no_receive c.loop-slot.slot (c.loop-slot.slot + 1)) c.loop-slot.invariant.room
 
-pub returns-in_err-tell-clause-talks : goal.returns-in_err-tell-clause-talks
-returns-in_err-tell-clause-talks g c =
+pub returns-in_err-tell-clause-converses : goal.returns-in_err-tell-clause-converses
+returns-in_err-tell-clause-converses g c =
     let command = c.args.command.now in
     let r = c.in-Ok.ensures.requests in
     let page = c.loop-slot.self.page in
@@ -130,7 +130,7 @@ loop-slot-preserved g c =
       writer_failed = c.in-Ok.ensures.stream.failed ∙ c.loop-slot.invariant.writer_failed;
     }
 
-pub returns-clause-talks : goal.returns-clause-talks
-returns-clause-talks g c =
+pub returns-clause-converses : goal.returns-clause-converses
+returns-clause-converses g c =
     lists_all c.args.command.now _ _ _ _ c.loop-slot.self.page c.loop-slot.slot c.loop-slot.sent _ _ c.requires.list
     (omega (arith, c.loop-slot.invariant.bound)) (omega (arith, c.min-rows.ensures)) c.loop-slot.invariant.listing

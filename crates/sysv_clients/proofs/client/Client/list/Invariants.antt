@@ -2,9 +2,9 @@
 use Rattle.std.proofs.Common.{◌≡◌, ◌+◌, ◌≤◌, length}
 use Rattle.sysv_clients.specs.declared.command.TheConstants.{ROW_WINDOW}
 use Rattle.sysv_clients.specs.Asks.{text_of}
-use Rattle.sysv_model.specs.Watched.{failures_of, stream_name, stream_of}
+use Rattle.sysv_model.specs.Instrumented.{failures_of, stream_name, stream_of}
 use Rattle.sysv_clients.proofs.RowLemmas.{Listing}
-use Rattle.sysv_clients.proofs.TalkLemmas.{page_most}
+use Rattle.sysv_clients.proofs.DialogueLemmas.{page_most}
 use Rattle.sysv_clients.proofs.client.Client.list.Given as goal
 
 abbrev pub invariant-loop-slot : goal.invariant-loop-slot

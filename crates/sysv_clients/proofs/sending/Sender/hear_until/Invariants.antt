@@ -2,7 +2,7 @@
 use Rattle.std.proofs.Common.{◌≡◌, ◌+◌, ℕ, List, Option}
 use Rattle.sysv_clients.specs.declared.sending.Sending.{Sending as ASending}
 use Rattle.sysv_clients.specs.Window.{Sends}
-use Rattle.sysv_model.specs.Watched.{stream_name, stream_of}
+use Rattle.sysv_model.specs.Instrumented.{stream_name, stream_of}
 use Rattle.sysv_clients.proofs.sending.Sender.hear_until.Given as goal
 
 abbrev pub invariant-loop-window : goal.invariant-loop-window

@@ -3,7 +3,7 @@ use Rattle.std.proofs.Common.{◌≡◌, ◌<◌, ◌+◌, ℕ, List, Option}
 use Rattle.sysv_clients.specs.declared.sending.Heard.TheVariants.{Refused}
 use Rattle.sysv_clients.specs.declared.sending.Sending.{Sending as ASending}
 use Rattle.sysv_clients.specs.Window.{HearsSend, Sends}
-use Rattle.sysv_model.specs.Watched.{stream_name, stream_of}
+use Rattle.sysv_model.specs.Instrumented.{stream_name, stream_of}
 use Rattle.sysv_clients.proofs.RefusalLemmas.{Refusing}
 use Rattle.sysv_clients.proofs.sending.Sender.refused.Given as goal
 

@@ -31,14 +31,16 @@ pub returns-in-Err-clause-sends : goal.returns-in-Err-clause-sends
 returns-in-Err-clause-sends g c = (
   c.fetch.new.chunk,
   c.finish.ensures.ends c.args.sending.now _ _ _ _ _ c.loop-lines.invariant.sends
-      (ends_unread c.in-Err.why _ _ _ c.fetch.new.line c.in-Err.ensures.fetches),
+      (ends_unread c.in-Err.why _ _ _ _ c.fetch.new.line (sym c.loop-lines.invariant.lines)
+      c.in-Err.ensures.fetches),
 )
 
 pub returns-then-is_nothing-clause-sends : goal.returns-then-is_nothing-clause-sends
 returns-then-is_nothing-clause-sends g c = (
   c.fetch.new.chunk,
   c.finish-then-is_nothing.ensures.ends c.args.sending.now _ _ _ _ _ c.loop-lines.invariant.sends
-      (none_left c.in-Ok.fetched _ _ c.fetch.new.line (sym c.is_nothing.ensures ∙ c.if-is_nothing.true)
+      (none_left c.loop-lines.lines c.in-Ok.fetched _ _ c.fetch.new.line
+      (sym c.is_nothing.ensures ∙ c.if-is_nothing.true)
       c.in-Ok.ensures.fetches),
 )
 
@@ -48,7 +50,8 @@ returns-in_err-send-clause-sends g c =
     rw (p.1, p.2) (
       c.fetch.new.chunk,
       c.in_err-send.ensures.sends c.args.sending.now _ _ _ _ _ _ c.loop-lines.invariant.sends
-          (is_next c.in-Ok.fetched _ _ c.fetch.new.line (sym c.is_nothing.ensures ∙ c.if-is_nothing.false)
+          (is_next c.loop-lines.lines c.in-Ok.fetched _ _ c.fetch.new.line
+          (sym c.is_nothing.ensures ∙ c.if-is_nothing.false)
           c.in-Ok.ensures.fetches)
           c.loop-lines.invariant.room _,
     )
@@ -57,10 +60,12 @@ pub returns-then-not-is_line-clause-sends : goal.returns-then-not-is_line-clause
 returns-then-not-is_line-clause-sends g c =
     let some = sym c.is_nothing.ensures ∙ c.if-is_nothing.false in
     let sent = c.in_ok-send.ensures.sends c.args.sending.now _ _ _ _ _ _ c.loop-lines.invariant.sends
-    (is_next c.in-Ok.fetched _ _ c.fetch.new.line some c.in-Ok.ensures.fetches) c.loop-lines.invariant.room in (
+    (is_next c.loop-lines.lines c.in-Ok.fetched _ _ c.fetch.new.line some c.in-Ok.ensures.fetches)
+    c.loop-lines.invariant.room in (
       c.fetch.new.chunk,
       c.finish-then-not-is_line.ensures.ends c.args.sending.now _ _ _ _ _ sent.0
-          (none_after c.in-Ok.fetched _ _ c.fetch.new.line some (sym c.is_line.ensures ∙ c.if-not-is_line.true)
+          (none_after c.loop-lines.lines c.in-Ok.fetched _ _ c.fetch.new.line some
+          (sym c.is_line.ensures ∙ c.if-not-is_line.true)
           c.in-Ok.ensures.fetches),
     )
 
@@ -69,7 +74,8 @@ returns-in_err-drain-clause-sends g c =
     let p = err_from_is_err_and c.from_residual-in_err-drain.result c.from_residual-in_err-drain.ensures.1 in
     let some = sym c.is_nothing.ensures ∙ c.if-is_nothing.false in
     let sent = c.in_ok-send.ensures.sends c.args.sending.now _ _ _ _ _ _ c.loop-lines.invariant.sends
-    (is_next c.in-Ok.fetched _ _ c.fetch.new.line some c.in-Ok.ensures.fetches) c.loop-lines.invariant.room in
+    (is_next c.loop-lines.lines c.in-Ok.fetched _ _ c.fetch.new.line some c.in-Ok.ensures.fetches)
+    c.loop-lines.invariant.room in
     rw (p.1, p.2)
     (c.fetch.new.chunk, c.in_err-drain.ensures.drains c.args.sending.now _ _ _ _ sent.0 _)
 
@@ -77,7 +83,8 @@ pub loop-lines-preserved : goal.loop-lines-preserved
 loop-lines-preserved g c =
     let some = sym c.is_nothing.ensures ∙ c.if-is_nothing.false in
     let sent = c.in_ok-send.ensures.sends c.args.sending.now _ _ _ _ _ _ c.loop-lines.invariant.sends
-    (is_next c.in-Ok.fetched _ _ c.fetch.new.line some c.in-Ok.ensures.fetches) c.loop-lines.invariant.room in
+    (is_next c.loop-lines.lines c.in-Ok.fetched _ _ c.fetch.new.line some c.in-Ok.ensures.fetches)
+    c.loop-lines.invariant.room in
     let drained = c.in_ok-drain.ensures.drains c.args.sending.now _ _ _ _ sent.0 in
     record {
       sends = same_ahead c.args.sending.now _ c.fetch.new.chunk _ _ _ _ _ _ c.drain.new.window

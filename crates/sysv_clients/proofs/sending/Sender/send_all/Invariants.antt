@@ -4,7 +4,7 @@ use Rattle.std.specs.Io.KnownBytes.{prepend_known}
 use Rattle.sysv_clients.specs.Feed.{feed_name, feed_stream}
 use Rattle.sysv_clients.specs.Sending.{window_of}
 use Rattle.sysv_clients.specs.Window.{Sends}
-use Rattle.sysv_model.specs.Watched.{stream_name, stream_of}
+use Rattle.sysv_model.specs.Instrumented.{stream_name, stream_of}
 use Rattle.sysv_clients.proofs.sending.Sender.send_all.Given as goal
 
 abbrev pub invariant-loop-lines : goal.invariant-loop-lines

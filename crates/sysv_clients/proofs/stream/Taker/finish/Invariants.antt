@@ -3,7 +3,7 @@ use Rattle.std.proofs.Common.{◌≡◌, ℕ, List, Option, false}
 use Rattle.sysv_clients.specs.declared.stream.Receiving.{Receiving as AReceiving}
 use Rattle.sysv_clients.specs.Style.{style_of_receipt}
 use Rattle.sysv_clients.specs.Taking.{Stops}
-use Rattle.sysv_model.specs.Watched.{KeepsStream, stream_name, stream_of}
+use Rattle.sysv_model.specs.Instrumented.{KeepsStream, stream_name, stream_of}
 use Rattle.sysv_clients.proofs.stream.Taker.finish.Given as goal
 
 abbrev pub invariant-loop-waiting : goal.invariant-loop-waiting

@@ -1,7 +1,7 @@
 -- The receives so far, and what was shown of them.
 use Rattle.std.proofs.Common.{◌≡◌, [], false}
 use Rattle.sysv_clients.specs.Taking.{Takes}
-use Rattle.sysv_model.specs.Watched.{KeepsStream, stream_name, stream_of}
+use Rattle.sysv_model.specs.Instrumented.{KeepsStream, stream_name, stream_of}
 use Rattle.sysv_clients.proofs.stream.Taker.take_all.Given as goal
 
 abbrev pub invariant-loop-taking : goal.invariant-loop-taking

@@ -1,5 +1,5 @@
 use Rattle.std.proofs.Common.{◌≡◌, IsTrue, true, false, sym, ap, subst, ◌∙◌, rules}
-use Rattle.sysv_objects.specs.StandsFor.{StandsFor}
+use Rattle.sysv_objects.specs.Represents.{Represents}
 use Rattle.sysv_core.specs.Seen.{Seen, IsSeenAs}
 use Rattle.sysv_core.specs.Preset.{MakesPreset}
 use Rattle.sysv_core.proofs.SoundStays.{vacant_there}
@@ -9,11 +9,10 @@ use Rattle.sysv_core.proofs.world.World.preset.Goals as goal
 
 pub returns-then-not-is_unused-clause-single : goal.returns-then-not-is_unused-clause-single
 returns-then-not-is_unused-clause-single c = λ w s.
-    let stands : StandsFor w.generation w.turns c.self.inside.objects =
-    subst (λ (v : Seen). StandsFor w.generation w.turns v.objects) (sym c.self.view_is) s.objects in
+    let stands : Represents w.generation w.turns c.self.inside.objects =
+    subst (λ (v : Seen). Represents w.generation w.turns v.objects) (sym c.self.view_is) s.objects in
     let test = c.is_unused.ensures w.generation w.turns stands in
-    preset_used w c.args.self.now s c.each_world_is_sound.ensures.stays c.legal_turns.ensures.more
-    c.unused_slots.ensures
+    preset_used w c.args.self.now s c.each_world_is_sound.ensures.stays
     (λ u. let bad : IsTrue false = subst IsTrue c.if-not-is_unused.true (test.1 u) in search rules)
 
 pub returns-then-not-is_unused-clause-stands : goal.returns-then-not-is_unused-clause-stands
@@ -22,14 +21,14 @@ returns-then-not-is_unused-clause-stands c = λ o es responses s.
 
 pub returns-clause-single : goal.returns-clause-single
 returns-clause-single c = λ w s.
-    let stands : StandsFor w.generation w.turns c.self.inside.objects =
-    subst (λ (v : Seen). StandsFor w.generation w.turns v.objects) (sym c.self.view_is) s.objects in
+    let stands : Represents w.generation w.turns c.self.inside.objects =
+    subst (λ (v : Seen). Represents w.generation w.turns v.objects) (sym c.self.view_is) s.objects in
     let test = c.is_unused.ensures w.generation w.turns stands in
     let yes : IsTrue c.is_unused.result = search rules in
     let makes = subst (λ (v : Seen). MakesPreset v.objects c.preset_queue.result c.preset_queue.new.objects)
     c.self.view_is c.preset_queue.ensures in
-    let made = preset_unused w c.args.self.now s c.each_world_is_sound.ensures.stays c.legal_turns.ensures.more
-    c.unused_slots.ensures c.preset_queue.result c.preset_queue.new.objects (test.0 yes) makes in
+    let made = preset_unused w c.args.self.now s c.each_world_is_sound.ensures.stays c.unused_slots.ensures
+    c.preset_queue.result c.preset_queue.new.objects (test.0 yes) makes in
     rw (
       ap (λ (v : Seen). v.states) c.self.view_is,
       ap (λ (v : Seen). v.steps) c.self.view_is,
@@ -48,7 +47,7 @@ invariant_of-self c =
     let yes : IsTrue c.is_unused.result = search rules in
     let unused = (c.is_unused.ensures w.generation w.turns stands).0 yes in
     let m = c.preset_queue.ensures w.generation w.turns stands unused
-    (vacant_there c.legal_turns.ensures.more c.unused_slots.ensures w s.sound unused) in
+    (vacant_there c.unused_slots.ensures w s.sound unused) in
     let now = returns-clause-single c w s in
     (c.self.invariant.0, m.counts c.self.inside.steps c.self.invariant.1, (now.0, now.2), c.self.invariant.3)
 
@@ -60,6 +59,6 @@ returns-clause-refused c = λ failed.
     let yes : IsTrue c.is_unused.result = search rules in
     let unused = (c.is_unused.ensures w.generation w.turns stands).0 yes in
     let m = c.preset_queue.ensures w.generation w.turns stands unused
-    (vacant_there c.legal_turns.ensures.more c.unused_slots.ensures w s.sound unused) in
+    (vacant_there c.unused_slots.ensures w s.sound unused) in
     let bad : true ≡ false = sym m.made ∙ failed in
     cc

@@ -1,10 +1,9 @@
 use Rattle.std.proofs.Common.{◌≡◌, ◌<◌, ◌++◌, ◌∷◌, [], length, length-append, vec_len, vec_capacity, sym, ap, subst}
 use Rattle.std.proofs.Common.{◌∙◌, rules, arith, refl, append_assoc, add-zero, inl, inr}
-use Rattle.std.proofs.lemmas.List.{append-nil, length_push}
+use Rattle.std.proofs.lemmas.List.{append-nil, length_push, nil_from_length}
 use Rattle.sysv_core.specs.declared.event.Stepped.TheVariants.{Nothing, Answer}
 use Rattle.sysv_core.specs.Tallying.{messages_in}
-use Rattle.sysv_core.proofs.Lists.{none_in}
-use Rattle.sysv_core.proofs.Runs.{laws_hold, messages_more, UnderWay, under_way, goes_on, runs_on}
+use Rattle.sysv_core.proofs.Runs.{laws_hold, messages_more, Pending, pending, goes_on, runs_on}
 use Rattle.sysv_core.proofs.world.World.run.Goals as goal
 use Rattle.sysv_core.proofs.world.World.run.Goals.{in-None, in-Some+in-Worn}
 
@@ -18,7 +17,7 @@ loop-event-init c =
       written = omega (arith, ap messages_in c.in-Ok.ensures.items);
       lost = refl;
       going =
-          subst (UnderWay c.args.self.now c.args.self.now []) (sym c.in-Ok.ensures.items) (under_way c.args.self.now);
+          subst (Pending c.args.self.now c.args.self.now []) (sym c.in-Ok.ensures.items) (pending c.args.self.now);
     }
 
 pub loop-event-preserved-in-Nothing : goal.loop-event-preserved-in-Nothing
@@ -33,7 +32,7 @@ loop-event-preserved-in-Nothing c =
       room = i.room;
       written = c.in-Nothing.ensures.written ∙ (add-zero c.loop-event.self.tally.written ∙ i.written);
       lost = c.in-Nothing.ensures.lost ∙ i.lost;
-      going = subst (UnderWay c.args.self.now c.step.new.self (c.loop-event.yielded ++ c.in-Some.event ∷ []))
+      going = subst (Pending c.args.self.now c.step.new.self (c.loop-event.yielded ++ c.in-Some.event ∷ []))
           (append-nil c.loop-event.answers.items)
           (goes_on c.args.self.now c.loop-event.self c.step.new.self c.loop-event.yielded c.loop-event.answers.items
           c.in-Some.event Nothing i.going c.in-Nothing.ensures.stands);
@@ -69,7 +68,7 @@ loop-event-preserved c =
       );
       lost = c.in-Answer.ensures.lost ∙ i.lost;
       going =
-          subst (UnderWay c.args.self.now c.step.new.self (c.loop-event.yielded ++ c.in-Some.event ∷ [])) (sym pushed)
+          subst (Pending c.args.self.now c.step.new.self (c.loop-event.yielded ++ c.in-Some.event ∷ [])) (sym pushed)
           (goes_on c.args.self.now c.loop-event.self c.step.new.self c.loop-event.yielded c.loop-event.answers.items
           c.in-Some.event (Answer c.in-Answer.answer) i.going c.in-Answer.ensures.stands);
     }
@@ -79,7 +78,8 @@ returns-clause-stands c =
     let i = c.loop-event.invariant in
     elim c.match-next.branch [
       | in-None w ↦
-          let over : c.loop-event.event-iterator.rest.items ≡ [] = none_in c.loop-event.event-iterator.rest.items
+          let over : c.loop-event.event-iterator.rest.items ≡ [] =
+          nil_from_length c.loop-event.event-iterator.rest.items
           (omega (arith, w.in-None.ensures.steps.0, c.loop-event.event-iterator.rest.ok.0)) in
           rw w.self-is
           (runs_on c.args.self.now c.loop-event.self c.args.events.items c.loop-event.yielded []

@@ -1,6 +1,6 @@
 use Rattle.std.proofs.Common.{◌≡◌, ◌≤◌, ◌+◌, ◌++◌, length, vec_len, vec_capacity}
 use Rattle.sysv_core.specs.Tallying.{messages_in}
-use Rattle.sysv_core.proofs.Runs.{UnderWay}
+use Rattle.sysv_core.proofs.Runs.{Pending}
 use Rattle.sysv_core.proofs.world.World.run.Given as goal
 
 -- The events so far have happened, and there is room for the answers to those that are left.
@@ -11,5 +11,5 @@ invariant-loop-event l = record {
   room : length l.fn.events.items ≤ vec_capacity l.answers;
   written : l.self.tally.written ≡ l.fn.self.tally.written + messages_in l.answers.items;
   lost : l.self.tally.lost ≡ l.fn.self.tally.lost;
-  going : UnderWay l.fn.self l.self l.yielded l.answers.items;
+  going : Pending l.fn.self l.self l.yielded l.answers.items;
 }

@@ -1,5 +1,5 @@
 use Rattle.std.proofs.Common.{◌+◌, ◌≤◌, Some, refl, sym, ap, subst, ◌∙◌, rules, arith}
-use Rattle.sysv_objects.specs.StandsFor.{StandsFor as ObjectsStandFor}
+use Rattle.sysv_objects.specs.Represents.{Represents as ObjectsStandFor}
 use Rattle.sysv_core.specs.declared.event.Event.TheVariants.{Start}
 use Rattle.sysv_core.specs.Seen.{Seen, IsSeenAs}
 use Rattle.sysv_core.specs.Tallying.{messages_given}

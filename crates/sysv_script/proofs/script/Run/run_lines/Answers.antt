@@ -1,5 +1,5 @@
 use Rattle.std.proofs.Common.{arith, refl, ◌∙◌}
-use Rattle.sysv_model.specs.Watched.{stream_of}
+use Rattle.sysv_model.specs.Instrumented.{stream_of}
 use Rattle.sysv_script.proofs.RunSofar.{begins_text}
 use Rattle.sysv_script.proofs.ScriptEnds.{RunsNext-on, RunsNext-end}
 use Rattle.sysv_script.proofs.StreamLemmas.{Grows-none, Grows-trans}

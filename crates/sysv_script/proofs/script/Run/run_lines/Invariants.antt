@@ -1,7 +1,7 @@
 use Rattle.std.proofs.Common.{◌≡◌, ◌+◌, ℕ, List}
-use Rattle.sysv_model.specs.Watched.{failures_of, stream_name, stream_of}
-use Rattle.sysv_script.specs.Scene.{Scene}
-use Rattle.sysv_script.specs.Staged.{IsSceneOf}
+use Rattle.sysv_model.specs.Instrumented.{failures_of, stream_name, stream_of}
+use Rattle.sysv_script.specs.ScriptState.{ScriptState}
+use Rattle.sysv_script.specs.Staged.{IsScriptStateOf}
 use Rattle.sysv_script.specs.Faults.{Grows}
 use Rattle.sysv_script.specs.ScriptSofar.{IsText, RunsOn}
 use Rattle.sysv_script.proofs.script.Run.run_lines.Given as goal
@@ -9,7 +9,7 @@ use Rattle.sysv_script.proofs.script.Run.run_lines.Given as goal
 abbrev pub invariant-loop-passed : goal.invariant-loop-passed
 invariant-loop-passed g l = record {
   grows : Grows (g.W.Write.contents (stream_of l.initial.writer)) (g.W.Write.contents (stream_of l.writer));
-  runs : (s : Scene) → IsSceneOf s l.initial.self.stage → (text : List ℕ) →
+  runs : (s : ScriptState) → IsScriptStateOf s l.initial.self.stage → (text : List ℕ) →
       IsText l.initial.self.input (g.R.Read.remaining (stream_of l.initial.reader)) text →
       RunsOn s text (g.W.Write.contents (stream_of l.initial.writer)) (l.passed + 1) l.self.stage l.self.input
       (g.R.Read.remaining (stream_of l.reader)) (g.W.Write.contents (stream_of l.writer)) l.self.output;

@@ -1,5 +1,5 @@
 use Rattle.std.proofs.Common.{◌≡◌, ℕ, List, Option, Some, rules, subst}
-use Rattle.sysv_model.specs.Watched.{stream_of}
+use Rattle.sysv_model.specs.Instrumented.{stream_of}
 use Rattle.sysv_script.specs.declared.line_reader.Found.{Found}
 use Rattle.sysv_script.specs.Found.{FindsLine, IsNextLine}
 use Rattle.sysv_script.proofs.LineLemmas.{IsNextLine-front, IsNextLine-behind}

@@ -1,6 +1,6 @@
 use Rattle.std.proofs.Common.{[], sym, refl, ap}
 use Rattle.std.proofs.lemmas.List.{append-nil}
-use Rattle.sysv_script.specs.Scene.{with_cred, in_world}
+use Rattle.sysv_script.specs.ScriptState.{with_cred, in_world}
 use Rattle.sysv_script.proofs.Kept.{on_err}
 use Rattle.sysv_script.proofs.Prefixed.{prefix_none}
 use Rattle.sysv_script.proofs.stage.Stage.act.Goals as goal

@@ -1,5 +1,5 @@
 use Rattle.std.proofs.Common.{◌≡◌, ◌∙◌, length, refl, ap, rules, arith}
-use Rattle.sysv_script.specs.Scene.{cred_at, in_world}
+use Rattle.sysv_script.specs.ScriptState.{cred_at, in_world}
 use Rattle.sysv_script.specs.CredHeld.{cred_held}
 use Rattle.sysv_script.proofs.stage.Stage.begin.Goals as goal
 

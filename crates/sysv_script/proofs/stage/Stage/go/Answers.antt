@@ -1,5 +1,5 @@
 use Rattle.std.proofs.Common.{◌+◌, ◌-◌, refl, subst, arith}
-use Rattle.sysv_script.specs.Scene.{in_world}
+use Rattle.sysv_script.specs.ScriptState.{in_world}
 use Rattle.sysv_script.proofs.StepsOfCall.{GoingOn, begins, goes_more, ends_over, ends_none}
 use Rattle.sysv_script.proofs.stage.Stage.go.Goals as goal
 

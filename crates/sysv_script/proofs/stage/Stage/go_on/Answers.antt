@@ -1,5 +1,5 @@
 use Rattle.std.proofs.Common.{refl}
-use Rattle.sysv_script.specs.Scene.{printed}
+use Rattle.sysv_script.specs.ScriptState.{printed}
 use Rattle.sysv_script.proofs.Kept.{kept, on_ok}
 use Rattle.sysv_script.proofs.stage.Stage.go_on.Goals as goal
 

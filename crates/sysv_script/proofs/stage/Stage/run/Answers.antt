@@ -1,5 +1,5 @@
 use Rattle.sysv_lists.proofs.Prefixes.{prefix_self}
-use Rattle.sysv_script.proofs.LineOnScene.{acted}
+use Rattle.sysv_script.proofs.LineOnScriptState.{acted}
 use Rattle.sysv_script.proofs.Kept.{on_err}
 use Rattle.sysv_script.proofs.stage.Stage.run.Goals as goal
 

@@ -1,7 +1,7 @@
 use Rattle.std.proofs.Common.{◌≡◌, true, [], refl, sym, subst, ◌∙◌, if◌then◌else◌, rules}
 use Rattle.sysv_core.specs.World.{Opening}
-use Rattle.sysv_core.specs.Seen.{IsSeenAs, StandsFor}
-use Rattle.sysv_script.specs.Scene.{in_world, begun_scene, opening_world}
+use Rattle.sysv_core.specs.Seen.{IsSeenAs, Represents}
+use Rattle.sysv_script.specs.ScriptState.{in_world, begun_script_state, opening_world}
 use Rattle.sysv_script.proofs.Kept.{IfOk-mapped}
 use Rattle.sysv_script.proofs.stage.Stage.size_pool.Goals as goal
 
@@ -9,12 +9,12 @@ pub returns : goal.returns
 returns c = λ s seen.
     let blocks = c.args.blocks in
     let o : Opening = record { actors = 16; blocks = blocks; first = 0; generation = 0 } in
-    let stands : StandsFor o [] [] c.in_ok-world.world =
-    IfOk-mapped (λ world. StandsFor o [] [] world) _ c.open.result c.map_err.result c.in_ok-world.world
+    let stands : Represents o [] [] c.in_ok-world.world =
+    IfOk-mapped (λ world. Represents o [] [] world) _ c.open.result c.map_err.result c.in_ok-world.world
     c.open.ensures.opened c.map_err.ensures.cases c.map_err.ensures.variant c.in_ok-world.was in
     let held : true ≡ c.args.self.now.fresh = search rules in
     let fresh : true ≡ s.fresh = held ∙ sym seen.fresh in
-    let after = in_world (begun_scene s) (opening_world blocks) in
+    let after = in_world (begun_script_state s) (opening_world blocks) in
     let opened : IsSeenAs (opening_world blocks) c.in_ok-world.world =
     subst (λ w. IsSeenAs w c.in_ok-world.world) stands.led.1 stands.sight in (
       after,

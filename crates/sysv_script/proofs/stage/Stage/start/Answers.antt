@@ -1,7 +1,7 @@
 use Rattle.std.proofs.Common.{◌≡◌, None, sym, ap, subst, ◌∙◌, ◌++◌, refl}
 use Rattle.sysv_script.specs.SaidBy.{call_asked}
 use Rattle.sysv_core.specs.World.{actor_at}
-use Rattle.sysv_script.specs.Scene.{StartRuns, StartsAs, GoesOn, call_for, most_steps, under_way, printed}
+use Rattle.sysv_script.specs.ScriptState.{StartRuns, StartsAs, GoesOn, call_for, most_steps, pending, printed}
 use Rattle.sysv_script.specs.Names.{operation_of}
 use Rattle.sysv_lists.proofs.Prefixes.{prefix_self}
 use Rattle.sysv_script.proofs.Kept.{kept, on_ok, on_err}
@@ -25,7 +25,7 @@ returns-clause-runs c = on_ok c.tell-2.result c.tell-2.ensures.told (λ told s s
     let went = c.go-given.ensures began.0 began.2 in
     let steps : GoesOn (most_steps goes) began.0 actor first given went.0 =
     subst (λ n. GoesOn n began.0 actor first given went.0) c.most_steps.ensures went.1 in
-    let free : None ≡ under_way (actor_at s.world.actors actor) = sym c.in_default.is ∙ c.under_way.ensures s seen in
+    let free : None ≡ pending (actor_at s.world.actors actor) = sym c.in_default.is ∙ c.pending.ensures s seen in
     let out = printed went.0.world actor (operation_of asked) given in
     let line = told went.0 went.2
     ∙ ap (λ operation. c.args.output.now ++ printed went.0.world actor operation given) c.of_call-operation.ensures in (

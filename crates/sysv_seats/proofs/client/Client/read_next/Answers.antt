@@ -8,7 +8,7 @@ pub returns-clause-takes : goal.returns-clause-takes
 returns-clause-takes g c =
     let last : Sitting g.row.T.Denot = record {
       connection = c.self.inside.connection;
-      talk = c.take_up_from-taken.new.conversation;
+      dialogue = c.take_up_from-taken.new.conversation;
       input = drop c.self.inside.start c.self.inside.input.items;
       parked = c.self.inside.parked;
       stopped = c.self.inside.stopped;
@@ -25,6 +25,6 @@ returns-clause-pending g c = λ cred request is.
     pending_next c.args.self.now _ c.saturating_sub.result c.take_up_from-taken.result c.take_up_from-taken.new.text
     cred
     request
-    (subst (λ (s : Sitting g.row.T.Denot). messages_so_far s.talk ≤ s.talk.session.requests) c.self.view_is
+    (subst (λ (s : Sitting g.row.T.Denot). messages_so_far s.dialogue ≤ s.dialogue.session.requests) c.self.view_is
     (omega (arith, c.self.invariant.2.0)))
     (returns-clause-takes g c) is

@@ -1,6 +1,6 @@
 -- The body of a send is in its frame, at the front of the input.
 use Rattle.std.proofs.Common.{◌+◌, ◌∙◌, drop, ap, rules, refl, sym, length-drop}
-use Rattle.sysv_wire.specs.Requests.{op_of, request_spelling}
+use Rattle.sysv_wire.specs.Requests.{op_of, request_encoding}
 use Rattle.sysv_seats.specs.Sits.{Sitting}
 use Rattle.sysv_seats.proofs.ClientSteps.{frame_fits, front, no_body}
 use Rattle.sysv_seats.proofs.client.Client.recall.Goals as goal
@@ -23,7 +23,7 @@ pub returns-in-Snd : goal.returns-in-Snd
 returns-in-Snd g c = λ body later asked whole frame.
     c.snd_text.ensures c.args.parked.now.request body (ap op_of c.in-Snd.is) asked.1.1
     (front (drop c.self.inside.start c.self.inside.input.items) c.deref.result.now later
-    (request_spelling c.args.parked.now.request body) c.self.inside.start c.args.parked.now.length
+    (request_encoding c.args.parked.now.request body) c.self.inside.start c.args.parked.now.length
     (c.self.inside.start + c.args.parked.now.length) refl (ap (drop c.self.inside.start) c.deref.ensures.value) whole
     (ap (λ (s : Sitting g.row.T.Denot). s.input) c.self.view_is ∙ frame))
 

@@ -11,7 +11,7 @@ use Rattle.sysv_seats.proofs.ClientSteps.{answers, over_has, parks, put_none, pu
 use Rattle.sysv_seats.proofs.client.Client.settle.Goals as goal
 
 -- The body that was given is the same.
-given_still : (old new : Tools) → new ≡ record old { news = new.news } → new.given ≡ old.given
+given_still : (old new : Tools) → new ≡ record old { notifications = new.notifications } → new.given ≡ old.given
 given_still old new is = ap (λ (t : Tools). t.given) is
 
 pub put-requires-clause-text : goal.put-requires-clause-text

@@ -23,7 +23,7 @@ returns-in-Ok-Hello-clause-keeps g c = λ start origin sits.
     (rw c.in-Ok-Hello.is at c.in-Ok-Hello.field-0-is) in
     let greets = subst (λ (l : List ℕ). GreetsAs c.in-Ok-Hello.version (let s : Sitting g.row.T.Denot = record {
       connection = c.self.inside.connection;
-      talk = c.self.inside.conversation;
+      dialogue = c.self.inside.conversation;
       input = l;
       parked = c.self.inside.parked;
       stopped = c.self.inside.stopped;

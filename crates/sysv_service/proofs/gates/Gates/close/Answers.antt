@@ -41,16 +41,16 @@ loop-preserved c =
     let shorter : length c.loop.closings.items ≡ length c.pop.new.self.items + 1 =
     ap length gone ∙ length-append c.pop.new.self.items (x ∷ []) in
     let longer : length c.push_reserved.new.self.items ≡ length c.loop.slots.items + 1 =
-    ap length c.push_reserved.ensures.items ∙ length-append c.loop.slots.items (c.slot_closing.result ∷ []) in
+    ap length c.push_reserved.ensures.items ∙ length-append c.loop.slots.items (c.closing_of.result ∷ []) in
     let left = c.loop.invariant.left in
     let many = c.loop.invariant.many in
     let turned =
-    ap reverse c.push_reserved.ensures.items ∙ reverse-append c.loop.slots.items (c.slot_closing.result ∷ []) in
+    ap reverse c.push_reserved.ensures.items ∙ reverse-append c.loop.slots.items (c.closing_of.result ∷ []) in
     record {
       back = (
         x ∷ back.0,
         back.1 ∙ ap (λ xs. xs ++ back.0) gone ∙ append_assoc c.pop.new.self.items (x ∷ []) back.0,
-        subst (λ ys. Each2 GivenBack (x ∷ back.0) ys) (sym turned) (c.slot_closing.ensures, back.2),
+        subst (λ ys. Each2 GivenBack (x ∷ back.0) ys) (sym turned) (c.closing_of.ensures, back.2),
       );
       left = omega (arith, shorter, left);
       many = omega (arith, longer, many);
@@ -72,10 +72,10 @@ returns-clause-closed c =
     c.in-Some-pop-2.registry c.in-Some-pop.pool back.1 c.in-Some-pop.ensures.items c.in-Some-pop-2.ensures.items two in
     let given = subst (λ xs. Each2 GivenBack back.0 xs) (sym c.reverse.ensures.items) back.2 in
     let parts = all_parts last c.close-closings.result.items back.0 c.in-Some-pop-2.registry c.in-Some-pop.pool _
-    (seats_seen last).member c.seats.invariant order cs given c.registry_closing.ensures c.pool_closing.ensures in
+    (seats_seen last).member c.seats.invariant order cs given c.closing_of-2.ensures c.closing_of-3.ensures in
     subst (λ s.
     AllClose s
-    (record { slots = c.reverse.new.self; registry = c.registry_closing.result; pool = c.pool_closing.result }))
+    (record { slots = c.reverse.new.self; registry = c.closing_of-2.result; pool = c.closing_of-3.result }))
     c.seats.view_is
     (all_close seats (seats_seen last).member (ops_of (gates_of seats) order.order)
     (closes (gates_of seats) last c.close-closings.result.items order)
@@ -83,4 +83,4 @@ returns-clause-closed c =
     (sym (as_long _ _ _ c.close-closings.ensures.closed)) order) _ parts
     c.close-closings.result.items back.0 c.in-Some-pop-2.registry c.in-Some-pop.pool c.seats.invariant
     c.close-closings.ensures.closed cs given
-    c.registry_closing.ensures c.pool_closing.ensures (λ w. (order.home (whole last.shares w)).2))
+    c.closing_of-2.ensures c.closing_of-3.ensures (λ w. (order.home (whole last.shares w)).2))

@@ -1,6 +1,6 @@
 use Rattle.std.proofs.Common.{sym, subst}
 use Rattle.std.proofs.lemmas.Int.{to_z-of_z}
-use Rattle.sysv_service.specs.UnderWay.{GetsOn}
+use Rattle.sysv_service.specs.Pending.{GetsOn}
 use Rattle.sysv_service.proofs.ProceedsByStep.{gets_on}
 use Rattle.sysv_service.proofs.service.Service.msgget_begin.Goals as goal
 

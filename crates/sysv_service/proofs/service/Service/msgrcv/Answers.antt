@@ -3,7 +3,7 @@ use Rattle.std.proofs.lemmas.Int.{to_z-of_z}
 use Rattle.sysv_steps.specs.Seen.{receive_wait, receive_state}
 use Rattle.sysv_steps.specs.State.{Waits}
 use Rattle.sysv_steps.specs.Giving.{GivesNothing}
-use Rattle.sysv_service.specs.UnderWay.{ReceivesOn}
+use Rattle.sysv_service.specs.Pending.{ReceivesOn}
 use Rattle.sysv_service.specs.Pieces.{comes_on, if_given}
 use Rattle.sysv_service.proofs.ProceedsByStep.{first_at, comes_wait}
 use Rattle.sysv_service.proofs.ReceiveGivesTaken.{begin_gives_nothing}

@@ -1,7 +1,7 @@
 use Rattle.std.proofs.Common.{sym, subst, w32, w64, to_z, of_z}
 use Rattle.std.proofs.lemmas.Int.{to_z-of_z}
 use Rattle.sysv_steps.specs.Giving.{GivesNothing}
-use Rattle.sysv_service.specs.UnderWay.{ReceivesOn}
+use Rattle.sysv_service.specs.Pending.{ReceivesOn}
 use Rattle.sysv_service.proofs.ReceiveGivesTaken.{begin_gives_nothing}
 use Rattle.sysv_service.proofs.service.Service.msgrcv_begin.Goals as goal
 

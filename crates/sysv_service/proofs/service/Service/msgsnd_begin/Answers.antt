@@ -5,7 +5,7 @@ use Rattle.sysv_steps.specs.Begin.{begin as begins}
 use Rattle.sysv_steps.specs.Resume.{Released}
 use Rattle.sysv_service.specs.Reading.{Reads}
 use Rattle.sysv_service.specs.Ran.{Pass}
-use Rattle.sysv_service.specs.UnderWay.{SendsOn}
+use Rattle.sysv_service.specs.Pending.{SendsOn}
 use Rattle.sysv_service.proofs.ProceedsByStep.{sends_on}
 use Rattle.sysv_service.proofs.service.Service.msgsnd_begin.Goals as goal
 

@@ -5,7 +5,7 @@ use Rattle.sysv_steps.specs.Seen.{sending, send_wait}
 use Rattle.sysv_steps.specs.State.{AtLook}
 use Rattle.sysv_steps.specs.declared.send.SendWait.{SendWait}
 use Rattle.sysv_service.specs.Ran.{Pass}
-use Rattle.sysv_service.specs.UnderWay.{IsReached, StillWaits}
+use Rattle.sysv_service.specs.Pending.{IsReached, StillWaits}
 use Rattle.sysv_service.proofs.ProceedsByStep.{if_none}
 use Rattle.sysv_service.proofs.service.Service.msgsnd_look.Goals as goal
 

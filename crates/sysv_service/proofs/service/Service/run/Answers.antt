@@ -1,7 +1,7 @@
 use Rattle.std.proofs.Common.{subst, rules}
 use Rattle.sysv_steps.specs.Seen.{state_of}
 use Rattle.sysv_service.specs.Ran.{Comes}
-use Rattle.sysv_service.specs.UnderWay.{stopped_at, StoppedBy}
+use Rattle.sysv_service.specs.Pending.{stopped_at, StoppedBy}
 use Rattle.sysv_service.specs.Pieces.{comes_on}
 use Rattle.sysv_service.proofs.ProceedsByStep.{comes_first, comes_wait}
 use Rattle.sysv_service.proofs.service.Service.run.Goals as goal

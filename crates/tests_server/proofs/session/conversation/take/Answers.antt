@@ -1,6 +1,6 @@
 use Rattle.std.proofs.Common.{ap, arith, length}
 use Rattle.sysv_queue.specs.Tally.{taken_in}
-use Rattle.sysv_session.specs.Conversation.{Talk}
+use Rattle.sysv_session.specs.Conversation.{Dialogue}
 use Rattle.sysv_session.proofs.OutboxLemmas.{each_once}
 use Rattle.tests_server.proofs.session.conversation.take.Goals as goal
 
@@ -10,7 +10,7 @@ returns g c =
     omega (
       arith,
       c.requires,
-      ap (λ (talk : Talk). taken_in talk.session.tally) c.sent.ensures,
-      ap (λ (talk : Talk). length talk.unsent.marks) c.sent.ensures,
+      ap (λ (dialogue : Dialogue). taken_in dialogue.session.tally) c.sent.ensures,
+      ap (λ (dialogue : Dialogue). length dialogue.unsent.marks) c.sent.ensures,
       each_once c.args.count c.args.conversation.now.unsent.marks,
     )

@@ -1,0 +1,22 @@
+use Rattle.std.proofs.Common.{[], ◌∷◌}
+use mir.Syntax.{named as lifetime}
+use denote.Param.{param}
+use denote.Param.Send.{param_sync, shr_sync}
+use denote.Ref.{ShrRef}
+use Rattle.sysv_service.specs.contracts.service.Service as service
+use Rattle.sysv_bench.proofs.service.part.Part.TheSendSync.{the_send as part_send}
+use Rattle.sysv_service.proofs.Crossing.{pass_send, service_sync, captured_sync, crossing}
+use Rattle.sysv_bench.proofs.service.team.act_all.Lts as lts
+use Rattle.sysv_bench.proofs.service.team.act_all.Goals as goal
+
+pub for_each_mut-requires-send-T : goal.for_each_mut-requires-send-T
+for_each_mut-requires-send-T g c κs within = search (crossing, pass_send, part_send) depth 30
+
+-- Threads may share each part that the closure captures.
+pub for_each_mut-requires-sync-F : goal.for_each_mut-requires-sync-F
+for_each_mut-requires-sync-F g c κs within =
+    let t = captured_sync (ShrRef (lifetime 6) κs.1.1.1.1.1.1.0 (param 0 g.row.R)
+    ∷ ShrRef (lifetime 7) κs.1.1.1.1.1.1.1.0 service.the_row ∷ [])
+    (shr_sync _ _ _ c.type_bounds.sync-R, (shr_sync _ _ _ service_sync, tt)) in
+    param_sync 2 (lts.arg-1-2 g.row.R g.R.laws g.R.Threads-dict g.R.Wait-dict g.R.Clock-dict κs)
+    (record { shared = t.shared })

@@ -1,0 +1,93 @@
+-- The last place's pass is one of the service, its sums are added, and its book is put back.
+use Rattle.std.proofs.Common.{◌≡◌, ◌∙◌, ℕ, ◌+◌, ◌∷◌, [], ◌++◌, map, reverse, ap, arith, length, refl, sym, subst, None}
+use Rattle.std.proofs.lemmas.List.{map-append, reverse-append}
+use Rattle.std.proofs.lemmas.List.Sums.{sum_by_push}
+use Rattle.std.specs.List.{FoldsTo, sum_by}
+use Rattle.sysv_service.specs.Seats.{AreOf}
+use Rattle.sysv_thread_laws.specs.Hiring.{TakesIn}
+use Rattle.sysv_service.specs.Ran.{Pass}
+use Rattle.sysv_engine.specs.declared.sums.Sums.{Sums}
+use Rattle.sysv_engine.specs.Added.{added, capped}
+use Rattle.sysv_engine.specs.Places.{Seated}
+use Rattle.sysv_engine.proofs.SumsOfSessions.{adding_one, all_counted, counting_one, emptied}
+use Rattle.sysv_engine.proofs.Shifts.{but_last, reverse_last, the_last, unpopped}
+use Rattle.sysv_engine.proofs.team.dismiss.Goals as goal
+
+pub into_parts-theirs-requires : goal.into_parts-theirs-requires
+into_parts-theirs-requires g c =
+    the_last (λ (p : Seated g.row.T-Book.Denot g.row.T.Denot). p.client ≡ None) c.pop.new.self.items
+    c.loop-place.places.items c.in-Some.place c.in-Some.ensures.items c.loop-place.invariant.vacant
+
+pub join_pass-requires-clause-other : goal.join_pass-requires-clause-other
+join_pass-requires-clause-other g c =
+    let is = the_last (λ (p : Seated g.row.T-Book.Denot g.row.T.Denot). p.gates ≡ c.args.service.now)
+    c.pop.new.self.items c.loop-place.places.items c.in-Some.place c.in-Some.ensures.items
+    c.loop-place.invariant.places in
+    subst (λ s. AreOf s c.into_parts-theirs.result.0.seats) is c.into_parts-theirs.ensures.fits
+
+pub loop-place-preserved : goal.loop-place-preserved
+loop-place-preserved g c =
+    let S : Type 0 = Seated g.row.T-Book.Denot g.row.T.Denot in
+    let is = c.in-Some.ensures.items in
+    let parts = c.into_parts-theirs.ensures.parts in
+    let of : S → Pass = λ p. p.pass in
+    let sums : S → Sums = λ p. p.sums in
+    let missed : S → ℕ = λ p. p.refused in
+    let book : S → g.row.T-Book.Denot = λ p. p.book in
+    let fewer = ap (map sums) is ∙ map-append sums c.pop.new.self.items (c.in-Some.place ∷ []) in
+    let rest = reverse (map book c.pop.new.self.items) in
+    let booked = ap (λ ps. reverse (map book ps)) is
+    ∙ (ap reverse (map-append book c.pop.new.self.items (c.in-Some.place ∷ []))
+    ∙ reverse_last (map book c.pop.new.self.items) c.in-Some.place.book) in
+    let passes = ap (λ ps. reverse (map of ps)) is
+    ∙ (ap reverse (map-append of c.pop.new.self.items (c.in-Some.place ∷ []))
+    ∙ reverse-append (map of c.pop.new.self.items) (of c.in-Some.place ∷ [])) in
+    let joined : TakesIn c.loop-place.pass (of c.in-Some.place) c.join_pass.new.pass =
+    subst (λ (p : Pass). TakesIn c.loop-place.pass p c.join_pass.new.pass) parts.0
+    (c.join_pass.ensures.joined, c.join_pass.ensures.held) in
+    record {
+      pass = c.join_pass.ensures.pass;
+      places = but_last (λ (p : S). p.gates ≡ c.args.service.now) c.pop.new.self.items c.loop-place.places.items
+          c.in-Some.place is c.loop-place.invariant.places;
+      vacant = but_last (λ (p : S). p.client ≡ None) c.pop.new.self.items c.loop-place.places.items c.in-Some.place is
+          c.loop-place.invariant.vacant;
+      sums = adding_one _ _ _ _ _ _ c.loop-place.invariant.sums fewer
+          (c.add.ensures ∙ ap (added c.loop-place.sums) parts.1);
+      refused = ap (λ n. capped (n + sum_by missed c.pop.new.self.items))
+          (c.saturating_add-refused.ensures ∙ ap (λ n. capped (c.loop-place.refused + n)) parts.2)
+          ∙ (counting_one c.loop-place.refused c.in-Some.place.refused (sum_by missed c.pop.new.self.items)
+          ∙ (ap (λ n. capped (c.loop-place.refused + n))
+          (sym (ap (sum_by missed) is ∙ sum_by_push missed c.pop.new.self.items c.in-Some.place))
+          ∙ c.loop-place.invariant.refused));
+      small = let is = c.saturating_add-refused.ensures in omega arith;
+      takes = λ home rest.
+          c.loop-place.invariant.takes home
+          (subst (λ ps. FoldsTo TakesIn c.loop-place.pass ps home) (sym passes) (c.join_pass.new.pass, joined, rest));
+      books = ap (λ l. l ++ rest) c.push_reserved.ensures.items
+          ∙ (unpopped c.loop-place.books.items c.into_parts-theirs.result.3 rest
+          ∙ (ap (λ b. c.loop-place.books.items ++ b ∷ rest) parts.3
+          ∙ (ap (λ l. c.loop-place.books.items ++ l) (sym booked) ∙ c.loop-place.invariant.books)));
+      room = let room = c.loop-place.invariant.room in let len = c.push_reserved.ensures.len in
+          let same = c.push_reserved.ensures.capacity in let less = c.in-Some.ensures.cases in
+          omega arith;
+    }
+
+pub returns-clause-refused : goal.returns-clause-refused
+returns-clause-refused g c =
+    let missed : Seated g.row.T-Book.Denot g.row.T.Denot → ℕ = λ p. p.refused in
+    let len = c.in_default.ensures.cases.0 in
+    let ok = c.loop-place.places.ok in
+    let none : length c.loop-place.places.items ≡ 0 = omega arith in
+    let empty = ap (sum_by missed) (emptied c.loop-place.places.items none) in
+    all_counted c.loop-place.refused (sum_by missed c.loop-place.places.items)
+    (sum_by missed c.args.places.items) c.loop-place.invariant.small empty c.loop-place.invariant.refused
+
+pub returns-clause-takes : goal.returns-clause-takes
+returns-clause-takes g c =
+    let of : Seated g.row.T-Book.Denot g.row.T.Denot → Pass = λ p. p.pass in
+    let len = c.in_default.ensures.cases.0 in
+    let ok = c.loop-place.places.ok in
+    let none : length c.loop-place.places.items ≡ 0 = omega arith in
+    c.loop-place.invariant.takes c.loop-place.pass
+    (subst (λ ps. FoldsTo TakesIn c.loop-place.pass (reverse (map of ps)) c.loop-place.pass)
+    (sym (emptied c.loop-place.places.items none)) refl)

@@ -1,0 +1,66 @@
+-- Sessions, each with the bytes that it read and wrote (this project's profile).
+use Rattle.std.specs.Prelude.{◌≡◌, ℕ, ⊤, List, Option, None, Some}
+use Rattle.sysv_queue.specs.Tally.{Tallied}
+use Rattle.sysv_session.specs.declared.served.Served.{Served}
+use Rattle.sysv_service.specs.Ran.{Pass}
+use Rattle.sysv_seats.specs.Asked.{ServesPassTogether}
+use Rattle.sysv_seats.specs.Breaking.{MayTell}
+use Rattle.sysv_seats.specs.Sits.{IsBehind, zero_moment}
+use Rattle.sysv_seats.specs.Untold.{Closing}
+use Rattle.sysv_engine.specs.Made.{Log, ServesLog}
+
+-- One session: what it reported, if anything; the bytes that could still be read before it and
+-- after it; and the bytes that were written before it and after it. The bytes are known if the
+-- connection tells them.
+pub record Dialogue : Type 0 where
+  pub told : Option Served
+  pub left : Option (List ℕ)
+  pub rest : Option (List ℕ)
+  pub taken : Option (List ℕ)
+  pub more : Option (List ℕ)
+
+-- A session that reported this, whose replies were gathered, led from the one pass to the other.
+-- Without a report its memory was refused; it read nothing, wrote nothing, and made no call.
+abbrev pub ConversesAs : Pass → Option Served → (left rest taken more : Option (List ℕ)) → Pass → Type 0
+ConversesAs before None left rest taken more after = (after ≡ before) × (rest ≡ left) × (more ≡ taken)
+ConversesAs before (Some served) left rest taken more after =
+    ServesPassTogether zero_moment ⊤ served before after left rest taken more
+
+-- The session led from the one pass to the other. Its client may leave a call that waits.
+abbrev pub Converses : Pass → Dialogue → Pass → Type 0
+Converses before dialogue after =
+    ConversesAs before dialogue.told dialogue.left dialogue.rest dialogue.taken dialogue.more after
+
+-- The tally of a session: the messages that it wrote and lost.
+abbrev pub tally_of : Option Served → Tallied
+tally_of None = record { written = 0; lost = 0 }
+tally_of (Some served) = served.tally
+
+-- ---- the calls of the service
+
+-- A session that reported this made these calls.
+abbrev pub ConversesAsIn : Log → Option Served → (left rest taken more : Option (List ℕ)) → Log → Type 0
+ConversesAsIn before None left rest taken more after = (after ≡ before) × (rest ≡ left) × (more ≡ taken)
+ConversesAsIn before (Some served) left rest taken more after =
+    ServesLog zero_moment ⊤ served before after left rest taken more
+
+-- The session made these calls.
+abbrev pub ConversesIn : Log → Dialogue → Log → Type 0
+ConversesIn before dialogue after =
+    ConversesAsIn before dialogue.told dialogue.left dialogue.rest dialogue.taken dialogue.more after
+
+-- ---- the connection
+
+-- The session was one over this very connection: it began with the bytes that the connection had, and
+-- ended for a reason that there is. So it did not end with `Fault(Read)` unless reading from the
+-- connection may break off, nor with `Reset` unless its client may reset it, nor with `Write` or `Left`
+-- unless writing to it may break off.
+abbrev pub IsOn : {T B : Type 0} → (incoming outgoing : T → Option (List ℕ)) → Closing T B → T → Dialogue → Type 0
+IsOn incoming outgoing closes connection dialogue = (dialogue.left ≡ incoming connection)
+    × (dialogue.taken ≡ outgoing connection) × MayTell (closes.breaks connection) dialogue.told
+
+-- The connection of the session was closed with what the session had written, and with the bytes
+-- that the session left, except those that were read ahead.
+abbrev pub Closes : {T B : Type 0} → Closing T B → B → Dialogue → B → Type 0
+Closes closes book dialogue book' =
+    (kept : Option (List ℕ)) × IsBehind dialogue.rest kept × closes.leaves book kept dialogue.more book'

@@ -1,0 +1,42 @@
+//! A doorbell: one thread rings it, and others wait for it in a `poll`.
+use libc::net::{EFD_CLOEXEC, EFD_NONBLOCK, eventfd};
+use libc::{close, read, write};
+
+/// What a ring adds to the counter behind the doorbell's descriptor.
+const ONE: u64 = 1;
+
+/// A doorbell. Its descriptor can be read from a ring until the doorbell is hushed.
+pub(crate) struct Doorbell {
+    fd: i32,
+}
+
+impl Doorbell {
+    /// Opens a doorbell. Returns `None` if the system refuses a descriptor.
+    pub(crate) fn open() -> Option<Doorbell> {
+        let fd = eventfd(0, EFD_CLOEXEC | EFD_NONBLOCK);
+        if fd < 0 { None } else { Some(Doorbell { fd }) }
+    }
+
+    /// Returns the descriptor.
+    pub(crate) fn fd(&self) -> i32 {
+        self.fd
+    }
+
+    /// Rings the doorbell.
+    pub(crate) fn ring(&self) {
+        write(self.fd, &ONE.to_ne_bytes());
+    }
+
+    /// Ends the ringing.
+    pub(crate) fn hush(&self) {
+        let mut rings = ONE.to_ne_bytes();
+        read(self.fd, &mut rings);
+    }
+}
+
+impl Drop for Doorbell {
+    fn drop(self) {
+        let Doorbell { fd } = self;
+        close(fd);
+    }
+}

@@ -1,0 +1,136 @@
+//! The places of a server: a pass is split off for each, and joined back at the end.
+ghost use Rattle.std.specs.Prelude.{◌≡◌, ◌≤◌, ◌+◌, ◌++◌, map, reverse, vec_len, vec_capacity, [], None};
+ghost use Rattle.std.specs.List.{All, FoldsTo, list_all, sum_by};
+ghost use Rattle.sysv_service.specs.Seats.{AreOf};
+ghost use Rattle.sysv_thread_laws.specs.Hiring.{Gives, TakesIn};
+ghost use Rattle.sysv_engine.specs.Added.{all_added, capped};
+ghost use Rattle.sysv_engine.specs.Places.{IsOpened, KeepsAll, is_vacant};
+
+use crate::moment::pause;
+use crate::place::Place;
+use crate::sums::Sums;
+use crate::watch::ROUND_MILLIS;
+use std::alloc::Global;
+use std::sync::Wait;
+use sysv_seats::{NonBlocking, Tools};
+use sysv_service::{Pass, Service};
+
+/// Fills `places` with a place for each of the last books, as many as it has room for, in the order
+/// of the books. A pass is split off from `pass` for each, for the last one first.
+pub(crate) fn hire<'a, R: Wait, T: NonBlocking>(
+    rt: &'a R,
+    alloc: Global,
+    service: &'a Service,
+    pass: &mut Pass,
+    books: &mut Vec<T::Book>,
+    places: &mut Vec<Place<'a, R, T>>,
+)
+    requires pass { AreOf service.now pass.old.seats }
+    requires none { places.old.items ≡ [] }
+    requires enough { vec_capacity places.old ≤ vec_len books.old }
+    ensures pass { AreOf service.now pass.new.seats }
+    ensures places { All (IsOpened service.now) places.new.items }
+    ensures count { vec_len places.new ≡ vec_capacity places.old }
+    ensures books { books.old.items ≡ books.new.items ++ map (λ p. p.book) places.new.items }
+    ensures room { vec_capacity books.new ≡ vec_capacity books.old }
+    ensures gives { FoldsTo Gives pass.old
+        (reverse (map (λ p. p.pass) places.new.items)) pass.new }
+{
+    for _ in 0..places.capacity() {
+        let Some(book) = books.pop() else {
+            unreachable!()
+        };
+        let Ok(theirs) = service.split_pass(alloc, pass) else {
+            unreachable!()
+        };
+        places.push_reserved(Place::new(rt, service, theirs, book));
+    }
+    places.reverse();
+}
+
+/// Serves the clients that are left in the places until each may be closed, and closes them. After
+/// a run of the workers there are none, unless the run was refused. There are tools if there are
+/// places.
+pub(crate) fn vacate<R: Wait, T: NonBlocking>(
+    rt: &R,
+    places: &mut Vec<Place<'_, R, T>>,
+    tools: &mut Option<Tools>,
+)
+    ensures keeps { KeepsAll T.incoming T.outgoing T.closes places.old.items places.new.items }
+    ensures vacant { All (λ p. p.client ≡ None) places.new.items }
+    ensures count { vec_len places.new ≡ vec_len places.old }
+{
+    for _ in rt.forever() {
+        close_all(places);
+        if are_vacant(places) {
+            return;
+        }
+        serve_all(places, tools);
+        pause(ROUND_MILLIS);
+    }
+}
+
+/// Closes each client that may be closed.
+fn close_all<R: Wait, T: NonBlocking>(places: &mut Vec<Place<'_, R, T>>)
+    ensures keeps { KeepsAll T.incoming T.outgoing T.closes places.old.items places.new.items }
+    ensures count { vec_len places.new ≡ vec_len places.old }
+{
+    for at in 0..places.len() {
+        places[at].close();
+    }
+}
+
+/// Continues the parked call of each client, and takes up and answers what has arrived.
+fn serve_all<R: Wait, T: NonBlocking>(places: &mut Vec<Place<'_, R, T>>, tools: &mut Option<Tools>)
+    ensures keeps { KeepsAll T.incoming T.outgoing T.closes places.old.items places.new.items }
+    ensures count { vec_len places.new ≡ vec_len places.old }
+{
+    let Some(tools) = tools else {
+        return;
+    };
+    for at in 0..places.len() {
+        places[at].serve(tools);
+    }
+}
+
+/// Returns whether there are no clients in the places.
+fn are_vacant<R: Wait, T: NonBlocking>(places: &[Place<'_, R, T>]) -> bool
+    ensures { result ≡ list_all is_vacant places.now }
+{
+    places.iter().all(|place| !place.is_taken())
+}
+
+/// Joins the passes of all these places, which are vacant, into `pass`, and puts their books into
+/// `books`. Returns the sum of their sums, and the number of their sessions whose memory was
+/// refused.
+pub(crate) fn dismiss<R: Wait, T: NonBlocking>(
+    service: &Service,
+    pass: &mut Pass,
+    places: Vec<Place<'_, R, T>>,
+    books: &mut Vec<T::Book>,
+) -> (Sums, u64)
+    requires pass { AreOf service.now pass.old.seats }
+    requires places { All (λ p. p.gates ≡ service.now) places.items }
+    requires vacant { All (λ p. p.client ≡ None) places.items }
+    requires room { vec_len books.old + vec_len places ≤ vec_capacity books.old }
+    ensures pass { AreOf service.now pass.new.seats }
+    ensures sums { result.0 ≡ all_added (map (λ p. p.sums) places.entry.items) }
+    ensures refused { result.1 ≡ capped (sum_by (λ p. p.refused) places.entry.items) }
+    ensures books { books.new.items
+        ≡ books.old.items ++ reverse (map (λ p. p.book) places.entry.items) }
+    ensures takes { FoldsTo TakesIn pass.old
+        (reverse (map (λ p. p.pass) places.entry.items)) pass.new }
+{
+    let mut places = places;
+    let mut sums = Sums::open();
+    let mut refused: u64 = 0;
+    while let Some(place) = places.pop() {
+        let (theirs, more, missed, book) = place.into_parts();
+        service.join_pass(pass, theirs);
+        sums.add(more);
+        refused = refused.saturating_add(missed);
+        books.push_reserved(book);
+    }
+    places.destroy_empty();
+    (sums, refused)
+}

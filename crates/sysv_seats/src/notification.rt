@@ -1,0 +1,117 @@
+//! What a call may have changed for calls that wait.
+ghost use Rattle.std.specs.Prelude.{◌≡◌};
+ghost use Rattle.sysv_seats.specs.Notification.{changed_by, freed_by, is_done as does, told_at, told_by};
+
+use crate::waiting::Waiting;
+use sysv_keys::slot_of_id;
+use sysv_service::SendWait;
+use sysv_session::RequestOutcome;
+use sysv_wire::{Ask, ReplyContent, Request};
+
+/// What a call may have changed for calls that wait.
+#[derive(Clone, Copy, PartialEq, Eq, Debug)]
+pub enum Notification {
+    /// A message of this type was placed on the queue of this slot.
+    Arrived {
+        /// The slot, below `sysv_keys::SLOTS`.
+        slot: usize,
+        /// The message's type.
+        mtype: i64,
+    },
+    /// A message of this type was taken from the queue of this slot.
+    Freed {
+        /// The slot, below `sysv_keys::SLOTS`.
+        slot: usize,
+        /// The message's type.
+        mtype: i64,
+    },
+    /// Blocks were returned to the pool, or a queue was set or removed.
+    Released,
+    /// The queue of this slot was set or removed.
+    Changed {
+        /// The slot, below `sysv_keys::SLOTS`.
+        slot: usize,
+    },
+}
+
+/// What one call may have changed: at most two things.
+#[derive(Clone, Copy, PartialEq, Eq, Debug)]
+pub struct Told {
+    /// What it may have changed at a slot.
+    pub there: Option<Notification>,
+    /// Whether it may have raised the released count of the pool.
+    pub released: bool,
+}
+
+impl Told {
+    /// Returns what a call changes that has come to this wait. A send that waits for room may have
+    /// reserved blocks and returned them.
+    pub(crate) fn by_wait(waiting: &Waiting) -> Told
+        ensures { result ≡ told_at waiting.now }
+    {
+        Told {
+            there: None,
+            released: matches!(waiting, Waiting::Send(SendWait::Room { .. })),
+        }
+    }
+
+    /// Returns what a call changes that is over. A refused send may have reserved blocks and
+    /// returned them. A set of a queue counts as a return of blocks, so that sends that wait for
+    /// blocks look at the queue again.
+    pub(crate) fn by_end(request: &Request, outcome: &RequestOutcome) -> Told
+        ensures { result ≡ told_by request.now.ask outcome.now }
+    {
+        Told {
+            there: there(request, outcome),
+            released: match request.ask {
+                Ask::Snd { .. } => !is_done(outcome),
+                Ask::Rcv { .. } | Ask::Set { .. } | Ask::Rm { .. } => is_done(outcome),
+                _ => false,
+            },
+        }
+    }
+}
+
+/// Returns what the call changed at a slot.
+fn there(request: &Request, outcome: &RequestOutcome) -> Option<Notification>
+    ensures { result ≡ changed_by request.now.ask outcome.now }
+{
+    match request.ask {
+        Ask::Rcv { id, .. } => freed(id, outcome),
+        Ask::Snd { id, mtype, .. } if is_done(outcome) => Some(Notification::Arrived {
+            slot: slot_of_id(id),
+            mtype,
+        }),
+        Ask::Set { id, .. } if is_done(outcome) => Some(Notification::Changed {
+            slot: slot_of_id(id),
+        }),
+        Ask::Rm { id } if is_done(outcome) => Some(Notification::Changed {
+            slot: slot_of_id(id),
+        }),
+        _ => None,
+    }
+}
+
+/// Returns what a receive of this queue changed.
+fn freed(id: i32, outcome: &RequestOutcome) -> Option<Notification>
+    ensures { result ≡ freed_by id outcome.now }
+{
+    match outcome {
+        RequestOutcome::Got(delivery) => Some(Notification::Freed {
+            slot: slot_of_id(id),
+            mtype: delivery.mtype(),
+        }),
+        _ => None,
+    }
+}
+
+/// Returns whether the call did what was requested.
+fn is_done(outcome: &RequestOutcome) -> bool
+    ensures { result ≡ does outcome.now }
+{
+    match outcome {
+        RequestOutcome::Reply(reply) => !matches!(reply.result, ReplyContent::Refused(_)),
+        RequestOutcome::Got(_) => true,
+        RequestOutcome::Left => false,
+    }
+}

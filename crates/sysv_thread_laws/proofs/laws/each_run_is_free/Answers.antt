@@ -1,5 +1,0 @@
-use Rattle.sysv_thread_laws.proofs.RunIsFree as run
-use Rattle.sysv_thread_laws.proofs.laws.each_run_is_free.Goals as goal
-
-pub returns : goal.returns
-returns c = run.each_run_is_free

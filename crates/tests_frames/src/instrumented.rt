@@ -1,0 +1,205 @@
+//! Instrumented streams.
+use std::io;
+use std::io::{ErrorKind, Read, Write};
+use sysv_model::{Instrumented, WriteFault};
+use tests_kit::Page;
+
+/// A stream that returns and takes one byte, and then fails, or takes nothing if it stalls.
+#[derive(Drop)]
+struct Once {
+    is_over: bool,
+    stalls: bool,
+}
+
+impl Once {
+    /// Returns the number of bytes that it returns or takes.
+    fn step(&mut self) -> io::Result<usize> {
+        if !self.is_over {
+            self.is_over = true;
+            return Ok(1);
+        }
+        if self.stalls {
+            return Ok(0);
+        }
+        Err(io::Error::from(ErrorKind::TimedOut))
+    }
+}
+
+impl Read for Once {
+    fn read(&mut self, buf: &mut [u8]) -> io::Result<usize> {
+        Ok(self.step()?.min(buf.len()))
+    }
+}
+
+impl Write for Once {
+    fn write(&mut self, buf: &[u8]) -> io::Result<usize> {
+        Ok(self.step()?.min(buf.len()))
+    }
+
+    fn flush(&mut self) -> io::Result<()> {
+        self.step()?;
+        Ok(())
+    }
+}
+
+#[test]
+fn each_failed_read_is_counted(rt: HostRuntime) {
+    let mut bytes = [0; 4];
+    let mut stream = Once {
+        is_over: false,
+        stalls: false,
+    };
+    let mut reader = Instrumented::new(&mut stream);
+    assert!(rt; matches!(reader.read(&mut bytes), Ok(1)));
+    assert!(rt; reader.failures() == 0);
+    assert!(rt; reader.read(&mut bytes).is_err());
+    assert_eq!(rt; reader.failures(), 1);
+    assert!(rt; reader.read(&mut bytes).is_err());
+    assert_eq!(rt; reader.failures(), 2);
+}
+
+#[test]
+fn the_end_of_a_reader_is_no_failure(rt: HostRuntime) {
+    let mut bytes = [0; 4];
+    let mut stream = b"hi".as_slice();
+    let mut reader = Instrumented::new(&mut stream);
+    assert!(rt; matches!(reader.read(&mut bytes), Ok(2)));
+    assert!(rt; matches!(reader.read(&mut bytes), Ok(0)));
+    assert!(rt; reader.failures() == 0);
+    assert!(rt; bytes == *b"hi\0\0");
+}
+
+#[test]
+fn each_failed_write_is_counted(rt: HostRuntime) {
+    for stalls in [false, true] {
+        let mut stream = Once {
+            is_over: false,
+            stalls,
+        };
+        let mut writer = Instrumented::new(&mut stream);
+        assert!(rt; matches!(writer.write(b"hi"), Ok(1)));
+        assert!(rt; writer.failures() == 0);
+        assert_eq!(rt; writer.write(b"i").is_ok(), stalls);
+        assert_eq!(rt; writer.failures(), 1);
+    }
+}
+
+#[test]
+fn a_write_of_nothing_is_no_failure(rt: HostRuntime) {
+    let mut stream = Once {
+        is_over: true,
+        stalls: true,
+    };
+    let mut writer = Instrumented::new(&mut stream);
+    assert!(rt; matches!(writer.write(b""), Ok(0)));
+    assert!(rt; writer.flush().is_ok());
+    assert!(rt; writer.failures() == 0);
+}
+
+#[test]
+fn a_failed_flush_is_counted(rt: HostRuntime) {
+    let mut stream = Once {
+        is_over: true,
+        stalls: false,
+    };
+    let mut writer = Instrumented::new(&mut stream);
+    assert!(rt; writer.flush().is_err());
+    assert_eq!(rt; writer.failures(), 1);
+}
+
+/// Is interrupted at its first call, and gives and takes all after that.
+#[derive(Drop)]
+struct Interrupted {
+    calls: u32,
+}
+
+impl Interrupted {
+    /// Fails at the first call.
+    fn step(&mut self) -> io::Result<()> {
+        self.calls = self.calls.saturating_add(1);
+        match self.calls {
+            1 => Err(io::Error::from(ErrorKind::Interrupted)),
+            _ => Ok(()),
+        }
+    }
+}
+
+impl Read for Interrupted {
+    fn read(&mut self, buf: &mut [u8]) -> io::Result<usize> {
+        self.step()?;
+        Ok(buf.len())
+    }
+}
+
+impl Write for Interrupted {
+    fn write(&mut self, buf: &[u8]) -> io::Result<usize> {
+        self.step()?;
+        Ok(buf.len())
+    }
+
+    fn flush(&mut self) -> io::Result<()> {
+        self.step()
+    }
+}
+
+/// Whether this is the error of a call that was interrupted.
+fn is_interrupted<T>(end: &io::Result<T>) -> bool {
+    matches!(end, Err(error) if error.kind() == ErrorKind::Interrupted)
+}
+
+#[test]
+fn an_interrupted_read_is_not_tried_again(rt: HostRuntime) {
+    let mut bytes = [0; 4];
+    let mut stream = Interrupted { calls: 0 };
+    let mut reader = Instrumented::new(&mut stream);
+    assert!(rt; is_interrupted(&reader.read(&mut bytes)));
+    assert_eq!(rt; reader.failures(), 1);
+    assert!(rt; matches!(reader.read(&mut bytes), Ok(4)));
+    assert_eq!(rt; reader.failures(), 1);
+    assert_eq!(rt; stream.calls, 2);
+}
+
+#[test]
+fn an_interrupted_write_is_not_tried_again(rt: HostRuntime) {
+    let mut stream = Interrupted { calls: 0 };
+    let mut writer = Instrumented::new(&mut stream);
+    assert!(rt; is_interrupted(&writer.write(b"hi")));
+    assert_eq!(rt; writer.failures(), 1);
+    assert!(rt; matches!(writer.write(b"hi"), Ok(2)));
+    assert_eq!(rt; writer.failures(), 1);
+    assert_eq!(rt; stream.calls, 2);
+}
+
+#[test]
+fn an_interrupted_flush_is_not_tried_again(rt: HostRuntime) {
+    let mut stream = Interrupted { calls: 0 };
+    let mut writer = Instrumented::new(&mut stream);
+    assert!(rt; is_interrupted(&writer.flush()));
+    assert_eq!(rt; writer.failures(), 1);
+    assert!(rt; writer.flush().is_ok());
+    assert_eq!(rt; writer.failures(), 1);
+    assert_eq!(rt; stream.calls, 2);
+}
+
+#[test]
+fn an_interrupted_write_of_all_bytes_is_not_tried_again(rt: HostRuntime) {
+    let mut stream = Interrupted { calls: 0 };
+    let mut writer = Instrumented::new(&mut stream);
+    assert_eq!(rt; writer.write_out(b"hello"), Err(WriteFault));
+    assert_eq!(rt; writer.failures(), 1);
+    assert_eq!(rt; writer.write_out(b"hello"), Ok(()));
+    assert_eq!(rt; writer.failures(), 1);
+    assert_eq!(rt; stream.calls, 2);
+}
+
+#[test]
+fn all_bytes_are_written_in_pieces(rt: HostRuntime) {
+    let mut page = Page::taking(2, 7, false);
+    let mut writer = Instrumented::new(&mut page);
+    assert_eq!(rt; writer.write_out(b"hello"), Ok(()));
+    assert_eq!(rt; writer.failures(), 0);
+    assert_eq!(rt; writer.write_out(b""), Ok(()));
+    assert_eq!(rt; writer.write_out(b"world"), Err(WriteFault));
+    assert_eq!(rt; writer.failures(), 1);
+    assert!(rt; page.written() == b"hellowo".as_slice());
+}
