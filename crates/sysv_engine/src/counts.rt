@@ -18,6 +18,8 @@ pub(crate) struct Counts {
     /// The numbers of messages that sessions which are over took, and of those written and lost.
     written: AtomicU64,
     lost: AtomicU64,
+    /// The number of blocks that calls of the worker reserved and did not release, modulo 2^64.
+    in_use: AtomicU64,
 }
 
 /// What the workers have counted at a slot.
@@ -49,6 +51,9 @@ pub struct Counted {
     /// The number of messages that were taken and whose reply was not written whole, in sessions
     /// that are over.
     pub lost: u64,
+    /// The number of blocks in use, modulo 2^64. While calls are made, it may be below 0 or above
+    /// the number of blocks of the pool.
+    pub in_use: u64,
 }
 
 /// Messages that moved, all of them to one queue or all of them from one queue.
@@ -105,6 +110,7 @@ impl Counts {
             moved: zeros(alloc, BLOCKS_WORD)?,
             written: AtomicU64::new(0),
             lost: AtomicU64::new(0),
+            in_use: AtomicU64::new(0),
         })
     }
 
@@ -112,6 +118,13 @@ impl Counts {
     pub(crate) fn set_parked(&self, word: usize, count: u64) {
         if let Some(parked) = self.parked.get(word) {
             parked.store(count, Ordering::SeqCst);
+        }
+    }
+
+    /// Counts blocks that calls of the worker reserved, less those that they released.
+    pub(crate) fn count_blocks(&self, more: u64) {
+        if more != 0 {
+            self.in_use.fetch_add(more, Ordering::SeqCst);
         }
     }
 
@@ -153,6 +166,7 @@ impl Counts {
             .written
             .wrapping_add(self.written.load(Ordering::SeqCst));
         sum.lost = sum.lost.wrapping_add(self.lost.load(Ordering::SeqCst));
+        sum.in_use = sum.in_use.wrapping_add(self.in_use.load(Ordering::SeqCst));
     }
 }
 

@@ -250,6 +250,12 @@ impl<'a, R: Wait, T: NonBlocking> Place<'a, R, T> {
         Some(Key::of(&waiting, client.parked_length()))
     }
 
+    /// Returns the number of blocks that calls at the place reserved and did not release, modulo
+    /// 2^64.
+    pub(crate) fn blocks_in_use(&self) -> u64 {
+        self.handler.blocks_in_use()
+    }
+
     /// Returns whether there is a client.
     pub(crate) fn is_taken(&self) -> bool
         ensures { result ≡ is_some self.now.client }

@@ -155,9 +155,33 @@ impl<'a, 'c, R: Wait> Serving<'a, 'c, R> {
         if !worker.is_taken(place) {
             return;
         }
+        let before = worker.blocks_in_use(place);
         worker.take_turn(place);
+        self.count_blocks(worker, place, before);
         self.settle(worker, place);
         self.spread(worker);
+    }
+
+    /// Continues a client's parked call, if it may go on.
+    fn go_on<T: NonBlocking, W: Watch<T>>(&self, worker: &mut Worker<'_, R, T, W>, place: usize)
+        ensures { KeepsAll T.incoming T.outgoing T.closes worker.old.places.items
+            worker.new.places.items }
+    {
+        let before = worker.blocks_in_use(place);
+        worker.go_on(place);
+        self.count_blocks(worker, place, before);
+    }
+
+    /// Counts the blocks that calls at a place have reserved since `before` were in use, less those
+    /// that they have released.
+    fn count_blocks<T: NonBlocking, W: Watch<T>>(
+        &self,
+        worker: &Worker<'_, R, T, W>,
+        place: usize,
+        before: u64,
+    ) {
+        let more = worker.blocks_in_use(place).wrapping_sub(before);
+        self.server.count_blocks(worker.number, more);
     }
 
     /// Puts a client where it belongs after an event.
@@ -215,7 +239,7 @@ impl<'a, 'c, R: Wait> Serving<'a, 'c, R> {
         worker.lines.enter(place, key);
         self.count_parked(worker, key.word());
         self.server.mark(key.word(), worker.number);
-        worker.go_on(place);
+        self.go_on(worker, place);
         true
     }
 
@@ -569,7 +593,7 @@ impl<'a, 'c, R: Wait> Serving<'a, 'c, R> {
             worker.new.places.items }
     {
         worker.leave_if_gone(place);
-        worker.go_on(place);
+        self.go_on(worker, place);
         if worker.key(place).is_some() {
             self.settle(worker, place);
             self.collect(worker);

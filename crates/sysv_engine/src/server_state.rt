@@ -238,6 +238,13 @@ impl ServerState {
         }
     }
 
+    /// Counts blocks that calls of the worker reserved, less those that they released, modulo 2^64.
+    pub(crate) fn count_blocks(&self, worker: usize, more: u64) {
+        if let Some(post) = self.posts.get(worker) {
+            post.counts.count_blocks(more);
+        }
+    }
+
     /// Counts messages that moved by calls of the worker.
     pub(crate) fn count(&self, worker: usize, moved: Moved) {
         if let Some(post) = self.posts.get(worker) {
@@ -272,6 +279,7 @@ impl ServerState {
             for_blocks: 0,
             written: 0,
             lost: 0,
+            in_use: 0,
         };
         for post in &self.posts {
             post.counts.add_all(&mut sum);

@@ -228,6 +228,15 @@ impl<'a, R: Wait, T: NonBlocking, W: Watch<T>> Worker<'a, R, T, W> {
         self.places.get(place)?.key()
     }
 
+    /// Returns the number of blocks that calls at the place reserved and did not release, modulo
+    /// 2^64.
+    pub(crate) fn blocks_in_use(&self, place: usize) -> u64 {
+        match self.places.get(place) {
+            Some(there) => there.blocks_in_use(),
+            None => 0,
+        }
+    }
+
     /// Returns when the client's time is over.
     pub(crate) fn due(&self, place: usize) -> Option<Moment> {
         self.places.get(place)?.due()

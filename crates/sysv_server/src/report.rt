@@ -1,4 +1,5 @@
 //! The state of a server as text.
+ghost use Rattle.std.specs.Prelude.{◌≡◌, ◌≤◌, ◌+◌};
 ghost use Rattle.sysv_engine.specs.Looks.{Looks};
 
 use itoa::{Buffer, Integer};
@@ -29,7 +30,7 @@ enum Kind {
 type Metric = (&'static str, &'static str, Kind, &'static str);
 
 /// The numbers of a server, in the order of `numbers`.
-const OF_SERVER: [Metric; 12] = [
+const OF_SERVER: [Metric; 13] = [
     (
         "sessions",
         "sysvmsg_sessions_open",
@@ -101,6 +102,12 @@ const OF_SERVER: [Metric; 12] = [
         "sysvmsg_pool_blocks",
         Kind::Gauge,
         "The blocks of the pool, free or not.",
+    ),
+    (
+        "free_blocks",
+        "sysvmsg_pool_free_blocks",
+        Kind::Gauge,
+        "The free blocks of the pool.",
     ),
 ];
 
@@ -284,6 +291,7 @@ fn numbers(counted: &Counted, admission: &Admission) -> [u64; OF_SERVER.len()] {
         for_blocks,
         written,
         lost,
+        in_use,
     } = *counted;
     let Admission {
         blocks,
@@ -303,7 +311,21 @@ fn numbers(counted: &Counted, admission: &Admission) -> [u64; OF_SERVER.len()] {
         written,
         lost,
         u64::from(blocks),
+        free_of(blocks, in_use),
     ]
+}
+
+/// Returns the number of free blocks in a pool of `blocks` blocks if `in_use`, modulo 2^64, are in
+/// use. If that is below 0, all are free, and if it is above `blocks`, none is.
+fn free_of(blocks: u32, in_use: u64) -> u64
+    ensures within { result ≤ blocks }
+    ensures exact { in_use ≤ blocks → result + in_use ≡ blocks }
+{
+    match u64::from(blocks).checked_sub(in_use) {
+        Some(free) => free,
+        None if in_use > i64::MAX as u64 => u64::from(blocks),
+        None => 0,
+    }
 }
 
 /// Text that grows. Each call returns `None` if memory is refused.
