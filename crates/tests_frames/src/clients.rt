@@ -134,8 +134,8 @@ impl Dialogue {
         if self.screen.text() != b"sysvmsg: no memory\n".as_slice() {
             return status;
         }
-        assert_eq!(rt; status, 1);
-        assert_eq!(rt; (self.replies.read, self.requests.len()), (0, 0));
+        assert_is(rt, status, 1);
+        assert_is(rt, (self.replies.read, self.requests.len()), (0, 0));
         self.screen.bytes.clear();
         self.screen.flushed = 0;
         run_client(
@@ -233,7 +233,7 @@ fn a_queue_is_removed_by_its_identifier(rt: HostRuntime) {
         rt.alloc(),
         &[HELLO, b"\0\0\0\x06\x02\x06\x7f\xff\xff\xff"],
     );
-    assert!(rt; dialogue.requests.text() == wanted.text());
+    assert_is(&rt, dialogue.requests.text(), wanted.text());
     assert_is(&rt, dialogue.requests.flushed, 2);
     assert_is(&rt, dialogue.replies.read, 18);
     assert_is(&rt, dialogue.screen.len(), 0);
@@ -244,7 +244,11 @@ fn a_queue_is_removed_by_its_key(rt: HostRuntime) {
     let mut dialogue = Dialogue::new(&rt, rt.alloc(), &[WELCOME, GOT, REMOVED, b"more"]);
     let status = dialogue.run(&rt, rt.alloc(), Task::Remove(Target::Key(7)));
     assert_is(&rt, status, 0);
-    assert!(rt; dialogue.requests.text() == joined(&rt, rt.alloc(), &[HELLO, GET, REMOVE]).text());
+    assert_is(
+        &rt,
+        dialogue.requests.text(),
+        joined(&rt, rt.alloc(), &[HELLO, GET, REMOVE]).text(),
+    );
     assert_is(&rt, dialogue.requests.flushed, 3);
     assert_is(&rt, dialogue.replies.read, 29);
     assert_is(&rt, dialogue.screen.len(), 0);
@@ -303,17 +307,21 @@ fn the_longest_text_is_sent(rt: HostRuntime) {
             &text,
         ],
     );
-    assert!(rt; dialogue.requests.text() == wanted.text());
-    assert!(rt; dialogue.screen.text() == b"sysvmsg: EINVAL\n".as_slice());
+    assert_is(&rt, dialogue.requests.text(), wanted.text());
+    assert_is(&rt, dialogue.screen.text(), b"sysvmsg: EINVAL\n".as_slice());
 }
 
 #[test]
 fn a_message_is_received(rt: HostRuntime) {
     let mut dialogue = Dialogue::new(&rt, rt.alloc(), &[WELCOME, GOT, MESSAGE]);
     assert_is(&rt, dialogue.run(&rt, rt.alloc(), RECEIVE_ANY), 0);
-    assert!(rt; dialogue.requests.text() == joined(&rt, rt.alloc(), &[HELLO, GET, RECEIVE]).text());
+    assert_is(
+        &rt,
+        dialogue.requests.text(),
+        joined(&rt, rt.alloc(), &[HELLO, GET, RECEIVE]).text(),
+    );
     assert_is(&rt, dialogue.requests.flushed, 3);
-    assert!(rt; dialogue.screen.text() == b"abc\n".as_slice());
+    assert_is(&rt, dialogue.screen.text(), b"abc\n".as_slice());
     assert_is(&rt, dialogue.screen.flushed, 1);
 }
 
@@ -341,8 +349,8 @@ fn a_receive_says_what_is_wanted(rt: HostRuntime) {
             b"\0\0\0\x16\x02\x03\0\0\0\x40\xff\xff\xff\xff\xff\xff\xff\xff\xff\xff\xff\xfb\0\0\x18\0",
         ],
     );
-    assert!(rt; dialogue.requests.text() == wanted.text());
-    assert!(rt; dialogue.screen.text() == b"\n".as_slice());
+    assert_is(&rt, dialogue.requests.text(), wanted.text());
+    assert_is(&rt, dialogue.screen.text(), b"\n".as_slice());
 }
 
 #[test]
@@ -352,7 +360,11 @@ fn the_longest_message_is_received(rt: HostRuntime) {
     let mut dialogue = Dialogue::new(&rt, rt.alloc(), &[WELCOME, GOT, front, &text]);
     dialogue.replies.piece = 100;
     assert_is(&rt, dialogue.run(&rt, rt.alloc(), RECEIVE_ANY), 0);
-    assert!(rt; dialogue.screen.text() == joined(&rt, rt.alloc(), &[&text, b"\n"]).text());
+    assert_is(
+        &rt,
+        dialogue.screen.text(),
+        joined(&rt, rt.alloc(), &[&text, b"\n"]).text(),
+    );
 }
 
 /// Returns the streams of a client whose server has queues in slots 0 and 63.
@@ -374,9 +386,13 @@ fn queues_are_listed(rt: HostRuntime) {
         wanted.put(b"\0\0\0\x06\x02\x07\0\0\0");
         wanted.put(&[slot]);
     }
-    assert!(rt; dialogue.requests.text() == wanted.text());
+    assert_is(&rt, dialogue.requests.text(), wanted.text());
     assert_is(&rt, dialogue.requests.flushed, 2);
-    assert!(rt; dialogue.screen.text() == joined(&rt, rt.alloc(), &[HEAD, LINE, WIDE_LINE]).text());
+    assert_is(
+        &rt,
+        dialogue.screen.text(),
+        joined(&rt, rt.alloc(), &[HEAD, LINE, WIDE_LINE]).text(),
+    );
 }
 
 #[test]
@@ -389,7 +405,7 @@ fn no_queue_is_listed(rt: HostRuntime) {
     dialogue.requests.piece = 5;
     dialogue.screen.piece = 1;
     assert_is(&rt, dialogue.run(&rt, rt.alloc(), LIST), 0);
-    assert!(rt; dialogue.screen.text() == HEAD);
+    assert_is(&rt, dialogue.screen.text(), HEAD);
 }
 
 /// Returns a tape with a hello and the requests for the rows of this number of slots.
@@ -428,10 +444,10 @@ fn a_server_says_that_it_has_the_most_slots(rt: HostRuntime) {
     let welcome = b"\0\0\0\x07\x02\0\0\xff\xff\xff\xff";
     let mut dialogue = Dialogue::new(&rt, rt.alloc(), &[welcome, ROW, VACANT]);
     assert_is(&rt, dialogue.run(&rt, rt.alloc(), LIST), 1);
-    assert!(rt; dialogue.screen.text() == NO_REPLY);
+    assert_is(&rt, dialogue.screen.text(), NO_REPLY);
     assert_is(&rt, dialogue.requests.flushed, 2);
     let rows = requested_rows(&rt, rt.alloc(), 256);
-    assert!(rt; dialogue.requests.text() == rows.text());
+    assert_is(&rt, dialogue.requests.text(), rows.text());
 }
 
 #[test]
@@ -476,9 +492,9 @@ fn a_row_is_refused_with_others_on_their_way(rt: HostRuntime) {
     let refusal = b"\0\0\0\x03\x02\x07\x0d";
     let mut dialogue = Dialogue::new(&rt, rt.alloc(), &[WELCOME, ROW, refusal, VACANT]);
     assert_is(&rt, dialogue.run(&rt, rt.alloc(), LIST), 1);
-    assert!(rt; dialogue.screen.text() == b"sysvmsg: EACCES\n".as_slice());
+    assert_is(&rt, dialogue.screen.text(), b"sysvmsg: EACCES\n".as_slice());
     let all = requested_rows(&rt, rt.alloc(), 64);
-    assert!(rt; dialogue.requests.text() == all.text());
+    assert_is(&rt, dialogue.requests.text(), all.text());
 }
 
 #[test]
@@ -506,7 +522,7 @@ fn a_table_takes_memory_as_its_rows_come(rt: HostRuntime) {
         return;
     }
     assert_is(&rt, status, 0);
-    assert!(rt; dialogue.screen.text() == shown.text());
+    assert_is(&rt, dialogue.screen.text(), shown.text());
 }
 
 #[test]
@@ -532,7 +548,7 @@ fn a_refusal_is_named(rt: HostRuntime) {
         );
         assert_is(&rt, dialogue.run(&rt, rt.alloc(), LIST), 1);
         assert!(rt; dialogue.screen.text() == line, "{number}");
-        assert!(rt; dialogue.requests.text() == HELLO);
+        assert_is(&rt, dialogue.requests.text(), HELLO);
         assert_is(&rt, dialogue.replies.read, 7);
     }
 }
@@ -545,8 +561,12 @@ fn a_later_request_is_refused(rt: HostRuntime) {
         &[WELCOME, b"\0\0\0\x03\x02\x01\x02", MESSAGE],
     );
     assert_is(&rt, dialogue.run(&rt, rt.alloc(), RECEIVE_ANY), 1);
-    assert!(rt; dialogue.requests.text() == joined(&rt, rt.alloc(), &[HELLO, GET]).text());
-    assert!(rt; dialogue.screen.text() == b"sysvmsg: ENOENT\n".as_slice());
+    assert_is(
+        &rt,
+        dialogue.requests.text(),
+        joined(&rt, rt.alloc(), &[HELLO, GET]).text(),
+    );
+    assert_is(&rt, dialogue.screen.text(), b"sysvmsg: ENOENT\n".as_slice());
 }
 
 /// The one line that is shown if the server does not reply.
@@ -580,7 +600,7 @@ fn a_table_that_is_cut_leaves_one_line(rt: HostRuntime) {
     let len = dialogue.replies.len();
     dialogue.replies.bytes.truncate(len.saturating_sub(1));
     assert_is(&rt, dialogue.run(&rt, rt.alloc(), LIST), 1);
-    assert!(rt; dialogue.screen.text() == NO_REPLY);
+    assert_is(&rt, dialogue.screen.text(), NO_REPLY);
 }
 
 #[test]
@@ -601,8 +621,8 @@ fn a_reply_to_another_request_is_none(rt: HostRuntime) {
         let mut dialogue = Dialogue::new(&rt, rt.alloc(), &[reply, WELCOME]);
         let status = dialogue.run(&rt, rt.alloc(), Task::Remove(Target::Id(0)));
         assert_is(&rt, status, 1);
-        assert!(rt; dialogue.screen.text() == NO_REPLY);
-        assert!(rt; dialogue.requests.text() == HELLO);
+        assert_is(&rt, dialogue.screen.text(), NO_REPLY);
+        assert_is(&rt, dialogue.requests.text(), HELLO);
     }
 }
 
@@ -656,7 +676,7 @@ fn the_screen_fails(rt: HostRuntime) {
     let mut dialogue = listed(&rt, rt.alloc());
     dialogue.screen.flushes = 0;
     assert_is(&rt, dialogue.run(&rt, rt.alloc(), LIST), 1);
-    assert!(rt; dialogue.screen.text() == shown.text());
+    assert_is(&rt, dialogue.screen.text(), shown.text());
 }
 
 #[test]

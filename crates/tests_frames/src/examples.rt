@@ -1,4 +1,5 @@
 //! The example in the documentation of the frames, line by line.
+use crate::parts::assert_is;
 use bitflags::Flags as _;
 use std::test::Fail;
 use sysv_model::{Body, Flags, Instrumented};
@@ -17,6 +18,6 @@ fn a_request_is_written_and_read(rt: HostRuntime) -> Result<(), Fail> {
     write_request(&mut Instrumented::new(&mut frame), &request, &text)?;
     let mut bytes = frame.as_slice();
     let read = read_request(&mut Instrumented::new(&mut bytes), &mut text)?;
-    assert_eq!(rt; read, Some(request));
+    assert_is(&rt, read, Some(request));
     Ok(())
 }

@@ -1,4 +1,5 @@
 //! Instrumented streams.
+use crate::parts::assert_is;
 use std::io;
 use std::io::{ErrorKind, Read, Write};
 use sysv_model::{Instrumented, WriteFault};
@@ -51,11 +52,11 @@ fn each_failed_read_is_counted(rt: HostRuntime) {
     };
     let mut reader = Instrumented::new(&mut stream);
     assert!(rt; matches!(reader.read(&mut bytes), Ok(1)));
-    assert!(rt; reader.failures() == 0);
+    assert_is(&rt, reader.failures(), 0);
     assert!(rt; reader.read(&mut bytes).is_err());
-    assert_eq!(rt; reader.failures(), 1);
+    assert_is(&rt, reader.failures(), 1);
     assert!(rt; reader.read(&mut bytes).is_err());
-    assert_eq!(rt; reader.failures(), 2);
+    assert_is(&rt, reader.failures(), 2);
 }
 
 #[test]
@@ -65,8 +66,8 @@ fn the_end_of_a_reader_is_no_failure(rt: HostRuntime) {
     let mut reader = Instrumented::new(&mut stream);
     assert!(rt; matches!(reader.read(&mut bytes), Ok(2)));
     assert!(rt; matches!(reader.read(&mut bytes), Ok(0)));
-    assert!(rt; reader.failures() == 0);
-    assert!(rt; bytes == *b"hi\0\0");
+    assert_is(&rt, reader.failures(), 0);
+    assert_is(&rt, bytes, *b"hi\0\0");
 }
 
 #[test]
@@ -78,9 +79,9 @@ fn each_failed_write_is_counted(rt: HostRuntime) {
         };
         let mut writer = Instrumented::new(&mut stream);
         assert!(rt; matches!(writer.write(b"hi"), Ok(1)));
-        assert!(rt; writer.failures() == 0);
-        assert_eq!(rt; writer.write(b"i").is_ok(), stalls);
-        assert_eq!(rt; writer.failures(), 1);
+        assert_is(&rt, writer.failures(), 0);
+        assert_is(&rt, writer.write(b"i").is_ok(), stalls);
+        assert_is(&rt, writer.failures(), 1);
     }
 }
 
@@ -93,7 +94,7 @@ fn a_write_of_nothing_is_no_failure(rt: HostRuntime) {
     let mut writer = Instrumented::new(&mut stream);
     assert!(rt; matches!(writer.write(b""), Ok(0)));
     assert!(rt; writer.flush().is_ok());
-    assert!(rt; writer.failures() == 0);
+    assert_is(&rt, writer.failures(), 0);
 }
 
 #[test]
@@ -104,7 +105,7 @@ fn a_failed_flush_is_counted(rt: HostRuntime) {
     };
     let mut writer = Instrumented::new(&mut stream);
     assert!(rt; writer.flush().is_err());
-    assert_eq!(rt; writer.failures(), 1);
+    assert_is(&rt, writer.failures(), 1);
 }
 
 /// Is interrupted at its first call, and gives and takes all after that.
@@ -153,10 +154,10 @@ fn an_interrupted_read_is_not_tried_again(rt: HostRuntime) {
     let mut stream = Interrupted { calls: 0 };
     let mut reader = Instrumented::new(&mut stream);
     assert!(rt; is_interrupted(&reader.read(&mut bytes)));
-    assert_eq!(rt; reader.failures(), 1);
+    assert_is(&rt, reader.failures(), 1);
     assert!(rt; matches!(reader.read(&mut bytes), Ok(4)));
-    assert_eq!(rt; reader.failures(), 1);
-    assert_eq!(rt; stream.calls, 2);
+    assert_is(&rt, reader.failures(), 1);
+    assert_is(&rt, stream.calls, 2);
 }
 
 #[test]
@@ -164,10 +165,10 @@ fn an_interrupted_write_is_not_tried_again(rt: HostRuntime) {
     let mut stream = Interrupted { calls: 0 };
     let mut writer = Instrumented::new(&mut stream);
     assert!(rt; is_interrupted(&writer.write(b"hi")));
-    assert_eq!(rt; writer.failures(), 1);
+    assert_is(&rt, writer.failures(), 1);
     assert!(rt; matches!(writer.write(b"hi"), Ok(2)));
-    assert_eq!(rt; writer.failures(), 1);
-    assert_eq!(rt; stream.calls, 2);
+    assert_is(&rt, writer.failures(), 1);
+    assert_is(&rt, stream.calls, 2);
 }
 
 #[test]
@@ -175,31 +176,31 @@ fn an_interrupted_flush_is_not_tried_again(rt: HostRuntime) {
     let mut stream = Interrupted { calls: 0 };
     let mut writer = Instrumented::new(&mut stream);
     assert!(rt; is_interrupted(&writer.flush()));
-    assert_eq!(rt; writer.failures(), 1);
+    assert_is(&rt, writer.failures(), 1);
     assert!(rt; writer.flush().is_ok());
-    assert_eq!(rt; writer.failures(), 1);
-    assert_eq!(rt; stream.calls, 2);
+    assert_is(&rt, writer.failures(), 1);
+    assert_is(&rt, stream.calls, 2);
 }
 
 #[test]
 fn an_interrupted_write_of_all_bytes_is_not_tried_again(rt: HostRuntime) {
     let mut stream = Interrupted { calls: 0 };
     let mut writer = Instrumented::new(&mut stream);
-    assert_eq!(rt; writer.write_out(b"hello"), Err(WriteFault));
-    assert_eq!(rt; writer.failures(), 1);
-    assert_eq!(rt; writer.write_out(b"hello"), Ok(()));
-    assert_eq!(rt; writer.failures(), 1);
-    assert_eq!(rt; stream.calls, 2);
+    assert_is(&rt, writer.write_out(b"hello"), Err(WriteFault));
+    assert_is(&rt, writer.failures(), 1);
+    assert_is(&rt, writer.write_out(b"hello"), Ok(()));
+    assert_is(&rt, writer.failures(), 1);
+    assert_is(&rt, stream.calls, 2);
 }
 
 #[test]
 fn all_bytes_are_written_in_pieces(rt: HostRuntime) {
     let mut page = Page::taking(2, 7, false);
     let mut writer = Instrumented::new(&mut page);
-    assert_eq!(rt; writer.write_out(b"hello"), Ok(()));
-    assert_eq!(rt; writer.failures(), 0);
-    assert_eq!(rt; writer.write_out(b""), Ok(()));
-    assert_eq!(rt; writer.write_out(b"world"), Err(WriteFault));
-    assert_eq!(rt; writer.failures(), 1);
-    assert!(rt; page.written() == b"hellowo".as_slice());
+    assert_is(&rt, writer.write_out(b"hello"), Ok(()));
+    assert_is(&rt, writer.failures(), 0);
+    assert_is(&rt, writer.write_out(b""), Ok(()));
+    assert_is(&rt, writer.write_out(b"world"), Err(WriteFault));
+    assert_is(&rt, writer.failures(), 1);
+    assert_is(&rt, page.written(), b"hellowo".as_slice());
 }

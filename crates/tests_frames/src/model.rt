@@ -1,7 +1,7 @@
 //! The words of all calls: limits, errors, flags, bodies and selectors.
 mod growths;
 
-use crate::parts::{assert_holds, open_body};
+use crate::parts::{assert_holds, assert_is, open_body};
 use bitflags::Flags as Set;
 use std::alloc::Global;
 use std::process::Abort;
@@ -12,17 +12,17 @@ use sysv_model::{
 
 #[test]
 fn figures(rt: HostRuntime) {
-    assert_eq!(rt; IPC_PRIVATE, 0);
-    assert_eq!(rt; MESSAGE_BYTES, 8_192);
-    assert_eq!(rt; BODY_ROOM, 8_256);
-    assert_eq!(rt; BLOCK_BYTES, 64);
-    assert_eq!(rt; QUEUE_MESSAGES, 256);
-    assert_eq!(rt; QBYTES_AT_CREATION, 16_384);
-    assert_eq!(rt; MAX_QBYTES, 65_536);
-    assert_eq!(rt; MAX_ACTORS, 1_024);
-    assert_eq!(rt; MIN_BLOCKS, 128);
-    assert_eq!(rt; MAX_BLOCKS, 65_536);
-    assert_eq!(rt; WORN, 4_611_686_018_427_387_904);
+    assert_is(&rt, IPC_PRIVATE, 0);
+    assert_is(&rt, MESSAGE_BYTES, 8_192);
+    assert_is(&rt, BODY_ROOM, 8_256);
+    assert_is(&rt, BLOCK_BYTES, 64);
+    assert_is(&rt, QUEUE_MESSAGES, 256);
+    assert_is(&rt, QBYTES_AT_CREATION, 16_384);
+    assert_is(&rt, MAX_QBYTES, 65_536);
+    assert_is(&rt, MAX_ACTORS, 1_024);
+    assert_is(&rt, MIN_BLOCKS, 128);
+    assert_is(&rt, MAX_BLOCKS, 65_536);
+    assert_is(&rt, WORN, 4_611_686_018_427_387_904);
 }
 
 /// Returns what the error prints. Tolerates one refusal of memory.
@@ -50,7 +50,7 @@ fn numbers_and_names(rt: HostRuntime) {
     ];
     for (error, number, name) in table {
         assert_eq!(rt; error.number(), number, "{name}");
-        assert_eq!(rt; printed(&rt, rt.alloc(), error).as_str(), name);
+        assert_is(&rt, printed(&rt, rt.alloc(), error).as_str(), name);
     }
 }
 
@@ -72,7 +72,7 @@ fn named_flags_have_their_numbers(rt: HostRuntime) {
         (Flags::MSG_NOERROR, 4096, "MSG_NOERROR"),
         (Flags::MSG_EXCEPT, 8192, "MSG_EXCEPT"),
     ];
-    assert_eq!(rt; Flags::flags().len(), table.len());
+    assert_is(&rt, Flags::flags().len(), table.len());
     for (flag, number, name) in table {
         assert_eq!(rt; flag.bits(), number, "{name}");
         assert_eq!(rt; Flags::from_name(name), Some(flag), "{name}");
@@ -82,19 +82,19 @@ fn named_flags_have_their_numbers(rt: HostRuntime) {
 #[test]
 fn all_bits_are_kept(rt: HostRuntime) {
     for bits in [0, 0o777, 16384, 1 << 31, 0xffff_ffff] {
-        assert_eq!(rt; Flags::from_bits_retain(bits).bits(), bits);
+        assert_is(&rt, Flags::from_bits_retain(bits).bits(), bits);
     }
     let wide = Flags::from_bits_retain(0xffff_ffff);
     assert!(rt; wide.contains(Flags::MSG_EXCEPT));
     let made = Flags::IPC_CREAT | Flags::USER_READ | Flags::USER_WRITE;
-    assert_eq!(rt; made.bits(), 0x380);
+    assert_is(&rt, made.bits(), 0x380);
     assert!(rt; !made.contains(Flags::IPC_NOWAIT));
 }
 
 #[test]
 fn a_piece_is_added_whole_or_not_at_all(rt: HostRuntime) {
     let mut body = open_body(&rt, rt.alloc());
-    assert_eq!(rt; body.len(), 0);
+    assert_is(&rt, body.len(), 0);
     let bytes = [7; 8257];
     let table = [
         (0, 0, true, 0),
@@ -131,7 +131,7 @@ fn a_text_is_read_by_blocks(rt: HostRuntime) {
     for (k, len) in table {
         assert_eq!(rt; body.block(k).len(), len, "block {k}");
     }
-    assert_eq!(rt; body.block(2), b"xx".as_slice());
+    assert_is(&rt, body.block(2), b"xx".as_slice());
 }
 
 #[test]
@@ -149,12 +149,12 @@ fn pieces_lie_across_blocks(rt: HostRuntime) {
         assert!(rt; done <= text.len());
         assert_holds(&rt, &body, &text[..done]);
     }
-    assert_eq!(rt; body.len(), 8256);
+    assert_is(&rt, body.len(), 8256);
     body.truncate(100);
     assert!(rt; body.push_piece(b"more"));
-    assert_eq!(rt; body.len(), 104);
-    assert_eq!(rt; body.byte(99), 99);
-    assert_eq!(rt; body.byte(100), b'm');
+    assert_is(&rt, body.len(), 104);
+    assert_is(&rt, body.byte(99), 99);
+    assert_is(&rt, body.byte(100), b'm');
 }
 
 #[test]
@@ -162,9 +162,9 @@ fn a_text_is_cut(rt: HostRuntime) {
     let mut body = open_body(&rt, rt.alloc());
     assert!(rt; body.push_piece(b"hello"));
     body.truncate(9);
-    assert_eq!(rt; body.block(0), b"hello".as_slice());
+    assert_is(&rt, body.block(0), b"hello".as_slice());
     body.truncate(2);
-    assert_eq!(rt; body.block(0), b"he".as_slice());
+    assert_is(&rt, body.block(0), b"he".as_slice());
 }
 
 #[test]
@@ -172,7 +172,7 @@ fn bytes_stand_in_order(rt: HostRuntime) {
     let mut body = open_body(&rt, rt.alloc());
     assert!(rt; body.push_piece(b"he"));
     assert!(rt; body.push_piece(b"llo"));
-    assert_eq!(rt; body.len(), 5);
+    assert_is(&rt, body.len(), 5);
     for (i, byte) in [b'h', b'e', b'l', b'l', b'o'].into_iter().enumerate() {
         assert!(rt; i < body.len());
         assert_eq!(rt; body.byte(i), byte, "at {i}");
@@ -194,7 +194,7 @@ fn a_type_argument_asks_for_its_kind(rt: HostRuntime) {
     for mtype in [1, 5, i64::MAX] {
         let exactly = Selector::of(mtype, Flags::IPC_NOWAIT);
         let except = Selector::of(mtype, Flags::MSG_EXCEPT | Flags::IPC_NOWAIT);
-        assert_eq!(rt; exactly, Selector::Exactly(mtype));
-        assert_eq!(rt; except, Selector::Except(mtype));
+        assert_is(&rt, exactly, Selector::Exactly(mtype));
+        assert_is(&rt, except, Selector::Except(mtype));
     }
 }

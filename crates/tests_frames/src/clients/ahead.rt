@@ -120,7 +120,7 @@ fn no_more_than_a_window_is_requested(rt: HostRuntime) {
         if outcome == NO_MEMORY {
             return;
         }
-        assert!(rt; outcome == Err(Stop::Fault(ClientFault::NoReply)));
+        assert_is(&rt, outcome, Err(Stop::Fault(ClientFault::NoReply)));
         let wanted = requested(&rt, rt.alloc(), requests);
         assert!(rt;
             dialogue.requests.text() == wanted.text(),
@@ -140,9 +140,13 @@ fn a_receive_that_does_not_wait_is_alone(rt: HostRuntime) {
     if outcome == NO_MEMORY {
         return;
     }
-    assert!(rt; outcome == Err(Stop::Fault(ClientFault::Refused(Errno::ENOMSG))));
+    assert_is(
+        &rt,
+        outcome,
+        Err(Stop::Fault(ClientFault::Refused(Errno::ENOMSG))),
+    );
     assert_is(&rt, dialogue.requests.flushed, 4);
-    assert!(rt; dialogue.screen.text() == b"abc\n".as_slice());
+    assert_is(&rt, dialogue.screen.text(), b"abc\n".as_slice());
     let read = WELCOME.len() + GOT.len() + MESSAGE.len() + UNTAKEN.len();
     assert_is(&rt, dialogue.replies.read, read);
 }
@@ -165,9 +169,17 @@ fn messages_that_come_after_a_refusal_are_shown(rt: HostRuntime) {
         if outcome == NO_MEMORY {
             return;
         }
-        assert!(rt; outcome == Err(Stop::Fault(ClientFault::Refused(error))));
-        assert!(rt; dialogue.requests.text() == requested(&rt, rt.alloc(), 4).text());
-        assert!(rt; dialogue.screen.text() == shown(&rt, rt.alloc(), messages).text());
+        assert_is(&rt, outcome, Err(Stop::Fault(ClientFault::Refused(error))));
+        assert_is(
+            &rt,
+            dialogue.requests.text(),
+            requested(&rt, rt.alloc(), 4).text(),
+        );
+        assert_is(
+            &rt,
+            dialogue.screen.text(),
+            shown(&rt, rt.alloc(), messages).text(),
+        );
         assert_is(&rt, dialogue.replies.read, dialogue.replies.len());
     }
 }

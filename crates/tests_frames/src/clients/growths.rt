@@ -20,11 +20,15 @@ fn run_of_client(rt: HostRuntime) {
         &mut dialogue.screen,
     );
     if status == 0 {
-        assert!(rt; dialogue.screen.text() == b"abc\n".as_slice());
+        assert_is(&rt, dialogue.screen.text(), b"abc\n".as_slice());
         assert_is(&rt, dialogue.replies.read, dialogue.replies.len());
     } else {
         assert_is(&rt, status, 1);
-        assert!(rt; dialogue.screen.text() == b"sysvmsg: no memory\n".as_slice());
+        assert_is(
+            &rt,
+            dialogue.screen.text(),
+            b"sysvmsg: no memory\n".as_slice(),
+        );
         assert_is(
             &rt,
             (dialogue.replies.read, dialogue.requests.len()),
@@ -51,10 +55,10 @@ fn receives_of_client(rt: HostRuntime) {
         &mut dialogue.screen,
     );
     if outcome.is_ok() {
-        assert!(rt; dialogue.screen.text() == b"abc\nabc\n".as_slice());
+        assert_is(&rt, dialogue.screen.text(), b"abc\nabc\n".as_slice());
         assert_is(&rt, dialogue.replies.read, dialogue.replies.len());
     } else {
-        assert!(rt; outcome == Err(Stop::Fault(ClientFault::NoMemory)));
+        assert_is(&rt, outcome, Err(Stop::Fault(ClientFault::NoMemory)));
         assert_is(
             &rt,
             (dialogue.replies.read, dialogue.requests.len()),
@@ -85,7 +89,7 @@ fn sends_of_client(rt: HostRuntime) {
     match outcome {
         Ok(()) => assert_is(&rt, dialogue.replies.read, dialogue.replies.len()),
         Err(unsent) => {
-            assert!(rt; unsent.line() == ClientFault::NoMemory.line());
+            assert_is(&rt, unsent.line(), ClientFault::NoMemory.line());
             assert_is(
                 &rt,
                 (dialogue.replies.read, dialogue.requests.len()),
@@ -114,7 +118,7 @@ fn removals_of_client(rt: HostRuntime) {
         assert_is(&rt, refusals.len(), 1);
         assert_is(&rt, dialogue.replies.read, dialogue.replies.len());
     } else {
-        assert!(rt; outcome == Err(ClientFault::NoMemory));
+        assert_is(&rt, outcome, Err(ClientFault::NoMemory));
         assert!(rt; refusals.is_empty());
         let read = dialogue.replies.read;
         assert!(rt; read == 0 || read == dialogue.replies.len());

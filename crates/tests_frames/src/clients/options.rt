@@ -65,7 +65,7 @@ fn is_object(rt: &(impl Abort + AllocGlobal), body: &[u8], wanted: &[u8]) {
         ..ANY
     };
     assert_is(rt, dialogue.run(rt, alloc, Task::Receive(receipt)), 0);
-    assert!(rt; dialogue.screen.text() == wanted);
+    assert_is(rt, dialogue.screen.text(), wanted);
 }
 
 #[test]
@@ -129,7 +129,7 @@ fn the_longest_message_is_shown_with_its_type(rt: HostRuntime) {
         0,
     );
     let wanted = joined(&rt, rt.alloc(), &[b"-9223372036854775808\t", &text, b"\n"]);
-    assert!(rt; dialogue.screen.text() == wanted.text());
+    assert_is(&rt, dialogue.screen.text(), wanted.text());
 }
 
 #[test]
@@ -155,7 +155,7 @@ fn a_receive_may_except_a_type_and_create_the_queue(rt: HostRuntime) {
             0,
         );
         let wanted = joined(&rt, rt.alloc(), &[HELLO, get, WANTS, flags]);
-        assert!(rt; dialogue.requests.text() == wanted.text());
+        assert_is(&rt, dialogue.requests.text(), wanted.text());
     }
 }
 
@@ -176,7 +176,7 @@ fn queues_are_listed_as_json(rt: HostRuntime) {
             b"\"bytes\":4294967295,\"messages\":4294967295}\n",
         ],
     );
-    assert!(rt; dialogue.screen.text() == wanted.text());
+    assert_is(&rt, dialogue.screen.text(), wanted.text());
 }
 
 #[test]
@@ -188,10 +188,10 @@ fn the_attributes_of_a_queue_are_shown(rt: HostRuntime) {
     let mut dialogue = Dialogue::new(&rt, rt.alloc(), &[WELCOME, told, more]);
     assert_is(&rt, dialogue.run(&rt, rt.alloc(), Task::Show(64)), 0);
     let asked = joined(&rt, rt.alloc(), &[HELLO, b"\0\0\0\x06\x02\x04\0\0\0\x40"]);
-    assert!(rt; dialogue.requests.text() == asked.text());
+    assert_is(&rt, dialogue.requests.text(), asked.text());
     let shown: &[u8] =
         b"key 0x00000007\nuid 1000\ngid 1001\ncuid 1002\ncgid 1003\nmode 640\ncbytes 3\nqnum 1\nqbytes 16384\nlspid 101\nlrpid 0\nstime 9\nrtime 0\nctime 8\n";
-    assert!(rt; dialogue.screen.text() == shown);
+    assert_is(&rt, dialogue.screen.text(), shown);
 }
 
 #[test]
@@ -206,16 +206,24 @@ fn a_queue_is_made(rt: HostRuntime) {
     };
     let mut dialogue = Dialogue::new(&rt, rt.alloc(), &[WELCOME, GOT]);
     assert_is(&rt, dialogue.run(&rt, rt.alloc(), Task::Make(making)), 0);
-    assert!(rt; dialogue.requests.text() == joined(&rt, rt.alloc(), &[HELLO, get]).text());
-    assert!(rt; dialogue.screen.text() == b"64\n".as_slice());
+    assert_is(
+        &rt,
+        dialogue.requests.text(),
+        joined(&rt, rt.alloc(), &[HELLO, get]).text(),
+    );
+    assert_is(&rt, dialogue.screen.text(), b"64\n".as_slice());
     let limited = Making {
         qbytes: Some(99),
         ..making
     };
     let mut dialogue = Dialogue::new(&rt, rt.alloc(), &[WELCOME, GOT, done]);
     assert_is(&rt, dialogue.run(&rt, rt.alloc(), Task::Make(limited)), 0);
-    assert!(rt; dialogue.requests.text() == joined(&rt, rt.alloc(), &[HELLO, get, set]).text());
-    assert!(rt; dialogue.screen.text() == b"64\n".as_slice());
+    assert_is(
+        &rt,
+        dialogue.requests.text(),
+        joined(&rt, rt.alloc(), &[HELLO, get, set]).text(),
+    );
+    assert_is(&rt, dialogue.screen.text(), b"64\n".as_slice());
 }
 
 impl Dialogue {
@@ -278,9 +286,9 @@ fn only_the_messages_before_a_fault_are_shown(rt: HostRuntime) {
         if outcome == Err(Stop::Fault(ClientFault::NoMemory)) {
             return;
         }
-        assert!(rt; outcome == Err(Stop::Fault(fault)));
-        assert!(rt; dialogue.screen.text() == b"abc\nabc\n".as_slice());
-        assert!(rt; Stop::Fault(fault).line() == fault.line());
+        assert_is(&rt, outcome, Err(Stop::Fault(fault)));
+        assert_is(&rt, dialogue.screen.text(), b"abc\nabc\n".as_slice());
+        assert_is(&rt, Stop::Fault(fault).line(), fault.line());
     }
     assert!(rt; Stop::Screen.line().is_empty());
 }
@@ -332,7 +340,7 @@ fn a_instrumented_screen_has_failed_if_it_ended_the_receives(rt: HostRuntime) {
             return;
         }
         let failures = u64::from(room == 4);
-        assert!(rt; outcome.is_ok() == (failures == 0));
-        assert_eq!(rt; screen.failures(), failures);
+        assert_is(&rt, outcome.is_ok(), (failures == 0));
+        assert_is(&rt, screen.failures(), failures);
     }
 }

@@ -102,7 +102,7 @@ fn a_line_of_8192_bytes_is_sent(rt: HostRuntime) {
         asked.put(b"\0\0\x20\x12");
         asked.put(SENDS);
         asked.put(text);
-        assert!(rt; dialogue.requests.text() == asked.text());
+        assert_is(&rt, dialogue.requests.text(), asked.text());
     }
 }
 
@@ -118,10 +118,10 @@ fn a_longer_line_is_not_sent(rt: HostRuntime) {
         if ended == NO_MEMORY {
             return;
         }
-        assert!(rt; ended == "sysvmsg: EINVAL\n");
+        assert_is(&rt, ended, "sysvmsg: EINVAL\n");
         let mut asked = joined(&rt, rt.alloc(), &[HELLO, MAKE]);
         put_send(&mut asked, b"a");
-        assert!(rt; dialogue.requests.text() == asked.text());
+        assert_is(&rt, dialogue.requests.text(), asked.text());
     }
 }
 
@@ -137,11 +137,11 @@ fn nothing_is_sent_after_a_fault(rt: HostRuntime) {
         if ended == NO_MEMORY {
             return;
         }
-        assert!(rt; ended == line);
+        assert_is(&rt, ended, line);
         let mut asked = joined(&rt, rt.alloc(), &[HELLO, MAKE]);
         put_send(&mut asked, b"a");
         put_send(&mut asked, b"b");
-        assert!(rt; dialogue.requests.text() == asked.text());
+        assert_is(&rt, dialogue.requests.text(), asked.text());
     }
 }
 
@@ -181,12 +181,12 @@ fn lines_of_one_read_are_sent_before_a_fault(rt: HostRuntime) {
             Err(Unsent::Cut(cut)) => Some(cut),
             _ => None,
         };
-        assert!(rt; cut == Some(wanted));
+        assert_is(&rt, cut, Some(wanted));
         let mut asked = joined(&rt, rt.alloc(), &[HELLO, MAKE]);
         for text in [b"a", b"b", b"c"] {
             put_send(&mut asked, text);
         }
-        assert!(rt; dialogue.requests.text() == asked.text());
+        assert_is(&rt, dialogue.requests.text(), asked.text());
     }
 }
 
@@ -200,7 +200,7 @@ fn an_input_that_fails_ends_the_sends(rt: HostRuntime) {
         if ended == NO_MEMORY {
             return;
         }
-        assert!(rt; ended == "sysvmsg: cannot read\n");
+        assert_is(&rt, ended, "sysvmsg: cannot read\n");
         let mut asked = joined(&rt, rt.alloc(), &[HELLO, MAKE]);
         if good >= 2 {
             put_send(&mut asked, b"a");
@@ -228,8 +228,8 @@ fn a_feed_has_the_failure_that_ended_the_sends(rt: HostRuntime) {
         if ended == NO_MEMORY {
             return;
         }
-        assert!(rt; ended.is_empty() == (good == 9));
-        assert!(rt; feed.failure().is_none() == ended.is_empty());
+        assert_is(&rt, ended.is_empty(), (good == 9));
+        assert_is(&rt, feed.failure().is_none(), ended.is_empty());
     }
 }
 
@@ -271,11 +271,15 @@ fn all_queues_are_removed(rt: HostRuntime) {
         if outcome == Err(ClientFault::NoMemory) {
             return;
         }
-        assert!(rt; outcome == Ok(()));
-        assert!(rt; refusals.first().copied() == refusal);
+        assert_is(&rt, outcome, Ok(()));
+        assert_is(&rt, refusals.first().copied(), refusal);
         assert!(rt; refusals.len() < 2);
         let asked: &[&[u8]] = &[HELLO, FIRST, REMOVE_FIRST, SECOND, REMOVE_SECOND];
-        assert!(rt; dialogue.requests.text() == joined(&rt, rt.alloc(), asked).text());
+        assert_is(
+            &rt,
+            dialogue.requests.text(),
+            joined(&rt, rt.alloc(), asked).text(),
+        );
     }
 }
 
@@ -294,7 +298,11 @@ fn a_removal_without_a_reply_ends_it(rt: HostRuntime) {
     if outcome == Err(ClientFault::NoMemory) {
         return;
     }
-    assert!(rt; outcome == Err(ClientFault::NoReply));
+    assert_is(&rt, outcome, Err(ClientFault::NoReply));
     let asked: &[&[u8]] = &[HELLO, FIRST, SECOND, REMOVE_SECOND];
-    assert!(rt; dialogue.requests.text() == joined(&rt, rt.alloc(), asked).text());
+    assert_is(
+        &rt,
+        dialogue.requests.text(),
+        joined(&rt, rt.alloc(), asked).text(),
+    );
 }

@@ -1,5 +1,6 @@
 //! What bytes that have arrived hold of a request, worked out by hand.
 use super::faults::REQUESTS;
+use crate::parts::assert_is;
 use sysv_wire::{Fault, FrameIn, frame_in};
 use tests_kit::worked::{REQUEST_ENDS, SESSION};
 
@@ -29,7 +30,7 @@ fn a_session_that_arrives_byte_by_byte(rt: HostRuntime) {
         }
         start = end;
     }
-    assert_eq!(rt; start, SESSION.len());
+    assert_is(&rt, start, SESSION.len());
 }
 
 #[test]
@@ -63,7 +64,7 @@ fn bytes_after_a_fault_change_nothing(rt: HostRuntime) {
         (Fault::BadOp, [0x00, 0x00, 0x00, 0x06, 0x01, 0x08, 0x00]),
     ];
     for (fault, bytes) in faults {
-        assert_eq!(rt; frame_in(&bytes), FrameIn::Refused { fault });
+        assert_is(&rt, frame_in(&bytes), FrameIn::Refused { fault });
     }
 }
 

@@ -1,6 +1,6 @@
 //! Bytes that spell no frame, and frames that break off, each with its fault worked out by hand.
 use super::frames::{OTHERS, TOLD};
-use crate::parts::open_body;
+use crate::parts::{assert_is, open_body};
 use sysv_model::Instrumented;
 use sysv_wire::{Fault, Reply, Request, read_reply, read_request};
 use tests_kit::Pieces;
@@ -235,7 +235,7 @@ fn requests_that_break_off(rt: HostRuntime) {
             }
             start = end;
         }
-        assert_eq!(rt; start, all.len());
+        assert_is(&rt, start, all.len());
     }
 }
 
@@ -254,6 +254,6 @@ fn replies_that_break_off(rt: HostRuntime) {
             }
             start = end;
         }
-        assert_eq!(rt; start, all.len());
+        assert_is(&rt, start, all.len());
     }
 }

@@ -1,5 +1,5 @@
 //! Each field of a frame with values that have no meaning there.
-use crate::parts::open_body;
+use crate::parts::{assert_is, open_body};
 use std::process::Abort;
 use sysv_model::{Body, Instrumented};
 use sysv_wire::{Fault, Reply, ReplyContent, Request, read_reply, read_request};
@@ -134,7 +134,7 @@ fn errors_of_replies(rt: HostRuntime) {
                         },
                     ),
                 ) => {
-                    assert_eq!(rt; why.number(), error);
+                    assert_is(&rt, why.number(), error);
                     assert!(rt; ERRORS.contains(&error), "{error}");
                 }
                 other => {

@@ -1,5 +1,5 @@
 //! Frames whose bytes were worked out by hand.
-use crate::parts::open_body;
+use crate::parts::{assert_is, open_body};
 use bitflags::Flags as Set;
 use std::alloc::Global;
 use std::process::Abort;
@@ -52,11 +52,11 @@ fn reads_and_writes(
         let request = Request { version, ask: *ask };
         let read = read_request(&mut reader, &mut text);
         let written = write_request(&mut writer, &request, &text);
-        assert_eq!(rt; (read, written), (Ok(Some(request)), Ok(())));
+        assert_is(rt, (read, written), (Ok(Some(request)), Ok(())));
     }
     let end = read_request(&mut reader, &mut text);
     let failed = reader.failures() > 0 || writer.failures() > 0;
-    assert_eq!(rt; (end, failed, page.written()), (Ok(None), false, bytes));
+    assert_is(rt, (end, failed, page.written()), (Ok(None), false, bytes));
 }
 
 /// Reads the replies one by one in pieces of this size, and writes each again.
@@ -75,16 +75,16 @@ fn reads_and_writes_replies(
     for reply in replies {
         match read_reply(&mut reader, &mut text) {
             Ok(Some(read)) => {
-                assert_eq!(rt; read, *reply);
+                assert_is(rt, read, *reply);
                 assert!(rt; text.len() <= MESSAGE_BYTES);
-                assert_eq!(rt; write_reply(&mut writer, &read, &text), Ok(()));
+                assert_is(rt, write_reply(&mut writer, &read, &text), Ok(()));
             }
             other => assert_eq!(rt; other, Ok(Some(*reply))),
         }
     }
     let end = read_reply(&mut reader, &mut text);
     let failed = reader.failures() > 0 || writer.failures() > 0;
-    assert_eq!(rt; (end, failed, page.written()), (Ok(None), false, bytes));
+    assert_is(rt, (end, failed, page.written()), (Ok(None), false, bytes));
 }
 
 /// Each receive of the session.

@@ -1,5 +1,5 @@
 //! Readers and writers that fail within a frame, and bodies of the maximum length.
-use crate::parts::open_body;
+use crate::parts::{assert_is, open_body};
 use bitflags::Flags as Set;
 use std::process::Abort;
 use sysv_model::{Body, Flags, Instrumented};
@@ -131,8 +131,8 @@ fn the_longest_text(rt: HostRuntime) {
             version: Version::One,
             ask,
         };
-        assert_eq!(rt; read_request(&mut reader, &mut text), Ok(Some(request)));
-        assert_eq!(rt; text.len(), 8256);
-        assert_eq!(rt; read_request(&mut reader, &mut text), Ok(None));
+        assert_is(&rt, read_request(&mut reader, &mut text), Ok(Some(request)));
+        assert_is(&rt, text.len(), 8256);
+        assert_is(&rt, read_request(&mut reader, &mut text), Ok(None));
     }
 }
