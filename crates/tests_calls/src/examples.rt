@@ -36,6 +36,6 @@ fn a_script_prints_its_answers(rt: HostRuntime) -> Result<(), Fail> {
     let mut writer = Instrumented::new(&mut printed);
     run_script(rt.alloc(), &mut reader, &mut writer)?;
     let answers = b"1 snd = 0\n2 rcv = 5 type 5 =hello\n".as_slice();
-    assert!(rt; printed.as_slice() == answers);
+    assert_is(&rt, printed.as_slice(), answers);
     Ok(())
 }

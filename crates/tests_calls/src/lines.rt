@@ -1,4 +1,5 @@
 //! Lines of a script.
+use crate::parts::assert_is;
 use bitflags::Flags as _;
 use std::io::Write;
 use sysv_model::{Errno, Flags};
@@ -11,7 +12,7 @@ fn a_line_says_what_an_actor_starts(rt: HostRuntime) {
     let Some(Line::Start { actor, call, goes }) = said else {
         panic!(rt; "no start");
     };
-    assert_eq!(rt; actor, 2);
+    assert_is(&rt, actor, 2);
     assert!(rt; goes);
     let Call::Send {
         id,
@@ -22,17 +23,18 @@ fn a_line_says_what_an_actor_starts(rt: HostRuntime) {
     else {
         panic!(rt; "no send");
     };
-    assert_eq!(rt; (id, mtype), (-1, i64::MAX));
-    assert!(rt;
-        flags
-            == Flags::IPC_NOWAIT
-                .union(Flags::USER_READ)
-                .union(Flags::USER_WRITE)
+    assert_is(&rt, (id, mtype), (-1, i64::MAX));
+    assert_is(
+        &rt,
+        flags,
+        Flags::IPC_NOWAIT
+            .union(Flags::USER_READ)
+            .union(Flags::USER_WRITE),
     );
     let Text::Given(bytes) = text else {
         panic!(rt; "no text");
     };
-    assert_eq!(rt; bytes, b"a b".as_slice());
+    assert_is(&rt, bytes, b"a b".as_slice());
     assert!(rt; line_of(b"17 snd 0 1 - =").is_none());
 }
 
@@ -70,9 +72,10 @@ fn each_call_is_understood(rt: HostRuntime) {
     let Call::Set { id, to } = call else {
         panic!(rt; "no set");
     };
-    assert_eq!(rt;
+    assert_is(
+        &rt,
         (id, to.uid, to.gid, to.mode, to.qbytes),
-        (64, 5, 6, 416, 70000)
+        (64, 5, 6, 416, 70000),
     );
     let Some(Line::Start { call, .. }) = line_of(b"2 rm 7") else {
         panic!(rt; "no removal");
@@ -109,6 +112,6 @@ fn heads_are_printed(rt: HostRuntime) {
             return;
         };
         assert!(rt; write!(printed, "{head}").is_ok());
-        assert_eq!(rt; printed.as_slice(), line);
+        assert_is(&rt, printed.as_slice(), line);
     }
 }

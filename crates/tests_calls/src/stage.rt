@@ -1,5 +1,6 @@
 //! A stage on which lines run.
 
+use crate::parts::assert_is;
 use std::alloc::Global;
 use sysv_model::{Instrumented, NoMemory};
 use sysv_script::{Output, Stage, line_of};
@@ -48,11 +49,15 @@ fn a_message_goes_through_the_stage(rt: HostRuntime) {
     if understood == Err(NoMemory) || late == Err(NoMemory) {
         return;
     }
-    assert_eq!(rt; understood, Ok(true));
-    assert_eq!(rt; late, Ok(false));
+    assert_is(&rt, understood, Ok(true));
+    assert_is(&rt, late, Ok(false));
     let mut writer = Instrumented::new(&mut written);
     assert!(rt; output.write_to(&mut writer).is_ok());
-    assert!(rt; written.as_slice() == b"1 snd = 0\n2 rcv = 5 type 5 =hello\n".as_slice());
+    assert_is(
+        &rt,
+        written.as_slice(),
+        b"1 snd = 0\n2 rcv = 5 type 5 =hello\n".as_slice(),
+    );
 }
 
 // The bodies of the first send and the first receive are used again, and the output has its memory
@@ -73,7 +78,7 @@ fn no_growths_after_the_first_messages(rt: HostRuntime) {
     for _ in 0..100 {
         let sent = run(&mut stage, rt.alloc(), b"1 snd 0 5 - =hello", &mut output);
         let received = run(&mut stage, rt.alloc(), b"2 rcv 0 9 0 -", &mut output);
-        assert_eq!(rt; (sent, received), (Ok(true), Ok(true)));
+        assert_is(&rt, (sent, received), (Ok(true), Ok(true)));
     }
     stage.end();
 }

@@ -1,5 +1,6 @@
 //! Reading line by line, and writing.
 
+use crate::parts::assert_is;
 use sysv_model::{Body, Instrumented};
 use sysv_script::{Head, Input, Output, next_line, read_on};
 
@@ -15,18 +16,19 @@ fn lines_are_found_one_by_one(rt: HostRuntime) {
     let Ok(Some(first)) = next_line(&mut input, &mut output, &mut reader, &mut writer) else {
         panic!(rt; "no first line");
     };
-    assert_eq!(rt; (first.len, first.is_last), (2, false));
+    assert_is(&rt, (first.len, first.is_last), (2, false));
     assert!(rt; input.waiting().len() > 2);
     input.pass_line(2);
-    assert!(rt; input.waiting() == b"cde".as_slice());
+    assert_is(&rt, input.waiting(), b"cde".as_slice());
     let Ok(Some(last)) = next_line(&mut input, &mut output, &mut reader, &mut writer) else {
         panic!(rt; "no last line");
     };
-    assert_eq!(rt; (last.len, last.is_last), (3, true));
+    assert_is(&rt, (last.len, last.is_last), (3, true));
     assert!(rt; input.waiting().len() < 9001);
-    assert_eq!(rt;
+    assert_is(
+        &rt,
         read_on(&mut input, &mut output, &mut reader, &mut writer),
-        Ok(0)
+        Ok(0),
     );
     assert!(rt; reader.failures() == 0 && writer.failures() == 0);
 }
@@ -50,6 +52,10 @@ fn answers_are_written(rt: HostRuntime) {
     assert!(rt; written.is_empty());
     let mut writer = Instrumented::new(&mut written);
     assert!(rt; output.write_to(&mut writer).is_ok());
-    assert!(rt; writer.failures() == 0);
-    assert!(rt; written.as_slice() == b"1 worn\nline 2: badhello\n".as_slice());
+    assert_is(&rt, writer.failures(), 0);
+    assert_is(
+        &rt,
+        written.as_slice(),
+        b"1 worn\nline 2: badhello\n".as_slice(),
+    );
 }

@@ -26,7 +26,7 @@ fn world_with_queue(rt: &impl Abort, alloc: Global, actors: u32) -> World {
     let mut world = match World::open(alloc, actors, 1024) {
         Ok(world) => world,
         Err(why) => {
-            assert_eq!(rt; why, OpenRefused::NoMemory);
+            assert_is(rt, why, OpenRefused::NoMemory);
             World::open(alloc, actors, 1024).expect(rt, "a second try")
         }
     };
@@ -41,7 +41,7 @@ fn world_at(rt: &impl Abort, alloc: Global, first_step: u64, generation: u32) ->
     match World::open_at(alloc, 4, 128, first_step, generation) {
         Ok(world) => world,
         Err(why) => {
-            assert_eq!(rt; why, OpenRefused::NoMemory);
+            assert_is(rt, why, OpenRefused::NoMemory);
             World::open_at(alloc, 4, 128, first_step, generation).expect(rt, "a second try")
         }
     }
@@ -52,7 +52,7 @@ fn go(rt: &impl Abort, world: &mut World, actor: u32) -> Outcome {
     for _ in 0..8 {
         match world.step(step(actor)) {
             Stepped::Answer(answer) => {
-                assert_eq!(rt; answer.actor, actor);
+                assert_is(rt, answer.actor, actor);
                 return answer.result;
             }
             Stepped::Nothing => {}
@@ -371,17 +371,17 @@ fn the_answer_of_another_call_leaves_the_body_of_a_send(rt: HostRuntime) {
 fn each_message_that_is_answered_is_counted_as_written(rt: HostRuntime) {
     let alloc = rt.alloc();
     let mut world = world_with_queue(&rt, alloc, 2);
-    assert_eq!(rt; world.tally(), Tally::open());
+    assert_is(&rt, world.tally(), Tally::open());
     assert_nothing(&rt, world.step(send(&rt, alloc, 1, 5, b"one")));
     assert_ends(&rt, &mut world, (1, Outcome::Zero, None));
-    assert_eq!(rt; world.tally(), Tally::open());
+    assert_is(&rt, world.tally(), Tally::open());
     let got = Outcome::Got { mtype: 5, len: 3 };
     assert_receives(&rt, alloc, &mut world, (2, got, Some(b"one")));
-    assert_eq!(rt; world.tally().written(), 1);
+    assert_is(&rt, world.tally().written(), 1);
     let none = Outcome::Refused(Errno::ENOMSG);
     assert_receives(&rt, alloc, &mut world, (2, none, Some(b"")));
-    assert_eq!(rt; world.tally().written(), 1);
-    assert_eq!(rt; world.tally().lost(), 0);
+    assert_is(&rt, world.tally().written(), 1);
+    assert_is(&rt, world.tally().lost(), 0);
     assert_is(&rt, world.end(), 1024);
 }
 

@@ -4,7 +4,7 @@
 ghost use Rattle.std.specs.Prelude.{◌≡◌, ◌+◌, ◌<◌, ◌≤◌, length};
 ghost use Rattle.sysv_model.specs.declared.limits.TheConstants.{QUEUE_MESSAGES};
 
-use crate::parts::room;
+use crate::parts::{assert_is, room};
 use std::alloc::Global;
 use std::marker::Brand;
 use std::process::Abort;
@@ -21,7 +21,7 @@ fn open_index(rt: &impl Abort, alloc: Global) -> Index
     match Index::open(alloc) {
         Ok(index) => index,
         Err(why) => {
-            assert_eq!(rt; why, NoMemory);
+            assert_is(rt, why, NoMemory);
             Index::open(alloc).expect(rt, "a second try")
         }
     }
@@ -154,7 +154,7 @@ fn entries_come_and_go(rt: HostRuntime) {
     assert_selects(&rt, &index, Selector::Except(9), None);
     index.push(TENTH);
     index.push(TWELFTH);
-    assert_eq!(rt; index.len(), 2);
+    assert_is(&rt, index.len(), 2);
     assert_selects(&rt, &index, Selector::Any, Some(TENTH));
     assert_selects(&rt, &index, Selector::UpTo(5), Some(TWELFTH));
     assert_selects(&rt, &index, Selector::UpTo(1), None);
@@ -168,7 +168,7 @@ fn entries_come_and_go(rt: HostRuntime) {
     assert_selects(&rt, &index, Selector::Exactly(5), None);
     assert_selects(&rt, &index, Selector::Except(2), None);
     index.remove(11);
-    assert_eq!(rt; index.len(), 1);
+    assert_is(&rt, index.len(), 1);
     index.clear();
     assert!(rt; index.is_empty());
     assert_selects(&rt, &index, Selector::Any, None);

@@ -23,7 +23,7 @@ fn open_registry(rt: &impl Abort, alloc: Global) -> Registry {
     match Registry::open(alloc) {
         Ok(registry) => registry,
         Err(why) => {
-            assert_eq!(rt; why, RegistryRefused::NoMemory);
+            assert_is(rt, why, RegistryRefused::NoMemory);
             registry_at(rt, alloc, 0)
         }
     }
@@ -31,7 +31,11 @@ fn open_registry(rt: &impl Abort, alloc: Global) -> Registry {
 
 /// Makes a private queue and settles it.
 fn make_private(rt: &impl Abort, registry: &mut Registry, id: i32) {
-    assert_eq!(rt; registry.begin(IPC_PRIVATE, flags(0)), Begun::Made { id });
+    assert_is(
+        rt,
+        registry.begin(IPC_PRIVATE, flags(0)),
+        Begun::Made { id },
+    );
     assert!(rt; registry.settle(id));
 }
 

@@ -5,7 +5,7 @@ ghost use Rattle.std.specs.Prelude.{◌≡◌, ◌+◌, ◌<◌, []};
 ghost use Rattle.std.specs.List.{All};
 ghost use Rattle.sysv_model.specs.Message.{Message};
 
-use crate::parts::{assert_holds, give_back, open_body, open_pool};
+use crate::parts::{assert_holds, assert_is, give_back, open_body, open_pool};
 use std::alloc::Global;
 use std::marker::Brand;
 use std::process::Abort;
@@ -66,9 +66,9 @@ fn end_desk(rt: &impl Abort, desk: Desk, blocks: u32) {
         out: _,
     } = desk;
     let chain = messages.end();
-    assert_eq!(rt; chain.blocks(), blocks);
+    assert_is(rt, chain.blocks(), blocks);
     give_back(rt, &mut pool, chain);
-    assert_eq!(rt; pool.free(), 512);
+    assert_is(rt, pool.free(), 512);
     pool.end();
 }
 
@@ -160,7 +160,7 @@ fn open_with_four(rt: &impl Abort, alloc: Global) -> Desk {
     send(rt, &mut desk, 5, 5, b"");
     send(rt, &mut desk, 6, 9, b"last");
     assert_waiting(rt, &desk, (4, 139));
-    assert_eq!(rt; desk.pool.free(), 507);
+    assert_is(rt, desk.pool.free(), 507);
     desk
 }
 
@@ -203,7 +203,7 @@ fn a_store_ends_with_what_waits(rt: HostRuntime) {
     let mut desk = open_desk(&rt, rt.alloc());
     send(&rt, &mut desk, 7, 1, b"more");
     assert_waiting(&rt, &desk, (1, 4));
-    assert_eq!(rt; desk.pool.free(), 511);
+    assert_is(&rt, desk.pool.free(), 511);
     end_desk(&rt, desk, 1);
 }
 
@@ -237,7 +237,7 @@ fn all_messages_are_taken(rt: HostRuntime) {
     send(&rt, &mut desk, 0, 1, &[1; 64]);
     send(&rt, &mut desk, 1, 1, &[2; 65]);
     let all = desk.messages.take_all();
-    assert_eq!(rt; all.blocks(), 3);
+    assert_is(&rt, all.blocks(), 3);
     give_back(&rt, &mut desk.pool, all);
     assert_waiting(&rt, &desk, (0, 0));
     send(&rt, &mut desk, 0, 1, &[3; 128]);

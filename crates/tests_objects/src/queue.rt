@@ -5,7 +5,7 @@ mod control;
 mod indexed;
 mod no_growths;
 
-use crate::parts::{assert_holds, give_back, open_body, open_pool};
+use crate::parts::{assert_holds, assert_is, give_back, open_body, open_pool};
 use bitflags::Flags as _;
 use std::alloc::Global;
 use std::process::Abort;
@@ -107,9 +107,9 @@ fn end_desk(rt: &impl Abort, desk: Desk, blocks: u32) {
         out: _,
     } = desk;
     let chain = slot.end();
-    assert_eq!(rt; chain.blocks(), blocks);
+    assert_is(rt, chain.blocks(), blocks);
     give_back(rt, &mut pool, chain);
-    assert_eq!(rt; pool.free(), 512);
+    assert_is(rt, pool.free(), 512);
     pool.end();
 }
 
@@ -141,7 +141,7 @@ fn send_as(
             assert_holds(rt, &desk.out, text);
             give_back(rt, &mut desk.pool, chain);
             assert!(rt; free <= 512 && size <= 8192);
-            assert_eq!(rt; desk.pool.free(), free + size.div_ceil(64) as u32);
+            assert_is(rt, desk.pool.free(), free + size.div_ceil(64) as u32);
             Err(why)
         }
     }
@@ -162,7 +162,11 @@ fn written(rt: &impl Abort, delivery: Delivery) -> Received {
     };
     let mut tally = Tally::open();
     delivery.written(&mut tally);
-    assert_eq!(rt; (tally.taken(), tally.written(), tally.lost()), (1, 1, 0));
+    assert_is(
+        rt,
+        (tally.taken(), tally.written(), tally.lost()),
+        (1, 1, 0),
+    );
     got
 }
 
@@ -552,11 +556,11 @@ fn the_named_message_is_measured(rt: HostRuntime) {
 fn a_cut_text_gives_back_its_whole_chain(rt: HostRuntime) {
     let mut desk = desk_with_queue(&rt, rt.alloc());
     let sent = send(&rt, &mut desk, 1, &[b'x'; 130]);
-    assert_eq!(rt; sent, Ok(0));
-    assert_eq!(rt; desk.pool.free(), 509);
+    assert_is(&rt, sent, Ok(0));
+    assert_is(&rt, desk.pool.free(), 509);
     assert_receives(&rt, &mut desk, 1, true, Ok(got(1, b"x", 0)));
     assert_holds(&rt, &desk.out, b"x");
-    assert_eq!(rt; desk.pool.free(), 512);
+    assert_is(&rt, desk.pool.free(), 512);
     end_desk(&rt, desk, 0);
 }
 
@@ -569,7 +573,7 @@ fn a_slot_ends_with_the_blocks_of_what_waits(rt: HostRuntime) {
         let sent = send(&rt, &mut desk, 1, &bytes[..size]);
         assert!(rt; sent.is_ok(), "{size}");
     }
-    assert_eq!(rt; desk.pool.free(), 505);
+    assert_is(&rt, desk.pool.free(), 505);
     end_desk(&rt, desk, 7);
 }
 
@@ -577,7 +581,11 @@ fn a_slot_ends_with_the_blocks_of_what_waits(rt: HostRuntime) {
 fn receipts_are_written_or_lost(rt: HostRuntime) {
     let mut desk = desk_with_queue(&rt, rt.alloc());
     let mut tally = Tally::open();
-    assert_eq!(rt; (tally.taken(), tally.written(), tally.lost()), (0, 0, 0));
+    assert_is(
+        &rt,
+        (tally.taken(), tally.written(), tally.lost()),
+        (0, 0, 0),
+    );
     for arrives in [true, false, true] {
         let sent = send(&rt, &mut desk, 1, b"text");
         assert!(rt; sent.is_ok());
@@ -597,7 +605,11 @@ fn receipts_are_written_or_lost(rt: HostRuntime) {
             Err(why) => panic!(&rt; "{why}"),
         }
     }
-    assert_eq!(rt; (tally.taken(), tally.written(), tally.lost()), (3, 2, 1));
+    assert_is(
+        &rt,
+        (tally.taken(), tally.written(), tally.lost()),
+        (3, 2, 1),
+    );
     end_desk(&rt, desk, 0);
 }
 
@@ -629,9 +641,9 @@ fn a_probe_asks_what_the_mode_asks(rt: HostRuntime) {
 #[test]
 fn a_queue_shows_its_attributes(rt: HostRuntime) {
     let mut desk = open_desk(&rt, rt.alloc());
-    assert_eq!(rt; desk.slot.row(), None);
-    assert_eq!(rt; desk.slot.qnum(), 0);
-    assert_eq!(rt; desk.slot.stat(64, SENDER), Err(Errno::EINVAL));
+    assert_is(&rt, desk.slot.row(), None);
+    assert_is(&rt, desk.slot.qnum(), 0);
+    assert_is(&rt, desk.slot.stat(64, SENDER), Err(Errno::EINVAL));
     assert!(rt; desk.slot.install(64, 3, SENDER, 0o640, 50));
     assert_sends_as(&rt, &mut desk, 64, SENDER, 4, b"abc", Ok(0));
     let shown = Stat {
@@ -652,9 +664,9 @@ fn a_queue_shows_its_attributes(rt: HostRuntime) {
         rtime: 0,
         ctime: 50,
     };
-    assert_eq!(rt; desk.slot.stat(64, MEMBER), Ok(shown));
-    assert_eq!(rt; desk.slot.stat(64, STRANGER), Err(Errno::EACCES));
-    assert_eq!(rt; desk.slot.stat(0, STRANGER), Err(Errno::EINVAL));
+    assert_is(&rt, desk.slot.stat(64, MEMBER), Ok(shown));
+    assert_is(&rt, desk.slot.stat(64, STRANGER), Err(Errno::EACCES));
+    assert_is(&rt, desk.slot.stat(0, STRANGER), Err(Errno::EINVAL));
     let row = Row {
         id: 64,
         key: 3,
@@ -663,7 +675,7 @@ fn a_queue_shows_its_attributes(rt: HostRuntime) {
         cbytes: 3,
         qnum: 1,
     };
-    assert_eq!(rt; desk.slot.row(), Some(row));
-    assert_eq!(rt; desk.slot.qnum(), 1);
+    assert_is(&rt, desk.slot.row(), Some(row));
+    assert_is(&rt, desk.slot.qnum(), 1);
     end_desk(&rt, desk, 1);
 }

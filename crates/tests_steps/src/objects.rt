@@ -33,7 +33,7 @@ pub(crate) fn objects_at(rt: &impl Abort, alloc: Global, generation: u32) -> Obj
     match Objects::open_at(alloc, generation, 128) {
         Ok(objects) => objects,
         Err(why) => {
-            assert_eq!(rt; why, ObjectsRefused::NoMemory);
+            assert_is(rt, why, ObjectsRefused::NoMemory);
             match Objects::open_at(alloc, generation, 128) {
                 Ok(objects) => objects,
                 Err(_) => panic!(rt; "a second try"),
@@ -188,7 +188,7 @@ fn row(objects: &mut Objects, slot: usize, raised: u64) -> Option<Row>
 /// Returns an empty body in its chain.
 fn empty_loaded(rt: &impl Abort, alloc: Global) -> LoadedChain {
     let body = open_body(rt, alloc);
-    assert!(rt; body.len() == 0);
+    assert_is(rt, body.len(), 0);
     LoadedChain::of(Chain::empty(), &body)
 }
 

@@ -475,13 +475,11 @@ fn a_removal_gives_back_what_it_discarded(rt: HostRuntime) {
         }
     };
     assert_is(&rt, chain.blocks(), 3);
-    assert!(rt;
-        release(
+    assert_is(&rt, release(
             &rt,
             &mut pool,
             remove_giveback(&rt, RemoveStep::forgotten(chain))
-        ) == Shown::Zero
-    );
+        ), Shown::Zero);
     assert_is(&rt, pool.free(), 128);
     pool.end();
     assert_is(&rt, slot.end().end(), 0);

@@ -1,6 +1,7 @@
 //! Keys, control, waiting and blocks, as POSIX.1-2017 defines them in msgget and msgctl, and by the
 //! steps of this project's profile.
 use super::language::run;
+use crate::parts::assert_is;
 use std::io::Write;
 use std::test::Fail;
 
@@ -411,7 +412,7 @@ fn fills_all_slots(rt: HostRuntime) -> Result<(), Fail> {
     script.extend_from_slice(b"1 get 0 -\n1 rm 5\n1 get 9 CREAT\n1 get 9 -\n")?;
     answers.extend_from_slice(b"1 get ! ENOSPC\n1 rm = 0\n1 get = 261\n1 get = 261\n")?;
     let ending = run(rt.alloc(), script.as_slice());
-    assert_eq!(rt; ending.end, Ok(()));
-    assert!(rt; ending.written.as_slice() == answers.as_slice());
+    assert_is(&rt, ending.end, Ok(()));
+    assert_is(&rt, ending.written.as_slice(), answers.as_slice());
     Ok(())
 }

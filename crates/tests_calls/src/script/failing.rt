@@ -1,5 +1,6 @@
 //! Scripts over readers and writers that fail, stall or transfer few bytes at once.
 use super::ends::{Asker, Counter, Endless};
+use crate::parts::assert_is;
 use std::alloc::Global;
 use std::cell::Cell;
 use std::io::{Read, Write};
@@ -36,8 +37,8 @@ fn run<R: Read, W: Write>(
     let mut reader = Instrumented::new(reader);
     let mut writer = Instrumented::new(writer);
     let end = run_script(alloc, &mut reader, &mut writer);
-    assert_eq!(rt; reader.failures() > 0, end == Err(ScriptFault::Read));
-    assert_eq!(rt; writer.failures() > 0, end == Err(ScriptFault::Write));
+    assert_is(rt, reader.failures() > 0, end == Err(ScriptFault::Read));
+    assert_is(rt, writer.failures() > 0, end == Err(ScriptFault::Write));
     end
 }
 
@@ -86,7 +87,7 @@ fn says_that_the_writer_failed(rt: HostRuntime) -> Result<(), Fail> {
                 let mut writer = Page::taking(piece, room, stalls);
                 let end = run(&rt, rt.alloc(), &mut reader, &mut writer);
                 assert_eq!(rt; end, Err(ScriptFault::Write), "{room}");
-                assert_eq!(rt; writer.written().len(), room);
+                assert_is(&rt, writer.written().len(), room);
                 assert!(rt; is_front(writer.written(), ANSWERS), "{room}");
             }
         }
@@ -94,8 +95,8 @@ fn says_that_the_writer_failed(rt: HostRuntime) -> Result<(), Fail> {
     let mut reader = b"x".as_slice();
     let mut writer = Page::taking(512, 5, false);
     let end = run(&rt, rt.alloc(), &mut reader, &mut writer);
-    assert_eq!(rt; end, Err(ScriptFault::Write));
-    assert!(rt; writer.written() == b"line ".as_slice());
+    assert_is(&rt, end, Err(ScriptFault::Write));
+    assert_is(&rt, writer.written(), b"line ".as_slice());
     Ok(())
 }
 
@@ -112,10 +113,10 @@ fn holds_a_conversation(rt: HostRuntime) -> Result<(), Fail> {
         };
         let mut writer = Counter { answers: &answers };
         let end = run(&rt, rt.alloc(), &mut reader, &mut writer);
-        assert_eq!(rt; end, Ok(()));
+        assert_is(&rt, end, Ok(()));
         assert_eq!(rt; reader.missing, 0, "{at_once}");
-        assert_eq!(rt; reader.lines, 7);
-        assert_eq!(rt; answers.get(), 6);
+        assert_is(&rt, reader.lines, 7);
+        assert_is(&rt, answers.get(), 6);
     }
     Ok(())
 }
@@ -127,8 +128,8 @@ fn the_writer_is_not_flushed(rt: HostRuntime) {
     writer.flushes = 0;
     let end = run(&rt, rt.alloc(), &mut reader, &mut writer);
     if end != Err(ScriptFault::NoMemory) {
-        assert_eq!(rt; end, Ok(()));
-        assert!(rt; writer.written() == ANSWERS);
+        assert_is(&rt, end, Ok(()));
+        assert_is(&rt, writer.written(), ANSWERS);
         assert!(rt; writer.flushed().is_empty());
     }
 }
@@ -139,9 +140,9 @@ fn stops_in_a_line_that_never_ends(rt: HostRuntime) -> Result<(), Fail> {
         let mut reader = Endless { byte, given: 0 };
         let mut writer = Page::taking(512, 512, false);
         let end = run(&rt, rt.alloc(), &mut reader, &mut writer);
-        assert_eq!(rt; end, Err(ScriptFault::Line(1)));
-        assert_eq!(rt; reader.given, 9001);
-        assert!(rt; writer.written() == b"line 1: bad\n".as_slice());
+        assert_is(&rt, end, Err(ScriptFault::Line(1)));
+        assert_is(&rt, reader.given, 9001);
+        assert_is(&rt, writer.written(), b"line 1: bad\n".as_slice());
     }
     Ok(())
 }

@@ -1,4 +1,5 @@
 //! A script, with a growth of it refused: it has then printed a prefix of its output.
+use crate::parts::assert_is;
 use std::alloc::Global;
 use std::process::Abort;
 use sysv_model::Instrumented;
@@ -28,7 +29,7 @@ fn run(rt: &impl Abort, alloc: Global, page: &mut Page) -> Result<(), ScriptFaul
     let mut reader = Instrumented::new(&mut text);
     let mut writer = Instrumented::new(page);
     let ended = run_script(alloc, &mut reader, &mut writer);
-    assert_eq!(rt; (reader.failures(), writer.failures()), (0, 0));
+    assert_is(rt, (reader.failures(), writer.failures()), (0, 0));
     ended
 }
 
@@ -39,7 +40,7 @@ fn run_of_script(rt: HostRuntime) {
     match run(&rt, rt.alloc(), &mut page) {
         Err(ScriptFault::Line(7)) => assert!(rt; page.written() == PRINTED),
         ended => {
-            assert_eq!(rt; ended, Err(ScriptFault::NoMemory));
+            assert_is(&rt, ended, Err(ScriptFault::NoMemory));
             assert!(rt; PRINTED.starts_with(page.written()));
         }
     }

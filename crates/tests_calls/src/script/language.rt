@@ -1,4 +1,5 @@
 //! What each line of a script does, and which lines are bad.
+use crate::parts::assert_is;
 use std::alloc::Global;
 use std::process::Abort;
 use std::test::Fail;
@@ -314,7 +315,11 @@ fn ends_behind_the_millionth_line(rt: HostRuntime) -> Result<(), Fail> {
         script.extend_from_slice(behind)?;
         let ending = run(rt.alloc(), script.as_slice());
         assert_eq!(rt; ending.end, end, "{behind:?}");
-        assert!(rt; ending.written.as_slice() == b"1 rcv ! EINVAL\n".as_slice());
+        assert_is(
+            &rt,
+            ending.written.as_slice(),
+            b"1 rcv ! EINVAL\n".as_slice(),
+        );
     }
     Ok(())
 }

@@ -11,10 +11,10 @@ fn set_as(rt: &impl Abort, desk: &mut Desk, id: i32, cred: Cred, to: SetTo) -> R
     let shown = desk.slot.stat(0, USER_ZERO);
     let done = desk.slot.set(id, cred, to, 70);
     if done.is_ok() {
-        assert_eq!(rt; desk.slot.counts(), (arrived + 1, freed + 1));
+        assert_is(rt, desk.slot.counts(), (arrived + 1, freed + 1));
     } else {
-        assert_eq!(rt; desk.slot.stat(0, USER_ZERO), shown);
-        assert_eq!(rt; desk.slot.counts(), (arrived, freed));
+        assert_is(rt, desk.slot.stat(0, USER_ZERO), shown);
+        assert_is(rt, desk.slot.counts(), (arrived, freed));
     }
     done
 }
@@ -37,14 +37,14 @@ fn remove_as(rt: &impl Abort, desk: &mut Desk, id: i32, cred: Cred) -> Result<u3
     assert!(rt; freed < 1 << 63);
     match desk.slot.remove(id, cred) {
         Ok(discarded) => {
-            assert_eq!(rt; desk.slot.counts(), (arrived + 1, freed + 1));
+            assert_is(rt, desk.slot.counts(), (arrived + 1, freed + 1));
             let chain = discarded.into_chain();
             let blocks = chain.blocks();
             give_back(rt, &mut desk.pool, chain);
             Ok(blocks)
         }
         Err(why) => {
-            assert_eq!(rt; desk.slot.counts(), (arrived, freed));
+            assert_is(rt, desk.slot.counts(), (arrived, freed));
             Err(why)
         }
     }
@@ -103,8 +103,8 @@ fn a_set_changes_owner_mode_limit_and_moment(rt: HostRuntime) {
         rtime: 0,
         ctime: 70,
     };
-    assert_eq!(rt; desk.slot.stat(64, STRANGER), Ok(shown));
-    assert_eq!(rt; desk.slot.stat(64, SENDER), Err(Errno::EACCES));
+    assert_is(&rt, desk.slot.stat(64, STRANGER), Ok(shown));
+    assert_is(&rt, desk.slot.stat(64, SENDER), Err(Errno::EACCES));
     end_desk(&rt, desk, 1);
 }
 
@@ -170,7 +170,7 @@ fn a_removal_discards_what_waits(rt: HostRuntime) {
     let mut desk = desk_with_shared_queue(&rt, rt.alloc());
     assert_sends(&rt, &mut desk, 1, b"text", Ok(0));
     let sent = send(&rt, &mut desk, 1, &[b'x'; 130]);
-    assert_eq!(rt; sent, Ok(1));
+    assert_is(&rt, sent, Ok(1));
     for cred in [STRANGER, MEMBER] {
         assert_eq!(rt;
             remove_as(&rt, &mut desk, 0, cred),
@@ -185,7 +185,7 @@ fn a_removal_discards_what_waits(rt: HostRuntime) {
     }
     assert_removes(&rt, &mut desk, 0, USER_ZERO, Ok(4));
     assert_counts(&rt, &desk, (3, 1));
-    assert_eq!(rt; desk.slot.row(), None);
+    assert_is(&rt, desk.slot.row(), None);
     end_desk(&rt, desk, 0);
 }
 

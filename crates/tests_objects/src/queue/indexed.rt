@@ -7,7 +7,7 @@ ghost use Rattle.sysv_model.specs.declared.limits.TheConstants.{QUEUE_MESSAGES};
 ghost use Rattle.sysv_messages.specs.Probes.{IsFoundByFew};
 
 use super::{SENDER, open_slot};
-use crate::parts::{give_back, open_body, open_pool, room};
+use crate::parts::{assert_is, give_back, open_body, open_pool, room};
 use std::alloc::Global;
 use std::marker::Brand;
 use std::process::Abort;
@@ -44,7 +44,7 @@ fn end_desk(rt: &impl Abort, desk: Desk) {
     } = desk;
     let chain = slot.end();
     give_back(rt, &mut pool, chain);
-    assert_eq!(rt; pool.free(), 512);
+    assert_is(rt, pool.free(), 512);
     pool.end();
 }
 
@@ -81,7 +81,7 @@ fn receive(rt: &impl Abort, desk: &mut Desk, sel: Selector) -> Option<(u64, i64)
     match desk.slot.take(0, SENDER, sel, 0, false, 9) {
         Ok(taken) => Some(finish(rt, desk, taken)),
         Err(why) => {
-            assert_eq!(rt; why, TakeRefused::NoMatch { arrived });
+            assert_is(rt, why, TakeRefused::NoMatch { arrived });
             None
         }
     }
@@ -145,7 +145,7 @@ fn takes_follow_the_plain_rule(rt: HostRuntime) {
         }
     }
     let (arrived, freed) = desk.slot.counts();
-    assert_eq!(rt; arrived, 300);
+    assert_is(&rt, arrived, 300);
     assert!(rt; freed > 150 && beside.types.len() > 50);
     end_desk(&rt, desk);
 }
@@ -224,10 +224,18 @@ fn every_type_but_one_comes_in_order(rt: HostRuntime) {
     fill(&rt, &mut desk);
     for number in 1..256 {
         let wanted = (number, type_of_number(number));
-        assert_eq!(rt; receive(&rt, &mut desk, Selector::Except(1)), Some(wanted));
+        assert_is(
+            &rt,
+            receive(&rt, &mut desk, Selector::Except(1)),
+            Some(wanted),
+        );
     }
-    assert_eq!(rt; receive(&rt, &mut desk, Selector::Except(1)), None);
-    assert_eq!(rt; receive(&rt, &mut desk, Selector::Except(2)), Some((0, 1)));
+    assert_is(&rt, receive(&rt, &mut desk, Selector::Except(1)), None);
+    assert_is(
+        &rt,
+        receive(&rt, &mut desk, Selector::Except(2)),
+        Some((0, 1)),
+    );
     end_desk(&rt, desk);
 }
 
@@ -246,7 +254,7 @@ fn a_full_queue_gives_each_type_by_few_reads(rt: HostRuntime) {
         match taken {
             Ok(taken) => {
                 let (_, found) = finish(&rt, &mut desk, taken);
-                assert_eq!(rt; found, mtype);
+                assert_is(&rt, found, mtype);
             }
             Err(why) => panic!(&rt; "{why}"),
         }
