@@ -54,7 +54,7 @@ fn getting(flags: Flags) -> Getting {
 
 /// A state that can be compared: a chain is shown as its number of blocks, and a delivery as its
 /// type.
-#[derive(Clone, Copy, PartialEq, Eq)]
+#[derive(Clone, Copy, PartialEq, Eq, Debug)]
 enum Shown {
     Begin(Getting),
     Install { get: Getting, id: i32 },
