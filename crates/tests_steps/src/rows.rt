@@ -289,7 +289,7 @@ fn three_blocks(rt: &impl Abort, pool: &mut Pool) -> Chain
 fn send_text(rt: &impl Abort, slot: &mut QueueSlot, pool: &mut Pool, alloc: Global) {
     let mut text = open_body(rt, alloc);
     assert!(rt; text.push_piece(&[b'x'; 130]));
-    assert_eq!(rt; text.len(), 130);
+    assert_is(rt, text.len(), 130);
     let mut chain = three_blocks(rt, pool);
     chain.fill(&text);
     let (arrived, _) = slot.counts();
@@ -345,7 +345,7 @@ fn release<S: Shows>(rt: &impl Abort, pool: &mut Pool, held: (Chain, S)) -> Show
     if let Err(chain) = pool.release(chain) {
         panic!(rt; "a chain of {} blocks came back", chain.end());
     }
-    assert_eq!(rt; pool.released(), released + 1);
+    assert_is(rt, pool.released(), released + 1);
     show(after)
 }
 
@@ -353,29 +353,55 @@ fn release<S: Shows>(rt: &impl Abort, pool: &mut Pool, held: (Chain, S)) -> Show
 fn a_get_begins(rt: HostRuntime) {
     let get = getting(Flags::IPC_CREAT);
     let begun = |begun| show(get.begun(begun));
-    assert!(rt; show(Getting::begin(USER, 7, Flags::IPC_CREAT)) == Shown::Begin(get));
-    assert!(rt; begun(Begun::Made { id: 259 }) == Shown::Install { get, id: 259 });
-    assert!(rt;
+    assert_is(
+        &rt,
+        show(Getting::begin(USER, 7, Flags::IPC_CREAT)),
+        Shown::Begin(get),
+    );
+    assert_is(
+        &rt,
+        begun(Begun::Made { id: 259 }),
+        Shown::Install { get, id: 259 },
+    );
+    assert_is(
+        &rt,
         begun(Begun::Found {
             id: 259,
-            settled: 5
-        }) == Shown::Probe {
+            settled: 5,
+        }),
+        Shown::Probe {
             get,
             id: 259,
-            settled: 5
-        }
+            settled: 5,
+        },
     );
     let wait = GetWait { above: 5, get };
-    assert!(rt; begun(Begun::Busy { settled: 5 }) == Shown::WaitsToGet(wait));
-    assert!(rt; begun(Begun::Refused(Errno::ENOSPC)) == Shown::Refused(Errno::ENOSPC));
+    assert_is(
+        &rt,
+        begun(Begun::Busy { settled: 5 }),
+        Shown::WaitsToGet(wait),
+    );
+    assert_is(
+        &rt,
+        begun(Begun::Refused(Errno::ENOSPC)),
+        Shown::Refused(Errno::ENOSPC),
+    );
 }
 
 #[test]
 fn a_get_makes_a_queue(rt: HostRuntime) {
-    assert!(rt; show(Getting::installed(259, true)) == Shown::Settle { id: 259 });
-    assert!(rt; show(Getting::settled(259)) == Shown::Id(259));
-    assert!(rt; show(Getting::installed(259, false)) == Shown::Unmake { id: 259 });
-    assert!(rt; show(Getting::unmade()) == Shown::Refused(Errno::ENOSPC));
+    assert_is(
+        &rt,
+        show(Getting::installed(259, true)),
+        Shown::Settle { id: 259 },
+    );
+    assert_is(&rt, show(Getting::settled(259)), Shown::Id(259));
+    assert_is(
+        &rt,
+        show(Getting::installed(259, false)),
+        Shown::Unmake { id: 259 },
+    );
+    assert_is(&rt, show(Getting::unmade()), Shown::Refused(Errno::ENOSPC));
 }
 
 #[test]
@@ -383,17 +409,21 @@ fn a_get_probes_what_it_found(rt: HostRuntime) {
     let get = getting(Flags::IPC_CREAT);
     let wait = GetWait { above: 5, get };
     let probed = |found| show(get.probed(259, 5, found));
-    assert!(rt; probed(Probe::Gone) == Shown::WaitsToGet(wait));
-    assert!(rt; probed(Probe::Denied) == Shown::Refused(Errno::EACCES));
-    assert!(rt; probed(Probe::Granted) == Shown::Id(259));
+    assert_is(&rt, probed(Probe::Gone), Shown::WaitsToGet(wait));
+    assert_is(&rt, probed(Probe::Denied), Shown::Refused(Errno::EACCES));
+    assert_is(&rt, probed(Probe::Granted), Shown::Id(259));
     let get = getting(Flags::IPC_CREAT | Flags::IPC_EXCL);
     let wait = GetWait { above: 5, get };
     let probed = |found| show(get.probed(259, 5, found));
-    assert!(rt; probed(Probe::Gone) == Shown::WaitsToGet(wait));
-    assert!(rt; probed(Probe::Denied) == Shown::Refused(Errno::EEXIST));
-    assert!(rt; probed(Probe::Granted) == Shown::Refused(Errno::EEXIST));
+    assert_is(&rt, probed(Probe::Gone), Shown::WaitsToGet(wait));
+    assert_is(&rt, probed(Probe::Denied), Shown::Refused(Errno::EEXIST));
+    assert_is(&rt, probed(Probe::Granted), Shown::Refused(Errno::EEXIST));
     let old = getting(Flags::IPC_EXCL);
-    assert!(rt; show(old.probed(259, 5, Probe::Granted)) == Shown::Id(259));
+    assert_is(
+        &rt,
+        show(old.probed(259, 5, Probe::Granted)),
+        Shown::Id(259),
+    );
 }
 
 #[test]
@@ -420,10 +450,18 @@ fn the_attributes_are_told(rt: HostRuntime) {
         cred: USER,
         id: 259,
     };
-    assert!(rt; show(StatStep::begin(USER, 259)) == read);
-    assert!(rt; show(StatStep::begin(USER, -1)) == Shown::Refused(Errno::EINVAL));
-    assert!(rt; show(StatStep::told(Ok(stat))) == Shown::Told(stat));
-    assert!(rt; show(StatStep::told(Err(Errno::EACCES))) == Shown::Refused(Errno::EACCES));
+    assert_is(&rt, show(StatStep::begin(USER, 259)), read);
+    assert_is(
+        &rt,
+        show(StatStep::begin(USER, -1)),
+        Shown::Refused(Errno::EINVAL),
+    );
+    assert_is(&rt, show(StatStep::told(Ok(stat))), Shown::Told(stat));
+    assert_is(
+        &rt,
+        show(StatStep::told(Err(Errno::EACCES))),
+        Shown::Refused(Errno::EACCES),
+    );
 }
 
 #[test]
@@ -439,12 +477,24 @@ fn a_queue_is_changed(rt: HostRuntime) {
         id: 259,
         to,
     };
-    assert!(rt; show(SetStep::begin(USER, 259, to)) == set);
-    assert!(rt; show(SetStep::begin(USER, -1, to)) == Shown::Refused(Errno::EINVAL));
-    assert!(rt; show(SetStep::done(Ok(()))) == Shown::SetGiveback);
-    assert!(rt; show(SetStep::done(Err(Errno::EPERM))) == Shown::Refused(Errno::EPERM));
+    assert_is(&rt, show(SetStep::begin(USER, 259, to)), set);
+    assert_is(
+        &rt,
+        show(SetStep::begin(USER, -1, to)),
+        Shown::Refused(Errno::EINVAL),
+    );
+    assert_is(&rt, show(SetStep::done(Ok(()))), Shown::SetGiveback);
+    assert_is(
+        &rt,
+        show(SetStep::done(Err(Errno::EPERM))),
+        Shown::Refused(Errno::EPERM),
+    );
     let mut pool = open_pool(&rt, rt.alloc(), 128);
-    assert!(rt; release(&rt, &mut pool, (Chain::empty(), SetStep::given_back())) == Shown::Zero);
+    assert_is(
+        &rt,
+        release(&rt, &mut pool, (Chain::empty(), SetStep::given_back())),
+        Shown::Zero,
+    );
     assert_is(&rt, pool.free(), 128);
     pool.end();
 }
@@ -455,9 +505,17 @@ fn a_removal_begins(rt: HostRuntime) {
         cred: USER,
         id: 259,
     };
-    assert!(rt; show(RemoveStep::begin(USER, 259)) == remove);
-    assert!(rt; show(RemoveStep::begin(USER, -1)) == Shown::Refused(Errno::EINVAL));
-    assert!(rt; show(RemoveStep::removed(259, Err(Errno::EPERM))) == Shown::Refused(Errno::EPERM));
+    assert_is(&rt, show(RemoveStep::begin(USER, 259)), remove);
+    assert_is(
+        &rt,
+        show(RemoveStep::begin(USER, -1)),
+        Shown::Refused(Errno::EINVAL),
+    );
+    assert_is(
+        &rt,
+        show(RemoveStep::removed(259, Err(Errno::EPERM))),
+        Shown::Refused(Errno::EPERM),
+    );
 }
 
 #[test]
@@ -475,15 +533,23 @@ fn a_removal_gives_back_what_it_discarded(rt: HostRuntime) {
         }
     };
     assert_is(&rt, chain.blocks(), 3);
-    assert_is(&rt, release(
+    assert_is(
+        &rt,
+        release(
             &rt,
             &mut pool,
-            remove_giveback(&rt, RemoveStep::forgotten(chain))
-        ), Shown::Zero);
+            remove_giveback(&rt, RemoveStep::forgotten(chain)),
+        ),
+        Shown::Zero,
+    );
     assert_is(&rt, pool.free(), 128);
     pool.end();
     assert_is(&rt, slot.end().end(), 0);
-    assert!(rt; show(RemoveStep::forgotten(Chain::empty())) == Shown::RemoveGiveback { blocks: 0 });
+    assert_is(
+        &rt,
+        show(RemoveStep::forgotten(Chain::empty())),
+        Shown::RemoveGiveback { blocks: 0 },
+    );
 }
 
 #[test]
@@ -492,13 +558,13 @@ fn a_wait_ends_above_its_value(rt: HostRuntime) {
     let settled = GetWait { above: 5, get };
     assert!(rt; !settled.is_over(5) && settled.is_over(6));
     assert!(rt; !settled.is_over(0) && settled.is_over(u64::MAX));
-    assert!(rt; settled.resume().shown() == Shown::Begin(get));
+    assert_is(&rt, settled.resume().shown(), Shown::Begin(get));
     let arrived = ReceiveWait {
         above: 0,
         receive: receiving(true),
     };
     assert!(rt; !arrived.is_over(0) && arrived.is_over(1));
-    assert!(rt; arrived.resume().shown() == Shown::Take(receiving(true)));
+    assert_is(&rt, arrived.resume().shown(), Shown::Take(receiving(true)));
 }
 
 #[test]
@@ -508,7 +574,7 @@ fn the_released_count_is_read_by_its_own_wait_alone(rt: HostRuntime) {
         send: sending(true),
     };
     assert!(rt; !freed.is_over(u64::MAX));
-    assert!(rt; freed.resume(9).shown() == Shown::Look(sending(true)));
+    assert_is(&rt, freed.resume(9).shown(), Shown::Look(sending(true)));
     let released = SendWait::Blocks {
         above: 7,
         send: sending(true),
@@ -518,7 +584,7 @@ fn the_released_count_is_read_by_its_own_wait_alone(rt: HostRuntime) {
         released: 9,
         ..sending(true)
     };
-    assert!(rt; released.resume(9).shown() == Shown::Look(later));
+    assert_is(&rt, released.resume(9).shown(), Shown::Look(later));
 }
 
 #[test]
@@ -532,11 +598,19 @@ fn a_send_waits_for_room(rt: HostRuntime) {
         send: waiting(true),
     };
     let full = Look::Full { freed: 3 };
-    assert!(rt; show(waiting(false).looked(full)) == Shown::WaitsToSend(wait));
+    assert_is(
+        &rt,
+        show(waiting(false).looked(full)),
+        Shown::WaitsToSend(wait),
+    );
     let mut pool = open_pool(&rt, rt.alloc(), 128);
     let chain = three_blocks(&rt, &mut pool);
     let refused = waiting(true).unplaced(Unplaced::Full { freed: 3 }, chain);
-    assert!(rt; release(&rt, &mut pool, send_giveback(&rt, refused)) == Shown::WaitsToSend(wait));
+    assert_is(
+        &rt,
+        release(&rt, &mut pool, send_giveback(&rt, refused)),
+        Shown::WaitsToSend(wait),
+    );
     assert_is(&rt, pool.free(), 128);
     pool.end();
 }
@@ -551,15 +625,19 @@ fn a_send_waits_for_blocks(rt: HostRuntime) {
         above: 7,
         send: waiting,
     };
-    assert!(rt; show(waiting.reserved(None)) == Shown::WaitsToSend(wait));
-    assert!(rt; show(sending(true).reserved(None)) == Shown::Refused(Errno::EAGAIN));
+    assert_is(&rt, show(waiting.reserved(None)), Shown::WaitsToSend(wait));
+    assert_is(
+        &rt,
+        show(sending(true).reserved(None)),
+        Shown::Refused(Errno::EAGAIN),
+    );
     let mut pool = open_pool(&rt, rt.alloc(), 128);
     let chain = three_blocks(&rt, &mut pool);
     let place = Shown::Place {
         send: waiting,
         blocks: 3,
     };
-    assert!(rt; show(waiting.reserved(Some(chain))) == place);
+    assert_is(&rt, show(waiting.reserved(Some(chain))), place);
     pool.end();
 }
 
@@ -574,29 +652,37 @@ fn a_receive_waits_for_a_message(rt: HostRuntime) {
         receive: waiting(true),
     };
     let none = TakeRefused::NoMatch { arrived: 1 };
-    assert!(rt; show(waiting(false).untaken(none)) == Shown::WaitsToReceive(wait));
+    assert_is(
+        &rt,
+        show(waiting(false).untaken(none)),
+        Shown::WaitsToReceive(wait),
+    );
     let gone = waiting(true).untaken(TakeRefused::Gone);
-    assert!(rt; show(gone) == Shown::Refused(Errno::EIDRM));
+    assert_is(&rt, show(gone), Shown::Refused(Errno::EIDRM));
 }
 
 #[test]
 fn a_send_begins(rt: HostRuntime) {
     let begin = |id, mtype, size| show(Sending::begin(USER, id, mtype, Flags::IPC_NOWAIT, size, 7));
-    assert!(rt; begin(0, 5, 8192) == Shown::Look(sending(false)));
-    assert!(rt; begin(0, 0, 1) == Shown::Refused(Errno::EINVAL));
-    assert!(rt; begin(0, 5, 8193) == Shown::Refused(Errno::EINVAL));
-    assert!(rt; begin(-1, 5, 1) == Shown::Refused(Errno::EINVAL));
+    assert_is(&rt, begin(0, 5, 8192), Shown::Look(sending(false)));
+    assert_is(&rt, begin(0, 0, 1), Shown::Refused(Errno::EINVAL));
+    assert_is(&rt, begin(0, 5, 8193), Shown::Refused(Errno::EINVAL));
+    assert_is(&rt, begin(-1, 5, 1), Shown::Refused(Errno::EINVAL));
 }
 
 #[test]
 fn a_send_looks(rt: HostRuntime) {
     let looked = |found| show(sending(false).looked(found));
-    assert!(rt; looked(Look::Fits) == Shown::Reserve(sending(true)));
-    assert!(rt; looked(Look::Gone) == Shown::Refused(Errno::EINVAL));
-    assert!(rt; looked(Look::Denied) == Shown::Refused(Errno::EACCES));
-    assert!(rt; looked(Look::Full { freed: 3 }) == Shown::Refused(Errno::EAGAIN));
+    assert_is(&rt, looked(Look::Fits), Shown::Reserve(sending(true)));
+    assert_is(&rt, looked(Look::Gone), Shown::Refused(Errno::EINVAL));
+    assert_is(&rt, looked(Look::Denied), Shown::Refused(Errno::EACCES));
+    assert_is(
+        &rt,
+        looked(Look::Full { freed: 3 }),
+        Shown::Refused(Errno::EAGAIN),
+    );
     let again = sending(true).looked(Look::Gone);
-    assert!(rt; show(again) == Shown::Refused(Errno::EIDRM));
+    assert_is(&rt, show(again), Shown::Refused(Errno::EIDRM));
 }
 
 #[test]
@@ -611,7 +697,11 @@ fn a_send_is_refused_at_its_place(rt: HostRuntime) {
         let chain = three_blocks(&rt, &mut pool);
         let refused = sending(true).unplaced(why, chain);
         assert_is(&rt, pool.free(), 125);
-        assert!(rt; release(&rt, &mut pool, send_giveback(&rt, refused)) == Shown::Refused(errno));
+        assert_is(
+            &rt,
+            release(&rt, &mut pool, send_giveback(&rt, refused)),
+            Shown::Refused(errno),
+        );
         assert_is(&rt, pool.free(), 128);
     }
     pool.end();
@@ -620,23 +710,31 @@ fn a_send_is_refused_at_its_place(rt: HostRuntime) {
         afterwards: Afterwards::Refused(Errno::EIDRM),
     };
     let refused = sending(true).unplaced(Unplaced::Gone, Chain::empty());
-    assert!(rt; show(refused) == giveback);
-    assert!(rt; show(Sending::placed()) == Shown::Zero);
+    assert_is(&rt, show(refused), giveback);
+    assert_is(&rt, show(Sending::placed()), Shown::Zero);
 }
 
 #[test]
 fn a_receive_begins(rt: HostRuntime) {
     let begin = |id, flags| show(Receiving::begin(USER, id, 9, -4, flags));
-    assert!(rt; begin(0, Flags::IPC_NOWAIT) == Shown::Take(receiving(false)));
-    assert!(rt; begin(-1, Flags::IPC_NOWAIT) == Shown::Refused(Errno::EINVAL));
+    assert_is(
+        &rt,
+        begin(0, Flags::IPC_NOWAIT),
+        Shown::Take(receiving(false)),
+    );
+    assert_is(
+        &rt,
+        begin(-1, Flags::IPC_NOWAIT),
+        Shown::Refused(Errno::EINVAL),
+    );
     let except = Flags::IPC_NOWAIT.union(Flags::MSG_EXCEPT);
-    assert!(rt; begin(0, except) == Shown::Take(receiving(false)));
+    assert_is(&rt, begin(0, except), Shown::Take(receiving(false)));
     let another = Receiving {
         selector: Selector::Except(5),
         ..receiving(false)
     };
     let begun = show(Receiving::begin(USER, 0, 9, 5, except));
-    assert!(rt; begun == Shown::Take(another));
+    assert_is(&rt, begun, Shown::Take(another));
 }
 
 #[test]
@@ -655,7 +753,11 @@ fn a_receive_gives_back_what_it_took(rt: HostRuntime) {
         Err(why) => panic!(rt; "not taken: {why:?}"),
     };
     assert_is(&rt, pool.free(), 125);
-    assert!(rt; release(&rt, &mut pool, receive_giveback(&rt, given)) == Shown::Got { mtype: 2 });
+    assert_is(
+        &rt,
+        release(&rt, &mut pool, receive_giveback(&rt, given)),
+        Shown::Got { mtype: 2 },
+    );
     assert_is(&rt, pool.free(), 128);
     assert_is(&rt, out.len(), 9);
     pool.end();
@@ -665,11 +767,29 @@ fn a_receive_gives_back_what_it_took(rt: HostRuntime) {
 #[test]
 fn a_receive_is_given_no_message(rt: HostRuntime) {
     let untaken = |live_seen, why| show(receiving(live_seen).untaken(why));
-    assert!(rt; untaken(false, TakeRefused::Gone) == Shown::Refused(Errno::EINVAL));
-    assert!(rt; untaken(true, TakeRefused::Gone) == Shown::Refused(Errno::EIDRM));
-    assert!(rt; untaken(false, TakeRefused::Denied) == Shown::Refused(Errno::EACCES));
-    assert!(rt;
-        untaken(false, TakeRefused::NoMatch { arrived: 1 }) == Shown::Refused(Errno::ENOMSG)
+    assert_is(
+        &rt,
+        untaken(false, TakeRefused::Gone),
+        Shown::Refused(Errno::EINVAL),
     );
-    assert!(rt; untaken(false, TakeRefused::TooLong) == Shown::Refused(Errno::E2BIG));
+    assert_is(
+        &rt,
+        untaken(true, TakeRefused::Gone),
+        Shown::Refused(Errno::EIDRM),
+    );
+    assert_is(
+        &rt,
+        untaken(false, TakeRefused::Denied),
+        Shown::Refused(Errno::EACCES),
+    );
+    assert_is(
+        &rt,
+        untaken(false, TakeRefused::NoMatch { arrived: 1 }),
+        Shown::Refused(Errno::ENOMSG),
+    );
+    assert_is(
+        &rt,
+        untaken(false, TakeRefused::TooLong),
+        Shown::Refused(Errno::E2BIG),
+    );
 }
