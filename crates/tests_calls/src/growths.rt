@@ -1,8 +1,7 @@
 //! The opening of a world, with a growth of it refused: it then returns `NoMemory`.
 
-use crate::parts::assert_is;
 use sysv_core::{OpenRefused, World};
-use tests_kit::mark;
+use tests_kit::{assert_is, mark};
 
 #[test]
 fn world_open(rt: HostRuntime) {

@@ -1,9 +1,8 @@
 //! Each call that allocates, with a growth of it refused: it then returns `NoMemory`.
 
-use crate::parts::assert_is;
 use sysv_buffer::{ManyBuffer, OneBuffer, OpenRefused as BufferRefused};
 use sysv_eventcount::{Eventcount, OpenRefused as CountRefused, Sequencer};
-use tests_kit::mark;
+use tests_kit::{assert_is, mark};
 
 #[test]
 fn eventcount_open(rt: HostRuntime) {

@@ -1,9 +1,8 @@
 //! The opening of a body, with a growth of it refused.
 
 use super::*;
-use crate::parts::assert_is;
 use sysv_model::{Body, NoMemory};
-use tests_kit::mark;
+use tests_kit::{assert_is, mark};
 
 #[test]
 fn body_open(rt: HostRuntime) {
