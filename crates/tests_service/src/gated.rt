@@ -38,7 +38,7 @@ fn gates_at(rt: &impl Abort, alloc: Global, first: u64) -> (Gates, Seats)
     match Gates::open_at(alloc, 128, first, 0) {
         Ok(opened) => opened,
         Err(why) => {
-            assert_eq!(rt; why, OpenRefused::NoMemory);
+            assert_is(rt, why, OpenRefused::NoMemory);
             match Gates::open_at(alloc, 128, first, 0) {
                 Ok(opened) => opened,
                 Err(_) => panic!(rt; "a second try"),
@@ -63,7 +63,7 @@ fn loaded_of<R: Wait + Abort>(
     match reserve(rt, gates, seats, body.len()) {
         Ok(Some(chain)) => {
             let loaded = LoadedChain::of(chain, &body);
-            assert_eq!(rt; loaded.size(), text.len());
+            assert_is(rt, loaded.size(), text.len());
             loaded
         }
         Ok(None) => panic!(rt; "no blocks"),
@@ -144,7 +144,7 @@ fn ended(rt: &impl Abort, closed: GatesClosed) -> (u64, u64, u64) {
         registry,
         pool,
     } = closed;
-    assert_eq!(rt; slots.len(), 256);
+    assert_is(rt, slots.len(), 256);
     assert!(rt; slots.iter().all(|closing| closing.object.is_some()));
     assert!(rt; registry.object.is_some());
     assert!(rt; pool.object.is_some());
@@ -252,7 +252,7 @@ fn a_message_goes_through_its_slot(rt: HostRuntime) {
         Ok(Err(_)) => panic!(rt; "no message"),
         Err(_) => panic!(rt; "worn"),
     }
-    assert!(rt; out.block(0) == b"hello".as_slice());
+    assert_is(&rt, out.block(0), b"hello".as_slice());
     let freed = gates.await_count(&rt, &mut seats, SharedCount::Freed { id: 1 }, 1);
     assert_is(&rt, freed, Awaited::Reached(1));
     assert_is(&rt, gates.count(&mut seats, SharedCount::Released), 1);

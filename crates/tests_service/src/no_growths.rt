@@ -36,7 +36,7 @@ fn own_message<R: Abort + Wait>(
         }
         Err(why) => panic!(rt; "{why}"),
     }
-    assert!(rt; out.block(0) == b"ping".as_slice());
+    assert_is(rt, out.block(0), b"ping".as_slice());
 }
 
 /// The attributes of the queue are changed and returned, and its row is shown.

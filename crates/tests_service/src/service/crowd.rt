@@ -12,7 +12,7 @@ use std::sync::Wait;
 use sysv_model::SetTo;
 use sysv_queue::Tally;
 use sysv_service::{Pass, Service};
-use tests_kit::USER;
+use tests_kit::{USER, assert_is};
 
 /// The number of messages that each sender sends, and that each receiver receives.
 const TIMES: u8 = 200;
@@ -62,7 +62,7 @@ impl Sender {
             let text = body_of(rt, alloc, &[number]);
             let mtype = type_of(self.number, number);
             let sent = service.msgsnd(rt, pass, &Moment::Still, USER, 0, mtype, &text, waiting());
-            assert_eq!(rt; sent, Ok(()));
+            assert_is(rt, sent, Ok(()));
         }
     }
 }
@@ -95,7 +95,7 @@ impl Receiver {
             };
             let mtype = delivery.mtype();
             delivery.written(&mut Tally::open());
-            assert_eq!(rt; out.len(), 1);
+            assert_is(rt, out.len(), 1);
             let number = out.byte(0);
             self.got
                 .push(Message { mtype, number })
@@ -164,7 +164,7 @@ fn each_message_is_received_once_and_in_order(rt: HostRuntime) {
     let alloc = rt.alloc();
     let before = [Ask::Get(7), Ask::Set(0, USER, ONE_BYTE)];
     let left = run(&rt, alloc, 1024, &before, crowd(&rt, alloc));
-    assert_eq!(rt; left.closed, closed(0, 1024));
+    assert_is(&rt, left.closed, closed(0, 1024));
     for sender in 0..SENDERS {
         for number in 0..TIMES {
             let mtype = type_of(sender, number);

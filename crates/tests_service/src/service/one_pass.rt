@@ -74,11 +74,11 @@ fn receive(
         Ok(delivery) => {
             let told = (delivery.mtype(), delivery.len());
             delivery.written(&mut Tally::open());
-            assert_eq!(rt; told.1, out.len());
+            assert_is(rt, told.1, out.len());
             Ok(told)
         }
         Err(why) => {
-            assert_eq!(rt; out.len(), 0);
+            assert_is(rt, out.len(), 0);
             Err(why)
         }
     }

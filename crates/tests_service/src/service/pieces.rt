@@ -107,7 +107,7 @@ fn a_receive_goes_on_after_a_send_of_another_pass(rt: HostRuntime) {
     let mut out = body_of(&rt, alloc, b"what was there before");
     let begun = begin_receive(&rt, &service, &mut pass, &mut out, waiting());
     let wait = receive_wait(&rt, begun);
-    assert_eq!(rt; out.len(), 0);
+    assert_is(&rt, out.len(), 0);
     assert!(rt; service.msgrcv_look(&mut pass, &wait).is_none());
     send(&rt, alloc, &service, &mut other, 6, b"x");
     let again = look(&rt, &service, &mut pass, &wait);
@@ -118,7 +118,7 @@ fn a_receive_goes_on_after_a_send_of_another_pass(rt: HostRuntime) {
     let again = look(&rt, &service, &mut pass, &wait);
     let over = service.msgrcv_go_on(&rt, &mut pass, &CLOCK, &mut out, again);
     assert_is(&rt, received(&rt, over), Ok((5, 4)));
-    assert_eq!(rt; out.len(), 4);
+    assert_is(&rt, out.len(), 4);
     service.join_pass(&mut pass, other);
     assert_is(&rt, service.close(pass), closed(1, 128));
 }
@@ -130,7 +130,7 @@ fn a_receive_that_need_not_wait_is_over_at_once(rt: HostRuntime) {
     let mut out = body_of(&rt, alloc, b"what was there before");
     let begun = begin_receive(&rt, &service, &mut pass, &mut out, Flags::IPC_NOWAIT);
     assert_is(&rt, received(&rt, begun), Err(Errno::ENOMSG));
-    assert_eq!(rt; out.len(), 0);
+    assert_is(&rt, out.len(), 0);
     send(&rt, alloc, &service, &mut pass, 5, b"ping");
     let begun = begin_receive(&rt, &service, &mut pass, &mut out, waiting());
     assert_is(&rt, received(&rt, begun), Ok((5, 4)));

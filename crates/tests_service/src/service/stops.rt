@@ -8,6 +8,7 @@ use super::turns::{Tease, Then};
 use crate::parts::closed;
 use std::process::Abort;
 use sysv_model::Errno;
+use tests_kit::assert_is;
 
 /// Two receives of type 2 at a queue, whose clocks report on a board each, and a thread that
 /// reports after both have looked.
@@ -49,10 +50,14 @@ fn a_stop_wakes_all_who_wait(rt: HostRuntime) {
     add(&rt, &mut parts, Part::Asks(stops));
     let before = [Ask::Get(1), Ask::Get(2), Ask::Get(3)];
     let left = run(&rt, alloc, 128, &before, parts);
-    assert_eq!(rt; left.live, 0);
-    assert_eq!(rt; left.closed, closed(0, 128));
+    assert_is(&rt, left.live, 0);
+    assert_is(&rt, left.closed, closed(0, 128));
     for waiter in [0, 1, 3, 4, 6, 7] {
-        assert_eq!(rt; told_of(&rt, &left.parts, waiter), (Err(Errno::EIDRM), 4));
+        assert_is(
+            &rt,
+            told_of(&rt, &left.parts, waiter),
+            (Err(Errno::EIDRM), 4),
+        );
     }
-    assert_eq!(rt; told_of(&rt, &left.parts, 9).0, Ok(3));
+    assert_is(&rt, told_of(&rt, &left.parts, 9).0, Ok(3));
 }

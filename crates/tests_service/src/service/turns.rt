@@ -12,7 +12,7 @@ use std::sync::Wait;
 use sysv_model::{Body, Flags};
 use sysv_queue::Tally;
 use sysv_service::{Pass, Service};
-use tests_kit::USER;
+use tests_kit::{USER, assert_is};
 
 /// Sends messages of type 1 to a queue and takes them back, until each of several receives of type
 /// 2 has looked twice there.
@@ -73,7 +73,7 @@ fn send<R: Abort + Wait>(
 {
     let clock = Moment::Still;
     let sent = service.msgsnd(rt, pass, &clock, USER, id, mtype, text, Flags::IPC_NOWAIT);
-    assert_eq!(rt; sent, Ok(()));
+    assert_is(rt, sent, Ok(()));
 }
 
 /// Receives the message of type 1.
@@ -107,9 +107,9 @@ fn a_receive_is_asked_again_at_each_message(rt: HostRuntime) {
     add(&rt, &mut parts, Part::Asks(turn));
     add(&rt, &mut parts, Part::Teases(tease));
     let left = run(&rt, alloc, 128, &[Ask::Get(7)], parts);
-    assert_eq!(rt; left.closed, closed(0, 128));
+    assert_is(&rt, left.closed, closed(0, 128));
     let (told, asked) = told_of(&rt, &left.parts, 0);
-    assert_eq!(rt; told, Ok(1));
+    assert_is(&rt, told, Ok(1));
     assert!(rt; asked >= 3);
 }
 
@@ -132,7 +132,7 @@ fn a_send_goes_on_while_another_is_held(rt: HostRuntime) {
     add(&rt, &mut parts, Part::Asks(held));
     add(&rt, &mut parts, Part::Asks(free));
     let left = run(&rt, alloc, 128, &[Ask::Get(1), Ask::Get(2)], parts);
-    assert_eq!(rt; left.closed, closed(2, 128));
-    assert_eq!(rt; told_of(&rt, &left.parts, 0), (Ok(0), 3));
-    assert_eq!(rt; told_of(&rt, &left.parts, 1), (Ok(0), 2));
+    assert_is(&rt, left.closed, closed(2, 128));
+    assert_is(&rt, told_of(&rt, &left.parts, 0), (Ok(0), 3));
+    assert_is(&rt, told_of(&rt, &left.parts, 1), (Ok(0), 2));
 }

@@ -11,7 +11,7 @@ use std::sync::Wait;
 use std::thread::Threads;
 use std::time::Clock;
 use sysv_model::{Errno, SetTo};
-use tests_kit::{ROOT, USER};
+use tests_kit::{ROOT, USER, assert_is};
 
 /// How often a wait is tried if the other call may be first.
 const TRIES: u32 = 50;
@@ -57,7 +57,7 @@ fn waited<R: Threads + Abort + Wait + Clock + Sync>(
     add(rt, &mut parts, Part::Asks(waits));
     add(rt, &mut parts, Part::Asks(ends));
     let left = run(rt, alloc, 128, &case.before, parts);
-    assert_eq!(rt; (left.closed.free, left.closed.held), (128, 0));
+    assert_is(rt, (left.closed.free, left.closed.held), (128, 0));
     let (told, said) = told_of(rt, &left.parts, 0);
     (told, said, told_of(rt, &left.parts, 1).0)
 }
@@ -67,10 +67,10 @@ fn waited<R: Threads + Abort + Wait + Clock + Sync>(
 fn check<R: Threads + Abort + Wait + Clock + Sync>(rt: &R, alloc: Global, case: &Case) {
     for _ in 0..TRIES {
         let (told, said, ending) = waited(rt, alloc, case);
-        assert_eq!(rt; said, 2);
+        assert_is(rt, said, 2);
         assert!(rt; ending.is_ok());
         if told != Err(Errno::EINVAL) {
-            assert_eq!(rt; told, case.told);
+            assert_is(rt, told, case.told);
             return;
         }
     }
@@ -154,12 +154,12 @@ fn an_arrival_wakes_every_receive_that_waits(rt: HostRuntime) {
         add(&rt, &mut parts, Part::Asks(turn));
     }
     let left = run(&rt, alloc, 128, &[Ask::Get(1)], parts);
-    assert_eq!(rt; left.closed, closed(0, 128));
+    assert_is(&rt, left.closed, closed(0, 128));
     let in_vain = told_of(&rt, &left.parts, 0).0;
     assert!(rt; matches!(in_vain, Err(Errno::EIDRM | Errno::EINVAL)));
-    assert_eq!(rt; told_of(&rt, &left.parts, 1).0, Ok(5));
-    assert_eq!(rt; told_of(&rt, &left.parts, 2).0, Ok(0));
-    assert_eq!(rt; told_of(&rt, &left.parts, 3).0, Ok(0));
+    assert_is(&rt, told_of(&rt, &left.parts, 1).0, Ok(5));
+    assert_is(&rt, told_of(&rt, &left.parts, 2).0, Ok(0));
+    assert_is(&rt, told_of(&rt, &left.parts, 3).0, Ok(0));
 }
 
 #[test]
@@ -202,10 +202,10 @@ fn a_get_waits_for_a_key_that_is_made(rt: HostRuntime) {
         add(&rt, &mut parts, Part::Asks(turn));
     }
     let left = run(&rt, alloc, 128, &[], parts);
-    assert_eq!(rt; left.closed, closed(0, 128));
-    assert_eq!(rt; told_of(&rt, &left.parts, 0), (Ok(0), 3));
-    assert_eq!(rt; told_of(&rt, &left.parts, 1), (Ok(0), 3));
-    assert_eq!(rt; told_of(&rt, &left.parts, 2).0, Ok(1));
+    assert_is(&rt, left.closed, closed(0, 128));
+    assert_is(&rt, told_of(&rt, &left.parts, 0), (Ok(0), 3));
+    assert_is(&rt, told_of(&rt, &left.parts, 1), (Ok(0), 3));
+    assert_is(&rt, told_of(&rt, &left.parts, 2).0, Ok(1));
 }
 
 // A get that the settle does not wake would sleep for ever.
@@ -238,9 +238,9 @@ fn one_settle_wakes_all_gets_that_wait(rt: HostRuntime) {
         add(&rt, &mut parts, Part::Asks(waits));
     }
     let left = run(&rt, alloc, 128, &[], parts);
-    assert_eq!(rt; left.closed, closed(0, 128));
+    assert_is(&rt, left.closed, closed(0, 128));
     for place in 0..GETS {
-        assert_eq!(rt; told_of(&rt, &left.parts, place + 2), (Ok(0), goal));
+        assert_is(&rt, told_of(&rt, &left.parts, place + 2), (Ok(0), goal));
     }
 }
 
@@ -288,8 +288,8 @@ fn a_call_that_waited_is_stamped_after_its_wait(rt: HostRuntime) {
         Ask::Send(0, 1),
     ];
     let calls = [Ask::Send(0, 1), Ask::Receive(0), Ask::SentAt(0)];
-    assert_eq!(rt; stamped(&rt, rt.alloc(), before, calls), Ok(2));
+    assert_is(&rt, stamped(&rt, rt.alloc(), before, calls), Ok(2));
     let before = [Ask::Get(1), Ask::Get(2), Ask::Get(3)];
     let calls = [Ask::Receive(0), Ask::Send(0, 5), Ask::ReceivedAt(0)];
-    assert_eq!(rt; stamped(&rt, rt.alloc(), before, calls), Ok(2));
+    assert_is(&rt, stamped(&rt, rt.alloc(), before, calls), Ok(2));
 }
