@@ -2,6 +2,7 @@
 use std::test::Fail;
 use sysv_buffer::OneBuffer;
 use sysv_eventcount::{Eventcount, Sequencer};
+use tests_kit::assert_is;
 
 #[test]
 fn one_thread_at_a_time(rt: HostRuntime) -> Result<(), Fail> {
@@ -12,7 +13,7 @@ fn one_thread_at_a_time(rt: HostRuntime) -> Result<(), Fail> {
     // One thread at a time is here.
     let number = served.advance(&mut serving)?;
     served.wake(&rt);
-    assert_eq!(rt; (turn, number), (0, 1));
+    assert_is(&rt, (turn, number), (0, 1));
     Ok(())
 }
 
@@ -23,6 +24,6 @@ fn an_item_goes_through_a_buffer(rt: HostRuntime) -> Result<(), Fail> {
     let put = buffer.put(&rt, &mut puts, 7);
     // In another:
     let item = buffer.take(&rt, &mut takes)?;
-    assert_eq!(rt; (put.is_ok(), item), (true, 7));
+    assert_is(&rt, (put.is_ok(), item), (true, 7));
     Ok(())
 }

@@ -6,6 +6,7 @@ use super::many::opened;
 use std::sync::Wait;
 use std::thread::{Threads, join};
 use sysv_buffer::{ManyBuffer, Seat};
+use tests_kit::assert_is;
 
 /// The number of items that each producer puts and each consumer takes.
 const ITEMS: u64 = 100;
@@ -119,7 +120,7 @@ fn each_item_comes_once(rt: HostRuntime) {
         let (put, (one, two)) = exchange(&rt, &buffer, seat);
         assert!(rt; put, "{cells} cells");
         for (left, right) in one.iter().zip(two.iter()) {
-            assert_eq!(rt; left.saturating_add(*right), 1);
+            assert_is(&rt, left.saturating_add(*right), 1);
         }
     }
 }
