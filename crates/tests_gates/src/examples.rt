@@ -2,6 +2,7 @@
 use crate::sum::Sum;
 use std::test::Fail;
 use sysv_gate::Gate;
+use tests_kit::assert_is;
 
 #[test]
 fn two_seats_call_an_object(rt: HostRuntime) -> Result<(), Fail> {
@@ -14,6 +15,6 @@ fn two_seats_call_an_object(rt: HostRuntime) -> Result<(), Fail> {
     let after = gate.call(&rt, &mut other, 7).ok();
     gate.join(&mut seat, other);
     let closing = gate.close(seat);
-    assert_eq!(rt; (before, after, closing.turns), (Some(0), Some(5), 2));
+    assert_is(&rt, (before, after, closing.turns), (Some(0), Some(5), 2));
     Ok(())
 }
