@@ -10,6 +10,7 @@ use std::alloc::Global;
 use std::process::Abort;
 use sysv_service::{Closed, OpenRefused, Pass, Service};
 use sysv_session::{End, Served};
+use tests_kit::assert_is;
 use tests_kit::worked::{ANSWERS, REQUEST_ENDS};
 
 /// What a session is to do and to leave.
@@ -107,7 +108,7 @@ fn opened(rt: &impl Abort, alloc: Global) -> (Service, Pass)
     match Service::open(alloc, 128) {
         Ok(opened) => opened,
         Err(why) => {
-            assert_eq!(rt; why, OpenRefused::NoMemory);
+            assert_is(rt, why, OpenRefused::NoMemory);
             match Service::open(alloc, 128) {
                 Ok(opened) => opened,
                 Err(why) => panic!(rt; "a second try: {why:?}"),

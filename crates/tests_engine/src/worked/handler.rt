@@ -13,7 +13,7 @@ use sysv_seats::{ServiceHandler, ZERO, Zero};
 use sysv_session::{End, Served, Texts};
 use sysv_wire::Fault;
 use tests_kit::worked::{ANSWERS, SESSION};
-use tests_kit::{Page, Pieces};
+use tests_kit::{Page, Pieces, assert_is};
 
 /// Runs the session, and asserts that each stream has failed if and only if the end says so.
 fn serve<R: Abort + Wait>(
@@ -38,7 +38,7 @@ fn serve<R: Abort + Wait>(
         End::Write => (0, 1),
         _ => (0, 0),
     };
-    assert_eq!(rt; failures, wanted);
+    assert_is(rt, failures, wanted);
     told
 }
 
