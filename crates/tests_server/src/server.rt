@@ -20,6 +20,7 @@ use sysv_server::{
     Ended, Host, Notice, Patience, Reason, ServeFault, Sums, Terms, serve_listener, serve_on,
 };
 use sysv_service::Closed;
+use tests_kit::assert_is;
 
 /// What is left of a service of 128 blocks when it is closed: no message, all blocks, no held gate.
 const EMPTY: Closed = Closed {
@@ -370,9 +371,9 @@ fn adds_up<R: Threads + Wait + Net + Files + Abort + Clock + Sync>(
     let first = served(rt, alloc, workers, all.sessions, clients);
     if matches!(&first.0, Err(ServeFault::NoMemory | ServeFault::Thread)) {
         let second = served(rt, alloc, workers, all.sessions, clients);
-        assert_eq!(rt; second, (Ok(all), true));
+        assert_is(rt, second, (Ok(all), true));
     } else {
-        assert_eq!(rt; first, (Ok(all), true));
+        assert_is(rt, first, (Ok(all), true));
     }
 }
 
@@ -465,9 +466,9 @@ fn ends_as<R: Threads + Wait + Net + Files + Abort + Clock + Sync>(
     let first = ended(rt, alloc, terms, clients);
     if matches!(&first.0.0, Err(ServeFault::NoMemory | ServeFault::Thread)) {
         let second = ended(rt, alloc, terms, clients);
-        assert_eq!(rt; second, ((Ok(end), true), true));
+        assert_is(rt, second, ((Ok(end), true), true));
     } else {
-        assert_eq!(rt; first, ((Ok(end), true), true));
+        assert_is(rt, first, ((Ok(end), true), true));
     }
 }
 

@@ -6,6 +6,7 @@ use std::os::fd::AsRawFd;
 use std::os::unix::net::UnixStream;
 use std::process::Abort;
 use sysv_seats::{Drained, Filled, MemoryStream, NonBlocking, Over, Replies, SocketStream, Step};
+use tests_kit::assert_is;
 
 /// Returns whether a read with room for 4 bytes gives these.
 fn gives<T: NonBlocking>(stream: &mut T, bytes: &[u8]) -> bool {
@@ -43,13 +44,13 @@ fn pieces_with_nothing_between(rt: HostRuntime) {
     let steps = [Step::AtMost(3), Step::AtMost(0), Step::AtMost(2)];
     let mut stream = memory(&rt, rt.alloc(), b"abcdefghijk", &steps, &[]);
     assert!(rt; gives(&mut stream, b"abc"));
-    assert_eq!(rt; reads(&mut stream), Filled::NothingNow);
+    assert_is(&rt, reads(&mut stream), Filled::NothingNow);
     assert!(rt; gives(&mut stream, b"de"));
     assert!(rt; gives(&mut stream, b"fghi"));
-    assert_eq!(rt; stream.fill(&mut []), Filled::NothingNow);
+    assert_is(&rt, stream.fill(&mut []), Filled::NothingNow);
     assert!(rt; gives(&mut stream, b"jk"));
-    assert_eq!(rt; reads(&mut stream), Filled::Over(Over::End));
-    assert_eq!(rt; reads(&mut stream), Filled::Over(Over::End));
+    assert_is(&rt, reads(&mut stream), Filled::Over(Over::End));
+    assert_is(&rt, reads(&mut stream), Filled::Over(Over::End));
 }
 
 // A write takes part of its bytes, then none, and then as many as there is room for.
@@ -57,16 +58,16 @@ fn pieces_with_nothing_between(rt: HostRuntime) {
 fn parts_of_a_write(rt: HostRuntime) {
     let steps = [Step::AtMost(2), Step::AtMost(0)];
     let mut stream = memory(&rt, rt.alloc(), b"", &[], &steps);
-    assert_eq!(rt; stream.drain(b"abcde"), Drained::Took(2));
-    assert_eq!(rt; stream.drain(b"cde"), Drained::NothingNow);
-    assert_eq!(rt; stream.drain(b"cde"), Drained::Took(3));
-    assert_eq!(rt; stream.drain(b"fg"), Drained::Took(1));
-    assert_eq!(rt; stream.drain(b"g"), Drained::NothingNow);
-    assert!(rt; stream.written() == b"abcdef".as_slice());
+    assert_is(&rt, stream.drain(b"abcde"), Drained::Took(2));
+    assert_is(&rt, stream.drain(b"cde"), Drained::NothingNow);
+    assert_is(&rt, stream.drain(b"cde"), Drained::Took(3));
+    assert_is(&rt, stream.drain(b"fg"), Drained::Took(1));
+    assert_is(&rt, stream.drain(b"g"), Drained::NothingNow);
+    assert_is(&rt, stream.written(), b"abcdef".as_slice());
     let mut book = Replies::with_room(rt.alloc(), 1).expect(&rt, "memory");
     stream.close(&mut book);
     let kept = book.kept();
-    assert_eq!(rt; kept.len(), 1);
+    assert_is(&rt, kept.len(), 1);
     assert!(rt;
         kept.iter()
             .all(|bytes| bytes.as_slice() == b"abcdef".as_slice())
@@ -79,15 +80,15 @@ fn failures_stay(rt: HostRuntime) {
     let steps = [Step::AtMost(1), Step::Fail];
     let mut stream = memory(&rt, rt.alloc(), b"abc", &steps, &steps);
     assert!(rt; gives(&mut stream, b"a"));
-    assert_eq!(rt; reads(&mut stream), Filled::Over(Over::Failed));
-    assert_eq!(rt; reads(&mut stream), Filled::Over(Over::Failed));
-    assert_eq!(rt; stream.drain(b"xyz"), Drained::Took(1));
-    assert_eq!(rt; stream.drain(b"yz"), Drained::Failed);
-    assert_eq!(rt; stream.drain(b"yz"), Drained::Failed);
-    assert!(rt; stream.written() == b"x".as_slice());
+    assert_is(&rt, reads(&mut stream), Filled::Over(Over::Failed));
+    assert_is(&rt, reads(&mut stream), Filled::Over(Over::Failed));
+    assert_is(&rt, stream.drain(b"xyz"), Drained::Took(1));
+    assert_is(&rt, stream.drain(b"yz"), Drained::Failed);
+    assert_is(&rt, stream.drain(b"yz"), Drained::Failed);
+    assert_is(&rt, stream.written(), b"x".as_slice());
     let mut reset = memory(&rt, rt.alloc(), b"abc", &[Step::Reset], &[Step::Reset]);
-    assert_eq!(rt; reads(&mut reset), Filled::Over(Over::Reset));
-    assert_eq!(rt; reset.drain(b"x"), Drained::Failed);
+    assert_is(&rt, reads(&mut reset), Filled::Over(Over::Reset));
+    assert_is(&rt, reset.drain(b"x"), Drained::Failed);
 }
 
 // A socket whose client shuts down: bytes in both directions, then the end.
@@ -95,20 +96,20 @@ fn failures_stay(rt: HostRuntime) {
 fn a_socket_that_ends(rt: HostRuntime) {
     let (mut stream, mut client) = socket(&rt);
     assert!(rt; stream.as_raw_fd() >= 0);
-    assert_eq!(rt; reads(&mut stream), Filled::NothingNow);
+    assert_is(&rt, reads(&mut stream), Filled::NothingNow);
     client.write_all(b"abcdef").expect(&rt, "a write");
     assert!(rt; gives(&mut stream, b"abcd"));
-    assert_eq!(rt; stream.fill(&mut []), Filled::NothingNow);
+    assert_is(&rt, stream.fill(&mut []), Filled::NothingNow);
     assert!(rt; gives(&mut stream, b"ef"));
-    assert_eq!(rt; reads(&mut stream), Filled::NothingNow);
-    assert_eq!(rt; stream.drain(b"xyz"), Drained::Took(3));
-    assert_eq!(rt; stream.drain(b""), Drained::NothingNow);
+    assert_is(&rt, reads(&mut stream), Filled::NothingNow);
+    assert_is(&rt, stream.drain(b"xyz"), Drained::Took(3));
+    assert_is(&rt, stream.drain(b""), Drained::NothingNow);
     let mut reply = [0u8; 3];
     client.read_exact(&mut reply).expect(&rt, "a read");
-    assert!(rt; &reply == b"xyz");
+    assert_is(&rt, &reply, b"xyz");
     drop(client);
-    assert_eq!(rt; reads(&mut stream), Filled::Over(Over::End));
-    assert_eq!(rt; reads(&mut stream), Filled::Over(Over::End));
+    assert_is(&rt, reads(&mut stream), Filled::Over(Over::End));
+    assert_is(&rt, reads(&mut stream), Filled::Over(Over::End));
     stream.close(&mut ());
 }
 
@@ -118,13 +119,13 @@ fn a_socket_that_ends(rt: HostRuntime) {
 fn a_socket_that_is_reset(rt: HostRuntime) {
     let (mut stream, mut client) = socket(&rt);
     client.write_all(b"ab").expect(&rt, "a write");
-    assert_eq!(rt; stream.drain(b"xyz"), Drained::Took(3));
+    assert_is(&rt, stream.drain(b"xyz"), Drained::Took(3));
     drop(client);
     assert!(rt; gives(&mut stream, b"ab"));
-    assert_eq!(rt; reads(&mut stream), Filled::Over(Over::Reset));
-    assert_eq!(rt; reads(&mut stream), Filled::Over(Over::Reset));
-    assert_eq!(rt; stream.drain(b"x"), Drained::Failed);
-    assert_eq!(rt; stream.drain(b"x"), Drained::Failed);
+    assert_is(&rt, reads(&mut stream), Filled::Over(Over::Reset));
+    assert_is(&rt, reads(&mut stream), Filled::Over(Over::Reset));
+    assert_is(&rt, stream.drain(b"x"), Drained::Failed);
+    assert_is(&rt, stream.drain(b"x"), Drained::Failed);
 }
 
 // A client that does not read: the socket takes bytes until the system has no more room.
@@ -139,5 +140,5 @@ fn a_socket_that_is_full(rt: HostRuntime) {
         }
         last = stream.drain(&bytes);
     }
-    assert_eq!(rt; last, Drained::NothingNow);
+    assert_is(&rt, last, Drained::NothingNow);
 }

@@ -25,7 +25,7 @@ fn is_answered<R: Abort>(rt: &R, stream: &mut UnixStream) -> bool {
     if len == 0 {
         return false;
     }
-    assert!(rt; &bytes[..len.min(64)] == KNOWN);
+    assert_is(rt, &bytes[..len.min(64)], KNOWN);
     true
 }
 
@@ -39,7 +39,7 @@ fn run_of_server(rt: HostRuntime) {
     let _marked = mark(rt.alloc());
     match serve_on(&rt, rt.alloc(), &listener, 128, 1, 1) {
         Ok(all) => {
-            assert_eq!(rt; all, sums(1, 0, 0));
+            assert_is(&rt, all, sums(1, 0, 0));
             if is_answered(&rt, &mut first) {
                 return;
             }
@@ -48,6 +48,6 @@ fn run_of_server(rt: HostRuntime) {
         Err(why) => assert!(rt; matches!(&why, ServeFault::NoMemory | ServeFault::Thread)),
     }
     let second = serve_on(&rt, rt.alloc(), &listener, 128, 1, 1);
-    assert_eq!(rt; second, Ok(sums(1, 0, 0)));
+    assert_is(&rt, second, Ok(sums(1, 0, 0)));
     assert!(rt; is_answered(&rt, &mut first));
 }

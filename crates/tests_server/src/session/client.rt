@@ -12,6 +12,7 @@ use sysv_seats::{
 };
 use sysv_service::{Pass, Service};
 use sysv_session::{End, Served};
+use tests_kit::assert_is;
 use tests_kit::worked::{ANSWERS, SESSION};
 
 /// A hello, a get of key 7, and a receive that waits for a type of at most 5.
@@ -287,7 +288,7 @@ fn the_notifications_of_a_send_and_a_receive(rt: HostRuntime) {
     assert_notifications(&rt, &mut tools, &[ARRIVED]);
     turn(&mut handler, &mut tools, &mut client);
     assert!(rt; tools.has_taken(5) && !tools.has_taken(4));
-    assert_eq!(rt; tools.take_notification(), Some(Notification::Released));
+    assert_is(&rt, tools.take_notification(), Some(Notification::Released));
     assert!(rt; tools.has_taken(5));
     assert_notifications(&rt, &mut tools, &[FREED]);
     assert!(rt; !tools.has_taken(5));
@@ -443,7 +444,7 @@ fn a_client_that_is_cut(rt: HostRuntime) {
     turn(&mut handler, &mut tools, &mut client);
     turn(&mut handler, &mut tools, &mut client);
     assert!(rt; client.has_unsent() && !client.is_over());
-    assert_eq!(rt; client.sent_bytes(), 20);
+    assert_is(&rt, client.sent_bytes(), 20);
     client.cut();
     assert!(rt; client.is_over());
     assert_closed(&rt, alloc, client, End::Write, (5, 0, 1), &ANSWERS[..20]);

@@ -10,7 +10,7 @@ use sysv_model::{Body, Instrumented};
 use sysv_session::{Conversation, End, Handler, RequestOutcome, TakenUp};
 use sysv_wire::Version;
 use tests_kit::worked::{ANSWERS, SESSION};
-use tests_kit::{Pieces, open_body};
+use tests_kit::{Pieces, assert_is, open_body};
 
 /// A conversation and its two bodies.
 struct Conversing {
@@ -95,10 +95,10 @@ fn gathered(rt: &impl Abort, alloc: Global, handler: &mut TestHandler) -> Option
     if end == Err(End::NoMemory) {
         let served = conversation.end(End::NoMemory);
         assert!(rt; served.end == End::NoMemory || served.end == End::Write);
-        assert_eq!(rt; served.tally.taken(), served.tally.lost());
+        assert_is(rt, served.tally.taken(), served.tally.lost());
         return None;
     }
-    assert_eq!(rt; end, Err(End::Ended));
+    assert_is(rt, end, Err(End::Ended));
     Some(conversation)
 }
 
@@ -118,7 +118,7 @@ fn take(rt: &impl Abort, conversation: &mut Conversation, left: &[u8], count: us
     requires { taken_in conversation.old.session.tally + length conversation.old.unsent.marks ≤ 6 }
     ensures { taken_in conversation.new.session.tally + length conversation.new.unsent.marks ≤ 6 }
 {
-    assert_eq!(rt; conversation.unsent(), left);
+    assert_is(rt, conversation.unsent(), left);
     assert!(rt; count <= conversation.waiting_bytes());
     conversation.sent(count);
 }
@@ -128,16 +128,17 @@ fn take(rt: &impl Abort, conversation: &mut Conversation, left: &[u8], count: us
 fn the_replies_of_a_session_are_gathered(rt: HostRuntime) {
     let mut handler = TestHandler::open(&rt, rt.alloc());
     if let Some(mut conversation) = gathered(&rt, rt.alloc(), &mut handler) {
-        assert_eq!(rt; conversation.waiting_bytes(), 49);
+        assert_is(&rt, conversation.waiting_bytes(), 49);
         take(&rt, &mut conversation, ANSWERS, 49);
         assert!(rt; conversation.is_empty());
         let served = conversation.end(End::Ended);
-        assert_eq!(rt;
+        assert_is(
+            &rt,
             (served.end, counts_of(&served)),
-            (End::Ended, (5, 1, 1, 0))
+            (End::Ended, (5, 1, 1, 0)),
         );
     }
-    assert_eq!(rt; handler.end(), 128);
+    assert_is(&rt, handler.end(), 128);
 }
 
 // The message is written with the last byte of its frame, the 42nd.
@@ -156,7 +157,7 @@ fn the_connection_takes_one_byte_after_another(rt: HostRuntime) {
                 "{count}"
             );
         }
-        assert_eq!(rt; handler.end(), 128);
+        assert_is(&rt, handler.end(), 128);
     }
 }
 
@@ -177,7 +178,7 @@ fn the_connection_is_reset_after_each_byte(rt: HostRuntime) {
                 "{count}"
             );
         }
-        assert_eq!(rt; handler.end(), 128);
+        assert_is(&rt, handler.end(), 128);
     }
 }
 
@@ -196,10 +197,14 @@ fn a_call_that_was_left_has_no_reply(rt: HostRuntime) {
     } = conversing;
     given.clear();
     let left = conversation.put(Version::One, RequestOutcome::Left, &given);
-    assert_eq!(rt; left, Err(End::Left));
+    assert_is(&rt, left, Err(End::Left));
     let gathered: &[u8] = if hello.is_ok() { &ANSWERS[..7] } else { &[] };
     take(&rt, &mut conversation, gathered, gathered.len());
     let served = conversation.end(End::Left);
-    assert_eq!(rt; (served.end, counts_of(&served)), (End::Left, (1, 0, 0, 0)));
-    assert_eq!(rt; handler.end(), 128);
+    assert_is(
+        &rt,
+        (served.end, counts_of(&served)),
+        (End::Left, (1, 0, 0, 0)),
+    );
+    assert_is(&rt, handler.end(), 128);
 }

@@ -15,7 +15,7 @@ use sysv_queue::{Delivery, Tally};
 use sysv_session::{End, Handler, Outbox, RequestOutcome, Session, TakenUp, hello_reply};
 use sysv_wire::{Ask, Op, Reply, ReplyContent, Request, Version};
 use tests_kit::worked::{ANSWERS, SESSION};
-use tests_kit::{Pieces, USER, creating, flags, open_body};
+use tests_kit::{Pieces, USER, assert_is, creating, flags, open_body};
 
 /// The frames of the reply to a send and of two replies to receives of `hi` with type 5.
 const GATHERED: &[u8] = &[
@@ -71,7 +71,7 @@ fn put(rt: &impl Abort, outbox: &mut Outbox, reply: &Reply, text: &Body)
 {
     let before = outbox.unsent().len();
     if outbox.put(reply, text).is_err() {
-        assert_eq!(rt; outbox.unsent().len(), before);
+        assert_is(rt, outbox.unsent().len(), before);
         outbox.put(reply, text).expect(rt, "a second try");
     }
 }
@@ -89,7 +89,7 @@ fn put_message(
 {
     let before = outbox.unsent().len();
     if let Err(AllocFailed { value }) = outbox.put_message(version, delivery, given) {
-        assert_eq!(rt; outbox.unsent().len(), before);
+        assert_is(rt, outbox.unsent().len(), before);
         if let Err(AllocFailed { value: _value }) = outbox.put_message(version, value, given) {
             panic!(rt; "a second try");
         }
@@ -111,8 +111,8 @@ fn take(
 {
     let count = count.min(outbox.unsent().len());
     outbox.sent(count, tally);
-    assert_eq!(rt; outbox.unsent(), left);
-    assert_eq!(rt; (tally.written(), tally.lost()), (written, 0));
+    assert_is(rt, outbox.unsent(), left);
+    assert_is(rt, (tally.written(), tally.lost()), (written, 0));
 }
 
 /// Returns an outbox with the reply to a send and two replies to receives of `hi` with type 5.
@@ -147,15 +147,15 @@ fn a_message_is_written_once_a_byte_after_it_was_taken(rt: HostRuntime) {
     let mut handler = TestHandler::open(&rt, rt.alloc());
     let mut tally = Tally::open();
     let mut outbox = with_two_messages(&rt, rt.alloc(), &mut handler);
-    assert_eq!(rt; outbox.unsent(), GATHERED);
+    assert_is(&rt, outbox.unsent(), GATHERED);
     take(&rt, &mut outbox, 7, &mut tally, &GATHERED[7..], 0);
     take(&rt, &mut outbox, 16, &mut tally, &GATHERED[23..], 0);
     take(&rt, &mut outbox, 1, &mut tally, &GATHERED[24..], 0);
     take(&rt, &mut outbox, 1, &mut tally, &GATHERED[25..], 1);
     take(&rt, &mut outbox, 15, &mut tally, &GATHERED[40..], 1);
     outbox.end(false, &mut tally);
-    assert_eq!(rt; (tally.written(), tally.lost()), (1, 1));
-    assert_eq!(rt; handler.end(), 128);
+    assert_is(&rt, (tally.written(), tally.lost()), (1, 1));
+    assert_is(&rt, handler.end(), 128);
 }
 
 /// Lets the connection take this number of bytes, ends the outbox, and asserts how many messages
@@ -249,24 +249,24 @@ fn a_session_is_taken_up_step_by_step(rt: HostRuntime) {
         text: open_body(rt.alloc()).expect(&rt, "a second try"),
         given: open_body(rt.alloc()).expect(&rt, "a second try"),
     };
-    assert_eq!(rt; gathering.step(&rt, &mut reader, &mut handler), Ok(()));
-    assert_eq!(rt; gathering.step(&rt, &mut reader, &mut handler), Ok(()));
-    assert_eq!(rt; gathering.step(&rt, &mut reader, &mut handler), Ok(()));
-    assert_eq!(rt; gathering.step(&rt, &mut reader, &mut handler), Ok(()));
-    assert_eq!(rt; gathering.step(&rt, &mut reader, &mut handler), Ok(()));
+    assert_is(&rt, gathering.step(&rt, &mut reader, &mut handler), Ok(()));
+    assert_is(&rt, gathering.step(&rt, &mut reader, &mut handler), Ok(()));
+    assert_is(&rt, gathering.step(&rt, &mut reader, &mut handler), Ok(()));
+    assert_is(&rt, gathering.step(&rt, &mut reader, &mut handler), Ok(()));
+    assert_is(&rt, gathering.step(&rt, &mut reader, &mut handler), Ok(()));
     let end = gathering.step(&rt, &mut reader, &mut handler);
-    assert_eq!(rt; end, Err(End::Ended));
+    assert_is(&rt, end, Err(End::Ended));
     let Gathering {
         mut session,
         mut outbox,
         text: _,
         given: _,
     } = gathering;
-    assert_eq!(rt; outbox.unsent(), ANSWERS);
+    assert_is(&rt, outbox.unsent(), ANSWERS);
     let count = outbox.unsent().len();
     outbox.sent(count, &mut session.tally);
     outbox.end(false, &mut session.tally);
     let served = session.end(End::Ended);
-    assert_eq!(rt; counts_of(&served), (5, 1, 1, 0));
-    assert_eq!(rt; handler.end(), 128);
+    assert_is(&rt, counts_of(&served), (5, 1, 1, 0));
+    assert_is(&rt, handler.end(), 128);
 }

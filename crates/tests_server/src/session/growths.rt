@@ -4,7 +4,7 @@ use super::served::{assert_served, served_on};
 use super::test_handler::TestHandler;
 use sysv_session::End;
 use tests_kit::worked::{ANSWERS, SESSION};
-use tests_kit::{Page, Pieces, mark};
+use tests_kit::{Page, Pieces, assert_is, mark};
 
 #[test]
 fn run_of_session(rt: HostRuntime) {
@@ -14,5 +14,5 @@ fn run_of_session(rt: HostRuntime) {
     let _marked = mark(rt.alloc());
     let told = served_on(&rt, rt.alloc(), &mut reader, &mut page, &mut handler);
     assert_served(&rt, &told, &page, End::Ended, (5, 1, 1, 0), ANSWERS);
-    assert_eq!(rt; handler.end(), 128);
+    assert_is(&rt, handler.end(), 128);
 }

@@ -18,7 +18,7 @@ use sysv_seats::{Awaited, ServiceHandler, Waiting, snd_text};
 use sysv_service::{Pass, Progress, Service};
 use sysv_session::RequestOutcome;
 use sysv_wire::{Ask, Op, Reply, ReplyContent, Request, Version};
-use tests_kit::{USER, creating, open_body};
+use tests_kit::{USER, assert_is, creating, open_body};
 
 /// Returns a request of version 2.
 fn request(ask: Ask) -> Request
@@ -138,7 +138,7 @@ fn make<R: Abort + Wait>(
     let (empty, mut given) = (empty_body(rt, alloc), empty_body(rt, alloc));
     let begun = handler.begin(USER, &request(ask), &empty, &mut given);
     assert_replied(rt, begun, ask.op(), content);
-    assert_eq!(rt; given.len(), 0);
+    assert_is(rt, given.len(), 0);
 }
 
 /// Sends this body, and asserts that it is sent at once.
@@ -176,7 +176,7 @@ fn take<R: Abort + Wait>(
     });
     let begun = handler.begin(USER, &receive, &empty, &mut given);
     assert_got(rt, begun, 5, length);
-    assert_eq!(rt; given.len(), length);
+    assert_is(rt, given.len(), length);
 }
 
 /// Makes the queue of a key, which has this identifier.
@@ -209,7 +209,7 @@ fn receive_on<R: Abort + Wait>(
 ) -> Progress<Waiting, RequestOutcome>
     ensures { handler.new.service ≡ handler.old.service }
 {
-    assert_eq!(rt; given.len(), 0);
+    assert_is(rt, given.len(), 0);
     given.clear();
     let Waiting::Receive(wait) = waiting else {
         panic!(rt; "a send waits")
@@ -253,7 +253,7 @@ fn close(rt: &impl Abort, service: Service, mut pass: Pass, other: Pass, queued:
     requires other { AreOf service other.seats }
 {
     service.join_pass(&mut pass, other);
-    assert_eq!(rt; service.close(pass), closed(queued, 128));
+    assert_is(rt, service.close(pass), closed(queued, 128));
 }
 
 // A message of another type ends the wait too: the receive looks at the queue, and is parked again.
@@ -268,19 +268,19 @@ fn a_parked_receive_goes_on_after_a_send(rt: HostRuntime) {
     let receive = request(receiving());
     let begun = receiver.begin(USER, &receive, &empty, &mut given);
     let first = parked(&rt, begun);
-    assert_eq!(rt; first.awaits(), Awaited::Arrived { slot: 0 });
-    assert_eq!(rt; first.selector(), Some(Selector::Exactly(5)));
+    assert_is(&rt, first.awaits(), Awaited::Arrived { slot: 0 });
+    assert_is(&rt, first.selector(), Some(Selector::Exactly(5)));
     let again = receive_on(&rt, alloc, &mut receiver, &mut given, first);
     assert!(rt; parked(&rt, again) == first);
     send(&rt, alloc, &mut sender, &sending(0, 6), b"x");
     let again = receive_on(&rt, alloc, &mut receiver, &mut given, first);
     let second = parked(&rt, again);
     assert!(rt; second != first);
-    assert_eq!(rt; given.len(), 0);
+    assert_is(&rt, given.len(), 0);
     send(&rt, alloc, &mut sender, &sending(0, 5), b"ping");
     let over = receive_on(&rt, alloc, &mut receiver, &mut given, second);
     assert_got(&rt, over, 5, 4);
-    assert_eq!(rt; given.block(0), b"ping".as_slice());
+    assert_is(&rt, given.block(0), b"ping".as_slice());
     let (pass, other) = (receiver.into_pass(), sender.into_pass());
     close(&rt, service, pass, other, 1);
 }
@@ -309,8 +309,8 @@ fn a_parked_send_goes_on_after_a_receive(rt: HostRuntime) {
     let (text, mut given) = (body_of(&rt, alloc, b"pong"), empty_body(&rt, alloc));
     let begun = sender.begin(USER, &sending(0, 5), &text, &mut given);
     let waiting = parked(&rt, begun);
-    assert_eq!(rt; waiting.awaits(), Awaited::Freed { slot: 0 });
-    assert_eq!(rt; waiting.selector(), None);
+    assert_is(&rt, waiting.awaits(), Awaited::Freed { slot: 0 });
+    assert_is(&rt, waiting.selector(), None);
     let again = send_on(&rt, alloc, &mut sender, &text, waiting);
     assert!(rt; parked(&rt, again) == waiting);
     take(&rt, alloc, &mut receiver, 0, 4);
@@ -332,7 +332,7 @@ fn a_parked_send_goes_on_after_blocks_were_released(rt: HostRuntime) {
     let (text, mut given) = (body_of(&rt, alloc, b"ping"), empty_body(&rt, alloc));
     let begun = sender.begin(USER, &sending(0, 5), &text, &mut given);
     let waiting = parked(&rt, begun);
-    assert_eq!(rt; waiting.awaits(), Awaited::Released);
+    assert_is(&rt, waiting.awaits(), Awaited::Released);
     take(&rt, alloc, &mut receiver, 1, 8192);
     let over = send_on(&rt, alloc, &mut sender, &text, waiting);
     assert_replied(&rt, over, Op::Snd, ReplyContent::Snd);
@@ -361,7 +361,7 @@ fn a_parked_receive_ends_with_its_queue(rt: HostRuntime) {
     );
     let over = receive_on(&rt, alloc, &mut receiver, &mut given, waiting);
     assert_replied(&rt, over, Op::Rcv, ReplyContent::Refused(Errno::EIDRM));
-    assert_eq!(rt; given.len(), 0);
+    assert_is(&rt, given.len(), 0);
     let (pass, other) = (receiver.into_pass(), remover.into_pass());
     close(&rt, service, pass, other, 0);
 }
@@ -424,6 +424,6 @@ fn the_body_of_a_send_is_copied_from_its_frame(rt: HostRuntime) {
         ],
         &mut copied,
     );
-    assert_eq!(rt; copied.len(), 2);
-    assert_eq!(rt; copied.block(0), b"hi".as_slice());
+    assert_is(&rt, copied.len(), 2);
+    assert_is(&rt, copied.block(0), b"hi".as_slice());
 }

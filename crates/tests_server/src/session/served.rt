@@ -3,7 +3,7 @@ use super::test_handler::TestHandler;
 use std::alloc::Global;
 use std::process::Abort;
 use sysv_session::{End, Served, serve};
-use tests_kit::{Page, Pieces};
+use tests_kit::{Page, Pieces, assert_is};
 
 /// The counts of a session: its requests, and the messages that were taken, written and lost.
 pub(super) fn counts_of(served: &Served) -> (u32, u64, u64, u64) {
@@ -43,10 +43,10 @@ pub(super) fn served_on(
     if served.end != End::NoMemory {
         return served;
     }
-    assert_eq!(rt; counts_of(&served), (0, 0, 0, 0));
-    assert_eq!(rt; (reader.front.len(), reader.rest.len()), all);
-    assert_eq!(rt; (writer.written().len(), writer.flushed().len()), (0, 0));
-    assert_eq!(rt; handler.asked, 0);
+    assert_is(rt, counts_of(&served), (0, 0, 0, 0));
+    assert_is(rt, (reader.front.len(), reader.rest.len()), all);
+    assert_is(rt, (writer.written().len(), writer.flushed().len()), (0, 0));
+    assert_is(rt, handler.asked, 0);
     let again = serve(alloc, reader, writer, handler);
     assert!(rt; again.end != End::NoMemory);
     again
@@ -61,7 +61,7 @@ pub(super) fn served(
 ) -> Served {
     let mut handler = TestHandler::open(rt, alloc);
     let served = served_on(rt, alloc, reader, writer, &mut handler);
-    assert_eq!(rt; handler.asked.saturating_add(1), served.requests.max(1));
-    assert_eq!(rt; handler.end(), 128);
+    assert_is(rt, handler.asked.saturating_add(1), served.requests.max(1));
+    assert_is(rt, handler.end(), 128);
     served
 }

@@ -11,14 +11,14 @@ use sysv_seats::ServiceHandler;
 use sysv_service::{Pass, Service};
 use sysv_session::{End, Served, Texts};
 use tests_kit::worked::{ANSWERS, SESSION};
-use tests_kit::{Page, Pieces};
+use tests_kit::{Page, Pieces, assert_is};
 
 /// Ends the service. Asserts that this number of messages was queued, and that all blocks are then
 /// free.
 pub(super) fn ended(rt: &impl Abort, service: Service, pass: Pass, waiting: u64)
     requires { AreOf service pass.seats }
 {
-    assert_eq!(rt; service.close(pass), closed(waiting, 128));
+    assert_is(rt, service.close(pass), closed(waiting, 128));
 }
 
 /// Serves one session. Tolerates one refusal of memory.
@@ -62,10 +62,10 @@ fn answers<R: Abort + Wait>(rt: &R, alloc: Global, bytes: &[u8], replies: &[u8],
     let mut reader = Pieces::both(&SESSION[..32], bytes);
     let mut page = Page::new();
     let told = served(rt, alloc, &mut reader, &mut page, waiting);
-    assert_eq!(rt; told.end, End::Ended);
+    assert_is(rt, told.end, End::Ended);
     let written = page.written();
     assert!(rt; written.len() >= 18);
-    assert!(rt; &written[..18] == &ANSWERS[..18]);
+    assert_is(rt, &written[..18], &ANSWERS[..18]);
     assert!(rt; &written[18..] == replies, "{:?}", &written[18..]);
 }
 

@@ -5,7 +5,7 @@ use sysv_model::{Body, Cred, Errno};
 use sysv_session::{End, Handler, RequestOutcome, serve};
 use sysv_wire::{Reply, ReplyContent, Request};
 use tests_kit::worked::SESSION;
-use tests_kit::{Page, Pieces};
+use tests_kit::{Page, Pieces, assert_is};
 
 /// Counts its requests under a lock, and refuses all of them.
 #[derive(Drop)]
@@ -53,14 +53,14 @@ fn a_handler_may_wait(rt: HostRuntime) {
     let mut page = Page::new();
     let told = serve(rt.alloc(), &mut reader, &mut page, &mut handler);
     if told.end == End::NoMemory {
-        assert_eq!(rt; counts_of(&told), (0, 0, 0, 0));
-        assert_eq!(rt; reader.front.len(), 108);
-        assert_eq!(rt; page.written().len(), 0);
-        assert_eq!(rt; *asked.lock(&rt), 0);
+        assert_is(&rt, counts_of(&told), (0, 0, 0, 0));
+        assert_is(&rt, reader.front.len(), 108);
+        assert_is(&rt, page.written().len(), 0);
+        assert_is(&rt, *asked.lock(&rt), 0);
         return;
     }
-    assert_eq!(rt; told.end, End::Ended);
-    assert_eq!(rt; counts_of(&told), (5, 0, 0, 0));
-    assert_eq!(rt; *asked.lock(&rt), 4);
-    assert_eq!(rt; page.written().len(), 35);
+    assert_is(&rt, told.end, End::Ended);
+    assert_is(&rt, counts_of(&told), (5, 0, 0, 0));
+    assert_is(&rt, *asked.lock(&rt), 4);
+    assert_is(&rt, page.written().len(), 35);
 }

@@ -5,7 +5,7 @@ use std::process::Abort;
 use sysv_session::End;
 use sysv_wire::Fault;
 use tests_kit::worked::{ANSWER_ENDS, ANSWERS, REQUEST_ENDS, SESSION};
-use tests_kit::{Page, Pieces};
+use tests_kit::{Page, Pieces, assert_is};
 
 #[test]
 fn the_session_cut_after_each_byte(rt: HostRuntime) {
@@ -34,8 +34,8 @@ fn each_reply_is_flushed_once(rt: HostRuntime) {
     let mut page = Page::new();
     page.piece = 3;
     let told = served(&rt, rt.alloc(), &mut reader, &mut page);
-    assert_eq!(rt; told.end, End::Ended);
-    assert_eq!(rt; page.flushed(), [7, 18, 25, 42, 49].as_slice());
+    assert_is(&rt, told.end, End::Ended);
+    assert_is(&rt, page.flushed(), [7, 18, 25, 42, 49].as_slice());
 }
 
 #[test]
@@ -67,7 +67,7 @@ fn ends_unanswered(rt: &impl Abort, alloc: Global, bytes: &[u8], end: End) {
     let mut page = Page::new();
     let told = served(rt, alloc, &mut reader, &mut page);
     assert_served(rt, &told, &page, end, (0, 0, 0, 0), b"");
-    assert_eq!(rt; page.flushed().len(), 0);
+    assert_is(rt, page.flushed().len(), 0);
 }
 
 #[test]
@@ -107,7 +107,7 @@ fn ends_after_hello(rt: &impl Abort, alloc: Global, bytes: &[u8], end: End) {
     let mut page = Page::new();
     let told = served(rt, alloc, &mut reader, &mut page);
     assert_served(rt, &told, &page, end, (1, 0, 0, 0), &ANSWERS[..7]);
-    assert_eq!(rt; page.flushed().len(), 1);
+    assert_is(rt, page.flushed().len(), 1);
 }
 
 #[test]
@@ -160,7 +160,7 @@ fn ends_after_second_hello(rt: &impl Abort, alloc: Global, bytes: &[u8], fault: 
     let told = served(rt, alloc, &mut reader, &mut page);
     let end = End::Fault(fault);
     assert_served(rt, &told, &page, end, (1, 0, 0, 0), &SECOND_ANSWERS[..11]);
-    assert_eq!(rt; page.flushed().len(), 1);
+    assert_is(rt, page.flushed().len(), 1);
 }
 
 #[test]
