@@ -1,9 +1,10 @@
 //! The examples in the documentation of the world and of the script language, line by line.
+use crate::parts::assert_is;
 use std::test::Fail;
 use sysv_core::{Call, Event, Outcome, Stepped, World};
 use sysv_model::{Errno, Instrumented};
 use sysv_script::run_script;
-use tests_kit::{USER, assert_is};
+use tests_kit::USER;
 
 #[test]
 fn a_call_takes_two_steps(rt: HostRuntime) -> Result<(), Fail> {

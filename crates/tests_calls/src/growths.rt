@@ -1,7 +1,8 @@
 //! The opening of a world, with a growth of it refused: it then returns `NoMemory`.
 
+use crate::parts::assert_is;
 use sysv_core::{OpenRefused, World};
-use tests_kit::{assert_is, mark};
+use tests_kit::mark;
 
 #[test]
 fn world_open(rt: HostRuntime) {

@@ -1,10 +1,10 @@
 //! Lines of a script.
+use crate::parts::assert_is;
 use bitflags::Flags as _;
 use std::io::Write;
 use sysv_model::{Errno, Flags};
 use sysv_script::{Head, Line, Operation, Text, line_of};
 use sysv_steps::{Call, Outcome};
-use tests_kit::assert_is;
 
 #[test]
 fn a_line_says_what_an_actor_starts(rt: HostRuntime) {

@@ -1,9 +1,10 @@
 //! A stage on which lines run.
 
+use crate::parts::assert_is;
 use std::alloc::Global;
 use sysv_model::{Instrumented, NoMemory};
 use sysv_script::{Output, Stage, line_of};
-use tests_kit::{assert_is, mark};
+use tests_kit::mark;
 
 /// Runs one line. Returns false if the line is bad.
 fn run(

@@ -1,8 +1,8 @@
 //! Reading line by line, and writing.
 
+use crate::parts::assert_is;
 use sysv_model::{Body, Instrumented};
 use sysv_script::{Head, Input, Output, next_line, read_on};
-use tests_kit::assert_is;
 
 #[test]
 fn lines_are_found_one_by_one(rt: HostRuntime) {

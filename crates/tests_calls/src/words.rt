@@ -1,8 +1,8 @@
 //! Words of a line.
+use crate::parts::assert_is;
 use bitflags::Flags as _;
 use sysv_model::Flags;
 use sysv_words::{Octal, Reads, split_at_mark};
-use tests_kit::assert_is;
 
 #[test]
 fn numerals_are_read(rt: HostRuntime) {

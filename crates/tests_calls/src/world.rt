@@ -7,7 +7,7 @@ mod keys;
 mod no_growths;
 mod waits;
 
-use crate::parts::open_body;
+use crate::parts::{assert_is, open_body};
 use bitflags::Flags as _;
 use std::alloc::Global;
 use std::process::Abort;
@@ -15,7 +15,7 @@ use sysv_core::{Answer, Call, Doing, Event, OpenRefused, Outcome, Sent, Standing
 use sysv_model::{Body, Cred, Errno, Flags, NoMemory, Perm, SetTo, Stat};
 use sysv_queue::{Look, Tally};
 use sysv_steps::{GetStep, RemoveStep, SendStep};
-use tests_kit::{assert_is, creating, flags};
+use tests_kit::{creating, flags};
 
 /// The wanted answer: the actor, how the call ended, and the contents of the body that is handed
 /// back.

@@ -2,6 +2,7 @@
 ghost use Rattle.std.specs.Prelude.{◌≡◌, ◌≤◌, vec_len};
 
 use crate::frames::{CREATE, EMPTY, FOUND, HELLO, KNOWN, RECEIVE, RECEIVED, SEND, SENT, sums};
+use crate::parts::assert_is;
 use std::alloc::Global;
 use std::process::Abort;
 use std::sync::Wait;
@@ -9,7 +10,6 @@ use std::thread::Threads;
 use sysv_engine::{Ended, serve_connections};
 use sysv_seats::{MemoryStream, Replies, Step};
 use sysv_workers::Source;
-use tests_kit::assert_is;
 use tests_kit::worked::{ANSWERS, SESSION};
 
 /// A source of the connections of a list, the last one first.

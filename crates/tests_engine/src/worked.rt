@@ -6,11 +6,11 @@ ghost use Rattle.sysv_service.specs.Seats.{AreOf};
 mod client;
 mod handler;
 
+use crate::parts::assert_is;
 use std::alloc::Global;
 use std::process::Abort;
 use sysv_service::{Closed, OpenRefused, Pass, Service};
 use sysv_session::{End, Served};
-use tests_kit::assert_is;
 use tests_kit::worked::{ANSWERS, REQUEST_ENDS};
 
 /// What a session is to do and to leave.

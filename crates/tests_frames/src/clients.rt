@@ -4,6 +4,7 @@ mod growths;
 mod options;
 mod several;
 
+use crate::parts::assert_is;
 use std::alloc::Global;
 use std::io;
 use std::io::{ErrorKind, Read, Write};
@@ -12,7 +13,6 @@ use sysv_clients::{
     Command, Form, Format, Receipt, Target, Task, id_of, key_of, run_client, type_of,
 };
 use sysv_model::{BODY_ROOM, Cred};
-use tests_kit::assert_is;
 
 /// The number of bytes that a tape has space for.
 const TAPE_ROOM: usize = 50_000;

@@ -1,9 +1,9 @@
 //! The example in the documentation of the frames, line by line.
+use crate::parts::assert_is;
 use bitflags::Flags as _;
 use std::test::Fail;
 use sysv_model::{Body, Flags, Instrumented};
 use sysv_wire::{Ask, Request, Version, read_request, write_request};
-use tests_kit::assert_is;
 
 #[test]
 fn a_request_is_written_and_read(rt: HostRuntime) -> Result<(), Fail> {

@@ -1,8 +1,9 @@
 //! Instrumented streams.
+use crate::parts::assert_is;
 use std::io;
 use std::io::{ErrorKind, Read, Write};
 use sysv_model::{Instrumented, WriteFault};
-use tests_kit::{Page, assert_is};
+use tests_kit::Page;
 
 /// A stream that returns and takes one byte, and then fails, or takes nothing if it stalls.
 #[derive(Drop)]

@@ -1,7 +1,7 @@
 //! The words of all calls: limits, errors, flags, bodies and selectors.
 mod growths;
 
-use crate::parts::open_body;
+use crate::parts::{assert_holds, assert_is, open_body};
 use bitflags::Flags as Set;
 use std::alloc::Global;
 use std::process::Abort;
@@ -9,7 +9,6 @@ use sysv_model::{
     BLOCK_BYTES, BODY_ROOM, Errno, Flags, IPC_PRIVATE, MAX_ACTORS, MAX_BLOCKS, MAX_QBYTES,
     MESSAGE_BYTES, MIN_BLOCKS, QBYTES_AT_CREATION, QUEUE_MESSAGES, Selector, WORN,
 };
-use tests_kit::{assert_holds, assert_is};
 
 #[test]
 fn figures(rt: HostRuntime) {

@@ -9,13 +9,12 @@ mod place;
 mod threads;
 
 use crate::gate::{came_back, worn_of};
-use crate::parts::LIMIT;
+use crate::parts::{LIMIT, assert_is};
 use crate::sum::Sum;
 use std::alloc::Global;
 use std::test::Fail;
 use sysv_bank::{Bank, BankSeat};
 use sysv_gate::{Awaited, Closing, Count, OpenRefused};
-use tests_kit::assert_is;
 
 /// Opens a bank of three sums, of 10, 20 and 30.
 fn opened(alloc: Global, first: u64) -> Option<(Bank<Sum>, BankSeat<Sum>)>

@@ -1,8 +1,8 @@
 //! The example in the documentation of the gates, line by line.
+use crate::parts::assert_is;
 use crate::sum::Sum;
 use std::test::Fail;
 use sysv_gate::Gate;
-use tests_kit::assert_is;
 
 #[test]
 fn two_seats_call_an_object(rt: HostRuntime) -> Result<(), Fail> {

@@ -4,11 +4,10 @@ ghost use Rattle.std.specs.Prelude.{◌≡◌, ℕ, ◌+◌, ◌%◌, ◌^◌, �
 mod pool;
 mod threads;
 
-use crate::parts::LIMIT;
+use crate::parts::{LIMIT, assert_is};
 use crate::sum::Sum;
 use std::test::Fail;
 use sysv_gate::{Awaited, Gate, Object, OpenRefused, Seat, TryRefused, Worn};
-use tests_kit::assert_is;
 
 fn opened(rt: &HostRuntime, first: u64) -> Option<(Gate<Sum>, Seat<Sum>)>
     ensures { IfSome result (λ o. o.1.gate ≡ o.0) }

@@ -2,12 +2,12 @@
 //! arguments are handed back unchanged.
 
 use crate::gate::came_back;
-use crate::parts::LIMIT;
+use crate::parts::{LIMIT, assert_is};
 use crate::sum::Sum;
 use std::process::Abort;
 use sysv_bank::Bank;
 use sysv_gate::{Gate, Object, OpenRefused};
-use tests_kit::{assert_is, mark};
+use tests_kit::mark;
 
 /// Asserts that the object is unchanged.
 fn assert_is_new(rt: &impl Abort, object: &Sum, sum: u64) {

@@ -1,9 +1,10 @@
 //! Calls that allocate nothing. A run counts the growths after the mark, refuses each, and expects
 //! none.
 
+use crate::parts::assert_is;
 use crate::sum::Sum;
 use sysv_gate::{Awaited, Gate};
-use tests_kit::{assert_is, mark};
+use tests_kit::mark;
 
 #[test]
 fn gate(rt: HostRuntime) {

@@ -1,5 +1,12 @@
 //! Helpers of all of these tests.
+use std::fmt::Debug;
+use std::process::Abort;
 use std::time::Clock;
+
+/// Asserts that the found value is the wanted value.
+pub(crate) fn assert_is<T: PartialEq + Debug + Drop>(rt: &impl Abort, found: T, wanted: T) {
+    assert_eq!(rt; found, wanted);
+}
 
 /// The number of turns at which a gate is worn out.
 pub(crate) const LIMIT: u64 = 1 << 62;

@@ -1,9 +1,8 @@
 //! Helpers that several test crates use: readers and writers with different behavior, a session
 //! whose frames were worked out by hand, bodies and pools that open although memory is refused
-//! once, assertions, and a mark from which growths are counted.
+//! once, and a mark from which growths are counted.
 #![tactic(auto)]
 
-mod asserts;
 mod marks;
 mod opened;
 mod page;
@@ -11,7 +10,6 @@ mod pieces;
 mod users;
 pub mod worked;
 
-pub use asserts::{assert_holds, assert_is};
 pub use marks::mark;
 pub use opened::{open_body, open_pool};
 pub use page::Page;

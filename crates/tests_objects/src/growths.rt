@@ -1,10 +1,11 @@
 //! Each call that allocates, with a growth of it refused: the call then returns `NoMemory`.
 
+use crate::parts::assert_is;
 use sysv_keys::{Begun, Registry, RegistryRefused};
 use sysv_model::NoMemory;
 use sysv_pool::{Pool, PoolRefused};
 use sysv_queue::{Look, QueueSlot};
-use tests_kit::{USER, assert_is, creating, mark};
+use tests_kit::{USER, creating, mark};
 
 #[test]
 fn registry_open(rt: HostRuntime) {

@@ -4,7 +4,7 @@
 ghost use Rattle.std.specs.Prelude.{◌≡◌, ◌+◌, ◌<◌, ◌≤◌, length};
 ghost use Rattle.sysv_model.specs.declared.limits.TheConstants.{QUEUE_MESSAGES};
 
-use crate::parts::room;
+use crate::parts::{assert_is, room};
 use std::alloc::Global;
 use std::marker::Brand;
 use std::process::Abort;
@@ -13,7 +13,6 @@ use std::test::Fail;
 use sysv_messages::{Entry, Index, Steps};
 use sysv_model::{NoMemory, QUEUE_MESSAGES, Selector};
 use sysv_rules::select_plain;
-use tests_kit::assert_is;
 
 /// Opens an index. Tolerates one refusal of memory.
 fn open_index(rt: &impl Abort, alloc: Global) -> Index

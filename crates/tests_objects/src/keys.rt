@@ -1,11 +1,12 @@
 //! Keys that are found, made, busy and refused; rows that are settled and forgotten; and the last
 //! identifiers that a registry can make.
 
+use crate::parts::assert_is;
 use std::alloc::Global;
 use std::process::Abort;
 use sysv_keys::{Begun, Registry, RegistryRefused, slot_of_id};
 use sysv_model::{Errno, Flags, IPC_PRIVATE};
-use tests_kit::{assert_is, creating, flags};
+use tests_kit::{creating, flags};
 
 /// Opens a registry whose slots all have this generation. Tolerates three refusals of memory.
 fn registry_at(rt: &impl Abort, alloc: Global, generation: u32) -> Registry {

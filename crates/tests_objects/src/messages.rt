@@ -5,7 +5,7 @@ ghost use Rattle.std.specs.Prelude.{◌≡◌, ◌+◌, ◌<◌, []};
 ghost use Rattle.std.specs.List.{All};
 ghost use Rattle.sysv_model.specs.Message.{Message};
 
-use crate::parts::{give_back, open_body, open_pool};
+use crate::parts::{assert_holds, assert_is, give_back, open_body, open_pool};
 use std::alloc::Global;
 use std::marker::Brand;
 use std::process::Abort;
@@ -13,7 +13,6 @@ use std::sync::ledger::{Blank, Ledger};
 use sysv_messages::{Messages, NotTaken, Steps, Waiting};
 use sysv_model::{Body, NoMemory, QUEUE_MESSAGES, Selector};
 use sysv_pool::{Chain, Pool};
-use tests_kit::{assert_holds, assert_is};
 
 /// A store, with the pool and the bodies that its callers use.
 struct Desk {

@@ -1,10 +1,10 @@
 //! Calls of the registry and of the pool, which allocate nothing. A run counts the growths after
 //! the mark, refuses each, and expects none.
 
-use crate::parts::{give_back, open_body, open_pool};
+use crate::parts::{assert_holds, assert_is, give_back, open_body, open_pool};
 use sysv_keys::{Begun, Registry};
 use sysv_model::IPC_PRIVATE;
-use tests_kit::{assert_holds, assert_is, creating, mark};
+use tests_kit::{creating, mark};
 
 /// Returns the identifier of a slot in this generation.
 fn id_of(slot: i32, generation: i32) -> i32 {

@@ -7,12 +7,11 @@ ghost use Rattle.sysv_model.specs.Pool.{blocks_for};
 
 mod whole;
 
-use crate::parts::{give_back, open_body, open_pool};
+use crate::parts::{assert_is, give_back, open_body, open_pool};
 use std::alloc::Global;
 use std::process::Abort;
 use sysv_model::Body;
 use sysv_pool::{Chain, Pool, PoolRefused};
-use tests_kit::assert_is;
 
 /// Returns why there is no pool with this number of blocks.
 fn refusal(alloc: Global, blocks: u32) -> Option<PoolRefused> {

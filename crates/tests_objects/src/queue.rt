@@ -5,14 +5,13 @@ mod control;
 mod indexed;
 mod no_growths;
 
-use crate::parts::{give_back, open_body, open_pool};
+use crate::parts::{assert_holds, assert_is, give_back, open_body, open_pool};
 use bitflags::Flags as _;
 use std::alloc::Global;
 use std::process::Abort;
 use sysv_model::{Body, Cred, Errno, Flags, NoMemory, Perm, Row, Selector, SetTo, Stat};
 use sysv_pool::{Chain, Pool};
 use sysv_queue::{Delivery, Look, PlaceRefused, Probe, QueueSlot, TakeRefused, Tally, Unplaced};
-use tests_kit::{assert_holds, assert_is};
 
 const SENDER: Cred = Cred {
     uid: 1000,

@@ -3,9 +3,15 @@ ghost use Rattle.std.specs.Prelude.{◌≡◌};
 ghost use Rattle.sysv_service.specs.Seats.{AreOf};
 
 use std::alloc::Global;
+use std::fmt::Debug;
 use std::process::Abort;
 use sysv_pool::Pool;
 use sysv_service::{Clock, Closed, OpenRefused, Pass, Service};
+
+/// Asserts that the found value is the wanted value.
+pub(crate) fn assert_is<T: PartialEq + Debug + Drop>(rt: &impl Abort, found: T, wanted: T) {
+    assert_eq!(rt; found, wanted);
+}
 
 /// Opens a pool with this number of blocks. Tolerates one refusal of memory.
 pub(crate) fn open_pool(rt: &impl Abort, alloc: Global, blocks: u32) -> Pool {

@@ -5,6 +5,7 @@ mod growths;
 mod in_memory;
 
 use crate::commands::five_sessions;
+use crate::parts::assert_is;
 use std::alloc::Global;
 use std::io::{ErrorKind, Read, Write};
 use std::net::{Net, SocketAddr, TcpListener, TcpStream};
@@ -20,7 +21,6 @@ use sysv_server::{
     Ended, Host, Notice, Patience, Reason, ServeFault, Sums, Terms, serve_listener, serve_on,
 };
 use sysv_service::Closed;
-use tests_kit::assert_is;
 
 /// What is left of a service of 128 blocks when it is closed: no message, all blocks, no held gate.
 const EMPTY: Closed = Closed {

@@ -1,4 +1,5 @@
 //! Connections that never wait, in memory and on a pair of sockets.
+use crate::parts::assert_is;
 use std::alloc::Global;
 use std::io::{Read, Write};
 use std::net::Net;
@@ -6,7 +7,6 @@ use std::os::fd::AsRawFd;
 use std::os::unix::net::UnixStream;
 use std::process::Abort;
 use sysv_seats::{Drained, Filled, MemoryStream, NonBlocking, Over, Replies, SocketStream, Step};
-use tests_kit::assert_is;
 
 /// Returns whether a read with room for 4 bytes gives these.
 fn gives<T: NonBlocking>(stream: &mut T, bytes: &[u8]) -> bool {

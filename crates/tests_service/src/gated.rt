@@ -8,7 +8,7 @@ use crate::asking::{
     Worn, begin, forget, install, look, place, probe, release, remove, reserve, row, set, settle,
     stat, take,
 };
-use crate::parts::{body_of, empty_body};
+use crate::parts::{assert_is, body_of, empty_body};
 use std::alloc::Global;
 use std::process::Abort;
 use std::sync::Wait;
@@ -19,7 +19,7 @@ use sysv_objects::LoadedChain;
 use sysv_pool::{Chain, Pool};
 use sysv_queue::{Look, Probe, QueueSlot, Tally};
 use sysv_service::{Gates, GatesClosed, OpenRefused, Seats, SharedCount};
-use tests_kit::{USER, assert_is, creating};
+use tests_kit::{USER, creating};
 
 const LIMIT: u64 = 1 << 62;
 

@@ -1,10 +1,10 @@
 //! Each call of a service that allocates, with a growth of it refused: it then returns `NoMemory`,
 //! and the pass is unchanged.
 
-use crate::parts::{CLOCK, closed, opened};
+use crate::parts::{CLOCK, assert_is, closed, opened};
 use sysv_model::Errno;
 use sysv_service::{OpenRefused, Service};
-use tests_kit::{USER, assert_is, creating, mark};
+use tests_kit::{USER, creating, mark};
 
 #[test]
 fn service_open(rt: HostRuntime) {

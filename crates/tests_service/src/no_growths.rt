@@ -4,14 +4,14 @@
 ghost use Rattle.std.specs.Prelude.{◌≡◌};
 ghost use Rattle.sysv_service.specs.Seats.{AreOf};
 
-use crate::parts::{CLOCK, body_of, closed, empty_body, opened};
+use crate::parts::{CLOCK, assert_is, body_of, closed, empty_body, opened};
 use bitflags::Flags as _;
 use std::process::Abort;
 use std::sync::Wait;
 use sysv_model::{Body, Flags, SetTo};
 use sysv_queue::Tally;
 use sysv_service::{Pass, Service};
-use tests_kit::{USER, assert_is, creating, mark};
+use tests_kit::{USER, creating, mark};
 
 /// A pass makes a queue, sends a message to it, and receives the message.
 fn own_message<R: Abort + Wait>(

@@ -5,7 +5,7 @@ ghost use Rattle.sysv_objects.specs.Turns.{IsOfSomeSlot, Takes};
 ghost use Rattle.sysv_objects.specs.Objects.{CountsUpTo};
 ghost use Rattle.sysv_objects.specs.Represents.{MakesTurn};
 
-use crate::parts::open_body;
+use crate::parts::{assert_is, open_body};
 use std::alloc::Global;
 use std::process::Abort;
 use sysv_keys::Begun;
@@ -16,7 +16,7 @@ use sysv_objects::{
 };
 use sysv_pool::Chain;
 use sysv_queue::{Look, Probe, TakeRefused, Tally};
-use tests_kit::{USER, assert_is, creating};
+use tests_kit::{USER, creating};
 
 const TO: SetTo = SetTo {
     uid: 1000,

@@ -3,7 +3,7 @@
 ghost use Rattle.std.specs.Prelude.{◌≡◌};
 ghost use Rattle.sysv_model.specs.Pool.{blocks_for};
 
-use crate::parts::{open_body, open_pool};
+use crate::parts::{assert_is, open_body, open_pool};
 use bitflags::Flags as _;
 use std::alloc::Global;
 use std::process::Abort;
@@ -16,7 +16,7 @@ use sysv_steps::{
     Receiving, RemoveState, RemoveStep, SendState, SendStep, SendWait, Sending, SetStep, StatStep,
     State,
 };
-use tests_kit::{USER, assert_is};
+use tests_kit::USER;
 
 /// Returns a send before its look, which has found the queue live before or not.
 fn sending(live_seen: bool) -> Sending {

@@ -5,7 +5,7 @@ ghost use Rattle.sysv_steps.specs.Bodies.{StillCanSend};
 ghost use Rattle.sysv_objects.specs.Objects.{CountsUpTo};
 
 use crate::objects::{end, objects_at, turn};
-use crate::parts::open_body;
+use crate::parts::{assert_holds, assert_is, open_body};
 use std::alloc::Global;
 use std::process::Abort;
 use sysv_model::{Body, Selector, SetTo};
@@ -17,7 +17,7 @@ use sysv_steps::{
     RemoveStep, SendState, SendStep, Sending, SetState, SetStep, StatStep, State, get_step,
     receive_step, remove_step, send_step, set_step, stat_step,
 };
-use tests_kit::{USER, assert_holds, assert_is, creating};
+use tests_kit::{USER, creating};
 
 pub(crate) const SEND: Sending = Sending {
     cred: USER,

@@ -1,6 +1,6 @@
 //! The steps of calls at gates that are all worn out.
 
-use crate::parts::{open_body, open_pool};
+use crate::parts::{assert_is, open_body, open_pool};
 use crate::steps::{RECEIVE, SEND, Still, TO};
 use std::process::Abort;
 use sysv_model::{Errno, Flags};
@@ -10,7 +10,7 @@ use sysv_steps::{
     Afterwards, GetStep, Getting, ReceiveStep, RemoveState, RemoveStep, SendStep, SetStep,
     StatStep, State, get_step, receive_step, remove_step, send_step, set_step, stat_step,
 };
-use tests_kit::{USER, assert_is};
+use tests_kit::USER;
 
 const GET: Getting = Getting {
     cred: USER,

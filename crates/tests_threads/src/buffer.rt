@@ -1,11 +1,11 @@
 //! Items through a buffer, by one thread and by two.
 ghost use Rattle.std.specs.Prelude.{◌≡◌};
 
+use crate::parts::assert_is;
 use std::alloc::Global;
 use std::process::Abort;
 use std::sync::Wait;
 use sysv_buffer::{Consumer, OneBuffer, OpenRefused, Producer, PutRefused, TakeRefused, TakeWorn};
-use tests_kit::assert_is;
 
 mod drops;
 mod many;

@@ -3,10 +3,9 @@ ghost use Rattle.std.specs.Prelude.{◌≡◌};
 
 mod threads;
 
-use crate::parts::LIMIT;
+use crate::parts::{LIMIT, assert_is};
 use std::test::Fail;
 use sysv_eventcount::{Awaited, Eventcount, OpenRefused, Seat, Sequencer, Worn};
-use tests_kit::assert_is;
 
 fn advance_three_times(count: &Eventcount, seat: &mut Seat) -> Option<[u64; 3]>
     requires { seat.old.counter ≡ count.now }

@@ -1,8 +1,8 @@
 //! The examples in the documentation of the thread crates, line by line.
+use crate::parts::assert_is;
 use std::test::Fail;
 use sysv_buffer::OneBuffer;
 use sysv_eventcount::{Eventcount, Sequencer};
-use tests_kit::assert_is;
 
 #[test]
 fn one_thread_at_a_time(rt: HostRuntime) -> Result<(), Fail> {

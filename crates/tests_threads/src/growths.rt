@@ -1,8 +1,9 @@
 //! Each call that allocates, with a growth of it refused: it then returns `NoMemory`.
 
+use crate::parts::assert_is;
 use sysv_buffer::{ManyBuffer, OneBuffer, OpenRefused as BufferRefused};
 use sysv_eventcount::{Eventcount, OpenRefused as CountRefused, Sequencer};
-use tests_kit::{assert_is, mark};
+use tests_kit::mark;
 
 #[test]
 fn eventcount_open(rt: HostRuntime) {

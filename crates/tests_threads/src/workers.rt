@@ -2,12 +2,12 @@
 ghost use Rattle.std.specs.Prelude.{◌≡◌, ◌≤◌, vec_capacity, vec_len, IfErr};
 ghost use Rattle.std.specs.List.{All};
 
+use crate::parts::assert_is;
 use std::alloc::Global;
 use std::process::Abort;
 use std::sync::Wait;
 use std::thread::Threads;
 use sysv_workers::{Job, Source, WorkersFault, WorkersRefused, run_workers};
-use tests_kit::assert_is;
 
 mod growths;
 mod marks;

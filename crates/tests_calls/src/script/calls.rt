@@ -1,9 +1,9 @@
 //! Keys, control, waiting and blocks, as POSIX.1-2017 defines them in msgget and msgctl, and by the
 //! steps of this project's profile.
 use super::language::run;
+use crate::parts::assert_is;
 use std::io::Write;
 use std::test::Fail;
-use tests_kit::assert_is;
 
 /// Scripts with their output.
 const RUNS: [(&[u8], &[u8]); 14] = [

@@ -1,5 +1,6 @@
 //! Scripts over readers and writers that fail, stall or transfer few bytes at once.
 use super::ends::{Asker, Counter, Endless};
+use crate::parts::assert_is;
 use std::alloc::Global;
 use std::cell::Cell;
 use std::io::{Read, Write};
@@ -7,7 +8,7 @@ use std::process::Abort;
 use std::test::Fail;
 use sysv_model::Instrumented;
 use sysv_script::{ScriptFault, run_script};
-use tests_kit::{Page, Pieces, assert_is};
+use tests_kit::{Page, Pieces};
 
 const SCRIPT: &[u8] = b"preset
 1 rcv 0 100 0 NOWAIT

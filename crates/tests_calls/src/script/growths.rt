@@ -1,9 +1,10 @@
 //! A script, with a growth of it refused: it has then printed a prefix of its output.
+use crate::parts::assert_is;
 use std::alloc::Global;
 use std::process::Abort;
 use sysv_model::Instrumented;
 use sysv_script::{ScriptFault, run_script};
-use tests_kit::{Page, Pieces, assert_is, mark};
+use tests_kit::{Page, Pieces, mark};
 
 const SCRIPT: &[u8] = b"preset
 1 rcv 0 100 0 NOWAIT

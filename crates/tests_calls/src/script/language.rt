@@ -1,10 +1,10 @@
 //! What each line of a script does, and which lines are bad.
+use crate::parts::assert_is;
 use std::alloc::Global;
 use std::process::Abort;
 use std::test::Fail;
 use sysv_model::Instrumented;
 use sysv_script::{ScriptFault, run_script};
-use tests_kit::assert_is;
 
 /// The output of a script, and how the script ends.
 #[derive(Drop)]

@@ -1,7 +1,7 @@
 //! A script from its first byte to its last answer. Memory may be refused.
+use crate::parts::assert_is;
 use sysv_model::Instrumented;
 use sysv_script::{ScriptFault, run_script};
-use tests_kit::assert_is;
 
 #[test]
 fn runs_a_script(rt: HostRuntime) {

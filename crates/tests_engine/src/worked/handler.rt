@@ -5,6 +5,7 @@ use super::{
     WHOLE, Wanted, assert_done, is_between_requests, opened, wanted_after, wanted_at_failure,
     whole_requests,
 };
+use crate::parts::assert_is;
 use std::alloc::Global;
 use std::process::Abort;
 use std::sync::Wait;
@@ -13,7 +14,7 @@ use sysv_seats::{ServiceHandler, ZERO, Zero};
 use sysv_session::{End, Served, Texts};
 use sysv_wire::Fault;
 use tests_kit::worked::{ANSWERS, SESSION};
-use tests_kit::{Page, Pieces, assert_is};
+use tests_kit::{Page, Pieces};
 
 /// Runs the session, and asserts that each stream has failed if and only if the end says so.
 fn serve<R: Abort + Wait>(

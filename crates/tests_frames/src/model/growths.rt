@@ -1,8 +1,9 @@
 //! The opening of a body, with a growth of it refused.
 
 use super::*;
+use crate::parts::assert_is;
 use sysv_model::{Body, NoMemory};
-use tests_kit::{assert_is, mark};
+use tests_kit::mark;
 
 #[test]
 fn body_open(rt: HostRuntime) {

@@ -1,7 +1,7 @@
 //! What bytes that have arrived hold of a request, worked out by hand.
 use super::faults::REQUESTS;
+use crate::parts::assert_is;
 use sysv_wire::{Fault, FrameIn, frame_in};
-use tests_kit::assert_is;
 use tests_kit::worked::{REQUEST_ENDS, SESSION};
 
 /// Returns what the first `count` bytes of a frame of `length` bytes hold.

@@ -1,10 +1,10 @@
 //! Bytes that spell no frame, and frames that break off, each with its fault worked out by hand.
 use super::frames::{OTHERS, TOLD};
-use crate::parts::open_body;
+use crate::parts::{assert_is, open_body};
 use sysv_model::Instrumented;
 use sysv_wire::{Fault, Reply, Request, read_reply, read_request};
+use tests_kit::Pieces;
 use tests_kit::worked::{ANSWERS, SESSION};
-use tests_kit::{Pieces, assert_is};
 
 /// Bytes, and what a reader of requests returns for them.
 pub(super) const REQUESTS: &[(&[u8], Result<Option<Request>, Fault>)] = &[

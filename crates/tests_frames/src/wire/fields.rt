@@ -1,9 +1,9 @@
 //! Each field of a frame with values that have no meaning there.
-use crate::parts::open_body;
+use crate::parts::{assert_is, open_body};
 use std::process::Abort;
 use sysv_model::{Body, Instrumented};
 use sysv_wire::{Fault, Reply, ReplyContent, Request, read_reply, read_request};
-use tests_kit::{Pieces, assert_is};
+use tests_kit::Pieces;
 
 /// The number of bytes in the fields of each request, by its operation. A send has no body.
 const ASKED: [u8; 8] = [12, 8, 16, 20, 4, 20, 4, 4];

@@ -1,5 +1,5 @@
 //! Frames whose bytes were worked out by hand.
-use crate::parts::open_body;
+use crate::parts::{assert_is, open_body};
 use bitflags::Flags as Set;
 use std::alloc::Global;
 use std::process::Abort;
@@ -9,7 +9,7 @@ use sysv_wire::{
     write_request,
 };
 use tests_kit::worked::{ANSWERS, SESSION};
-use tests_kit::{Page, Pieces, assert_is};
+use tests_kit::{Page, Pieces};
 
 /// Requests with numbers at the ends of their ranges.
 pub(super) const OTHERS: &[u8] = &[

@@ -1,5 +1,5 @@
 //! Readers and writers that fail within a frame, and bodies of the maximum length.
-use crate::parts::open_body;
+use crate::parts::{assert_is, open_body};
 use bitflags::Flags as Set;
 use std::process::Abort;
 use sysv_model::{Body, Flags, Instrumented};
@@ -8,7 +8,7 @@ use sysv_wire::{
     write_reply, write_request,
 };
 use tests_kit::worked::{ANSWERS, SESSION};
-use tests_kit::{Page, Pieces, assert_is};
+use tests_kit::{Page, Pieces};
 
 /// Reads at most five requests, up to the first failure, from a reader that fails after `good`
 /// bytes. Returns the last result, and whether the reader is then known to have failed.

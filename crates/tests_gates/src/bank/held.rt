@@ -4,13 +4,13 @@ ghost use Rattle.sysv_bank.specs.Banks.{gates_of};
 
 use super::keeper::{Keeper, Watch};
 use super::place::Place;
+use crate::parts::assert_is;
 use std::alloc::Global;
 use std::sync::{Mutex, Wait};
 use std::test::Fail;
 use std::thread::{Threads, for_each_mut};
 use sysv_bank::{Bank, BankSeat};
 use sysv_eventcount::Eventcount;
-use tests_kit::assert_is;
 
 /// The task of a thread.
 #[derive(Drop)]

@@ -3,6 +3,7 @@ ghost use Rattle.std.specs.Prelude.{◌≡◌, length};
 ghost use Rattle.sysv_bank.specs.Banks.{gates_of};
 
 use super::opened;
+use crate::parts::assert_is;
 use crate::sum::Sum;
 use std::alloc::Global;
 use std::sync::Wait;
@@ -12,7 +13,6 @@ use std::thread::{Threads, join};
 use std::time::{Clock, Duration};
 use sysv_bank::{Bank, BankSeat};
 use sysv_gate::{Awaited, Count};
-use tests_kit::assert_is;
 
 /// Waits for the first count at place 1.
 fn await_there(rt: &impl Wait, bank: &Bank<Sum>, mut seat: BankSeat<Sum>) -> Awaited

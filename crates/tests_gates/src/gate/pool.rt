@@ -1,12 +1,11 @@
 //! A gate around a pool of blocks, with one ticket left.
 ghost use Rattle.std.specs.Prelude.{◌≤◌};
 
-use crate::parts::LIMIT;
+use crate::parts::{LIMIT, assert_is};
 use std::alloc::Global;
 use std::process::Abort;
 use sysv_gate::{Closing, Gate, Object, OpenRefused, TryRefused};
 use sysv_pool::{Chain, Pool};
-use tests_kit::assert_is;
 
 /// A pool. Each call reserves blocks for this number of bytes.
 struct Blocks {

@@ -5,7 +5,7 @@ mod no_wakes;
 mod passed_over;
 
 use super::opened;
-use crate::parts::{LIMIT, millis};
+use crate::parts::{LIMIT, assert_is, millis};
 use crate::sum::Sum;
 use std::sync::Wait;
 use std::test::Fail;
@@ -13,7 +13,6 @@ use std::thread::{Threads, for_each_mut, join};
 use std::time::{Clock, CpuClock, Duration};
 use std::{hint, thread};
 use sysv_gate::{Awaited, Gate, Object, Seat};
-use tests_kit::assert_is;
 
 /// How often each thread repeats its task.
 const TIMES: u64 = 2_000;

@@ -4,10 +4,9 @@ ghost use Rattle.std.specs.Prelude.{◌≤◌};
 ghost use Rattle.sysv_model.specs.declared.limits.TheConstants.{MESSAGE_BYTES as most_bytes};
 
 use super::{assert_counts, reserved};
-use crate::parts::{give_back, open_pool};
+use crate::parts::{assert_is, give_back, open_pool};
 use std::process::Abort;
 use sysv_pool::Pool;
-use tests_kit::assert_is;
 
 /// Reserves this number of chains for bodies of `size` bytes, and then gives all of them back.
 fn pass(rt: &impl Abort, pool: &mut Pool, chains: u32, size: usize)

@@ -7,7 +7,7 @@ ghost use Rattle.sysv_model.specs.declared.limits.TheConstants.{QUEUE_MESSAGES};
 ghost use Rattle.sysv_messages.specs.Probes.{IsFoundByFew};
 
 use super::{SENDER, open_slot};
-use crate::parts::{give_back, open_body, open_pool, room};
+use crate::parts::{assert_is, give_back, open_body, open_pool, room};
 use std::alloc::Global;
 use std::marker::Brand;
 use std::process::Abort;
@@ -16,7 +16,6 @@ use sysv_model::{Body, QUEUE_MESSAGES, Selector};
 use sysv_pool::Pool;
 use sysv_queue::{QueueSlot, Steps, TakeRefused, Taken, Tally};
 use sysv_rules::select_plain;
-use tests_kit::assert_is;
 
 /// A slot with queue 0, with the pool and the body that its callers use.
 struct Desk {

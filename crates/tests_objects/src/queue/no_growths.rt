@@ -3,7 +3,8 @@
 ghost use Rattle.std.specs.Prelude.{◌<◌, ◌^◌};
 
 use super::*;
-use tests_kit::{assert_is, creating, mark};
+use crate::parts::assert_is;
+use tests_kit::{creating, mark};
 
 /// Asserts that no count of the slot is so high that it could not rise.
 fn assert_may_rise(rt: &impl Abort, slot: &QueueSlot)

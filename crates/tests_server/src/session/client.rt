@@ -3,7 +3,7 @@ ghost use Rattle.std.specs.Prelude.{◌≡◌};
 ghost use Rattle.sysv_service.specs.Seats.{AreOf};
 
 use super::serving::ended;
-use crate::parts::opened;
+use crate::parts::{assert_is, opened};
 use std::alloc::Global;
 use std::process::Abort;
 use std::sync::Wait;
@@ -12,7 +12,6 @@ use sysv_seats::{
 };
 use sysv_service::{Pass, Service};
 use sysv_session::{End, Served};
-use tests_kit::assert_is;
 use tests_kit::worked::{ANSWERS, SESSION};
 
 /// A hello, a get of key 7, and a receive that waits for a type of at most 5.

@@ -4,13 +4,14 @@ ghost use Rattle.sysv_queue.specs.Tally.{taken_in};
 
 use super::served::counts_of;
 use super::test_handler::TestHandler;
+use crate::parts::assert_is;
 use std::alloc::Global;
 use std::process::Abort;
 use sysv_model::{Body, Instrumented};
 use sysv_session::{Conversation, End, Handler, RequestOutcome, TakenUp};
 use sysv_wire::Version;
 use tests_kit::worked::{ANSWERS, SESSION};
-use tests_kit::{Pieces, assert_is, open_body};
+use tests_kit::{Pieces, open_body};
 
 /// A conversation and its two bodies.
 struct Conversing {

@@ -8,6 +8,7 @@ ghost use Rattle.sysv_wire.specs.Requests.{op_of};
 
 use super::served::counts_of;
 use super::test_handler::TestHandler;
+use crate::parts::assert_is;
 use std::alloc::{AllocFailed, Global};
 use std::process::Abort;
 use sysv_model::{Body, Instrumented};
@@ -15,7 +16,7 @@ use sysv_queue::{Delivery, Tally};
 use sysv_session::{End, Handler, Outbox, RequestOutcome, Session, TakenUp, hello_reply};
 use sysv_wire::{Ask, Op, Reply, ReplyContent, Request, Version};
 use tests_kit::worked::{ANSWERS, SESSION};
-use tests_kit::{Pieces, USER, assert_is, creating, flags, open_body};
+use tests_kit::{Pieces, USER, creating, flags, open_body};
 
 /// The frames of the reply to a send and of two replies to receives of `hi` with type 5.
 const GATHERED: &[u8] = &[

@@ -2,9 +2,10 @@
 //! and a second session runs as a whole.
 use super::served::{assert_served, served_on};
 use super::test_handler::TestHandler;
+use crate::parts::assert_is;
 use sysv_session::End;
 use tests_kit::worked::{ANSWERS, SESSION};
-use tests_kit::{Page, Pieces, assert_is, mark};
+use tests_kit::{Page, Pieces, mark};
 
 #[test]
 fn run_of_session(rt: HostRuntime) {

@@ -7,7 +7,7 @@ ghost use Rattle.sysv_steps.specs.declared.receive.ReceiveWait.{ReceiveWait};
 ghost use Rattle.sysv_steps.specs.declared.send.SendWait.{SendWait};
 ghost use Rattle.sysv_wire.specs.Requests.{op_of};
 
-use crate::parts::{CLOCK, Still, closed, opened};
+use crate::parts::{CLOCK, Still, assert_is, closed, opened};
 use bitflags::Flags as _;
 use std::alloc::Global;
 use std::process::Abort;
@@ -18,7 +18,7 @@ use sysv_seats::{Awaited, ServiceHandler, Waiting, snd_text};
 use sysv_service::{Pass, Progress, Service};
 use sysv_session::RequestOutcome;
 use sysv_wire::{Ask, Op, Reply, ReplyContent, Request, Version};
-use tests_kit::{USER, assert_is, creating, open_body};
+use tests_kit::{USER, creating, open_body};
 
 /// Returns a request of version 2.
 fn request(ask: Ask) -> Request

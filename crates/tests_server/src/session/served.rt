@@ -1,9 +1,10 @@
 //! Sessions over readers and writers, and their results.
 use super::test_handler::TestHandler;
+use crate::parts::assert_is;
 use std::alloc::Global;
 use std::process::Abort;
 use sysv_session::{End, Served, serve};
-use tests_kit::{Page, Pieces, assert_is};
+use tests_kit::{Page, Pieces};
 
 /// The counts of a session: its requests, and the messages that were taken, written and lost.
 pub(super) fn counts_of(served: &Served) -> (u32, u64, u64, u64) {

@@ -2,7 +2,7 @@
 ghost use Rattle.std.specs.Prelude.{◌≡◌};
 ghost use Rattle.sysv_service.specs.Seats.{AreOf};
 
-use crate::parts::{CLOCK, Still, closed, opened};
+use crate::parts::{CLOCK, Still, assert_is, closed, opened};
 use std::alloc::Global;
 use std::process::Abort;
 use std::sync::Wait;
@@ -11,7 +11,7 @@ use sysv_seats::ServiceHandler;
 use sysv_service::{Pass, Service};
 use sysv_session::{End, Served, Texts};
 use tests_kit::worked::{ANSWERS, SESSION};
-use tests_kit::{Page, Pieces, assert_is};
+use tests_kit::{Page, Pieces};
 
 /// Ends the service. Asserts that this number of messages was queued, and that all blocks are then
 /// free.

@@ -1,11 +1,12 @@
 //! A handler that waits for a lock in each of its calls.
 use super::served::counts_of;
+use crate::parts::assert_is;
 use std::sync::{Mutex, Wait};
 use sysv_model::{Body, Cred, Errno};
 use sysv_session::{End, Handler, RequestOutcome, serve};
 use sysv_wire::{Reply, ReplyContent, Request};
 use tests_kit::worked::SESSION;
-use tests_kit::{Page, Pieces, assert_is};
+use tests_kit::{Page, Pieces};
 
 /// Counts its requests under a lock, and refuses all of them.
 #[derive(Drop)]

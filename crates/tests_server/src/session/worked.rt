@@ -1,11 +1,12 @@
 //! A session whose bytes were worked out by hand, whole and cut short, and sessions that end early.
 use super::served::{assert_served, served};
+use crate::parts::assert_is;
 use std::alloc::Global;
 use std::process::Abort;
 use sysv_session::End;
 use sysv_wire::Fault;
 use tests_kit::worked::{ANSWER_ENDS, ANSWERS, REQUEST_ENDS, SESSION};
-use tests_kit::{Page, Pieces, assert_is};
+use tests_kit::{Page, Pieces};
 
 #[test]
 fn the_session_cut_after_each_byte(rt: HostRuntime) {

@@ -5,14 +5,14 @@ use super::ask::{Ask, waiting};
 use super::board::Moment;
 use super::part::Part;
 use super::team::run;
-use crate::parts::{body_of, closed, empty_body};
+use crate::parts::{assert_is, body_of, closed, empty_body};
 use std::alloc::Global;
 use std::process::Abort;
 use std::sync::Wait;
 use sysv_model::SetTo;
 use sysv_queue::Tally;
 use sysv_service::{Pass, Service};
-use tests_kit::{USER, assert_is};
+use tests_kit::USER;
 
 /// The number of messages that each sender sends, and that each receiver receives.
 const TIMES: u8 = 200;

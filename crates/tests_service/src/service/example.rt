@@ -1,9 +1,9 @@
 //! A service from its opening to its end.
 
-use crate::parts::{CLOCK, body_of, closed, opened};
+use crate::parts::{CLOCK, assert_is, body_of, closed, opened};
 use sysv_model::Flags;
 use sysv_queue::Tally;
-use tests_kit::{USER, assert_is, creating};
+use tests_kit::{USER, creating};
 
 #[test]
 fn a_message_goes_through_a_service(rt: HostRuntime) {

@@ -3,7 +3,7 @@
 ghost use Rattle.std.specs.Prelude.{◌≡◌};
 ghost use Rattle.sysv_service.specs.Seats.{AreOf};
 
-use crate::parts::{CLOCK, body_of, closed, empty_body, opened, opened_at};
+use crate::parts::{CLOCK, assert_is, body_of, closed, empty_body, opened, opened_at};
 use bitflags::Flags as _;
 use std::alloc::Global;
 use std::process::Abort;
@@ -11,7 +11,7 @@ use std::sync::Wait;
 use sysv_model::{Errno, Flags, SetTo};
 use sysv_queue::Tally;
 use sysv_service::{OpenRefused, Pass, Service};
-use tests_kit::{OTHER, USER, assert_is, creating};
+use tests_kit::{OTHER, USER, creating};
 
 /// Sends this body to the queue with this identifier, without waiting.
 fn send(

@@ -3,7 +3,7 @@
 ghost use Rattle.sysv_service.specs.Seats.{AreOf};
 
 use super::ask::waiting;
-use crate::parts::{CLOCK, body_of, closed, opened};
+use crate::parts::{CLOCK, assert_is, body_of, closed, opened};
 use std::alloc::Global;
 use std::process::Abort;
 use std::sync::Wait;
@@ -12,7 +12,7 @@ use sysv_queue::{Delivery, Tally};
 use sysv_service::{
     GetWait, Getting, Pass, Progress, ReceiveWait, Receiving, SendWait, Sending, Service,
 };
-use tests_kit::{USER, assert_is, creating};
+use tests_kit::{USER, creating};
 
 /// Opens a service of 128 blocks with queue 0.
 fn one_queue(rt: &(impl Abort + Wait), alloc: Global) -> (Service, Pass)

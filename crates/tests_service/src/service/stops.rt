@@ -5,10 +5,9 @@ use super::board::{Board, Moment};
 use super::part::{Part, Turn, add, told_of};
 use super::team::run;
 use super::turns::{Tease, Then};
-use crate::parts::closed;
+use crate::parts::{assert_is, closed};
 use std::process::Abort;
 use sysv_model::Errno;
-use tests_kit::assert_is;
 
 /// Two receives of type 2 at a queue, whose clocks report on a board each, and a thread that
 /// reports after both have looked.

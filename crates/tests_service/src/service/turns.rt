@@ -5,14 +5,14 @@ use super::ask::Ask;
 use super::board::{Board, LOOKS, Moment};
 use super::part::{Part, Turn, add, told_of};
 use super::team::run;
-use crate::parts::{body_of, closed};
+use crate::parts::{assert_is, body_of, closed};
 use std::alloc::Global;
 use std::process::Abort;
 use std::sync::Wait;
 use sysv_model::{Body, Flags};
 use sysv_queue::Tally;
 use sysv_service::{Pass, Service};
-use tests_kit::{USER, assert_is};
+use tests_kit::USER;
 
 /// Sends messages of type 1 to a queue and takes them back, until each of several receives of type
 /// 2 has looked twice there.

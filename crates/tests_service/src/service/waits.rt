@@ -4,14 +4,14 @@ use super::ask::{Ask, Told};
 use super::board::{Board, Moment};
 use super::part::{Part, Turn, add, told_of};
 use super::team::run;
-use crate::parts::closed;
+use crate::parts::{assert_is, closed};
 use std::alloc::Global;
 use std::process::Abort;
 use std::sync::Wait;
 use std::thread::Threads;
 use std::time::Clock;
 use sysv_model::{Errno, SetTo};
-use tests_kit::{ROOT, USER, assert_is};
+use tests_kit::{ROOT, USER};
 
 /// How often a wait is tried if the other call may be first.
 const TRIES: u32 = 50;

@@ -1,9 +1,9 @@
 //! Items that count how often they are dropped.
 use super::{many, opened};
+use crate::parts::assert_is;
 use std::sync::atomic::AtomicU64;
 use std::sync::atomic::Ordering::SeqCst;
 use sysv_buffer::{ManyPutRefused, PutRefused};
-use tests_kit::assert_is;
 
 /// An item that cannot be copied, and that counts its drop.
 struct Counted<'a> {

@@ -2,10 +2,10 @@
 ghost use Rattle.std.specs.Prelude.{◌≡◌};
 
 use super::Ware;
+use crate::parts::assert_is;
 use std::alloc::Global;
 use std::process::Abort;
 use sysv_buffer::{ManyBuffer, ManyPutRefused, ManyTakeRefused, OpenRefused, Seat};
-use tests_kit::assert_is;
 
 /// Opens a buffer with its first seat. Tolerates one refusal of memory.
 pub(super) fn opened<T: Drop>(

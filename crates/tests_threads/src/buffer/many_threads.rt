@@ -3,10 +3,10 @@ ghost use Rattle.std.specs.Prelude.{◌≡◌, ◌≤◌};
 
 use super::Ware;
 use super::many::opened;
+use crate::parts::assert_is;
 use std::sync::Wait;
 use std::thread::{Threads, join};
 use sysv_buffer::{ManyBuffer, Seat};
-use tests_kit::assert_is;
 
 /// The number of items that each producer puts and each consumer takes.
 const ITEMS: u64 = 100;

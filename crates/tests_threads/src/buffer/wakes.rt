@@ -4,12 +4,12 @@ ghost use Rattle.std.specs.Prelude.{◌≡◌};
 mod no_wakes;
 
 use super::{Ware, many, opened};
+use crate::parts::assert_is;
 use std::sync::Wait;
 use std::thread;
 use std::thread::{Threads, join};
 use std::time::{Clock, CpuClock, Duration};
 use sysv_buffer::{Consumer, ManyBuffer, OneBuffer, Producer, Seat};
-use tests_kit::assert_is;
 
 /// The other thread tries after so many milliseconds, when the one that waits has gone to sleep.
 const LATE: u64 = 500;

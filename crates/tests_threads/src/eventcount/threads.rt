@@ -4,6 +4,7 @@ ghost use Rattle.std.specs.Thread.{IsSync};
 ghost use Rattle.sysv_lists.specs.Numbers.{AreBetween};
 ghost use Rattle.sysv_eventcount.specs.Drawn.{HasDrawn, BothHaveDrawn};
 
+use crate::parts::assert_is;
 use std::alloc::Global;
 use std::sync::Wait;
 use std::sync::atomic::AtomicU64;
@@ -13,7 +14,6 @@ use std::thread;
 use std::thread::{Threads, join};
 use std::time::{Clock, Duration};
 use sysv_eventcount::{Awaited, Eventcount, Seat, Sequencer};
-use tests_kit::assert_is;
 
 /// How often each thread repeats its task.
 const TIMES: u64 = 100;

@@ -4,10 +4,11 @@ ghost use Rattle.std.specs.Prelude.{◌≡◌};
 
 use super::{Role, Slow, told_to_four, wait_out_a_turn};
 use crate::gate::opened;
+use crate::parts::assert_is;
 use std::sync::Wait;
 use std::test::Fail;
 use sysv_gate::{Gate, Seat};
-use tests_kit::{assert_is, mark};
+use tests_kit::mark;
 
 /// The number of calls that follow. It is above the number of doorbells for turns.
 const CALLS: u64 = 64;

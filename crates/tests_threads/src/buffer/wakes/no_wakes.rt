@@ -4,6 +4,7 @@ ghost use Rattle.std.specs.Prelude.{◌≡◌};
 
 use super::{LATE, put_and_take_of_many, take_and_put_of_many};
 use crate::buffer::{Ware, many, opened};
+use crate::parts::assert_is;
 use std::alloc::Global;
 use std::sync::Wait;
 use std::sync::atomic::AtomicU64;
@@ -12,7 +13,7 @@ use std::thread;
 use std::thread::{Threads, join};
 use std::time::{Clock, Duration};
 use sysv_buffer::{Consumer, OneBuffer, Producer};
-use tests_kit::{assert_is, mark};
+use tests_kit::mark;
 
 /// Takes an item that it sleeps for. Takes another one after the other thread has put both.
 fn take_two(
