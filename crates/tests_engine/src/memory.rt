@@ -153,7 +153,7 @@ fn one_place_serves_in_order(rt: HostRuntime) {
         },
     );
     let kept = books.first().expect(&rt, "a book").kept();
-    assert_is(&rt, kept.len(), 2);
+    assert_eq!(rt; kept.len(), 2);
     assert_is(&rt, kept[0].as_slice(), sent.as_slice());
     assert_is(&rt, kept[1].as_slice(), received.as_slice());
 }

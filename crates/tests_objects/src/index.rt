@@ -154,7 +154,7 @@ fn entries_come_and_go(rt: HostRuntime) {
     assert_selects(&rt, &index, Selector::Except(9), None);
     index.push(TENTH);
     index.push(TWELFTH);
-    assert_is(&rt, index.len(), 2);
+    assert_eq!(rt; index.len(), 2);
     assert_selects(&rt, &index, Selector::Any, Some(TENTH));
     assert_selects(&rt, &index, Selector::UpTo(5), Some(TWELFTH));
     assert_selects(&rt, &index, Selector::UpTo(1), None);
@@ -168,7 +168,7 @@ fn entries_come_and_go(rt: HostRuntime) {
     assert_selects(&rt, &index, Selector::Exactly(5), None);
     assert_selects(&rt, &index, Selector::Except(2), None);
     index.remove(11);
-    assert_is(&rt, index.len(), 1);
+    assert_eq!(rt; index.len(), 1);
     index.clear();
     assert!(rt; index.is_empty());
     assert_selects(&rt, &index, Selector::Any, None);

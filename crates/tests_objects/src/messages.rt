@@ -66,7 +66,7 @@ fn end_desk(rt: &impl Abort, desk: Desk, blocks: u32) {
         out: _,
     } = desk;
     let chain = messages.end();
-    assert_is(rt, chain.blocks(), blocks);
+    assert_eq!(rt; chain.blocks(), blocks);
     give_back(rt, &mut pool, chain);
     assert_is(rt, pool.free(), 512);
     pool.end();
@@ -237,7 +237,7 @@ fn all_messages_are_taken(rt: HostRuntime) {
     send(&rt, &mut desk, 0, 1, &[1; 64]);
     send(&rt, &mut desk, 1, 1, &[2; 65]);
     let all = desk.messages.take_all();
-    assert_is(&rt, all.blocks(), 3);
+    assert_eq!(rt; all.blocks(), 3);
     give_back(&rt, &mut desk.pool, all);
     assert_waiting(&rt, &desk, (0, 0));
     send(&rt, &mut desk, 0, 1, &[3; 128]);

@@ -46,7 +46,7 @@ fn pool(rt: HostRuntime) {
         panic!(rt; "no blocks")
     };
     chain.fill(&text);
-    assert_is(&rt, out.len(), 0);
+    assert!(rt; out.len() == 0);
     chain.copy_out(size, &mut out);
     assert_holds(&rt, &out, b"hello");
     assert_is(&rt, pool.free(), 127);

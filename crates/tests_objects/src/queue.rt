@@ -107,7 +107,7 @@ fn end_desk(rt: &impl Abort, desk: Desk, blocks: u32) {
         out: _,
     } = desk;
     let chain = slot.end();
-    assert_is(rt, chain.blocks(), blocks);
+    assert_eq!(rt; chain.blocks(), blocks);
     give_back(rt, &mut pool, chain);
     assert_is(rt, pool.free(), 512);
     pool.end();

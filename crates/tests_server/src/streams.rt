@@ -67,7 +67,7 @@ fn parts_of_a_write(rt: HostRuntime) {
     let mut book = Replies::with_room(rt.alloc(), 1).expect(&rt, "memory");
     stream.close(&mut book);
     let kept = book.kept();
-    assert_is(&rt, kept.len(), 1);
+    assert_eq!(rt; kept.len(), 1);
     assert!(rt;
         kept.iter()
             .all(|bytes| bytes.as_slice() == b"abcdef".as_slice())

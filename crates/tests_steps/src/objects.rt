@@ -188,7 +188,7 @@ fn row(objects: &mut Objects, slot: usize, raised: u64) -> Option<Row>
 /// Returns an empty body in its chain.
 fn empty_loaded(rt: &impl Abort, alloc: Global) -> LoadedChain {
     let body = open_body(rt, alloc);
-    assert_is(rt, body.len(), 0);
+    assert!(rt; body.len() == 0);
     LoadedChain::of(Chain::empty(), &body)
 }
 

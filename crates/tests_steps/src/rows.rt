@@ -289,7 +289,7 @@ fn three_blocks(rt: &impl Abort, pool: &mut Pool) -> Chain
 fn send_text(rt: &impl Abort, slot: &mut QueueSlot, pool: &mut Pool, alloc: Global) {
     let mut text = open_body(rt, alloc);
     assert!(rt; text.push_piece(&[b'x'; 130]));
-    assert_is(rt, text.len(), 130);
+    assert_eq!(rt; text.len(), 130);
     let mut chain = three_blocks(rt, pool);
     chain.fill(&text);
     let (arrived, _) = slot.counts();

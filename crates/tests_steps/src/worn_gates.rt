@@ -79,7 +79,7 @@ fn sends_at_worn_gates(rt: HostRuntime) {
     let mut kept = Chain::empty();
     let worn = Some(Errno::EOVERFLOW);
     let text = open_body(&rt, rt.alloc());
-    assert_is(&rt, text.len(), 0);
+    assert!(rt; text.len() == 0);
     let mut pool = open_pool(&rt, rt.alloc(), 128);
     let look = SendStep::Look(SEND);
     let looked = send_step(&WornGates, &mut back, &mut kept, &Still, &text, look);

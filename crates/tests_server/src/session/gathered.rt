@@ -72,7 +72,7 @@ fn put(rt: &impl Abort, outbox: &mut Outbox, reply: &Reply, text: &Body)
 {
     let before = outbox.unsent().len();
     if outbox.put(reply, text).is_err() {
-        assert_is(rt, outbox.unsent().len(), before);
+        assert_eq!(rt; outbox.unsent().len(), before);
         outbox.put(reply, text).expect(rt, "a second try");
     }
 }
@@ -90,7 +90,7 @@ fn put_message(
 {
     let before = outbox.unsent().len();
     if let Err(AllocFailed { value }) = outbox.put_message(version, delivery, given) {
-        assert_is(rt, outbox.unsent().len(), before);
+        assert_eq!(rt; outbox.unsent().len(), before);
         if let Err(AllocFailed { value: _value }) = outbox.put_message(version, value, given) {
             panic!(rt; "a second try");
         }

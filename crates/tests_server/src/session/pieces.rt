@@ -138,7 +138,7 @@ fn make<R: Abort + Wait>(
     let (empty, mut given) = (empty_body(rt, alloc), empty_body(rt, alloc));
     let begun = handler.begin(USER, &request(ask), &empty, &mut given);
     assert_replied(rt, begun, ask.op(), content);
-    assert_is(rt, given.len(), 0);
+    assert_eq!(rt; given.len(), 0);
 }
 
 /// Sends this body, and asserts that it is sent at once.
@@ -176,7 +176,7 @@ fn take<R: Abort + Wait>(
     });
     let begun = handler.begin(USER, &receive, &empty, &mut given);
     assert_got(rt, begun, 5, length);
-    assert_is(rt, given.len(), length);
+    assert_eq!(rt; given.len(), length);
 }
 
 /// Makes the queue of a key, which has this identifier.
@@ -209,7 +209,7 @@ fn receive_on<R: Abort + Wait>(
 ) -> Progress<Waiting, RequestOutcome>
     ensures { handler.new.service ≡ handler.old.service }
 {
-    assert_is(rt, given.len(), 0);
+    assert_eq!(rt; given.len(), 0);
     given.clear();
     let Waiting::Receive(wait) = waiting else {
         panic!(rt; "a send waits")
@@ -276,7 +276,7 @@ fn a_parked_receive_goes_on_after_a_send(rt: HostRuntime) {
     let again = receive_on(&rt, alloc, &mut receiver, &mut given, first);
     let second = parked(&rt, again);
     assert!(rt; second != first);
-    assert_is(&rt, given.len(), 0);
+    assert_eq!(rt; given.len(), 0);
     send(&rt, alloc, &mut sender, &sending(0, 5), b"ping");
     let over = receive_on(&rt, alloc, &mut receiver, &mut given, second);
     assert_got(&rt, over, 5, 4);
@@ -361,7 +361,7 @@ fn a_parked_receive_ends_with_its_queue(rt: HostRuntime) {
     );
     let over = receive_on(&rt, alloc, &mut receiver, &mut given, waiting);
     assert_replied(&rt, over, Op::Rcv, ReplyContent::Refused(Errno::EIDRM));
-    assert_is(&rt, given.len(), 0);
+    assert_eq!(rt; given.len(), 0);
     let (pass, other) = (receiver.into_pass(), remover.into_pass());
     close(&rt, service, pass, other, 0);
 }
@@ -424,6 +424,6 @@ fn the_body_of_a_send_is_copied_from_its_frame(rt: HostRuntime) {
         ],
         &mut copied,
     );
-    assert_is(&rt, copied.len(), 2);
+    assert_eq!(rt; copied.len(), 2);
     assert_is(&rt, copied.block(0), b"hi".as_slice());
 }

@@ -45,8 +45,8 @@ pub(super) fn served_on(
         return served;
     }
     assert_is(rt, counts_of(&served), (0, 0, 0, 0));
-    assert_is(rt, (reader.front.len(), reader.rest.len()), all);
-    assert_is(rt, (writer.written().len(), writer.flushed().len()), (0, 0));
+    assert_eq!(rt; (reader.front.len(), reader.rest.len()), all);
+    assert_eq!(rt; (writer.written().len(), writer.flushed().len()), (0, 0));
     assert_is(rt, handler.asked, 0);
     let again = serve(alloc, reader, writer, handler);
     assert!(rt; again.end != End::NoMemory);

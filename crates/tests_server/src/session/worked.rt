@@ -68,7 +68,7 @@ fn ends_unanswered(rt: &impl Abort, alloc: Global, bytes: &[u8], end: End) {
     let mut page = Page::new();
     let told = served(rt, alloc, &mut reader, &mut page);
     assert_served(rt, &told, &page, end, (0, 0, 0, 0), b"");
-    assert_is(rt, page.flushed().len(), 0);
+    assert_eq!(rt; page.flushed().len(), 0);
 }
 
 #[test]
@@ -108,7 +108,7 @@ fn ends_after_hello(rt: &impl Abort, alloc: Global, bytes: &[u8], end: End) {
     let mut page = Page::new();
     let told = served(rt, alloc, &mut reader, &mut page);
     assert_served(rt, &told, &page, end, (1, 0, 0, 0), &ANSWERS[..7]);
-    assert_is(rt, page.flushed().len(), 1);
+    assert_eq!(rt; page.flushed().len(), 1);
 }
 
 #[test]
@@ -161,7 +161,7 @@ fn ends_after_second_hello(rt: &impl Abort, alloc: Global, bytes: &[u8], fault: 
     let told = served(rt, alloc, &mut reader, &mut page);
     let end = End::Fault(fault);
     assert_served(rt, &told, &page, end, (1, 0, 0, 0), &SECOND_ANSWERS[..11]);
-    assert_is(rt, page.flushed().len(), 1);
+    assert_eq!(rt; page.flushed().len(), 1);
 }
 
 #[test]

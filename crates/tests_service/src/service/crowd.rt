@@ -95,7 +95,7 @@ impl Receiver {
             };
             let mtype = delivery.mtype();
             delivery.written(&mut Tally::open());
-            assert_is(rt, out.len(), 1);
+            assert_eq!(rt; out.len(), 1);
             let number = out.byte(0);
             self.got
                 .push(Message { mtype, number })
