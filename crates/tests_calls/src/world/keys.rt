@@ -222,7 +222,7 @@ fn the_last_generation(rt: HostRuntime) {
                 Err(_) => panic!(rt; "a second try"),
             },
         };
-        assert_is(&rt, answers.len(), 1);
+        assert_eq!(rt; answers.len(), 1);
         assert_answers(&rt, &answers[0], (1, outcome, None));
     }
     assert_is(&rt, world.end(), 128);
