@@ -152,7 +152,7 @@ fn pieces_lie_across_blocks(rt: HostRuntime) {
     assert_is(&rt, body.len(), 8256);
     body.truncate(100);
     assert!(rt; body.push_piece(b"more"));
-    assert_is(&rt, body.len(), 104);
+    assert_eq!(rt; body.len(), 104);
     assert_is(&rt, body.byte(99), 99);
     assert_is(&rt, body.byte(100), b'm');
 }
