@@ -7,6 +7,4 @@ mod frames;
 #[cfg(test)]
 mod memory;
 #[cfg(test)]
-mod parts;
-#[cfg(test)]
 mod worked;

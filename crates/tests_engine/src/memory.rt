@@ -2,7 +2,6 @@
 ghost use Rattle.std.specs.Prelude.{◌≡◌, ◌≤◌, vec_len};
 
 use crate::frames::{CREATE, EMPTY, FOUND, HELLO, KNOWN, RECEIVE, RECEIVED, SEND, SENT, sums};
-use crate::parts::assert_is;
 use std::alloc::Global;
 use std::process::Abort;
 use std::sync::Wait;
@@ -86,17 +85,16 @@ fn a_worked_session_in_memory(rt: HostRuntime) {
     let alloc = rt.alloc();
     let mut books = Vec::from_array(alloc, [book(&rt, alloc)]).expect(&rt, "memory");
     let ended = served(&rt, alloc, &[SESSION], &[], &mut books, 1);
-    assert_is(
-        &rt,
+    assert_eq!(rt;
         ended,
         Ended {
             sums: sums(1, 1, 0),
             refused: 0,
             removed: Ok(1),
             closed: EMPTY,
-        },
+        }
     );
-    assert_is(&rt, count(books.as_slice(), ANSWERS), 1);
+    assert_eq!(rt; count(books.as_slice(), ANSWERS), 1);
 }
 
 // One client sends a message, and the other waits for it. Either may be first, and either may be
@@ -115,18 +113,17 @@ fn two_clients_in_memory(rt: HostRuntime) {
         let books = [book(&rt, alloc), book(&rt, alloc)];
         let mut books = Vec::from_array(alloc, books).expect(&rt, "memory");
         let ended = served(&rt, alloc, &clients, &[], &mut books, 2);
-        assert_is(
-            &rt,
+        assert_eq!(rt;
             ended,
             Ended {
                 sums: sums(2, 1, 0),
                 refused: 0,
                 removed: Ok(1),
                 closed: EMPTY,
-            },
+            }
         );
-        assert_is(&rt, count(books.as_slice(), sent.as_slice()), 1);
-        assert_is(&rt, count(books.as_slice(), received.as_slice()), 1);
+        assert_eq!(rt; count(books.as_slice(), sent.as_slice()), 1);
+        assert_eq!(rt; count(books.as_slice(), received.as_slice()), 1);
     }
 }
 
@@ -142,20 +139,19 @@ fn one_place_serves_in_order(rt: HostRuntime) {
     let mut books = Vec::from_array(alloc, [book(&rt, alloc)]).expect(&rt, "memory");
     let clients = [receiver.as_slice(), sender.as_slice()];
     let ended = served(&rt, alloc, &clients, &[], &mut books, 1);
-    assert_is(
-        &rt,
+    assert_eq!(rt;
         ended,
         Ended {
             sums: sums(2, 1, 0),
             refused: 0,
             removed: Ok(1),
             closed: EMPTY,
-        },
+        }
     );
     let kept = books.first().expect(&rt, "a book").kept();
     assert_eq!(rt; kept.len(), 2);
-    assert_is(&rt, kept[0].as_slice(), sent.as_slice());
-    assert_is(&rt, kept[1].as_slice(), received.as_slice());
+    assert_eq!(rt; kept[0].as_slice(), sent.as_slice());
+    assert_eq!(rt; kept[1].as_slice(), received.as_slice());
 }
 
 /// Steps that move a few bytes at a time, with nothing to move between.
@@ -190,18 +186,17 @@ fn three_clients_in_pieces(rt: HostRuntime) {
         let books = [book(&rt, alloc), book(&rt, alloc), book(&rt, alloc)];
         let mut books = Vec::from_array(alloc, books).expect(&rt, "memory");
         let ended = served(&rt, alloc, &clients, PIECES, &mut books, 2);
-        assert_is(
-            &rt,
+        assert_eq!(rt;
             ended,
             Ended {
                 sums: sums(3, 1, 0),
                 refused: 0,
                 removed: Ok(1),
                 closed: EMPTY,
-            },
+            }
         );
-        assert_is(&rt, count(books.as_slice(), sent.as_slice()), 1);
-        assert_is(&rt, count(books.as_slice(), received.as_slice()), 1);
-        assert_is(&rt, count(books.as_slice(), found.as_slice()), 1);
+        assert_eq!(rt; count(books.as_slice(), sent.as_slice()), 1);
+        assert_eq!(rt; count(books.as_slice(), received.as_slice()), 1);
+        assert_eq!(rt; count(books.as_slice(), found.as_slice()), 1);
     }
 }

@@ -6,7 +6,6 @@ ghost use Rattle.sysv_service.specs.Seats.{AreOf};
 mod client;
 mod handler;
 
-use crate::parts::assert_is;
 use std::alloc::Global;
 use std::process::Abort;
 use sysv_service::{Closed, OpenRefused, Pass, Service};
@@ -108,7 +107,7 @@ fn opened(rt: &impl Abort, alloc: Global) -> (Service, Pass)
     match Service::open(alloc, 128) {
         Ok(opened) => opened,
         Err(why) => {
-            assert_is(rt, why, OpenRefused::NoMemory);
+            assert_eq!(rt; why, OpenRefused::NoMemory);
             match Service::open(alloc, 128) {
                 Ok(opened) => opened,
                 Err(why) => panic!(rt; "a second try: {why:?}"),

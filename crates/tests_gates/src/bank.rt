@@ -69,7 +69,7 @@ fn each_place_has_its_own_turns(rt: HostRuntime) -> Result<(), Fail> {
         let sum = closing.object.map_or(0, |sum| sum.sum);
         sums.push((closing.turns, sum)).map_err(|_| "no memory")?;
     }
-    assert_is(&rt, sums.as_slice(), [(0, 10), (2, 29), (1, 37)].as_slice());
+    assert!(rt; sums.as_slice() == [(0, 10), (2, 29), (1, 37)].as_slice());
     Ok(())
 }
 

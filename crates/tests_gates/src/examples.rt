@@ -1,5 +1,4 @@
 //! The example in the documentation of the gates, line by line.
-use crate::parts::assert_is;
 use crate::sum::Sum;
 use std::test::Fail;
 use sysv_gate::Gate;
@@ -15,6 +14,6 @@ fn two_seats_call_an_object(rt: HostRuntime) -> Result<(), Fail> {
     let after = gate.call(&rt, &mut other, 7).ok();
     gate.join(&mut seat, other);
     let closing = gate.close(seat);
-    assert_is(&rt, (before, after, closing.turns), (Some(0), Some(5), 2));
+    assert_eq!(rt; (before, after, closing.turns), (Some(0), Some(5), 2));
     Ok(())
 }

@@ -189,7 +189,7 @@ fn a_chain_of_another_pool_comes_back(rt: HostRuntime) {
     let own = reserved(&rt, &mut pool, 64);
     let foreign = reserved(&rt, &mut other, 65);
     let released = pool.released();
-    assert_is(&rt, released, 0);
+    assert_eq!(rt; released, 0);
     match pool.release(foreign) {
         Ok(()) => panic!(rt; "129 blocks of 128"),
         Err(chain) => {

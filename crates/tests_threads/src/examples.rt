@@ -1,5 +1,4 @@
 //! The examples in the documentation of the thread crates, line by line.
-use crate::parts::assert_is;
 use std::test::Fail;
 use sysv_buffer::OneBuffer;
 use sysv_eventcount::{Eventcount, Sequencer};
@@ -13,7 +12,7 @@ fn one_thread_at_a_time(rt: HostRuntime) -> Result<(), Fail> {
     // One thread at a time is here.
     let number = served.advance(&mut serving)?;
     served.wake(&rt);
-    assert_is(&rt, (turn, number), (0, 1));
+    assert_eq!(rt; (turn, number), (0, 1));
     Ok(())
 }
 
@@ -24,6 +23,6 @@ fn an_item_goes_through_a_buffer(rt: HostRuntime) -> Result<(), Fail> {
     let put = buffer.put(&rt, &mut puts, 7);
     // In another:
     let item = buffer.take(&rt, &mut takes)?;
-    assert_is(&rt, (put.is_ok(), item), (true, 7));
+    assert_eq!(rt; (put.is_ok(), item), (true, 7));
     Ok(())
 }

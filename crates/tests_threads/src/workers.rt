@@ -96,11 +96,11 @@ fn items_of(rt: &impl Abort, tickets: Vec<Ticket>, count: u64) -> u64 {
     while let Some(ticket) = tickets.pop() {
         let (number, items) = ticket.spend();
         left = left.checked_sub(1).expect(rt, "a ticket more");
-        assert_is(rt, number, left);
+        assert_eq!(rt; number, left);
         all = all.saturating_add(items);
     }
     tickets.destroy_empty();
-    assert_is(rt, left, 0);
+    assert_eq!(rt; left, 0);
     all
 }
 
@@ -123,7 +123,7 @@ fn ran<W: Send, J: Job<W, u64> + Sync, R: Threads + Wait + Abort + Sync>(
                 matches!(&why, WorkersFault::NoMemory | WorkersFault::Thread),
                 "{why}"
             );
-            assert_is(rt, source.asked, 0);
+            assert_eq!(rt; source.asked, 0);
             states
         }
     };

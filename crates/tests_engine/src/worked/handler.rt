@@ -5,7 +5,6 @@ use super::{
     WHOLE, Wanted, assert_done, is_between_requests, opened, wanted_after, wanted_at_failure,
     whole_requests,
 };
-use crate::parts::assert_is;
 use std::alloc::Global;
 use std::process::Abort;
 use std::sync::Wait;
@@ -39,7 +38,7 @@ fn serve<R: Abort + Wait>(
         End::Write => (0, 1),
         _ => (0, 0),
     };
-    assert_is(rt, failures, wanted);
+    assert_eq!(rt; failures, wanted);
     told
 }
 

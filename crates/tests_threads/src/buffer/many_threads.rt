@@ -3,7 +3,6 @@ ghost use Rattle.std.specs.Prelude.{◌≡◌, ◌≤◌};
 
 use super::Ware;
 use super::many::opened;
-use crate::parts::assert_is;
 use std::sync::Wait;
 use std::thread::{Threads, join};
 use sysv_buffer::{ManyBuffer, Seat};
@@ -120,7 +119,7 @@ fn each_item_comes_once(rt: HostRuntime) {
         let (put, (one, two)) = exchange(&rt, &buffer, seat);
         assert!(rt; put, "{cells} cells");
         for (left, right) in one.iter().zip(two.iter()) {
-            assert_is(&rt, left.saturating_add(*right), 1);
+            assert_eq!(rt; left.saturating_add(*right), 1);
         }
     }
 }

@@ -4,7 +4,6 @@ ghost use Rattle.std.specs.Prelude.{◌≡◌};
 mod no_wakes;
 
 use super::{Ware, many, opened};
-use crate::parts::assert_is;
 use std::sync::Wait;
 use std::thread;
 use std::thread::{Threads, join};
@@ -66,7 +65,7 @@ fn take_and_try_put<R: Threads + Wait + Clock + CpuClock + Sync>(
 fn a_try_put_wakes_the_consumer(rt: HostRuntime) {
     let (buffer, puts, takes) = opened(&rt, rt.alloc(), 1);
     let (told, put) = take_and_try_put(&rt, &buffer, puts, takes);
-    assert_is(&rt, (slept(told), put), (Some(7), true));
+    assert_eq!(rt; (slept(told), put), (Some(7), true));
 }
 
 /// The number of the item that is put, and the processor time of the put.
@@ -113,7 +112,7 @@ fn a_try_take_wakes_the_producer(rt: HostRuntime) {
     let first = buffer.try_put(&mut puts, Ware { number: 7 });
     assert!(rt; first.is_ok());
     let (told, taken) = put_and_try_take(&rt, &buffer, puts, takes);
-    assert_is(&rt, (slept(told), taken), (Some(8), Some(7)));
+    assert_eq!(rt; (slept(told), taken), (Some(8), Some(7)));
 }
 
 /// The same with the seats of a buffer of many.
@@ -156,7 +155,7 @@ fn take_and_try_put_of_many<R: Threads + Wait + Clock + CpuClock + Sync>(
 fn a_try_put_wakes_a_seat(rt: HostRuntime) {
     let (buffer, seat) = many::opened(&rt, rt.alloc(), 1);
     let (told, put) = take_and_try_put_of_many(&rt, &buffer, seat);
-    assert_is(&rt, (slept(told), put), (Some(7), true));
+    assert_eq!(rt; (slept(told), put), (Some(7), true));
 }
 
 fn put_late_to_many<R: Wait + Clock>(
@@ -189,7 +188,7 @@ fn take_and_put_of_many<R: Threads + Wait + Clock + CpuClock + Sync>(
 fn a_put_wakes_a_seat(rt: HostRuntime) {
     let (buffer, seat) = many::opened(&rt, rt.alloc(), 1);
     let (told, put) = take_and_put_of_many(&rt, &buffer, seat);
-    assert_is(&rt, (slept(told), put), (Some(7), true));
+    assert_eq!(rt; (slept(told), put), (Some(7), true));
 }
 
 fn put_to_many<R: Wait + CpuClock>(
@@ -238,7 +237,7 @@ fn a_try_take_wakes_a_seat(rt: HostRuntime) {
     let first = buffer.try_put(&mut seat, Ware { number: 7 });
     assert!(rt; first.is_ok());
     let (told, taken) = put_and_try_take_of_many(&rt, &buffer, seat);
-    assert_is(&rt, (slept(told), taken), (Some(8), Some(7)));
+    assert_eq!(rt; (slept(told), taken), (Some(8), Some(7)));
 }
 
 fn take_late_of_many<R: Wait + Clock>(
@@ -273,5 +272,5 @@ fn a_take_wakes_a_seat(rt: HostRuntime) {
     let first = buffer.try_put(&mut seat, Ware { number: 7 });
     assert!(rt; first.is_ok());
     let (told, taken) = put_and_take_of_many(&rt, &buffer, seat);
-    assert_is(&rt, (slept(told), taken), (Some(8), Some(7)));
+    assert_eq!(rt; (slept(told), taken), (Some(8), Some(7)));
 }

@@ -4,7 +4,6 @@ ghost use Rattle.std.specs.Thread.{IsSync};
 ghost use Rattle.sysv_lists.specs.Numbers.{AreBetween};
 ghost use Rattle.sysv_eventcount.specs.Drawn.{HasDrawn, BothHaveDrawn};
 
-use crate::parts::assert_is;
 use std::alloc::Global;
 use std::sync::Wait;
 use std::sync::atomic::AtomicU64;
@@ -101,9 +100,9 @@ fn draw_by_four<R: Threads + Sync>(rt: &R, alloc: Global) -> Option<(u64, Vec<u6
 fn four_threads_draw_each_number_once(rt: HostRuntime) -> Result<(), Fail> {
     let (next, mut all) = draw_by_four(&rt, rt.alloc()).ok_or("each thread draws")?;
     all.sort()?;
-    assert_is(&rt, (next, all.len()), (400, 400));
+    assert_eq!(rt; (next, all.len()), (400, 400));
     for (place, number) in all.iter().enumerate() {
-        assert_is(&rt, *number, place as u64);
+        assert_eq!(rt; *number, place as u64);
     }
     Ok(())
 }
@@ -199,7 +198,7 @@ fn one_thread_at_a_time_is_in_the_section(rt: HostRuntime) -> Result<(), Fail> {
         total: AtomicU64::new(0),
     };
     let done = all.enter_by_four(&rt, Pair { one, two });
-    assert_is(&rt, (done, all.total.load(SeqCst)), (Some(()), 400));
+    assert_eq!(rt; (done, all.total.load(SeqCst)), (Some(()), 400));
     Ok(())
 }
 
@@ -299,7 +298,7 @@ fn three_waiters_are_woken_at_their_goals(rt: HostRuntime) -> Result<(), Fail> {
     let answers = wait_by_three(&rt, &count, Pair { one, two });
     let ((one, two), last) = answers.ok_or("each seat splits")?;
     assert!(rt; (1..4).contains(&one) && (2..4).contains(&two));
-    assert_is(&rt, last, (3, true));
+    assert_eq!(rt; last, (3, true));
     Ok(())
 }
 
@@ -460,7 +459,7 @@ fn turns_see_what_another_thread_advances(rt: HostRuntime) -> Result<(), Fail> {
     let (asked, one) = Eventcount::open(rt.alloc(), 0)?;
     let (count, two) = Eventcount::open(rt.alloc(), 0)?;
     let both = ask_and_advance(&rt, &asked, &count, Pair { one, two });
-    assert_is(&rt, both, Some((TRIES, true)));
+    assert_eq!(rt; both, Some((TRIES, true)));
     Ok(())
 }
 
@@ -515,6 +514,6 @@ fn two_threads_wake_each_other(rt: HostRuntime) -> Result<(), Fail> {
     let (ping, one) = Eventcount::open(rt.alloc(), 1)?;
     let (pong, two) = Eventcount::open(rt.alloc(), 0)?;
     let both = play_both(&rt, &ping, &pong, Pair { one, two });
-    assert_is(&rt, both, Some((true, true)));
+    assert_eq!(rt; both, Some((true, true)));
     Ok(())
 }

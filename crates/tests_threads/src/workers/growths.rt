@@ -29,7 +29,7 @@ fn run_of_workers(rt: HostRuntime) {
         Err(refused) => {
             let WorkersRefused { why, states } = refused;
             assert!(rt; matches!(&why, WorkersFault::NoMemory | WorkersFault::Thread));
-            assert_is(&rt, (items_of(&rt, states, 2), source.asked), (0, 0));
+            assert_eq!(rt; (items_of(&rt, states, 2), source.asked), (0, 0));
         }
     }
 }

@@ -4,7 +4,6 @@ ghost use Rattle.std.specs.Prelude.{◌≡◌};
 
 use super::{LATE, put_and_take_of_many, take_and_put_of_many};
 use crate::buffer::{Ware, many, opened};
-use crate::parts::assert_is;
 use std::alloc::Global;
 use std::sync::Wait;
 use std::sync::atomic::AtomicU64;
@@ -79,7 +78,7 @@ fn take_and_put_two<R: Threads + Wait + Clock + Sync>(
 fn buffer_of_one(rt: HostRuntime) {
     let (buffer, puts, takes) = opened(&rt, rt.alloc(), 2);
     let both = take_and_put_two(&rt, rt.alloc(), &buffer, puts, takes);
-    assert_is(&rt, both, (true, true));
+    assert_eq!(rt; both, (true, true));
 }
 
 // A seat has slept until an item came, and another one until a cell was empty. Item 8 is left.
@@ -91,7 +90,7 @@ fn buffer_of_many(rt: HostRuntime) {
     let first = buffer.try_put(&mut seat, Ware { number: 7 });
     let puts = buffer.split(&mut seat);
     let (_told, taken) = put_and_take_of_many(&rt, &buffer, puts);
-    assert_is(&rt, (late, first.is_ok(), taken), (true, true, Some(7)));
+    assert_eq!(rt; (late, first.is_ok(), taken), (true, true, Some(7)));
     let _marked = mark(rt.alloc());
     let last = buffer.try_take(&mut seat);
     assert!(rt; matches!(&last, Ok(item) if item.number == 8));
