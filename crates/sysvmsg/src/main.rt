@@ -1,6 +1,7 @@
 //! `sysvmsg`, System V message queues from the command line.
 #![tactic(auto)]
 
+ghost use Rattle.sysv_clients.specs.Run.{HasShortText};
 ghost use Rattle.sysvmsg.specs.Ends.{Succeeds};
 
 mod asked;
@@ -81,7 +82,13 @@ fn main(rt: HostRuntime) -> ExitCode {
 }
 
 /// Runs a client's command on the server at `path`.
-fn run_client(rt: &HostRuntime, path: &str, command: &Command<'_>, how: How) -> ExitCode {
+///
+/// # Conditions
+///
+/// - The body of a `snd` has at most 8,256 bytes.
+fn run_client(rt: &HostRuntime, path: &str, command: &Command<'_>, how: How) -> ExitCode
+    requires { HasShortText command.now.task }
+{
     let how = How {
         stderr: how.stderr || wants_stderr(rt),
         ..how
