@@ -10,6 +10,7 @@ use Rattle.sysv_queue.specs.Slot.{Slot}
 use Rattle.sysv_queue.specs.Blocks.{blocks_of}
 use Rattle.sysv_objects.specs.Objects.{blocks_in}
 use Rattle.sysv_core.specs.World.{World, Opening, Doing, Response, Transition, opening}
+use Rattle.sysv_core.specs.Standing.{pending}
 use Rattle.sysv_core.specs.Kept.{blocks_at, blocks_held}
 use Rattle.sysv_core.specs.Seen.{Seen, state_in, IsSeenAs, Represents}
 use Rattle.sysv_core.specs.Conserved.{blocks_waiting, blocks_in_call, blocks_in_calls}
@@ -40,7 +41,7 @@ in_calls (None ∷ actors) = omega (
 )
 in_calls (Some d ∷ actors) = omega (
   arith,
-  sum_by-cons blocks_at (Some d.state) (map state_in actors),
+  sum_by-cons blocks_at (Some (pending d.state)) (map state_in actors),
   sum_by-cons blocks_in_call (Some d) actors,
   in_calls actors,
 )

@@ -29,7 +29,7 @@ use Rattle.sysv_queue.specs.LegalReply.{Legal, IsLegalHistory}
 use Rattle.sysv_keys.specs.declared.identifier.TheConstants.{SLOTS}
 use Rattle.sysv_keys.specs.Identifier.{slot_of_id}
 use Rattle.sysv_objects.specs.LegalOp.{IsLegalOp, AreLegal}
-use Rattle.sysv_steps.specs.Call.{SystemCall, Msgget}
+use Rattle.sysv_steps.specs.Call.{SystemCall, Msgget, Kind, kind_of}
 use Rattle.sysv_steps.specs.State.{Wait, OnSettled, Phase, AtInstall, AtProbe, AtLook, AtPlace, AtTake, AtStat, AtSet}
 use Rattle.sysv_steps.specs.State.{AtRemove, State, Goes, Waits, Over, Refused}
 use Rattle.sysv_steps.specs.Begin.{is_refused, first, begin}
@@ -180,7 +180,7 @@ free_moves size h e law legal = by_turn e.call e.reply legal (returned_more h e)
 
 -- ---- what the calls hold
 
-in_state : (call : Invocation) (state : State) → blocks_in_call (doing_in call state) ≡ held state
+in_state : (call : Invocation) (state : State (kind_of call.asked)) → blocks_in_call (doing_in call state) ≡ held state
 in_state call (Goes phase) = refl
 in_state call (Waits wait) = refl
 in_state call (Over ending) = refl
@@ -196,7 +196,7 @@ no_more actors place was there = omega (arith, sum_set blocks_in_call actors pla
 there_is : (id : ℤ) (slot : ℕ) → slot ≡ slot_of_id id → slot < SLOTS
 there_is id slot e = omega (arith, e, mod-lt (unsigned_abs id) {m = SLOTS} (omega arith))
 
-asks_slot : (phase : Phase) (now slot : ℕ) (call : Call) → OfSlot slot call ≡ asks phase now → slot < SLOTS
+asks_slot : {kind : Kind} (phase : Phase kind) (now slot : ℕ) (call : Call) → OfSlot slot call ≡ asks phase now → slot < SLOTS
 asks_slot (AtInstall get id) now slot call e = there_is id slot cc
 asks_slot (AtProbe get id settled) now slot call e = there_is id slot cc
 asks_slot (AtLook send) now slot call e = there_is send.id slot cc
@@ -213,11 +213,18 @@ pub record BlockLaws : Type 0 where
   pub law : (size : ℕ) (h : PoolHistory) → IsLegalPoolHistory size h → PoolLaw size h
   pub step : EachStepKeepsItsBlocks
 
+-- After a legal turn, a send before its place has the blocks that its body needs.
+pub turn_holds : {kind : Kind} → BlockLaws → (generation size : ℕ) (turns : List Turn) (phase : Phase kind) →
+    HasItsBlocks (Goes phase) → (now : ℕ) (state : State kind) (op : Op) → asked_by op ≡ asks phase now →
+    IsLegalOp generation size turns op → next phase op ≡ Some state → HasItsBlocks state
+turn_holds {kind} b generation size turns phase own now state op asked l goes =
+    (b.step kind phase op now state own (gives_it generation size turns op l) asked goes).1
+
 module _ (b : BlockLaws) (generation size : ℕ) (turns : List Turn) (actors : List (Option Doing))
     (legal : AreLegal generation size turns) (all : AreConserved size turns actors) where
-  module _ (place : ℕ) (call : Invocation) (phase : Phase)
+  module _ (place : ℕ) (call : Invocation) (phase : Phase (kind_of call.asked))
       (there : slice_get actors place ≡ Some (Some record { call = call; state = Goes phase }))
-      (own : HasItsBlocks (Goes phase)) (now : ℕ) (state : State) where
+      (own : HasItsBlocks (Goes phase)) (now : ℕ) (state : State (kind_of call.asked)) where
     abbrev was : Option Doing
     was = Some record { call = call; state = Goes phase }
 
@@ -306,7 +313,8 @@ module _ (b : BlockLaws) (generation size : ℕ) (turns : List Turn) (actors : L
         next phase op ≡ Some state →
         AreConserved size (turns ++ turn_of call.who op ∷ []) (slice_set actors place (doing_in call state))
     turn_conserves op asked l goes =
-        let balance = b.step phase op now state own (gives_it generation size turns op l) asked goes in
+        let balance =
+        (b.step (kind_of call.asked) phase op now state own (gives_it generation size turns op l) asked goes).0 in
         let m = moves op asked l balance in
         record { whole = omega (arith, m.0, balance, calls_move, all.whole); taken_back = m.1 }
 
@@ -341,7 +349,7 @@ module _ (b : BlockLaws) (generation size : ℕ) (turns : List Turn) (actors : L
 
 -- A call that starts, or whose wait is over, holds what it held.
 pub stands_conserves : (size : ℕ) (turns : List Turn) (actors : List (Option Doing)) (place : ℕ) (was : Option Doing)
-    (call : Invocation) (state : State) → slice_get actors place ≡ Some was → held state ≡ blocks_in_call was →
+    (call : Invocation) (state : State (kind_of call.asked)) → slice_get actors place ≡ Some was → held state ≡ blocks_in_call was →
     AreConserved size turns actors → AreConserved size turns (slice_set actors place (doing_in call state))
 stands_conserves size turns actors place was call state there same all = record {
   whole = still (free_after size (pool_history turns)) (blocks_waiting turns) (blocks_in_calls actors)
@@ -354,7 +362,7 @@ stands_conserves size turns actors place was call state there same all = record 
     still : (free w c d x y h : ℕ) → d + x ≡ c + y → y ≡ h → h ≡ x → free + (w + c) ≡ size → free + (w + d) ≡ size
     still free w c d x y h moved y_is h_is whole = omega (arith, moved, y_is, h_is, whole)
 
-pub resumed_holds : (wait : Wait) (value : ℕ) → held (Goes (resume wait value)) ≡ 0
+pub resumed_holds : {kind : Kind} (wait : Wait kind) (value : ℕ) → held (Goes (resume wait value)) ≡ 0
 resumed_holds (OnSettled goal get) value = refl
 resumed_holds wait value = refl
 

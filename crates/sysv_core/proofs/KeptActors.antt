@@ -8,11 +8,12 @@ use Rattle.sysv_objects.specs.Objects.{Objects, CountsUpTo, raises_by, raises}
 use Rattle.sysv_model.specs.History.{Call, Install}
 use Rattle.sysv_model.specs.Pool.{Reserve, Release}
 use Rattle.sysv_model.specs.Turn.{Op, AtSlot, AtRegistry, AtPool}
+use Rattle.sysv_steps.specs.Call.{Kind}
 use Rattle.sysv_steps.specs.State.{State, Goes, Waits, Over}
 use Rattle.sysv_core.specs.declared.doing.Doing.{Doing}
 use Rattle.sysv_core.specs.declared.doing.Led.{Led}
 use Rattle.sysv_core.specs.declared.doing.Led.TheVariants as led
-use Rattle.sysv_core.specs.Standing.{doing_state}
+use Rattle.sysv_core.specs.Standing.{Pending, doing_state}
 use Rattle.sysv_queue.specs.Tally.{Tallied}
 use Rattle.sysv_core.specs.Kept.{state_kept, states_kept, doing_led, kept_led, counted_led, told_by}
 use Rattle.sysv_core.specs.Tallying.{is_got, messages_given}
@@ -20,7 +21,7 @@ use Rattle.sysv_core.specs.Led.{StepLeads}
 use Rattle.sysv_core.specs.Seen.{Seen}
 use Rattle.sysv_core.proofs.Lists.{slice_set-same, get_set_same}
 
-pub kept_some : (x : Option Doing) → is_some x ≡ true → (p : State) × (state_kept x ≡ Some p)
+pub kept_some : (x : Option Doing) → is_some x ≡ true → (p : Pending) × (state_kept x ≡ Some p)
 kept_some None e = absurd cc
 kept_some (Some d) e = (doing_state d, refl)
 
@@ -28,7 +29,7 @@ pub kept_none : (x : Option Doing) → is_some x ≡ false → state_kept x ≡ 
 kept_none None e = refl
 kept_none (Some p) e = absurd cc
 
-module _ (items : List (Option Doing)) (states : List (Option State)) (view : states_kept items ≡ states) (place : ℕ)
+module _ (items : List (Option Doing)) (states : List (Option Pending)) (view : states_kept items ≡ states) (place : ℕ)
     (within : place < length states) where
   inside : place < length items
   inside = omega (arith, length-map items state_kept, ap length view)
@@ -39,16 +40,16 @@ module _ (items : List (Option Doing)) (states : List (Option State)) (view : st
       ∙ (slice_get-map state_kept items place
       ∙ ap (option_map state_kept) (slice_get_read items (length items) place x refl inside read))
 
-  pub seen_set : (x : Option Doing) (p : Option State) → state_kept x ≡ p →
+  pub seen_set : (x : Option Doing) (p : Option Pending) → state_kept x ≡ p →
       states_kept (slice_set items place x) ≡ slice_set states place p
   seen_set x p e = map-set state_kept items place x
       ∙ (ap (λ ps. slice_set ps place (state_kept x)) view ∙ ap (slice_set states place) e)
 
-  pub seen_taken : (x y : Option Doing) (p : Option State) → state_kept y ≡ p →
+  pub seen_taken : (x y : Option Doing) (p : Option Pending) → state_kept y ≡ p →
       states_kept (slice_set (slice_set items place x) place y) ≡ slice_set states place p
   seen_taken x y p e = ap states_kept (set-set items place x y) ∙ seen_set y p e
 
-  pub seen_same : (x : Option Doing) (p : Option State) → state_kept x ≡ p → slice_get states place ≡ Some p →
+  pub seen_same : (x : Option Doing) (p : Option Pending) → state_kept x ≡ p → slice_get states place ≡ Some p →
       states_kept (slice_set items place x) ≡ states
   seen_same x p e there = seen_set x p e ∙ slice_set-same states place p there
 
@@ -79,7 +80,7 @@ module _ (items : List (Option Doing)) (states : List (Option State)) (view : st
       slice_get (slice_set items place new) place ≡ Some None
   taken_there x read new e = get_set_same items place new x (there x read) ∙ ap Some e
 
-pub same_seen : (o p : Objects) (s t : List (Option State)) (m n : ℕ) (a b : Tallied) → o ≡ p → s ≡ t → m ≡ n → a ≡ b →
+pub same_seen : (o p : Objects) (s t : List (Option Pending)) (m n : ℕ) (a b : Tallied) → o ≡ p → s ≡ t → m ≡ n → a ≡ b →
     let x : Seen = record { objects = o; states = s; steps = m; tally = a } in
     let y : Seen = record { objects = p; states = t; steps = n; tally = b } in
     x ≡ y
@@ -122,7 +123,7 @@ raises_at_most (AtPool (Reserve size) reply) = omega arith
 raises_at_most (AtPool (Release blocks) reply) = omega arith
 
 -- A step does not raise the counts above the step number.
-pub counts_on : (old : Objects) (state : State) (now : ℕ) (l : Led) (new : Objects) (n : ℕ) →
+pub counts_on : {kind : Kind} (old : Objects) (state : State kind) (now : ℕ) (l : Led) (new : Objects) (n : ℕ) →
     StepLeads old state now l new → CountsUpTo n old → CountsUpTo (n + counted_led l) new
 counts_on old (Goes phase) now (led.To doing) new n step up =
     weaker (n + raises_by step.op) (n + 1) new (omega (arith, raises_at_most step.op)) (step.turn.counts n up)

@@ -1,5 +1,4 @@
 pub mod Lists
-pub mod StepKeepsKind
 pub mod TurnLeads
 pub mod Histories
 pub mod BlocksConserved

@@ -27,6 +27,7 @@ use Rattle.sysv_queue.specs.ForGood.{IsInstalledOnce}
 use Rattle.sysv_keys.specs.Identifier.{slot_of_id}
 use Rattle.sysv_keys.specs.Rows.{makes, settles, forgets, is_made}
 use Rattle.sysv_objects.specs.LegalOp.{IsLegalOp}
+use Rattle.sysv_steps.specs.Call.{Kind}
 use Rattle.sysv_steps.specs.Call.{SystemCall, Msgget}
 use Rattle.sysv_steps.specs.State.{Wait, OnSettled, AtInstall, AtSettle, AtUnmake, AtForget, State, Goes, Over, Refused}
 use Rattle.sysv_steps.specs.Begin.{is_refused, first, begin}
@@ -118,7 +119,7 @@ IsNext j turns = IsReady j turns × (done j turns ≡ false)
 
 -- The job that a call in this state has to do. No call comes to give an identifier up, and making
 -- one is no call's job.
-abbrev pub job_at : State → Option Job
+abbrev pub job_at : {kind : Kind} → State kind → Option Job
 job_at (Goes (AtInstall get id)) = Some (installing id)
 job_at (Goes (AtSettle id)) = Some (settling id)
 job_at (Goes (AtForget id blocks)) = Some (forgetting id)
@@ -133,7 +134,7 @@ abbrev pub jobs_of : List (Option Doing) → List (Option Job)
 jobs_of actors = map job_in actors
 
 -- A call has none when it starts, and none when its wait ends.
-pub resumed_none : (wait : Wait) (value : ℕ) → job_at (Goes (resume wait value)) ≡ None
+pub resumed_none : {kind : Kind} (wait : Wait kind) (value : ℕ) → job_at (Goes (resume wait value)) ≡ None
 resumed_none (OnSettled goal get) value = refl
 resumed_none wait value = refl
 

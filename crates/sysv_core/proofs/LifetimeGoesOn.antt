@@ -20,6 +20,7 @@ use Rattle.sysv_keys.specs.Rows.{Row, makes, forgets, settles, is_settled, IsRow
 use Rattle.sysv_keys.specs.LegalReply.{IsLegalHistory as IsLegalRegistryHistory}
 use Rattle.sysv_keys.specs.RegistryLaw.{RegistryLaw, LeavesRow}
 use Rattle.sysv_objects.specs.LegalOp.{IsLegalOp, AreLegal}
+use Rattle.sysv_steps.specs.Call.{Kind, kind_of}
 use Rattle.sysv_steps.specs.State.{Afterwards, IsRefused, WaitsOn, Phase, AtBegin, AtInstall, AtSettle, AtUnmake}
 use Rattle.sysv_steps.specs.State.{AtLook, Getting, Id, AtReserve, AtSendGiveback, AtTake}
 use Rattle.sysv_steps.specs.State.{AtRemove, AtForget, State, Goes, Waits, Over}
@@ -208,11 +209,11 @@ module _ (turns : List Turn) (who : Who) (op : Op) where
 
 -- ---- a turn of a call
 
-abbrev next_job : Option State → Option Job
+abbrev next_job : {kind : Kind} → Option (State kind) → Option Job
 next_job None = None
 next_job (Some state) = job_at state
 
-rested : (a : Afterwards) → job_at (goes_on a) ≡ None
+rested : {kind : Kind} (a : Afterwards kind) → job_at (goes_on a) ≡ None
 rested (IsRefused why) = refl
 rested (WaitsOn wait) = refl
 
@@ -274,7 +275,7 @@ module _ (registry_law : EachObeys) (generation blocks : ℕ) (turns : List Turn
           (gave id m.0 s.it.call s.it.reply s.passes) refl)
 
   -- A turn of a call that has its job to do.
-  abbrev Goes_on : Who → Phase → Op → State → Type 0
+  abbrev Goes_on : {kind : Kind} → Who → Phase kind → Op → State kind → Type 0
   Goes_on who phase op state =
       ((j : Job) → job_at (Goes phase) ≡ Some j → IsNext j turns × (is_owned j.task ≡ true)) →
       IsLegalOp generation blocks turns op →
@@ -282,17 +283,17 @@ module _ (registry_law : EachObeys) (generation blocks : ℕ) (turns : List Turn
       next phase op ≡ Some state → IsSeemly op × Step turns op (job_at (Goes phase)) (job_at state)
 
   -- A turn that does no job, and one that does that of the call.
-  quiet : (op : Op) (state : State) (o : Option State) → o ≡ Some state → IsSeemly op → job_of op ≡ None →
+  quiet : {kind : Kind} (op : Op) (state : State kind) (o : Option (State kind)) → o ≡ Some state → IsSeemly op → job_of op ≡ None →
       next_job o ≡ None → IsSeemly op × Step turns op None (job_at state)
   quiet op state o n seemly none to = (seemly, rests none (λ j e. absurd cc) (ap next_job (sym n) ∙ to))
 
-  own : (j : Job) (op : Op) (state : State) (o : Option State) → o ≡ Some state → IsSeemly op →
+  own : {kind : Kind} (j : Job) (op : Op) (state : State kind) (o : Option (State kind)) → o ≡ Some state → IsSeemly op →
       job_of op ≡ Some j → IsNext j turns → next_job o ≡ follow j →
       IsSeemly op × Step turns op (Some j) (job_at state)
   own j op state o n seemly job is_next to =
       (seemly, acts j job is_next (λ i e. sym (some_is e)) (λ e. refl) (ap next_job (sym n) ∙ to))
 
-  step_told : (who : Who) (phase : Phase) (op : Op) (now : ℕ) (state : State) →
+  step_told : {kind : Kind} (who : Who) (phase : Phase kind) (op : Op) (now : ℕ) (state : State kind) →
       Goes_on who phase (told (asks phase now) op) state
   step_told who (AtBegin get) (AtRegistry c (Made id)) now state has l then n = (
     (tt, tt, tt),
@@ -353,9 +354,9 @@ module _ (registry_law : EachObeys) (generation blocks : ℕ) (turns : List Turn
   step_told who phase (AtPool c reply) now state has l then n = quiet _ state _ n (tt, tt, tt) refl refl
 
   -- The call makes a turn.
-  pub lifetime_goes : (jobs : List (Option Job)) → Lifetime turns jobs →
-      (place : ℕ) (who : Who) (phase : Phase) (now : ℕ)
-      (op : Op) (state : State) → slice_get jobs place ≡ Some (job_at (Goes phase)) →
+  pub lifetime_goes : {kind : Kind} (jobs : List (Option Job)) → Lifetime turns jobs →
+      (place : ℕ) (who : Who) (phase : Phase kind) (now : ℕ)
+      (op : Op) (state : State kind) → slice_get jobs place ≡ Some (job_at (Goes phase)) →
       asked_by op ≡ asks phase now → IsLegalOp generation blocks turns op →
       IsLegalRegistryHistory generation (registry_history (turns ++ turn_of who op ∷ [])) →
       next phase op ≡ Some state → Lifetime (turns ++ turn_of who op ∷ []) (slice_set jobs place (job_at state))
@@ -380,12 +381,12 @@ jobs_get : (actors : List (Option Doing)) (place : ℕ) (was : Option Doing) →
     slice_get (jobs_of actors) place ≡ Some (job_in was)
 jobs_get actors place was there = slice_get-map job_in actors place ∙ ap (option_map job_in) there
 
-job_is : (call : Invocation) (state : State) → job_in (doing_in call state) ≡ job_at state
+job_is : (call : Invocation) (state : State (kind_of call.asked)) → job_in (doing_in call state) ≡ job_at state
 job_is call (Goes phase) = refl
 job_is call (Waits wait) = refl
 job_is call (Over ending) = refl
 
-pub jobs_set : (actors : List (Option Doing)) (place : ℕ) (call : Invocation) (state : State) →
+pub jobs_set : (actors : List (Option Doing)) (place : ℕ) (call : Invocation) (state : State (kind_of call.asked)) →
     slice_set (jobs_of actors) place (job_at state) ≡ jobs_of (slice_set actors place (doing_in call state))
 jobs_set actors place call state = ap (slice_set (jobs_of actors) place) (sym (job_is call state))
     ∙ sym (map-set job_in actors place (doing_in call state))
@@ -406,7 +407,7 @@ abbrev pub Lives : List Turn → List (Option Doing) → Type 0
 Lives turns actors = Lifetime turns (jobs_of actors)
 
 pub lives_turn : EachObeys → (generation blocks : ℕ) (turns : List Turn) (actors : List (Option Doing)) (place : ℕ)
-    (call : Invocation) (phase : Phase) (now : ℕ) (op : Op) (state : State) →
+    (call : Invocation) (phase : Phase (kind_of call.asked)) (now : ℕ) (op : Op) (state : State (kind_of call.asked)) →
     slice_get actors place ≡ Some (Some record { call = call; state = Goes phase }) → asked_by op ≡ asks phase now →
     AreLegal generation blocks turns → IsLegalOp generation blocks turns op →
     AreLegal generation blocks (turns ++ turn_of call.who op ∷ []) → next phase op ≡ Some state →
@@ -420,7 +421,7 @@ lives_turn law generation blocks turns actors place call phase now op state ther
 -- A call that starts, or whose wait ends, has no job before and after.
 pub lives_stand : (turns : List Turn) (actors : List (Option Doing)) (place : ℕ) (was : Option Doing)
     (call : Invocation)
-    (state : State) → slice_get actors place ≡ Some was → job_in was ≡ None → job_at state ≡ None →
+    (state : State (kind_of call.asked)) → slice_get actors place ≡ Some was → job_in was ≡ None → job_at state ≡ None →
     Lives turns actors → Lives turns (slice_set actors place (doing_in call state))
 lives_stand turns actors place was call state there none then l =
     subst (Lifetime turns)
@@ -521,8 +522,8 @@ op_legal generation blocks turns who (AtPool call reply) l =
     (pool_more turns (turn_of who (AtPool call reply)))
 
 module _ (law : EachObeys) (generation blocks : ℕ) where
-  preset_turn : (turns : List Turn) (was : Option Job) (jobs : List (Option Job)) (phase : Phase) (op : Op)
-      (state : State) → AreLegal generation blocks (turns ++ turn_of preset_who op ∷ []) →
+  preset_turn : {kind : Kind} (turns : List Turn) (was : Option Job) (jobs : List (Option Job)) (phase : Phase kind) (op : Op)
+      (state : State kind) → AreLegal generation blocks (turns ++ turn_of preset_who op ∷ []) →
       was ≡ job_at (Goes phase) → asked_by op ≡ asks phase 0 → next phase op ≡ Some state →
       Lifetime turns (was ∷ jobs) → Lifetime (turns ++ turn_of preset_who op ∷ []) (job_at state ∷ jobs)
   preset_turn turns was jobs phase op state legal is asked goes l =

@@ -16,6 +16,7 @@ use Rattle.sysv_queue.specs.ForGood.{RemovedForGood}
 use Rattle.sysv_keys.specs.Identifier.{slot_of_id}
 use Rattle.sysv_keys.specs.Rows.{forgets, settles, is_settled}
 use Rattle.sysv_keys.specs.RegistryLaw.{RegistryLaw, LeavesRow}
+use Rattle.sysv_steps.specs.Call.{Kind}
 use Rattle.sysv_steps.specs.State.{AtInstall, AtSettle, AtUnmake, AtForget, State, Goes}
 use Rattle.sysv_steps.specs.Tended.{HasToSettle, HasToForget}
 use Rattle.sysv_core.specs.World.{World}
@@ -30,7 +31,7 @@ use Rattle.sysv_core.proofs.LifetimeGoesOn.{Lives, is_owned, job_there}
 
 -- ---- each row is tended
 
-tends : (j : Job) (state : State) → job_at state ≡ Some j → HasToSettle state j.id ⊎ HasToForget state j.id
+tends : {kind : Kind} (j : Job) (state : State kind) → job_at state ≡ Some j → HasToSettle state j.id ⊎ HasToForget state j.id
 tends j (Goes (AtInstall get id)) e = inl cc
 tends j (Goes (AtSettle id)) e = inl cc
 tends j (Goes (AtUnmake id)) e = inl cc

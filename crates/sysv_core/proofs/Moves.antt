@@ -4,7 +4,7 @@ use Rattle.std.proofs.Common.{◌≡◌, ◌≤◌, inl, inr, ℕ, zero, suc, Li
 use Rattle.sysv_model.specs.declared.cred.Cred.{Cred}
 use Rattle.sysv_model.specs.Turn.{registry_history}
 use Rattle.sysv_keys.specs.Rows.{IsUnused}
-use Rattle.sysv_steps.specs.Call.{SystemCall}
+use Rattle.sysv_steps.specs.Call.{SystemCall, kind_of}
 use Rattle.sysv_steps.specs.State.{Phase, Wait, State, Goes, Waits, Over}
 use Rattle.sysv_steps.specs.Resume.{awaited, goal_of, resume}
 use Rattle.sysv_core.specs.World.{World, Invocation, Doing, Response, Transition, Preset, Start, Step, StaysWith}
@@ -15,10 +15,10 @@ pub data Move (w : World) (responses : List Response) (after : World) : Type 0 w
   stood : StaysWith w responses after → Move w responses after
   began : (place : ℕ) (cred : Cred) (asked : SystemCall) → slice_get w.actors place ≡ Some None →
       Begins w (suc place) (starting w (suc place) cred asked) responses after → Move w responses after
-  turned : (place now : ℕ) (call : Invocation) (phase : Phase) →
+  turned : (place now : ℕ) (call : Invocation) (phase : Phase (kind_of call.asked)) →
       slice_get w.actors place ≡ Some (Some record { call = call; state = Goes phase }) →
       Turns w (suc place) call phase now responses after → Move w responses after
-  awoke : (place : ℕ) (call : Invocation) (wait : Wait) →
+  awoke : (place : ℕ) (call : Invocation) (wait : Wait (kind_of call.asked)) →
       slice_get w.actors place ≡ Some (Some record { call = call; state = Waits wait }) →
       goal_of wait ≤ value_of w.turns (awaited wait) → responses ≡ [] →
       after ≡ in_state w (suc place) call (Goes (resume wait (value_of w.turns (awaited wait)))) →
@@ -33,7 +33,7 @@ starts_move w after responses place cred asked None there t = stood t
 starts_move w after responses place cred asked (Some None) there t = began place cred asked there t
 starts_move w after responses place cred asked (Some (Some d)) there t = stood t
 
-continues_move : (w after : World) (responses : List Response) (place now : ℕ) (call : Invocation) (state : State) →
+continues_move : (w after : World) (responses : List Response) (place now : ℕ) (call : Invocation) (state : State (kind_of call.asked)) →
     slice_get w.actors place ≡ Some (Some record { call = call; state = state }) →
     Continues w (suc place) now call state responses after → Move w responses after
 continues_move w after responses place now call (Goes phase) there t = turned place now call phase there t

@@ -4,6 +4,7 @@ use Rattle.std.proofs.Common.{◌∙◌, arith}
 use Rattle.sysv_model.specs.declared.cred.Cred.{Cred}
 use Rattle.sysv_model.specs.Turn.{Op}
 use Rattle.sysv_objects.specs.OneOp.{NoTwoOpsAreLegal}
+use Rattle.sysv_steps.specs.Call.{Kind, kind_of}
 use Rattle.sysv_steps.specs.Call.{SystemCall}
 use Rattle.sysv_steps.specs.State.{Phase, Wait, Ending, State, Goes, Waits, Over}
 use Rattle.sysv_steps.specs.Next.{next}
@@ -16,7 +17,7 @@ use Rattle.sysv_core.specs.World.{response_in}
 use Rattle.sysv_core.specs.World.{in_state, with_turn, Turns, Looks, Continues, StartsAt, StepsAt, Presets, Makes}
 use Rattle.sysv_core.specs.Run.{Leads}
 use Rattle.sysv_core.specs.Answered.{TellsEnding}
-use Rattle.sysv_core.specs.Kinds.{kind_of, gives_back}
+use Rattle.sysv_core.specs.Kinds.{gives_back}
 use Rattle.sysv_core.specs.Sound.{IsToCaller, IsSound, StaysSound}
 use Rattle.sysv_core.specs.Seen.{Tells, Gives, transition_of}
 use Rattle.sysv_model.specs.History.{Who, Actor, Seat}
@@ -36,29 +37,29 @@ presets_once w made did a b (inl h) (inr k) = absurd (k.0 h.0)
 presets_once w made did a b (inr h) (inl k) = absurd (h.0 k.0)
 presets_once w made did a b (inr h) (inr k) = (h.1 ∙ sym k.1, h.2 ∙ sym k.2)
 
-one_state : (s t : State) → Some s ≡ Some t → s ≡ t
+one_state : {kind : Kind} (s t : State kind) → Some s ≡ Some t → s ≡ t
 one_state s t e = cc
 
 module _ (one : NoTwoOpsAreLegal) (stays : StaysSound) where
-  turns_once : (w : World) (actor : ℕ) (call : Invocation) (phase : Phase) (now : ℕ) (r s : List Response)
+  turns_once : (w : World) (actor : ℕ) (call : Invocation) (phase : Phase (kind_of call.asked)) (now : ℕ) (r s : List Response)
       (a b : World) →
       IsSound w → Turns w actor call phase now r a → Turns w actor call phase now s b → Same r s a b
   turns_once w actor call phase now r s a b ok h k =
       let ops : h.0 ≡ k.0 = one w.generation w.blocks w.turns h.0 k.0 ok.legal (h.2 ∙ sym k.2) h.3 k.3 in
       let states : h.1 ≡ k.1 = one_state h.1 k.1 (sym h.4 ∙ (ap (next phase) ops ∙ k.4)) in
-      let world : Op → State → World = λ d st. in_state (with_turn w call.who d) actor call st in (
+      let world : Op → State (kind_of call.asked) → World = λ d st. in_state (with_turn w call.who d) actor call st in (
         h.5 ∙ (ap (response_in call) states ∙ sym k.5),
         h.6 ∙ (ap (λ d. world d h.1) ops ∙ (ap (world k.0) states ∙ sym k.6)),
       )
 
-  looks_once : (w : World) (actor : ℕ) (call : Invocation) (wait : Wait) (r s : List Response) (a b : World) →
+  looks_once : (w : World) (actor : ℕ) (call : Invocation) (wait : Wait (kind_of call.asked)) (r s : List Response) (a b : World) →
       Looks w actor call wait r a → Looks w actor call wait s b → Same r s a b
   looks_once w actor call wait r s a b (inl h) (inl k) = (h.1 ∙ sym k.1, h.2 ∙ sym k.2)
   looks_once w actor call wait r s a b (inl h) (inr k) = let x = h.0 in let y = k.0 in absurd (omega arith)
   looks_once w actor call wait r s a b (inr h) (inl k) = let x = h.0 in let y = k.0 in absurd (omega arith)
   looks_once w actor call wait r s a b (inr h) (inr k) = both_are r s [] a b w h.1 k.1
 
-  continues_once : (w : World) (actor now : ℕ) (call : Invocation) (state : State) (r s : List Response) (a b : World) →
+  continues_once : (w : World) (actor now : ℕ) (call : Invocation) (state : State (kind_of call.asked)) (r s : List Response) (a b : World) →
       IsSound w → Continues w actor now call state r a → Continues w actor now call state s b → Same r s a b
   continues_once w actor now call (Goes phase) r s a b ok h k = turns_once w actor call phase now r s a b ok h k
   continues_once w actor now call (Waits wait) r s a b ok h k = looks_once w actor call wait r s a b h k
@@ -120,7 +121,7 @@ same_answer a b e f g =
 one_answer : (g : Response) (a b : Answer) → Tells g a → Tells g b → a ≡ b
 one_answer g a b h k =
     let e =
-    one_ending (gives_back (Some (kind_of g.call.asked))) g.ending a.result b.result a.body b.body h.ending k.ending in
+    one_ending (gives_back (kind_of g.call.asked)) g.ending a.result b.result a.body b.body h.ending k.ending in
     same_answer a b (one_caller g.call.who a.actor b.actor h.caller k.caller) e.0 e.1
 
 one_given : (f g : Response) → f ∷ [] ≡ g ∷ [] → f ≡ g

@@ -20,7 +20,7 @@ use Rattle.sysv_queue.specs.LegalReply.{IsLegalReply, IsLegalHistory}
 use Rattle.sysv_queue.specs.StaysRight.{NoMatchStays, FullStays, FullStaysForLook, CountsNeverFall}
 use Rattle.sysv_keys.specs.Identifier.{slot_of_id}
 use Rattle.sysv_objects.specs.LegalOp.{AreLegal}
-use Rattle.sysv_steps.specs.Call.{SystemCall, Msgget, Msgsnd, Msgrcv}
+use Rattle.sysv_steps.specs.Call.{SystemCall, Msgget, Msgsnd, Msgrcv, Kind, kind_of}
 use Rattle.sysv_steps.specs.State.{Getting, Sending, Receiving, Wait, OnSettled, OnFreed, OnReleased, OnArrived, Waits}
 use Rattle.sysv_steps.specs.Resume.{awaited, goal_of}
 use Rattle.sysv_steps.specs.Played.{Plays}
@@ -32,8 +32,8 @@ use Rattle.sysv_core.specs.Parked.{AreParkedRightly}
 use Rattle.sysv_core.specs.Removed.{AreRemovedForGood}
 use Rattle.sysv_core.specs.Tending.{AreTended}
 use Rattle.sysv_core.proofs.LifetimeLaws.{SettledOnceInstalled}
-use Rattle.sysv_core.proofs.WaitsForBlocks.{AreShort}
-use Rattle.sysv_core.proofs.SendIsWoken.{AreToBeWoken}
+use Rattle.sysv_core.proofs.WaitsForBlocks.{IsShortBelow, AreShort}
+use Rattle.sysv_core.proofs.SendIsWoken.{IsToBeWokenBelow, AreToBeWoken}
 use Rattle.sysv_core.proofs.LifetimeGoesOn.{EachObeys}
 use Rattle.sysv_core.proofs.GetsParked.{being_changed}
 use Rattle.sysv_core.proofs.TurnInHistory.{made_at, slot_around}
@@ -159,16 +159,21 @@ a_send turns cred id mtype text s is n =
 -- ---- every wait
 
 -- The same for a wait for blocks.
-abbrev IsShortOf : World → Wait → Type 0
+abbrev IsShortOf : {kind : Kind} → World → Wait kind → Type 0
 IsShortOf w (OnReleased goal s) =
     released (pool_history w.turns) < goal → HasTooFewBlocks w (length s.text) × IsToBeWoken w s.id s.cred
 IsShortOf w wait = Unit {0}
+
+short_of : {kind : Kind} (w : World) (wait : Wait kind) → IsShortBelow w.blocks (pool_history w.turns) (Waits wait) →
+    IsToBeWokenBelow w (Waits wait) → IsShortOf w wait
+short_of w (OnReleased goal send) short woken = λ below. (short below, woken below)
+short_of w wait short woken = tt
 
 module _ (laws : EachObeys) (w : World) (legal : AreLegal w.generation w.blocks w.turns) (no_match : NoMatchStays)
     (full : FullStays)
     (full_for_look : FullStaysForLook) (counts : CountsNeverFall) (tended : AreTended w)
     (good : AreRemovedForGood w.turns) (order : SettledOnceInstalled w.turns) (call : Invocation) where
-  has_reason : (asked : SystemCall) (wait : Wait) → WaitHolds call.cred asked wait → IsShortOf w wait →
+  has_reason : (asked : SystemCall) (wait : Wait (kind_of asked)) → WaitHolds call.cred asked wait → IsShortOf w wait →
       WaitsFor wait (ops_of call.who w.turns) → value_of w.turns (awaited wait) < goal_of wait →
       HasReason w call.cred asked wait
   has_reason (Msgrcv id size mtype flags) (OnArrived goal r) holds short (told, is, f) below =
@@ -192,7 +197,7 @@ module _ (laws : EachObeys) (w : World) (legal : AreLegal w.generation w.blocks 
       subst (IsBeingChanged w) (ap (λ (g : Getting). g.key) holds.is)
       (being_changed laws w legal tended good order call.who get told
       (subst (λ n. settled (registry_history w.turns) < n) is below) f)
-  has_reason asked wait holds short f below = absurd holds
+  has_reason asked wait holds short f below = elim wait [ ]
 
 pub parked_rightly : EachObeys → (w : World) → AreLegal w.generation w.blocks w.turns →
     ((place : ℕ) (d : Doing) → slice_get w.actors place ≡ Some (Some d) →
@@ -207,10 +212,6 @@ parked_rightly laws w legal plays no_match full full_for_look counts refused hol
     subst (Plays (begun d.call) (ops_of d.call.who w.turns)) p.waits (plays place d p.there) in
     has_reason laws w legal no_match full full_for_look counts tended good order d.call d.call.asked wait
     (holds d.call.cred d.call.asked d.call.released (ops_of d.call.who w.turns) (Waits wait) played)
-    (short_of wait p.waits)
+    (short_of w wait (subst (IsShortBelow w.blocks (pool_history w.turns)) p.waits (short place d p.there))
+    (subst (IsToBeWokenBelow w) p.waits (woken place d p.there)))
     (refused d.call.cred d.call.asked d.call.released (ops_of d.call.who w.turns) wait played) p.below
-  where
-    short_of : (x : Wait) → d.state ≡ Waits x → IsShortOf w x
-    short_of (OnReleased goal send) is = λ below.
-        (short place d goal send p.there is below, woken place d goal send p.there is below)
-    short_of x is = tt

@@ -9,9 +9,10 @@ use Rattle.std.proofs.lemmas.Bool.{eqb-true, and_parts, cases_eq}
 use Rattle.std.proofs.lemmas.Bool.Decides.{nat_tests}
 use Rattle.sysv_model.specs.History.{Who, Actor, Seat}
 use Rattle.sysv_model.specs.Turn.{Turn, is_same, ops_of}
+use Rattle.sysv_steps.specs.Call.{kind_of}
 use Rattle.sysv_steps.specs.State.{State, Goes, Waits, Over}
 use Rattle.sysv_core.specs.World.{Invocation, Doing, Response, doing_in, response_in}
-use Rattle.sysv_core.specs.AnswerLaw.{endings_of, stands_in, standing_of, ended, standing}
+use Rattle.sysv_core.specs.AnswerLaw.{endings_of, stands_in, standing_of, ended}
 use Rattle.sysv_core.proofs.Lists.{get_set_same, get_set_other}
 
 -- ---- names
@@ -67,7 +68,7 @@ endings_more who responses g =
     ∙ map-append (λ (x : Response). x.ending) (filter (λ (x : Response). is_same who x.call.who) responses)
     (cond (is_same who g.call.who) (g ∷ []) [])
 
-pub other_endings : (who : Who) (responses : List Response) (call : Invocation) (state : State) →
+pub other_endings : (who : Who) (responses : List Response) (call : Invocation) (state : State (kind_of call.asked)) →
     is_same who call.who ≡ false →
     endings_of who (responses ++ response_in call state) ≡ endings_of who responses
 other_endings who responses call (Goes phase) e = ap (endings_of who) (append-nil responses)
@@ -79,7 +80,7 @@ other_endings who responses call (Over ending) e =
     ∙ append-nil (endings_of who responses))
 
 -- A call without an ending has that of its state afterwards.
-pub own_endings : (responses : List Response) (call : Invocation) (state : State) → is_same call.who call.who ≡ true →
+pub own_endings : (responses : List Response) (call : Invocation) (state : State (kind_of call.asked)) → is_same call.who call.who ≡ true →
     endings_of call.who responses ≡ [] → endings_of call.who (responses ++ response_in call state) ≡ ended state
 own_endings responses call (Goes phase) same none = ap (endings_of call.who) (append-nil responses) ∙ none
 own_endings responses call (Waits wait) same none = ap (endings_of call.who) (append-nil responses) ∙ none
@@ -96,7 +97,7 @@ abbrev pub IsIn : Who → Option Doing → Type 0
 IsIn who None = Unit {0}
 IsIn who (Some doing) = doing.call.who ≡ who
 
-in_its_state : (call : Invocation) (state : State) → IsIn call.who (doing_in call state)
+in_its_state : (call : Invocation) (state : State (kind_of call.asked)) → IsIn call.who (doing_in call state)
 in_its_state call (Goes phase) = refl
 in_its_state call (Waits wait) = refl
 in_its_state call (Over ending) = tt
@@ -104,12 +105,12 @@ in_its_state call (Over ending) = tt
 not_in : (who other : Who) (o : Option Doing) → is_same other who ≡ false → IsIn who o → stands_in other (Some o) ≡ None
 not_in who other None e i = refl
 not_in who other (Some d) e i =
-    ap (λ b. cond b (Some d.state) None) (subst (λ name. is_same other name ≡ false) (sym i) e)
+    ap (λ b. cond b (Some d) None) (subst (λ name. is_same other name ≡ false) (sym i) e)
 
-own_in : (call : Invocation) (state : State) → is_same call.who call.who ≡ true →
-    stands_in call.who (Some (doing_in call state)) ≡ standing state
-own_in call (Goes phase) same = ap (λ b. cond b (Some (Goes phase)) None) same
-own_in call (Waits wait) same = ap (λ b. cond b (Some (Waits wait)) None) same
+own_in : (call : Invocation) (state : State (kind_of call.asked)) → is_same call.who call.who ≡ true →
+    stands_in call.who (Some (doing_in call state)) ≡ doing_in call state
+own_in call (Goes phase) same = ap (λ b. cond b (doing_in call (Goes phase)) None) same
+own_in call (Waits wait) same = ap (λ b. cond b (doing_in call (Waits wait)) None) same
 own_in call (Over ending) same = refl
 
 pub at_actor : (who : Who) (place start : ℕ) (actors : List (Option Doing)) → who ≡ Actor (suc place) start →
@@ -120,14 +121,14 @@ at_actor (Actor (suc p) s) place start actors e =
 at_actor (Seat n) place start actors e = absurd cc
 
 pub own_standing : (actors : List (Option Doing)) (place start : ℕ) (was : Option Doing) (call : Invocation)
-    (state : State) → call.who ≡ Actor (suc place) start → slice_get actors place ≡ Some was →
-    standing_of call.who (slice_set actors place (doing_in call state)) ≡ standing state
+    (state : State (kind_of call.asked)) → call.who ≡ Actor (suc place) start → slice_get actors place ≡ Some was →
+    standing_of call.who (slice_set actors place (doing_in call state)) ≡ doing_in call state
 own_standing actors place start was call state who there =
     at_actor call.who place start (slice_set actors place (doing_in call state)) who
     ∙ (ap (stands_in call.who) (get_set_same actors place (doing_in call state) was there)
     ∙ own_in call state (same_itself place start call.who who))
 
-elsewhere : (actors : List (Option Doing)) (place : ℕ) (was : Option Doing) (call : Invocation) (state : State)
+elsewhere : (actors : List (Option Doing)) (place : ℕ) (was : Option Doing) (call : Invocation) (state : State (kind_of call.asked))
     (p s : ℕ) →
     is_same (Actor (suc p) s) call.who ≡ false →
     slice_get actors place ≡ Some was → IsIn call.who was →
@@ -144,7 +145,7 @@ elsewhere actors place was call state p s apart there i = elim (cases_eq place p
 ]
 
 pub other_standing : (who : Who) (actors : List (Option Doing)) (place : ℕ) (was : Option Doing) (call : Invocation)
-    (state : State) → is_same who call.who ≡ false →
+    (state : State (kind_of call.asked)) → is_same who call.who ≡ false →
     slice_get actors place ≡ Some was → IsIn call.who was →
     standing_of who (slice_set actors place (doing_in call state)) ≡ standing_of who actors
 other_standing (Actor zero s) actors place was call state apart there i = refl

@@ -14,6 +14,7 @@ use Rattle.sysv_queue.specs.Tally.{Tallied}
 use Rattle.sysv_objects.specs.LegalOp.{IsLegalOp}
 use Rattle.sysv_objects.specs.Objects.{Objects}
 use Rattle.sysv_objects.specs.Represents.{Represents as ObjectsStandFor}
+use Rattle.sysv_steps.specs.Call.{Kind, kind_of}
 use Rattle.sysv_steps.specs.State.{Phase, Wait, Ending, State, Goes, Waits, Over}
 use Rattle.sysv_steps.specs.Resume.{awaited, resume}
 use Rattle.sysv_steps.specs.Begin.{begin}
@@ -32,10 +33,9 @@ use Rattle.sysv_core.specs.World.{World, Invocation, Doing, Response, Start as B
 use Rattle.sysv_core.specs.World.{actor_at}
 use Rattle.sysv_core.specs.World.{doing_in, response_in, in_state, with_call, starting, begun, value_of, Continues}
 use Rattle.sysv_core.specs.World.{StartsAt, StepsAt, Presets, with_preset}
-use Rattle.sysv_core.specs.Kinds.{kind_of, phase_kind, wait_kind, gives_back, IsOf}
 use Rattle.sysv_core.specs.Sound.{IsToCaller, StaysSound}
 use Rattle.sysv_steps.specs.Asked.{asked_of}
-use Rattle.sysv_core.specs.Standing.{stands_at, doing_state}
+use Rattle.sysv_core.specs.Standing.{Pending, pending, stands_at, doing_state}
 use Rattle.sysv_core.specs.Kept.{kept_led, counted_led, told_by}
 use Rattle.sysv_core.specs.Led.{LeadsTo, TurnLeads, LookLeads, Stays, StepLeads}
 use Rattle.sysv_core.specs.Preset.{MakesPreset}
@@ -50,39 +50,46 @@ idle_in None e = absurd cc
 idle_in (Some None) e = refl
 idle_in (Some (Some d)) e = absurd cc
 
-busy_in : (o : Option (Option Doing)) (s : State) → option_map state_in o ≡ Some (Some s) →
-    (d : Doing) × (o ≡ Some (Some d)) × (d.state ≡ s)
+busy_in : (o : Option (Option Doing)) (s : Pending) → option_map state_in o ≡ Some (Some s) →
+    (d : Doing) × (o ≡ Some (Some d)) × (pending d.state ≡ s)
 busy_in None s e = absurd cc
 busy_in (Some None) s e = absurd cc
 busy_in (Some (Some d)) s e = (d, refl, cc)
 
 -- ---- what a start or a step leads to
 
-stands_on : {S W : Type 0} (phase : S → Phase) (wait : W → Wait) (k : Standing S W) (ending : Ending) →
-    Over ending ≡ stands_at phase wait k → ⊥
-stands_on phase wait (standing.At step) ending e = cc
-stands_on phase wait (standing.Waits w) ending e = cc
+abbrev IsOver : {kind : Kind} → State kind → Type 0
+IsOver (Over ending) = Unit {0}
+IsOver state = ⊥
+
+stands_on : {kind : Kind} {S W : Type 0} (phase : S → Phase kind) (wait : W → Wait kind) (k : Standing S W) →
+    IsOver (stands_at phase wait k) → ⊥
+stands_on phase wait (standing.At step) e = e
+stands_on phase wait (standing.Waits w) e = e
+
+pending_on : (d : DoingKept) → IsOver (doing_state d).state → ⊥
+pending_on (doing.Get at) e = stands_on _ _ at e
+pending_on (doing.Send sent) e = stands_on _ _ sent.at e
+pending_on (doing.Receive at body) e = stands_on _ _ at e
+pending_on (doing.Stat step) e = e
+pending_on (doing.Set step) e = e
+pending_on (doing.Remove step) e = e
 
 -- A pending call is not over.
-never_over : (ending : Ending) (d : DoingKept) → Over ending ≡ doing_state d → ⊥
-never_over ending (doing.Get at) e = stands_on _ _ at ending e
-never_over ending (doing.Send sent) e = stands_on _ _ sent.at ending e
-never_over ending (doing.Receive at body) e = stands_on _ _ at ending e
-never_over ending (doing.Stat step) e = cc
-never_over ending (doing.Set step) e = cc
-never_over ending (doing.Remove step) e = cc
+never_over : {kind : Kind} (ending : Ending) (d : DoingKept) → pending {kind = kind} (Over ending) ≡ doing_state d → ⊥
+never_over ending d e = pending_on d (subst (λ (p : Pending). IsOver p.state) e tt)
 
-state_led : (call : Invocation) (b : Bool) (state : State) (l : Led) → LeadsTo b state l →
+state_led : (call : Invocation) (state : State (kind_of call.asked)) (l : Led) → LeadsTo state l →
     state_in (doing_in call state) ≡ kept_led l
-state_led call b (Goes phase) (led.To doing) h = ap Some h
-state_led call b (Waits wait) (led.To doing) h = ap Some h
-state_led call b (Over ending) (led.To doing) h = absurd (never_over ending doing h)
-state_led call b (Over ending) (led.Over ended) h = refl
-state_led call b state l h = absurd h
+state_led call (Goes phase) (led.To doing) h = ap Some h
+state_led call (Waits wait) (led.To doing) h = ap Some h
+state_led call (Over ending) (led.To doing) h = absurd (never_over ending doing h)
+state_led call (Over ending) (led.Over ended) h = refl
+state_led call state l h = absurd h
 
 -- The result of a start or a step is reported.
-tells_led : (w : World) (call : Invocation) (actor : ℕ) (state : State) (l : Led) → w.steps < WORN →
-    IsToCaller call.who actor → LeadsTo (gives_back (Some (kind_of call.asked))) state l →
+tells_led : (w : World) (call : Invocation) (actor : ℕ) (state : State (kind_of call.asked)) (l : Led) →
+    w.steps < WORN → IsToCaller call.who actor → LeadsTo state l →
     Gives w (response_in call state) (told_by actor l)
 tells_led w call actor (Goes phase) (led.To doing) young own h = (young, refl)
 tells_led w call actor (Waits wait) (led.To doing) young own h = (young, refl)
@@ -92,10 +99,10 @@ tells_led w call actor (Over ending) (led.Over ended) young own h =
     (young, (g, refl, record { caller = own; ending = h }))
 tells_led w call actor state l young own h = absurd h
 
-counts_led : (b : Bool) (state : State) (l : Led) (n : ℕ) → LeadsTo b state l → n + 1 ≡ n + counted_led l
-counts_led b state (led.To doing) n h = refl
-counts_led b state (led.Over ended) n h = refl
-counts_led b state (led.Stays doing) n h = absurd h
+counts_led : {kind : Kind} (state : State kind) (l : Led) (n : ℕ) → LeadsTo state l → n + 1 ≡ n + counted_led l
+counts_led state (led.To doing) n h = refl
+counts_led state (led.Over ended) n h = refl
+counts_led state (led.Stays doing) n h = absurd h
 
 -- What is seen after the call of a place was led on.
 abbrev led_on : Seen → ℕ → Led → Objects → Seen
@@ -128,8 +135,8 @@ module _ (w : World) (seen : Seen) (s : IsSeenAs w seen) (sound : StaysSound) wh
   idle_at : (place : ℕ) → slice_get seen.states place ≡ Some None → slice_get w.actors place ≡ Some None
   idle_at place e = idle_in (slice_get w.actors place) (kept_at place ∙ e)
 
-  busy_at : (place : ℕ) (p : State) → slice_get seen.states place ≡ Some (Some p) →
-      (d : Doing) × (slice_get w.actors place ≡ Some (Some d)) × (d.state ≡ p)
+  busy_at : (place : ℕ) (p : Pending) → slice_get seen.states place ≡ Some (Some p) →
+      (d : Doing) × (slice_get w.actors place ≡ Some (Some d)) × (pending d.state ≡ p)
   busy_at place p e = busy_in (slice_get w.actors place) p (kept_at place ∙ e)
 
   as_many : length w.actors ≡ length seen.states
@@ -167,7 +174,7 @@ module _ (w : World) (seen : Seen) (s : IsSeenAs w seen) (sound : StaysSound) wh
       (actor ≡ 0) ⊎ (length seen.states < actor) → Moves w (Start actor cred call) stepped.Nothing seen
   start_absent actor cred call h none = none_starts actor cred call None h (absent actor none) (refl, refl)
 
-  pub start_busy : (actor place : ℕ) (cred : Cred) (call : Call (List ℕ) (List ℕ)) (p : State) → seen.steps < WORN →
+  pub start_busy : (actor place : ℕ) (cred : Cred) (call : Call (List ℕ) (List ℕ)) (p : Pending) → seen.steps < WORN →
       actor ≡ place + 1 → slice_get seen.states place ≡ Some (Some p) →
       Moves w (Start actor cred call) stepped.Nothing seen
   start_busy actor place cred call p h e there =
@@ -185,14 +192,14 @@ module _ (w : World) (seen : Seen) (s : IsSeenAs w seen) (sound : StaysSound) wh
 
   -- ---- the start of a call
 
-  set_states : (place : ℕ) (o : Option Doing) (p : Option State) → state_in o ≡ p →
+  set_states : (place : ℕ) (o : Option Doing) (p : Option Pending) → state_in o ≡ p →
       map state_in (slice_set w.actors place o) ≡ slice_set seen.states place p
   set_states place o p e = map-set state_in w.actors place o
       ∙ (ap (λ ps. slice_set ps place (state_in o)) s.states ∙ ap (slice_set seen.states place) e)
 
   start_here : (n place : ℕ) (cred : Cred) (call : Call (List ℕ) (List ℕ)) (count : ℕ) (l : Led) → seen.steps < WORN →
       n ≡ place → slice_get seen.states place ≡ Some None →
-      LeadsTo (gives_back (Some (kind_of (asked_of call)))) (begin cred (asked_of call) count) l →
+      LeadsTo (begin cred (asked_of call) count) l →
       count ≡ released (pool_history w.turns) →
       Moves w (Start (suc n) cred call) (told_by (suc n) l)
       (record seen { states = slice_set seen.states place (kept_led l); steps = seen.steps + 1 })
@@ -201,8 +208,7 @@ module _ (w : World) (seen : Seen) (s : IsSeenAs w seen) (sound : StaysSound) wh
       let asked = asked_of call in
       let started = starting w (suc n) cred asked in
       let state = begun started in
-      let to : LeadsTo (gives_back (Some (kind_of asked))) state l =
-      subst (λ r. LeadsTo (gives_back (Some (kind_of asked))) (begin cred asked r) l) is leads in
+      let to : LeadsTo state l = subst (λ r. LeadsTo (begin cred asked r) l) is leads in
       let idle : slice_get w.actors n ≡ Some None = ap (slice_get w.actors) same ∙ idle_at place there in
       let after : World = in_state (with_call w started) (suc n) started state in
       let made = inr (
@@ -213,8 +219,7 @@ module _ (w : World) (seen : Seen) (s : IsSeenAs w seen) (sound : StaysSound) wh
         (response_in started state, made, tells_led w started (suc n) state l young refl to),
         record {
           objects = s.objects;
-          states = set_states n (doing_in started state) (kept_led l)
-              (state_led started (gives_back (Some (kind_of asked))) state l to)
+          states = set_states n (doing_in started state) (kept_led l) (state_led started state l to)
               ∙ ap (λ k. slice_set seen.states k (kept_led l)) same;
           sound = sound w after (Begun (suc n) cred asked) (response_in started state) s.sound made;
           steps = ap (λ k. k + 1) s.steps;
@@ -224,7 +229,7 @@ module _ (w : World) (seen : Seen) (s : IsSeenAs w seen) (sound : StaysSound) wh
 
   pub start_idle : (actor place : ℕ) (cred : Cred) (call : Call (List ℕ) (List ℕ)) (count : ℕ) (l : Led) →
       seen.steps < WORN → actor ≡ place + 1 → slice_get seen.states place ≡ Some None →
-      LeadsTo (gives_back (Some (kind_of (asked_of call)))) (begin cred (asked_of call) count) l →
+      LeadsTo (begin cred (asked_of call) count) l →
       count ≡ released (pool_history w.turns) →
       Moves w (Start actor cred call) (told_by actor l)
       (record seen { states = slice_set seen.states place (kept_led l); steps = seen.steps + 1 })
@@ -235,10 +240,10 @@ module _ (w : World) (seen : Seen) (s : IsSeenAs w seen) (sound : StaysSound) wh
   -- ---- a step of a call
 
   -- The world continues as the call does.
-  goes : (n place now : ℕ) (l : Led) (objects : Objects) (d : Doing) (turns : List Turn) (state : State) →
-      w.steps < WORN → n ≡ place → slice_get w.actors n ≡ Some (Some d) → IsToCaller d.call.who (suc n) →
-      ObjectsStandFor w.generation turns objects → objects.pool.size ≡ seen.objects.pool.size →
-      LeadsTo (gives_back (Some (kind_of d.call.asked))) state l →
+  goes : (n place now : ℕ) (l : Led) (objects : Objects) (d : Doing) (turns : List Turn)
+      (state : State (kind_of d.call.asked)) → w.steps < WORN → n ≡ place → slice_get w.actors n ≡ Some (Some d) →
+      IsToCaller d.call.who (suc n) → ObjectsStandFor w.generation turns objects →
+      objects.pool.size ≡ seen.objects.pool.size → LeadsTo state l →
       let after : World = in_state (record w { turns = turns }) (suc n) d.call state in
       Continues w (suc n) now d.call d.state (response_in d.call state) after →
       Moves w (Step (suc n) now) (told_by (suc n) l) (led_on seen place l objects)
@@ -250,39 +255,34 @@ module _ (w : World) (seen : Seen) (s : IsSeenAs w seen) (sound : StaysSound) wh
         (response_in d.call state, made, tells_led w d.call (suc n) state l young own to),
         record {
           objects = stands;
-          states = set_states n (doing_in d.call state) (kept_led l)
-              (state_led d.call (gives_back (Some (kind_of d.call.asked))) state l to)
+          states = set_states n (doing_in d.call state) (kept_led l) (state_led d.call state l to)
               ∙ ap (λ k. slice_set seen.states k (kept_led l)) same;
           sound = sound w after (Stepping (suc n) now) (response_in d.call state) s.sound made;
-          steps = ap (λ k. k + 1) s.steps ∙ counts_led _ state l seen.steps to;
+          steps = ap (λ k. k + 1) s.steps ∙ counts_led state l seen.steps to;
           blocks = s.blocks ∙ sym size;
         },
       )
 
-  turn_here : (n place now : ℕ) (p : Phase) (l : Led) (objects : Objects) (d : Doing) → w.steps < WORN → n ≡ place →
-      slice_get w.actors n ≡ Some (Some d) → d.state ≡ Goes p → TurnLeads seen.objects p now l objects →
+  turn_here : (n place now : ℕ) (l : Led) (objects : Objects) (call : Invocation) (p : Phase (kind_of call.asked)) →
+      w.steps < WORN → n ≡ place → slice_get w.actors n ≡ Some (Some record { call = call; state = Goes p }) →
+      TurnLeads seen.objects p now l objects →
       Moves w (Step (suc n) now) (told_by (suc n) l) (led_on seen place l objects)
-  turn_here n place now p l objects d young same busy is turn =
-      let own = s.sound.own n d busy in
-      let kind : phase_kind p ≡ Some (kind_of d.call.asked) = subst (IsOf (kind_of d.call.asked)) is own.0 in
-      let to : LeadsTo (gives_back (Some (kind_of d.call.asked))) turn.state l =
-      subst (λ k. LeadsTo (gives_back k) turn.state l) kind turn.leads in
+  turn_here n place now l objects call p young same busy turn =
+      let d : Doing = record { call = call; state = Goes p } in
       let legal = subst (λ n. IsLegalOp w.generation n w.turns turn.op) (sym s.blocks)
       (turn.turn.legal w.generation w.turns s.objects) in
-      let turns = w.turns ++ record { who = d.call.who; op = turn.op } ∷ [] in
-      let after : World = in_state (record w { turns = turns }) (suc n) d.call turn.state in
-      goes n place now l objects d turns turn.state young same busy own.1
-      (turn.turn.stands w.generation w.turns d.call.who s.objects) turn.turn.size to
-      (subst (λ st. Continues w (suc n) now d.call st (response_in d.call turn.state) after) (sym is)
-      (turn.op, turn.state, turn.asked, legal, turn.goes, refl, refl))
+      let turns = w.turns ++ record { who = call.who; op = turn.op } ∷ [] in
+      goes n place now l objects d turns turn.state young same busy (s.sound.own n d busy).0
+      (turn.turn.stands w.generation w.turns call.who s.objects) turn.turn.size turn.leads
+      (turn.op, turn.state, turn.asked, legal, turn.goes, refl, refl)
 
   -- The actor still waits.
-  stays_here : (n place now : ℕ) (wait : Wait) (l : Led) (d : Doing) → w.steps < WORN →
-      slice_get w.actors n ≡ Some (Some d) → d.state ≡ Waits wait →
-      slice_get seen.states place ≡ Some (Some (Waits wait)) →
-      Continues w (suc n) now d.call d.state [] w → Stays (Waits wait) l →
+  stays_here : (n place now : ℕ) (l : Led) (call : Invocation) (wait : Wait (kind_of call.asked)) → w.steps < WORN →
+      slice_get w.actors n ≡ Some (Some record { call = call; state = Waits wait }) →
+      slice_get seen.states place ≡ Some (Some (pending (Waits wait))) →
+      Continues w (suc n) now call (Waits wait) [] w → Stays (Waits wait) l →
       Moves w (Step (suc n) now) (told_by (suc n) l) (led_on seen place l seen.objects)
-  stays_here n place now wait (led.Stays doing) d young busy is there continues stays = (
+  stays_here n place now (led.Stays doing) call wait young busy there continues stays = (
     w,
     ([], inr (young, subst (λ o. StepsAt w (suc n) now o [] w) (sym busy) continues), (young, refl)),
     record {
@@ -294,48 +294,44 @@ module _ (w : World) (seen : Seen) (s : IsSeenAs w seen) (sound : StaysSound) wh
       blocks = s.blocks;
     },
   )
-  stays_here n place now wait (led.To doing) d young busy is there continues stays = absurd stays
-  stays_here n place now wait (led.Over ended) d young busy is there continues stays = absurd stays
+  stays_here n place now (led.To doing) call wait young busy there continues stays = absurd stays
+  stays_here n place now (led.Over ended) call wait young busy there continues stays = absurd stays
 
-  look_here : (n place now : ℕ) (wait : Wait) (l : Led) (d : Doing) → w.steps < WORN → n ≡ place →
-      slice_get w.actors n ≡ Some (Some d) → d.state ≡ Waits wait →
-      slice_get seen.states place ≡ Some (Some (Waits wait)) →
-      LookLeads seen.objects wait l →
+  look_here : (n place now : ℕ) (l : Led) (call : Invocation) (wait : Wait (kind_of call.asked)) → w.steps < WORN →
+      n ≡ place → slice_get w.actors n ≡ Some (Some record { call = call; state = Waits wait }) →
+      slice_get seen.states place ≡ Some (Some (pending (Waits wait))) → LookLeads seen.objects wait l →
       Moves w (Step (suc n) now) (told_by (suc n) l) (led_on seen place l seen.objects)
-  look_here n place now wait l d young same busy is there look = elim (look w.generation w.turns s.objects) [
+  look_here n place now l call wait young same busy there look = elim (look w.generation w.turns s.objects) [
     | inl reached ↦
-        let own = s.sound.own n d busy in
-        let kind : wait_kind wait ≡ Some (kind_of d.call.asked) = subst (IsOf (kind_of d.call.asked)) is own.0 in
-        let state = Goes (resume wait (value_of w.turns (awaited wait))) in
-        let after : World = in_state (record w { turns = w.turns }) (suc n) d.call state in
-        goes n place now l seen.objects d w.turns state young same busy own.1 s.objects refl
-        (subst (λ k. LeadsTo (gives_back k) state l) kind reached.1)
-        (subst (λ st. Continues w (suc n) now d.call st (response_in d.call state) after) (sym is)
-        (inl (reached.0, refl, refl)))
-    | inr below ↦ stays_here n place now wait l d young busy is there
-        (subst (λ st. Continues w (suc n) now d.call st [] w) (sym is) (inr (below.0, (refl, refl)))) below.1
+        let d : Doing = record { call = call; state = Waits wait } in
+        goes n place now l seen.objects d w.turns (Goes (resume wait (value_of w.turns (awaited wait)))) young same busy
+        (s.sound.own n d busy).0 s.objects refl reached.1 (inl (reached.0, refl, refl))
+    | inr below ↦ stays_here n place now l call wait young busy there (inr (below.0, (refl, refl))) below.1
   ]
 
-  step_here : (n place now : ℕ) (state : State) (l : Led) (objects : Objects) → seen.steps < WORN → n ≡ place →
-      slice_get seen.states place ≡ Some (Some state) → StepLeads seen.objects state now l objects →
+  step_here : (n place now : ℕ) (l : Led) (objects : Objects) (call : Invocation) (state : State (kind_of call.asked)) →
+      w.steps < WORN → n ≡ place → slice_get w.actors n ≡ Some (Some record { call = call; state = state }) →
+      slice_get seen.states place ≡ Some (Some (pending state)) → StepLeads seen.objects state now l objects →
       Moves w (Step (suc n) now) (told_by (suc n) l) (led_on seen place l objects)
-  step_here n place now (Goes p) l objects h same there step =
-      let found = busy_at place (Goes p) there in
-      turn_here n place now p l objects found.0 (young_too h) same (ap (slice_get w.actors) same ∙ found.1) found.2 step
-  step_here n place now (Waits wait) l objects h same there step =
-      let found = busy_at place (Waits wait) there in
-      subst (λ o.
-      Moves w (Step (suc n) now) (told_by (suc n) l) (led_on seen place l o)) (sym step.1)
-      (look_here n place now wait l found.0 (young_too h) same (ap (slice_get w.actors) same ∙ found.1) found.2 there
-      step.0)
-  step_here n place now (Over ending) l objects h same there step = absurd step
+  step_here n place now l objects call (Goes p) young same busy there step =
+      turn_here n place now l objects call p young same busy step
+  step_here n place now l objects call (Waits wait) young same busy there step =
+      subst (λ o. Moves w (Step (suc n) now) (told_by (suc n) l) (led_on seen place l o)) (sym step.1)
+      (look_here n place now l call wait young same busy there step.0)
+  step_here n place now l objects call (Over ending) young same busy there step = absurd step
 
-  pub step_busy : (actor place now : ℕ) (state : State) (l : Led) (objects : Objects) → seen.steps < WORN →
-      actor ≡ place + 1 → slice_get seen.states place ≡ Some (Some state) → StepLeads seen.objects state now l objects →
+  pub step_busy : (actor place now : ℕ) (p : Pending) (l : Led) (objects : Objects) → seen.steps < WORN →
+      actor ≡ place + 1 → slice_get seen.states place ≡ Some (Some p) →
+      StepLeads seen.objects p.state now l objects →
       Moves w (Step actor now) (told_by actor l) (led_on seen place l objects)
-  step_busy zero place now state l objects h e there step = absurd (omega arith)
-  step_busy (suc n) place now state l objects h e there step =
-      step_here n place now state l objects h (omega arith) there step
+  step_busy zero place now p l objects h e there step = absurd (omega arith)
+  step_busy (suc n) place now p l objects h e there step =
+      let same : n ≡ place = omega arith in
+      let found = busy_at place p there in
+      let d = found.0 in
+      step_here n place now l objects d.call d.state (young_too h) same (ap (slice_get w.actors) same ∙ found.1)
+      (there ∙ ap (λ x. Some (Some x)) (sym found.2))
+      (subst (λ (x : Pending). StepLeads seen.objects x.state now l objects) (sym found.2) step)
 
   -- ---- a preset
 

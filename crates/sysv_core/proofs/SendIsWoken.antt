@@ -26,6 +26,7 @@ use Rattle.sysv_queue.specs.Slot.{Slot, slot_of}
 use Rattle.sysv_queue.specs.LegalReply.{Legal, IsLegalReply, IsLegalHistory}
 use Rattle.sysv_keys.specs.Identifier.{slot_of_id}
 use Rattle.sysv_objects.specs.LegalOp.{IsLegalOp}
+use Rattle.sysv_steps.specs.Call.{Kind, Sends, kind_of}
 use Rattle.sysv_steps.specs.Call.{SystemCall, Msgget, MsgctlSet, MsgctlRmid}
 use Rattle.sysv_steps.specs.State.{Sending, Ending, Wait, OnSettled, OnReleased, Phase, AtLook, AtReserve, AtSet}
 use Rattle.sysv_steps.specs.State.{AtSetGiveback, AtRemove, AtForget, AtRemoveGiveback, State, Goes, Waits, Over}
@@ -34,7 +35,7 @@ use Rattle.sysv_steps.specs.Begin.{is_refused, first}
 use Rattle.sysv_steps.specs.Asks.{asks}
 use Rattle.sysv_steps.specs.Next.{waits_or, goes_on, next}
 use Rattle.sysv_steps.specs.Resume.{resume, awaited}
-use Rattle.sysv_steps.specs.HoldsAsked.{Holds}
+use Rattle.sysv_steps.specs.HoldsAsked.{PhaseHolds, Holds}
 use Rattle.sysv_core.specs.World.{World, Opening, Invocation, Doing, Response, opening, doing_in, starting, begun}
 use Rattle.sysv_core.specs.World.{value_of}
 use Rattle.sysv_core.specs.World.{preset_who, preset_cred, preset_flags, preset_begin, preset_install, preset_settle}
@@ -114,38 +115,22 @@ open_past turns who op id by legal kept o =
 
 -- ---- who has still to give back
 
--- A set and a removal are before a turn of their own, and no other call is.
-abbrev IsAsked : SystemCall → Phase → Type 0
-IsAsked asked (AtSet cred id to) = asked ≡ MsgctlSet id to
-IsAsked asked (AtRemove cred id) = asked ≡ MsgctlRmid id
-IsAsked asked phase = Unit {0}
-
-is_asked : (cred : Cred) (asked : SystemCall) (phase : Phase) → Holds cred asked (Goes phase) → IsAsked asked phase
-is_asked cred (MsgctlSet id to) (AtSet by at what) h = ap (λ i. MsgctlSet i to) (sym h.1) ∙ ap (MsgctlSet at) (sym h.2)
-is_asked cred (MsgctlRmid id) (AtRemove by at) h = ap MsgctlRmid (sym h.1)
-is_asked cred asked (AtSet by at what) h = absurd h
-is_asked cred asked (AtRemove by at) h = absurd h
-is_asked cred asked phase h = tt
-
-change_goes : (id : ℤ) (asked : SystemCall) (phase : Phase) (now : ℕ) (op : Op) (state : State) →
-    IsAsked asked phase → next phase (told (asks phase now) op) ≡ Some state →
+change_goes : (id : ℤ) (cred : Cred) (asked : SystemCall) (phase : Phase (kind_of asked)) (now : ℕ) (op : Op)
+    (state : State (kind_of asked)) → PhaseHolds cred asked phase →
+    next phase (told (asks phase now) op) ≡ Some state →
     changed id (told (asks phase now) op) ≡ true → HasToGiveBack asked state id
-change_goes id asked (AtSet by at to) now (AtSlot slot c Done) state own n ch =
-    subst (λ q. HasToGiveBack q state id) (sym own)
-    (subst (λ t. HasToGiveBack (MsgctlSet at to) t id) (sym (some_is n)) ((Decides-int_eq at id).0 ch))
-change_goes id asked (AtRemove by at) now (AtSlot slot c (Discarded messages)) state own n ch =
-    subst (λ q. HasToGiveBack q state id) (sym own)
-    (subst (λ t. HasToGiveBack (MsgctlRmid at) t id) (sym (some_is n)) ((Decides-int_eq at id).0 ch))
-change_goes id asked phase now (AtSlot slot c reply) state own n ch = absurd cc
-change_goes id asked (AtForget at blocks) now (AtRegistry c reply) state own n ch = absurd cc
-change_goes id asked phase now (AtRegistry c reply) state own n ch = absurd cc
-change_goes id asked AtSetGiveback now (AtPool c reply) state own n ch = absurd cc
-change_goes id asked phase now (AtPool c reply) state own n ch = absurd cc
+change_goes id cred (MsgctlSet is to) (AtSet by at what) now (AtSlot slot c Done) state own n ch =
+    subst (λ t. HasToGiveBack (MsgctlSet is to) t id) (sym (some_is n)) (sym own.1 ∙ (Decides-int_eq at id).0 ch)
+change_goes id cred (MsgctlRmid is) (AtRemove by at) now (AtSlot slot c (Discarded messages)) state own n ch =
+    subst (λ t. HasToGiveBack (MsgctlRmid is) t id) (sym (some_is n)) (sym own.1 ∙ (Decides-int_eq at id).0 ch)
+change_goes id cred asked phase now (AtSlot slot c reply) state own n ch = absurd cc
+change_goes id cred asked phase now (AtRegistry c reply) state own n ch = absurd cc
+change_goes id cred asked phase now (AtPool c reply) state own n ch = absurd cc
 
 abbrev AtPoolWith : PoolReply → Op → Type 0
 AtPoolWith reply op = (call : PoolCall) × (op ≡ AtPool call reply)
 
-giver_goes : (asked : SystemCall) (phase : Phase) (op : Op) (state : State) (id : ℤ) →
+giver_goes : (asked : SystemCall) (phase : Phase (kind_of asked)) (op : Op) (state : State (kind_of asked)) (id : ℤ) →
     HasToGiveBack asked (Goes phase) id → next phase op ≡ Some state →
     HasToGiveBack asked state id ⊎ AtPoolWith Released op ⊎ AtPoolWith Foreign op
 giver_goes (MsgctlSet at to) AtSetGiveback (AtPool c Released) state id p n = inr (inl (c, refl))
@@ -182,7 +167,7 @@ still_give id actors place was new there s = elim (cases_eq place s.place) [
 ]
 
 gives_now : (id : ℤ) (actors : List (Option Doing)) (place : ℕ) (was : Option Doing) (call : Invocation)
-    (state : State) →
+    (state : State (kind_of call.asked)) →
     slice_get actors place ≡ Some was → HasToGiveBack call.asked state id →
     SomeGive id (slice_set actors place (doing_in call state))
 gives_now id actors place was call state there p = record {
@@ -196,7 +181,7 @@ gives_now id actors place was call state there p = record {
     never (MsgctlSet at to) ending q = q
     never asked ending q = q
 
-    pending : (st : State) → HasToGiveBack call.asked st id →
+    pending : (st : State (kind_of call.asked)) → HasToGiveBack call.asked st id →
         doing_in call st ≡ Some record { call = call; state = st }
     pending (Goes phase) q = refl
     pending (Waits wait) q = refl
@@ -209,13 +194,13 @@ Woken turns actors s =
     IsOpenTo (slot_history (slot_of_id s.id) turns) s.id s.cred
     ⊎ SomeGive s.id actors ⊎ (s.released < released (pool_history turns))
 
-abbrev IsWoken : List Turn → List (Option Doing) → State → Type 0
+abbrev IsWoken : {kind : Kind} → List Turn → List (Option Doing) → State kind → Type 0
 IsWoken turns actors (Goes (AtReserve s)) = Woken turns actors s
 IsWoken turns actors (Waits (OnReleased goal s)) = Woken turns actors s
 IsWoken turns actors state = Unit {0}
 
 -- What holds of each send that reserves, or waits for blocks, holds of each call.
-each_woken : (turns more : List Turn) (actors then : List (Option Doing)) (st : State) →
+each_woken : {kind : Kind} (turns more : List Turn) (actors then : List (Option Doing)) (st : State kind) →
     ((s : Sending) → read_by st ≡ s.released → Woken turns actors s → Woken more then s) →
     IsWoken turns actors st → IsWoken more then st
 each_woken turns more actors then (Goes (AtReserve s)) f k = f s refl k
@@ -253,11 +238,47 @@ abbrev AreWoken : List Turn → List (Option Doing) → Type 0
 AreWoken turns actors =
     (place : ℕ) (d : Doing) → slice_get actors place ≡ Some (Some d) → IsWoken turns actors d.state
 
+-- A send that comes to a reserve found its queue open at its look.
+not_full : (b : Bool) (wait : Wait Sends) (why : Errno) (t : Sending) →
+    Some (goes_on (waits_or b wait why)) ≡ Some (Goes (AtReserve t)) → ⊥
+not_full true wait why t e = cc
+not_full false wait why t e = cc
+
+looked : (generation blocks : ℕ) (turns : List Turn) (now : ℕ) (s t : Sending) (op : Op) →
+    asked_by op ≡ asks (AtLook s) now → IsLegalOp generation blocks turns op →
+    next (AtLook s) op ≡ Some (Goes (AtReserve t)) → IsOpenTo (slot_history (slot_of_id s.id) turns) s.id s.cred
+looked generation blocks turns now s t (AtSlot slot c Fits) a l n =
+    let here : slot ≡ slot_of_id s.id = cc in
+    let it : c ≡ Look s.id s.cred (length s.text) = cc in
+    let open_ = subst (λ x. IsLegalReply (slot_history (slot_of_id s.id) turns) x Fits) it
+    (subst (λ x. IsLegalReply (slot_history x turns) c Fits) here l) in
+    record { lives = open_.0; may_write = open_.1 }
+looked generation blocks turns now s t (AtSlot slot c (Full freed)) a l n = absurd (not_full s.nowait _ _ t n)
+looked generation blocks turns now s t op a l n = absurd cc
+
+-- The call that makes the turn.
+own_woken : {kind : Kind} (generation blocks : ℕ) (turns later : List Turn) (actors then : List (Option Doing))
+    (phase : Phase kind) (now : ℕ) (op : Op) (state : State kind) → asked_by op ≡ asks phase now →
+    IsLegalOp generation blocks turns op → next phase op ≡ Some state →
+    ((s : Sending) → s.released ≤ released (pool_history turns) → Woken turns actors s → Woken later then s) →
+    IsRight blocks (pool_history turns) (Goes phase) → IsWoken turns actors (Goes phase) → Comes phase state →
+    IsWoken later then state
+own_woken g blocks turns later actors then (AtLook s) now op (Goes (AtReserve t)) asked legal goes on r k is =
+    subst (Woken later then) (sym is)
+    (on (record s { seen = true }) r.read (inl (looked g blocks turns now s t op asked legal goes)))
+own_woken g blocks turns later actors then (AtReserve s) now op (Waits (OnReleased goal t)) asked legal goes on r k is =
+    subst (Woken later then) is (on s r.read k)
+own_woken g blocks turns later actors then phase now op (Goes (AtReserve t)) asked legal goes on r k is = absurd is
+own_woken g blocks turns later actors then phase now op (Waits (OnReleased goal t)) asked legal goes on r k is =
+    absurd is
+own_woken g blocks turns later actors then phase now op state asked legal goes on r k is = tt
+
 module _ (generation blocks : ℕ) (turns : List Turn) (actors : List (Option Doing)) (place : ℕ) (call : Invocation)
-    (phase : Phase) (there : slice_get actors place ≡ Some (Some record { call = call; state = Goes phase })) (now : ℕ)
-    (op : Op) (state : State)
+    (phase : Phase (kind_of call.asked))
+    (there : slice_get actors place ≡ Some (Some record { call = call; state = Goes phase })) (now : ℕ)
+    (op : Op) (state : State (kind_of call.asked))
     (asked : asked_by op ≡ asks phase now) (legal : IsLegalOp generation blocks turns op)
-    (goes : next phase op ≡ Some state) (own : IsAsked call.asked phase)
+    (goes : next phase op ≡ Some state) (own : PhaseHolds call.cred call.asked phase)
     (back : AtPoolWith Foreign op → ⊥) where
   abbrev was : Option Doing
   was = Some record { call = call; state = Goes phase }
@@ -281,7 +302,7 @@ module _ (generation blocks : ℕ) (turns : List Turn) (actors : List (Option Do
     | inl ch ↦
         let is = told_is (asks phase now) op asked in
         inr (gives_now id actors place was call state there
-        (change_goes id call.asked phase now op state own (ap (next phase) is ∙ goes) (ap (changed id) is ∙ ch)))
+        (change_goes id call.cred call.asked phase now op state own (ap (next phase) is ∙ goes) (ap (changed id) is ∙ ch)))
   ]
 
   woken_on : (s : Sending) → s.released ≤ released (pool_history turns) → Woken turns actors s →
@@ -301,41 +322,10 @@ module _ (generation blocks : ℕ) (turns : List Turn) (actors : List (Option Do
   woken_on s read (inr (inr p)) = inr (inr (pool_part turns call.who op s.released p))
 
   -- Another call.
-  still_woken : (st : State) → IsRight blocks (pool_history turns) st → IsWoken turns actors st →
+  still_woken : {kind : Kind} (st : State kind) → IsRight blocks (pool_history turns) st → IsWoken turns actors st →
       IsWoken later moved_actors st
   still_woken st r k = each_woken turns later actors moved_actors st
       (λ s is. woken_on s (subst (λ n. n ≤ released (pool_history turns)) is r.read)) k
-
-  -- The call itself.
-  looked : (s t : Sending) (d : Op) → d ≡ op → asked_by d ≡ asks (AtLook s) now →
-      IsLegalOp generation blocks turns d → next (AtLook s) d ≡ Some (Goes (AtReserve t)) →
-      IsOpenTo (slot_history (slot_of_id s.id) turns) s.id s.cred
-  looked s t (AtSlot slot c Fits) is a l n =
-      let here : slot ≡ slot_of_id s.id = cc in
-      let it : c ≡ Look s.id s.cred (length s.text) = cc in
-      let open_ = subst (λ x. IsLegalReply (slot_history (slot_of_id s.id) turns) x Fits) it
-      (subst (λ x. IsLegalReply (slot_history x turns) c Fits) here l) in
-      record { lives = open_.0; may_write = open_.1 }
-  looked s t (AtSlot slot c (Full freed)) is a l n = absurd (not_full s.nowait _ _ n)
-    where
-      not_full : (b : Bool) (wait : Wait) (why : Errno) →
-          Some (goes_on (waits_or b wait why)) ≡ Some (Goes (AtReserve t)) → ⊥
-      not_full true wait why e = cc
-      not_full false wait why e = cc
-  looked s t d is a l n = absurd cc
-
-  own_woken : IsRight blocks (pool_history turns) (Goes phase) → IsWoken turns actors (Goes phase) → (st : State) →
-      st ≡ state → Comes phase st → IsWoken later moved_actors st
-  own_woken r k (Goes (AtReserve t)) is (s, at, t_is) =
-      let read : s.released ≤ released (pool_history turns) =
-      (subst (λ p. IsRight blocks (pool_history turns) (Goes p)) at r).read in
-      let o = looked s t op refl (asked ∙ ap (λ p. asks p now) at) legal
-      (ap (λ p. next p op) (sym at) ∙ (goes ∙ ap (λ x. Some x) (sym is))) in
-      subst (Woken later moved_actors) (sym t_is) (woken_on (record s { seen = true }) read (inl o))
-  own_woken r k (Waits (OnReleased goal t)) is at =
-      let r_at = subst (λ p. IsRight blocks (pool_history turns) (Goes p)) at r in
-      woken_on t r_at.read (subst (λ p. IsWoken turns actors (Goes p)) at k)
-  own_woken r k st is c = tt
 
   turn_woken : AreRight blocks turns actors → AreWoken turns actors → AreWoken later moved_actors
   turn_woken right woken = λ at e here.
@@ -343,8 +333,10 @@ module _ (generation blocks : ℕ) (turns : List Turn) (actors : List (Option Do
       let r = right place d there in
       let f = followed generation blocks turns phase now op state r.short asked legal goes in
       elim (does actors place was call state at e there here) [
-        | moved same c s ↦
-            subst (IsWoken later moved_actors) (sym s) (own_woken r (woken place d there) state refl f.comes)
+        | moved same is ↦
+            subst (λ (x : Doing). IsWoken later moved_actors x.state) (sym is)
+            (own_woken generation blocks turns later actors moved_actors phase now op state asked legal goes woken_on r
+            (woken place d there) f.comes)
         | other old ↦ still_woken e.state (right at e old) (woken at e old)
       ]
 
@@ -352,13 +344,14 @@ module _ (generation blocks : ℕ) (turns : List Turn) (actors : List (Option Do
 
 -- A call that continues without a turn, or that starts.
 stand_woken : (turns : List Turn) (actors : List (Option Doing)) (place : ℕ) (was : Option Doing) (call : Invocation)
-    (state : State) → slice_get actors place ≡ Some was →
+    (state : State (kind_of call.asked)) → slice_get actors place ≡ Some was →
     ((d : Doing) (id : ℤ) → was ≡ Some d → HasToGiveBack d.call.asked d.state id → ⊥) →
     IsWoken turns (slice_set actors place (doing_in call state)) state → AreWoken turns actors →
     AreWoken turns (slice_set actors place (doing_in call state))
 stand_woken turns actors place was call state there none own woken = λ at e here.
     elim (does actors place was call state at e there here) [
-      | moved same c s ↦ subst (IsWoken turns (slice_set actors place (doing_in call state))) (sym s) own
+      | moved same is ↦
+          subst (λ (x : Doing). IsWoken turns (slice_set actors place (doing_in call state)) x.state) (sym is) own
       | other old ↦ each_woken turns turns actors (slice_set actors place (doing_in call state)) e.state
           (λ s is. still s) (woken at e old)
     ]
@@ -371,11 +364,11 @@ stand_woken turns actors place was call state there none own woken = λ at e her
     ]
     still s (inr (inr p)) = inr (inr p)
 
-waits_gives : (asked : SystemCall) (wait : Wait) (id : ℤ) → HasToGiveBack asked (Waits wait) id → ⊥
+waits_gives : (asked : SystemCall) (wait : Wait (kind_of asked)) (id : ℤ) → HasToGiveBack asked (Waits wait) id → ⊥
 waits_gives (MsgctlSet at to) wait id q = q
 waits_gives asked wait id q = q
 
-resumed_woken : (wait : Wait) (value : ℕ) (turns : List Turn) (actors : List (Option Doing)) →
+resumed_woken : {kind : Kind} (wait : Wait kind) (value : ℕ) (turns : List Turn) (actors : List (Option Doing)) →
     IsWoken turns actors (Goes (resume wait value))
 resumed_woken (OnSettled goal get) value turns actors = tt
 resumed_woken wait value turns actors = tt
@@ -408,8 +401,8 @@ preset_open turns legal id by o =
         ∙ slot_around 0 (begun_turns turns) [] preset_who (Install (pos 0) IPC_PRIVATE preset_cred preset_flags.0 0)
         (Installed true))
 
-preset_still : (turns : List Turn) (actors : List (Option Doing)) →
-    IsLegalHistory (slot_history 0 (with_preset_turns turns)) → (st : State) → IsWoken turns actors st →
+preset_still : {kind : Kind} (turns : List Turn) (actors : List (Option Doing)) →
+    IsLegalHistory (slot_history 0 (with_preset_turns turns)) → (st : State kind) → IsWoken turns actors st →
     IsWoken (with_preset_turns turns) actors st
 preset_still turns actors legal st k = each_woken turns (with_preset_turns turns) actors actors st (λ s is. still s) k
   where
@@ -443,7 +436,7 @@ move_woken w after responses holds k sound m =
         let hold = holds place (record { call = call; state = Goes phase }) there in
         subst (λ (v : World). AreWoken v.turns v.actors) (sym t.6)
         (turn_woken w.generation w.blocks w.turns w.actors place call phase there now t.0 t.1 t.2 t.3 t.4
-        (is_asked call.cred call.asked phase hold)
+        hold
         (never_foreign w.turns call.who t.0 (subst IsSound t.6 sound).blocks.taken_back) k.right k.woken)
     then (awoke place call wait there reached gave is) =
         let value = value_of w.turns (awaited wait) in
@@ -467,10 +460,15 @@ opening_woken o = record {
 
 -- ---- who waits for blocks
 
+-- If this is a send that waits for blocks below its goal, it is to be woken.
+abbrev pub IsToBeWokenBelow : {kind : Kind} → World → State kind → Type 0
+IsToBeWokenBelow w (Waits (OnReleased goal send)) =
+    released (pool_history w.turns) < goal → IsToBeWoken w send.id send.cred
+IsToBeWokenBelow w state = Unit {0}
+
 -- Each send that waits for blocks below its goal is to be woken.
 abbrev pub AreToBeWoken : World → Type 0
-AreToBeWoken w = (place : ℕ) (d : Doing) (goal : ℕ) (send : Sending) → slice_get w.actors place ≡ Some (Some d) →
-    d.state ≡ Waits (OnReleased goal send) → released (pool_history w.turns) < goal → IsToBeWoken w send.id send.cred
+AreToBeWoken w = (place : ℕ) (d : Doing) → slice_get w.actors place ≡ Some (Some d) → IsToBeWokenBelow w d.state
 
 to_be_woken : (w : World) (goal : ℕ) (send : Sending) → released (pool_history w.turns) < goal →
     goal ≡ send.released + 1 → Woken w.turns w.actors send → IsToBeWoken w send.id send.cred
@@ -479,7 +477,10 @@ to_be_woken w goal send below is (inr (inl g)) =
     inr (record { place = g.place; doing = g.doing; there = g.there; gives = g.gives })
 to_be_woken w goal send below is (inr (inr since)) = absurd (omega (arith, below, is, since))
 
+woken_below : {kind : Kind} (w : World) (state : State kind) → IsShort w.blocks (pool_history w.turns) state →
+    IsWoken w.turns w.actors state → IsToBeWokenBelow w state
+woken_below w (Waits (OnReleased goal send)) s k = λ below. to_be_woken w goal send below s.0 k
+woken_below w state s k = tt
+
 pub are_to_be_woken : (w : World) → AllWoken w → AreToBeWoken w
-are_to_be_woken w k = λ place d goal send there waits below.
-    let short = subst (IsShort w.blocks (pool_history w.turns)) waits (k.right place d there).short in
-    to_be_woken w goal send below short.0 (subst (IsWoken w.turns w.actors) waits (k.woken place d there))
+are_to_be_woken w k = λ place d there. woken_below w d.state (k.right place d there).short (k.woken place d there)

@@ -11,6 +11,7 @@ use Rattle.sysv_model.specs.Turn.{Op, AtSlot, AtRegistry, AtPool, asked_by, Turn
 use Rattle.sysv_keys.specs.Unused.{UnusedSlots}
 use Rattle.sysv_objects.specs.LegalOp.{IsLegalOp, AreLegal}
 use Rattle.sysv_objects.specs.OneOp.{SomeOpIsLegal}
+use Rattle.sysv_steps.specs.Call.{Kind, kind_of}
 use Rattle.sysv_steps.specs.Call.{SystemCall}
 use Rattle.sysv_steps.specs.State.{Phase, AtBegin, AtInstall, AtSettle, AtProbe, AtUnmake, AtLook, AtReserve, AtPlace}
 use Rattle.sysv_steps.specs.State.{AtSendGiveback, AtTake, AtReceiveGiveback, AtStat, AtSet, AtSetGiveback, AtRemove}
@@ -29,7 +30,7 @@ use Rattle.sysv_core.specs.World.{StartsAt, StepsAt, Presets, Makes}
 use Rattle.sysv_core.specs.Run.{Leads}
 use Rattle.sysv_core.specs.Answered.{outcome_of, text_given, body_with}
 use Rattle.sysv_steps.specs.Asked.{asked_of}
-use Rattle.sysv_core.specs.Kinds.{kind_of, gives_back}
+use Rattle.sysv_core.specs.Kinds.{gives_back}
 use Rattle.sysv_core.specs.Sound.{IsToCaller, IsSound, StaysSound}
 use Rattle.sysv_core.specs.Seen.{Gives, transition_of}
 use Rattle.sysv_core.specs.SomeRun.{SomeStep, SomePreset, SomeRun}
@@ -40,10 +41,10 @@ use Rattle.sysv_core.proofs.Runs.{worn_makes}
 
 -- ---- a legal reply has a row of the step table
 
-abbrev HasNext : Option State → Type 0
-HasNext o = (state : State) × (o ≡ Some state)
+abbrev HasNext : {kind : Kind} → Option (State kind) → Type 0
+HasNext o = (state : State kind) × (o ≡ Some state)
 
-row_told : (g blocks : ℕ) (turns : List Turn) (phase : Phase) (now : ℕ) (op : Op) →
+row_told : {kind : Kind} (g blocks : ℕ) (turns : List Turn) (phase : Phase kind) (now : ℕ) (op : Op) →
     IsLegalOp g blocks turns (told (asks phase now) op) → HasNext (next phase (told (asks phase now) op))
 row_told g blocks turns (AtBegin get) now (AtRegistry c (Found id settled)) l = (_, refl)
 row_told g blocks turns (AtBegin get) now (AtRegistry c (Made id)) l = (_, refl)
@@ -90,7 +91,7 @@ row_told g blocks turns phase now (AtSlot at c reply) l = absurd l
 row_told g blocks turns phase now (AtRegistry c reply) l = absurd l
 row_told g blocks turns phase now (AtPool c reply) l = absurd l
 
-row : (g blocks : ℕ) (turns : List Turn) (phase : Phase) (now : ℕ) (op : Op) → asked_by op ≡ asks phase now →
+row : {kind : Kind} (g blocks : ℕ) (turns : List Turn) (phase : Phase kind) (now : ℕ) (op : Op) → asked_by op ≡ asks phase now →
     IsLegalOp g blocks turns op → HasNext (next phase op)
 row g blocks turns phase now op asked l =
     let is = told_is (asks phase now) op asked in
@@ -105,7 +106,7 @@ record Somewhere (w : World) (x : Transition) : Type 0 where
   makes : Makes w x responses after
   told : w.steps < WORN → (result : Stepped) × Gives w responses result
 
-given_told : (w : World) (call : Invocation) (actor : ℕ) (state : State) → w.steps < WORN → IsToCaller call.who actor →
+given_told : (w : World) (call : Invocation) (actor : ℕ) (state : State (kind_of call.asked)) → w.steps < WORN → IsToCaller call.who actor →
     (result : Stepped) × Gives w (response_in call state) result
 given_told w call actor (Goes phase) young own = (stepped.Nothing, (young, refl))
 given_told w call actor (Waits wait) young own = (stepped.Nothing, (young, refl))
@@ -114,7 +115,7 @@ given_told w call actor (Over ending) young own =
       stepped.Answer record {
         actor = actor;
         result = outcome_of ending;
-        body = body_with (gives_back (Some (kind_of call.asked))) (text_given ending);
+        body = body_with (gives_back (kind_of call.asked)) (text_given ending);
       },
       (young, (g, refl, record { caller = own; ending = (refl, refl) })),
     )
@@ -141,7 +142,7 @@ starts_somewhere w actor cred asked (Some None) young e =
     }
 
 module _ (some : SomeOpIsLegal) (sound : StaysSound) (unused : UnusedSlots) where
-  continues_somewhere : (w : World) (place now : ℕ) (call : Invocation) (state : State) → IsSound w → w.steps < WORN →
+  continues_somewhere : (w : World) (place now : ℕ) (call : Invocation) (state : State (kind_of call.asked)) → IsSound w → w.steps < WORN →
       slice_get w.actors place ≡ Some (Some record { call = call; state = state }) → Somewhere w (Step (suc place) now)
   continues_somewhere w place now call (Goes phase) ok young e =
       let d : Doing = record { call = call; state = Goes phase } in
@@ -157,7 +158,7 @@ module _ (some : SomeOpIsLegal) (sound : StaysSound) (unused : UnusedSlots) wher
           subst (λ o. StepsAt w (suc place) now o (response_in call state.0) after) (sym e)
               (op.0, state.0, op.1, op.2, state.1, refl, refl),
         );
-        told = λ fresh. given_told w call (suc place) state.0 fresh own.1;
+        told = λ fresh. given_told w call (suc place) state.0 fresh own.0;
       }
   continues_somewhere w place now call (Waits wait) ok young e =
       let value = value_of w.turns (awaited wait) in

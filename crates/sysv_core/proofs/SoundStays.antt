@@ -8,6 +8,7 @@ use Rattle.std.proofs.lemmas.List.{append-nil}
 use Rattle.std.proofs.lemmas.List.Folds.{list_any-append}
 use Rattle.sysv_model.specs.declared.attributes.Attributes.{Attributes}
 use Rattle.sysv_model.specs.declared.cred.Cred.{Cred}
+use Rattle.sysv_model.specs.declared.errno.Errno.TheVariants.{EINVAL}
 use Rattle.sysv_model.specs.declared.flags.Flags.{Flags}
 use Rattle.sysv_model.specs.declared.limits.TheConstants.{IPC_PRIVATE}
 use Rattle.sysv_model.specs.History.{Who, Call, Install, Place, Take, Set, Remove, Reply, Accepted, Taken, Done}
@@ -22,27 +23,26 @@ use Rattle.sysv_keys.specs.Rows.{makes, is_made, IsUnused}
 use Rattle.sysv_keys.specs.LegalReply.{IsLegalReply as IsLegalRegistryReply}
 use Rattle.sysv_keys.specs.Unused.{UnusedSlots}
 use Rattle.sysv_objects.specs.LegalOp.{IsLegalOp, AreLegal}
-use Rattle.sysv_steps.specs.Call.{SystemCall}
-use Rattle.sysv_steps.specs.State.{Getting, Afterwards, IsRefused, WaitsOn, Phase, AtBegin, AtInstall, AtLook}
-use Rattle.sysv_steps.specs.State.{AtReserve, AtTake, AtSendGiveback, State, Goes, Waits, Over}
+use Rattle.sysv_steps.specs.Call.{SystemCall, Msgget, Kind, kind_of}
+use Rattle.sysv_steps.specs.State.{Wait, OnSettled, Afterwards, IsRefused, WaitsOn, Phase, AtBegin, AtInstall, AtLook}
+use Rattle.sysv_steps.specs.State.{AtReserve, AtTake, AtSendGiveback, State, Goes, Waits, Over, Refused}
+use Rattle.sysv_steps.specs.Begin.{is_refused, first}
 use Rattle.sysv_steps.specs.Asks.{asks}
 use Rattle.sysv_steps.specs.Next.{waits_or, goes_on, next}
 use Rattle.sysv_steps.specs.HeldBlocks.{held, HasItsBlocks}
 use Rattle.sysv_steps.specs.Resume.{resume, awaited}
-use Rattle.sysv_core.specs.Kinds.{kind_of, IsOf}
 use Rattle.sysv_core.specs.World.{World, Opening, Invocation, Doing, Response, opening, doing_in, starting, begun}
 use Rattle.sysv_core.specs.World.{value_of}
 use Rattle.sysv_core.specs.World.{preset_who, preset_flags, preset_begin, preset_install, preset_settle}
 use Rattle.sysv_core.specs.World.{with_preset_turns, with_preset}
-use Rattle.sysv_core.specs.Sound.{IsToCaller, AreOwn, IsMadeIn, IsSound, StaysSound}
+use Rattle.sysv_core.specs.Sound.{IsToCaller, AreOwn, IsBeforeInstall, IsMadeIn, IsSound, StaysSound}
 use Rattle.sysv_core.proofs.Lists.{get_set_same, get_set_other, none_busy}
 use Rattle.sysv_core.proofs.Histories.{turn_of, slot_more, registry_more, live_by, live_turn}
 use Rattle.sysv_core.proofs.Told.{told, told_is}
 use Rattle.sysv_core.proofs.Lifetime.{installing, job_at, begun_none, resumed_none, same_int, some_is}
-use Rattle.sysv_core.proofs.BlocksConserved.{BlockLaws, turn_conserves, stands_conserves, resumed_holds, begun_holds}
+use Rattle.sysv_core.proofs.BlocksConserved.{BlockLaws, turn_holds, turn_conserves, stands_conserves, resumed_holds, begun_holds}
 use Rattle.sysv_core.proofs.BlocksConserved.{preset_conserves, opening_conserves}
 use Rattle.sysv_core.proofs.Moves.{Move, stood, began, turned, awoke, preset_made, moves}
-use Rattle.sysv_core.proofs.StepKeepsKind.{IsLater, later_of, later_next, blocks_later, begun_later, resumed_later}
 
 -- ---- what was made stays made
 
@@ -131,61 +131,66 @@ all_made turns who op all its slot a e = elim (lived turns who op slot a e) [
 ]
 
 -- The step that requests an install.
-installs_there : (phase : Phase) (now slot : ℕ) (id key : ℤ) (cred : Cred) (mode moment : ℕ) →
+installs_there : {kind : Kind} (phase : Phase kind) (now slot : ℕ) (id key : ℤ) (cred : Cred) (mode moment : ℕ) →
     OfSlot slot (Install id key cred mode moment) ≡ asks phase now →
-    (get : Getting) × (made : ℤ) × (phase ≡ AtInstall get made) × (slot ≡ slot_of_id made)
-installs_there (AtInstall get made) now slot id key cred mode moment e = (get, made, refl, cc)
+    (made : ℤ) × IsBeforeInstall (Goes phase) made × (slot ≡ slot_of_id made)
+installs_there (AtInstall get made) now slot id key cred mode moment e = (made, refl, cc)
 installs_there phase now slot id key cred mode moment e = absurd cc
 
 -- A turn leads to an install if it made the identifier, and else not.
-not_on : {get : Getting} {id : ℤ} (a : Afterwards) → Some (goes_on a) ≡ Some (Goes (AtInstall get id)) → ⊥
-not_on (IsRefused why) e = cc
-not_on (WaitsOn wait) e = cc
+abbrev IsInstallIn : {kind : Kind} → Option (State kind) → ℤ → Type 0
+IsInstallIn None id = ⊥
+IsInstallIn (Some state) id = IsBeforeInstall state id
 
-made_told : (turns : List Turn) (who : Who) (phase : Phase) (now : ℕ) (op : Op) (get : Getting) (id : ℤ) →
-    next phase (told (asks phase now) op) ≡ Some (Goes (AtInstall get id)) →
+not_on : {kind : Kind} (a : Afterwards kind) (id : ℤ) → IsBeforeInstall (goes_on a) id → ⊥
+not_on (IsRefused why) id e = e
+not_on (WaitsOn wait) id e = e
+
+made_told : {kind : Kind} (turns : List Turn) (who : Who) (phase : Phase kind) (now : ℕ) (op : Op) (id : ℤ) →
+    IsInstallIn (next phase (told (asks phase now) op)) id →
     IsMadeIn (turns ++ turn_of who (told (asks phase now) op) ∷ []) (slot_of_id id)
-made_told turns who (AtBegin g) now (AtRegistry c (Made made)) get id n =
-    let same : made ≡ id = cc in
+made_told turns who (AtBegin g) now (AtRegistry c (Made made)) id same =
     subst (λ i. IsMadeIn (turns ++ turn_of who (AtRegistry (Begin g.key g.flags) (Made made)) ∷ []) (slot_of_id i)) same
     (made_now turns who g.key g.flags made)
-made_told turns who (AtLook send) now (AtSlot at c (Full freed)) get id n = absurd (not_on (waits_or send.nowait _ _) n)
-made_told turns who (AtReserve send) now (AtPool c TooFew) get id n = absurd (not_on (waits_or send.nowait _ _) n)
-made_told turns who (AtTake r) now (AtSlot at c (NoMatch arrived)) get id n =
-    absurd (not_on (waits_or r.nowait _ _) n)
-made_told turns who (AtSendGiveback blocks afterwards) now (AtPool c Released) get id n = absurd (not_on afterwards n)
-made_told turns who (AtSendGiveback blocks afterwards) now (AtPool c Foreign) get id n = absurd (not_on afterwards n)
-made_told turns who (AtInstall g made) now (AtSlot at c (Installed true)) get id n = absurd cc
-made_told turns who phase now (AtSlot at c Gone) get id n = absurd cc
-made_told turns who phase now (AtSlot at c reply) get id n = absurd cc
-made_told turns who phase now (AtRegistry c (Changed done)) get id n = absurd cc
-made_told turns who phase now (AtRegistry c reply) get id n = absurd cc
-made_told turns who phase now (AtPool c Released) get id n = absurd cc
-made_told turns who phase now (AtPool c reply) get id n = absurd cc
+made_told turns who (AtLook send) now (AtSlot at c (Full freed)) id n = absurd (not_on (waits_or send.nowait _ _) id n)
+made_told turns who (AtReserve send) now (AtPool c TooFew) id n = absurd (not_on (waits_or send.nowait _ _) id n)
+made_told turns who (AtTake r) now (AtSlot at c (NoMatch arrived)) id n = absurd (not_on (waits_or r.nowait _ _) id n)
+made_told turns who (AtSendGiveback blocks afterwards) now (AtPool c Released) id n = absurd (not_on afterwards id n)
+made_told turns who (AtSendGiveback blocks afterwards) now (AtPool c Foreign) id n = absurd (not_on afterwards id n)
+made_told turns who (AtInstall g made) now (AtSlot at c (Installed true)) id n = absurd n
+made_told turns who (AtInstall g made) now (AtSlot at c (Installed false)) id n = absurd n
+made_told turns who phase now (AtSlot at c Gone) id n = absurd n
+made_told turns who phase now (AtSlot at c reply) id n = absurd n
+made_told turns who phase now (AtRegistry c (Changed done)) id n = absurd n
+made_told turns who phase now (AtRegistry c reply) id n = absurd n
+made_told turns who phase now (AtPool c Released) id n = absurd n
+made_told turns who phase now (AtPool c Foreign) id n = absurd n
+made_told turns who phase now (AtPool c reply) id n = absurd n
 
-made_next : (turns : List Turn) (who : Who) (phase : Phase) (now : ℕ) (op : Op) (get : Getting) (id : ℤ) →
-    asked_by op ≡ asks phase now → next phase op ≡ Some (Goes (AtInstall get id)) →
+made_next : {kind : Kind} (turns : List Turn) (who : Who) (phase : Phase kind) (now : ℕ) (op : Op) (state : State kind)
+    (id : ℤ) → asked_by op ≡ asks phase now → next phase op ≡ Some state → IsBeforeInstall state id →
     IsMadeIn (turns ++ turn_of who op ∷ []) (slot_of_id id)
-made_next turns who phase now op get id asked n =
+made_next turns who phase now op state id asked goes e =
     let is = told_is (asks phase now) op asked in
     subst (λ d. IsMadeIn (turns ++ turn_of who d ∷ []) (slot_of_id id)) is
-    (made_told turns who phase now op get id (ap (next phase) is ∙ n))
+    (made_told turns who phase now op id
+    (subst (λ o. IsInstallIn o id) (sym (ap (next phase) is ∙ goes)) e))
 
 -- ---- the actors
 
-is_in : (call : Invocation) (state : State) (d : Doing) → doing_in call state ≡ Some d →
-    (d.call ≡ call) × (d.state ≡ state)
-is_in call (Goes phase) d e = (cc, cc)
-is_in call (Waits wait) d e = (cc, cc)
+is_in : (call : Invocation) (state : State (kind_of call.asked)) (d : Doing) → doing_in call state ≡ Some d →
+    d ≡ record { call = call; state = state }
+is_in call (Goes phase) d e = cc
+is_in call (Waits wait) d e = cc
 is_in call (Over ending) d e = absurd cc
 
 -- What an actor does after one of them does something else.
-pub data Does (actors : List (Option Doing)) (place : ℕ) (call : Invocation) (state : State) (at : ℕ)
-    (d : Doing) : Type 0 where
-  moved : place ≡ at → d.call ≡ call → d.state ≡ state → Does actors place call state at d
+pub data Does (actors : List (Option Doing)) (place : ℕ) (call : Invocation) (state : State (kind_of call.asked))
+    (at : ℕ) (d : Doing) : Type 0 where
+  moved : place ≡ at → d ≡ record { call = call; state = state } → Does actors place call state at d
   other : slice_get actors at ≡ Some (Some d) → Does actors place call state at d
 
-pub does : (actors : List (Option Doing)) (place : ℕ) (was : Option Doing) (call : Invocation) (state : State) (at : ℕ)
+pub does : (actors : List (Option Doing)) (place : ℕ) (was : Option Doing) (call : Invocation) (state : State (kind_of call.asked)) (at : ℕ)
     (d : Doing) → slice_get actors place ≡ Some was →
     slice_get (slice_set actors place (doing_in call state)) at ≡ Some (Some d) → Does actors place call state at d
 does actors place was call state at d there here = elim (cases_eq place at) [
@@ -193,50 +198,58 @@ does actors place was call state at d there here = elim (cases_eq place at) [
       let got : Some (doing_in call state) ≡ Some (Some d) =
       sym (get_set_same actors place (doing_in call state) was there)
       ∙ subst (λ n. slice_get (slice_set actors place (doing_in call state)) n ≡ Some (Some d)) (sym same) here in
-      let is = is_in call state d (some_is got) in
-      moved same is.0 is.1
+      moved same (is_in call state d (some_is got))
   | inr apart ↦ other (sym (get_set_other actors place at (doing_in call state) apart) ∙ here)
 ]
 
-pub own_still : (actors : List (Option Doing)) (place : ℕ) (was : Option Doing) (call : Invocation) (state : State) →
-    slice_get actors place ≡ Some was → AreOwn actors → IsOf (kind_of call.asked) state →
-    IsToCaller call.who (suc place) → HasItsBlocks state →
+pub own_still : (actors : List (Option Doing)) (place : ℕ) (was : Option Doing) (call : Invocation) (state : State (kind_of call.asked)) →
+    slice_get actors place ≡ Some was → AreOwn actors → IsToCaller call.who (suc place) → HasItsBlocks state →
     AreOwn (slice_set actors place (doing_in call state))
-own_still actors place was call state there all kind own blocks = λ at d here.
+own_still actors place was call state there all own blocks = λ at d here.
     elim (does actors place was call state at d there here) [
-      | moved same c s ↦ (
-        subst (IsOf (kind_of d.call.asked)) (sym s)
-            (subst (λ (x : Invocation). IsOf (kind_of x.asked) state) (sym c) kind),
-        subst (λ n. IsToCaller d.call.who (suc n)) same
-            (subst (λ (x : Invocation). IsToCaller x.who (suc place)) (sym c) own),
-        subst HasItsBlocks (sym s) blocks,
-      )
+      | moved same is ↦ subst (λ (x : Doing). IsToCaller x.call.who (suc at) × HasItsBlocks x.state) (sym is)
+          (subst (λ n. IsToCaller call.who (suc n)) same own, blocks)
       | other old ↦ all at d old
     ]
 
 abbrev pub AreInstalled : List Turn → List (Option Doing) → Type 0
-AreInstalled turns actors = (place : ℕ) (d : Doing) (get : Getting) (id : ℤ) → slice_get actors place ≡ Some (Some d) →
-    d.state ≡ Goes (AtInstall get id) → IsMadeIn turns (slot_of_id id)
+AreInstalled turns actors = (place : ℕ) (d : Doing) (id : ℤ) → slice_get actors place ≡ Some (Some d) →
+    IsBeforeInstall d.state id → IsMadeIn turns (slot_of_id id)
 
 -- The actors after the call of one moved.
 pub all_installed : (turns more : List Turn) (actors : List (Option Doing)) (place : ℕ) (was : Option Doing)
-    (call : Invocation) (state : State) → slice_get actors place ≡ Some was →
+    (call : Invocation) (state : State (kind_of call.asked)) → slice_get actors place ≡ Some was →
     ((slot : ℕ) → IsMadeIn turns slot → IsMadeIn more slot) → AreInstalled turns actors →
-    ((get : Getting) (id : ℤ) → state ≡ Goes (AtInstall get id) → IsMadeIn more (slot_of_id id)) →
+    ((id : ℤ) → IsBeforeInstall state id → IsMadeIn more (slot_of_id id)) →
     AreInstalled more (slice_set actors place (doing_in call state))
-all_installed turns more actors place was call state there still all own = λ at d get id here e.
+all_installed turns more actors place was call state there still all own = λ at d id here e.
     elim (does actors place was call state at d there here) [
-      | moved same c s ↦ own get id (sym s ∙ e)
-      | other old ↦ still (slot_of_id id) (all at d get id old e)
+      | moved same is ↦ own id (subst (λ (x : Doing). IsBeforeInstall x.state id) is e)
+      | other old ↦ still (slot_of_id id) (all at d id old e)
     ]
 
 -- One whose call is not before an install.
+no_install : {kind : Kind} (state : State kind) (id : ℤ) → job_at state ≡ None → IsBeforeInstall state id → ⊥
+no_install (Goes (AtInstall get made)) id none e = cc
+no_install state id none e = absurd e
+
 pub later_installs : (turns : List Turn) (actors : List (Option Doing)) (place : ℕ) (was : Option Doing)
-    (call : Invocation) (state : State) → slice_get actors place ≡ Some was → AreInstalled turns actors →
+    (call : Invocation) (state : State (kind_of call.asked)) → slice_get actors place ≡ Some was → AreInstalled turns actors →
     job_at state ≡ None → AreInstalled turns (slice_set actors place (doing_in call state))
 later_installs turns actors place was call state there all none =
     all_installed turns turns actors place was call state there (λ slot m. m) all
-    (λ get id e. let bad : None ≡ Some (installing id) = sym none ∙ ap job_at e in absurd cc)
+    (λ id e. absurd (no_install state id none e))
+
+-- A call that starts, or whose wait ends, has no chain to place.
+begun_blocks : (cred : Cred) (asked : SystemCall) (released : ℕ) (b : Bool) →
+    HasItsBlocks (cond b (Over (Refused EINVAL)) (Goes (first cred asked released)))
+begun_blocks cred asked released true = tt
+begun_blocks cred (Msgget key flags) released false = tt
+begun_blocks cred asked released false = tt
+
+resumed_blocks : {kind : Kind} (wait : Wait kind) (value : ℕ) → HasItsBlocks (Goes (resume wait value))
+resumed_blocks (OnSettled goal get) value = tt
+resumed_blocks wait value = tt
 
 -- No queue is live in an unused slot.
 pub vacant_there : UnusedSlots → (w : World) → IsSound w → IsUnused w.generation (registry_history w.turns) 0 →
@@ -255,7 +268,7 @@ module _
     (b : BlockLaws) where
   module _ (w : World) (s : IsSound w) (place : ℕ) (call : Invocation) where
     -- The world after a turn of the call.
-    pub turn_sound : (phase : Phase) (now : ℕ) (op : Op) (state : State) →
+    pub turn_sound : (phase : Phase (kind_of call.asked)) (now : ℕ) (op : Op) (state : State (kind_of call.asked)) →
         slice_get w.actors place ≡ Some (Some record { call = call; state = Goes phase }) →
         asked_by op ≡ asks phase now →
         IsLegalOp w.generation w.blocks w.turns op → next phase op ≡ Some state →
@@ -266,37 +279,36 @@ module _
         })
     turn_sound phase now op state there asked legal goes =
         let d : Doing = record { call = call; state = Goes phase } in
-        let kind = kind_of call.asked in
         let own = s.own place d there in
         let still = still_made w.turns (turn_of call.who op) in
-        let l = later_next w.generation w.blocks w.turns kind phase now op state own.0 asked legal goes in
         record {
           legal = more w.generation w.blocks w.turns call.who op s.legal legal;
-          own = own_still w.actors place (Some d) call state there s.own (later_of kind state l) own.1
-              (blocks_later kind state l);
+          own = own_still w.actors place (Some d) call state there s.own own.0
+              (turn_holds b w.generation w.blocks w.turns phase own.1 now state op asked legal goes);
           installs = all_installed w.turns _ w.actors place (Some d) call state there still s.installs
-              (λ get id is. made_next w.turns call.who phase now op get id asked (goes ∙ ap (λ x. Some x) is));
-          blocks = turn_conserves b w.generation w.blocks w.turns w.actors s.legal s.blocks place call phase there own.2
+              (λ id is. made_next w.turns call.who phase now op state id asked goes is);
+          blocks = turn_conserves b w.generation w.blocks w.turns w.actors s.legal s.blocks place call phase there own.1
               now state op asked legal goes;
           lives = all_made w.turns call.who op s.lives (λ slot c reply is i.
               let at = installs_there phase now slot i.id i.key i.cred i.mode i.now
               (ap (OfSlot slot) (sym i.asks_it) ∙ (ap asked_by (sym is) ∙ asked)) in
-              subst (IsMadeIn w.turns) (sym at.3) (s.installs place d at.0 at.1 there (ap Goes at.2)));
+              subst (IsMadeIn w.turns) (sym at.2) (s.installs place d at.0 there at.1));
         }
 
     -- The world after the call continues without a turn.
-    pub look_sound : (d : Doing) (state : State) → d.call ≡ call → slice_get w.actors place ≡ Some (Some d) →
-        IsLater (kind_of call.asked) state → job_at state ≡ None → held state ≡ held d.state →
+    pub look_sound : (was state : State (kind_of call.asked)) →
+        slice_get w.actors place ≡ Some (Some record { call = call; state = was }) → HasItsBlocks state →
+        job_at state ≡ None → held state ≡ held was →
         IsSound (record w { actors = slice_set w.actors place (doing_in call state); steps = w.steps + 1 })
-    look_sound d state is there l none held_same = record {
-      legal = s.legal;
-      own = own_still w.actors place (Some d) call state there s.own (later_of (kind_of call.asked) state l)
-          (subst (λ (c : Invocation). IsToCaller c.who (suc place)) is (s.own place d there).1)
-          (blocks_later (kind_of call.asked) state l);
-      installs = later_installs w.turns w.actors place (Some d) call state there s.installs none;
-      lives = s.lives;
-      blocks = stands_conserves w.blocks w.turns w.actors place (Some d) call state there held_same s.blocks;
-    }
+    look_sound was state there l none held_same =
+        let d : Doing = record { call = call; state = was } in
+        record {
+          legal = s.legal;
+          own = own_still w.actors place (Some d) call state there s.own (s.own place d there).0 l;
+          installs = later_installs w.turns w.actors place (Some d) call state there s.installs none;
+          lives = s.lives;
+          blocks = stands_conserves w.blocks w.turns w.actors place (Some d) call state there held_same s.blocks;
+        }
 
   start_sound : (w : World) (place : ℕ) (cred : Cred) (asked : SystemCall) → IsSound w →
       slice_get w.actors place ≡ Some None →
@@ -308,11 +320,10 @@ module _
       })
   start_sound w place cred asked s there =
       let call = starting w (suc place) cred asked in
-      let l = begun_later cred asked call.released in
       record {
         legal = s.legal;
-        own = own_still w.actors place None call (begun call) there s.own (later_of (kind_of asked) (begun call) l) refl
-            (blocks_later (kind_of asked) (begun call) l);
+        own = own_still w.actors place None call (begun call) there s.own refl
+            (begun_blocks cred asked call.released (is_refused asked));
         installs = later_installs w.turns w.actors place None call (begun call) there s.installs
             (begun_none cred asked call.released);
         lives = s.lives;
@@ -348,7 +359,7 @@ module _
     preset_sound w s u = record {
       legal = preset_legal w.generation w.blocks w.turns s.legal u (vacant_there unused w s u);
       own = s.own;
-      installs = λ place d get id here e. past (slot_of_id id) (s.installs place d get id here e);
+      installs = λ place d id here e. past (slot_of_id id) (s.installs place d id here e);
       lives = all_made second preset_who preset_settle
           (all_made first preset_who preset_install
           (all_made w.turns preset_who preset_begin s.lives (λ slot c reply is i. absurd cc)) (λ slot c reply is i.
@@ -377,12 +388,10 @@ module _
     move_sound w after responses s (turned place now call phase there t) =
         subst IsSound (sym t.6) (turn_sound w s place call phase now t.0 t.1 there t.2 t.3 t.4)
     move_sound w after responses s (awoke place call wait there reached gave is) =
-        let d : Doing = record { call = call; state = Waits wait } in
         let value = value_of w.turns (awaited wait) in
         subst IsSound (sym is)
-        (look_sound w s place call d (Goes (resume wait value)) refl there
-        (resumed_later (kind_of call.asked) wait value (s.own place d there).0) (resumed_none wait value)
-        (resumed_holds wait value))
+        (look_sound w s place call (Waits wait) (Goes (resume wait value)) there (resumed_blocks wait value)
+        (resumed_none wait value) (resumed_holds wait value))
     move_sound w after responses s (preset_made u gave is) = subst IsSound (sym is) (preset_sound w s u)
 
     pub makes_sound : StaysSound
@@ -392,7 +401,7 @@ pub opening_sound : (o : Opening) → AreLegal o.generation o.blocks [] → IsSo
 opening_sound o legal = record {
   legal = legal;
   own = λ place d e. absurd (none_busy o.actors place e);
-  installs = λ place d get id e is. absurd (none_busy o.actors place e);
+  installs = λ place d id e is. absurd (none_busy o.actors place e);
   lives = λ slot a e. absurd cc;
   blocks = opening_conserves o.actors o.blocks;
 }

@@ -17,6 +17,7 @@ use Rattle.sysv_model.specs.Turn.{OfSlot, Op, AtSlot, AtRegistry, AtPool, asked_
 use Rattle.sysv_model.specs.Turn.{ops_of}
 use Rattle.sysv_queue.specs.ForGood.{NamesId, not_live_reply}
 use Rattle.sysv_keys.specs.Identifier.{slot_of_id}
+use Rattle.sysv_steps.specs.Call.{kind_of}
 use Rattle.sysv_steps.specs.Call.{SystemCall, Msgsnd, Msgrcv}
 use Rattle.sysv_steps.specs.State.{Ending, Refused, State, Goes, Waits, Over}
 use Rattle.sysv_steps.specs.Played.{Plays}
@@ -175,7 +176,7 @@ module _ (w : World) (responses : List Response) (call : Invocation) (outcome : 
 
     each_ending : (why : Errno) →
         ((ending : Ending) → Plays (begun call) (ops_of call.who w.turns) (Over ending) → ending ≡ Refused why) →
-        (state : State) → Plays (begun call) (ops_of call.who w.turns) state →
+        (state : State (kind_of call.asked)) → Plays (begun call) (ops_of call.who w.turns) state →
         All (λ (ending : Ending). ending ≡ Refused why) (ended state)
     each_ending why f (Goes phase) plays = All-nil (λ (ending : Ending). ending ≡ Refused why)
     each_ending why f (Waits wait) plays = All-nil (λ (ending : Ending). ending ≡ Refused why)

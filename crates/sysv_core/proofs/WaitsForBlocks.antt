@@ -13,6 +13,7 @@ use Rattle.sysv_model.specs.Pool.{PoolHistory, blocks_for, frees, released}
 use Rattle.sysv_model.specs.Turn.{Op, AtSlot, AtRegistry, AtPool, asked_by, Turn, pool_history}
 use Rattle.sysv_pool.specs.State.{returned_by, free_after}
 use Rattle.sysv_objects.specs.LegalOp.{IsLegalOp}
+use Rattle.sysv_steps.specs.Call.{Kind, Sends, kind_of}
 use Rattle.sysv_steps.specs.Call.{SystemCall, Msgsnd}
 use Rattle.sysv_steps.specs.State.{Sending, Wait, OnSettled, OnFreed, OnReleased, OnArrived, Afterwards, IsRefused}
 use Rattle.sysv_steps.specs.State.{WaitsOn, Phase, AtBegin, AtInstall, AtLook, AtReserve, AtPlace, AtSendGiveback}
@@ -30,12 +31,12 @@ use Rattle.sysv_core.proofs.Moves.{Move, stood, began, turned, awoke, preset_mad
 -- ---- what a call keeps
 
 -- The released count that a send read at its start or at the end of a wait for blocks.
-abbrev pub read_by_wait : Wait → ℕ
+abbrev pub read_by_wait : {kind : Kind} → Wait kind → ℕ
 read_by_wait (OnFreed goal send) = send.released
 read_by_wait (OnReleased goal send) = send.released
 read_by_wait wait = 0
 
-abbrev pub read_by : State → ℕ
+abbrev pub read_by : {kind : Kind} → State kind → ℕ
 read_by (Goes (AtLook send)) = send.released
 read_by (Goes (AtReserve send)) = send.released
 read_by (Goes (AtPlace send blocks)) = send.released
@@ -45,13 +46,13 @@ read_by state = 0
 
 -- A chain came back since the send read the count, or too few blocks are free. No send releases a
 -- chain and then waits for blocks.
-abbrev pub IsShort : ℕ → PoolHistory → State → Type 0
+abbrev pub IsShort : {kind : Kind} → ℕ → PoolHistory → State kind → Type 0
 IsShort size h (Waits (OnReleased goal send)) =
     (goal ≡ send.released + 1) × ((send.released < released h) ⊎ (free_after size h < blocks_for (length send.text)))
 IsShort size h (Goes (AtSendGiveback blocks (WaitsOn (OnReleased goal send)))) = ⊥
 IsShort size h state = Unit {0}
 
-pub record IsRight (size : ℕ) (h : PoolHistory) (state : State) : Type 0 where
+pub record IsRight {kind : Kind} (size : ℕ) (h : PoolHistory) (state : State kind) : Type 0 where
   pub read : read_by state ≤ released h
   pub short : IsShort size h state
 
@@ -78,45 +79,54 @@ short_more size h e send read (inr few) = elim (counts_or_not e.call e.reply) [
   | inr none ↦ inr (omega (arith, few, no_more_free size h e none))
 ]
 
-still_short : (size : ℕ) (h : PoolHistory) (e : PoolEntry) (state : State) → read_by state ≤ released h →
+still_short : {kind : Kind} (size : ℕ) (h : PoolHistory) (e : PoolEntry) (state : State kind) → read_by state ≤ released h →
     IsShort size h state → IsShort size (h ++ e ∷ []) state
 still_short size h e (Waits (OnReleased goal send)) read s = (s.0, short_more size h e send read s.1)
 still_short size h e (Goes (AtSendGiveback blocks (WaitsOn (OnReleased goal send)))) read s = s
 still_short size h e state read s = tt
 
-right_more : (size : ℕ) (h : PoolHistory) (e : PoolEntry) (state : State) → IsRight size h state →
+right_more : {kind : Kind} (size : ℕ) (h : PoolHistory) (e : PoolEntry) (state : State kind) → IsRight size h state →
     IsRight size (h ++ e ∷ []) state
 right_more size h e state r =
     record { read = omega (arith, r.read, released_more h e); short = still_short size h e state r.read r.short }
 
 -- ---- where a turn leads
 
+-- The step is the look before which the send did not know that its queue is live.
+abbrev pub IsLookOf : {kind : Kind} → Phase kind → Sending → Type 0
+IsLookOf (AtLook before) send = send ≡ record before { seen = true }
+IsLookOf phase send = ⊥
+
+-- The step is the reserve of this send.
+abbrev pub IsReserveOf : {kind : Kind} → Phase kind → Sending → Type 0
+IsReserveOf (AtReserve before) send = before ≡ send
+IsReserveOf phase send = ⊥
+
 -- A send reserves after a look, and waits for blocks after a reserve.
-abbrev pub Comes : Phase → State → Type 0
-Comes phase (Goes (AtReserve send)) =
-    (before : Sending) × (phase ≡ AtLook before) × (send ≡ record before { seen = true })
-Comes phase (Waits (OnReleased goal send)) = phase ≡ AtReserve send
+abbrev pub Comes : {kind : Kind} → Phase kind → State kind → Type 0
+Comes phase (Goes (AtReserve send)) = IsLookOf phase send
+Comes phase (Waits (OnReleased goal send)) = IsReserveOf phase send
 Comes phase state = Unit {0}
 
-abbrev read_in : Option State → ℕ
+abbrev read_in : {kind : Kind} → Option (State kind) → ℕ
 read_in None = 0
 read_in (Some state) = read_by state
 
-abbrev IsShortIn : ℕ → PoolHistory → Option State → Type 0
+abbrev IsShortIn : {kind : Kind} → ℕ → PoolHistory → Option (State kind) → Type 0
 IsShortIn size h None = Unit {0}
 IsShortIn size h (Some state) = IsShort size h state
 
-abbrev ComesIn : Phase → Option State → Type 0
+abbrev ComesIn : {kind : Kind} → Phase kind → Option (State kind) → Type 0
 ComesIn phase None = Unit {0}
 ComesIn phase (Some state) = Comes phase state
 
 -- What the turn leads to, by the released count that the call had read.
-pub record FollowsIn (size : ℕ) (h : PoolHistory) (phase : Phase) (state : Option State) : Type 0 where
+pub record FollowsIn {kind : Kind} (size : ℕ) (h : PoolHistory) (phase : Phase kind) (state : Option (State kind)) : Type 0 where
   pub read : read_in state ≤ read_by (Goes phase)
   pub short : IsShortIn size h state
   pub comes : ComesIn phase state
 
-abbrev pub Follows : ℕ → PoolHistory → Phase → State → Type 0
+abbrev pub Follows : {kind : Kind} → ℕ → PoolHistory → Phase kind → State kind → Type 0
 Follows size h phase state = FollowsIn size h phase (Some state)
 
 -- A call that is refused, or waits for something other than blocks.
@@ -132,7 +142,7 @@ full_gives_back size h send blocks freed many true why same is = record { read =
 full_gives_back size h send blocks freed many false why same is =
     record { read = omega (arith, is); short = tt; comes = tt }
 
-none_named : (size : ℕ) (h : PoolHistory) (phase : Phase) (nowait : Bool) (wait : Wait) (why : Errno) →
+none_named : {kind : Kind} (size : ℕ) (h : PoolHistory) (phase : Phase kind) (nowait : Bool) (wait : Wait kind) (why : Errno) →
     read_by_wait wait ≡ 0 → IsShort size h (Waits wait) → Comes phase (Waits wait) →
     Follows size h phase (goes_on (waits_or nowait wait why))
 none_named size h phase true wait why none s c = record { read = omega arith; short = tt; comes = tt }
@@ -144,24 +154,24 @@ too_few : (size : ℕ) (h : PoolHistory) (send : Sending) (nowait : Bool) (why :
 too_few size h send true why few = record { read = omega arith; short = tt; comes = tt }
 too_few size h send false why few = record { read = omega arith; short = (refl, inr few); comes = refl }
 
-plain : (size : ℕ) (h : PoolHistory) (phase : Phase) (state : Option State) → read_in state ≡ 0 →
+plain : {kind : Kind} (size : ℕ) (h : PoolHistory) (phase : Phase kind) (state : Option (State kind)) → read_in state ≡ 0 →
     IsShortIn size h state → ComesIn phase state → FollowsIn size h phase state
 plain size h phase state none s c = record { read = omega (arith, none); short = s; comes = c }
 
-afterwards_follows : (size : ℕ) (h : PoolHistory) (blocks : ℕ) (afterwards : Afterwards) →
+afterwards_follows : (size : ℕ) (h : PoolHistory) (blocks : ℕ) (afterwards : Afterwards Sends) →
     IsShort size h (Goes (AtSendGiveback blocks afterwards)) →
     Follows size h (AtSendGiveback blocks afterwards) (goes_on afterwards)
 afterwards_follows size h blocks (IsRefused why) s = record { read = omega arith; short = tt; comes = tt }
 afterwards_follows size h blocks (WaitsOn (OnReleased goal send)) s = absurd s
 afterwards_follows size h blocks (WaitsOn wait) s = record { read = omega arith; short = tt; comes = tt }
 
-followed_told : (g size : ℕ) (turns : List Turn) (phase : Phase) (now : ℕ) (op : Op) →
+followed_told : {kind : Kind} (g size : ℕ) (turns : List Turn) (phase : Phase kind) (now : ℕ) (op : Op) →
     IsShort size (pool_history turns) (Goes phase) → IsLegalOp g size turns (told (asks phase now) op) →
     FollowsIn size (pool_history turns) phase (next phase (told (asks phase now) op))
 followed_told g size turns (AtLook send) now (AtSlot slot c (Full freed)) s l =
     full_waits size _ send (freed + 1) send.nowait EAGAIN (record send { seen = true }) refl
 followed_told g size turns (AtLook send) now (AtSlot slot c Fits) s l =
-    record { read = omega arith; short = tt; comes = (send, refl, refl) }
+    record { read = omega arith; short = tt; comes = refl }
 followed_told g size turns (AtReserve send) now (AtPool c (Reserved blocks)) s l =
     record { read = omega arith; short = tt; comes = tt }
 followed_told g size turns (AtReserve send) now (AtPool c TooFew) s l =
@@ -188,7 +198,7 @@ followed_told g size turns phase now (AtPool c Foreign) s l = plain size _ phase
 followed_told g size turns phase now (AtPool c reply) s l = plain size _ phase _ refl tt tt
 
 -- Where a legal turn leads.
-pub followed : (g size : ℕ) (turns : List Turn) (phase : Phase) (now : ℕ) (op : Op) (state : State) →
+pub followed : {kind : Kind} (g size : ℕ) (turns : List Turn) (phase : Phase kind) (now : ℕ) (op : Op) (state : State kind) →
     IsShort size (pool_history turns) (Goes phase) → asked_by op ≡ asks phase now → IsLegalOp g size turns op →
     next phase op ≡ Some state → Follows size (pool_history turns) phase state
 followed g size turns phase now op state short asked legal goes =
@@ -203,37 +213,37 @@ AreRight blocks turns actors =
     (place : ℕ) (d : Doing) → slice_get actors place ≡ Some (Some d) → IsRight blocks (pool_history turns) d.state
 
 -- The same after one more turn of any caller.
-still_right : (blocks : ℕ) (turns : List Turn) (who : Who) (op : Op) (state : State) →
+still_right : {kind : Kind} (blocks : ℕ) (turns : List Turn) (who : Who) (op : Op) (state : State kind) →
     IsRight blocks (pool_history turns) state → IsRight blocks (pool_history (turns ++ turn_of who op ∷ [])) state
 still_right blocks turns who op state r = pool_on (λ h. IsRight blocks h state) turns who op r
     (λ e. right_more blocks (pool_history turns) e state r)
 
 module _ (w : World) (all : AreRight w.blocks w.turns w.actors) (place : ℕ) (call : Invocation) where
-  turn_right : (phase : Phase) (now : ℕ) (op : Op) (state : State) →
+  turn_right : (phase : Phase (kind_of call.asked)) (now : ℕ) (op : Op) (state : State (kind_of call.asked)) →
       slice_get w.actors place ≡ Some (Some record { call = call; state = Goes phase }) →
       asked_by op ≡ asks phase now → IsLegalOp w.generation w.blocks w.turns op → next phase op ≡ Some state →
       AreRight w.blocks (w.turns ++ turn_of call.who op ∷ []) (slice_set w.actors place (doing_in call state))
   turn_right phase now op state there asked legal goes = λ at d here.
       elim (does w.actors place (Some record { call = call; state = Goes phase }) call state at d there here) [
-        | moved same c s ↦
+        | moved same is ↦
             let was = all place (record { call = call; state = Goes phase }) there in
             let f = followed w.generation w.blocks w.turns phase now op state was.short asked legal goes in
             still_right w.blocks w.turns call.who op d.state
-            (subst (IsRight w.blocks (pool_history w.turns)) (sym s)
+            (subst (λ (x : Doing). IsRight w.blocks (pool_history w.turns) x.state) (sym is)
             record { read = omega (arith, f.read, was.read); short = f.short })
         | other old ↦ still_right w.blocks w.turns call.who op d.state (all at d old)
       ]
 
   -- A call that continues without a turn, or that starts.
-  stand_right : (was : Option Doing) (state : State) → slice_get w.actors place ≡ Some was →
+  stand_right : (was : Option Doing) (state : State (kind_of call.asked)) → slice_get w.actors place ≡ Some was →
       IsRight w.blocks (pool_history w.turns) state →
       AreRight w.blocks w.turns (slice_set w.actors place (doing_in call state))
   stand_right was state there right = λ at d here. elim (does w.actors place was call state at d there here) [
-    | moved same c s ↦ subst (IsRight w.blocks (pool_history w.turns)) (sym s) right
+    | moved same is ↦ subst (λ (x : Doing). IsRight w.blocks (pool_history w.turns) x.state) (sym is) right
     | other old ↦ all at d old
   ]
 
-resumed_right : (blocks : ℕ) (turns : List Turn) (wait : Wait) → IsRight blocks (pool_history turns) (Waits wait) →
+resumed_right : {kind : Kind} (blocks : ℕ) (turns : List Turn) (wait : Wait kind) → IsRight blocks (pool_history turns) (Waits wait) →
     IsRight blocks (pool_history turns) (Goes (resume wait (value_of turns (awaited wait))))
 resumed_right blocks turns (OnSettled goal get) r = record { read = omega arith; short = tt }
 resumed_right blocks turns (OnFreed goal send) r = record { read = r.read; short = tt }
@@ -272,18 +282,27 @@ move_right w after responses all (preset_made unused gave is) =
 
 -- ---- who waits for blocks
 
+-- If this is a send that waits for blocks below its goal, it has too few of them.
+abbrev pub IsShortBelow : {kind : Kind} → ℕ → PoolHistory → State kind → Type 0
+IsShortBelow size h (Waits (OnReleased goal send)) =
+    released h < goal → free_after size h < blocks_for (length send.text)
+IsShortBelow size h state = Unit {0}
+
 -- Each send that waits for blocks below its goal has too few of them.
 abbrev pub AreShort : World → Type 0
-AreShort w = (place : ℕ) (d : Doing) (goal : ℕ) (send : Sending) → slice_get w.actors place ≡ Some (Some d) →
-    d.state ≡ Waits (OnReleased goal send) → released (pool_history w.turns) < goal →
-    free_after w.blocks (pool_history w.turns) < blocks_for (length send.text)
+AreShort w = (place : ℕ) (d : Doing) → slice_get w.actors place ≡ Some (Some d) →
+    IsShortBelow w.blocks (pool_history w.turns) d.state
 
 is_short : (size : ℕ) (h : PoolHistory) (goal : ℕ) (send : Sending) → released h < goal →
     IsShort size h (Waits (OnReleased goal send)) → free_after size h < blocks_for (length send.text)
 is_short size h goal send below (is, inl since) = absurd (omega (arith, below, is, since))
 is_short size h goal send below (is, inr few) = few
 
+short_below : {kind : Kind} (size : ℕ) (h : PoolHistory) (state : State kind) → IsShort size h state →
+    IsShortBelow size h state
+short_below size h (Waits (OnReleased goal send)) s = λ below. is_short size h goal send below s
+short_below size h state s = tt
+
 pub are_short : (w : World) → AllRight w → AreShort w
-are_short w all = λ place d goal send there waits below.
-    is_short w.blocks (pool_history w.turns) goal send below
-    (subst (IsShort w.blocks (pool_history w.turns)) waits (all place d there).short)
+are_short w all = λ place d there.
+    short_below w.blocks (pool_history w.turns) d.state (all place d there).short

@@ -8,19 +8,20 @@ use Rattle.sysv_model.specs.declared.errno.Errno.TheVariants.{EAGAIN}
 use Rattle.sysv_model.specs.Message.{Message}
 use Rattle.sysv_model.specs.History.{Actor, Remove, Discarded, Who}
 use Rattle.sysv_model.specs.Turn.{OfSlot, Op, AtSlot, ops_of, is_same}
+use Rattle.sysv_steps.specs.Call.{Sends}
 use Rattle.sysv_steps.specs.State.{AtPlace, Ending, Zero, Refused, State, Goes, Waits, Over}
 use Rattle.sysv_steps.specs.Played.{Plays, begins, steps}
 use Rattle.sysv_steps.specs.AsksFor.{AsksFor, EachOpIsAskedFor}
 use Rattle.sysv_steps.specs.Answers.{EachAnswerIsRight}
-use Rattle.sysv_core.specs.World.{Invocation, begun, preset_who, preset_cred, preset_begin, preset_install}
+use Rattle.sysv_core.specs.World.{Invocation, Doing, doing_in, begun, preset_who, preset_cred, preset_begin, preset_install}
 use Rattle.sysv_core.specs.World.{preset_settle}
-use Rattle.sysv_core.specs.AnswerLaw.{AreInTheirCalls, IsMade, ended, standing}
+use Rattle.sysv_core.specs.AnswerLaw.{AreInTheirCalls, IsMade, ended}
 use Rattle.sysv_core.specs.WorkedRun.{hello, the_calls, look_for}
 use Rattle.sysv_core.specs.WorkedAnswers.{the_send, the_end, still_reserving, looking, looked_by, look_fits}
 use Rattle.sysv_core.specs.WorkedAnswers.{gets_a_block, accepts, WorkedAnswers}
 use Rattle.sysv_core.proofs.Lists.{none_busy}
 
-abbrev placing : State
+abbrev placing : State Sends
 placing = Goes (AtPlace record {
   cred = the_send.cred;
   id = pos 0;
@@ -35,25 +36,26 @@ its_play : Plays (begun the_send) (look_fits ∷ gets_a_block ∷ accepts 0 ∷ 
 its_play = steps (accepts 0) 0 (Over Zero)
     (steps gets_a_block 0 placing (steps look_fits 0 still_reserving begins refl refl) refl refl) refl refl
 
-no_answer : (state : State) → [] ≡ ended state → None ≡ standing state → ⊥
+no_answer : (state : State Sends) → [] ≡ ended state → None ≡ doing_in the_send state → ⊥
 no_answer (Goes phase) e f = cc
 no_answer (Waits wait) e f = cc
 no_answer (Over ending) e f = cc
 
-one_answer : (x : Ending) (state : State) → x ∷ [] ≡ ended state → state ≡ Over x
+one_answer : (x : Ending) (state : State Sends) → x ∷ [] ≡ ended state → state ≡ Over x
 one_answer x (Goes phase) e = absurd cc
 one_answer x (Waits wait) e = absurd cc
 one_answer x (Over ending) e = let same : ending ≡ x = cc in ap Over same
 
-two_answers : (x y : Ending) (state : State) → x ∷ y ∷ [] ≡ ended state → ⊥
+two_answers : (x y : Ending) (state : State Sends) → x ∷ y ∷ [] ≡ ended state → ⊥
 two_answers x y (Goes phase) e = cc
 two_answers x y (Waits wait) e = cc
 two_answers x y (Over ending) e = cc
 
-over_and_going : (x : Ending) (s state : State) → x ∷ [] ≡ ended state → Some s ≡ standing state → ⊥
-over_and_going x s (Goes phase) e f = cc
-over_and_going x s (Waits wait) e f = cc
-over_and_going x s (Over ending) e f = cc
+over_and_going : (x : Ending) (d : Doing) (state : State Sends) → x ∷ [] ≡ ended state →
+    Some d ≡ doing_in the_send state → ⊥
+over_and_going x d (Goes phase) e f = cc
+over_and_going x d (Waits wait) e f = cc
+over_and_going x d (Over ending) e f = cc
 
 -- Some names are not those of calls of the run.
 never_called : (who : Who) → list_any (λ (c : Invocation). is_same who c.who) the_calls ≡ false →
@@ -119,7 +121,7 @@ worked_answers asked right = record {
       let full = (r.again.0 refl).1 in
       cc;
   answered_twice = λ f. two_answers Zero Zero f.state f.answered;
-  goes_on = λ f. over_and_going Zero still_reserving f.state f.answered f.stands;
+  goes_on = λ f. over_and_going Zero _ f.state f.answered f.stands;
   looks = record {
     state = still_reserving;
     plays = steps look_fits 0 still_reserving begins refl refl;

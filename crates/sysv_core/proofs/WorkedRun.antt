@@ -15,7 +15,7 @@ use Rattle.sysv_objects.specs.LegalOp.{IsLegalOp}
 use Rattle.sysv_queue.specs.Granted.{MayRead, MayWrite}
 use Rattle.sysv_queue.specs.Named.{IsNamed}
 use Rattle.sysv_queue.specs.LegalReply.{IsLegalReply}
-use Rattle.sysv_steps.specs.Call.{SystemCall}
+use Rattle.sysv_steps.specs.Call.{SystemCall, kind_of}
 use Rattle.sysv_steps.specs.State.{Phase, State, Goes}
 use Rattle.sysv_steps.specs.Asks.{asks}
 use Rattle.sysv_steps.specs.Next.{next}
@@ -117,7 +117,7 @@ starts {xs} {responses} {w} ran actor cred asked idle young =
 
 -- Then the call of an actor makes a turn.
 turns : {xs : List Transition} {responses : List Response} {w : World} → Ran xs responses w → (actor : ℕ) (op : Op)
-    {call : Invocation} {phase : Phase} {state : State} →
+    {call : Invocation} {phase : Phase (kind_of call.asked)} {state : State (kind_of call.asked)} →
     actor_at w.actors actor ≡ Some (Some record { call = call; state = Goes phase }) → ltb w.steps WORN ≡ true →
     asked_by op ≡ asks phase 0 → IsLegalOp w.generation w.blocks w.turns op → next phase op ≡ Some state →
     Ran (xs ++ steps actor ∷ []) (responses ++ response_in call state)

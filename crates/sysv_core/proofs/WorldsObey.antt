@@ -20,6 +20,7 @@ use Rattle.sysv_queue.specs.StaysRight.{NoMatchStays, FullStays, FullStaysForLoo
 use Rattle.sysv_queue.specs.ForGood.{RemovedForGood}
 use Rattle.sysv_keys.specs.RegistryLaw.{RegistryLaw}
 use Rattle.sysv_objects.specs.LegalOp.{AreLegal}
+use Rattle.sysv_steps.specs.Call.{kind_of}
 use Rattle.sysv_steps.specs.State.{Phase, Ending, State, Goes, Waits, Over}
 use Rattle.sysv_steps.specs.Resume.{awaited, resume}
 use Rattle.sysv_steps.specs.Played.{Plays, begins, steps, resumes}
@@ -34,7 +35,7 @@ use Rattle.sysv_core.specs.World.{response_in}
 use Rattle.sysv_core.specs.World.{StaysWith, starting, begun, Turns, value_of, preset_who, preset_begin, preset_install}
 use Rattle.sysv_core.specs.World.{preset_settle, with_preset_turns, with_preset}
 use Rattle.sysv_core.specs.Run.{Leads}
-use Rattle.sysv_core.specs.AnswerLaw.{endings_of, stands_in, standing_of, ended, standing, Outcome, IsOfPreset, IsMade}
+use Rattle.sysv_core.specs.AnswerLaw.{endings_of, stands_in, standing_of, ended, Outcome, IsOfPreset, IsMade}
 use Rattle.sysv_core.specs.AnswerLaw.{AsksAsItWasAsked}
 use Rattle.sysv_core.specs.Headline.{IsLawful, Obeys}
 use Rattle.sysv_core.specs.Conserved.{AreConserved}
@@ -84,7 +85,7 @@ pub record Inv (P : Turn → Type 0) (w : World) (responses : List Response) : T
 -- ---- one call moves
 
 -- The world after the call came to this state, with these turns and calls.
-abbrev pub went : World → List Turn → List Invocation → ℕ → Invocation → State → World
+abbrev pub went : World → List Turn → List Invocation → ℕ → (call : Invocation) → State (kind_of call.asked) → World
 went w turns calls place call state = record {
   turns = turns;
   calls = calls;
@@ -95,7 +96,8 @@ went w turns calls place call state = record {
 }
 
 -- After these turns the call is in that state, and had no ending.
-pub record Stands (turns : List Turn) (responses : List Response) (call : Invocation) (state : State) : Type 0 where
+pub record Stands (turns : List Turn) (responses : List Response) (call : Invocation)
+    (state : State (kind_of call.asked)) : Type 0 where
   pub plays : Plays (begun call) (ops_of call.who turns) state
   pub quiet : endings_of call.who responses ≡ []
 
@@ -104,8 +106,7 @@ abbrev pub OthersStay : Who → List Turn → List Turn → Type 0
 OthersStay who turns more = (other : Who) → is_same other who ≡ false → ops_of other more ≡ ops_of other turns
 
 module _ (w : World) (responses : List Response) (turns : List Turn) (calls : List Invocation) (place : ℕ)
-    (was : Option Doing)
-    (call : Invocation) (state : State)
+    (was : Option Doing) (call : Invocation) (state : State (kind_of call.asked))
     (there : slice_get w.actors place ≡ Some was) (within : IsIn call.who was)
     (stay : OthersStay call.who w.turns turns) where
   abbrev then_world : World
@@ -134,14 +135,14 @@ module _ (w : World) (responses : List Response) (turns : List Turn) (calls : Li
       ((c : Invocation) → Contains w.calls c → Contains calls c) → AreOwn w.calls w.actors →
       AreOwn calls (slice_set w.actors place (doing_in call state))
   now_doing start who has more own = λ p d at. elim (does w.actors place was call state p d there at) [
-    | moved same c s ↦ (
-      subst (Contains calls) (sym c) has,
-      (start, ap (λ (x : Invocation). x.who) c ∙ (who ∙ ap (λ n. Actor (suc n) start) same)),
+    | moved same is ↦ (
+      subst (λ (x : Doing). Contains calls x.call) (sym is) has,
+      (start, ap (λ (x : Doing). x.call.who) is ∙ (who ∙ ap (λ n. Actor (suc n) start) same)),
     )
     | other old ↦ let mine = own p d old in (more d.call mine.0, mine.1)
   ]
 
-known_more : (calls : List Invocation) (responses : List Response) (call : Invocation) (state : State) →
+known_more : (calls : List Invocation) (responses : List Response) (call : Invocation) (state : State (kind_of call.asked)) →
     Contains calls call →
     All (λ (g : Response). Contains calls g.call) responses →
     All (λ (g : Response). Contains calls g.call) (responses ++ response_in call state)
@@ -166,15 +167,16 @@ module _ {P : Turn → Type 0} (w : World) (responses : List Response) (i : Inv 
   its_name : (start : ℕ) × (d.call.who ≡ Actor (suc place) start)
   its_name = (i.doing place d there).1
 
-  standing_is : (o : Option (Option Doing)) → o ≡ Some (Some d) → stands_in d.call.who o ≡ Some d.state
+  standing_is : (o : Option (Option Doing)) → o ≡ Some (Some d) → stands_in d.call.who o ≡ Some d
   standing_is o e = ap (stands_in d.call.who) e
-      ∙ ap (λ b. cond b (Some d.state) None) (same_itself place its_name.0 d.call.who its_name.1)
+      ∙ ap (λ b. cond b (Some d) None) (same_itself place its_name.0 d.call.who its_name.1)
 
-  where_it_stands : standing_of d.call.who w.actors ≡ Some d.state
+  where_it_stands : standing_of d.call.who w.actors ≡ Some d
   where_it_stands =
       at_actor d.call.who place its_name.0 w.actors its_name.1 ∙ standing_is (slice_get w.actors place) there
 
-  its_state : (s : State) → standing s ≡ Some d.state → (s ≡ d.state) × (ended s ≡ [])
+  its_state : (s : State (kind_of d.call.asked)) → doing_in d.call s ≡ Some d →
+      (d ≡ record { call = d.call; state = s }) × (ended s ≡ [])
   its_state (Goes phase) e = (cc, refl)
   its_state (Waits wait) e = (cc, refl)
   its_state (Over ending) e = absurd cc
@@ -184,11 +186,11 @@ module _ {P : Turn → Type 0} (w : World) (responses : List Response) (i : Inv 
       let f = i.outcomes d.call has_it in
       let s = its_state f.state (sym f.stands ∙ where_it_stands) in
       record {
-        plays = subst (Plays (begun d.call) (ops_of d.call.who w.turns)) s.0 f.plays;
+        plays = subst (λ (x : Doing). Plays (begun x.call) (ops_of x.call.who w.turns) x.state) (sym s.0) f.plays;
         quiet = f.answered ∙ s.1;
       }
 
-  pub goes_on : (turns : List Turn) (state : State) → IsSound (went w turns w.calls place d.call state) →
+  pub goes_on : (turns : List Turn) (state : State (kind_of d.call.asked)) → IsSound (went w turns w.calls place d.call state) →
       Lives turns (slice_set w.actors place (doing_in d.call state)) → OthersStay d.call.who w.turns turns →
       Stands turns responses d.call state → All (HasMaker P w.calls) turns →
       Inv P (went w turns w.calls place d.call state) (responses ++ response_in d.call state)
@@ -324,7 +326,7 @@ given_is who (x ∷ responses) g (suc k, low, is) same =
     (given_is who responses g (k, omega (arith, low), is) same)
 
 -- An ending that a call had is that of its state, and is right.
-is_right : EachAnswerIsRight → (call : Invocation) (ops : List Op) (state : State) (ending : Ending) →
+is_right : EachAnswerIsRight → (call : Invocation) (ops : List Op) (state : State (kind_of call.asked)) (ending : Ending) →
     Plays (begun call) ops state → IsAmong ending (ended state) → IsRightAnswer call.asked ops ending
 is_right right call ops (Goes phase) ending plays among = absurd among
 is_right right call ops (Waits wait) ending plays among = absurd among
@@ -448,7 +450,7 @@ leads_opened w after (x ∷ xs) responses l =
 
 module _ (law : EachObeys) where
   pub turns_keep : {P : Turn → Type 0} (w after : World) (responses one : List Response) (place : ℕ) (call : Invocation)
-      (phase : Phase) (now : ℕ) → Inv P w responses →
+      (phase : Phase (kind_of call.asked)) (now : ℕ) → Inv P w responses →
       slice_get w.actors place ≡ Some (Some record { call = call; state = Goes phase }) →
       Turns w (suc place) call phase now one after → IsSound after → Inv P after (responses ++ one)
   turns_keep {P} w after responses one place call phase now i there t ok =

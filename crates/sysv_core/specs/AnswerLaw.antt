@@ -9,47 +9,42 @@ use Rattle.std.specs.Prelude.{◌≡◌, ◌⊎◌, ℕ, suc, List, [], ◌∷�
 use Rattle.std.specs.Prelude.{if◌then◌else◌}
 use Rattle.sysv_model.specs.History.{Who, Actor, Seat}
 use Rattle.sysv_model.specs.Turn.{Turn, is_same, ops_of}
+use Rattle.sysv_steps.specs.Call.{Kind, kind_of}
 use Rattle.sysv_steps.specs.State.{Ending, State, Goes, Waits, Over}
 use Rattle.sysv_steps.specs.Played.{Plays}
 use Rattle.sysv_steps.specs.AsksFor.{AllAskFor}
-use Rattle.sysv_core.specs.World.{World, Invocation, Doing, Response, actor_at, begun, preset_who, preset_begin}
-use Rattle.sysv_core.specs.World.{preset_install, preset_settle}
+use Rattle.sysv_core.specs.World.{World, Invocation, Doing, Response, actor_at, doing_in, begun, preset_who}
+use Rattle.sysv_core.specs.World.{preset_begin, preset_install, preset_settle}
 
 -- The endings of the calls of this name, in order.
 abbrev pub endings_of : Who → List Response → List Ending
 endings_of who responses =
     map (λ (g : Response). g.ending) (filter (λ (g : Response). is_same who g.call.who) responses)
 
--- The state in which an actor is in the call of this name, if it is in that call.
-abbrev pub stands_in : Who → Option (Option Doing) → Option State
+-- The call of this name that an actor is in, with its state, if it is in that call.
+abbrev pub stands_in : Who → Option (Option Doing) → Option Doing
 stands_in who None = None
 stands_in who (Some None) = None
-stands_in who (Some (Some doing)) = if is_same who doing.call.who then Some doing.state else None
+stands_in who (Some (Some doing)) = if is_same who doing.call.who then Some doing else None
 
--- The state in which the actor of the call of this name is in it, if it is.
-abbrev pub standing_of : Who → List (Option Doing) → Option State
+-- The call of this name with its state, if its actor is in it.
+abbrev pub standing_of : Who → List (Option Doing) → Option Doing
 standing_of (Actor actor start) actors = stands_in (Actor actor start) (actor_at actors actor)
 standing_of (Seat number) actors = None
 
 -- The endings of a call in this state: one if it is over, else none.
-abbrev pub ended : State → List Ending
+abbrev pub ended : {kind : Kind} → State kind → List Ending
 ended (Goes phase) = []
 ended (Waits wait) = []
 ended (Over ending) = ending ∷ []
 
--- The state in which the actor of a call in this state is in it: none if the call is over.
-abbrev pub standing : State → Option State
-standing (Goes phase) = Some (Goes phase)
-standing (Waits wait) = Some (Waits wait)
-standing (Over ending) = None
-
--- The call plays its own turns to a state; its endings, and what its actor does, are those of that
--- state.
+-- The call plays its own turns to a state; its endings are those of that state; and its actor is in
+-- it in that state, or is not in it if the call is over.
 pub record Outcome (w : World) (responses : List Response) (call : Invocation) : Type 0 where
-  pub state : State
+  pub state : State (kind_of call.asked)
   pub plays : Plays (begun call) (ops_of call.who w.turns) state
   pub answered : endings_of call.who responses ≡ ended state
-  pub stands : standing_of call.who w.actors ≡ standing state
+  pub stands : standing_of call.who w.actors ≡ doing_in call state
 
 -- Each actor that is in a call is in one that it started. Actors count from 1.
 abbrev pub AreInTheirCalls : World → Type 0

@@ -1,30 +1,29 @@
 -- What a world of the code keeps of its actors, as states of the definitions (this project's
 -- profile).
 use Rattle.std.specs.Prelude.{ℕ, List, Option, Some, None, option_map, map, sum_by}
-use Rattle.sysv_steps.specs.State.{State}
 use Rattle.sysv_steps.specs.HeldBlocks.{held}
 use Rattle.sysv_core.specs.declared.doing.Doing.{Doing}
 use Rattle.sysv_core.specs.declared.doing.Led.{Led}
 use Rattle.sysv_core.specs.declared.doing.Led.TheVariants as led
 use Rattle.sysv_core.specs.declared.event.Stepped.{Stepped}
 use Rattle.sysv_core.specs.declared.event.Stepped.TheVariants as stepped
-use Rattle.sysv_core.specs.Standing.{doing_state}
+use Rattle.sysv_core.specs.Standing.{Pending, doing_state}
 
 -- The state of the call that an actor is in, if it is in one.
-abbrev pub state_kept : Option Doing → Option State
+abbrev pub state_kept : Option Doing → Option Pending
 state_kept doing = option_map doing_state doing
 
 -- The states of the calls of all actors.
-abbrev pub states_kept : List (Option Doing) → List (Option State)
+abbrev pub states_kept : List (Option Doing) → List (Option Pending)
 states_kept actors = map state_kept actors
 
 -- The number of blocks that a call in this state holds.
-abbrev pub blocks_at : Option State → ℕ
+abbrev pub blocks_at : Option Pending → ℕ
 blocks_at None = 0
-blocks_at (Some state) = held state
+blocks_at (Some pending) = held pending.state
 
 -- The number of blocks that all these calls hold.
-abbrev pub blocks_held : List (Option State) → ℕ
+abbrev pub blocks_held : List (Option Pending) → ℕ
 blocks_held states = sum_by blocks_at states
 
 -- The number of blocks that the calls of these actors hold.
@@ -38,7 +37,7 @@ doing_led (led.Stays doing) = Some doing
 doing_led (led.Over ended) = None
 
 -- The same, as a state of the definitions.
-abbrev pub kept_led : Led → Option State
+abbrev pub kept_led : Led → Option Pending
 kept_led l = state_kept (doing_led l)
 
 -- The number of steps that are counted: none if the call still has to wait.

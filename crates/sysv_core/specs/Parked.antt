@@ -24,7 +24,7 @@ use Rattle.sysv_queue.specs.Granted.{MayRead, MayWrite}
 use Rattle.sysv_queue.specs.Named.{IsNamed}
 use Rattle.sysv_keys.specs.Identifier.{slot_of_id}
 use Rattle.sysv_keys.specs.Rows.{Row, IsRow}
-use Rattle.sysv_steps.specs.Call.{SystemCall, Msgget, Msgsnd, Msgrcv, MsgctlSet, MsgctlRmid}
+use Rattle.sysv_steps.specs.Call.{SystemCall, Msgget, Msgsnd, Msgrcv, MsgctlSet, MsgctlRmid, kind_of}
 use Rattle.sysv_steps.specs.State.{Wait, OnSettled, OnFreed, OnReleased, OnArrived, AtSetGiveback, AtForget}
 use Rattle.sysv_steps.specs.State.{AtRemoveGiveback, State, Goes, Waits}
 use Rattle.sysv_steps.specs.Resume.{awaited, goal_of}
@@ -62,7 +62,7 @@ pub record IsOpenTo (h : History) (id : ℤ) (cred : Cred) : Type 0 where
 
 -- A set of that queue was done, or a removal of it, and the call is still before its giveback, or
 -- before the forget that precedes it.
-abbrev pub HasToGiveBack : SystemCall → State → ℤ → Type 0
+abbrev pub HasToGiveBack : (asked : SystemCall) → State (kind_of asked) → ℤ → Type 0
 HasToGiveBack (MsgctlSet at to) (Goes AtSetGiveback) id = at ≡ id
 HasToGiveBack (MsgctlRmid at) (Goes (AtForget removed blocks)) id = at ≡ id
 HasToGiveBack (MsgctlRmid at) (Goes (AtRemoveGiveback blocks)) id = at ≡ id
@@ -80,9 +80,8 @@ pub record HasChangeToTell (w : World) (id : ℤ) : Type 0 where
 abbrev pub IsToBeWoken : World → ℤ → Cred → Type 0
 IsToBeWoken w id cred = IsOpenTo (slot_history (slot_of_id id) w.turns) id cred ⊎ HasChangeToTell w id
 
--- The reason for which a call with these credentials and arguments waits. No other call is in such
--- a wait.
-abbrev pub HasReason : World → Cred → SystemCall → Wait → Type 0
+-- The reason for which a call with these credentials and arguments waits. A msgctl never waits.
+abbrev pub HasReason : World → Cred → (asked : SystemCall) → Wait (kind_of asked) → Type 0
 HasReason w cred (Msgrcv id size mtype flags) (OnArrived goal receive) =
     HasNothingToTake (slot_history (slot_of_id id) w.turns) id cred (selector_for mtype flags)
 HasReason w cred (Msgsnd id mtype flags text) (OnFreed goal send) =
@@ -90,10 +89,10 @@ HasReason w cred (Msgsnd id mtype flags text) (OnFreed goal send) =
 HasReason w cred (Msgsnd id mtype flags text) (OnReleased goal send) =
     HasTooFewBlocks w (length text) × IsToBeWoken w id cred
 HasReason w cred (Msgget key flags) (OnSettled goal get) = IsBeingChanged w key
-HasReason w cred asked wait = ⊥
+HasReason w cred asked wait = elim wait [ ]
 
 -- The actor's call waits below its goal.
-pub record IsParked (w : World) (place : ℕ) (d : Doing) (wait : Wait) : Type 0 where
+pub record IsParked (w : World) (place : ℕ) (d : Doing) (wait : Wait (kind_of d.call.asked)) : Type 0 where
   pub there : slice_get w.actors place ≡ Some (Some d)
   pub waits : d.state ≡ Waits wait
   pub below : value_of w.turns (awaited wait) < goal_of wait
@@ -101,4 +100,4 @@ pub record IsParked (w : World) (place : ℕ) (d : Doing) (wait : Wait) : Type 0
 -- Each call that waits below its goal has its reason.
 abbrev pub AreParkedRightly : World → Type 0
 AreParkedRightly w =
-    (place : ℕ) (d : Doing) (wait : Wait) → IsParked w place d wait → HasReason w d.call.cred d.call.asked wait
+    (place : ℕ) (d : Doing) (wait : Wait (kind_of d.call.asked)) → IsParked w place d wait → HasReason w d.call.cred d.call.asked wait

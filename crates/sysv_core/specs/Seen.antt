@@ -4,7 +4,7 @@ use Rattle.std.specs.Prelude.{◌≡◌, ℕ, ◌<◌, ◌≤◌, Bool, List, []
 use Rattle.sysv_model.specs.declared.limits.TheConstants.{WORN}
 use Rattle.sysv_objects.specs.Objects.{Objects}
 use Rattle.sysv_objects.specs.Represents.{Represents as ObjectsStandFor}
-use Rattle.sysv_steps.specs.State.{State}
+use Rattle.sysv_steps.specs.Call.{kind_of}
 use Rattle.sysv_queue.specs.Tally.{Tallied}
 use Rattle.sysv_core.specs.declared.event.Event.{Event}
 use Rattle.sysv_core.specs.declared.event.Event.TheVariants as event
@@ -15,7 +15,8 @@ use Rattle.sysv_core.specs.World.{World, Opening, Doing, Response, Transition, S
 use Rattle.sysv_core.specs.Run.{Leads}
 use Rattle.sysv_steps.specs.Asked.{asked_of}
 use Rattle.sysv_core.specs.Answered.{TellsEnding}
-use Rattle.sysv_core.specs.Kinds.{kind_of, gives_back}
+use Rattle.sysv_core.specs.Kinds.{gives_back}
+use Rattle.sysv_core.specs.Standing.{Pending, pending}
 use Rattle.sysv_core.specs.Sound.{IsToCaller, IsSound}
 
 -- ---- events
@@ -30,7 +31,7 @@ transition_of (event.Step actor now) = Step actor now
 -- The answer is that of this ending, to the actor of the call.
 pub record Tells (g : Response) (a : Answer) : Type 0 where
   pub caller : IsToCaller g.call.who a.actor
-  pub ending : TellsEnding (gives_back (Some (kind_of g.call.asked))) g.ending a.result a.body
+  pub ending : TellsEnding (gives_back (kind_of g.call.asked)) g.ending a.result a.body
 
 -- The answers are those of the endings, in order.
 abbrev pub TellAll : List Response → List Answer → Type 0
@@ -55,13 +56,13 @@ Steps w event result after =
 -- What a world of the code is seen as.
 pub record Seen : Type 0 where
   pub objects : Objects
-  pub states : List (Option State)
+  pub states : List (Option Pending)
   pub steps : ℕ
   pub tally : Tallied  -- the messages that were answered, as written
 
 -- The state of the pending call, if there is one.
-abbrev pub state_in : Option Doing → Option State
-state_in doing = option_map (λ (d : Doing). d.state) doing
+abbrev pub state_in : Option Doing → Option Pending
+state_in doing = option_map (λ (d : Doing). pending d.state) doing
 
 -- This world of the definitions is what the world of the code is seen as.
 pub record IsSeenAs (w : World) (seen : Seen) : Type 0 where

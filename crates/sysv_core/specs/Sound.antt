@@ -10,9 +10,9 @@ use Rattle.sysv_model.specs.Turn.{Turn, slot_history, registry_history}
 use Rattle.sysv_keys.specs.Identifier.{slot_of_id}
 use Rattle.sysv_keys.specs.Rows.{is_made}
 use Rattle.sysv_objects.specs.LegalOp.{AreLegal}
-use Rattle.sysv_steps.specs.State.{Getting, AtInstall, Goes}
+use Rattle.sysv_steps.specs.Call.{Kind}
+use Rattle.sysv_steps.specs.State.{AtInstall, State, Goes}
 use Rattle.sysv_steps.specs.HeldBlocks.{HasItsBlocks}
-use Rattle.sysv_core.specs.Kinds.{kind_of, IsOf}
 use Rattle.sysv_core.specs.World.{World, Opening, Doing, Transition, Response, Makes, opening}
 use Rattle.sysv_core.specs.Conserved.{AreConserved}
 
@@ -21,11 +21,16 @@ abbrev pub IsToCaller : Who → ℕ → Type 0
 IsToCaller (Actor actor start) other = other ≡ actor
 IsToCaller (Seat number) other = ⊥
 
--- Each actor that is in a call is in one of its own, in a state of such a call. Before the place of
--- a body it holds the number of blocks that the body needs.
+-- Each actor that is in a call is in one of its own. Before the place of a body it holds the number
+-- of blocks that the body needs.
 abbrev pub AreOwn : List (Option Doing) → Type 0
 AreOwn actors = (place : ℕ) (d : Doing) → slice_get actors place ≡ Some (Some d) →
-    IsOf (kind_of d.call.asked) d.state × IsToCaller d.call.who (suc place) × HasItsBlocks d.state
+    IsToCaller d.call.who (suc place) × HasItsBlocks d.state
+
+-- The call is before the install of this identifier.
+abbrev pub IsBeforeInstall : {kind : Kind} → State kind → ℤ → Type 0
+IsBeforeInstall (Goes (AtInstall get made)) id = made ≡ id
+IsBeforeInstall state id = ⊥
 
 -- The registry made an identifier of this slot.
 pub record IsMadeIn (turns : List Turn) (slot : ℕ) : Type 0 where
@@ -40,8 +45,8 @@ pub record IsSound (w : World) : Type 0 where
   pub own : AreOwn w.actors
   -- An identifier of the slot was made if an actor is before an install in that slot, or if a queue
   -- is live in it.
-  pub installs : (place : ℕ) (d : Doing) (get : Getting) (id : ℤ) → slice_get w.actors place ≡ Some (Some d) →
-      d.state ≡ Goes (AtInstall get id) → IsMadeIn w.turns (slot_of_id id)
+  pub installs : (place : ℕ) (d : Doing) (id : ℤ) → slice_get w.actors place ≡ Some (Some d) →
+      IsBeforeInstall d.state id → IsMadeIn w.turns (slot_of_id id)
   pub lives : (slot : ℕ) (a : Attributes) → live (slot_history slot w.turns) ≡ Some a → IsMadeIn w.turns slot
   pub blocks : AreConserved w.blocks w.turns w.actors
 

@@ -6,6 +6,7 @@ use Rattle.sysv_model.specs.Message.{Message}
 use Rattle.sysv_model.specs.History.{Actor, Remove, Fits, Accepted, Full, Discarded}
 use Rattle.sysv_model.specs.Pool.{Reserve, Reserved}
 use Rattle.sysv_model.specs.Turn.{Op, AtSlot, AtPool}
+use Rattle.sysv_steps.specs.Call.{Sends}
 use Rattle.sysv_steps.specs.State.{AtReserve, Zero, Refused, State, Goes, Over}
 use Rattle.sysv_steps.specs.Played.{Plays}
 use Rattle.sysv_core.specs.World.{World, Invocation, opening, with_actor, begun, preset_who, preset_cred, preset_begin}
@@ -30,7 +31,7 @@ the_end = record {
 }
 
 -- The state of the call after its look.
-abbrev pub still_reserving : State
+abbrev pub still_reserving : State Sends
 still_reserving = Goes (AtReserve record {
   cred = the_send.cred;
   id = pos 0;

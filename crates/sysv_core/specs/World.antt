@@ -15,7 +15,7 @@ use Rattle.sysv_model.specs.Turn.{Op, AtSlot, AtRegistry, asked_by, Turn, slot_h
 use Rattle.sysv_model.specs.Turn.{pool_history}
 use Rattle.sysv_keys.specs.Rows.{IsUnused}
 use Rattle.sysv_objects.specs.LegalOp.{IsLegalOp}
-use Rattle.sysv_steps.specs.Call.{SystemCall}
+use Rattle.sysv_steps.specs.Call.{SystemCall, kind_of}
 use Rattle.sysv_steps.specs.State.{Phase, Wait, Ending, State, Goes, Waits, Over}
 use Rattle.sysv_steps.specs.Begin.{begin}
 use Rattle.sysv_steps.specs.Asks.{asks}
@@ -41,7 +41,7 @@ pub record Invocation : Type 0 where
 -- A pending call and its state.
 pub record Doing : Type 0 where
   pub call : Invocation
-  pub state : State
+  pub state : State (kind_of call.asked)
 
 -- A world, with everything that has happened in it.
 pub record World : Type 0 where
@@ -81,19 +81,19 @@ with_actor actors (suc place) doing = slice_set actors place doing
 -- ---- where a call goes
 
 -- The pending call of an actor whose call is in this state: none if the call is over.
-abbrev pub doing_in : Invocation → State → Option Doing
+abbrev pub doing_in : (call : Invocation) → State (kind_of call.asked) → Option Doing
 doing_in call (Goes phase) = Some record { call = call; state = Goes phase }
 doing_in call (Waits wait) = Some record { call = call; state = Waits wait }
 doing_in call (Over ending) = None
 
 -- The ending of a call in this state: none if the call is pending.
-abbrev pub response_in : Invocation → State → List Response
+abbrev pub response_in : (call : Invocation) → State (kind_of call.asked) → List Response
 response_in call (Goes phase) = []
 response_in call (Waits wait) = []
 response_in call (Over ending) = record { call = call; ending = ending } ∷ []
 
 -- The world after the actor's call came to this state by one more counted event.
-abbrev pub in_state : World → ℕ → Invocation → State → World
+abbrev pub in_state : World → ℕ → (call : Invocation) → State (kind_of call.asked) → World
 in_state w actor call state = record w { actors = with_actor w.actors actor (doing_in call state); steps = w.steps + 1 }
 
 -- The world with one more call that was started.
@@ -116,7 +116,7 @@ starting w actor cred asked =
     record { who = Actor actor w.steps; cred = cred; asked = asked; released = released (pool_history w.turns) }
 
 -- The state of the call at its start.
-abbrev pub begun : Invocation → State
+abbrev pub begun : (call : Invocation) → State (kind_of call.asked)
 begun call = begin call.cred call.asked call.released
 
 -- The world after the start of this call, with its ending if it is over at once.
@@ -128,9 +128,9 @@ Begins w actor call responses after =
 
 -- One turn of the call: it makes the request of that phase, has a legal reply, and leads to the
 -- next state in the step table.
-abbrev pub Turns : World → ℕ → Invocation → Phase → ℕ → List Response → World → Type 0
+abbrev pub Turns : World → ℕ → (call : Invocation) → Phase (kind_of call.asked) → ℕ → List Response → World → Type 0
 Turns w actor call phase now responses after =
-    (op : Op) × (state : State) × (asked_by op ≡ asks phase now) × IsLegalOp w.generation w.blocks w.turns op
+    (op : Op) × (state : State (kind_of call.asked)) × (asked_by op ≡ asks phase now) × IsLegalOp w.generation w.blocks w.turns op
     × (next phase op ≡ Some state)
     × (responses ≡ response_in call state) × (after ≡ in_state (with_turn w call.who op) actor call state)
 
@@ -143,14 +143,14 @@ value_of turns Released = released (pool_history turns)
 
 -- The call looks at the count for which it waits. It continues if its goal is reached; else the
 -- world stays as it was.
-abbrev pub Looks : World → ℕ → Invocation → Wait → List Response → World → Type 0
+abbrev pub Looks : World → ℕ → (call : Invocation) → Wait (kind_of call.asked) → List Response → World → Type 0
 Looks w actor call wait responses after =
     ((goal_of wait ≤ value_of w.turns (awaited wait)) × (responses ≡ [])
     × (after ≡ in_state w actor call (Goes (resume wait (value_of w.turns (awaited wait))))))
     ⊎ ((value_of w.turns (awaited wait) < goal_of wait) × StaysWith w responses after)
 
 -- One step of a call in this state.
-abbrev pub Continues : World → ℕ → ℕ → Invocation → State → List Response → World → Type 0
+abbrev pub Continues : World → ℕ → ℕ → (call : Invocation) → State (kind_of call.asked) → List Response → World → Type 0
 Continues w actor now call (Goes phase) responses after = Turns w actor call phase now responses after
 Continues w actor now call (Waits wait) responses after = Looks w actor call wait responses after
 Continues w actor now call (Over ending) responses after = StaysWith w responses after

@@ -4,7 +4,6 @@ ghost use Rattle.std.specs.Prelude.{◌≡◌, ◌≤◌, ◌^◌, Some};
 ghost use Rattle.sysv_objects.specs.Objects.{CountsUpTo};
 ghost use Rattle.sysv_steps.specs.Begin.{begin as begins};
 ghost use Rattle.sysv_steps.specs.Asked.{asked_of};
-ghost use Rattle.sysv_core.specs.Kinds.{kind_of, gives_back};
 ghost use Rattle.sysv_core.specs.Standing.{doing_state};
 ghost use Rattle.sysv_core.specs.Kept.{counted_led};
 ghost use Rattle.sysv_core.specs.Led.{LeadsTo, StepLeads};
@@ -19,8 +18,7 @@ use sysv_steps::{Call, Getting, Receiving, RemoveStep, Sending, SetStep, StatSte
 
 /// Starts a call. `released` is the released count at that time.
 pub fn begin(cred: Cred, call: Call, released: u64) -> Led
-    ensures { LeadsTo (gives_back (Some (kind_of (asked_of call))))
-        (begins cred (asked_of call) released) result }
+    ensures { LeadsTo (begins cred (asked_of call) released) result }
 {
     match call {
         Call::Get { key, flags } => get_leads(Getting::begin(cred, key, flags)),
@@ -50,7 +48,7 @@ pub fn begin(cred: Cred, call: Call, released: u64) -> Led
 /// which it waits.
 pub fn advance(objects: &mut Objects, doing: Doing, now: u64) -> Led
     requires { CountsUpTo (2 ^ 62) objects.old }
-    ensures { StepLeads objects.old (doing_state doing) now result objects.new }
+    ensures { StepLeads objects.old (doing_state doing).state now result objects.new }
 {
     match doing {
         Doing::Get(Standing::At(step)) => get_turn(objects, now, step),

@@ -10,7 +10,7 @@ use sysv_pool::Chain;
 
 /// Ends the call and returns the blocks that it holds. A message that a receive has taken is lost.
 pub(crate) fn chain_in(doing: Doing) -> Chain
-    ensures { result.blocks ≡ held (doing_state doing) }
+    ensures { result.blocks ≡ held (doing_state doing).state }
 {
     match doing {
         Doing::Get(Standing::At(_step)) => Chain::empty(),

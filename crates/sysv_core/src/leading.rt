@@ -1,6 +1,6 @@
 //! What the state of an actor's call makes of the actor: the call continues, or it is over.
 
-ghost use Rattle.std.specs.Prelude.{◌≡◌, true, false, None};
+ghost use Rattle.std.specs.Prelude.{◌≡◌, false, None};
 ghost use Rattle.sysv_steps.specs.Seen.{get_state, send_state, receive_state, stat_state, set_state, remove_state};
 ghost use Rattle.sysv_steps.specs.Bodies.{StillCanSend};
 ghost use Rattle.sysv_steps.specs.Seen.{ending_of};
@@ -17,7 +17,7 @@ use sysv_steps::{
 
 /// Returns the result of a get in this state.
 pub(crate) fn get_leads(state: GetState) -> Led
-    ensures { LeadsTo false (get_state state) result }
+    ensures { LeadsTo (get_state state) result }
 {
     match state {
         State::Goes(step) => Led::To(Doing::Get(Standing::At(step))),
@@ -31,7 +31,7 @@ pub(crate) fn get_leads(state: GetState) -> Led
 /// is spare.
 pub(crate) fn send_leads(state: SendState, body: Body) -> Led
     requires { StillCanSend state body }
-    ensures { LeadsTo false (send_state state body) result }
+    ensures { LeadsTo (send_state state body) result }
 {
     match state {
         State::Goes(step) => {
@@ -49,7 +49,7 @@ pub(crate) fn send_leads(state: SendState, body: Body) -> Led
 /// Returns the result of a receive in this state that fills `body`. If the receive failed, its body
 /// is empty.
 pub(crate) fn receive_leads(state: ReceiveState, mut body: Body) -> Led
-    ensures { LeadsTo true (receive_state state body) result }
+    ensures { LeadsTo (receive_state state body) result }
 {
     match state {
         State::Goes(step) => {
@@ -83,7 +83,7 @@ pub(crate) fn receive_leads(state: ReceiveState, mut body: Body) -> Led
 
 /// Returns the result of an IPC_STAT in this state.
 pub(crate) fn stat_leads(state: StatState) -> Led
-    ensures { LeadsTo false (stat_state state) result }
+    ensures { LeadsTo (stat_state state) result }
 {
     match state {
         State::Goes(step) => Led::To(Doing::Stat(step)),
@@ -94,7 +94,7 @@ pub(crate) fn stat_leads(state: StatState) -> Led
 
 /// Returns the result of an IPC_SET in this state.
 pub(crate) fn set_leads(state: SetState) -> Led
-    ensures { LeadsTo false (set_state state) result }
+    ensures { LeadsTo (set_state state) result }
 {
     match state {
         State::Goes(step) => Led::To(Doing::Set(step)),
@@ -104,7 +104,7 @@ pub(crate) fn set_leads(state: SetState) -> Led
 
 /// Returns the result of an IPC_RMID in this state.
 pub(crate) fn remove_leads(state: RemoveState) -> Led
-    ensures { LeadsTo false (remove_state state) result }
+    ensures { LeadsTo (remove_state state) result }
 {
     match state {
         State::Goes(step) => Led::To(Doing::Remove(step)),

@@ -21,7 +21,6 @@ pub mod Ran
 pub mod EmptyWorldSound
 pub mod OneText
 pub mod EachText
-pub mod StepKeepsOperation
 pub mod OwnOperation
 pub mod ResultsPrinted
 pub mod ScriptRun

@@ -3,18 +3,17 @@ use Rattle.std.proofs.Common.{◌≡◌, ℕ, zero, suc, List, [], ◌∷◌, �
 use Rattle.std.proofs.Common.{refl, sym, ap, subst, ◌∙◌}
 use Rattle.std.proofs.lemmas.Option.{slice_get-map}
 use Rattle.sysv_core.specs.declared.doing.Doing.{Doing as DoingKept}
-use Rattle.sysv_steps.specs.State.{State}
 use Rattle.sysv_core.specs.World.{World, Doing, actor_at}
 use Rattle.sysv_core.specs.Seen.{Seen, IsSeenAs, state_in}
-use Rattle.sysv_core.specs.Standing.{state_at, doing_state, StandsThere, StandsNowhere}
+use Rattle.sysv_core.specs.Standing.{Pending, state_at, doing_state, StandsThere, StandsNowhere}
 use Rattle.sysv_script.specs.Heads.{head_text}
-use Rattle.sysv_script.specs.Names.{operation_in, standing_text}
+use Rattle.sysv_script.specs.Names.{operation_as, standing_text}
 use Rattle.sysv_script.specs.declared.head.Head.{Head}
 use Rattle.sysv_script.specs.declared.head.Head.TheVariants as head
 use Rattle.sysv_script.specs.declared.names.Operation.{Operation}
 use Rattle.sysv_script.specs.ScriptState.{pending, standing_line}
 
-seen_at : (actors : List (Option Doing)) (states : List (Option State)) (actor : ℕ) → map state_in actors ≡ states →
+seen_at : (actors : List (Option Doing)) (states : List (Option Pending)) (actor : ℕ) → map state_in actors ≡ states →
     state_at states actor ≡ option_map state_in (actor_at actors actor)
 seen_at actors states zero e = refl
 seen_at actors states (suc place) e = ap (λ ss. slice_get ss place) (sym e) ∙ slice_get-map state_in actors place
@@ -37,16 +36,17 @@ idle_line actor (Some (Some d)) stands = absurd stands
 
 pub going_line : (actor : ℕ) (o : Option (Option Doing)) (told : DoingKept) (line : Head) →
     StandsThere (option_map state_in o) told →
-    head_text line ≡ standing_text actor (doing_state told) →
+    head_text line ≡ standing_text actor (doing_state told).state →
     head_text line ++ 10 ∷ [] ≡ standing_line actor o
 going_line actor None told line stands says = absurd stands
 going_line actor (Some None) told line stands says = absurd stands
 going_line actor (Some (Some d)) told line stands says =
-    ap (λ t. t ++ 10 ∷ []) (says ∙ sym (ap (standing_text actor) stands))
+    ap (λ t. t ++ 10 ∷ []) (says ∙ sym (ap (λ (p : Pending). standing_text actor p.state) stands))
 
 pub going_way : (o : Option (Option Doing)) (told : DoingKept) (operation : Operation) →
     StandsThere (option_map state_in o) told →
-    operation_in (doing_state told) ≡ Some operation → Some operation ≡ pending o
+    operation_as (doing_state told).kind ≡ operation → Some operation ≡ pending o
 going_way None told operation stands says = absurd stands
 going_way (Some None) told operation stands says = absurd stands
-going_way (Some (Some d)) told operation stands says = sym says ∙ sym (ap operation_in stands)
+going_way (Some (Some d)) told operation stands says =
+    sym (ap (λ (p : Pending). Some (operation_as p.kind)) stands ∙ ap Some says)

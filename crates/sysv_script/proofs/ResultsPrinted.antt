@@ -1,7 +1,7 @@
 -- What the steps of a call print has the results of the calls that end on the way.
 use Rattle.std.proofs.Common.{◌≡◌, inl, inr, ℕ, zero, suc, Bool, Option, None, Some, List, []}
 use Rattle.std.proofs.Common.{◌∷◌, ◌++◌, refl, sym, ap, subst, ◌∙◌, append-nil, append_assoc}
-use Rattle.sysv_steps.specs.Call.{SystemCall, Msgget, Msgsnd, Msgrcv, MsgctlStat, MsgctlSet, MsgctlRmid}
+use Rattle.sysv_steps.specs.Call.{SystemCall, Msgget, Msgsnd, Msgrcv, MsgctlStat, MsgctlSet, MsgctlRmid, kind_of}
 use Rattle.sysv_steps.specs.Asked.{asked_of}
 use Rattle.sysv_core.specs.Run.{Leads}
 use Rattle.sysv_core.specs.Seen.{Gives, Tells}
@@ -13,7 +13,7 @@ use Rattle.sysv_script.specs.Names.{operation_of}
 use Rattle.sysv_script.specs.ScriptState.{ScriptState, GoesOn, CallRuns, call_for, most_steps, printed, standing_line}
 use Rattle.sysv_script.specs.ScriptState.{pending}
 use Rattle.sysv_script.specs.Results.{IsResultOf, IsWithoutResult, HasResults, Empty, Result, Without, LeadsPrinting}
-use Rattle.sysv_script.proofs.OwnOperation.{AreOwn, AreOf, CallsAs, step_leaves, start_leaves}
+use Rattle.sysv_script.proofs.OwnOperation.{AreOf, CallsAs, step_leaves, start_leaves}
 
 -- ---- one after the other
 
@@ -73,7 +73,7 @@ EndsAs operation given (stepped.Answer answer) =
     (g : Response) × (given ≡ g ∷ []) × Tells g answer × (operation_of g.call.asked ≡ operation)
 
 standing_without : (actor : ℕ) (at : Option (Option Doing)) → IsWithoutResult (standing_line actor at)
-standing_without actor (Some (Some d)) = (actor, inl (d.state, refl))
+standing_without actor (Some (Some d)) = (actor, inl (kind_of d.call.asked, d.state, refl))
 standing_without actor (Some None) = (actor, inr (inr (inl refl)))
 standing_without actor None = (actor, inr (inr (inl refl)))
 
@@ -101,13 +101,12 @@ ends_as o w given stepped.Worn of g = g.1
 ends_as o w given (stepped.Answer answer) of g =
     (g.1.0, g.1.1, g.1.2, (subst (AreOf o) g.1.1 of).0)
 
--- The steps lead to another world, in which each actor is again in a state of its own call.
+-- The steps lead to another world, and the calls that end on the way are those that were told.
 pub record StepsTo (o : Operation) (w : World) (result : Stepped) (after : World) : Type 0 where
   pub list : List Transition
   pub given : List Response
   pub leads : Leads w list given after
   pub ends : EndsAs o given result
-  pub own : AreOwn after.actors
 
 -- After an event without a result.
 goes_further : (o : Operation) (w mid after : World) (x : Transition) (given : List Response) (result : Stepped) →
@@ -117,54 +116,52 @@ goes_further o w mid after x given result makes none s = record {
   given = s.given;
   leads = (mid, given, s.given, makes, s.leads, ap (λ gs. gs ++ s.given) (sym none));
   ends = s.ends;
-  own = s.own;
 }
 
 stops : (o : Operation) (w : World) (mid after : ScriptState) (x : Transition) (given : List Response)
     (first result : Stepped) →
-    AreOwn mid.world.actors → Makes w x given mid.world → EndsAs o given first → result ≡ first → after ≡ mid →
+    Makes w x given mid.world → EndsAs o given first → result ≡ first → after ≡ mid →
     StepsTo o w result after.world
-stops o w mid after x given first result own makes ends r a =
+stops o w mid after x given first result makes ends r a =
     subst (λ (y : ScriptState). StepsTo o w result y.world) (sym a)
     (subst (λ r. StepsTo o w r mid.world) (sym r)
-    (record { list = x ∷ []; given = given; leads = one_makes w mid.world x given makes; ends = ends; own = own }))
+    (record { list = x ∷ []; given = given; leads = one_makes w mid.world x given makes; ends = ends }))
 
 -- After an event with this result the call makes more steps.
 after_event : (n : ℕ) (o : Operation) (w : World) (mid : ScriptState) (actor : ℕ) (x : Transition)
     (given : List Response)
-    (first result : Stepped) (after : ScriptState) → AreOwn mid.world.actors →
-    CallsAs o (actor_at mid.world.actors actor) →
+    (first result : Stepped) (after : ScriptState) → CallsAs o (actor_at mid.world.actors actor) →
     Makes w x given mid.world → EndsAs o given first → GoesOn n mid actor first result after →
     StepsTo o w result after.world
-after_event zero o w mid actor x given stepped.Nothing result after own calls makes ends g =
-    stops o w mid after x given stepped.Nothing result own makes ends g.0 g.1
-after_event zero o w mid actor x given (stepped.Answer answer) result after own calls makes ends g =
-    stops o w mid after x given (stepped.Answer answer) result own makes ends g.0 g.1
-after_event zero o w mid actor x given stepped.Worn result after own calls makes ends g =
-    stops o w mid after x given stepped.Worn result own makes ends g.0 g.1
-after_event (suc n) o w mid actor x given (stepped.Answer answer) result after own calls makes ends g =
-    stops o w mid after x given (stepped.Answer answer) result own makes ends g.0 g.1
-after_event (suc n) o w mid actor x given stepped.Worn result after own calls makes ends g =
-    stops o w mid after x given stepped.Worn result own makes ends g.0 g.1
-after_event (suc n) o w mid actor x given stepped.Nothing result after own calls makes ends g =
+after_event zero o w mid actor x given stepped.Nothing result after calls makes ends g =
+    stops o w mid after x given stepped.Nothing result makes ends g.0 g.1
+after_event zero o w mid actor x given (stepped.Answer answer) result after calls makes ends g =
+    stops o w mid after x given (stepped.Answer answer) result makes ends g.0 g.1
+after_event zero o w mid actor x given stepped.Worn result after calls makes ends g =
+    stops o w mid after x given stepped.Worn result makes ends g.0 g.1
+after_event (suc n) o w mid actor x given (stepped.Answer answer) result after calls makes ends g =
+    stops o w mid after x given (stepped.Answer answer) result makes ends g.0 g.1
+after_event (suc n) o w mid actor x given stepped.Worn result after calls makes ends g =
+    stops o w mid after x given stepped.Worn result makes ends g.0 g.1
+after_event (suc n) o w mid actor x given stepped.Nothing result after calls makes ends g =
     let steps = g.2.0 in
-    let left = step_leaves o mid.world g.0.world steps.0 actor mid.moment own calls steps.1 in
+    let left = step_leaves o mid.world g.0.world steps.0 actor mid.moment calls steps.1 in
     goes_further o w mid.world after.world x given result makes ends
-    (after_event n o mid.world g.0 actor (Step actor mid.moment) steps.0 g.1 result after left.own left.calls steps.1
+    (after_event n o mid.world g.0 actor (Step actor mid.moment) steps.0 g.1 result after left.calls steps.1
     (ends_as o mid.world steps.0 g.1 left.of steps.2) g.3)
 
 -- The call of the actor makes at most this many steps.
 pub goes_on_to : (n : ℕ) (o : Operation) (s : ScriptState) (actor : ℕ) (result : Stepped) (after : ScriptState) →
-    AreOwn s.world.actors → CallsAs o (actor_at s.world.actors actor) → GoesOn n s actor stepped.Nothing result after →
+    CallsAs o (actor_at s.world.actors actor) → GoesOn n s actor stepped.Nothing result after →
     StepsTo o s.world result after.world
-goes_on_to zero o s actor result after own calls g =
+goes_on_to zero o s actor result after calls g =
     subst (λ (y : ScriptState). StepsTo o s.world result y.world) (sym g.1)
     (subst (λ r. StepsTo o s.world r s.world) (sym g.0)
-    (record { list = []; given = []; leads = (refl, refl); ends = refl; own = own }))
-goes_on_to (suc n) o s actor result after own calls g =
+    (record { list = []; given = []; leads = (refl, refl); ends = refl }))
+goes_on_to (suc n) o s actor result after calls g =
     let steps = g.2.0 in
-    let left = step_leaves o s.world g.0.world steps.0 actor s.moment own calls steps.1 in
-    after_event n o s.world g.0 actor (Step actor s.moment) steps.0 g.1 result after left.own left.calls steps.1
+    let left = step_leaves o s.world g.0.world steps.0 actor s.moment calls steps.1 in
+    after_event n o s.world g.0 actor (Step actor s.moment) steps.0 g.1 result after left.calls steps.1
     (ends_as o s.world steps.0 g.1 left.of steps.2) g.3
 
 asked_for : (asked : SystemCall) → asked_of (call_for asked) ≡ asked
@@ -178,17 +175,17 @@ asked_for (MsgctlRmid id) = refl
 -- A call is started, and makes its first steps.
 pub call_runs_to : (s : ScriptState) (actor : ℕ) (asked : SystemCall) (goes : Bool) (result : Stepped)
     (after : ScriptState) →
-    AreOwn s.world.actors → pending (actor_at s.world.actors actor) ≡ None →
+    pending (actor_at s.world.actors actor) ≡ None →
     CallRuns s actor asked goes result after →
     StepsTo (operation_of asked) s.world result after.world
-call_runs_to s actor asked goes result after own idle r =
+call_runs_to s actor asked goes result after idle r =
     let cred = r.2.0 in
     let steps = r.2.2.0 in
     let makes : Makes s.world (Start actor cred asked) steps.0 r.0.world =
     subst (λ a. Makes s.world (Start actor cred a) steps.0 r.0.world) (asked_for asked) steps.1 in
-    let left = start_leaves s.world r.0.world steps.0 actor cred asked own idle makes in
+    let left = start_leaves s.world r.0.world steps.0 actor cred asked idle makes in
     after_event (most_steps goes) (operation_of asked) s.world r.0 actor (Start actor cred asked) steps.0 r.1 result
-    after left.own left.calls makes (ends_as (operation_of asked) s.world steps.0 r.1 left.of steps.2) r.3
+    after left.calls makes (ends_as (operation_of asked) s.world steps.0 r.1 left.of steps.2) r.3
 
 pub steps_print : (o : Operation) (w : World) (result : Stepped) (actor : ℕ) (out : List ℕ) (after : World) →
     StepsTo o w result after → out ≡ printed after actor o result → LeadsPrinting w out after

@@ -20,15 +20,12 @@ use Rattle.sysv_script.specs.ScriptText.{Ending, Prints, Ends, Exceeds, Fails, G
 use Rattle.sysv_script.specs.Sofar.{PrintsSofar, Here, Past}
 use Rattle.sysv_script.specs.Results.{HasResults, Empty, LeadsPrinting, IsOfRunPrinting}
 use Rattle.sysv_script.specs.ScriptRun.{IsOfRun, FollowsPrinting, last_text, EachScriptIsARun}
-use Rattle.sysv_script.proofs.OwnOperation.{AreOwn, own_leads, own_opening, calls_pending}
+use Rattle.sysv_script.proofs.OwnOperation.{calls_pending}
 use Rattle.sysv_script.proofs.ResultsPrinted.{leads_append, print_both, rests, one_makes, without_result, goes_on_to}
 use Rattle.sysv_script.proofs.ResultsPrinted.{call_runs_to, steps_print}
 
 opens : (blocks : ℕ) → IsOfRun (opening_world blocks)
 opens blocks = (record { actors = SCRIPT_ACTORS; blocks = blocks; first = 0; generation = 0 }, [], [], (refl, refl))
-
-own_run : (w : World) → IsOfRun w → AreOwn w.actors
-own_run w run = own_leads (opening run.0) run.1 run.2 w (own_opening run.0) run.3
 
 run_on : (w : World) (out : List ℕ) (after : World) → IsOfRun w → LeadsPrinting w out after → IsOfRun after
 run_on w out after run l =
@@ -67,75 +64,68 @@ goes_on_fresh (suc n) s actor (stepped.Answer answer) given a h = ap (λ (m : Sc
 goes_on_fresh (suc n) s actor stepped.Worn given a h = ap (λ (m : ScriptState). m.fresh) h.1
 
 start_does : (s : ScriptState) (actor : ℕ) (asked : SystemCall) (goes : Bool) (o : Option Operation) (out : List ℕ)
-    (a : ScriptState) → AreOwn s.world.actors → pending (actor_at s.world.actors actor) ≡ o →
+    (a : ScriptState) → pending (actor_at s.world.actors actor) ≡ o →
     StartRuns s actor asked goes o out a → Does s out a
-start_does s actor asked goes (Some operation) out a own is h =
+start_does s actor asked goes (Some operation) out a is h =
     told s a out _ (without_result _ (actor, inr (inl refl))) h.0 h.1
-start_does s actor asked goes None out a own is h =
+start_does s actor asked goes None out a is h =
     let c : CallRuns s actor asked goes h.0 a = h.1 in (
       goes_on_fresh (most_steps goes) c.0 actor c.1 h.0 a c.3 ∙ ap (λ (m : ScriptState). m.fresh) c.2.2.1,
-      steps_print (operation_of asked) s.world h.0 actor out a.world (call_runs_to s actor asked goes h.0 a own is c)
+      steps_print (operation_of asked) s.world h.0 actor out a.world (call_runs_to s actor asked goes h.0 a is c)
           h.2,
     )
 
 steps_do : (n : ℕ) (s : ScriptState) (actor : ℕ) (o : Option Operation) (out : List ℕ) (a : ScriptState) →
-    AreOwn s.world.actors →
     pending (actor_at s.world.actors actor) ≡ o → StepsRun n s actor o out a → Does s out a
-steps_do n s actor None out a own is h = told s a out _ (without_result _ (actor, inr (inr (inl refl)))) h.0 h.1
-steps_do n s actor (Some operation) out a own is h = (
+steps_do n s actor None out a is h = told s a out _ (without_result _ (actor, inr (inr (inl refl)))) h.0 h.1
+steps_do n s actor (Some operation) out a is h = (
   goes_on_fresh n s actor stepped.Nothing h.0 a h.1,
   steps_print operation s.world h.0 actor out a.world
-      (goes_on_to n operation s actor h.0 a own (calls_pending s.world.actors actor operation own is) h.1) h.2,
+      (goes_on_to n operation s actor h.0 a (calls_pending operation (actor_at s.world.actors actor) is) h.1) h.2,
 )
 
 one_does : (s : ScriptState) (actor : ℕ) (o : Option Operation) (out : List ℕ) (a : ScriptState) →
-    AreOwn s.world.actors →
     pending (actor_at s.world.actors actor) ≡ o → OneRuns s actor o out a → Does s out a
-one_does s actor None out a own is h = unchanged s a out h.0 h.1
-one_does s actor (Some operation) out a own is h = steps_do 16 s actor (Some operation) out a own is h
+one_does s actor None out a is h = unchanged s a out h.0 h.1
+one_does s actor (Some operation) out a is h = steps_do 16 s actor (Some operation) out a is h
 
-own_after : (s a : ScriptState) (out : List ℕ) → AreOwn s.world.actors → Does s out a → AreOwn a.world.actors
-own_after s a out own d = own_leads s.world d.1.0 d.1.1 a.world own d.1.2
-
-all_do : (actors : List ℕ) (s : ScriptState) (out : List ℕ) (a : ScriptState) → AreOwn s.world.actors →
-    AllRun actors s out a →
+all_do : (actors : List ℕ) (s : ScriptState) (out : List ℕ) (a : ScriptState) → AllRun actors s out a →
     Does s out a
-all_do [] s out a own h = unchanged s a out h.0 h.1
-all_do (actor ∷ actors) s out a own h =
-    let one = one_does s actor (pending (actor_at s.world.actors actor)) h.1 h.0 own refl h.3 in
-    let rest = all_do actors h.0 h.2 a (own_after s h.0 h.1 own one) h.4 in (
+all_do [] s out a h = unchanged s a out h.0 h.1
+all_do (actor ∷ actors) s out a h =
+    let one = one_does s actor (pending (actor_at s.world.actors actor)) h.1 h.0 refl h.3 in
+    let rest = all_do actors h.0 h.2 a h.4 in (
       rest.0 ∙ one.0,
       subst (λ out. LeadsPrinting s.world out a.world) (sym h.5)
           (print_both s.world h.1 h.2 h.0.world a.world one.1 rest.1),
     )
 
 act_does : (s : ScriptState) (said : Said) (understood : Bool) (out : List ℕ) (a : ScriptState) →
-    AreOwn s.world.actors →
     LineActs s said understood out a → Does s out a
-act_does s Nothing understood out a own h = unchanged s a out h.1 h.2
-act_does s (GivesBlocks blocks) understood out a own h = unchanged s a out h.1 h.2
-act_does s MakesPreset understood out a own h = (
+act_does s Nothing understood out a h = unchanged s a out h.1 h.2
+act_does s (GivesBlocks blocks) understood out a h = unchanged s a out h.1 h.2
+act_does s MakesPreset understood out a h = (
   ap (λ (m : ScriptState). m.fresh) h.2,
   subst (λ out. LeadsPrinting s.world out a.world) (sym h.1)
       (Preset ∷ [], [], one_makes s.world a.world Preset [] (refl, (understood, h.0)), Empty),
 )
-act_does s (GivesCred actor cred) understood out a own h = (
+act_does s (GivesCred actor cred) understood out a h = (
   ap (λ (m : ScriptState). m.fresh) h.2,
   subst (λ out. LeadsPrinting s.world out a.world) (sym h.1)
       (rests s.world a.world (ap (λ (m : ScriptState). m.world) h.2)),
 )
-act_does s (GivesMoment moment) understood out a own h = (
+act_does s (GivesMoment moment) understood out a h = (
   ap (λ (m : ScriptState). m.fresh) h.2,
   subst (λ out. LeadsPrinting s.world out a.world) (sym h.1)
       (rests s.world a.world (ap (λ (m : ScriptState). m.world) h.2)),
 )
-act_does s (Starts actor asked goes) understood out a own h =
-    start_does s actor asked goes (pending (actor_at s.world.actors actor)) out a own refl h.1
-act_does s (StepsOnce actor) understood out a own h =
-    steps_do 1 s actor (pending (actor_at s.world.actors actor)) out a own refl h.1
-act_does s (Continues actor) understood out a own h =
-    steps_do 16 s actor (pending (actor_at s.world.actors actor)) out a own refl h.1
-act_does s AllContinue understood out a own h = all_do (range_with_len 1 16) s out a own h.1
+act_does s (Starts actor asked goes) understood out a h =
+    start_does s actor asked goes (pending (actor_at s.world.actors actor)) out a refl h.1
+act_does s (StepsOnce actor) understood out a h =
+    steps_do 1 s actor (pending (actor_at s.world.actors actor)) out a refl h.1
+act_does s (Continues actor) understood out a h =
+    steps_do 16 s actor (pending (actor_at s.world.actors actor)) out a refl h.1
+act_does s AllContinue understood out a h = all_do (range_with_len 1 16) s out a h.1
 
 -- ---- a line
 
@@ -172,27 +162,26 @@ pool_follows false s blocks out a is o e = record {
 }
 
 line_follows : (s : ScriptState) (said : Said) (understood : Bool) (out : List ℕ) (a : ScriptState) →
-    AreOwn s.world.actors →
     LineRuns s said understood out a → Follows s out a
-line_follows s Nothing understood out a own h = record {
+line_follows s Nothing understood out a h = record {
   printing = inl (unchanged s a out h.1 h.2).1;
   skipped = λ f. (h.1, sym (ap (λ (m : ScriptState). m.fresh) h.2) ∙ f);
 }
-line_follows s (GivesBlocks blocks) understood out a own h = pool_follows s.fresh s blocks out a refl h.0 h.1.1
-line_follows s MakesPreset understood out a own h =
-    begun s out a (act_does (begun_script_state s) MakesPreset understood out a own h)
-line_follows s (GivesCred actor cred) understood out a own h =
-    begun s out a (act_does (begun_script_state s) (GivesCred actor cred) understood out a own h)
-line_follows s (GivesMoment moment) understood out a own h =
-    begun s out a (act_does (begun_script_state s) (GivesMoment moment) understood out a own h)
-line_follows s (Starts actor asked goes) understood out a own h =
-    begun s out a (act_does (begun_script_state s) (Starts actor asked goes) understood out a own h)
-line_follows s (StepsOnce actor) understood out a own h =
-    begun s out a (act_does (begun_script_state s) (StepsOnce actor) understood out a own h)
-line_follows s (Continues actor) understood out a own h =
-    begun s out a (act_does (begun_script_state s) (Continues actor) understood out a own h)
-line_follows s AllContinue understood out a own h =
-    begun s out a (act_does (begun_script_state s) AllContinue understood out a own h)
+line_follows s (GivesBlocks blocks) understood out a h = pool_follows s.fresh s blocks out a refl h.0 h.1.1
+line_follows s MakesPreset understood out a h =
+    begun s out a (act_does (begun_script_state s) MakesPreset understood out a h)
+line_follows s (GivesCred actor cred) understood out a h =
+    begun s out a (act_does (begun_script_state s) (GivesCred actor cred) understood out a h)
+line_follows s (GivesMoment moment) understood out a h =
+    begun s out a (act_does (begun_script_state s) (GivesMoment moment) understood out a h)
+line_follows s (Starts actor asked goes) understood out a h =
+    begun s out a (act_does (begun_script_state s) (Starts actor asked goes) understood out a h)
+line_follows s (StepsOnce actor) understood out a h =
+    begun s out a (act_does (begun_script_state s) (StepsOnce actor) understood out a h)
+line_follows s (Continues actor) understood out a h =
+    begun s out a (act_does (begun_script_state s) (Continues actor) understood out a h)
+line_follows s AllContinue understood out a h =
+    begun s out a (act_does (begun_script_state s) AllContinue understood out a h)
 
 run_after : (s : ScriptState) (out : List ℕ) (after : World) → IsOfRun s.world → FollowsPrinting s out after →
     IsOfRun after
@@ -217,7 +206,7 @@ text_follows : (s : ScriptState) (n : ℕ) (text out left : List ℕ) (there : S
     IsOfRun s.world → FollowsPrinting s out there.world
 text_follows s n text out left there (Here _ _ _) run = inl (rests s.world s.world refl)
 text_follows s n text out left there (Past _ _ _ line rest first after more _ _ few begins does p) run =
-    let f = line_follows s does.0 true first after (own_run s.world run) does.2 in
+    let f = line_follows s does.0 true first after does.2 in
     past s first after more there.world f
     (text_follows after (n + 1) rest more left there p (run_after s first after.world run f.printing))
 
@@ -264,7 +253,7 @@ pub each_script_is_a_run : EachScriptIsARun
 each_script_is_a_run = record {
   opens = opens 1024;
   line = λ s said understood out after h run.
-      let f = line_follows s said understood out after (own_run s.world run) h in
+      let f = line_follows s said understood out after h in
       (run_after s out after.world run f.printing, f.printing);
   text = λ s n text out left there h run.
       let f = text_follows s n text out left there h run in (run_after s out there.world run f, f);

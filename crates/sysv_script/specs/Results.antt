@@ -1,6 +1,7 @@
 -- What a script prints for calls (this project's script language): a line for the result of each
 -- call that is over, and between these, lines for calls that have no result yet.
 use Rattle.std.specs.Prelude.{◌≡◌, ◌⊎◌, ℕ, List, [], ◌∷◌, ◌++◌, unwrap_or}
+use Rattle.sysv_steps.specs.Call.{Kind}
 use Rattle.sysv_steps.specs.State.{State}
 use Rattle.sysv_core.specs.World.{World, Opening, Transition, Response, opening}
 use Rattle.sysv_core.specs.Run.{Leads}
@@ -20,7 +21,7 @@ IsResultOf g line = (a : Answer) × Tells g a
 -- it is idle, or the world is worn out.
 abbrev pub IsWithoutResult : List ℕ → Type 0
 IsWithoutResult line = (actor : ℕ)
-    × (((state : State) × (line ≡ standing_text actor state ++ 10 ∷ []))
+    × (((kind : Kind) × (state : State kind) × (line ≡ standing_text actor state ++ 10 ∷ []))
     ⊎ ((line ≡ head_text (head.Busy actor) ++ 10 ∷ [])
     ⊎ ((line ≡ head_text (head.Idle actor) ++ 10 ∷ []) ⊎ (line ≡ head_text (head.Worn actor) ++ 10 ∷ []))))
 

@@ -21,7 +21,7 @@ use Rattle.sysv_script.specs.Said.{AllContinue, GivesBlocks}
 use Rattle.sysv_script.specs.declared.names.Operation.{Operation}
 use Rattle.sysv_script.specs.declared.head.Head.TheVariants as head
 use Rattle.sysv_script.specs.Heads.{head_text}
-use Rattle.sysv_script.specs.Names.{operation_in, operation_of, standing_text}
+use Rattle.sysv_script.specs.Names.{operation_of, standing_text}
 use Rattle.sysv_script.specs.declared.actor.TheConstants.{SCRIPT_ACTORS}
 use Rattle.sysv_script.specs.declared.stage.TheConstants.{SCRIPT_BLOCKS, MAX_STEPS}
 
@@ -67,7 +67,7 @@ in_world s world = record s { world = world }
 abbrev pub pending : Option (Option Doing) → Option Operation
 pending None = None
 pending (Some None) = None
-pending (Some (Some doing)) = operation_in doing.state
+pending (Some (Some doing)) = Some (operation_of doing.call.asked)
 
 -- One event in the world. The rest of the script state stays as it was.
 abbrev pub Advances : ScriptState → Event → Stepped → ScriptState → Type 0

@@ -50,7 +50,7 @@ pub enum Head {
 impl Head {
     /// Returns the line for an actor that is in this call.
     pub fn of_doing(actor: u32, doing: &Doing) -> Head
-        ensures { head_text result ≡ standing_text actor (doing_state doing.now) }
+        ensures { head_text result ≡ standing_text actor (doing_state doing.now).state }
     {
         let operation = Operation::of_doing(doing);
         match Step::of_doing(doing) {

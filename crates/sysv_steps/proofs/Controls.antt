@@ -15,6 +15,7 @@ use Rattle.sysv_model.specs.Registry.{RegistryCall, Forget, RegistryReply, Chang
 use Rattle.sysv_model.specs.Pool.{PoolCall, PoolReply, Released, Foreign}
 use Rattle.sysv_model.specs.Turn.{Op, AtSlot, AtRegistry, AtPool, asked_by}
 use Rattle.sysv_queue.specs.Blocks.{blocks_of}
+use Rattle.sysv_steps.specs.Call.{Stats, Sets, Removes}
 use Rattle.sysv_steps.specs.Call.{SystemCall, MsgctlStat, MsgctlSet, MsgctlRmid}
 use Rattle.sysv_steps.specs.State.{Phase, AtStat, AtSet, AtSetGiveback, AtRemove, AtForget, AtRemoveGiveback, Ending}
 use Rattle.sysv_steps.specs.State.{Zero, Told, Refused, State, Goes, Waits, Over}
@@ -44,7 +45,7 @@ none_back asked ops ending why r f (inr t) = let e : [] ≡ why ∷ [] = sym f �
 -- ---- IPC_STAT
 
 module _ (id : ℤ) where
-  abbrev StatAt : List Op → State → Type 0
+  abbrev StatAt : List Op → State Stats → Type 0
   StatAt ops (Goes (AtStat cred at)) = (is_refused (MsgctlStat id) ≡ false) × (ops ≡ [])
   StatAt ops (Over ending) = IsRightStat (MsgctlStat id) ops ending
   StatAt ops state = ⊥
@@ -76,7 +77,7 @@ module _ (id : ℤ) where
     only = inr (is, refl);
   }
 
-  stat_step : (cred : Cred) (at : ℤ) (slot : ℕ) (call : Call) (reply : Reply) (after : State) →
+  stat_step : (cred : Cred) (at : ℤ) (slot : ℕ) (call : Call) (reply : Reply) (after : State Stats) →
       is_refused (MsgctlStat id) ≡ false →
       next (AtStat cred at) (AtSlot slot call reply) ≡ Some after → StatAt (AtSlot slot call reply ∷ []) after
   stat_step cred at slot call (TellsStat stat) after r n =
@@ -87,15 +88,14 @@ module _ (id : ℤ) where
       subst (StatAt (AtSlot slot call (IsRefusedFor why) ∷ [])) e (stat_refused slot call why r)
   stat_step cred at slot call reply after r n = absurd cc
 
-  stat_more : (ops : List Op) (phase : Phase) (op : Op) (after : State) → StatAt ops (Goes phase) →
+  stat_more : (ops : List Op) (phase : Phase Stats) (op : Op) (after : State Stats) → StatAt ops (Goes phase) →
       next phase op ≡ Some after → StatAt (ops ++ op ∷ []) after
   stat_more ops (AtStat cred at) (AtSlot slot call reply) after h n =
       subst (λ (ds : List Op). StatAt (ds ++ AtSlot slot call reply ∷ []) after) (sym h.1)
       (stat_step cred at slot call reply after h.0 n)
   stat_more ops (AtStat cred at) op after h n = absurd cc
-  stat_more ops phase op after h n = absurd h
 
-  pub stat_at : (cred : Cred) (released : ℕ) (ops : List Op) (state : State) →
+  pub stat_at : (cred : Cred) (released : ℕ) (ops : List Op) (state : State Stats) →
       Plays (begin cred (MsgctlStat id) released) ops state → StatAt ops state
   stat_at cred released _ _ begins = stat_started cred released (is_refused (MsgctlStat id)) refl
   stat_at cred released _ _ (steps {ops} {phase} op now after p asked n) =
@@ -105,7 +105,7 @@ module _ (id : ℤ) where
 -- ---- IPC_SET
 
 module _ (id : ℤ) (to : SetTo) where
-  abbrev SetAt : List Op → State → Type 0
+  abbrev SetAt : List Op → State Sets → Type 0
   SetAt ops (Goes (AtSet cred at what)) = (is_refused (MsgctlSet id to) ≡ false) × (ops ≡ [])
   SetAt ops (Goes AtSetGiveback) =
       (is_refused (MsgctlSet id to) ≡ false) × ((slot : ℕ) × (call : Call) × (ops ≡ AtSlot slot call Done ∷ []))
@@ -144,7 +144,7 @@ module _ (id : ℤ) (to : SetTo) where
     only = inr (is, refl);
   }
 
-  set_step : (cred : Cred) (at : ℤ) (what : SetTo) (slot : ℕ) (call : Call) (reply : Reply) (after : State) →
+  set_step : (cred : Cred) (at : ℤ) (what : SetTo) (slot : ℕ) (call : Call) (reply : Reply) (after : State Sets) →
       is_refused (MsgctlSet id to) ≡ false →
       next (AtSet cred at what) (AtSlot slot call reply) ≡ Some after → SetAt (AtSlot slot call reply ∷ []) after
   set_step cred at what slot call Done after r n =
@@ -154,7 +154,7 @@ module _ (id : ℤ) (to : SetTo) where
       subst (SetAt (AtSlot slot call (IsRefusedFor why) ∷ [])) e (set_refused slot call why r)
   set_step cred at what slot call reply after r n = absurd cc
 
-  set_giveback : (slot : ℕ) (call : Call) (giveback : PoolCall) (reply : PoolReply) (after : State) →
+  set_giveback : (slot : ℕ) (call : Call) (giveback : PoolCall) (reply : PoolReply) (after : State Sets) →
       is_refused (MsgctlSet id to) ≡ false →
       next AtSetGiveback (AtPool giveback reply) ≡ Some after →
       SetAt (AtSlot slot call Done ∷ AtPool giveback reply ∷ []) after
@@ -166,7 +166,7 @@ module _ (id : ℤ) (to : SetTo) where
       subst (SetAt (AtSlot slot call Done ∷ AtPool giveback Foreign ∷ [])) e (set_done slot call giveback Foreign r)
   set_giveback slot call giveback reply after r n = absurd cc
 
-  set_more : (ops : List Op) (phase : Phase) (op : Op) (after : State) → SetAt ops (Goes phase) →
+  set_more : (ops : List Op) (phase : Phase Sets) (op : Op) (after : State Sets) → SetAt ops (Goes phase) →
       next phase op ≡ Some after → SetAt (ops ++ op ∷ []) after
   set_more ops (AtSet cred at what) (AtSlot slot call reply) after h n =
       subst (λ (ds : List Op). SetAt (ds ++ AtSlot slot call reply ∷ []) after) (sym h.1)
@@ -176,9 +176,8 @@ module _ (id : ℤ) (to : SetTo) where
       (set_giveback h.1.0 h.1.1 giveback reply after h.0 n)
   set_more ops (AtSet cred at what) op after h n = absurd cc
   set_more ops AtSetGiveback op after h n = absurd cc
-  set_more ops phase op after h n = absurd h
 
-  pub set_at : (cred : Cred) (released : ℕ) (ops : List Op) (state : State) →
+  pub set_at : (cred : Cred) (released : ℕ) (ops : List Op) (state : State Sets) →
       Plays (begin cred (MsgctlSet id to) released) ops state → SetAt ops state
   set_at cred released _ _ begins = set_started cred released (is_refused (MsgctlSet id to)) refl
   set_at cred released _ _ (steps {ops} {phase} op now after p asked n) =
@@ -188,7 +187,7 @@ module _ (id : ℤ) (to : SetTo) where
 -- ---- IPC_RMID
 
 module _ (id : ℤ) where
-  abbrev RemovalAt : List Op → State → Type 0
+  abbrev RemovalAt : List Op → State Removes → Type 0
   RemovalAt ops (Goes (AtRemove cred at)) = (is_refused (MsgctlRmid id) ≡ false) × (ops ≡ [])
   RemovalAt ops (Goes (AtForget at blocks)) =
       (is_refused (MsgctlRmid id) ≡ false)
@@ -240,7 +239,7 @@ module _ (id : ℤ) where
     only = inr (is, refl);
   }
 
-  remove_step : (cred : Cred) (at : ℤ) (slot : ℕ) (call : Call) (reply : Reply) (after : State) →
+  remove_step : (cred : Cred) (at : ℤ) (slot : ℕ) (call : Call) (reply : Reply) (after : State Removes) →
       is_refused (MsgctlRmid id) ≡ false →
       next (AtRemove cred at) (AtSlot slot call reply) ≡ Some after → RemovalAt (AtSlot slot call reply ∷ []) after
   remove_step cred at slot call (Discarded messages) after r n =
@@ -252,7 +251,7 @@ module _ (id : ℤ) where
   remove_step cred at slot call reply after r n = absurd cc
 
   forget_step : (slot : ℕ) (call : Call) (messages : List Message) (at by : ℤ) (blocks : ℕ) (reply : RegistryReply)
-      (after : State) → is_refused (MsgctlRmid id) ≡ false →
+      (after : State Removes) → is_refused (MsgctlRmid id) ≡ false →
       next (AtForget at blocks) (AtRegistry (Forget by) reply) ≡ Some after →
       RemovalAt (AtSlot slot call (Discarded messages) ∷ AtRegistry (Forget by) reply ∷ []) after
   forget_step slot call messages at by blocks (Changed done) after r n =
@@ -262,7 +261,7 @@ module _ (id : ℤ) where
   forget_step slot call messages at by blocks reply after r n = absurd cc
 
   removal_giveback : (slot : ℕ) (call : Call) (messages : List Message) (at : ℤ) (reply : RegistryReply) (blocks : ℕ)
-      (giveback : PoolCall) (back : PoolReply) (after : State) → is_refused (MsgctlRmid id) ≡ false →
+      (giveback : PoolCall) (back : PoolReply) (after : State Removes) → is_refused (MsgctlRmid id) ≡ false →
       next (AtRemoveGiveback blocks) (AtPool giveback back) ≡ Some after →
       RemovalAt (AtSlot slot call (Discarded messages) ∷ AtRegistry (Forget at) reply ∷ AtPool giveback back ∷ []) after
   removal_giveback slot call messages at reply blocks giveback Released after r n =
@@ -275,7 +274,7 @@ module _ (id : ℤ) where
       ∷ [])) e (removed slot call messages at reply giveback Foreign r)
   removal_giveback slot call messages at reply blocks giveback back after r n = absurd cc
 
-  removal_more : (ops : List Op) (phase : Phase) (op : Op) (now : ℕ) (after : State) →
+  removal_more : (ops : List Op) (phase : Phase Removes) (op : Op) (now : ℕ) (after : State Removes) →
       RemovalAt ops (Goes phase) → asked_by op ≡ asks phase now → next phase op ≡ Some after →
       RemovalAt (ops ++ op ∷ []) after
   removal_more ops (AtRemove cred at) (AtSlot slot call reply) now after h is n =
@@ -292,9 +291,8 @@ module _ (id : ℤ) where
   removal_more ops (AtRemove cred at) op now after h is n = absurd cc
   removal_more ops (AtForget at blocks) op now after h is n = absurd cc
   removal_more ops (AtRemoveGiveback blocks) op now after h is n = absurd cc
-  removal_more ops phase op now after h is n = absurd h
 
-  pub removal_at : (cred : Cred) (released : ℕ) (ops : List Op) (state : State) →
+  pub removal_at : (cred : Cred) (released : ℕ) (ops : List Op) (state : State Removes) →
       Plays (begin cred (MsgctlRmid id) released) ops state → RemovalAt ops state
   removal_at cred released _ _ begins = removal_started cred released (is_refused (MsgctlRmid id)) refl
   removal_at cred released _ _ (steps {ops} {phase} op now after p asked n) =

@@ -12,6 +12,7 @@ use Rattle.sysv_model.specs.Registry.{Begin, Forget, RegistryReply, Found, Made,
 use Rattle.sysv_model.specs.Pool.{Reserve, PoolReply, Reserved, TooFew, Released, Foreign}
 use Rattle.sysv_model.specs.Turn.{OfSlot, OfRegistry, OfPool, Op, AtSlot, AtRegistry, AtPool, asked_by}
 use Rattle.sysv_keys.specs.Identifier.{slot_of_id}
+use Rattle.sysv_steps.specs.Call.{Gets, Sends, Receives, Stats, Sets, Removes, kind_of}
 use Rattle.sysv_steps.specs.Call.{SystemCall, Msgget, Msgsnd, Msgrcv, MsgctlStat, MsgctlSet, MsgctlRmid}
 use Rattle.sysv_steps.specs.State.{Getting, Sending, Receiving, Wait, OnSettled, OnFreed, OnReleased, OnArrived}
 use Rattle.sysv_steps.specs.State.{Afterwards, IsRefused, WaitsOn, Phase, AtBegin, AtInstall, AtSettle, AtProbe}
@@ -30,7 +31,7 @@ use Rattle.sysv_steps.specs.HoldsAsked.{IsGet, IsSend, IsReceive, WaitHolds, Aft
 
 -- ---- what a call holds is what it was asked
 
-abbrev NextOf : Cred → SystemCall → Option State → Type 0
+abbrev NextOf : Cred → (asked : SystemCall) → Option (State (kind_of asked)) → Type 0
 NextOf cred asked None = Unit {0}
 NextOf cred asked (Some state) = Holds cred asked state
 
@@ -49,12 +50,12 @@ begun_of cred (MsgctlRmid id) released false = (refl, refl)
 
 module _ (cred : Cred) where
   -- A call that waits holds what it held, at once or after it has released its chain.
-  after_keeps : (asked : SystemCall) (nowait : Bool) (wait : Wait) (why : Errno) → WaitHolds cred asked wait →
+  after_keeps : (asked : SystemCall) (nowait : Bool) (wait : Wait (kind_of asked)) (why : Errno) → WaitHolds cred asked wait →
       AfterwardsHolds cred asked (waits_or nowait wait why)
   after_keeps asked true wait why h = tt
   after_keeps asked false wait why h = h
 
-  waits_keep : (asked : SystemCall) (nowait : Bool) (wait : Wait) (why : Errno) → WaitHolds cred asked wait →
+  waits_keep : (asked : SystemCall) (nowait : Bool) (wait : Wait (kind_of asked)) (why : Errno) → WaitHolds cred asked wait →
       Holds cred asked (goes_on (waits_or nowait wait why))
   waits_keep asked true wait why h = tt
   waits_keep asked false wait why h = h
@@ -87,14 +88,14 @@ module _ (cred : Cred) where
   unmake_keeps key flags (Changed done) = tt
   unmake_keeps key flags reply = tt
 
-  got : (key : ℤ) (flags : Flags) (phase : Phase) (op : Op) → PhaseHolds cred (Msgget key flags) phase →
+  got : (key : ℤ) (flags : Flags) (phase : Phase Gets) (op : Op) → PhaseHolds cred (Msgget key flags) phase →
       NextOf cred (Msgget key flags) (next phase op)
   got key flags (AtBegin get) (AtRegistry call reply) h = begin_keeps key flags get reply h
   got key flags (AtInstall get id) (AtSlot slot call reply) h = install_keeps key flags id reply
   got key flags (AtSettle id) (AtRegistry call reply) h = settle_keeps key flags id reply
   got key flags (AtProbe get id settled) (AtSlot slot call reply) h = probe_keeps key flags get id settled reply h
   got key flags (AtUnmake id) (AtRegistry call reply) h = unmake_keeps key flags reply
-  got key flags phase op h = search h
+  got key flags phase op h = tt
 
   -- msgsnd
   module _ (id mtype : ℤ) (flags : Flags) (text : List ℕ) where
@@ -124,7 +125,7 @@ module _ (cred : Cred) where
         record { cred = h.cred; id = h.id; mtype = h.mtype; text = h.text }
     place_keeps send blocks reply h = tt
 
-    giveback_keeps : (afterwards : Afterwards) (reply : PoolReply) →
+    giveback_keeps : (afterwards : Afterwards Sends) (reply : PoolReply) →
         AfterwardsHolds cred (Msgsnd id mtype flags text) afterwards →
         NextOf cred (Msgsnd id mtype flags text) (after_giveback (goes_on afterwards) reply)
     giveback_keeps (IsRefused why) Released h = tt
@@ -133,13 +134,13 @@ module _ (cred : Cred) where
     giveback_keeps (WaitsOn wait) Foreign h = h
     giveback_keeps (WaitsOn wait) reply h = tt
 
-    sent : (phase : Phase) (op : Op) → PhaseHolds cred (Msgsnd id mtype flags text) phase →
+    sent : (phase : Phase Sends) (op : Op) → PhaseHolds cred (Msgsnd id mtype flags text) phase →
         NextOf cred (Msgsnd id mtype flags text) (next phase op)
     sent (AtLook send) (AtSlot slot call reply) h = look_keeps send reply h
     sent (AtReserve send) (AtPool call reply) h = reserve_keeps send reply h
     sent (AtPlace send blocks) (AtSlot slot call reply) h = place_keeps send blocks reply h
     sent (AtSendGiveback blocks afterwards) (AtPool call reply) h = giveback_keeps afterwards reply h
-    sent phase op h = search h
+    sent phase op h = tt
 
   -- msgrcv
   take_keeps : (id : ℤ) (size : ℕ) (mtype : ℤ) (flags : Flags) (receive : Receiving) (reply : Reply) →
@@ -155,13 +156,13 @@ module _ (cred : Cred) where
   over_keeps asked ending Released = tt
   over_keeps asked ending reply = tt
 
-  received : (id : ℤ) (size : ℕ) (mtype : ℤ) (flags : Flags) (phase : Phase) (op : Op) →
+  received : (id : ℤ) (size : ℕ) (mtype : ℤ) (flags : Flags) (phase : Phase Receives) (op : Op) →
       PhaseHolds cred (Msgrcv id size mtype flags) phase → NextOf cred (Msgrcv id size mtype flags) (next phase op)
   received id size mtype flags (AtTake receive) (AtSlot slot call reply) h =
       take_keeps id size mtype flags receive reply h
   received id size mtype flags (AtReceiveGiveback blocks type text) (AtPool call reply) h =
       over_keeps (Msgrcv id size mtype flags) (Got type text) reply
-  received id size mtype flags phase op h = search h
+  received id size mtype flags phase op h = tt
 
   -- msgctl
   stat_keeps : (id : ℤ) (reply : Reply) → NextOf cred (MsgctlStat id) (after_stat reply)
@@ -180,25 +181,25 @@ module _ (cred : Cred) where
   forget_keeps id blocks (Changed done) = tt
   forget_keeps id blocks reply = tt
 
-  told : (id : ℤ) (phase : Phase) (op : Op) → PhaseHolds cred (MsgctlStat id) phase →
+  told : (id : ℤ) (phase : Phase Stats) (op : Op) → PhaseHolds cred (MsgctlStat id) phase →
       NextOf cred (MsgctlStat id) (next phase op)
   told id (AtStat by at) (AtSlot slot call reply) h = stat_keeps id reply
-  told id phase op h = search h
+  told id phase op h = tt
 
-  set : (id : ℤ) (to : SetTo) (phase : Phase) (op : Op) → PhaseHolds cred (MsgctlSet id to) phase →
+  set : (id : ℤ) (to : SetTo) (phase : Phase Sets) (op : Op) → PhaseHolds cred (MsgctlSet id to) phase →
       NextOf cred (MsgctlSet id to) (next phase op)
   set id to (AtSet by at what) (AtSlot slot call reply) h = set_keeps id to reply
   set id to AtSetGiveback (AtPool call reply) h = over_keeps (MsgctlSet id to) Zero reply
-  set id to phase op h = search h
+  set id to phase op h = tt
 
-  removed : (id : ℤ) (phase : Phase) (op : Op) → PhaseHolds cred (MsgctlRmid id) phase →
+  removed : (id : ℤ) (phase : Phase Removes) (op : Op) → PhaseHolds cred (MsgctlRmid id) phase →
       NextOf cred (MsgctlRmid id) (next phase op)
   removed id (AtRemove by at) (AtSlot slot call reply) h = remove_keeps id at reply h.1
   removed id (AtForget at blocks) (AtRegistry call reply) h = forget_keeps id blocks reply
   removed id (AtRemoveGiveback blocks) (AtPool call reply) h = over_keeps (MsgctlRmid id) Zero reply
-  removed id phase op h = search h
+  removed id phase op h = tt
 
-  keeps : (asked : SystemCall) (phase : Phase) (op : Op) → PhaseHolds cred asked phase →
+  keeps : (asked : SystemCall) (phase : Phase (kind_of asked)) (op : Op) → PhaseHolds cred asked phase →
       NextOf cred asked (next phase op)
   keeps (Msgget key flags) phase op h = got key flags phase op h
   keeps (Msgsnd id mtype flags text) phase op h = sent id mtype flags text phase op h
@@ -207,18 +208,18 @@ module _ (cred : Cred) where
   keeps (MsgctlSet id to) phase op h = set id to phase op h
   keeps (MsgctlRmid id) phase op h = removed id phase op h
 
-  resumes_so : (asked : SystemCall) (wait : Wait) (value : ℕ) → WaitHolds cred asked wait →
+  resumes_so : (asked : SystemCall) (wait : Wait (kind_of asked)) (value : ℕ) → WaitHolds cred asked wait →
       PhaseHolds cred asked (resume wait value)
   resumes_so (Msgget key flags) (OnSettled goal get) value h = h
   resumes_so (Msgsnd id mtype flags text) (OnFreed goal send) value h = h
   resumes_so (Msgsnd id mtype flags text) (OnReleased goal send) value h =
       record { cred = h.cred; id = h.id; mtype = h.mtype; text = h.text }
   resumes_so (Msgrcv id size mtype flags) (OnArrived goal receive) value h = h
-  resumes_so asked wait value h = absurd h
+  resumes_so asked wait value h = elim wait [ ]
 
   -- ---- what it asks then
 
-  asks_so : (asked : SystemCall) (phase : Phase) (now : ℕ) → PhaseHolds cred asked phase →
+  asks_so : (asked : SystemCall) (phase : Phase (kind_of asked)) (now : ℕ) → PhaseHolds cred asked phase →
       AsksFor cred asked (asks phase now)
   asks_so (Msgget key flags) (AtBegin get) now h = inl (ap (λ (g : Getting). OfRegistry (Begin g.key g.flags)) h.is)
   asks_so (Msgget key flags) (AtInstall get id) now h =
@@ -242,15 +243,14 @@ module _ (cred : Cred) where
   asks_so (MsgctlRmid id) (AtRemove by at) now h = let c = h.0 in let i = h.1 in inl cc
   asks_so (MsgctlRmid id) (AtForget at blocks) now h = inr (inl (ap (λ (i : ℤ). OfRegistry (Forget i)) h))
   asks_so (MsgctlRmid id) (AtRemoveGiveback blocks) now h = inr (inr (blocks, refl))
-  asks_so asked phase now h = absurd h
 
 -- ---- along a play
 
-record Asked (cred : Cred) (asked : SystemCall) (ops : List Op) (state : State) : Type 0 where
+record Asked (cred : Cred) (asked : SystemCall) (ops : List Op) (state : State (kind_of asked)) : Type 0 where
   holds : Holds cred asked state
   all : AllAskFor cred asked ops
 
-after_one : (cred : Cred) (asked : SystemCall) (phase : Phase) (op : Op) (now : ℕ) (after : State)
+after_one : (cred : Cred) (asked : SystemCall) (phase : Phase (kind_of asked)) (op : Op) (now : ℕ) (after : State (kind_of asked))
     (ops : List Op) →
     asked_by op ≡ asks phase now → next phase op ≡ Some after → Asked cred asked ops (Goes phase) →
     Asked cred asked (ops ++ op ∷ []) after
@@ -260,7 +260,7 @@ after_one cred asked phase op now after ops is n a = record {
       (subst (AsksFor cred asked) (sym is) (asks_so cred asked phase now a.holds));
 }
 
-along : (cred : Cred) (asked : SystemCall) (released : ℕ) (ops : List Op) (state : State) →
+along : (cred : Cred) (asked : SystemCall) (released : ℕ) (ops : List Op) (state : State (kind_of asked)) →
     Plays (begin cred asked released) ops state → Asked cred asked ops state
 along cred asked released _ _ begins =
     record { holds = begun_of cred asked released (is_refused asked); all = λ k d low. absurd (omega (arith, low)) }
@@ -270,10 +270,10 @@ along cred asked released _ _ (resumes {ops} {wait} value p least) =
     let before = along cred asked released ops (Waits wait) p in
     record { holds = resumes_so cred asked wait value before.holds; all = before.all }
 
-pub each_asked : (cred : Cred) (asked : SystemCall) (released : ℕ) (ops : List Op) (state : State) →
+pub each_asked : (cred : Cred) (asked : SystemCall) (released : ℕ) (ops : List Op) (state : State (kind_of asked)) →
     Plays (begin cred asked released) ops state → AllAskFor cred asked ops
 each_asked cred asked released ops state p = (along cred asked released ops state p).all
 
-pub each_holds_asked : (cred : Cred) (asked : SystemCall) (released : ℕ) (ops : List Op) (state : State) →
+pub each_holds_asked : (cred : Cred) (asked : SystemCall) (released : ℕ) (ops : List Op) (state : State (kind_of asked)) →
     Plays (begin cred asked released) ops state → Holds cred asked state
 each_holds_asked cred asked released ops state p = (along cred asked released ops state p).holds

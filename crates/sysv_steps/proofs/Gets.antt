@@ -13,6 +13,7 @@ use Rattle.sysv_model.specs.History.{Call, Install, Probe, Reply, Installed, Gon
 use Rattle.sysv_model.specs.Registry.{RegistryCall, Begin, Settle, RegistryReply, Found, Made, Busy, Unbound, Changed}
 use Rattle.sysv_model.specs.Pool.{PoolCall, PoolReply}
 use Rattle.sysv_model.specs.Turn.{OfSlot, OfRegistry, Op, AtSlot, AtRegistry, AtPool, asked_by}
+use Rattle.sysv_steps.specs.Call.{Gets}
 use Rattle.sysv_steps.specs.Call.{Msgget}
 use Rattle.sysv_steps.specs.State.{Getting, Wait, OnSettled, Phase, AtBegin, AtInstall, AtSettle, AtProbe, AtUnmake}
 use Rattle.sysv_steps.specs.State.{Ending, Id, Refused, State, Goes, Waits, Over}
@@ -191,7 +192,7 @@ Nothing ops = Were [] [] [] false false false ops × Told [] [] ops
 
 module _ (key : ℤ) (flags : Flags) where
   -- What is known of a call in this state after these operations.
-  abbrev GetAt : List Op → State → Type 0
+  abbrev GetAt : List Op → State Gets → Type 0
   GetAt ops (Goes (AtBegin get)) = (get.flags ≡ flags) × Nothing ops
   GetAt ops (Goes (AtInstall get id)) = Were [] [] [] false false false ops × Told (id ∷ []) [] ops
   GetAt ops (Goes (AtSettle id)) = Were (id ∷ []) [] [] false false false ops × Told (id ∷ []) [] ops
@@ -199,9 +200,8 @@ module _ (key : ℤ) (flags : Flags) where
   GetAt ops (Goes (AtUnmake id)) = Were [] [] [] true false false ops
   GetAt ops (Waits (OnSettled goal get)) = (get.flags ≡ flags) × Nothing ops
   GetAt ops (Over ending) = IsRightGet flags ops ending
-  GetAt ops state = ⊥
 
-  abbrev GetIf : List Op → Option State → Type 0
+  abbrev GetIf : List Op → Option (State Gets) → Type 0
   GetIf ops None = Unit {0}
   GetIf ops (Some state) = GetAt ops state
 
@@ -267,7 +267,7 @@ module _ (key : ℤ) (flags : Flags) where
   probe_step ops get id settled cred by slot reply f h = tt
 
   -- The operation, by the request of the call at its step.
-  at_slot : (phase : Phase) (ops : List Op) (slot : ℕ) (call : Call) (reply : Reply) (now : ℕ) →
+  at_slot : (phase : Phase Gets) (ops : List Op) (slot : ℕ) (call : Call) (reply : Reply) (now : ℕ) →
       GetAt ops (Goes phase) → OfSlot slot call ≡ asks phase now →
       GetIf (ops ++ AtSlot slot call reply ∷ []) (next_of_slot phase reply)
   at_slot (AtInstall get id) ops slot call reply now h is =
@@ -278,12 +278,9 @@ module _ (key : ℤ) (flags : Flags) where
       let c : Probe id get.cred get.flags ≡ call = cc in
       subst (λ (k : Call). GetIf (ops ++ AtSlot slot k reply ∷ []) (after_probe get id settled reply)) c
       (probe_step ops get id settled get.cred get.flags slot reply h.0 h.1)
-  at_slot (AtBegin get) ops slot call reply now h is = tt
-  at_slot (AtSettle id) ops slot call reply now h is = tt
-  at_slot (AtUnmake id) ops slot call reply now h is = tt
-  at_slot phase ops slot call reply now h is = absurd h
+  at_slot phase ops slot call reply now h is = tt
 
-  at_registry : (phase : Phase) (ops : List Op) (call : RegistryCall) (reply : RegistryReply) (now : ℕ) →
+  at_registry : (phase : Phase Gets) (ops : List Op) (call : RegistryCall) (reply : RegistryReply) (now : ℕ) →
       GetAt ops (Goes phase) → OfRegistry call ≡ asks phase now →
       GetIf (ops ++ AtRegistry call reply ∷ []) (next_of_registry phase reply)
   at_registry (AtBegin get) ops call reply now h is =
@@ -295,31 +292,23 @@ module _ (key : ℤ) (flags : Flags) where
       subst (λ (k : RegistryCall). GetIf (ops ++ AtRegistry k reply ∷ []) (after_settle id reply)) c
       (settle_step ops id reply h.0 h.1)
   at_registry (AtUnmake id) ops call reply now h is = unmake_step ops call reply h
-  at_registry (AtInstall get id) ops call reply now h is = tt
-  at_registry (AtProbe get id settled) ops call reply now h is = tt
-  at_registry phase ops call reply now h is = absurd h
+  at_registry phase ops call reply now h is = tt
 
-  at_pool : (phase : Phase) (ops : List Op) (call : PoolCall) (reply : PoolReply) → GetAt ops (Goes phase) →
+  at_pool : (phase : Phase Gets) (ops : List Op) (call : PoolCall) (reply : PoolReply) → GetAt ops (Goes phase) →
       GetIf (ops ++ AtPool call reply ∷ []) (next_of_pool phase reply)
-  at_pool (AtBegin get) ops call reply h = tt
-  at_pool (AtInstall get id) ops call reply h = tt
-  at_pool (AtSettle id) ops call reply h = tt
-  at_pool (AtProbe get id settled) ops call reply h = tt
-  at_pool (AtUnmake id) ops call reply h = tt
-  at_pool phase ops call reply h = absurd h
+  at_pool phase ops call reply h = tt
 
-  one_step : (phase : Phase) (ops : List Op) (op : Op) (now : ℕ) → GetAt ops (Goes phase) →
+  one_step : (phase : Phase Gets) (ops : List Op) (op : Op) (now : ℕ) → GetAt ops (Goes phase) →
       asked_by op ≡ asks phase now → GetIf (ops ++ op ∷ []) (next phase op)
   one_step phase ops (AtSlot slot call reply) now h is = at_slot phase ops slot call reply now h is
   one_step phase ops (AtRegistry call reply) now h is = at_registry phase ops call reply now h is
   one_step phase ops (AtPool call reply) now h is = at_pool phase ops call reply h
 
-  one_wait : (ops : List Op) (wait : Wait) (value : ℕ) → GetAt ops (Waits wait) →
+  one_wait : (ops : List Op) (wait : Wait Gets) (value : ℕ) → GetAt ops (Waits wait) →
       GetAt ops (Goes (resume wait value))
   one_wait ops (OnSettled goal get) value h = h
-  one_wait ops wait value h = absurd h
 
-  pub get_at : (cred : Cred) (released : ℕ) (ops : List Op) (state : State) →
+  pub get_at : (cred : Cred) (released : ℕ) (ops : List Op) (state : State Gets) →
       Plays (begin cred (Msgget key flags) released) ops state → GetAt ops state
   get_at cred released _ _ begins = (
     refl,

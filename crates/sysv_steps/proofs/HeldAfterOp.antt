@@ -13,6 +13,7 @@ use Rattle.sysv_model.specs.Registry.{RegistryReply, Changed}
 use Rattle.sysv_model.specs.Pool.{blocks_for, PoolCall, Reserve, Release, PoolReply, Reserved, TooFew, Released}
 use Rattle.sysv_model.specs.Pool.{Foreign}
 use Rattle.sysv_model.specs.Turn.{OfSlot, OfPool, Op, AtSlot, AtRegistry, AtPool, asked_by}
+use Rattle.sysv_steps.specs.Call.{Kind, Receives, Sets, Removes, kind_of}
 use Rattle.sysv_steps.specs.Call.{SystemCall, Msgget, Msgsnd, Msgrcv, MsgctlStat, MsgctlSet, MsgctlRmid}
 use Rattle.sysv_steps.specs.State.{Getting, Sending, Receiving, Wait, OnSettled, OnFreed, OnReleased, OnArrived}
 use Rattle.sysv_steps.specs.State.{Afterwards, IsRefused, WaitsOn, Phase, AtBegin, AtInstall, AtSettle, AtProbe}
@@ -31,16 +32,16 @@ use Rattle.sysv_steps.specs.HeldBlocks.{held, given_by, left_by, HasItsBlocks, G
 
 -- ---- one row of the table
 
-record IsKept (had : ℕ) (op : Op) (after : State) : Type 0 where
+record IsKept {kind : Kind} (had : ℕ) (op : Op) (after : State kind) : Type 0 where
   balance : held after + left_by op ≡ had + given_by op
   at_place : HasItsBlocks after
 
-abbrev IsKeptIf : ℕ → Op → Option State → Type 0
+abbrev IsKeptIf : {kind : Kind} → ℕ → Op → Option (State kind) → Type 0
 IsKeptIf had op None = Unit {0}
 IsKeptIf had op (Some after) = IsKept had op after
 
 -- A call that waits or is over holds nothing.
-holds_none : (had : ℕ) (op : Op) (afterwards : Afterwards) → left_by op ≡ had + given_by op →
+holds_none : {kind : Kind} (had : ℕ) (op : Op) (afterwards : Afterwards kind) → left_by op ≡ had + given_by op →
     IsKept had op (goes_on afterwards)
 holds_none had op (IsRefused why) e = record { balance = omega (arith, e); at_place = tt }
 holds_none had op (WaitsOn wait) e = record { balance = omega (arith, e); at_place = tt }
@@ -117,21 +118,21 @@ forget_row : (blocks : ℕ) (op : Op) (reply : RegistryReply) → left_by op ≡
 forget_row blocks op (Changed done) e z = record { balance = omega (arith, e, z); at_place = tt }
 forget_row blocks op reply e z = tt
 
-giveback_row : (blocks : ℕ) (afterwards : Afterwards) (reply : PoolReply) →
+giveback_row : {kind : Kind} (blocks : ℕ) (afterwards : Afterwards kind) (reply : PoolReply) →
     IsKeptIf blocks (AtPool (Release blocks) reply) (after_giveback (goes_on afterwards) reply)
 giveback_row blocks afterwards Released = holds_none blocks (AtPool (Release blocks) Released) afterwards (omega arith)
 giveback_row blocks afterwards Foreign = holds_none blocks (AtPool (Release blocks) Foreign) afterwards (omega arith)
 giveback_row blocks afterwards reply = tt
 
-last_giveback_row : (blocks : ℕ) (ending : Ending) (reply : PoolReply) →
-    IsKeptIf blocks (AtPool (Release blocks) reply) (after_giveback (Over ending) reply)
-last_giveback_row blocks ending Released = record { balance = omega arith; at_place = tt }
-last_giveback_row blocks ending Foreign = record { balance = omega arith; at_place = tt }
-last_giveback_row blocks ending reply = tt
+last_giveback_row : (kind : Kind) (blocks : ℕ) (ending : Ending) (reply : PoolReply) →
+    IsKeptIf {kind = kind} blocks (AtPool (Release blocks) reply) (after_giveback (Over ending) reply)
+last_giveback_row kind blocks ending Released = record { balance = omega arith; at_place = tt }
+last_giveback_row kind blocks ending Foreign = record { balance = omega arith; at_place = tt }
+last_giveback_row kind blocks ending reply = tt
 
 -- ---- the table, by what the call asks there
 
-at_slot : (phase : Phase) (slot : ℕ) (call : Call) (reply : Reply) (now : ℕ) → HasItsBlocks (Goes phase) →
+at_slot : {kind : Kind} (phase : Phase kind) (slot : ℕ) (call : Call) (reply : Reply) (now : ℕ) → HasItsBlocks (Goes phase) →
     OfSlot slot call ≡ asks phase now → IsKeptIf (held (Goes phase)) (AtSlot slot call reply) (next_of_slot phase reply)
 at_slot (AtInstall get id) slot call reply now h is = install_row id slot call reply
 at_slot (AtProbe get id settled) slot call reply now h is = probe_row get id settled slot call reply
@@ -146,7 +147,7 @@ at_slot (AtSet cred id to) slot call reply now h is = set_row slot call reply
 at_slot (AtRemove cred id) slot call reply now h is = remove_row id slot call reply
 at_slot phase slot call reply now h is = tt
 
-at_registry : (phase : Phase) (op : Op) (reply : RegistryReply) → left_by op ≡ given_by op → given_by op ≡ 0 →
+at_registry : {kind : Kind} (phase : Phase kind) (op : Op) (reply : RegistryReply) → left_by op ≡ given_by op → given_by op ≡ 0 →
     IsKeptIf (held (Goes phase)) op (next_of_registry phase reply)
 at_registry (AtBegin get) op reply e z = begin_row get op reply e
 at_registry (AtSettle id) op reply e z = settle_row id op reply e
@@ -158,11 +159,11 @@ at_registry phase op reply e z = tt
 abbrev GivesIt : PoolCall → PoolReply → Type 0
 GivesIt call reply = (size blocks : ℕ) → call ≡ Reserve size → reply ≡ Reserved blocks → blocks ≡ blocks_for size
 
-of_release : (had : ℕ) (call : PoolCall) (reply : PoolReply) (after : Option State) → Release had ≡ call →
+of_release : {kind : Kind} (had : ℕ) (call : PoolCall) (reply : PoolReply) (after : Option (State kind)) → Release had ≡ call →
     IsKeptIf had (AtPool (Release had) reply) after → IsKeptIf had (AtPool call reply) after
 of_release had call reply after c h = subst (λ (k : PoolCall). IsKeptIf had (AtPool k reply) after) c h
 
-at_pool : (phase : Phase) (call : PoolCall) (reply : PoolReply) (now : ℕ) → OfPool call ≡ asks phase now →
+at_pool : {kind : Kind} (phase : Phase kind) (call : PoolCall) (reply : PoolReply) (now : ℕ) → OfPool call ≡ asks phase now →
     GivesIt call reply → IsKeptIf (held (Goes phase)) (AtPool call reply) (next_of_pool phase reply)
 at_pool (AtReserve send) call reply now is g =
     let c : Reserve (length send.text) ≡ call = cc in
@@ -171,14 +172,14 @@ at_pool (AtReserve send) call reply now is g =
 at_pool (AtSendGiveback blocks afterwards) call reply now is g =
     let c : Release blocks ≡ call = cc in of_release blocks call reply _ c (giveback_row blocks afterwards reply)
 at_pool (AtReceiveGiveback blocks mtype text) call reply now is g =
-    let c : Release blocks ≡ call = cc in of_release blocks call reply _ c (last_giveback_row blocks _ reply)
+    let c : Release blocks ≡ call = cc in of_release blocks call reply _ c (last_giveback_row Receives blocks _ reply)
 at_pool AtSetGiveback call reply now is g =
-    let c : Release 0 ≡ call = cc in of_release 0 call reply _ c (last_giveback_row 0 _ reply)
+    let c : Release 0 ≡ call = cc in of_release 0 call reply _ c (last_giveback_row Sets 0 _ reply)
 at_pool (AtRemoveGiveback blocks) call reply now is g =
-    let c : Release blocks ≡ call = cc in of_release blocks call reply _ c (last_giveback_row blocks _ reply)
+    let c : Release blocks ≡ call = cc in of_release blocks call reply _ c (last_giveback_row Removes blocks _ reply)
 at_pool phase call reply now is g = tt
 
-one_row : (ops : List Op) (phase : Phase) (op : Op) (now : ℕ) → HasItsBlocks (Goes phase) →
+one_row : {kind : Kind} (ops : List Op) (phase : Phase kind) (op : Op) (now : ℕ) → HasItsBlocks (Goes phase) →
     asked_by op ≡ asks phase now → GivesWhatIsAsked (ops ++ op ∷ []) →
     IsKeptIf (held (Goes phase)) op (next phase op)
 one_row ops phase (AtSlot slot call reply) now h is g = at_slot phase slot call reply now h is
@@ -202,7 +203,7 @@ started cred (MsgctlStat id) released false = record { balance = refl; at_place 
 started cred (MsgctlSet id to) released false = record { balance = refl; at_place = tt }
 started cred (MsgctlRmid id) released false = record { balance = refl; at_place = tt }
 
-one_more : (ops : List Op) (phase : Phase) (op : Op) (after : State) → IsKept (held (Goes phase)) op after →
+one_more : {kind : Kind} (ops : List Op) (phase : Phase kind) (op : Op) (after : State kind) → IsKept (held (Goes phase)) op after →
     HoldsItsBlocks ops (Goes phase) → HoldsItsBlocks (ops ++ op ∷ []) after
 one_more ops phase op after k h = record {
   balance = omega (
@@ -215,7 +216,7 @@ one_more ops phase op after k h = record {
   at_place = k.at_place;
 }
 
-resumed : (ops : List Op) (wait : Wait) (value : ℕ) → HoldsItsBlocks ops (Waits wait) →
+resumed : {kind : Kind} (ops : List Op) (wait : Wait kind) (value : ℕ) → HoldsItsBlocks ops (Waits wait) →
     HoldsItsBlocks ops (Goes (resume wait value))
 resumed ops (OnSettled goal get) value h = record { balance = h.balance; at_place = tt }
 resumed ops (OnFreed goal send) value h = record { balance = h.balance; at_place = tt }
@@ -226,7 +227,7 @@ fewer : (ops : List Op) (op : Op) → GivesWhatIsAsked (ops ++ op ∷ []) → Gi
 fewer ops op g size blocks c =
     g size blocks (Contains-append_left ops (op ∷ []) (AtPool (Reserve size) (Reserved blocks)) c)
 
-pub each_holds : (cred : Cred) (asked : SystemCall) (released : ℕ) (ops : List Op) (state : State) →
+pub each_holds : (cred : Cred) (asked : SystemCall) (released : ℕ) (ops : List Op) (state : State (kind_of asked)) →
     Plays (begin cred asked released) ops state → GivesWhatIsAsked ops → HoldsItsBlocks ops state
 each_holds cred asked released _ _ begins g = started cred asked released (is_refused asked)
 each_holds cred asked released _ _ (steps {ops} {phase} op now after p is n) g =
@@ -236,9 +237,9 @@ each_holds cred asked released _ _ (steps {ops} {phase} op now after p is n) g =
 each_holds cred asked released _ _ (resumes {ops} {wait} value p least) g =
     resumed ops wait value (each_holds cred asked released ops (Waits wait) p g)
 
-pub each_step_keeps : (phase : Phase) (op : Op) (now : ℕ) (after : State) → HasItsBlocks (Goes phase) →
+pub each_step_keeps : (kind : Kind) (phase : Phase kind) (op : Op) (now : ℕ) (after : State kind) → HasItsBlocks (Goes phase) →
     GivesWhatIsAsked (op ∷ []) →
     asked_by op ≡ asks phase now → next phase op ≡ Some after →
     held after + left_by op ≡ held (Goes phase) + given_by op
-each_step_keeps phase op now after h g is n =
+each_step_keeps kind phase op now after h g is n =
     (subst (IsKeptIf (held (Goes phase)) op) n (one_row [] phase op now h is g)).balance

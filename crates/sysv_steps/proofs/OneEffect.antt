@@ -11,6 +11,7 @@ use Rattle.sysv_model.specs.History.{Call, Reply, Installed, Gone}
 use Rattle.sysv_model.specs.Registry.{RegistryCall, RegistryReply, Changed}
 use Rattle.sysv_model.specs.Pool.{PoolCall, PoolReply, Released}
 use Rattle.sysv_model.specs.Turn.{Op, AtSlot, AtRegistry, AtPool}
+use Rattle.sysv_steps.specs.Call.{Kind, kind_of}
 use Rattle.sysv_steps.specs.Call.{SystemCall}
 use Rattle.sysv_steps.specs.State.{Wait, OnSettled, OnFreed, OnReleased, OnArrived, Phase, AtBegin, AtInstall, AtSettle}
 use Rattle.sysv_steps.specs.State.{AtProbe, AtUnmake, AtLook, AtReserve, AtPlace, AtSendGiveback, AtTake}
@@ -30,7 +31,7 @@ effect op =
     + cond {A = ℕ} (was_changed op) 1 0 + cond {A = ℕ} (was_removed op) 1 0
 
 -- The number of effects that a call in this state may still have.
-abbrev left : State → ℕ
+abbrev left : {kind : Kind} → State kind → ℕ
 left (Goes (AtInstall get id)) = 0
 left (Goes (AtSettle id)) = 0
 left (Goes (AtUnmake id)) = 0
@@ -41,7 +42,7 @@ left (Goes (AtRemoveGiveback blocks)) = 0
 left (Over ending) = 0
 left state = 1
 
-one_at_most : (state : State) → left state ≤ 1
+one_at_most : {kind : Kind} (state : State kind) → left state ≤ 1
 one_at_most (Goes (AtInstall get id)) = omega arith
 one_at_most (Goes (AtSettle id)) = omega arith
 one_at_most (Goes (AtUnmake id)) = omega arith
@@ -53,13 +54,13 @@ one_at_most (Over ending) = omega arith
 one_at_most state = omega arith
 
 -- The same of a state that the table may lack.
-abbrev left_of : Option State → ℕ
+abbrev left_of : {kind : Kind} → Option (State kind) → ℕ
 left_of None = 2
 left_of (Some state) = left state
 
 -- ---- one operation
 
-at_slot : (phase : Phase) (slot : ℕ) (call : Call) (reply : Reply) (after : State) →
+at_slot : {kind : Kind} (phase : Phase kind) (slot : ℕ) (call : Call) (reply : Reply) (after : State kind) →
     next_of_slot phase reply ≡ Some after → effect (AtSlot slot call reply) + left after ≤ left (Goes phase)
 at_slot (AtInstall get id) slot call (Installed true) after n = omega (arith, ap left_of n, one_at_most after)
 at_slot (AtInstall get id) slot call (Installed false) after n = omega (arith, ap left_of n, one_at_most after)
@@ -80,7 +81,7 @@ at_slot (AtRemove cred id) slot call Gone after n = omega (arith, ap left_of n, 
 at_slot (AtRemove cred id) slot call reply after n = omega (arith, ap left_of n, one_at_most after)
 at_slot phase slot call reply after n = absurd cc
 
-at_registry : (phase : Phase) (call : RegistryCall) (reply : RegistryReply) (after : State) →
+at_registry : {kind : Kind} (phase : Phase kind) (call : RegistryCall) (reply : RegistryReply) (after : State kind) →
     next_of_registry phase reply ≡ Some after → effect (AtRegistry call reply) + left after ≤ left (Goes phase)
 at_registry (AtBegin get) call (Changed done) after n = omega (arith, ap left_of n, one_at_most after)
 at_registry (AtBegin get) call reply after n = omega (arith, ap left_of n, one_at_most after)
@@ -92,7 +93,7 @@ at_registry (AtForget id blocks) call (Changed done) after n = omega (arith, ap 
 at_registry (AtForget id blocks) call reply after n = omega (arith, ap left_of n, one_at_most after)
 at_registry phase call reply after n = absurd cc
 
-at_pool : (phase : Phase) (call : PoolCall) (reply : PoolReply) (after : State) →
+at_pool : {kind : Kind} (phase : Phase kind) (call : PoolCall) (reply : PoolReply) (after : State kind) →
     next_of_pool phase reply ≡ Some after → effect (AtPool call reply) + left after ≤ left (Goes phase)
 at_pool (AtReserve send) call Released after n = omega (arith, ap left_of n, one_at_most after)
 at_pool (AtReserve send) call reply after n = omega (arith, ap left_of n, one_at_most after)
@@ -106,13 +107,13 @@ at_pool (AtRemoveGiveback blocks) call Released after n = omega (arith, ap left_
 at_pool (AtRemoveGiveback blocks) call reply after n = omega (arith, ap left_of n, one_at_most after)
 at_pool phase call reply after n = absurd cc
 
-one_step : (phase : Phase) (op : Op) (after : State) → next phase op ≡ Some after →
+one_step : {kind : Kind} (phase : Phase kind) (op : Op) (after : State kind) → next phase op ≡ Some after →
     effect op + left after ≤ left (Goes phase)
 one_step phase (AtSlot slot call reply) after n = at_slot phase slot call reply after n
 one_step phase (AtRegistry call reply) after n = at_registry phase call reply after n
 one_step phase (AtPool call reply) after n = at_pool phase call reply after n
 
-one_wait : (wait : Wait) (value : ℕ) → left (Goes (resume wait value)) ≤ left (Waits wait)
+one_wait : {kind : Kind} (wait : Wait kind) (value : ℕ) → left (Goes (resume wait value)) ≤ left (Waits wait)
 one_wait (OnSettled goal get) value = omega arith
 one_wait (OnFreed goal send) value = omega arith
 one_wait (OnReleased goal send) value = omega arith
@@ -141,7 +142,7 @@ one_more ops op =
       counted was_removed ops op,
     )
 
-along : (from : State) (ops : List Op) (state : State) → Plays from ops state →
+along : {kind : Kind} (from : State kind) (ops : List Op) (state : State kind) → Plays from ops state →
     effects ops + left state ≤ left from
 along from _ _ begins = omega arith
 along from _ _ (steps {ops} {phase} op now after p asked n) =
@@ -149,7 +150,7 @@ along from _ _ (steps {ops} {phase} op now after p asked n) =
 along from _ _ (resumes {ops} {wait} value p least) =
     omega (arith, one_wait wait value, along from ops (Waits wait) p)
 
-pub one_effect : (cred : Cred) (asked : SystemCall) (released : ℕ) (ops : List Op) (state : State) →
+pub one_effect : (cred : Cred) (asked : SystemCall) (released : ℕ) (ops : List Op) (state : State (kind_of asked)) →
     Plays (begin cred asked released) ops state → effects ops ≤ 1
 one_effect cred asked released ops state p =
     omega (arith, along (begin cred asked released) ops state p, one_at_most (begin cred asked released))

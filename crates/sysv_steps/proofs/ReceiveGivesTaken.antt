@@ -6,6 +6,7 @@ use Rattle.sysv_queue.specs.Delivery.{Given}
 use Rattle.sysv_queue.specs.declared.slot.TakeRefused.{TakeRefused}
 use Rattle.sysv_queue.specs.declared.slot.TakeRefused.TheVariants as refused
 use Rattle.sysv_queue.specs.Replies.{untaken_reply}
+use Rattle.sysv_steps.specs.Call.{Receives}
 use Rattle.sysv_steps.specs.declared.receive.ReceiveStep.{ReceiveStep}
 use Rattle.sysv_steps.specs.declared.state.State.TheVariants as state
 use Rattle.sysv_steps.specs.Seen.{receive_phase, receive_state}
@@ -26,14 +27,14 @@ has_last given [] op takes = inl takes
 has_last given (d ∷ ds) op takes = inr (has_last given ds op takes)
 
 -- A receive that took no message has none.
-waits_give_nothing : (nowait : Bool) (wait : Wait) (why : Errno) → GivesNothing (goes_on (waits_or nowait wait why))
+waits_give_nothing : (nowait : Bool) (wait : Wait Receives) (why : Errno) → GivesNothing (goes_on (waits_or nowait wait why))
 waits_give_nothing true wait why = tt
 waits_give_nothing false wait why = tt
 
-lands : (a s : State) → Some a ≡ Some s → GivesNothing a → GivesNothing s
+lands : (a s : State Receives) → Some a ≡ Some s → GivesNothing a → GivesNothing s
 lands a s e none = let is : a ≡ s = cc in subst GivesNothing is none
 
-pub untaken_gives_nothing : (receive : Receiving) (why : TakeRefused) (s : State) →
+pub untaken_gives_nothing : (receive : Receiving) (why : TakeRefused) (s : State Receives) →
     after_take receive (untaken_reply why) ≡ Some s → GivesNothing s
 untaken_gives_nothing receive refused.Gone s e = lands _ s e tt
 untaken_gives_nothing receive refused.Denied s e = lands _ s e tt

@@ -14,6 +14,7 @@ use Rattle.sysv_model.specs.Message.{Message}
 use Rattle.sysv_model.specs.History.{Call, Reply, Gone, Denied, NoMatch, TooLong, Taken}
 use Rattle.sysv_model.specs.Pool.{PoolCall, PoolReply, Released, Foreign, blocks_for}
 use Rattle.sysv_model.specs.Turn.{Op, AtSlot, AtPool}
+use Rattle.sysv_steps.specs.Call.{Receives}
 use Rattle.sysv_steps.specs.Call.{Msgrcv}
 use Rattle.sysv_steps.specs.State.{Receiving, Wait, OnArrived, Phase, AtTake, AtReceiveGiveback, Ending, Got, Refused}
 use Rattle.sysv_steps.specs.State.{State, Goes, Waits, Over}
@@ -56,12 +57,11 @@ module _ (id : ℤ) (size : ℕ) (mtype : ℤ) (flags : Flags) where
     pub live : list_any found_live ops ≡ receive.seen
 
   -- What is known of a receive in this state after these operations.
-  abbrev pub ReceiveAt : List Op → State → Type 0
+  abbrev pub ReceiveAt : List Op → State Receives → Type 0
   ReceiveAt ops (Goes (AtTake receive)) = Pending receive ops
   ReceiveAt ops (Goes (AtReceiveGiveback blocks type text)) = IsRight ops (Got type text)
   ReceiveAt ops (Waits (OnArrived goal receive)) = Pending receive ops
   ReceiveAt ops (Over ending) = IsRight ops ending
-  ReceiveAt ops state = ⊥
 
   refused_at_once : is_refused (Msgrcv id size mtype flags) ≡ true → IsRight [] (Refused EINVAL)
   refused_at_once r = record {
@@ -248,7 +248,7 @@ module _ (id : ℤ) (size : ℕ) (mtype : ℤ) (flags : Flags) where
         }
 
     -- One more operation at a take.
-    take_step : (reply : Reply) (after : State) → next (AtTake receive) (AtSlot slot call reply) ≡ Some after →
+    take_step : (reply : Reply) (after : State Receives) → next (AtTake receive) (AtSlot slot call reply) ≡ Some after →
         ReceiveAt (with reply) after
     take_step Gone after n =
         let e : Over (Refused (gone receive.seen)) ≡ after = cc in
@@ -296,7 +296,7 @@ module _ (id : ℤ) (size : ℕ) (mtype : ℤ) (flags : Flags) where
       }
 
   giveback_step : (ops : List Op) (blocks : ℕ) (type : ℤ) (text : List ℕ) (call : PoolCall) (reply : PoolReply)
-      (after : State) → IsRight ops (Got type text) →
+      (after : State Receives) → IsRight ops (Got type text) →
       next (AtReceiveGiveback blocks type text) (AtPool call reply) ≡ Some after →
       ReceiveAt (ops ++ AtPool call reply ∷ []) after
   giveback_step ops blocks type text call Released after r n =
@@ -309,7 +309,7 @@ module _ (id : ℤ) (size : ℕ) (mtype : ℤ) (flags : Flags) where
       (right_still ops (AtPool call Foreign) (Got type text) call Foreign refl r)
   giveback_step ops blocks type text call reply after r n = absurd cc
 
-  one_step : (ops : List Op) (phase : Phase) (op : Op) (after : State) → ReceiveAt ops (Goes phase) →
+  one_step : (ops : List Op) (phase : Phase Receives) (op : Op) (after : State Receives) → ReceiveAt ops (Goes phase) →
       next phase op ≡ Some after → ReceiveAt (ops ++ op ∷ []) after
   one_step ops (AtTake receive) (AtSlot slot call reply) after at n =
       take_step receive ops at slot call reply after n
@@ -317,14 +317,12 @@ module _ (id : ℤ) (size : ℕ) (mtype : ℤ) (flags : Flags) where
       giveback_step ops blocks type text call reply after at n
   one_step ops (AtTake receive) op after at n = absurd cc
   one_step ops (AtReceiveGiveback blocks type text) op after at n = absurd cc
-  one_step ops phase op after at n = absurd at
 
-  one_wait : (ops : List Op) (wait : Wait) (value : ℕ) → ReceiveAt ops (Waits wait) →
+  one_wait : (ops : List Op) (wait : Wait Receives) (value : ℕ) → ReceiveAt ops (Waits wait) →
       ReceiveAt ops (Goes (resume wait value))
   one_wait ops (OnArrived goal receive) value at = at
-  one_wait ops wait value at = absurd at
 
-  pub receive_at : (cred : Cred) (released : ℕ) (ops : List Op) (state : State) →
+  pub receive_at : (cred : Cred) (released : ℕ) (ops : List Op) (state : State Receives) →
       Plays (begin cred (Msgrcv id size mtype flags) released) ops state → ReceiveAt ops state
   receive_at cred released _ _ begins = started cred released (is_refused (Msgrcv id size mtype flags)) refl
   receive_at cred released _ _ (steps {ops} {phase} op now after p asked n) =
@@ -332,15 +330,14 @@ module _ (id : ℤ) (size : ℕ) (mtype : ℤ) (flags : Flags) where
   receive_at cred released _ _ (resumes {ops} {wait} value p least) =
       one_wait ops wait value (receive_at cred released ops (Waits wait) p)
 
-  none_gone : (ops : List Op) (phase : Phase) (reply : Reply) (after : State) → ReceiveAt ops (Goes phase) →
+  none_gone : (ops : List Op) (phase : Phase Receives) (reply : Reply) (after : State Receives) → ReceiveAt ops (Goes phase) →
       next_of_slot phase reply ≡ Some after → list_any found_gone ops ≡ false
   none_gone ops (AtTake receive) reply after at n = at.gone
   none_gone ops (AtReceiveGiveback blocks type text) reply after at n = absurd cc
-  none_gone ops phase reply after at n = absurd at
 
   -- A receive that comes to a slot has not found its identifier gone before.
-  pub receive_goes_on : (cred : Cred) (released : ℕ) (ops : List Op) (phase : Phase) (reply : Reply)
-      (after : State) → Plays (begin cred (Msgrcv id size mtype flags) released) ops (Goes phase) →
+  pub receive_goes_on : (cred : Cred) (released : ℕ) (ops : List Op) (phase : Phase Receives) (reply : Reply)
+      (after : State Receives) → Plays (begin cred (Msgrcv id size mtype flags) released) ops (Goes phase) →
       next_of_slot phase reply ≡ Some after → list_any found_gone ops ≡ false
   receive_goes_on cred released ops phase reply after p n =
       none_gone ops phase reply after (receive_at cred released ops (Goes phase) p) n

@@ -8,6 +8,7 @@ use Rattle.sysv_model.specs.declared.cred.Cred.{Cred}
 use Rattle.sysv_model.specs.declared.errno.Errno.TheVariants.{EINVAL, EIDRM}
 use Rattle.sysv_model.specs.History.{Call, Reply, Gone}
 use Rattle.sysv_model.specs.Turn.{Op, AtSlot, AtRegistry, AtPool}
+use Rattle.sysv_steps.specs.Call.{kind_of}
 use Rattle.sysv_steps.specs.Call.{SystemCall, Msgget, Msgsnd, Msgrcv, MsgctlStat, MsgctlSet, MsgctlRmid}
 use Rattle.sysv_steps.specs.State.{Phase, Ending, Refused, State, Goes, Waits, Over}
 use Rattle.sysv_steps.specs.Begin.{begin}
@@ -109,11 +110,11 @@ ends_still ops op g s (inr h) = inr (
 module _ (cred : Cred) (asked : SystemCall) (released : ℕ) where
   -- A call that comes to a slot has not found its identifier gone before.
   abbrev ComesUngone : Type 0
-  ComesUngone = (ops : List Op) (phase : Phase) (reply : Reply) (after : State) →
+  ComesUngone = (ops : List Op) (phase : Phase (kind_of asked)) (reply : Reply) (after : State (kind_of asked)) →
       Plays (begin cred asked released) ops (Goes phase) → next_of_slot phase reply ≡ Some after →
       list_any found_gone ops ≡ false
 
-  one_step : ComesUngone → (ops : List Op) (phase : Phase) (op : Op) (after : State) →
+  one_step : ComesUngone → (ops : List Op) (phase : Phase (kind_of asked)) (op : Op) (after : State (kind_of asked)) →
       Plays (begin cred asked released) ops (Goes phase) → next phase op ≡ Some after → Ends ops →
       Ends (ops ++ op ∷ [])
   one_step on ops phase (AtSlot slot call reply) after p n h =
@@ -121,7 +122,7 @@ module _ (cred : Cred) (asked : SystemCall) (released : ℕ) where
   one_step on ops phase (AtRegistry call reply) after p n h = ends_still ops (AtRegistry call reply) refl refl h
   one_step on ops phase (AtPool call reply) after p n h = ends_still ops (AtPool call reply) refl refl h
 
-  ends_at : ComesUngone → (ops : List Op) (state : State) → Plays (begin cred asked released) ops state →
+  ends_at : ComesUngone → (ops : List Op) (state : State (kind_of asked)) → Plays (begin cred asked released) ops state →
       Ends ops
   ends_at on _ _ begins = inl refl
   ends_at on _ _ (steps {ops} {phase} op now after p is n) =

@@ -12,6 +12,7 @@ use Rattle.sysv_model.specs.HasFlag.{has_flag}
 use Rattle.sysv_model.specs.History.{Call, Reply, Gone, Denied, Full, Fits, Accepted}
 use Rattle.sysv_model.specs.Pool.{PoolCall, PoolReply, Reserved, TooFew, Released, Foreign}
 use Rattle.sysv_model.specs.Turn.{Op, AtSlot, AtPool}
+use Rattle.sysv_steps.specs.Call.{Sends}
 use Rattle.sysv_steps.specs.Call.{Msgsnd}
 use Rattle.sysv_steps.specs.State.{Sending, Wait, OnFreed, OnReleased, Afterwards, IsRefused, WaitsOn, Phase, AtLook}
 use Rattle.sysv_steps.specs.State.{AtReserve, AtPlace, AtSendGiveback, Ending, Zero, Refused, State, Goes, Waits, Over}
@@ -36,13 +37,13 @@ module _ (id mtype : ℤ) (flags : Flags) (text : List ℕ) where
     pub live : list_any found_live ops ≡ send.seen
 
   -- What is known of a send that has yet to release its chain.
-  abbrev pub AfterAt : List Op → Afterwards → Type 0
+  abbrev pub AfterAt : List Op → Afterwards Sends → Type 0
   AfterAt ops (IsRefused why) = IsRight ops (Refused why)
   AfterAt ops (WaitsOn (OnFreed goal send)) = Pending send ops
   AfterAt ops (WaitsOn wait) = ⊥
 
   -- What is known of a send in this state after these operations.
-  abbrev pub SendAt : List Op → State → Type 0
+  abbrev pub SendAt : List Op → State Sends → Type 0
   SendAt ops (Goes (AtLook send)) = Pending send ops
   SendAt ops (Goes (AtReserve send)) = Pending send ops
   SendAt ops (Goes (AtPlace send blocks)) = Pending send ops
@@ -50,7 +51,6 @@ module _ (id mtype : ℤ) (flags : Flags) (text : List ℕ) where
   SendAt ops (Waits (OnFreed goal send)) = Pending send ops
   SendAt ops (Waits (OnReleased goal send)) = Pending send ops
   SendAt ops (Over ending) = IsRight ops ending
-  SendAt ops state = ⊥
 
   refused_at_once : is_refused (Msgsnd id mtype flags text) ≡ true → IsRight [] (Refused EINVAL)
   refused_at_once r = record {
@@ -149,7 +149,7 @@ module _ (id mtype : ℤ) (flags : Flags) (text : List ℕ) where
     few_goes true n = few_right n
     few_goes false n = few_waits n
 
-    reserve_step : (reply : PoolReply) (after : State) → next (AtReserve send) (AtPool call reply) ≡ Some after →
+    reserve_step : (reply : PoolReply) (after : State Sends) → next (AtReserve send) (AtPool call reply) ≡ Some after →
         SendAt (ops ++ AtPool call reply ∷ []) after
     reserve_step (Reserved blocks) after n =
         let e : Goes (AtPlace send blocks) ≡ after = cc in
@@ -161,14 +161,14 @@ module _ (id mtype : ℤ) (flags : Flags) (text : List ℕ) where
         subst (SendAt (ops ++ AtPool call TooFew ∷ [])) e (few_goes send.nowait refl)
     reserve_step reply after n = absurd cc
 
-  given_back : (ops : List Op) (afterwards : Afterwards) (op : Op) → IsQuiet op → AfterAt ops afterwards →
+  given_back : (ops : List Op) (afterwards : Afterwards Sends) (op : Op) → IsQuiet op → AfterAt ops afterwards →
       SendAt (ops ++ op ∷ []) (goes_on afterwards)
   given_back ops (IsRefused why) op q at = right_still ops op (Refused why) q at
   given_back ops (WaitsOn (OnFreed goal send)) op q at = pending_still send ops op q at
   given_back ops (WaitsOn wait) op q at = absurd at
 
-  giveback_step : (ops : List Op) (blocks : ℕ) (afterwards : Afterwards) (call : PoolCall) (reply : PoolReply)
-      (after : State) → AfterAt ops afterwards →
+  giveback_step : (ops : List Op) (blocks : ℕ) (afterwards : Afterwards Sends) (call : PoolCall) (reply : PoolReply)
+      (after : State Sends) → AfterAt ops afterwards →
       next (AtSendGiveback blocks afterwards) (AtPool call reply) ≡ Some after →
       SendAt (ops ++ AtPool call reply ∷ []) after
   giveback_step ops blocks afterwards call Released after at n =
@@ -319,7 +319,7 @@ module _ (id mtype : ℤ) (flags : Flags) (text : List ℕ) where
         }
 
     -- One more operation at a look, and at a place.
-    look_step : (reply : Reply) (after : State) → next (AtLook send) (AtSlot slot call reply) ≡ Some after →
+    look_step : (reply : Reply) (after : State Sends) → next (AtLook send) (AtSlot slot call reply) ≡ Some after →
         SendAt (with reply) after
     look_step Gone after n =
         let e : Over (Refused (gone send.seen)) ≡ after = cc in
@@ -332,7 +332,7 @@ module _ (id mtype : ℤ) (flags : Flags) (text : List ℕ) where
         let e : Goes (AtReserve (record send { seen = true })) ≡ after = cc in subst (SendAt (with Fits)) e fits_goes
     look_step reply after n = absurd cc
 
-    place_step : (blocks : ℕ) (reply : Reply) (after : State) →
+    place_step : (blocks : ℕ) (reply : Reply) (after : State Sends) →
         next (AtPlace send blocks) (AtSlot slot call reply) ≡ Some after → SendAt (with reply) after
     place_step blocks Gone after n =
         let e : Goes (AtSendGiveback blocks (IsRefused (gone send.seen))) ≡ after = cc in
@@ -347,7 +347,7 @@ module _ (id mtype : ℤ) (flags : Flags) (text : List ℕ) where
         let e : Over Zero ≡ after = cc in subst (SendAt (with (Accepted number))) e (placed_right number)
     place_step blocks reply after n = absurd cc
 
-  one_step : (ops : List Op) (phase : Phase) (op : Op) (after : State) → SendAt ops (Goes phase) →
+  one_step : (ops : List Op) (phase : Phase Sends) (op : Op) (after : State Sends) → SendAt ops (Goes phase) →
       next phase op ≡ Some after → SendAt (ops ++ op ∷ []) after
   one_step ops (AtLook send) (AtSlot slot call reply) after at n = look_step send ops at slot call reply after n
   one_step ops (AtReserve send) (AtPool call reply) after at n = reserve_step send ops at call reply after n
@@ -359,7 +359,6 @@ module _ (id mtype : ℤ) (flags : Flags) (text : List ℕ) where
   one_step ops (AtReserve send) op after at n = absurd cc
   one_step ops (AtPlace send blocks) op after at n = absurd cc
   one_step ops (AtSendGiveback blocks afterwards) op after at n = absurd cc
-  one_step ops phase op after at n = absurd at
 
   started_again : (send : Sending) (released : ℕ) (ops : List Op) → Pending send ops →
       Pending (record send { released = released }) ops
@@ -374,13 +373,12 @@ module _ (id mtype : ℤ) (flags : Flags) (text : List ℕ) where
         live = u.live;
       }
 
-  one_wait : (ops : List Op) (wait : Wait) (value : ℕ) → SendAt ops (Waits wait) →
+  one_wait : (ops : List Op) (wait : Wait Sends) (value : ℕ) → SendAt ops (Waits wait) →
       SendAt ops (Goes (resume wait value))
   one_wait ops (OnFreed goal send) value at = at
   one_wait ops (OnReleased goal send) value at = started_again send value ops at
-  one_wait ops wait value at = absurd at
 
-  pub send_at : (cred : Cred) (released : ℕ) (ops : List Op) (state : State) →
+  pub send_at : (cred : Cred) (released : ℕ) (ops : List Op) (state : State Sends) →
       Plays (begin cred (Msgsnd id mtype flags text) released) ops state → SendAt ops state
   send_at cred released _ _ begins = started cred released (is_refused (Msgsnd id mtype flags text)) refl
   send_at cred released _ _ (steps {ops} {phase} op now after p asked n) =
@@ -388,16 +386,15 @@ module _ (id mtype : ℤ) (flags : Flags) (text : List ℕ) where
   send_at cred released _ _ (resumes {ops} {wait} value p least) =
       one_wait ops wait value (send_at cred released ops (Waits wait) p)
 
-  none_gone : (ops : List Op) (phase : Phase) (reply : Reply) (after : State) → SendAt ops (Goes phase) →
+  none_gone : (ops : List Op) (phase : Phase Sends) (reply : Reply) (after : State Sends) → SendAt ops (Goes phase) →
       next_of_slot phase reply ≡ Some after → list_any found_gone ops ≡ false
   none_gone ops (AtLook send) reply after at n = at.gone
   none_gone ops (AtPlace send blocks) reply after at n = at.gone
   none_gone ops (AtReserve send) reply after at n = absurd cc
   none_gone ops (AtSendGiveback blocks afterwards) reply after at n = absurd cc
-  none_gone ops phase reply after at n = absurd at
 
   -- A send that comes to a slot has not found its identifier gone before.
-  pub send_goes_on : (cred : Cred) (released : ℕ) (ops : List Op) (phase : Phase) (reply : Reply) (after : State) →
+  pub send_goes_on : (cred : Cred) (released : ℕ) (ops : List Op) (phase : Phase Sends) (reply : Reply) (after : State Sends) →
       Plays (begin cred (Msgsnd id mtype flags text) released) ops (Goes phase) →
       next_of_slot phase reply ≡ Some after → list_any found_gone ops ≡ false
   send_goes_on cred released ops phase reply after p n =

@@ -6,6 +6,7 @@ use Rattle.sysv_model.specs.Registry.{Forget, Changed}
 use Rattle.sysv_model.specs.Turn.{Ask, Op, AtRegistry, AtPool, OfPool, OfRegistry, asked_by}
 use Rattle.sysv_pool.specs.Chain.{Chained}
 use Rattle.sysv_pool.specs.Replies.{release_reply}
+use Rattle.sysv_steps.specs.Call.{Kind}
 use Rattle.sysv_steps.specs.State.{Phase, State}
 use Rattle.sysv_steps.specs.Asks.{asks}
 use Rattle.sysv_steps.specs.Next.{next}
@@ -13,7 +14,7 @@ use Rattle.sysv_steps.specs.Stepping.{is_stamped, refused_blocks, StepsOn, Turns
 use Rattle.sysv_steps.specs.Stepping.{AsksToForget}
 
 module _ {P : Type 0} (takes : P → Op → P → Type 0) (misses : P → Ask → P → Type 0) where
-  module _ (may : ℕ → Type 0) (phase : Phase) (before : P) (state : State) (after : P) where
+  module _ {kind : Kind} (may : ℕ → Type 0) (phase : Phase kind) (before : P) (state : State kind) (after : P) where
     -- The turn of the step was made.
     pub stepped : (op : Op) (now : ℕ) → (is_stamped phase ≡ true → may now) → asked_by op ≡ asks phase now →
         next phase op ≡ Some state → takes before op after → refused_blocks op ≡ 0 →

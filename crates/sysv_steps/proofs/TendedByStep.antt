@@ -8,6 +8,7 @@ use Rattle.sysv_model.specs.Message.{Message}
 use Rattle.sysv_model.specs.History.{Remove, Reply, Installed, Discarded}
 use Rattle.sysv_model.specs.Registry.{RegistryCall, Settle, Forget, RegistryReply, Made}
 use Rattle.sysv_model.specs.Turn.{OfSlot, Op, AtSlot, AtRegistry, asked_by}
+use Rattle.sysv_steps.specs.Call.{Kind, kind_of}
 use Rattle.sysv_steps.specs.Call.{SystemCall}
 use Rattle.sysv_steps.specs.State.{Wait, Phase, AtBegin, AtInstall, AtSettle, AtUnmake, AtRemove, AtForget, State, Goes}
 use Rattle.sysv_steps.specs.State.{Waits}
@@ -59,26 +60,26 @@ forgets_still ops op id s = (s.0, Contains-append_left ops (op ∷ []) (AtRegist
 
 -- ---- a row of the table
 
-abbrev SettleIf : Option State → ℤ → Type 0
+abbrev SettleIf : {kind : Kind} → Option (State kind) → ℤ → Type 0
 SettleIf None id = Unit {0}
 SettleIf (Some state) id = HasToSettle state id
 
-abbrev ForgetIf : Option State → ℤ → Type 0
+abbrev ForgetIf : {kind : Kind} → Option (State kind) → ℤ → Type 0
 ForgetIf None id = Unit {0}
 ForgetIf (Some state) id = HasToForget state id
 
 -- An identifier that the registry made is to be settled.
-made_now : (phase : Phase) (id : ℤ) → SettleIf (next_of_registry phase (Made id)) id
+made_now : {kind : Kind} (phase : Phase kind) (id : ℤ) → SettleIf (next_of_registry phase (Made id)) id
 made_now (AtBegin get) id = refl
 made_now phase id = tt
 
-removed_now : (phase : Phase) (slot : ℕ) (id : ℤ) (cred : Cred) (messages : List Message) (now : ℕ) →
+removed_now : {kind : Kind} (phase : Phase kind) (slot : ℕ) (id : ℤ) (cred : Cred) (messages : List Message) (now : ℕ) →
     OfSlot slot (Remove id cred) ≡ asks phase now → ForgetIf (next_of_slot phase (Discarded messages)) id
 removed_now (AtRemove by at) slot id cred messages now is = let e : at ≡ id = cc in e
 removed_now phase slot id cred messages now is = tt
 
 -- An identifier that was to be settled still is, or the operation settled it or gave it up.
-abbrev SettledBy : Option State → Op → ℤ → Type 0
+abbrev SettledBy : {kind : Kind} → Option (State kind) → Op → ℤ → Type 0
 SettledBy after op id = SettleIf after id ⊎ ((reply : RegistryReply) × (op ≡ AtRegistry (Settle id) reply))
     ⊎ ((reply : RegistryReply) × (op ≡ AtRegistry (Forget id) reply))
 
@@ -87,7 +88,7 @@ installs made id (Installed true) e = e
 installs made id (Installed false) e = e
 installs made id reply e = tt
 
-settled_now : (phase : Phase) (op : Op) (now : ℕ) (id : ℤ) → HasToSettle (Goes phase) id →
+settled_now : {kind : Kind} (phase : Phase kind) (op : Op) (now : ℕ) (id : ℤ) → HasToSettle (Goes phase) id →
     asked_by op ≡ asks phase now → SettledBy (next phase op) op id
 settled_now (AtInstall get made) (AtSlot slot call reply) now id h is = inl (installs made id reply h)
 settled_now (AtInstall get made) op now id h is = inl tt
@@ -99,10 +100,10 @@ settled_now (AtUnmake made) (AtRegistry call reply) now id h is =
 settled_now (AtUnmake made) op now id h is = inl tt
 settled_now phase op now id h is = absurd h
 
-abbrev ForgottenBy : Option State → Op → ℤ → Type 0
+abbrev ForgottenBy : {kind : Kind} → Option (State kind) → Op → ℤ → Type 0
 ForgottenBy after op id = ForgetIf after id ⊎ ((reply : RegistryReply) × (op ≡ AtRegistry (Forget id) reply))
 
-forgotten_now : (phase : Phase) (op : Op) (now : ℕ) (id : ℤ) → HasToForget (Goes phase) id →
+forgotten_now : {kind : Kind} (phase : Phase kind) (op : Op) (now : ℕ) (id : ℤ) → HasToForget (Goes phase) id →
     asked_by op ≡ asks phase now → ForgottenBy (next phase op) op id
 forgotten_now (AtForget removed blocks) (AtRegistry call reply) now id h is =
     let c : call ≡ Forget id = cc in inr (reply, ap (λ (k : RegistryCall). AtRegistry k reply) c)
@@ -111,7 +112,7 @@ forgotten_now phase op now id h is = absurd h
 
 -- ---- along a play
 
-module _ (ops : List Op) (phase : Phase) (op : Op) (now : ℕ) (next_state : State)
+module _ {kind : Kind} (ops : List Op) (phase : Phase kind) (op : Op) (now : ℕ) (next_state : State kind)
     (is : asked_by op ≡ asks phase now) (n : next phase op ≡ Some next_state)
     (t : IsTended ops (Goes phase)) where
   made_more : (before after : List Op) (call : RegistryCall) (id : ℤ) →
@@ -119,12 +120,12 @@ module _ (ops : List Op) (phase : Phase) (op : Op) (now : ℕ) (next_state : Sta
       HasToSettle next_state id ⊎ Settles after id ⊎ Forgets after id
   made_more before after call id (inl s) =
       let row : next phase (AtRegistry call (Made id)) ≡ Some next_state = ap (next phase) s.1 ∙ n in
-      inl (subst (λ (o : Option State). SettleIf o id) row (made_now phase id))
+      inl (subst (λ (o : Option (State kind)). SettleIf o id) row (made_now phase id))
   made_more before after call id (inr s) =
       subst (λ (ds : List Op). HasToSettle next_state id ⊎ Settles ds id ⊎ Forgets ds id) (sym s.1)
       (elim (t.made before s.0 call id s.2) [
         | inl has ↦ elim (settled_now phase op now id has is) [
-          | inl still ↦ inl (subst (λ (o : Option State). SettleIf o id) n still)
+          | inl still ↦ inl (subst (λ (o : Option (State kind)). SettleIf o id) n still)
           | inr by ↦ elim by [
             | inl d ↦ inr (inl (d.0, subst (Contains (s.0 ++ op ∷ [])) d.1 (Contains-push s.0 op)))
             | inr d ↦ inr (inr (d.0, subst (Contains (s.0 ++ op ∷ [])) d.1 (Contains-push s.0 op)))
@@ -142,13 +143,13 @@ module _ (ops : List Op) (phase : Phase) (op : Op) (now : ℕ) (next_state : Sta
   removed_more before after slot cred messages id (inl s) =
       let row : next phase (AtSlot slot (Remove id cred) (Discarded messages)) ≡ Some next_state =
       ap (next phase) s.1 ∙ n in
-      inl (subst (λ (o : Option State). ForgetIf o id) row
+      inl (subst (λ (o : Option (State kind)). ForgetIf o id) row
       (removed_now phase slot id cred messages now (ap asked_by s.1 ∙ is)))
   removed_more before after slot cred messages id (inr s) =
       subst (λ (ds : List Op). HasToForget next_state id ⊎ Forgets ds id) (sym s.1)
       (elim (t.removed before s.0 slot cred messages id s.2) [
         | inl has ↦ elim (forgotten_now phase op now id has is) [
-          | inl still ↦ inl (subst (λ (o : Option State). ForgetIf o id) n still)
+          | inl still ↦ inl (subst (λ (o : Option (State kind)). ForgetIf o id) n still)
           | inr d ↦ inr (d.0, subst (Contains (s.0 ++ op ∷ [])) d.1 (Contains-push s.0 op))
         ]
         | inr d ↦ inr (forgets_still s.0 op id d)
@@ -164,14 +165,14 @@ module _ (ops : List Op) (phase : Phase) (op : Op) (now : ℕ) (next_state : Sta
   }
 
 -- A call whose wait has just ended has nothing to do at the registry, nor had it in the wait.
-after_wait : (ops : List Op) (wait : Wait) (state : State) → IsTended ops (Waits wait) → IsTended ops state
+after_wait : {kind : Kind} (ops : List Op) (wait : Wait kind) (state : State kind) → IsTended ops (Waits wait) → IsTended ops state
 after_wait ops wait state t = record {
   made = λ before after call id e. elim (t.made before after call id e) [ inl h ↦ absurd h | inr d ↦ inr d ];
   removed = λ before after slot cred messages id e.
       elim (t.removed before after slot cred messages id e) [ inl h ↦ absurd h | inr d ↦ inr d ];
 }
 
-pub each_tended : (cred : Cred) (asked : SystemCall) (released : ℕ) (ops : List Op) (state : State) →
+pub each_tended : (cred : Cred) (asked : SystemCall) (released : ℕ) (ops : List Op) (state : State (kind_of asked)) →
     Plays (begin cred asked released) ops state → IsTended ops state
 each_tended cred asked released _ _ begins = record {
   made = λ before after call id e. none_after before after (AtRegistry call (Made id)) e;

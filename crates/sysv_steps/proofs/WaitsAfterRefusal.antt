@@ -9,6 +9,7 @@ use Rattle.sysv_model.specs.Registry.{RegistryCall, Begin, RegistryReply, Found,
 use Rattle.sysv_model.specs.Pool.{PoolCall, Reserve, PoolReply, TooFew, Released, Foreign}
 use Rattle.sysv_model.specs.Turn.{OfSlot, OfRegistry, OfPool, Op, AtSlot, AtRegistry, AtPool, asked_by}
 use Rattle.sysv_keys.specs.Identifier.{slot_of_id}
+use Rattle.sysv_steps.specs.Call.{Kind, Sends, Receives, Sets, Removes, kind_of}
 use Rattle.sysv_steps.specs.Call.{SystemCall, Msgget, Msgsnd, Msgrcv, MsgctlStat, MsgctlSet, MsgctlRmid}
 use Rattle.sysv_steps.specs.State.{Getting, Sending, Receiving, Wait, OnSettled, OnFreed, OnReleased, OnArrived}
 use Rattle.sysv_steps.specs.State.{Afterwards, IsRefused, WaitsOn, Phase, AtBegin, AtInstall, AtSettle, AtProbe}
@@ -28,13 +29,13 @@ use Rattle.sysv_steps.specs.Answers.{is_at_slot}
 use Rattle.sysv_steps.proofs.Among.{kept}
 
 -- A send that releases its chain waits for room after that, if it waits at all.
-abbrev LatelyAfter : List Op → Afterwards → Type 0
+abbrev LatelyAfter : List Op → Afterwards Sends → Type 0
 LatelyAfter ops (IsRefused why) = Unit {0}
 LatelyAfter ops (WaitsOn (OnFreed goal send)) = WaitsFor (OnFreed goal send) ops
 LatelyAfter ops (WaitsOn wait) = ⊥
 
 -- The last operations of a call that waits or is before a probe.
-abbrev Lately : List Op → State → Type 0
+abbrev Lately : {kind : Kind} → List Op → State kind → Type 0
 Lately ops (Goes (AtProbe get id settled)) =
     EndsWith (AtRegistry (Begin get.key get.flags) (Found id settled) ∷ []) ops
 Lately ops (Goes (AtSendGiveback blocks afterwards)) = LatelyAfter ops afterwards
@@ -42,7 +43,7 @@ Lately ops (Goes phase) = Unit {0}
 Lately ops (Waits wait) = WaitsFor wait ops
 Lately ops (Over ending) = Unit {0}
 
-abbrev LatelyIf : List Op → Option State → Type 0
+abbrev LatelyIf : {kind : Kind} → List Op → Option (State kind) → Type 0
 LatelyIf ops None = Unit {0}
 LatelyIf ops (Some state) = Lately ops state
 
@@ -81,7 +82,7 @@ probe_step ops get id settled Gone h =
     in (settled, refl, inr (id, (h.0, was)))
 probe_step ops get id settled reply h = tt
 
-waits_so : (ops : List Op) (nowait : Bool) (wait : Wait) (why : Errno) → WaitsFor wait ops →
+waits_so : {kind : Kind} (ops : List Op) (nowait : Bool) (wait : Wait kind) (why : Errno) → WaitsFor wait ops →
     Lately ops (goes_on (waits_or nowait wait why))
 waits_so ops true wait why h = tt
 waits_so ops false wait why h = h
@@ -134,23 +135,23 @@ full_still : (send : Sending) (freed : ℕ) (ops : List Op) (call : PoolCall) (r
 full_still send freed ops call reply (inl h) = inl (last_still _ ops call reply h)
 full_still send freed ops call reply (inr h) = inr (h.0, last_still _ ops call reply h.1)
 
-given_back : (ops : List Op) (afterwards : Afterwards) (call : PoolCall) (reply : PoolReply) →
+given_back : (ops : List Op) (afterwards : Afterwards Sends) (call : PoolCall) (reply : PoolReply) →
     LatelyAfter ops afterwards → Lately (ops ++ AtPool call reply ∷ []) (goes_on afterwards)
 given_back ops (IsRefused why) call reply h = tt
 given_back ops (WaitsOn (OnFreed goal send)) call reply h = (h.0, h.1, full_still send h.0 ops call reply h.2)
 given_back ops (WaitsOn wait) call reply h = absurd h
 
-send_giveback_step : (ops : List Op) (afterwards : Afterwards) (call : PoolCall) (reply : PoolReply) →
+send_giveback_step : (ops : List Op) (afterwards : Afterwards Sends) (call : PoolCall) (reply : PoolReply) →
     LatelyAfter ops afterwards →
     LatelyIf (ops ++ AtPool call reply ∷ []) (after_giveback (goes_on afterwards) reply)
 send_giveback_step ops afterwards call Released h = given_back ops afterwards call Released h
 send_giveback_step ops afterwards call Foreign h = given_back ops afterwards call Foreign h
 send_giveback_step ops afterwards call reply h = tt
 
-giveback_step : (ops : List Op) (ending : Ending) (reply : PoolReply) →
-    LatelyIf ops (after_giveback (Over ending) reply)
-giveback_step ops ending Released = tt
-giveback_step ops ending reply = tt
+giveback_step : (kind : Kind) (ops : List Op) (ending : Ending) (reply : PoolReply) →
+    LatelyIf {kind = kind} ops (after_giveback (Over ending) reply)
+giveback_step kind ops ending Released = tt
+giveback_step kind ops ending reply = tt
 
 take_step : (ops : List Op) (receive : Receiving) (now : ℕ) (reply : Reply) →
     LatelyIf (ops
@@ -181,7 +182,7 @@ forget_step ops blocks (Changed done) = tt
 forget_step ops blocks reply = tt
 
 -- The operation, by the request of the call at its step.
-at_slot : (phase : Phase) (ops : List Op) (slot : ℕ) (call : Call) (reply : Reply) (now : ℕ) →
+at_slot : {kind : Kind} (phase : Phase kind) (ops : List Op) (slot : ℕ) (call : Call) (reply : Reply) (now : ℕ) →
     Lately ops (Goes phase) → OfSlot slot call ≡ asks phase now →
     LatelyIf (ops ++ AtSlot slot call reply ∷ []) (next_of_slot phase reply)
 at_slot (AtInstall get id) ops slot call reply now h is = install_step (ops ++ AtSlot slot call reply ∷ []) id reply
@@ -214,7 +215,7 @@ at_slot (AtSet cred id to) ops slot call reply now h is = set_step (ops ++ AtSlo
 at_slot (AtRemove cred id) ops slot call reply now h is = remove_step (ops ++ AtSlot slot call reply ∷ []) id reply
 at_slot phase ops slot call reply now h is = tt
 
-at_registry : (phase : Phase) (ops : List Op) (call : RegistryCall) (reply : RegistryReply) (now : ℕ) →
+at_registry : {kind : Kind} (phase : Phase kind) (ops : List Op) (call : RegistryCall) (reply : RegistryReply) (now : ℕ) →
     Lately ops (Goes phase) → OfRegistry call ≡ asks phase now →
     LatelyIf (ops ++ AtRegistry call reply ∷ []) (next_of_registry phase reply)
 at_registry (AtBegin get) ops call reply now h is =
@@ -227,7 +228,7 @@ at_registry (AtForget id blocks) ops call reply now h is =
     forget_step (ops ++ AtRegistry call reply ∷ []) blocks reply
 at_registry phase ops call reply now h is = tt
 
-at_pool : (phase : Phase) (ops : List Op) (call : PoolCall) (reply : PoolReply) (now : ℕ) →
+at_pool : {kind : Kind} (phase : Phase kind) (ops : List Op) (call : PoolCall) (reply : PoolReply) (now : ℕ) →
     Lately ops (Goes phase) → OfPool call ≡ asks phase now →
     LatelyIf (ops ++ AtPool call reply ∷ []) (next_of_pool phase reply)
 at_pool (AtReserve send) ops call reply now h is =
@@ -236,12 +237,12 @@ at_pool (AtReserve send) ops call reply now h is =
     (reserve_step ops send reply)
 at_pool (AtSendGiveback blocks afterwards) ops call reply now h is = send_giveback_step ops afterwards call reply h
 at_pool (AtReceiveGiveback blocks mtype text) ops call reply now h is =
-    giveback_step (ops ++ AtPool call reply ∷ []) (Got mtype text) reply
-at_pool AtSetGiveback ops call reply now h is = giveback_step (ops ++ AtPool call reply ∷ []) Zero reply
-at_pool (AtRemoveGiveback blocks) ops call reply now h is = giveback_step (ops ++ AtPool call reply ∷ []) Zero reply
+    giveback_step Receives (ops ++ AtPool call reply ∷ []) (Got mtype text) reply
+at_pool AtSetGiveback ops call reply now h is = giveback_step Sets (ops ++ AtPool call reply ∷ []) Zero reply
+at_pool (AtRemoveGiveback blocks) ops call reply now h is = giveback_step Removes (ops ++ AtPool call reply ∷ []) Zero reply
 at_pool phase ops call reply now h is = tt
 
-one_more : (phase : Phase) (ops : List Op) (op : Op) (now : ℕ) → Lately ops (Goes phase) →
+one_more : {kind : Kind} (phase : Phase kind) (ops : List Op) (op : Op) (now : ℕ) → Lately ops (Goes phase) →
     asked_by op ≡ asks phase now → LatelyIf (ops ++ op ∷ []) (next phase op)
 one_more phase ops (AtSlot slot call reply) now h is = at_slot phase ops slot call reply now h is
 one_more phase ops (AtRegistry call reply) now h is = at_registry phase ops call reply now h is
@@ -259,11 +260,11 @@ started cred (MsgctlStat id) released false = tt
 started cred (MsgctlSet id to) released false = tt
 started cred (MsgctlRmid id) released false = tt
 
-resumed : (ops : List Op) (wait : Wait) (value : ℕ) → Lately ops (Goes (resume wait value))
+resumed : {kind : Kind} (ops : List Op) (wait : Wait kind) (value : ℕ) → Lately ops (Goes (resume wait value))
 resumed ops (OnSettled goal get) value = tt
 resumed ops wait value = tt
 
-along : (cred : Cred) (asked : SystemCall) (released : ℕ) (ops : List Op) (state : State) →
+along : (cred : Cred) (asked : SystemCall) (released : ℕ) (ops : List Op) (state : State (kind_of asked)) →
     Plays (begin cred asked released) ops state → Lately ops state
 along cred asked released _ _ begins = started cred asked released (is_refused asked)
 along cred asked released _ _ (steps {ops} {phase} op now after p is n) =
@@ -271,6 +272,6 @@ along cred asked released _ _ (steps {ops} {phase} op now after p is n) =
     (one_more phase ops op now (along cred asked released ops (Goes phase) p) is)
 along cred asked released _ _ (resumes {ops} {wait} value p least) = resumed ops wait value
 
-pub each_waits : (cred : Cred) (asked : SystemCall) (released : ℕ) (ops : List Op) (wait : Wait) →
+pub each_waits : (cred : Cred) (asked : SystemCall) (released : ℕ) (ops : List Op) (wait : Wait (kind_of asked)) →
     Plays (begin cred asked released) ops (Waits wait) → WaitsFor wait ops
 each_waits cred asked released ops wait p = along cred asked released ops (Waits wait) p

@@ -6,12 +6,13 @@ use Rattle.sysv_model.specs.Registry.{Begin, Settle, Forget}
 use Rattle.sysv_model.specs.Pool.{Reserve, Release}
 use Rattle.sysv_model.specs.Turn.{Ask, OfSlot, OfRegistry, OfPool}
 use Rattle.sysv_keys.specs.Identifier.{slot_of_id}
+use Rattle.sysv_steps.specs.Call.{Kind}
 use Rattle.sysv_steps.specs.State.{Phase, AtBegin, AtInstall, AtSettle, AtProbe, AtUnmake, AtLook, AtReserve, AtPlace}
 use Rattle.sysv_steps.specs.State.{AtSendGiveback, AtTake, AtReceiveGiveback, AtStat, AtSet, AtSetGiveback, AtRemove}
 use Rattle.sysv_steps.specs.State.{AtForget, AtRemoveGiveback}
 
 -- The request of a call at this step, made at the time `now`.
-abbrev pub asks : Phase → ℕ → Ask
+abbrev pub asks : {kind : Kind} → Phase kind → ℕ → Ask
 asks (AtBegin get) now = OfRegistry (Begin get.key get.flags)
 asks (AtInstall get id) now = OfSlot (slot_of_id id) (Install id get.key get.cred get.flags.0 now)
 asks (AtSettle id) now = OfRegistry (Settle id)

@@ -12,6 +12,7 @@ use Rattle.sysv_model.specs.Registry.{Begin, Settle, Forget}
 use Rattle.sysv_model.specs.Pool.{Reserve, Release}
 use Rattle.sysv_model.specs.Turn.{Ask, OfSlot, OfRegistry, OfPool, Op, asked_by}
 use Rattle.sysv_keys.specs.Identifier.{slot_of_id}
+use Rattle.sysv_steps.specs.Call.{kind_of}
 use Rattle.sysv_steps.specs.Call.{SystemCall, Msgget, Msgsnd, Msgrcv, MsgctlStat, MsgctlSet, MsgctlRmid}
 use Rattle.sysv_steps.specs.State.{State}
 use Rattle.sysv_steps.specs.Begin.{begin}
@@ -49,5 +50,5 @@ AllAskFor cred asked ops = All (λ (op : Op). AsksFor cred asked (asked_by op)) 
 
 -- Each operation of a call makes such a request, in every state of the call.
 abbrev pub EachOpIsAskedFor : Type 0
-EachOpIsAskedFor = (cred : Cred) (asked : SystemCall) (released : ℕ) (ops : List Op) (state : State) →
+EachOpIsAskedFor = (cred : Cred) (asked : SystemCall) (released : ℕ) (ops : List Op) (state : State (kind_of asked)) →
     Plays (begin cred asked released) ops state → AllAskFor cred asked ops

@@ -8,7 +8,7 @@ use Rattle.sysv_model.specs.declared.flags.TheConstants.Flags.{IPC_NOWAIT, MSG_N
 use Rattle.sysv_model.specs.declared.limits.TheConstants.{MESSAGE_BYTES}
 use Rattle.sysv_model.specs.HasFlag.{has_flag}
 use Rattle.sysv_model.specs.Selector.{selector_for}
-use Rattle.sysv_steps.specs.Call.{SystemCall, Msgget, Msgsnd, Msgrcv, MsgctlStat, MsgctlSet, MsgctlRmid}
+use Rattle.sysv_steps.specs.Call.{SystemCall, Msgget, Msgsnd, Msgrcv, MsgctlStat, MsgctlSet, MsgctlRmid, kind_of}
 use Rattle.sysv_steps.specs.State.{Phase, AtBegin, AtLook, AtTake, AtStat, AtSet, AtRemove, State, Goes, Over, Refused}
 
 -- The call's own arguments are refused: a type below 1, a body of more than 8,192 bytes, or an
@@ -23,7 +23,7 @@ is_refused (MsgctlSet id to) = int_lt id (pos 0)
 is_refused (MsgctlRmid id) = int_lt id (pos 0)
 
 -- The first step of a call.
-abbrev pub first : Cred → SystemCall → ℕ → Phase
+abbrev pub first : Cred → (call : SystemCall) → ℕ → Phase (kind_of call)
 first cred (Msgget key flags) released = AtBegin record { cred = cred; key = key; flags = flags }
 first cred (Msgsnd id mtype flags text) released =
     AtLook record {
@@ -50,5 +50,5 @@ first cred (MsgctlSet id to) released = AtSet cred id to
 first cred (MsgctlRmid id) released = AtRemove cred id
 
 -- The state of a call at its start.
-abbrev pub begin : Cred → SystemCall → ℕ → State
+abbrev pub begin : Cred → (call : SystemCall) → ℕ → State (kind_of call)
 begin cred call released = if is_refused call then Over (Refused EINVAL) else Goes (first cred call released)

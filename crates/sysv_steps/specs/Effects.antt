@@ -5,6 +5,7 @@ use Rattle.std.specs.Prelude.{ℕ, ◌+◌, ◌≤◌, List, length, count_by}
 use Rattle.std.specs.List.{flat_map}
 use Rattle.sysv_model.specs.declared.cred.Cred.{Cred}
 use Rattle.sysv_model.specs.Turn.{Op}
+use Rattle.sysv_steps.specs.Call.{kind_of}
 use Rattle.sysv_steps.specs.Call.{SystemCall}
 use Rattle.sysv_steps.specs.State.{State}
 use Rattle.sysv_steps.specs.Begin.{begin}
@@ -21,5 +22,5 @@ effects ops =
 -- Each call that plays these operations to a state, whether or not it is over, has at most one
 -- effect.
 abbrev pub EachHasOneEffect : Type 0
-EachHasOneEffect = (cred : Cred) (asked : SystemCall) (released : ℕ) (ops : List Op) (state : State) →
+EachHasOneEffect = (cred : Cred) (asked : SystemCall) (released : ℕ) (ops : List Op) (state : State (kind_of asked)) →
     Plays (begin cred asked released) ops state → effects ops ≤ 1

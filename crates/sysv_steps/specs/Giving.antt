@@ -5,6 +5,7 @@ use Rattle.std.specs.Prelude.{◌≡◌, ◌⊎◌, ℕ, List, [], ◌∷◌, �
 use Rattle.sysv_model.specs.History.{Taken}
 use Rattle.sysv_model.specs.Turn.{Ask, Op, AtSlot}
 use Rattle.sysv_queue.specs.Delivery.{Given}
+use Rattle.sysv_steps.specs.Call.{Receives}
 use Rattle.sysv_steps.specs.declared.receive.ReceiveStep.{ReceiveStep}
 use Rattle.sysv_steps.specs.declared.receive.ReceiveStep.TheVariants as step
 use Rattle.sysv_steps.specs.declared.receive.ReceiveWait.{ReceiveWait}
@@ -50,7 +51,7 @@ StepsGiving takes misses may there text before kept stands out after keeps =
 -- ---- a receive that gives nothing
 
 -- The state has no message to return.
-abbrev pub GivesNothing : State → Type 0
+abbrev pub GivesNothing : State Receives → Type 0
 GivesNothing (Goes (AtReceiveGiveback blocks mtype text)) = ⊥
 GivesNothing (Over (Got mtype text)) = ⊥
 GivesNothing s = ⊤

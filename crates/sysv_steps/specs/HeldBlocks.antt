@@ -8,6 +8,7 @@ use Rattle.sysv_model.specs.History.{Call, Place, Accepted, Taken, Discarded}
 use Rattle.sysv_model.specs.Pool.{blocks_for, PoolCall, Reserve, Release, Reserved, Released, Foreign}
 use Rattle.sysv_model.specs.Turn.{Op, AtSlot, AtPool, asked_by}
 use Rattle.sysv_queue.specs.Blocks.{blocks_of}
+use Rattle.sysv_steps.specs.Call.{Kind, kind_of}
 use Rattle.sysv_steps.specs.Call.{SystemCall}
 use Rattle.sysv_steps.specs.State.{Phase, AtPlace, AtSendGiveback, AtReceiveGiveback, AtForget, AtRemoveGiveback, State}
 use Rattle.sysv_steps.specs.State.{Goes}
@@ -17,7 +18,7 @@ use Rattle.sysv_steps.specs.Next.{next}
 use Rattle.sysv_steps.specs.Played.{Plays}
 
 -- The number of blocks that a call holds in this state.
-abbrev pub held : State → ℕ
+abbrev pub held : {kind : Kind} → State kind → ℕ
 held (Goes (AtPlace send blocks)) = blocks
 held (Goes (AtSendGiveback blocks afterwards)) = blocks
 held (Goes (AtReceiveGiveback blocks mtype text)) = blocks
@@ -50,7 +51,7 @@ left_by (AtPool call Foreign) = released_by call
 left_by op = 0
 
 -- A send before its place holds the number of blocks that its body needs.
-abbrev pub HasItsBlocks : State → Type 0
+abbrev pub HasItsBlocks : {kind : Kind} → State kind → Type 0
 HasItsBlocks (Goes (AtPlace send blocks)) = blocks ≡ blocks_for (length send.text)
 HasItsBlocks state = Unit {0}
 
@@ -62,19 +63,19 @@ GivesWhatIsAsked ops =
 
 -- What the call holds and what left it are what it received, and a send before its place has its
 -- blocks.
-pub record HoldsItsBlocks (ops : List Op) (state : State) : Type 0 where
+pub record HoldsItsBlocks {kind : Kind} (ops : List Op) (state : State kind) : Type 0 where
   pub balance : held state + sum_by left_by ops ≡ sum_by given_by ops
   pub at_place : HasItsBlocks state
 
 -- This holds in each state to which a call plays, if the pool grants what is requested.
 abbrev pub EachHoldsItsBlocks : Type 0
-EachHoldsItsBlocks = (cred : Cred) (asked : SystemCall) (released : ℕ) (ops : List Op) (state : State) →
+EachHoldsItsBlocks = (cred : Cred) (asked : SystemCall) (released : ℕ) (ops : List Op) (state : State (kind_of asked)) →
     Plays (begin cred asked released) ops state → GivesWhatIsAsked ops → HoldsItsBlocks ops state
 
 -- It also holds at each step: what the call held before and received is what left it and what it
 -- holds afterwards.
 abbrev pub EachStepKeepsItsBlocks : Type 0
 EachStepKeepsItsBlocks =
-    (phase : Phase) (op : Op) (now : ℕ) (after : State) → HasItsBlocks (Goes phase) → GivesWhatIsAsked (op ∷ []) →
-    asked_by op ≡ asks phase now → next phase op ≡ Some after →
+    (kind : Kind) (phase : Phase kind) (op : Op) (now : ℕ) (after : State kind) → HasItsBlocks (Goes phase) →
+    GivesWhatIsAsked (op ∷ []) → asked_by op ≡ asks phase now → next phase op ≡ Some after →
     held after + left_by op ≡ held (Goes phase) + given_by op

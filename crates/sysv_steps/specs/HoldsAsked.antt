@@ -7,6 +7,7 @@ use Rattle.sysv_model.specs.declared.flags.TheConstants.Flags.{MSG_NOERROR}
 use Rattle.sysv_model.specs.HasFlag.{has_flag}
 use Rattle.sysv_model.specs.Selector.{selector_for}
 use Rattle.sysv_model.specs.Turn.{Op}
+use Rattle.sysv_steps.specs.Call.{kind_of}
 use Rattle.sysv_steps.specs.Call.{SystemCall, Msgget, Msgsnd, Msgrcv, MsgctlStat, MsgctlSet, MsgctlRmid}
 use Rattle.sysv_steps.specs.State.{Getting, Sending, Receiving, Wait, OnSettled, OnFreed, OnReleased, OnArrived}
 use Rattle.sysv_steps.specs.State.{Afterwards, IsRefused, WaitsOn, Phase, AtBegin, AtInstall, AtSettle, AtProbe}
@@ -35,21 +36,21 @@ pub record IsReceive (by : Cred) (at : ℤ) (wanted : ℕ) (type : ℤ) (flags :
   pub size : receive.size ≡ wanted
   pub noerror : receive.noerror ≡ has_flag MSG_NOERROR flags
 
--- What a call holds in a wait. No other call is in such a wait.
-abbrev pub WaitHolds : Cred → SystemCall → Wait → Type 0
+-- What a call holds in a wait. A msgctl never waits.
+abbrev pub WaitHolds : Cred → (asked : SystemCall) → Wait (kind_of asked) → Type 0
 WaitHolds cred (Msgget key flags) (OnSettled goal get) = IsGet cred key flags get
 WaitHolds cred (Msgsnd id mtype flags text) (OnFreed goal send) = IsSend cred id mtype text send
 WaitHolds cred (Msgsnd id mtype flags text) (OnReleased goal send) = IsSend cred id mtype text send
 WaitHolds cred (Msgrcv id size mtype flags) (OnArrived goal receive) = IsReceive cred id size mtype flags receive
-WaitHolds cred asked wait = ⊥
+WaitHolds cred asked wait = elim wait [ ]
 
 -- What a send holds for the time after it has released its chain.
-abbrev pub AfterwardsHolds : Cred → SystemCall → Afterwards → Type 0
+abbrev pub AfterwardsHolds : Cred → (asked : SystemCall) → Afterwards (kind_of asked) → Type 0
 AfterwardsHolds cred asked (IsRefused why) = Unit {0}
 AfterwardsHolds cred asked (WaitsOn wait) = WaitHolds cred asked wait
 
--- What a call holds before a step. No other call is before such a step.
-abbrev pub PhaseHolds : Cred → SystemCall → Phase → Type 0
+-- What a call holds before a step.
+abbrev pub PhaseHolds : Cred → (asked : SystemCall) → Phase (kind_of asked) → Type 0
 PhaseHolds cred (Msgget key flags) (AtBegin get) = IsGet cred key flags get
 PhaseHolds cred (Msgget key flags) (AtInstall get id) = IsGet cred key flags get
 PhaseHolds cred (Msgget key flags) (AtSettle id) = Unit {0}
@@ -68,15 +69,14 @@ PhaseHolds cred (MsgctlSet id to) AtSetGiveback = Unit {0}
 PhaseHolds cred (MsgctlRmid id) (AtRemove by at) = (by ≡ cred) × (at ≡ id)
 PhaseHolds cred (MsgctlRmid id) (AtForget at blocks) = at ≡ id
 PhaseHolds cred (MsgctlRmid id) (AtRemoveGiveback blocks) = Unit {0}
-PhaseHolds cred asked phase = ⊥
 
 -- What a call holds in this state. A call that is over holds nothing.
-abbrev pub Holds : Cred → SystemCall → State → Type 0
+abbrev pub Holds : Cred → (asked : SystemCall) → State (kind_of asked) → Type 0
 Holds cred asked (Goes phase) = PhaseHolds cred asked phase
 Holds cred asked (Waits wait) = WaitHolds cred asked wait
 Holds cred asked (Over ending) = Unit {0}
 
 -- This holds in each state to which a call plays.
 abbrev pub EachHoldsWhatItWasAsked : Type 0
-EachHoldsWhatItWasAsked = (cred : Cred) (asked : SystemCall) (released : ℕ) (ops : List Op) (state : State) →
+EachHoldsWhatItWasAsked = (cred : Cred) (asked : SystemCall) (released : ℕ) (ops : List Op) (state : State (kind_of asked)) →
     Plays (begin cred asked released) ops state → Holds cred asked state

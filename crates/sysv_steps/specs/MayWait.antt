@@ -4,6 +4,7 @@
 use Rattle.std.specs.Prelude.{◌≡◌, ℕ, false, List}
 use Rattle.sysv_model.specs.declared.cred.Cred.{Cred}
 use Rattle.sysv_model.specs.Turn.{Op}
+use Rattle.sysv_steps.specs.Call.{kind_of}
 use Rattle.sysv_steps.specs.Call.{SystemCall, Msgget, Msgsnd, Msgrcv, MsgctlStat, MsgctlSet, MsgctlRmid}
 use Rattle.sysv_steps.specs.State.{Wait, Waits}
 use Rattle.sysv_steps.specs.Begin.{begin}
@@ -21,5 +22,5 @@ MayWait (MsgctlRmid id) = ⊥
 
 -- Each call that plays to a wait may wait.
 abbrev pub EachWaitsWhereItMay : Type 0
-EachWaitsWhereItMay = (cred : Cred) (asked : SystemCall) (released : ℕ) (ops : List Op) (wait : Wait) →
+EachWaitsWhereItMay = (cred : Cred) (asked : SystemCall) (released : ℕ) (ops : List Op) (wait : Wait (kind_of asked)) →
     Plays (begin cred asked released) ops (Waits wait) → MayWait asked

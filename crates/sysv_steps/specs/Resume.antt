@@ -3,6 +3,7 @@
 -- the value, as the released count that the call read last.
 use Rattle.std.specs.Prelude.{ℕ}
 use Rattle.sysv_keys.specs.Identifier.{slot_of_id}
+use Rattle.sysv_steps.specs.Call.{Kind}
 use Rattle.sysv_steps.specs.State.{Wait, OnSettled, OnFreed, OnReleased, OnArrived, Phase, AtBegin, AtLook, AtTake}
 
 -- A count that rises: of a slot, of the registry or of the pool.
@@ -13,21 +14,21 @@ pub data Count : Type 0 where
   Released : Count
 
 -- The count for which a call waits.
-abbrev pub awaited : Wait → Count
+abbrev pub awaited : {kind : Kind} → Wait kind → Count
 awaited (OnSettled goal get) = Settled
 awaited (OnFreed goal send) = FreedOf (slot_of_id send.id)
 awaited (OnReleased goal send) = Released
 awaited (OnArrived goal receive) = ArrivedOf (slot_of_id receive.id)
 
 -- The value that the count must reach at least.
-abbrev pub goal_of : Wait → ℕ
+abbrev pub goal_of : {kind : Kind} → Wait kind → ℕ
 goal_of (OnSettled goal get) = goal
 goal_of (OnFreed goal send) = goal
 goal_of (OnReleased goal send) = goal
 goal_of (OnArrived goal receive) = goal
 
 -- The step at which the call continues, by the value that ended its wait.
-abbrev pub resume : Wait → ℕ → Phase
+abbrev pub resume : {kind : Kind} → Wait kind → ℕ → Phase kind
 resume (OnSettled goal get) value = AtBegin get
 resume (OnFreed goal send) value = AtLook send
 resume (OnReleased goal send) value = AtLook (record send { released = value })

@@ -9,6 +9,7 @@ use Rattle.sysv_model.specs.Registry.{Forget, Changed}
 use Rattle.sysv_model.specs.Turn.{Ask, Op, AtRegistry, AtPool, OfRegistry, OfPool, asked_by}
 use Rattle.sysv_pool.specs.Chain.{Chained}
 use Rattle.sysv_pool.specs.Replies.{release_reply}
+use Rattle.sysv_steps.specs.Call.{Kind}
 use Rattle.sysv_steps.specs.State.{IsRefused, Phase, AtInstall, AtUnmake, AtPlace, AtSendGiveback, AtTake}
 use Rattle.sysv_steps.specs.State.{AtReceiveGiveback, AtSet, AtSetGiveback, AtForget, AtRemoveGiveback, Zero, Got}
 use Rattle.sysv_steps.specs.State.{Refused, State, Goes, Over}
@@ -16,7 +17,7 @@ use Rattle.sysv_steps.specs.Asks.{asks}
 use Rattle.sysv_steps.specs.Next.{goes_on, gives_back, next}
 
 -- The steps that use the time.
-abbrev pub is_stamped : Phase → Bool
+abbrev pub is_stamped : {kind : Kind} → Phase kind → Bool
 is_stamped (AtInstall get id) = true
 is_stamped (AtPlace send blocks) = true
 is_stamped (AtTake receive) = true
@@ -38,7 +39,7 @@ refused_blocks op = 0
 -- The state of a call after a step whose gate was worn out. Most calls are over with EOVERFLOW. A
 -- send that holds a chain releases it first. A call that only had a chain to release or an
 -- identifier to forget continues as if it had done so.
-abbrev pub when_worn : Phase → State
+abbrev pub when_worn : {kind : Kind} → Phase kind → State kind
 when_worn (AtUnmake id) = Over (Refused ENOSPC)
 when_worn (AtPlace send blocks) = gives_back blocks (IsRefused EOVERFLOW)
 when_worn (AtSendGiveback blocks afterwards) = goes_on afterwards
@@ -49,7 +50,7 @@ when_worn (AtRemoveGiveback blocks) = Over Zero
 when_worn phase = Over (Refused EOVERFLOW)
 
 -- The blocks that the caller then keeps, because the gate of the pool does not take them.
-abbrev pub kept_when_worn : Phase → ℕ
+abbrev pub kept_when_worn : {kind : Kind} → Phase kind → ℕ
 kept_when_worn (AtSendGiveback blocks afterwards) = blocks
 kept_when_worn (AtReceiveGiveback blocks mtype text) = blocks
 kept_when_worn (AtRemoveGiveback blocks) = blocks
@@ -65,8 +66,8 @@ module _ {P : Type 0} (takes : P → Op → P → Type 0) (misses : P → Ask �
 
   -- One step of a call: a turn at the object of the step. If the step uses the time, that is one
   -- that the clock may return.
-  pub record Steps (may : ℕ → Type 0) (phase : Phase) (before : P) (kept : ℕ) (state : State) (after : P)
-      (keeps : ℕ) : Type 0 where
+  pub record Steps {kind : Kind} (may : ℕ → Type 0) (phase : Phase kind) (before : P) (kept : ℕ) (state : State kind)
+      (after : P) (keeps : ℕ) : Type 0 where
     pub op : Op
     pub now : ℕ
     pub moment : is_stamped phase ≡ true → may now
@@ -83,15 +84,15 @@ module _ {P : Type 0} (takes : P → Op → P → Type 0) (misses : P → Ask �
 
   -- What a call does after it found the gate of a step worn out. If a queue could not be installed,
   -- its identifier is forgotten.
-  abbrev pub TurnsBack : Phase → P → ℕ → List Op → State → P → ℕ → Type 0
+  abbrev pub TurnsBack : {kind : Kind} → Phase kind → P → ℕ → List Op → State kind → P → ℕ → Type 0
   TurnsBack (AtInstall get id) before kept ops state after keeps =
       (state ≡ Over (Refused EOVERFLOW)) × Forgets id before kept ops after keeps
   TurnsBack phase before kept ops state after keeps =
       (state ≡ when_worn phase) × (ops ≡ []) × (after ≡ before) × (keeps ≡ kept + kept_when_worn phase)
 
   -- A step of a call at a worn-out gate, with the turns that it made at other gates.
-  pub record FindsNoTurn (may : ℕ → Type 0) (phase : Phase) (before : P) (kept : ℕ) (state : State) (after : P)
-      (keeps : ℕ) : Type 0 where
+  pub record FindsNoTurn {kind : Kind} (may : ℕ → Type 0) (phase : Phase kind) (before : P) (kept : ℕ) (state : State kind)
+      (after : P) (keeps : ℕ) : Type 0 where
     pub ops : List Op
     pub now : ℕ
     pub moment : is_stamped phase ≡ true → may now
@@ -100,7 +101,7 @@ module _ {P : Type 0} (takes : P → Op → P → Type 0) (misses : P → Ask �
     pub back : TurnsBack phase there kept ops state after keeps
 
   -- One step of a call, whether or not its gate is worn out.
-  abbrev pub StepsOn : (ℕ → Type 0) → Phase → P → ℕ → State → P → ℕ → Type 0
+  abbrev pub StepsOn : {kind : Kind} → (ℕ → Type 0) → Phase kind → P → ℕ → State kind → P → ℕ → Type 0
   StepsOn may phase before kept state after keeps =
       Steps may phase before kept state after keeps ⊎ FindsNoTurn may phase before kept state after keeps
 
@@ -122,7 +123,7 @@ module _ {P : Type 0} (takes : P → Op → P → Type 0) (misses : P → Ask �
   -- ---- a step at another clock
 
   -- A step that does not use the time is a step with any clock.
-  pub lifts : (may : ℕ → Type 0) (phase : Phase) (before : P) (kept : ℕ) (state : State) (after : P) (keeps : ℕ) →
+  pub lifts : {kind : Kind} (may : ℕ → Type 0) (phase : Phase kind) (before : P) (kept : ℕ) (state : State kind) (after : P) (keeps : ℕ) →
       StepsOn no_moment phase before kept state after keeps → StepsOn may phase before kept state after keeps
   lifts may phase before kept state after keeps (inl s) = inl (record {
     op = s.op;

@@ -7,20 +7,21 @@ use Rattle.sysv_model.specs.Message.{Message}
 use Rattle.sysv_model.specs.History.{Remove, Discarded}
 use Rattle.sysv_model.specs.Registry.{RegistryCall, Settle, Forget, RegistryReply, Made}
 use Rattle.sysv_model.specs.Turn.{Op, AtSlot, AtRegistry}
+use Rattle.sysv_steps.specs.Call.{Kind, kind_of}
 use Rattle.sysv_steps.specs.Call.{SystemCall}
 use Rattle.sysv_steps.specs.State.{AtInstall, AtSettle, AtUnmake, AtForget, State, Goes}
 use Rattle.sysv_steps.specs.Begin.{begin}
 use Rattle.sysv_steps.specs.Played.{Plays}
 
 -- The call still has to settle this identifier or to give it up.
-abbrev pub HasToSettle : State → ℤ → Type 0
+abbrev pub HasToSettle : {kind : Kind} → State kind → ℤ → Type 0
 HasToSettle (Goes (AtInstall get made)) id = made ≡ id
 HasToSettle (Goes (AtSettle made)) id = made ≡ id
 HasToSettle (Goes (AtUnmake made)) id = made ≡ id
 HasToSettle state id = ⊥
 
 -- The call still has to forget this identifier, whose queue it removed.
-abbrev pub HasToForget : State → ℤ → Type 0
+abbrev pub HasToForget : {kind : Kind} → State kind → ℤ → Type 0
 HasToForget (Goes (AtForget removed blocks)) id = removed ≡ id
 HasToForget state id = ⊥
 
@@ -34,7 +35,7 @@ Forgets ops id = (reply : RegistryReply) × Contains ops (AtRegistry (Forget id)
 
 -- Each identifier that was made, and each whose queue was removed, is dealt with by a later
 -- operation or still has to be.
-pub record IsTended (ops : List Op) (state : State) : Type 0 where
+pub record IsTended {kind : Kind} (ops : List Op) (state : State kind) : Type 0 where
   pub made : (before after : List Op) (call : RegistryCall) (id : ℤ) →
       ops ≡ before ++ AtRegistry call (Made id) ∷ after →
       HasToSettle state id ⊎ Settles after id ⊎ Forgets after id
@@ -44,5 +45,5 @@ pub record IsTended (ops : List Op) (state : State) : Type 0 where
 
 -- This holds in each state to which a call plays.
 abbrev pub EachIsTended : Type 0
-EachIsTended = (cred : Cred) (asked : SystemCall) (released : ℕ) (ops : List Op) (state : State) →
+EachIsTended = (cred : Cred) (asked : SystemCall) (released : ℕ) (ops : List Op) (state : State (kind_of asked)) →
     Plays (begin cred asked released) ops state → IsTended ops state

@@ -9,6 +9,7 @@ use Rattle.sysv_model.specs.Registry.{Begin, Found, Busy}
 use Rattle.sysv_model.specs.Pool.{Reserve, TooFew}
 use Rattle.sysv_model.specs.Turn.{Op, AtSlot, AtRegistry, AtPool}
 use Rattle.sysv_keys.specs.Identifier.{slot_of_id}
+use Rattle.sysv_steps.specs.Call.{Kind, kind_of}
 use Rattle.sysv_steps.specs.Call.{SystemCall}
 use Rattle.sysv_steps.specs.State.{Getting, Sending, Receiving, Wait, OnSettled, OnFreed, OnReleased, OnArrived, Waits}
 use Rattle.sysv_steps.specs.Begin.{begin}
@@ -49,7 +50,7 @@ FoundNone receive arrived ops =
     (Take receive.id receive.cred receive.selector receive.size receive.noerror now) (NoMatch arrived)) ops
 
 -- The wait has this cause in the operations of the call, and this goal.
-abbrev pub WaitsFor : Wait → List Op → Type 0
+abbrev pub WaitsFor : {kind : Kind} → Wait kind → List Op → Type 0
 WaitsFor (OnSettled goal get) ops = (settled : ℕ) × (goal ≡ settled + 1) × WasUnsettled get settled ops
 WaitsFor (OnFreed goal send) ops = (freed : ℕ) × (goal ≡ freed + 1) × WasFull send freed ops
 WaitsFor (OnReleased goal send) ops =
@@ -58,5 +59,5 @@ WaitsFor (OnArrived goal receive) ops = (arrived : ℕ) × (goal ≡ arrived + 1
 
 -- Each call that plays to a wait has such a cause for it.
 abbrev pub EachWaitsForItsRefusal : Type 0
-EachWaitsForItsRefusal = (cred : Cred) (asked : SystemCall) (released : ℕ) (ops : List Op) (wait : Wait) →
+EachWaitsForItsRefusal = (cred : Cred) (asked : SystemCall) (released : ℕ) (ops : List Op) (wait : Wait (kind_of asked)) →
     Plays (begin cred asked released) ops (Waits wait) → WaitsFor wait ops

@@ -13,7 +13,7 @@ use Rattle.sysv_model.specs.History.{Discarded}
 use Rattle.sysv_model.specs.Registry.{Begin, Settle, Forget, Found, Made, Busy, Changed}
 use Rattle.sysv_model.specs.Pool.{Release, Released}
 use Rattle.sysv_model.specs.Turn.{Op, AtSlot, AtRegistry, AtPool}
-use Rattle.sysv_steps.specs.Call.{SystemCall, Msgget, Msgsnd, Msgrcv, MsgctlRmid}
+use Rattle.sysv_steps.specs.Call.{SystemCall, Msgget, Msgsnd, Msgrcv, MsgctlRmid, Receives, Removes, kind_of}
 use Rattle.sysv_steps.specs.State.{Getting, Receiving, OnArrived, AtReceiveGiveback, AtForget, Ending, Id, Zero}
 use Rattle.sysv_steps.specs.State.{Refused, State, Goes, Waits, Over}
 use Rattle.sysv_steps.specs.Begin.{begin}
@@ -28,7 +28,7 @@ abbrev pub caller : Cred
 caller = record { uid = 1000; gid = 1000; pid = 101 }
 
 -- The call of this caller plays these operations to this state.
-abbrev pub PlaysTo : SystemCall → List Op → State → Type 0
+abbrev pub PlaysTo : (asked : SystemCall) → List Op → State (kind_of asked) → Type 0
 PlaysTo asked ops state = Plays (begin caller asked 0) ops state
 
 -- The call of this caller plays these operations to this end.
@@ -133,7 +133,7 @@ pub record WorkedPlays : Type 0 where
   pub waits_longer : ¬ WaitsFor (OnArrived 4 waiting) (finds_none ∷ [])
   -- A receive that took a message takes no other one. No result is right for two messages taken.
   pub takes : PlaysTo receives (takes_it ∷ []) (Goes (AtReceiveGiveback 1 (pos 5) (104 ∷ [])))
-  pub takes_another : (state : State) → ¬ PlaysTo receives (takes_it ∷ takes_it ∷ []) state
+  pub takes_another : (state : State Receives) → ¬ PlaysTo receives (takes_it ∷ takes_it ∷ []) state
   pub taken_twice : (ending : Ending) → ¬ IsRightAnswer receives (takes_it ∷ takes_it ∷ []) ending
   -- To take a message and to remove a queue are two effects, and so are two messages taken.
   pub two_effects : ¬ (effects (takes_it ∷ discards ∷ []) ≤ 1)
@@ -147,4 +147,4 @@ pub record WorkedPlays : Type 0 where
   pub gone : EndsIn removes (discards ∷ forgets ∷ releases ∷ []) Zero
   pub gone_early : ¬ EndsIn removes (discards ∷ []) Zero
   pub tended : IsTended (discards ∷ []) (Goes (AtForget (pos 259) 1))
-  pub untended : ¬ IsTended (discards ∷ []) (Over Zero)
+  pub untended : ¬ IsTended {kind = Removes} (discards ∷ []) (Over Zero)

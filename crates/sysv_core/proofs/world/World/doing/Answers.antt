@@ -1,15 +1,14 @@
 use Rattle.std.proofs.Common.{◌≡◌, ◌+◌, ℕ, suc, ◌<◌, List, Option, Some, None, length, get_or, sym, refl, ap, subst}
 use Rattle.std.proofs.Common.{◌∙◌, arith}
-use Rattle.sysv_steps.specs.State.{State}
 use Rattle.sysv_core.specs.declared.doing.Doing.{Doing}
 use Rattle.sysv_core.specs.Kept.{state_kept, states_kept}
-use Rattle.sysv_core.specs.Standing.{state_at, StandsNowhere, StandsThere}
+use Rattle.sysv_core.specs.Standing.{Pending, state_at, StandsNowhere, StandsThere}
 use Rattle.sysv_core.specs.Seen.{Seen}
 use Rattle.sysv_core.proofs.world.World.doing.Goals as goal
 use Rattle.sysv_core.proofs.KeptActors.{seen_at}
 
 -- What is seen at an actor's place is what is kept there.
-stands_there : (actors : List (Option Doing)) (states : List (Option State)) (actor place : ℕ)
+stands_there : (actors : List (Option Doing)) (states : List (Option Pending)) (actor place : ℕ)
     (here doing : Option Doing) → states_kept actors ≡ states → (actor ≡ place + 1) × (place < length states) →
     here ≡ get_or actors place here → here ≡ doing → state_at states actor ≡ Some (state_kept doing)
 stands_there actors states actor place here doing view there is same =

@@ -37,14 +37,14 @@ returns-clause-single c = λ w s.
     let view = ap (λ (v : Seen). v.states) c.self.view_is in
     let x = c.index_mut.result.now in
     let d = c.in-Some-take.doing in
-    let state = doing_state d in
+    let at = doing_state d in
     let busy = ap state_kept (sym c.take.ensures.value ∙ c.in-Some-take.is) in
     let there = seen_at c.self.inside.actors.items c.args.self.now.states view c.in-Some.place c.in-Some.ensures.1 x
     c.index_mut.ensures.value ∙ ap Some busy in
-    let step = subst (λ (v : Seen). StepLeads v.objects state c.args.now c.advance-led.result c.advance-led.new.objects)
+    let step = subst (λ (v : Seen). StepLeads v.objects at.state c.args.now c.advance-led.result c.advance-led.new.objects)
     c.self.view_is c.advance-led.ensures in
     let goes = step_busy w c.args.self.now s c.each_world_is_sound.ensures.stays c.args.actor c.in-Some.place c.args.now
-    state c.advance-led.result c.advance-led.new.objects (search rules) c.in-Some.ensures.0 there step in
+    at c.advance-led.result c.advance-led.new.objects (search rules) c.in-Some.ensures.0 there step in
     let states = seen_resettled c.self.inside.actors.items c.args.self.now.states view c.in-Some.place
     c.in-Some.ensures.1 c.take.new.self c.settle.new.actors.items c.advance-led.result c.settle.ensures.kept in
     let steps = ap (λ n. c.self.inside.steps + n) c.counted.ensures.counted
@@ -65,7 +65,7 @@ invariant_of-self-2 c =
     let was = c.self.invariant.2 in
     let now = returns-clause-single c was.0 (subst (IsSeenAs was.0) c.self.view_is was.1) in
     let steps = ap (λ (v : Seen). v.steps) c.self.view_is in
-    let up = counts_on c.self.inside.objects (doing_state d) c.args.now c.advance-led.result
+    let up = counts_on c.self.inside.objects (doing_state d).state c.args.now c.advance-led.result
     c.advance-led.new.objects c.self.inside.steps c.advance-led.ensures c.self.invariant.1 in
     let least = c.counted.ensures.least in
     let responses = subst (λ r. messages_given r ≤ counted_led c.advance-led.result) (sym c.settle.ensures.told)
