@@ -296,7 +296,11 @@ module _ (key : ℤ) (flags : Flags) where
 
   at_pool : (phase : Phase Gets) (ops : List Op) (call : PoolCall) (reply : PoolReply) → GetAt ops (Goes phase) →
       GetIf (ops ++ AtPool call reply ∷ []) (next_of_pool phase reply)
-  at_pool phase ops call reply h = tt
+  at_pool (AtBegin get) ops call reply h = tt
+  at_pool (AtInstall get id) ops call reply h = tt
+  at_pool (AtSettle id) ops call reply h = tt
+  at_pool (AtProbe get id settled) ops call reply h = tt
+  at_pool (AtUnmake id) ops call reply h = tt
 
   one_step : (phase : Phase Gets) (ops : List Op) (op : Op) (now : ℕ) → GetAt ops (Goes phase) →
       asked_by op ≡ asks phase now → GetIf (ops ++ op ∷ []) (next phase op)

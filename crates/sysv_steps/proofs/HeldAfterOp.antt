@@ -237,9 +237,9 @@ each_holds cred asked released _ _ (steps {ops} {phase} op now after p is n) g =
 each_holds cred asked released _ _ (resumes {ops} {wait} value p least) g =
     resumed ops wait value (each_holds cred asked released ops (Waits wait) p g)
 
-pub each_step_keeps : (kind : Kind) (phase : Phase kind) (op : Op) (now : ℕ) (after : State kind) → HasItsBlocks (Goes phase) →
-    GivesWhatIsAsked (op ∷ []) →
-    asked_by op ≡ asks phase now → next phase op ≡ Some after →
-    held after + left_by op ≡ held (Goes phase) + given_by op
+pub each_step_keeps : (kind : Kind) (phase : Phase kind) (op : Op) (now : ℕ) (after : State kind) →
+    HasItsBlocks (Goes phase) → GivesWhatIsAsked (op ∷ []) → asked_by op ≡ asks phase now → next phase op ≡ Some after →
+    (held after + left_by op ≡ held (Goes phase) + given_by op) × HasItsBlocks after
 each_step_keeps kind phase op now after h g is n =
-    (subst (IsKeptIf (held (Goes phase)) op) n (one_row [] phase op now h is g)).balance
+    let kept = subst (IsKeptIf (held (Goes phase)) op) n (one_row [] phase op now h is g) in
+    (kept.balance, kept.at_place)

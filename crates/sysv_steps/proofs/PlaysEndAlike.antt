@@ -167,11 +167,16 @@ begun_alike cred (MsgctlStat id) released later false = refl
 begun_alike cred (MsgctlSet id to) released later false = refl
 begun_alike cred (MsgctlRmid id) released later false = refl
 
+-- The ending of a call that is over.
+abbrev end_of : {kind : Kind} → Option (State kind) → Option Ending
+end_of (Some (Over ending)) = Some ending
+end_of state = None
+
 pub one_end : (cred : Cred) (asked : SystemCall) (released later : ℕ) (ops : List Op) (one other : Ending) →
     Plays (begin cred asked released) ops (Over one) → Plays (begin cred asked later) ops (Over other) → one ≡ other
 one_end cred asked released later ops one other p q =
     let here = leads (begin cred asked released) ops (Over one) p in
     let there = leads (begin cred asked later) ops (Over other) q in
     let alike = ap (λ s. along (Some s) ops) (begun_alike cred asked released later (is_refused asked)) in
-    let same : Some (Over {kind = kind_of asked} one) ≡ Some (Over other) = sym here ∙ (alike ∙ there) in
+    let same : Some one ≡ Some other = ap end_of (sym here ∙ (alike ∙ there)) in
     cc

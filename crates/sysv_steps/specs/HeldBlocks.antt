@@ -73,9 +73,9 @@ EachHoldsItsBlocks = (cred : Cred) (asked : SystemCall) (released : ℕ) (ops : 
     Plays (begin cred asked released) ops state → GivesWhatIsAsked ops → HoldsItsBlocks ops state
 
 -- It also holds at each step: what the call held before and received is what left it and what it
--- holds afterwards.
+-- holds afterwards, and a send before its place has its blocks.
 abbrev pub EachStepKeepsItsBlocks : Type 0
 EachStepKeepsItsBlocks =
     (kind : Kind) (phase : Phase kind) (op : Op) (now : ℕ) (after : State kind) → HasItsBlocks (Goes phase) →
     GivesWhatIsAsked (op ∷ []) → asked_by op ≡ asks phase now → next phase op ≡ Some after →
-    held after + left_by op ≡ held (Goes phase) + given_by op
+    (held after + left_by op ≡ held (Goes phase) + given_by op) × HasItsBlocks after
