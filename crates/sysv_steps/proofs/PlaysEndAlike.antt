@@ -9,7 +9,7 @@ use Rattle.sysv_model.specs.History.{Reply, Full, Fits}
 use Rattle.sysv_model.specs.Registry.{RegistryReply}
 use Rattle.sysv_model.specs.Pool.{PoolReply, TooFew, Released, Foreign}
 use Rattle.sysv_model.specs.Turn.{Op, AtSlot, AtRegistry, AtPool}
-use Rattle.sysv_steps.specs.Call.{Kind, Sends, kind_of}
+use Rattle.sysv_steps.specs.Call.{Kind, Sends}
 use Rattle.sysv_steps.specs.Call.{SystemCall, Msgget, Msgsnd, Msgrcv, MsgctlStat, MsgctlSet, MsgctlRmid}
 use Rattle.sysv_steps.specs.State.{Sending, Wait, OnSettled, OnFreed, OnReleased, OnArrived, Afterwards, IsRefused}
 use Rattle.sysv_steps.specs.State.{WaitsOn, Phase, AtBegin, AtLook, AtReserve, AtPlace, AtSendGiveback, Ending, Refused}
