@@ -3,6 +3,7 @@ use Rattle.std.proofs.Common.{◌≡◌, ℕ, ℤ, inl, inr, List, [], ◌++◌,
 use Rattle.std.proofs.lemmas.List.{append-nil}
 use Rattle.sysv_model.specs.Registry.{Forget, Changed}
 use Rattle.sysv_model.specs.Turn.{Ask, OfSlot, OfRegistry, OfPool, Op, AtSlot, AtRegistry, AtPool}
+use Rattle.sysv_steps.specs.Call.{Kind}
 use Rattle.sysv_steps.specs.State.{Phase, AtInstall, State, Goes, Waits}
 use Rattle.sysv_steps.specs.Asks.{asks}
 use Rattle.sysv_steps.specs.Resume.{Count, ArrivedOf, FreedOf, Settled, Released, awaited}
@@ -58,15 +59,15 @@ module _ (start : Member) (done : List Op) (before after : Pass) (so : Does star
       subst (λ ds. Does start (done ++ ds) after.seats.member) (sym none)
       (subst (λ ds. Does start ds after.seats.member) (sym (append-nil done)) still)
 
-  back_does : (phase : Phase) (ops : List Op) (state : State) → TurnsBack phase before ops state after →
-      Does start (done ++ ops) after.seats.member
+  back_does : {kind : Kind} (phase : Phase kind) (ops : List Op) (state : State kind) →
+      TurnsBack phase before ops state after → Does start (done ++ ops) after.seats.member
   back_does (AtInstall get id) ops state back = forgets_does id ops back.1
   back_does phase ops state back = nothing_does ops back.1 back.2
 
 -- ---- a call
 
-module _ (may : ℕ → Type 0) (from : State) (old : Pass) where
-  pub does : (ops : List Op) (state : State) (new : Pass) → Ran may from old ops state new →
+module _ {kind : Kind} (may : ℕ → Type 0) (from : State kind) (old : Pass) where
+  pub does : (ops : List Op) (state : State kind) (new : Pass) → Ran may from old ops state new →
       Does old.seats.member ops new.seats.member
   does _ _ _ begins = starts
   does _ _ _ (steps {ops} {phase} {mid} state new ran step) =

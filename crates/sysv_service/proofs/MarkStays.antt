@@ -10,6 +10,7 @@ use Rattle.sysv_model.specs.declared.errno.Errno.{Errno}
 use Rattle.sysv_model.specs.History.{ReadRow, Shown}
 use Rattle.sysv_model.specs.Registry.{Forget, Changed}
 use Rattle.sysv_model.specs.Turn.{Ask, OfSlot, OfRegistry, OfPool, Op, AtSlot, AtRegistry, AtPool}
+use Rattle.sysv_steps.specs.Call.{Kind}
 use Rattle.sysv_steps.specs.State.{Phase, AtInstall, State, Goes, Waits}
 use Rattle.sysv_steps.specs.Asks.{asks}
 use Rattle.sysv_steps.specs.Resume.{Count, ArrivedOf, FreedOf, Settled, Released, awaited}
@@ -165,8 +166,8 @@ not_forgotten id before ops after none (inl f) =
 not_forgotten id before ops after none (inr f) =
     absurd (not_worn before.seats after.seats none (OfRegistry (Forget id)) f.1)
 
-not_back : (phase : Phase) (before : Pass) (ops : List Op) (state : State) (after : Pass) → IsUnmarked after.seats →
-    TurnsBack phase before ops state after → IsUnmarked before.seats
+not_back : {kind : Kind} (phase : Phase kind) (before : Pass) (ops : List Op) (state : State kind) (after : Pass) →
+    IsUnmarked after.seats → TurnsBack phase before ops state after → IsUnmarked before.seats
 not_back (AtInstall get id) before ops state after none back = not_forgotten id before ops after none back.1
 not_back phase before ops state after none back = subst IsUnmarked back.2 none
 
@@ -178,9 +179,9 @@ no_mark_by_row slot before (Err why) after none (inl told) = subst (λ (p : Pass
 no_mark_by_row slot before (Err why) after none (inr told) =
     absurd (not_worn before.seats after.seats none (OfSlot slot ReadRow) told.2)
 
-module _ (may : ℕ → Type 0) (from : State) (old : Pass) where
+module _ {kind : Kind} (may : ℕ → Type 0) (from : State kind) (old : Pass) where
   -- A call that left its pass unmarked found no gate worn out.
-  pub finds_turns : (ops : List Op) (state : State) (new : Pass) (ran : Ran may from old ops state new) →
+  pub finds_turns : (ops : List Op) (state : State kind) (new : Pass) (ran : Ran may from old ops state new) →
       IsUnmarked new.seats → FindsTurns ran × IsUnmarked old.seats
   finds_turns _ _ _ begins none = (tt, none)
   finds_turns _ _ _ (steps {ops} {phase} {mid} state new ran step) none =

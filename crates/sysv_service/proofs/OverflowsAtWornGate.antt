@@ -21,7 +21,8 @@ use Rattle.sysv_steps.specs.Answers.{refused_by, unbound_by, IsRefusedWith, IsRi
 use Rattle.sysv_steps.specs.Answers.{IsRefusedSo}
 use Rattle.sysv_steps.specs.Asks.{asks}
 use Rattle.sysv_steps.specs.Begin.{begin}
-use Rattle.sysv_steps.specs.Call.{SystemCall, Msgget, Msgsnd, Msgrcv, MsgctlStat, MsgctlSet, MsgctlRmid}
+use Rattle.sysv_steps.specs.Call.{SystemCall, Msgget, Msgsnd, Msgrcv, MsgctlStat, MsgctlSet, MsgctlRmid, Kind, Removes}
+use Rattle.sysv_steps.specs.Call.{kind_of}
 use Rattle.sysv_steps.specs.Next.{next}
 use Rattle.sysv_steps.specs.Resume.{Count, ArrivedOf, FreedOf, Settled, Released, awaited}
 use Rattle.sysv_steps.specs.State.{Ending, Refused, Phase, AtInstall, AtRemove, AtForget, AtRemoveGiveback, State, Goes}
@@ -148,8 +149,8 @@ pushed : (P : Op → Type 0) (ops : List Op) (op : Op) → AllByRecursion P ops 
 pushed P [] op all proper = (proper, tt)
 pushed P (d ∷ ds) op all proper = (all.0, pushed P ds op all.1 proper)
 
-module _ (may : ℕ → Type 0) (from : State) (old : Pass) where
-  slot_turns : (ops : List Op) (state : State) (new : Pass) (ran : Ran may from old ops state new) →
+module _ {kind : Kind} (may : ℕ → Type 0) (from : State kind) (old : Pass) where
+  slot_turns : (ops : List Op) (state : State kind) (new : Pass) (ran : Ran may from old ops state new) →
       FindsTurns ran → AllByRecursion IsProperAtSlot ops
   slot_turns _ _ _ begins found = tt
   slot_turns _ _ _ (steps {ops} {phase} {mid} state new ran step) found =
@@ -183,9 +184,9 @@ module _ (histories : SeenHistories) (lasts : OwnTurnsAreLast) (generation : ℕ
       registry_turn call reply before.registry after.registry fresh makes.0
   proper_at_registry before after (AtPool call reply) fresh makes = tt
 
-  module _ (may : ℕ → Type 0) (from : State) (old : Pass)
+  module _ {kind : Kind} (may : ℕ → Type 0) (from : State kind) (old : Pass)
       (fresh : RegistryRepresents generation [] old.seats.registry.gate.opening) where
-    registry_turns : (ops : List Op) (state : State) (new : Pass) (ran : Ran may from old ops state new) →
+    registry_turns : (ops : List Op) (state : State kind) (new : Pass) (ran : Ran may from old ops state new) →
         FindsTurns ran →
         (new.seats.registry.gate ≡ old.seats.registry.gate) × AllByRecursion IsProperAtRegistry ops
     registry_turns _ _ _ begins found = (refl, tt)
@@ -284,7 +285,7 @@ no_overflow (MsgctlRmid id) ops right all there = not_so (MsgctlRmid id) ops all
 
 -- ---- what a call finds worn out is marked
 
-back_keeps : (phase : Phase) (before : Pass) (ops : List Op) (state : State) (after : Pass) →
+back_keeps : {kind : Kind} (phase : Phase kind) (before : Pass) (ops : List Op) (state : State kind) (after : Pass) →
     TurnsBack phase before ops state after → KeepsMarks before.seats after.seats
 back_keeps (AtInstall get id) before ops state after back = elim back.1 [
   | inl f ↦ turn_keeps before.seats after.seats (AtRegistry (Forget id) (Changed f.0)) f.2.turn
@@ -292,9 +293,9 @@ back_keeps (AtInstall get id) before ops state after back = elim back.1 [
 ]
 back_keeps phase before ops state after back = λ place is. subst (IsMarkedAt place) (sym back.2) is
 
-module _ (may : ℕ → Type 0) (from : State) (old : Pass) where
+module _ {kind : Kind} (may : ℕ → Type 0) (from : State kind) (old : Pass) where
   -- The call found no gate worn out, or one that is marked.
-  found_at : (ops : List Op) (state : State) (new : Pass) (ran : Ran may from old ops state new) →
+  found_at : (ops : List Op) (state : State kind) (new : Pass) (ran : Ran may from old ops state new) →
       FindsTurns ran ⊎ ((place : Place) × FindsWornAt place ran × IsMarkedAt place new.seats)
   found_at _ _ _ begins = inl tt
   found_at _ _ _ (steps {ops} {phase} {mid} state new ran step) = elim (found_at ops (Goes phase) mid ran) [
@@ -322,8 +323,9 @@ module _ (may : ℕ → Type 0) (from : State) (old : Pass) where
       inr (place_of_count (awaited wait), inl refl, is_marked_by_wait mid.seats new.seats (awaited wait) value r)
 
 module _ (histories : SeenHistories) (lasts : OwnTurnsAreLast) (may : ℕ → Type 0) where
-  proper_for : (asked : SystemCall) (from : State) (old : Pass) (ops : List Op) (state : State) (new : Pass) →
-      IsOpenFor asked old.seats → (ran : Ran may from old ops state new) → FindsTurns ran → IsProperFor asked ops
+  proper_for : (asked : SystemCall) (from : State (kind_of asked)) (old : Pass) (ops : List Op)
+      (state : State (kind_of asked)) (new : Pass) → IsOpenFor asked old.seats →
+      (ran : Ran may from old ops state new) → FindsTurns ran → IsProperFor asked ops
   proper_for (Msgget key flags) from old ops state new opened ran found =
       let fresh = subst (λ (g : Gateway Registry). RegistryRepresents opened.0 [] g.opening) (sym opened.5.registry)
       opened.4.registry.0 in
@@ -351,32 +353,31 @@ each_overflow histories lasts right may cred asked released old ops new opened r
 -- ---- a stop
 
 -- The steps of the removal of this identifier.
-abbrev IsRemoving : ℤ → Phase → Type 0
+abbrev IsRemoving : ℤ → Phase Removes → Type 0
 IsRemoving id (AtRemove cred at) = at ≡ id
 IsRemoving id (AtForget at blocks) = Unit {0}
 IsRemoving id (AtRemoveGiveback blocks) = Unit {0}
-IsRemoving id phase = ⊥
 
 -- The state of the removal: it is over with EOVERFLOW just if it found the gate of its slot worn
 -- out, which is marked then.
-abbrev Removal : ℤ → Type 0 → State → Seats → Type 0
+abbrev Removal : ℤ → Type 0 → State Removes → Seats → Type 0
 Removal id worn (Goes phase) seats = IsRemoving id phase × (worn → ⊥)
 Removal id worn (Over (Refused EOVERFLOW)) seats = worn × IsMarkedAt (AtTheSlot (slot_of_id id)) seats
 Removal id worn (Over ending) seats = worn → ⊥
 Removal id worn (Waits wait) seats = ⊥
 
 -- What is known of the state after a row of the step table.
-abbrev AfterRow : ℤ → Type 0 → Option State → Seats → Type 0
+abbrev AfterRow : ℤ → Type 0 → Option (State Removes) → Seats → Type 0
 AfterRow id worn None seats = Unit {0}
 AfterRow id worn (Some state) seats = Removal id worn state seats
 
 module _ (id : ℤ) where
-  kept_on : (worn : Type 0) (state : State) (before after : Seats) → KeepsMarks before after →
+  kept_on : (worn : Type 0) (state : State Removes) (before after : Seats) → KeepsMarks before after →
       Removal id worn state before → Removal id worn state after
   kept_on worn (Over (Refused EOVERFLOW)) before after keeps is = (is.0, keeps (AtTheSlot (slot_of_id id)) is.1)
   kept_on worn state before after keeps is = is
 
-  after_row : (worn : Type 0) (phase : Phase) (op : Op) (seats : Seats) → IsRemoving id phase → (worn → ⊥) →
+  after_row : (worn : Type 0) (phase : Phase Removes) (op : Op) (seats : Seats) → IsRemoving id phase → (worn → ⊥) →
       IsProperAtSlot op → AfterRow id worn (next phase op) seats
   after_row worn (AtRemove cred at) (AtSlot slot call (Discarded messages)) seats is not_yet proper = (tt, not_yet)
   after_row worn (AtRemove cred at) (AtSlot slot call (IsRefusedFor EOVERFLOW)) seats is not_yet proper = absurd proper
@@ -391,10 +392,9 @@ module _ (id : ℤ) where
   after_row worn (AtRemoveGiveback blocks) (AtPool call reply) seats is not_yet proper = tt
   after_row worn (AtRemoveGiveback blocks) (AtSlot slot call reply) seats is not_yet proper = tt
   after_row worn (AtRemoveGiveback blocks) (AtRegistry call reply) seats is not_yet proper = tt
-  after_row worn phase op seats is not_yet proper = absurd is
 
   -- The gate of the removal's slot was found worn out at this step, or before.
-  abbrev OrBefore : Type 0 → Phase → ℕ → Type 0
+  abbrev OrBefore : Type 0 → Phase Removes → ℕ → Type 0
   OrBefore worn phase now = (AtTheSlot (slot_of_id id) ≡ place_of (asks phase now)) ⊎ worn
 
   not_here : {worn : Type 0} {place : Place} → (AtTheSlot (slot_of_id id) ≡ place → ⊥) → (worn → ⊥) →
@@ -402,9 +402,10 @@ module _ (id : ℤ) where
   not_here other not_yet (inl here) = other here
   not_here other not_yet (inr before) = not_yet before
 
-  after_back : (worn : Type 0) (phase : Phase) (now : ℕ) (before there : Pass) (ops : List Op) (state : State)
-      (after : Pass) → IsRemoving id phase → (worn → ⊥) → FindsWorn before.seats (asks phase now) there.seats →
-      TurnsBack phase there ops state after → Removal id (OrBefore worn phase now) state after.seats
+  after_back : (worn : Type 0) (phase : Phase Removes) (now : ℕ) (before there : Pass) (ops : List Op)
+      (state : State Removes) (after : Pass) → IsRemoving id phase → (worn → ⊥) →
+      FindsWorn before.seats (asks phase now) there.seats → TurnsBack phase there ops state after →
+      Removal id (OrBefore worn phase now) state after.seats
   after_back worn (AtRemove cred at) now before there ops state after is not_yet finds back =
       let marked : IsMarkedAt (AtTheSlot (slot_of_id at)) there.seats =
       is_marked before.seats there.seats (asks (AtRemove cred at) now) finds in
@@ -420,10 +421,9 @@ module _ (id : ℤ) where
   after_back worn (AtRemoveGiveback blocks) now before there ops state after is not_yet finds back =
       subst (λ s. Removal id (OrBefore worn (AtRemoveGiveback blocks) now) s after.seats) (sym back.0)
       (not_here (λ e. absurd cc) not_yet)
-  after_back worn phase now before there ops state after is not_yet finds back = absurd is
 
-module _ (may : ℕ → Type 0) (from : State) (old : Pass) where
-  run_keeps : (ops : List Op) (state : State) (new : Pass) → Ran may from old ops state new →
+module _ {kind : Kind} (may : ℕ → Type 0) (from : State kind) (old : Pass) where
+  run_keeps : (ops : List Op) (state : State kind) (new : Pass) → Ran may from old ops state new →
       KeepsMarks old.seats new.seats
   run_keeps _ _ _ begins = λ place is. is
   run_keeps _ _ _ (steps {ops} {phase} {mid} state new ran step) =
@@ -442,7 +442,8 @@ module _ (may : ℕ → Type 0) (from : State) (old : Pass) where
       λ place is.
       end_keeps mid.seats new.seats (awaited wait) value r place (run_keeps ops (Waits wait) mid ran place is)
 
-  removed_so : (id : ℤ) (ops : List Op) (state : State) (new : Pass) (ran : Ran may from old ops state new) →
+module _ (may : ℕ → Type 0) (from : State Removes) (old : Pass) where
+  removed_so : (id : ℤ) (ops : List Op) (state : State Removes) (new : Pass) (ran : Ran may from old ops state new) →
       Removal id ⊥ from old.seats →
       Removal id (FindsWornAt (AtTheSlot (slot_of_id id)) ran) state new.seats
   removed_so id _ _ _ begins is = is

@@ -8,6 +8,7 @@ use lib.ListN.{get_elem?}
 use Rattle.sysv_model.specs.declared.errno.Errno.TheVariants.{EOVERFLOW}
 use Rattle.sysv_model.specs.Registry.{Forget, Changed}
 use Rattle.sysv_model.specs.Turn.{Ask, OfSlot, OfRegistry, OfPool, Op, AtSlot, AtRegistry, AtPool, asked_by}
+use Rattle.sysv_steps.specs.Call.{Kind, Gets}
 use Rattle.sysv_steps.specs.State.{Getting, Phase, AtInstall, Refused, State, Goes, Waits, Over}
 use Rattle.sysv_steps.specs.Asks.{asks}
 use Rattle.sysv_steps.specs.Resume.{Count, ArrivedOf, FreedOf, Settled, Released, awaited}
@@ -156,11 +157,11 @@ worn_there end mid more place later is = (later.elsewhere place is, later.marks 
 
 module _ (end : Seats) (before after : Pass) (more : List Op) (later : Later end after.seats more) where
   -- The turns that are left after the step, and what follows at the gates before it.
-  record Back (phase : Phase) (ops : List Op) (state : State) : Type 0 where
+  record Back {kind : Kind} (phase : Phase kind) (ops : List Op) (state : State kind) : Type 0 where
     turns : TurnsBackOn end phase (ops ++ more) state more
     sooner : Later end before.seats (ops ++ more)
 
-  forgotten : (get : Getting) (id : ℤ) (ops : List Op) (state : State) → (state ≡ Over (Refused EOVERFLOW)) →
+  forgotten : (get : Getting) (id : ℤ) (ops : List Op) (state : State Gets) → (state ≡ Over (Refused EOVERFLOW)) →
       Forgets id before ops after → Back (AtInstall get id) ops state
   forgotten get id ops state is (inl f) =
       let op : Op = AtRegistry (Forget id) (Changed f.0) in
@@ -185,20 +186,20 @@ module _ (end : Seats) (before after : Pass) (more : List Op) (later : Later end
   nothing_sooner ops none same =
       subst (λ ds. Later end before.seats (ds ++ more)) (sym none) (subst (λ s. Later end s more) same later)
 
-  back : (phase : Phase) (ops : List Op) (state : State) → TurnsBack phase before ops state after →
-      Back phase ops state
+  back : {kind : Kind} (phase : Phase kind) (ops : List Op) (state : State kind) →
+      TurnsBack phase before ops state after → Back phase ops state
   back (AtInstall get id) ops state b = forgotten get id ops state b.0 b.1
   back phase ops state b =
       record { turns = (b.0, ap (λ ds. ds ++ more) (sym b.1)); sooner = nothing_sooner ops b.1 b.2 }
 
 -- ---- a call
 
-module _ (may : ℕ → Type 0) (from : State) (old : Pass) (to : State) (end : Seats) where
-  abbrev Played : State → List Op → Type 0
+module _ {kind : Kind} (may : ℕ → Type 0) (from : State kind) (old : Pass) (to : State kind) (end : Seats) where
+  abbrev Played : State kind → List Op → Type 0
   Played state ops = PlaysWorn end to state ops
 
   -- The call up to this state, followed by its play from this state on.
-  joined : (ops : List Op) (state : State) (mid : Pass) (more : List Op) → Ran may from old ops state mid →
+  joined : (ops : List Op) (state : State kind) (mid : Pass) (more : List Op) → Ran may from old ops state mid →
       Later end mid.seats more → Played state more → Played from (ops ++ more)
   joined _ _ _ more begins later rest = rest
   joined _ _ _ more (steps {ops} {phase} {mid} state new ran step) later rest =
@@ -233,8 +234,8 @@ no_turns_later : (end : Seats) → Later end end []
 no_turns_later end = record { elsewhere = λ place is. tt; marks = λ place is. is }
 
 -- The whole call is played.
-pub comes : (may : ℕ → Type 0) (from : State) (old : Pass) (ops : List Op) (state : State) (new : Pass) →
-    Ran may from old ops state new → PlaysWorn new.seats state from ops
+pub comes : {kind : Kind} (may : ℕ → Type 0) (from : State kind) (old : Pass) (ops : List Op) (state : State kind)
+    (new : Pass) → Ran may from old ops state new → PlaysWorn new.seats state from ops
 comes may from old ops state new ran =
     subst (PlaysWorn new.seats state from) (append-nil ops)
     (joined may from old state new.seats ops state new [] ran (no_turns_later new.seats) worn.stands)

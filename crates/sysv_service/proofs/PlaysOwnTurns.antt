@@ -2,6 +2,7 @@
 -- the call.
 use Rattle.std.proofs.Common.{ℕ, List}
 use Rattle.sysv_model.specs.Turn.{Op}
+use Rattle.sysv_steps.specs.Call.{Kind}
 use Rattle.sysv_steps.specs.State.{State, Goes, Waits}
 use Rattle.sysv_steps.specs.Played as played
 use Rattle.sysv_steps.specs.Played.{Plays}
@@ -12,8 +13,8 @@ use Rattle.sysv_service.proofs.MarkStays.{finds_turns}
 use Rattle.sysv_service.proofs.PlayedWithWorn.{comes}
 
 -- A call that found no gate worn out is played.
-module _ (may : ℕ → Type 0) (from : State) (old : Pass) where
-  pub plays : (ops : List Op) (state : State) (new : Pass) (ran : Ran may from old ops state new) →
+module _ {kind : Kind} (may : ℕ → Type 0) (from : State kind) (old : Pass) where
+  pub plays : (ops : List Op) (state : State kind) (new : Pass) (ran : Ran may from old ops state new) →
       FindsTurns ran → Plays from ops state
   plays _ _ _ begins found = played.begins
   plays _ _ _ (steps {ops} {phase} {mid} state new ran step) found =
@@ -25,7 +26,7 @@ module _ (may : ℕ → Type 0) (from : State) (old : Pass) where
   plays _ _ _ (gives_up {ops} {wait} {mid} value new ran below r same) found = absurd found
 
 pub each_plays : (may : ℕ → Type 0) → EachPlaysItsOwn may
-each_plays may from old ops state new ran = record {
+each_plays may kind from old ops state new ran = record {
   own = does may from old ops state new ran;
   comes = comes may from old ops state new ran;
   plays = plays may from old ops state new ran;

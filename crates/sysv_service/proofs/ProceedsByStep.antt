@@ -6,6 +6,7 @@ use Rattle.std.specs.Prelude.{⊤}
 use Rattle.sysv_model.specs.declared.attributes.Stat.{Stat}
 use Rattle.sysv_model.specs.declared.errno.Errno.{Errno}
 use Rattle.sysv_model.specs.declared.errno.Errno.TheVariants.{EOVERFLOW}
+use Rattle.sysv_steps.specs.Call.{Kind, Gets, Sends}
 use Rattle.sysv_steps.specs.State.{Phase, Wait, State, Goes, Waits, Over, Id, Zero, Told, Refused}
 use Rattle.sysv_service.specs.Ran.{Pass, begins, steps, turns_back, reads, resumes, gives_up, Comes, StepsOn}
 use Rattle.sysv_steps.specs.Resume.{Count, awaited, goal_of, resume}
@@ -23,17 +24,17 @@ use Rattle.sysv_service.specs.Reading.{Reads, GivesUp}
 use Rattle.sysv_service.specs.Told.{TellsId, TellsZero, TellsStat}
 use Rattle.sysv_service.specs.Waited.{WaitsAbove, EndsWait}
 
-module _ (may : ℕ → Type 0) (from : State) (old : Pass) where
+module _ {kind : Kind} (may : ℕ → Type 0) (from : State kind) (old : Pass) where
   pub comes_first : Comes may from old from old
   comes_first = ([], begins)
 
-  pub comes_step : (phase : Phase) (mid : Pass) (state : State) (new : Pass) → Comes may from old (Goes phase) mid →
-      StepsOn may phase mid state new → Comes may from old state new
+  pub comes_step : (phase : Phase kind) (mid : Pass) (state : State kind) (new : Pass) →
+      Comes may from old (Goes phase) mid → StepsOn may phase mid state new → Comes may from old state new
   comes_step phase mid state new ran (inl s) = (ran.0 ++ s.op ∷ [], steps state new ran.1 s)
   comes_step phase mid state new ran (inr s) = (ran.0 ++ s.ops, turns_back state new ran.1 s)
 
-  pub comes_wait : (wait : Wait) (mid : Pass) (state : State) (new : Pass) → Comes may from old (Waits wait) mid →
-      EndsWait wait mid state new → Comes may from old state new
+  pub comes_wait : (wait : Wait kind) (mid : Pass) (state : State kind) (new : Pass) →
+      Comes may from old (Waits wait) mid → EndsWait wait mid state new → Comes may from old state new
   comes_wait wait mid state new ran (inl e) = elim e.3 [
     | inl on ↦ subst (λ s. Comes may from old s new) (sym on.1) (ran.0, resumes e.0 new ran.1 on.0 e.1 e.2)
     | inr still ↦ subst (λ s. Comes may from old s new) (sym still) (ran.0, reads (awaited wait) e.0 new ran.1 e.1 e.2)
@@ -43,9 +44,9 @@ module _ (may : ℕ → Type 0) (from : State) (old : Pass) where
 
 -- ---- from the start
 
-pub from_start : {may : ℕ → Type 0} {from begun state : State} {old new : Pass} → from ≡ begun →
+pub from_start : {kind : Kind} {may : ℕ → Type 0} {from begun state : State kind} {old new : Pass} → from ≡ begun →
     Comes may begun old state new → Comes may from old state new
-from_start {may} {from} {begun} {state} {old} {new} is = subst (λ s. Comes may s old state new) (sym is)
+from_start {kind} {may} {from} {begun} {state} {old} {new} is = subst (λ s. Comes may s old state new) (sym is)
 
 -- ---- if there may be no result
 
@@ -55,17 +56,17 @@ if_none (Some x) p = tt
 
 -- ---- the loop of a call
 
-module _ (may : ℕ → Type 0) (from : State) (old : Pass) where
-  pub first_at : (s : State) → from ≡ s → Comes may from old s old
+module _ {kind : Kind} (may : ℕ → Type 0) (from : State kind) (old : Pass) where
+  pub first_at : (s : State kind) → from ≡ s → Comes may from old s old
   first_at s is = subst (λ x. Comes may from old x old) is (comes_first may from old)
 
-  pub moved : (s s' : State) (mid : Pass) → s ≡ s' → Comes may from old s mid → Comes may from old s' mid
+  pub moved : (s s' : State kind) (mid : Pass) → s ≡ s' → Comes may from old s mid → Comes may from old s' mid
   moved s s' mid is = subst (λ x. Comes may from old x mid) is
 
 -- ---- the end of a wait, from the count
 
-module _ (wait : Wait) (count : Count) (above : ℕ) (is : count ≡ awaited wait) (goal : goal_of wait ≡ above + 1)
-    (before after : Pass) (state : State) where
+module _ {kind : Kind} (wait : Wait kind) (count : Count) (above : ℕ) (is : count ≡ awaited wait)
+    (goal : goal_of wait ≡ above + 1) (before after : Pass) (state : State kind) where
   pub ends_above : (value : ℕ) → WaitsAbove count above before (Above value) after →
       state ≡ Goes (resume wait value) → EndsWait wait before state after
   ends_above value w e = inl (
@@ -104,12 +105,13 @@ tells_stat (Err why) = refl
 
 -- ---- a call that waits or is over
 
-module _ (may : ℕ → Type 0) (from : State) (old : Pass) where
+module _ (may : ℕ → Type 0) (from : State Gets) (old : Pass) where
   pub gets_on : (p : Progress GetWait (Result ℤ Errno)) (new : Pass) →
       Comes may from old (stopped_at get_wait Id p) new → GetsOn may from old p new
   gets_on (progress.Waits w) new came = came
   gets_on (progress.Over told) new came = (ending_of Id told, came, tells_id told)
 
+module _ (may : ℕ → Type 0) (from : State Sends) (old : Pass) where
   pub sends_on : (p : Progress SendWait (Result ⊤ Errno)) (text : List ℕ) (new : Pass) →
       Comes may from old (stopped_at (λ w. send_wait w text) (λ _. Zero) p) new →
       StoppedBy (λ (s : StateKept SendStep SendWait ⊤). StillCanSend s text) p → SendsOn may from old p text new

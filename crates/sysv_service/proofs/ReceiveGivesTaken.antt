@@ -8,7 +8,7 @@ use Rattle.sysv_model.specs.declared.errno.Errno.TheVariants.{EINVAL}
 use Rattle.sysv_model.specs.declared.flags.Flags.{Flags}
 use Rattle.sysv_steps.specs.declared.receive.ReceiveStep.{ReceiveStep}
 use Rattle.sysv_steps.specs.declared.state.State.TheVariants as state
-use Rattle.sysv_steps.specs.Call.{Msgrcv}
+use Rattle.sysv_steps.specs.Call.{Msgrcv, Receives}
 use Rattle.sysv_steps.specs.Begin.{begin}
 use Rattle.sysv_steps.specs.Seen.{receive_state}
 use Rattle.sysv_steps.specs.State.{Receiving, AtTake, State, Goes, Over, Refused, Got}
@@ -16,7 +16,7 @@ use Rattle.sysv_steps.specs.Giving.{ReceiveKept, GivesNothing, nothing_to_have}
 use Rattle.sysv_service.specs.Ran.{Pass, steps, turns_back, Comes}
 use Rattle.sysv_service.specs.Delivered.{HasGiven, StepsGiving, ComesGiving}
 
-module _ (may : ℕ → Type 0) (from : State) (old : Pass) where
+module _ (may : ℕ → Type 0) (from : State Receives) (old : Pass) where
   pub comes_giving : (there : ReceiveStep) (text : List ℕ) (mid : Pass) (s kept : ReceiveKept) (out : List ℕ)
       (new : Pass) →
       s ≡ state.Goes there → ComesGiving may from old s text mid →

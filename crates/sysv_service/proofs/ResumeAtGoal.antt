@@ -8,6 +8,7 @@ use Rattle.sysv_model.specs.History.{Call}
 use Rattle.sysv_model.specs.Registry.{RegistryCall}
 use Rattle.sysv_model.specs.Turn.{OfSlot, OfRegistry, Op, AtSlot, AtRegistry, asked_by}
 use Rattle.sysv_keys.specs.Identifier.{slot_of_id}
+use Rattle.sysv_steps.specs.Call.{Kind}
 use Rattle.sysv_steps.specs.Asks.{asks}
 use Rattle.sysv_steps.specs.Resume.{Count, ArrivedOf, FreedOf, Settled, Released, awaited, goal_of, resume}
 use Rattle.sysv_steps.specs.State.{State, Phase, Goes, Wait, OnSettled, OnFreed, OnReleased, OnArrived}
@@ -163,17 +164,17 @@ module _ (before after : Seats) where
 
 -- A call whose wait ended, and which has only read counts since, is at the step with which it goes
 -- on, and has read the count at the goal or above.
-record Resumed (wait : Wait) (state : State) (seats : Seats) : Type 0 where
+record Resumed {kind : Kind} (wait : Wait kind) (state : State kind) (seats : Seats) : Type 0 where
   value : ℕ
   on : state ≡ Goes (resume wait value)
   known : HasReadTo (awaited wait) (goal_of wait) seats
 
-abbrev IsResumed : Option Wait → State → Seats → Type 0
+abbrev IsResumed : {kind : Kind} → Option (Wait kind) → State kind → Seats → Type 0
 IsResumed None state seats = Unit {0}
 IsResumed (Some wait) state seats = Resumed wait state seats
 
-read_on : (o : Option Wait) (state : State) (before after : Seats) (count : Count) (value : ℕ) →
-    Reads count value before after → IsResumed o state before → IsResumed o state after
+read_on : {kind : Kind} (o : Option (Wait kind)) (state : State kind) (before after : Seats) (count : Count)
+    (value : ℕ) → Reads count value before after → IsResumed o state before → IsResumed o state after
 read_on None state before after count value r is = tt
 read_on (Some wait) state before after count value r is =
     record {
@@ -182,8 +183,8 @@ read_on (Some wait) state before after count value r is =
       known = still before after (awaited wait) count value (goal_of wait) r is.known;
     }
 
-module _ (may : ℕ → Type 0) (from : State) (old : Pass) where
-  is_resumed : (ops : List Op) (state : State) (new : Pass) (ran : Ran may from old ops state new) →
+module _ {kind : Kind} (may : ℕ → Type 0) (from : State kind) (old : Pass) where
+  is_resumed : (ops : List Op) (state : State kind) (new : Pass) (ran : Ran may from old ops state new) →
       IsResumed (resumed ran) state new.seats
   is_resumed _ _ _ begins = tt
   is_resumed _ _ _ (steps {ops} {phase} {mid} state new ran step) = tt
@@ -198,7 +199,7 @@ module _ (may : ℕ → Type 0) (from : State) (old : Pass) where
       }
   is_resumed _ _ _ (gives_up {ops} {wait} {mid} value new ran below r same) = tt
 
-next_turn : (wait : Wait) (value now : ℕ) (before after : Seats) (op : Op) →
+next_turn : {kind : Kind} (wait : Wait kind) (value now : ℕ) (before after : Seats) (op : Op) →
     asked_by op ≡ asks (resume wait value) now → HasReadTo (awaited wait) (goal_of wait) before →
     MakesTurnAt before op after →
     IsFoundAt (awaited wait) (goal_of wait) after
@@ -211,12 +212,12 @@ next_turn (OnArrived goal receive) value now before after op asked known makes =
     turn_at_slot before after Arrived (slot_of_id receive.id) goal _ op asked known makes
 
 -- The step before which the call is.
-abbrev phase_or : Phase → State → Phase
+abbrev phase_or : {kind : Kind} → Phase kind → State kind → Phase kind
 phase_or other (Goes phase) = phase
 phase_or other state = other
 
 pub each_run_retries : (may : ℕ → Type 0) → EachRunRetriesAtItsGoal may
-each_run_retries may from old ops phase mid state new ran step wait is =
+each_run_retries may kind from old ops phase mid state new ran step wait is =
     let so : Resumed wait (Goes phase) mid.seats =
     subst (λ o. IsResumed o (Goes phase) mid.seats) is (is_resumed may from old ops (Goes phase) mid ran) in
     let there : phase ≡ resume wait so.value = ap (phase_or phase) so.on in

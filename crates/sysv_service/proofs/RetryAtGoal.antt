@@ -90,12 +90,12 @@ at_registry goal value call waited read after (AtRegistry made reply) asked reac
 at_registry goal value call waited read after op asked reached reads makes = absurd cc
 
 pub each_retry : (may : ℕ → Type 0) → EachRetryIsAtItsGoal may
-each_retry may (OnSettled goal get) value waited read state after reached reads step =
+each_retry may _ (OnSettled goal get) value waited read state after reached reads step =
     at_registry goal value _ waited.seats read.seats after.seats step.op step.asked reached reads.0 step.makes.turn
-each_retry may (OnFreed goal send) value waited read state after reached reads step =
+each_retry may _ (OnFreed goal send) value waited read state after reached reads step =
     at_slot Freed (slot_of_id send.id) goal value _ waited.seats read.seats after.seats step.op step.asked reached
     reads.0 step.makes.turn
-each_retry may (OnReleased goal send) value waited read state after reached reads step = tt
-each_retry may (OnArrived goal receive) value waited read state after reached reads step =
+each_retry may _ (OnReleased goal send) value waited read state after reached reads step = tt
+each_retry may _ (OnArrived goal receive) value waited read state after reached reads step =
     at_slot Arrived (slot_of_id receive.id) goal value _ waited.seats read.seats after.seats step.op step.asked
     reached reads.0 step.makes.turn

@@ -7,7 +7,7 @@ use Rattle.sysv_model.specs.Turn.{Op}
 use Rattle.sysv_keys.specs.Identifier.{slot_of_id}
 use Rattle.sysv_steps.specs.Asks.{asks}
 use Rattle.sysv_steps.specs.Begin.{begin}
-use Rattle.sysv_steps.specs.Call.{SystemCall, Msgget}
+use Rattle.sysv_steps.specs.Call.{SystemCall, Msgget, Kind}
 use Rattle.sysv_steps.specs.Resume.{awaited}
 use Rattle.sysv_steps.specs.State.{State, Over, Refused}
 use Rattle.sysv_service.specs.Opened.{AreOpen}
@@ -20,8 +20,8 @@ use Rattle.sysv_service.specs.Stopped as stopped
 -- ---- a call
 
 -- The call found the gate of this object worn out, at a step or in a wait.
-abbrev pub FindsWornAt : {may : ℕ → Type 0} {from : State} {old : Pass} {ops : List Op} {state : State}
-    {new : Pass} → Place → Ran may from old ops state new → Type 0
+abbrev pub FindsWornAt : {kind : Kind} {may : ℕ → Type 0} {from : State kind} {old : Pass} {ops : List Op}
+    {state : State kind} {new : Pass} → Place → Ran may from old ops state new → Type 0
 FindsWornAt place begins = ⊥
 FindsWornAt place (steps state new ran step) = FindsWornAt place ran
 FindsWornAt place (turns_back {phase} state new ran step) =

@@ -5,6 +5,7 @@
 use Rattle.std.specs.Prelude.{ℕ, List}
 use Rattle.sysv_model.specs.Turn.{Op}
 use Rattle.sysv_model.specs.Members.{Does}
+use Rattle.sysv_steps.specs.Call.{Kind}
 use Rattle.sysv_steps.specs.State.{State}
 use Rattle.sysv_steps.specs.Played.{Plays}
 use Rattle.sysv_service.specs.Marks.{IsUnmarked}
@@ -12,8 +13,8 @@ use Rattle.sysv_service.specs.PlayedWorn.{PlaysWorn}
 use Rattle.sysv_service.specs.Ran.{Pass, Ran, FindsTurns}
 
 -- What is known of the turns of one call.
-pub record PlaysItsOwn {may : ℕ → Type 0} {from : State} {old : Pass} {ops : List Op} {state : State} {new : Pass}
-    (ran : Ran may from old ops state new) : Type 0 where
+pub record PlaysItsOwn {kind : Kind} {may : ℕ → Type 0} {from : State kind} {old : Pass} {ops : List Op}
+    {state : State kind} {new : Pass} (ran : Ran may from old ops state new) : Type 0 where
   -- The pass has made exactly the turns of the call, and has seen turns of others between them.
   pub own : Does old.seats.member ops new.seats.member
   -- The call is played along its turns, with the steps and waits whose gate it found worn out. It
@@ -26,5 +27,5 @@ pub record PlaysItsOwn {may : ℕ → Type 0} {from : State} {old : Pass} {ops :
 
 -- This holds of each call.
 abbrev pub EachPlaysItsOwn : (ℕ → Type 0) → Type 0
-EachPlaysItsOwn may = (from : State) (old : Pass) (ops : List Op) (state : State) (new : Pass)
-    (ran : Ran may from old ops state new) → PlaysItsOwn ran
+EachPlaysItsOwn may = (kind : Kind) (from : State kind) (old : Pass) (ops : List Op) (state : State kind)
+    (new : Pass) (ran : Ran may from old ops state new) → PlaysItsOwn ran

@@ -5,6 +5,7 @@ use Rattle.std.specs.Prelude.{◌≡◌, ℕ, ℤ, ◌≤◌, ⊤, List, [], len
 use Rattle.sysv_model.specs.declared.errno.Errno.{Errno}
 use Rattle.sysv_model.specs.declared.limits.TheConstants.{MESSAGE_BYTES}
 use Rattle.sysv_queue.specs.Delivery.{Given}
+use Rattle.sysv_steps.specs.Call.{Kind, Gets, Sends, Receives}
 use Rattle.sysv_steps.specs.declared.state.State.{State as StateKept}
 use Rattle.sysv_steps.specs.declared.state.State.TheVariants as state
 use Rattle.sysv_steps.specs.declared.receive.ReceiveWait.{ReceiveWait}
@@ -24,7 +25,8 @@ use Rattle.sysv_service.specs.Delivered.{HasGiven}
 -- ---- how far a call has come
 
 -- The state of a call that waits or is over, by what its waits and its result mean.
-abbrev pub stopped_at : {W T : Type 0} → (W → Wait) → (T → Ending) → Progress W (Result T Errno) → State
+abbrev pub stopped_at : {kind : Kind} {W T : Type 0} → (W → Wait kind) → (T → Ending) → Progress W (Result T Errno) →
+    State kind
 stopped_at wait ending (progress.Waits w) = Waits (wait w)
 stopped_at wait ending (progress.Over told) = Over (ending_of ending told)
 
@@ -35,8 +37,8 @@ StoppedBy can (progress.Over told) = can (state.Over told)
 
 -- A receive was in the state `from` with the pass `old`. It has made its steps, and waits or is
 -- over. If it waits, `out` is empty. If it returns a message, that is the one that it took.
-abbrev pub ReceivesOn : (ℕ → Type 0) → State → Pass → Progress ReceiveWait (Result Given Errno) → List ℕ → Pass →
-    Type 0
+abbrev pub ReceivesOn : (ℕ → Type 0) → State Receives → Pass → Progress ReceiveWait (Result Given Errno) → List ℕ →
+    Pass → Type 0
 ReceivesOn may from old (progress.Waits w) out new = Comes may from old (Waits (receive_wait w)) new × (out ≡ [])
 ReceivesOn may from old (progress.Over told) out new =
     ((ending : Ending) × Comes may from old (Over ending) new × TellsGot ending told out)
@@ -44,14 +46,14 @@ ReceivesOn may from old (progress.Over told) out new =
 
 -- A send of `text` was in the state `from` with the pass `old`. It has made its steps, and waits or
 -- is over.
-abbrev pub SendsOn : (ℕ → Type 0) → State → Pass → Progress SendWait (Result ⊤ Errno) → List ℕ → Pass → Type 0
+abbrev pub SendsOn : (ℕ → Type 0) → State Sends → Pass → Progress SendWait (Result ⊤ Errno) → List ℕ → Pass → Type 0
 SendsOn may from old (progress.Waits w) text new =
     Comes may from old (Waits (send_wait w text)) new × (length text ≤ MESSAGE_BYTES)
 SendsOn may from old (progress.Over told) text new =
     (ending : Ending) × Comes may from old (Over ending) new × TellsZero ending told
 
 -- A get was in the state `from` with the pass `old`. It has made its steps, and waits or is over.
-abbrev pub GetsOn : (ℕ → Type 0) → State → Pass → Progress GetWait (Result ℤ Errno) → Pass → Type 0
+abbrev pub GetsOn : (ℕ → Type 0) → State Gets → Pass → Progress GetWait (Result ℤ Errno) → Pass → Type 0
 GetsOn may from old (progress.Waits w) new = Comes may from old (Waits (get_wait w)) new
 GetsOn may from old (progress.Over told) new =
     (ending : Ending) × Comes may from old (Over ending) new × TellsId ending told
@@ -59,11 +61,11 @@ GetsOn may from old (progress.Over told) new =
 -- ---- a look at the count
 
 -- The count was read once and found at the goal or above, so the call goes on at this step.
-abbrev pub IsReached : Wait → Pass → Phase → Pass → Type 0
+abbrev pub IsReached : {kind : Kind} → Wait kind → Pass → Phase kind → Pass → Type 0
 IsReached wait before phase after =
     (value : ℕ) × (goal_of wait ≤ value) × Reads (awaited wait) value before.seats after.seats
     × (after.held ≡ before.held) × (resume wait value ≡ phase)
 
 -- The count was read once and found below the goal, so the call still waits.
-abbrev pub StillWaits : Wait → Pass → Pass → Type 0
+abbrev pub StillWaits : {kind : Kind} → Wait kind → Pass → Pass → Type 0
 StillWaits wait before after = IsUnmet wait before after × (after.held ≡ before.held)

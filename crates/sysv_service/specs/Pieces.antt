@@ -4,6 +4,7 @@ use Rattle.std.specs.Prelude.{⊤}
 use Rattle.sysv_model.specs.declared.errno.Errno.{Errno}
 use Rattle.sysv_model.specs.Turn.{Op}
 use Rattle.sysv_queue.specs.Delivery.{Given}
+use Rattle.sysv_steps.specs.Call.{Kind, Gets, Sends, Receives}
 use Rattle.sysv_steps.specs.State.{Phase, State, Wait, Goes, Waits, Over}
 use Rattle.sysv_steps.specs.Resume.{awaited}
 use Rattle.sysv_steps.specs.Giving.{HaveTaken}
@@ -48,12 +49,12 @@ keeps_on all ops more keeps = λ given has. elim (taken_in_part given ops more h
 
 -- ---- one piece after another
 
-module _ (may : ℕ → Type 0) (from : State) (old : Pass) (there : State) (here : Pass) where
+module _ {kind : Kind} (may : ℕ → Type 0) (from : State kind) (old : Pass) (there : State kind) (here : Pass) where
   -- The whole way, with all turns that were made on it.
-  abbrev pub Whole : List Op → State → Pass → Type 0
+  abbrev pub Whole : List Op → State kind → Pass → Type 0
   Whole ops state new = (all : List Op) × Ran may from old all state new × Keeps all ops
 
-  through : Comes may from old there here → (ops : List Op) (state : State) (new : Pass) →
+  through : Comes may from old there here → (ops : List Op) (state : State kind) (new : Pass) →
       Ran may there here ops state new → Whole ops state new
   through came _ _ _ begins = (came.0, came.1, λ given has. absurd has)
   through came _ _ _ (steps {ops} {phase} {mid} state new ran step) =
@@ -72,16 +73,17 @@ module _ (may : ℕ → Type 0) (from : State) (old : Pass) (there : State) (her
       let before = through came ops (Waits wait) mid ran in
       (before.0, gives_up value new before.1 below r same, before.2)
 
-  pub comes_on : (state : State) (new : Pass) → Comes may from old there here → Comes may there here state new →
+  pub comes_on : (state : State kind) (new : Pass) → Comes may from old there here → Comes may there here state new →
       Comes may from old state new
   comes_on state new came goes =
       let whole = through came goes.0 state new goes.1 in
       (whole.0, whole.1)
 
+module _ (may : ℕ → Type 0) (from : State Receives) (old : Pass) (there : State Receives) (here : Pass) where
   pub given_on : (given : Given) (new : Pass) → Comes may from old there here → HasGiven may there here given new →
       HasGiven may from old given new
   given_on given new came has =
-      let whole = through came has.ops (Over has.ending) new has.ran in
+      let whole = through may from old there here came has.ops (Over has.ending) new has.ran in
       record { ending = has.ending; ops = whole.0; ran = whole.1; taken = whole.2 given has.taken }
 
   pub if_given : (told : Result Given Errno) (new : Pass) → Comes may from old there here →
@@ -91,25 +93,28 @@ module _ (may : ℕ → Type 0) (from : State) (old : Pass) (there : State) (her
 
   pub receives_on : (p : Progress ReceiveWait (Result Given Errno)) (out : List ℕ) (new : Pass) →
       Comes may from old there here → ReceivesOn may there here p out new → ReceivesOn may from old p out new
-  receives_on (progress.Waits w) out new came on = (comes_on _ new came on.0, on.1)
+  receives_on (progress.Waits w) out new came on = (comes_on may from old there here _ new came on.0, on.1)
   receives_on (progress.Over told) out new came on =
-      ((on.0.0, comes_on (Over on.0.0) new came on.0.1, on.0.2), if_given told new came on.1)
+      ((on.0.0, comes_on may from old there here (Over on.0.0) new came on.0.1, on.0.2), if_given told new came on.1)
 
+module _ (may : ℕ → Type 0) (from : State Sends) (old : Pass) (there : State Sends) (here : Pass) where
   pub sends_on : (p : Progress SendWait (Result ⊤ Errno)) (text : List ℕ) (new : Pass) →
       Comes may from old there here → SendsOn may there here p text new → SendsOn may from old p text new
-  sends_on (progress.Waits w) text new came on = (comes_on _ new came on.0, on.1)
-  sends_on (progress.Over told) text new came on = (on.0, comes_on (Over on.0) new came on.1, on.2)
+  sends_on (progress.Waits w) text new came on = (comes_on may from old there here _ new came on.0, on.1)
+  sends_on (progress.Over told) text new came on =
+      (on.0, comes_on may from old there here (Over on.0) new came on.1, on.2)
 
+module _ (may : ℕ → Type 0) (from : State Gets) (old : Pass) (there : State Gets) (here : Pass) where
   pub gets_on : (p : Progress GetWait (Result ℤ Errno)) (new : Pass) → Comes may from old there here →
       GetsOn may there here p new → GetsOn may from old p new
-  gets_on (progress.Waits w) new came on = comes_on _ new came on
-  gets_on (progress.Over told) new came on = (on.0, comes_on (Over on.0) new came on.1, on.2)
+  gets_on (progress.Waits w) new came on = comes_on may from old there here _ new came on
+  gets_on (progress.Over told) new came on = (on.0, comes_on may from old there here (Over on.0) new came on.1, on.2)
 
 -- ---- a look
 
-module _ (may : ℕ → Type 0) (from : State) (old : Pass) (wait : Wait) (mid : Pass) where
+module _ {kind : Kind} (may : ℕ → Type 0) (from : State kind) (old : Pass) (wait : Wait kind) (mid : Pass) where
   -- The call goes on.
-  pub comes_to_goal : (phase : Phase) (new : Pass) → Comes may from old (Waits wait) mid →
+  pub comes_to_goal : (phase : Phase kind) (new : Pass) → Comes may from old (Waits wait) mid →
       IsReached wait mid phase new → Comes may from old (Goes phase) new
   comes_to_goal phase new came look =
       subst (λ p. Comes may from old (Goes p) new) look.4 (came.0, resumes look.0 new came.1 look.1 look.2 look.3)

@@ -8,6 +8,7 @@ use lib.ListN.{get_elem?}
 use Rattle.sysv_model.specs.declared.errno.Errno.TheVariants.{EOVERFLOW}
 use Rattle.sysv_model.specs.Registry.{Forget, Changed}
 use Rattle.sysv_model.specs.Turn.{Ask, OfSlot, OfRegistry, OfPool, Op, AtRegistry, asked_by}
+use Rattle.sysv_steps.specs.Call.{Kind}
 use Rattle.sysv_steps.specs.State.{Phase, AtInstall, Refused, Wait, State, Goes, Waits, Over}
 use Rattle.sysv_steps.specs.Asks.{asks}
 use Rattle.sysv_steps.specs.Next.{next}
@@ -54,7 +55,7 @@ IsWornAt place ops seats = AreElsewhere place ops × IsMarkedAt place seats
 -- The state of a call after a step whose gate was worn out, and the turns that it has left then.
 -- The identifier of a queue that could not be installed is forgotten, if the registry's gate is not
 -- worn out too.
-abbrev pub TurnsBackOn : Seats → Phase → List Op → State → List Op → Type 0
+abbrev pub TurnsBackOn : {kind : Kind} → Seats → Phase kind → List Op → State kind → List Op → Type 0
 TurnsBackOn seats (AtInstall get id) ops after rest = (after ≡ Over (Refused EOVERFLOW))
     × (((done : Bool) × (ops ≡ AtRegistry (Forget id) (Changed done) ∷ rest))
     ⊎ ((rest ≡ ops) × IsWornAt AtTheRegistry ops seats))
@@ -64,20 +65,20 @@ TurnsBackOn seats phase ops after rest = (after ≡ when_worn phase) × (rest �
 
 -- From this state the step table leads along these turns, all of them, to the state `to`. The seats
 -- are those of the pass afterwards.
-pub data PlaysWorn (seats : Seats) (to : State) : State → List Op → Type 0 where
+pub data PlaysWorn {kind : Kind} (seats : Seats) (to : State kind) : State kind → List Op → Type 0 where
   -- The call is in the state `to`, and has no turn left.
   stands : PlaysWorn seats to to []
   -- The call makes the next turn.
-  takes_next : {phase : Phase} (op : Op) (now : ℕ) (after : State) (rest : List Op) →
+  takes_next : {phase : Phase kind} (op : Op) (now : ℕ) (after : State kind) (rest : List Op) →
       asked_by op ≡ asks phase now → next phase op ≡ Some after →
       PlaysWorn seats to after rest → PlaysWorn seats to (Goes phase) (op ∷ rest)
   -- The wait of the call ends.
-  waits_enough : {wait : Wait} (value : ℕ) (ops : List Op) → goal_of wait ≤ value →
+  waits_enough : {wait : Wait kind} (value : ℕ) (ops : List Op) → goal_of wait ≤ value →
       PlaysWorn seats to (Goes (resume wait value)) ops → PlaysWorn seats to (Waits wait) ops
   -- The call finds the gate of the object of its next step worn out.
-  finds_worn : {phase : Phase} (now : ℕ) (after : State) (ops rest : List Op) →
+  finds_worn : {phase : Phase kind} (now : ℕ) (after : State kind) (ops rest : List Op) →
       IsWornAt (place_of (asks phase now)) ops seats →
       TurnsBackOn seats phase ops after rest → PlaysWorn seats to after rest → PlaysWorn seats to (Goes phase) ops
   -- The call gives its wait up at a worn gate.
-  gives_up : {wait : Wait} (ops : List Op) → IsWornAt (place_of_count (awaited wait)) ops seats →
+  gives_up : {wait : Wait kind} (ops : List Op) → IsWornAt (place_of_count (awaited wait)) ops seats →
       PlaysWorn seats to (Over (Refused EOVERFLOW)) ops → PlaysWorn seats to (Waits wait) ops

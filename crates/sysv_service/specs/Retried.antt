@@ -6,6 +6,7 @@ use Rattle.std.specs.Prelude.{◌≡◌, ℕ, ◌≤◌, List, [], ◌∷◌, Op
 use mathlib.Core.Option.{some}
 use lib.ListN.{get_elem?}
 use Rattle.sysv_model.specs.Turn.{Op}
+use Rattle.sysv_steps.specs.Call.{Kind}
 use Rattle.sysv_steps.specs.State.{State, Phase, Wait, Goes}
 use Rattle.sysv_steps.specs.Resume.{Count, ArrivedOf, FreedOf, Settled, Released, awaited, goal_of, resume}
 use Rattle.sysv_gate.specs.declared.count.Count.{Count as OfObject}
@@ -41,14 +42,15 @@ IsFoundAt Released goal seats = Unit {0}
 
 -- A wait ended with a value of at least its goal, and the call made its next turn.
 abbrev pub EachRetryIsAtItsGoal : (ℕ → Type 0) → Type 0
-EachRetryIsAtItsGoal may = (wait : Wait) (value : ℕ) (waited read : Pass) (state : State) (after : Pass) →
+EachRetryIsAtItsGoal may =
+    (kind : Kind) (wait : Wait kind) (value : ℕ) (waited read : Pass) (state : State kind) (after : Pass) →
     goal_of wait ≤ value → Reads (awaited wait) value waited.seats read.seats →
     Steps may (resume wait value) read state after →
     IsFoundAt (awaited wait) (goal_of wait) after.seats
 
 -- The wait of the call that ended last, if the call has only read counts since.
-abbrev pub resumed : {may : ℕ → Type 0} {from : State} {old : Pass} {ops : List Op} {state : State} {new : Pass} →
-    Ran may from old ops state new → Option Wait
+abbrev pub resumed : {kind : Kind} {may : ℕ → Type 0} {from : State kind} {old : Pass} {ops : List Op}
+    {state : State kind} {new : Pass} → Ran may from old ops state new → Option (Wait kind)
 resumed begins = None
 resumed (steps state new ran step) = None
 resumed (turns_back state new ran step) = None
@@ -59,7 +61,6 @@ resumed (gives_up value new ran below read same) = None
 -- A call whose wait ended, and which has only read counts since, made its next turn.
 abbrev pub EachRunRetriesAtItsGoal : (ℕ → Type 0) → Type 0
 EachRunRetriesAtItsGoal may =
-    (from : State) (old : Pass) (ops : List Op) (phase : Phase) (mid : Pass) (state : State) (new : Pass)
-    (ran : Ran may from old ops (Goes phase) mid) → Steps may phase mid state new → (wait : Wait) →
-    resumed ran ≡ Some wait →
-    IsFoundAt (awaited wait) (goal_of wait) new.seats
+    (kind : Kind) (from : State kind) (old : Pass) (ops : List Op) (phase : Phase kind) (mid : Pass)
+    (state : State kind) (new : Pass) (ran : Ran may from old ops (Goes phase) mid) → Steps may phase mid state new →
+    (wait : Wait kind) → resumed ran ≡ Some wait → IsFoundAt (awaited wait) (goal_of wait) new.seats

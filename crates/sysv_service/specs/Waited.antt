@@ -1,5 +1,6 @@
 -- How a wait of a call ends. This project's profile.
 use Rattle.std.specs.Prelude.{◌≡◌, ℕ, ◌+◌, ◌<◌, ◌≤◌, ◌⊎◌}
+use Rattle.sysv_steps.specs.Call.{Kind}
 use Rattle.sysv_steps.specs.State.{Wait, State, Goes, Waits, Over, Refused}
 use Rattle.sysv_model.specs.declared.errno.Errno.TheVariants.{EOVERFLOW}
 use Rattle.sysv_steps.specs.Resume.{Count, awaited, goal_of, resume}
@@ -14,7 +15,7 @@ IsNotAbove count above before after =
     (value : ℕ) × (value < above + 1) × Reads count value before.seats after.seats
 
 -- The count that was read is below the goal.
-abbrev pub IsUnmet : Wait → Pass → Pass → Type 0
+abbrev pub IsUnmet : {kind : Kind} → Wait kind → Pass → Pass → Type 0
 IsUnmet wait before after = (value : ℕ) × (value < goal_of wait) × Reads (awaited wait) value before.seats after.seats
 
 -- The end of a wait for the count to be above the value: it is, or it was read once, or the gate of
@@ -29,7 +30,7 @@ WaitsAbove count above before waited.Worn after =
 
 -- The state after a look at the count: the call goes on with the value, or still waits, or has
 -- found the gate of the object worn out and is over.
-abbrev pub EndsWait : Wait → Pass → State → Pass → Type 0
+abbrev pub EndsWait : {kind : Kind} → Wait kind → Pass → State kind → Pass → Type 0
 EndsWait wait before state after =
     ((value : ℕ) × Reads (awaited wait) value before.seats after.seats × (after.held ≡ before.held)
     × (((goal_of wait ≤ value) × (state ≡ Goes (resume wait value))) ⊎ (state ≡ Waits wait)))

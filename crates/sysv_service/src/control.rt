@@ -159,6 +159,7 @@ impl Service {
 struct StatStepper;
 
 impl Stepper for StatStepper {
+    ghost use Rattle.sysv_steps.specs.Call.{Stats};
     ghost use Rattle.sysv_steps.specs.State.{Told};
     ghost use Rattle.sysv_steps.specs.Seen.{stat_phase, no_wait};
 
@@ -167,6 +168,8 @@ impl Stepper for StatStepper {
     type Wait = NoWait;
 
     type Done = Stat;
+
+    ghost kind = { Stats };
 
     ghost phase = { λ _. stat_phase };
 
@@ -195,6 +198,7 @@ struct SetStepper<'a, C> {
 }
 
 impl<'a, C: Clock> Stepper for SetStepper<'a, C> {
+    ghost use Rattle.sysv_steps.specs.Call.{Sets};
     ghost use Rattle.sysv_steps.specs.State.{Zero};
     ghost use Rattle.sysv_steps.specs.Seen.{set_phase, no_wait};
 
@@ -205,6 +209,8 @@ impl<'a, C: Clock> Stepper for SetStepper<'a, C> {
     type Done = ();
 
     ghost may = { λ s. C.may s.clock.now };
+
+    ghost kind = { Sets };
 
     ghost phase = { λ _. set_phase };
 
@@ -230,6 +236,7 @@ impl<'a, C: Clock> Stepper for SetStepper<'a, C> {
 struct RemoveStepper;
 
 impl Stepper for RemoveStepper {
+    ghost use Rattle.sysv_steps.specs.Call.{Removes};
     ghost use Rattle.sysv_steps.specs.State.{Zero};
     ghost use Rattle.sysv_steps.specs.Seen.{remove_phase, no_wait};
 
@@ -238,6 +245,8 @@ impl Stepper for RemoveStepper {
     type Wait = NoWait;
 
     type Done = ();
+
+    ghost kind = { Removes };
 
     ghost phase = { λ _. remove_phase };
 

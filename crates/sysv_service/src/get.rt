@@ -64,6 +64,7 @@ pub(crate) struct GetStepper<'a, C> {
 }
 
 impl<'a, C: Clock> Stepper for GetStepper<'a, C> {
+    ghost use Rattle.sysv_steps.specs.Call.{Gets};
     ghost use Rattle.sysv_steps.specs.State.{Id};
     ghost use Rattle.sysv_steps.specs.Seen.{get_phase, get_wait};
 
@@ -72,6 +73,8 @@ impl<'a, C: Clock> Stepper for GetStepper<'a, C> {
     type Wait = GetWait;
 
     type Done = i32;
+
+    ghost kind = { Gets };
 
     ghost may = { λ s. C.may s.clock.now };
 

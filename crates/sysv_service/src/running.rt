@@ -4,6 +4,7 @@ ghost use Rattle.std.specs.Prelude.{◌≡◌, ℕ, ◌+◌, ⊤, Err};
 ghost use Rattle.sysv_model.specs.declared.errno.Errno.{Errno as Why};
 ghost use Rattle.sysv_steps.specs.declared.state.State.{State as StateKept};
 ghost use Rattle.sysv_steps.specs.declared.state.State.TheVariants.{Over as IsOver};
+ghost use Rattle.sysv_steps.specs.Call.{Kind};
 ghost use Rattle.sysv_steps.specs.State.{Phase as PhaseSeen, Wait as WaitSeen, Ending as EndingSeen, Over};
 ghost use Rattle.sysv_steps.specs.Resume.{awaited as is_awaited, goal_of, resume as resumes};
 ghost use Rattle.sysv_steps.specs.Seen.{ending_of, state_of};
@@ -37,10 +38,13 @@ pub(crate) trait Stepper {
     /// The times that its clock may return. It may have no clock.
     ghost may: { Self → ℕ → Type 0 } = { λ _. no_moment };
 
-    /// The meaning of its steps, its waits and its result.
-    ghost phase: { Self → Self.Step → PhaseSeen };
+    /// The kind of its call.
+    ghost kind: { Kind };
 
-    ghost wait: { Self → Self.Wait → WaitSeen };
+    /// The meaning of its steps, its waits and its result.
+    ghost phase: { Self → Self.Step → PhaseSeen kind };
+
+    ghost wait: { Self → Self.Wait → WaitSeen kind };
 
     ghost ending: { Self → Self.Done → EndingSeen };
 

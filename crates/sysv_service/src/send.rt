@@ -75,6 +75,7 @@ pub(crate) struct SendStepper<'a, C> {
 }
 
 impl<'a, C: Clock> Stepper for SendStepper<'a, C> {
+    ghost use Rattle.sysv_steps.specs.Call.{Sends};
     ghost use Rattle.sysv_steps.specs.State.{Zero};
     ghost use Rattle.sysv_steps.specs.Seen.{send_phase, send_wait};
     ghost use Rattle.sysv_steps.specs.Bodies.{StillCanSend};
@@ -84,6 +85,8 @@ impl<'a, C: Clock> Stepper for SendStepper<'a, C> {
     type Wait = SendWait;
 
     type Done = ();
+
+    ghost kind = { Sends };
 
     ghost may = { λ s. C.may s.clock.now };
 
