@@ -53,7 +53,7 @@ use Rattle.sysv_seats.specs.Asked.{asks_with}
 use Rattle.sysv_seats.specs.InPieces.{asks_any}
 use Rattle.sysv_seats.specs.Asked.{Asks}
 use Rattle.sysv_seats.specs.Parked.{GoesOn, HasBegun, IsReplied, IsWaitOf, MayProgress, Proceeds}
-use Rattle.sysv_seats.specs.Parked.{receive_progress, send_progress}
+use Rattle.sysv_seats.specs.Parked.{kind_in, receive_progress, send_progress}
 use Rattle.sysv_seats.specs.Replies.{done_reply, given_reply, id_reply, row_reply, stat_reply}
 use Rattle.sysv_seats.specs.Sits.{GreetsAs, HasAsked, HasFrame, HasStopped, IsAt, IsBehind, IsFree, IsPending, IsReady}
 use Rattle.sysv_seats.specs.Sits.{IsWaiting, ReadsNext, Sits, Sitting, is_early, is_wait_of}
@@ -228,9 +228,9 @@ receive_has : (version : Version) (came : Progress ReceiveWait (Result Given Err
 receive_has version (progress.Waits w) = tt
 receive_has version (progress.Over told) = given_has version told
 
-proceeds_replied : (may : ℕ → Type 0) (version : Version) (waiting : Waiting) (text : List ℕ) (phase : Phase)
-    (before : Pass) (came : Progress Waiting RequestOutcome) (given : List ℕ) (after : Pass) →
-    Proceeds may version waiting text phase before came given after → IsReplied came
+proceeds_replied : (may : ℕ → Type 0) (version : Version) (waiting : Waiting) (text : List ℕ)
+    (phase : Phase (kind_in waiting)) (before : Pass) (came : Progress Waiting RequestOutcome) (given : List ℕ)
+    (after : Pass) → Proceeds may version waiting text phase before came given after → IsReplied came
 proceeds_replied may version (Send w) text phase before came given after on =
     subst IsReplied (sym on.2) (send_has version on.0)
 proceeds_replied may version (Receive w) text phase before came given after on =

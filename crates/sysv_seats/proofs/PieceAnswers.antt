@@ -12,6 +12,7 @@ use Rattle.sysv_steps.specs.declared.send.SendWait.{SendWait}
 use Rattle.sysv_service.specs.Ran.{Pass}
 use Rattle.sysv_service.specs.Told.{TellsGot}
 use Rattle.sysv_service.specs.Pending.{ReceivesOn}
+use Rattle.sysv_steps.specs.Call.{Receives}
 use Rattle.sysv_steps.specs.State.{State, Ending, Got, Refused}
 use Rattle.sysv_wire.specs.declared.frame.Version.{Version}
 use Rattle.sysv_wire.specs.declared.request.Ask.{Ask}
@@ -37,7 +38,7 @@ told_answers version id size mtype flags (Refused why) (Err other) given tells =
 told_answers version id size mtype flags ending told given tells = absurd tells
 
 pub receive_answers : (may : ℕ → Type 0) (version : Version) (id : ℤ) (size : ℕ) (mtype : ℤ) (flags : Flags)
-    (from : State) (before : Pass) (came : Progress ReceiveWait (Result Given Errno)) (given : List ℕ)
+    (from : State Receives) (before : Pass) (came : Progress ReceiveWait (Result Given Errno)) (given : List ℕ)
     (after : Pass) → ReceivesOn may from before came given after →
     MayProgress version (Rcv id size mtype flags) (receive_progress version came) given
 receive_answers may version id size mtype flags from before (progress.Waits w) given after on = tt

@@ -24,7 +24,8 @@ use Rattle.sysv_wire.specs.declared.request.Ask.TheVariants.{Hello, Get, Snd, Rc
 use Rattle.sysv_seats.specs.declared.waiting.Waiting.{Waiting}
 use Rattle.sysv_seats.specs.declared.waiting.Waiting.TheVariants.{Send, Receive}
 use Rattle.sysv_seats.specs.Asked.{Asks, ReadsReleased}
-use Rattle.sysv_seats.specs.Parked.{IsParked, HasBegun, GoesOn, Proceeds, send_progress, receive_progress, wait_in}
+use Rattle.sysv_seats.specs.Parked.{IsParked, HasBegun, GoesOn, Proceeds, send_progress, receive_progress, kind_in}
+use Rattle.sysv_seats.specs.Parked.{wait_in}
 
 module _ (may : ℕ → Type 0) (version : Version) (cred : Cred) where
   -- ---- the beginning
@@ -69,7 +70,7 @@ module _ (may : ℕ → Type 0) (version : Version) (cred : Cred) where
   -- It is at its goal and makes its steps.
   pub proceeds : (ask : Ask) (text : List ℕ) (start : Pass) (waiting : Waiting) (before : Pass)
       (result : Progress Waiting RequestOutcome) (given : List ℕ) (after : Pass) →
-      IsParked may cred ask text start waiting before → (phase : Phase) (mid : Pass) →
+      IsParked may cred ask text start waiting before → (phase : Phase (kind_in waiting)) (mid : Pass) →
       IsReached (wait_in waiting text) before phase mid →
       Proceeds may version waiting text phase mid result given after →
       HasBegun may version cred ask text start result given after

@@ -17,7 +17,7 @@ use Rattle.sysv_steps.specs.declared.send.SendWait.{SendWait}
 use Rattle.sysv_service.specs.Ran.{Pass}
 use Rattle.sysv_steps.specs.Seen.{receive_wait, send_wait}
 use Rattle.sysv_service.specs.Pending.{ReceivesOn, SendsOn, IsReached, StillWaits}
-use Rattle.sysv_steps.specs.Call.{Msgsnd, Msgrcv}
+use Rattle.sysv_steps.specs.Call.{Kind, Sends, Receives, Msgsnd, Msgrcv}
 use Rattle.sysv_steps.specs.Resume.{Count, ArrivedOf, FreedOf, Released}
 use Rattle.sysv_steps.specs.State.{Phase, Wait, Goes, Waits}
 use Rattle.sysv_wire.specs.declared.frame.Op.TheVariants as op
@@ -34,8 +34,13 @@ use Rattle.sysv_seats.specs.Replies.{done_reply, given_reply}
 
 -- ---- the waits of the code
 
+-- The kind of a call that waits.
+abbrev pub kind_in : Waiting → Kind
+kind_in (Send w) = Sends
+kind_in (Receive w) = Receives
+
 -- The wait of a call. `text` is the body of a send.
-abbrev pub wait_in : Waiting → List ℕ → Wait
+abbrev pub wait_in : (waiting : Waiting) → List ℕ → Wait (kind_in waiting)
 wait_in (Send w) text = send_wait w text
 wait_in (Receive w) text = receive_wait w
 
@@ -108,8 +113,8 @@ receive_progress version (progress.Waits w) = progress.Waits (Receive w)
 receive_progress version (progress.Over told) = progress.Over (given_reply version told)
 
 -- A call of this kind made its steps from here until it waited or was over.
-abbrev pub Proceeds : (ℕ → Type 0) → Version → Waiting → List ℕ → Phase → Pass → Progress Waiting RequestOutcome →
-    List ℕ → Pass → Type 0
+abbrev pub Proceeds : (ℕ → Type 0) → Version → (waiting : Waiting) → List ℕ → Phase (kind_in waiting) → Pass →
+    Progress Waiting RequestOutcome → List ℕ → Pass → Type 0
 Proceeds may version (Send w) text phase before result given after = (came : Progress SendWait (Result ⊤ Errno))
     × SendsOn may (Goes phase) before came text after × (result ≡ send_progress version came) × (given ≡ [])
 Proceeds may version (Receive w) text phase before result given after =
@@ -122,5 +127,5 @@ abbrev pub GoesOn : (ℕ → Type 0) → Version → Waiting → List ℕ → Pa
     Type 0
 GoesOn may version waiting text before result given after =
     (StillWaits (wait_in waiting text) before after × (result ≡ progress.Waits waiting) × (given ≡ []))
-    ⊎ ((phase : Phase) × (mid : Pass) × IsReached (wait_in waiting text) before phase mid
+    ⊎ ((phase : Phase (kind_in waiting)) × (mid : Pass) × IsReached (wait_in waiting text) before phase mid
     × Proceeds may version waiting text phase mid result given after)

@@ -13,7 +13,7 @@ use Rattle.sysv_session.specs.declared.handler.RequestOutcome.{RequestOutcome}
 use Rattle.sysv_session.specs.declared.handler.RequestOutcome.TheVariants.{Left}
 use Rattle.sysv_steps.specs.Stepping.{no_moment}
 use Rattle.sysv_service.specs.Told.{TellsId, TellsZero, TellsStat, TellsGot}
-use Rattle.sysv_steps.specs.Call.{SystemCall, Msgget, Msgsnd, Msgrcv, MsgctlStat, MsgctlSet, MsgctlRmid}
+use Rattle.sysv_steps.specs.Call.{SystemCall, Msgget, Msgsnd, Msgrcv, MsgctlStat, MsgctlSet, MsgctlRmid, kind_of}
 use Rattle.sysv_steps.specs.State.{Ending, State, Wait, Waits, Over}
 use Rattle.sysv_wire.specs.declared.frame.Op.TheVariants as op
 use Rattle.sysv_wire.specs.declared.frame.Version.{Version}
@@ -26,7 +26,7 @@ use Rattle.sysv_seats.specs.Replies.{id_reply, done_reply, given_reply, stat_rep
 -- released count that it starts with, the handler before, the state that the call reached, and the
 -- handler after.
 abbrev pub Going : Type 0 → Type 1
-Going K = (ℕ → Type 0) → Cred → SystemCall → ℕ → K → State → K → Type 0
+Going K = (ℕ → Type 0) → Cred → (asked : SystemCall) → ℕ → K → State (kind_of asked) → K → Type 0
 
 -- The definitions hold for any meaning of a call, of reading the released count, and of requesting
 -- the row of a slot.
@@ -39,7 +39,7 @@ module _ {K : Type 0} (Comes : Going K) (ReadsReleased : ℕ → K → K → Typ
   -- The caller may have left, and the call was left at a wait.
   abbrev pub IsLeft : Type 0 → (ℕ → Type 0) → Cred → SystemCall → ℕ → K → K → Type 0
   IsLeft may_leave may cred asked released before after =
-      may_leave × (wait : Wait) × Comes may cred asked released before (Waits wait) after
+      may_leave × (wait : Wait (kind_of asked)) × Comes may cred asked released before (Waits wait) after
 
   -- A `msgget` ended, and the outcome is the reply with its result.
   abbrev pub Gets : (ℕ → Type 0) → Version → Cred → ℤ → Flags → K → RequestOutcome → K → Type 0
