@@ -15,6 +15,7 @@ use Rattle.sysv_queue.specs.Blocks.{blocks_of}
 use Rattle.sysv_keys.specs.declared.identifier.TheConstants.{SLOTS}
 use Rattle.sysv_keys.specs.Identifier.{slot_of_id}
 use Rattle.sysv_keys.specs.Rows.{Row, IsRow}
+use Rattle.sysv_steps.specs.Call.{kind_of}
 use Rattle.sysv_steps.specs.State.{State, Goes, Waits, Over}
 use Rattle.sysv_steps.specs.Tended.{HasToSettle, HasToForget}
 use Rattle.sysv_core.specs.World.{World, Invocation, Doing, doing_in, opening}
@@ -40,7 +41,8 @@ same_acts (r ∷ rs) = ap (λ ds. r.turn.op ∷ ds) (same_acts rs)
 no_block : (place : ℕ) (c : Called) → Rests c.state → blocks_in_call (doing_in (started_at place c) c.state) ≡ 0
 no_block place c rests = by_state c.state rests
   where
-    by_state : (state : State) → Rests state → blocks_in_call (doing_in (started_at place c) state) ≡ 0
+    by_state : (state : State (kind_of c.asked)) → Rests state →
+        blocks_in_call (doing_in (started_at place c) state) ≡ 0
     by_state (Goes phase) r = absurd r
     by_state (Waits wait) r = refl
     by_state (Over ending) r = refl
@@ -58,13 +60,16 @@ no_blocks start (c ∷ cs) rest =
 
 -- ---- no row is tended
 
-no_tender : (call : Invocation) (state : State) (d : Doing) (id : ℤ) → Rests state → doing_in call state ≡ Some d →
+no_tender : (call : Invocation) (state : State (kind_of call.asked)) (d : Doing) (id : ℤ) → Rests state →
+    doing_in call state ≡ Some d →
     ¬ (HasToSettle d.state id ⊎ HasToForget d.state id)
 no_tender call (Goes phase) d id r is t = absurd r
 no_tender call (Waits wait) d id r is (inl t) =
-    let at : Waits wait ≡ d.state = cc in subst (λ s. HasToSettle s id) (sym at) t
+    let at : record { call = call; state = Waits wait } ≡ d = cc in
+    subst (λ (x : Doing). HasToSettle x.state id) (sym at) t
 no_tender call (Waits wait) d id r is (inr t) =
-    let at : Waits wait ≡ d.state = cc in subst (λ s. HasToForget s id) (sym at) t
+    let at : record { call = call; state = Waits wait } ≡ d = cc in
+    subst (λ (x : Doing). HasToForget x.state id) (sym at) t
 no_tender call (Over ending) d id r is t = absurd cc
 
 none_tends : (start : ℕ) (cs : List Called) (place : ℕ) (d : Doing) (id : ℤ) →

@@ -6,9 +6,8 @@ use Rattle.std.proofs.Common.{slice_get, slice_set, replicate}
 use Rattle.std.proofs.lemmas.List.{append-nil, map-append}
 use Rattle.std.proofs.lemmas.Option.{slice_get_within, get_or_from_slice_get}
 use Rattle.sysv_model.specs.History.{Who}
-use Rattle.sysv_model.specs.declared.cred.Cred.{Cred}
 use Rattle.sysv_model.specs.Turn.{Op, Turn, is_same, ops_of}
-use Rattle.sysv_steps.specs.Call.{SystemCall}
+use Rattle.sysv_steps.specs.Call.{kind_of}
 use Rattle.sysv_objects.specs.LegalOp.{AreLegal}
 use Rattle.sysv_model.specs.declared.errno.Errno.TheVariants.{EINVAL}
 use Rattle.sysv_steps.specs.State.{State, Goes, Waits, Over, Refused}
@@ -18,7 +17,7 @@ use Rattle.sysv_steps.specs.OneAnswer.{OneAnswer}
 use Rattle.sysv_core.specs.World.{World, Opening, Invocation, Doing, Response, opening, doing_in, response_in, begun}
 use Rattle.sysv_core.specs.World.{in_state}
 use Rattle.sysv_core.specs.World.{with_call}
-use Rattle.sysv_core.specs.AnswerLaw.{Outcome, stands_in, standing_of, ended, standing}
+use Rattle.sysv_core.specs.AnswerLaw.{Outcome, stands_in, standing_of, ended}
 use Rattle.sysv_thread_laws.specs.Execution.{Moment, Starts, LeadsOnThreads, starting_with}
 use Rattle.sysv_thread_laws.specs.OnThreads.{ObeysOnThreads, EveryThreadedRunObeys}
 use Rattle.sysv_model.specs.Turns.{Numbered, turns_of}
@@ -182,22 +181,22 @@ pending_there start (d ∷ cs) zero c there =
 pending_there start (d ∷ cs) (suc place) c there =
     pending_there (suc start) cs place c there ∙ ap (λ n. Some (pending_at n c)) (omega arith)
 
-in_its_place : (call : Invocation) (state : State) → is_same call.who call.who ≡ true →
-    stands_in call.who (Some (doing_in call state)) ≡ standing state
-in_its_place call (Goes phase) same = ap (λ b. cond b (Some (Goes phase)) None) same
-in_its_place call (Waits wait) same = ap (λ b. cond b (Some (Waits wait)) None) same
+in_its_place : (call : Invocation) (state : State (kind_of call.asked)) → is_same call.who call.who ≡ true →
+    stands_in call.who (Some (doing_in call state)) ≡ doing_in call state
+in_its_place call (Goes phase) same = ap (λ b. cond b (Some record { call = call; state = Goes phase }) None) same
+in_its_place call (Waits wait) same = ap (λ b. cond b (Some record { call = call; state = Waits wait }) None) same
 in_its_place call (Over ending) same = refl
 
 -- Two plays along the same turns that leave the actor in the same state have the same endings.
-module _ (one : OneAnswer) (cred : Cred) (asked : SystemCall) (released : ℕ) (ds : List Op) where
-  one_ending : (state other : State) → Plays (begin cred asked released) ds state →
-      Plays (begin cred asked released) ds other → standing state ≡ standing other → ended state ≡ ended other
+module _ (one : OneAnswer) (call : Invocation) (ds : List Op) where
+  one_ending : (state other : State (kind_of call.asked)) → Plays (begun call) ds state → Plays (begun call) ds other →
+      doing_in call state ≡ doing_in call other → ended state ≡ ended other
   one_ending (Goes phase) (Goes another) p q same = refl
   one_ending (Goes phase) (Waits wait) p q same = refl
   one_ending (Waits wait) (Goes phase) p q same = refl
   one_ending (Waits wait) (Waits another) p q same = refl
   one_ending (Over ending) (Over another) p q same =
-      ap (λ e. e ∷ []) (one cred asked released released ds ending another p q)
+      ap (λ e. e ∷ []) (one call.cred call.asked call.released call.released ds ending another p q)
   one_ending (Over ending) (Goes phase) p q same = absurd cc
   one_ending (Over ending) (Waits wait) p q same = absurd cc
   one_ending (Goes phase) (Over ending) p q same = absurd cc
@@ -269,7 +268,7 @@ module _ (obeys : EveryThreadedRunObeys) (one : OneAnswer) (gen size : ℕ) (ord
             ∙ r.own place (pending_at place c)
             (pending_there 0 calls place c there ∙ at_place (λ n. Some (pending_at n c)))
 
-        its_place : standing_of (name_at place) r.world.actors ≡ standing c.state
+        its_place : standing_of (name_at place) r.world.actors ≡ doing_in call c.state
         its_place =
             ap (λ ds. stands_in (name_at place) (slice_get ds place)) actors_are
             ∙ (ap (stands_in (name_at place))
@@ -280,9 +279,8 @@ module _ (obeys : EveryThreadedRunObeys) (one : OneAnswer) (gen size : ℕ) (ord
         ends_as = record {
           ops = its_ops;
           answered = outcome.answered
-              ∙ one_ending one c.cred c.asked c.released c.ops outcome.state c.state
-              (subst (λ ds. Plays (begin c.cred c.asked c.released) ds outcome.state) its_ops outcome.plays)
-              (played_at place c there)
+              ∙ one_ending one call c.ops outcome.state c.state
+              (subst (λ ds. Plays (begun call) ds outcome.state) its_ops outcome.plays) (played_at place c there)
               (sym outcome.stands ∙ its_place);
         }
 

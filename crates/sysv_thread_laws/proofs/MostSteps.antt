@@ -14,7 +14,7 @@ use Rattle.sysv_model.specs.Registry.{Begin, Settle, Forget, Made, Changed}
 use Rattle.sysv_model.specs.Pool.{Reserve, Release, Reserved, Released, blocks_for}
 use Rattle.sysv_model.specs.Turn.{AtSlot, AtRegistry, AtPool}
 use Rattle.sysv_keys.specs.Identifier.{slot_of_id}
-use Rattle.sysv_steps.specs.Call.{SystemCall, Msgget, Msgsnd, Msgrcv, MsgctlStat, MsgctlSet, MsgctlRmid}
+use Rattle.sysv_steps.specs.Call.{SystemCall, Msgget, Msgsnd, Msgrcv, MsgctlStat, MsgctlSet, MsgctlRmid, Kind, kind_of}
 use Rattle.sysv_steps.specs.State.{State, Goes, Over, Refused}
 use Rattle.sysv_steps.specs.Begin.{first}
 use Rattle.sysv_steps.specs.Played.{Plays, begins, steps}
@@ -24,11 +24,11 @@ use Rattle.sysv_thread_laws.specs.OwnSteps.{most_turns, IsReached, EachNumberIsR
 abbrev empty : Message
 empty = record { number = 0; sender = 0; mtype = pos 1; bytes = [] }
 
-abbrev at_start : (from : State) → Plays from [] from
+abbrev at_start : {kind : Kind} (from : State kind) → Plays from [] from
 at_start from = begins
 
 module _ (cred : Cred) (released : ℕ) where
-  abbrev start : SystemCall → State
+  abbrev start : (asked : SystemCall) → State (kind_of asked)
   start asked = Goes (first cred asked released)
 
   -- It makes a queue.
@@ -81,7 +81,7 @@ module _ (cred : Cred) (released : ℕ) where
       let forgotten = steps (AtRegistry (Forget id) (Changed true)) 0 _ removed refl refl in
       (_, _, steps (AtPool (Release 0) Released) 0 _ forgotten refl refl, refl)
 
-  by_first : (asked : SystemCall) → IsReached (start asked) (most_turns asked)
+  by_first : (asked : SystemCall) → IsReached (start asked) (most_turns (kind_of asked))
   by_first (Msgget key flags) = by_get key flags
   by_first (Msgsnd id mtype flags text) = by_send id mtype flags text
   by_first (Msgrcv id size mtype flags) = by_receive id size mtype flags
@@ -91,6 +91,6 @@ module _ (cred : Cred) (released : ℕ) where
 
 pub each_number : EachNumberIsReached
 each_number cred asked released fine =
-    subst (λ from. IsReached from (most_turns asked))
+    subst (λ from. IsReached from (most_turns (kind_of asked)))
     (ap (λ b. cond b (Over (Refused EINVAL)) (Goes (first cred asked released))) (sym fine))
     (by_first cred released asked)

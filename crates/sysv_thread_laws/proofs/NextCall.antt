@@ -6,6 +6,7 @@ use Rattle.std.specs.List.{flat_map}
 use Rattle.std.proofs.lemmas.Bool.Decides.{eqb_tells}
 use Rattle.sysv_model.specs.History.{Who}
 use Rattle.sysv_model.specs.Turn.{Op, Turn}
+use Rattle.sysv_steps.specs.Call.{kind_of}
 use Rattle.sysv_steps.specs.State.{State}
 use Rattle.sysv_core.specs.World.{Invocation, Doing, doing_in}
 use Rattle.sysv_thread_laws.specs.OrderIsRun.{turn_as, name_at}
@@ -17,9 +18,9 @@ use Rattle.sysv_thread_laws.proofs.PlayedCallGoesOn.{PlaysOn, IsSettled}
 pub record PendingCall : Type 0 where
   pub by : ℕ
   pub call : Invocation
-  pub state : State
+  pub state : State (kind_of call.asked)
   pub rest : List Op
-  pub to : State
+  pub to : State (kind_of call.asked)
 
 abbrev pub doing_of : PendingCall → Option Doing
 doing_of u = doing_in u.call u.state

@@ -11,6 +11,7 @@ use Rattle.sysv_model.specs.declared.errno.Errno.{Errno}
 use Rattle.sysv_model.specs.History.{Who}
 use Rattle.sysv_model.specs.Pool.{Release, Foreign, PoolEntry}
 use Rattle.sysv_model.specs.Turn.{Op, AtPool, pool_entry, pool_history}
+use Rattle.sysv_steps.specs.Call.{Kind}
 use Rattle.sysv_steps.specs.State.{State, Goes, Waits}
 use Rattle.sysv_steps.specs.Begin.{begin}
 use Rattle.sysv_model.specs.Turns.{Numbered}
@@ -50,8 +51,8 @@ no_call_left = refl
 none_held : held_by [] ≡ 0
 none_held = refl
 
-module _ (from : State) (old : Pass) where
-  call_keeps : (ops : List Op) (state : State) (new : Pass) (ran : Ran any_moment from old ops state new) →
+module _ {kind : Kind} (from : State kind) (old : Pass) where
+  call_keeps : (ops : List Op) (state : State kind) (new : Pass) (ran : Ran any_moment from old ops state new) →
       FindsTurns ran → new.held ≡ old.held + left_in ops
   call_keeps _ _ _ begins found = omega (arith, none_left)
   call_keeps _ _ _ (steps {ops} {phase} {mid} state new ran step) found =

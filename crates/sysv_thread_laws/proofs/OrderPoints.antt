@@ -12,6 +12,7 @@ use Rattle.sysv_model.specs.Turn.{pool_history}
 use Rattle.sysv_model.specs.Turns.{Numbered, turns_of}
 use Rattle.sysv_model.specs.Turns.{turn_of as turn_at}
 use Rattle.sysv_objects.specs.LegalOp.{AreLegal}
+use Rattle.sysv_steps.specs.Call.{Kind}
 use Rattle.sysv_steps.specs.State.{State, Goes, Waits}
 use Rattle.sysv_steps.specs.Begin.{begin}
 use Rattle.sysv_steps.specs.Played.{Plays, begins, steps, resumes}
@@ -25,8 +26,8 @@ use Rattle.sysv_thread_laws.proofs.PlayPrefix.{last_or_before}
 -- ---- a play, cut after some of its operations
 
 -- The state just after these operations.
-record IsPlayedTo (from : State) (ops : List Op) : Type 0 where
-  state : State
+record IsPlayedTo {kind : Kind} (from : State kind) (ops : List Op) : Type 0 where
+  state : State kind
   plays : Plays from ops state
   just : IsJustAfter from ops state
 
@@ -34,8 +35,8 @@ none_in : (front back : List Op) → [] ≡ front ++ back → front ≡ []
 none_in [] back e = refl
 none_in (d ∷ front) back e = absurd cc
 
-played_to : (from : State) (ops : List Op) (state : State) → Plays from ops state → (front back : List Op) →
-    ops ≡ front ++ back → IsPlayedTo from front
+played_to : {kind : Kind} (from : State kind) (ops : List Op) (state : State kind) → Plays from ops state →
+    (front back : List Op) → ops ≡ front ++ back → IsPlayedTo from front
 played_to from _ _ begins front back e =
     let none = none_in front back e in
     record {

@@ -11,13 +11,15 @@ use Rattle.sysv_model.specs.Pool.{released}
 use Rattle.sysv_model.specs.Turn.{AtPool, pool_history, ops_of}
 use Rattle.sysv_queue.specs.StaysRight.{NoMatchStays, FullStays, FullStaysForLook, CountsNeverFall}
 use Rattle.sysv_objects.specs.LegalOp.{AreLegal}
-use Rattle.sysv_steps.specs.Call.{SystemCall, Msgget, Msgsnd, Msgrcv}
-use Rattle.sysv_steps.specs.State.{Sending, Wait, OnSettled, OnFreed, OnReleased, OnArrived, State, Goes, Waits, Over}
+use Rattle.sysv_steps.specs.Call.{SystemCall, Msgget, Msgsnd, Msgrcv, Kind, kind_of}
+use Rattle.sysv_steps.specs.State.{Sending, Wait, OnSettled, OnFreed, OnReleased, OnArrived, State, Waits}
 use Rattle.sysv_steps.specs.Tended.{HasToSettle, HasToForget}
+use Rattle.sysv_steps.specs.Begin.{is_refused, begin}
+use Rattle.sysv_steps.specs.Resume.{awaited, goal_of}
 use Rattle.sysv_steps.specs.Played.{Plays}
-use Rattle.sysv_steps.specs.HoldsAsked.{WaitHolds, EachHoldsWhatItWasAsked}
+use Rattle.sysv_steps.specs.HoldsAsked.{EachHoldsWhatItWasAsked}
 use Rattle.sysv_steps.specs.WaitsFor.{WaitsFor, EachWaitsForItsRefusal}
-use Rattle.sysv_core.specs.World.{World, Opening, Invocation, Doing, Response, opening, doing_in, begun}
+use Rattle.sysv_core.specs.World.{World, Opening, Doing, Response, opening, doing_in, begun, value_of}
 use Rattle.sysv_core.specs.Parked.{IsToBeWoken, HasTooFewBlocks, IsBeingChanged, HasReason, IsParked, AreParkedRightly}
 use Rattle.sysv_core.specs.Tending.{AreTended}
 use Rattle.sysv_core.proofs.LifetimeGoesOn.{EachObeys}
@@ -26,6 +28,8 @@ use Rattle.sysv_core.proofs.ParkedRightly.{parked_rightly}
 use Rattle.sysv_core.proofs.PartsOfOneCall.{same_who}
 use Rattle.sysv_core.proofs.TurnInHistory.{made_at}
 use Rattle.sysv_core.proofs.LifetimeLaws.{settled_once_installed}
+use Rattle.sysv_core.proofs.SendIsWoken.{IsToBeWokenBelow}
+use Rattle.sysv_core.proofs.WaitsForBlocks.{IsShortBelow}
 use Rattle.sysv_core.proofs.WorldsObey.{Inv, stands_there}
 use Rattle.sysv_thread_laws.specs.Execution.{Moment, LeadsOnThreads}
 use Rattle.sysv_thread_laws.specs.OnThreads.{IsRowRead, ObeysOnThreads, EveryThreadedRunObeys}
@@ -34,12 +38,12 @@ use Rattle.sysv_thread_laws.specs.ParkedOnThreads.{EveryOrderParksRightly}
 use Rattle.sysv_thread_laws.specs.OrderIsRun.{opening_for, started_at}
 use Rattle.sysv_thread_laws.proofs.InvokedFirst.{standing_at}
 use Rattle.sysv_thread_laws.proofs.PoolLater.{short_at}
-use Rattle.sysv_thread_laws.proofs.SendIsTold.{told_so}
+use Rattle.sysv_thread_laws.proofs.SendIsTold.{begun_elsewhere, told_so}
 
 -- ---- without the sends that wait for blocks
 
 -- The actor as it is, but idle if it waits for blocks.
-abbrev without_in : Doing → State → Option Doing
+abbrev without_in : {kind : Kind} → Doing → State kind → Option Doing
 without_in d (Waits (OnReleased goal send)) = None
 without_in d state = Some d
 
@@ -52,25 +56,23 @@ abbrev calmed : World → World
 calmed w = record w { actors = map without w.actors }
 
 -- The actor does not wait for blocks.
-abbrev IsCalm : State → Type 0
+abbrev IsCalm : {kind : Kind} → State kind → Type 0
 IsCalm (Waits (OnReleased goal send)) = ⊥
 IsCalm state = Unit {0}
 
-calm_in : (d e : Doing) (state : State) → without_in d state ≡ Some e → (d ≡ e) × IsCalm state
+calm_in : {kind : Kind} (d e : Doing) (state : State kind) → without_in d state ≡ Some e → (d ≡ e) × IsCalm state
 calm_in d e (Waits (OnReleased goal send)) is = absurd cc
-calm_in d e (Waits (OnSettled goal get)) is = (cc, tt)
-calm_in d e (Waits (OnFreed goal send)) is = (cc, tt)
-calm_in d e (Waits (OnArrived goal receive)) is = (cc, tt)
-calm_in d e (Goes phase) is = (cc, tt)
-calm_in d e (Over ending) is = (cc, tt)
+calm_in d e state is = (cc, tt)
 
-still_there : (d : Doing) (state : State) → IsCalm state → without_in d state ≡ Some d
+still_there : {kind : Kind} (d : Doing) (state : State kind) → IsCalm state → without_in d state ≡ Some d
 still_there d (Waits (OnReleased goal send)) calm = absurd calm
-still_there d (Waits (OnSettled goal get)) calm = refl
-still_there d (Waits (OnFreed goal send)) calm = refl
-still_there d (Waits (OnArrived goal receive)) calm = refl
-still_there d (Goes phase) calm = refl
-still_there d (Over ending) calm = refl
+still_there d state calm = refl
+
+-- So the laws of waits for blocks say nothing of it.
+calm_below : {kind : Kind} (w : World) (state : State kind) → IsCalm state →
+    IsShortBelow w.blocks (pool_history w.turns) state × IsToBeWokenBelow w state
+calm_below w (Waits (OnReleased goal send)) calm = absurd calm
+calm_below w state calm = (tt, tt)
 
 -- An actor of the calmed world is in the same call in the world.
 was_there_in : (o : Option (Option Doing)) (d : Doing) → option_map without o ≡ Some (Some d) →
@@ -93,14 +95,11 @@ module _ (w : World) where
   is_there place d there calm = slice_get-map without w.actors place
       ∙ (ap (option_map without) there ∙ ap (λ o. Some o) (still_there d d.state calm))
 
-  tends_calmly : (state : State) (id : ℤ) → HasToSettle state id ⊎ HasToForget state id → IsCalm state
-  tends_calmly (Goes phase) id t = tt
-  tends_calmly (Over ending) id t = tt
-  tends_calmly (Waits (OnSettled goal get)) id t = tt
-  tends_calmly (Waits (OnFreed goal send)) id t = tt
-  tends_calmly (Waits (OnArrived goal receive)) id t = tt
+  tends_calmly : {kind : Kind} (state : State kind) (id : ℤ) → HasToSettle state id ⊎ HasToForget state id →
+      IsCalm state
   tends_calmly (Waits (OnReleased goal send)) id (inl t) = t
   tends_calmly (Waits (OnReleased goal send)) id (inr t) = t
+  tends_calmly state id t = tt
 
   tended_calmly : AreTended w → AreTended (calmed w)
   tended_calmly tended row is open_row =
@@ -126,13 +125,13 @@ module _ (w : World) where
   }
 
   -- A reason in the calmed world is one in the world.
-  same_reason : (call : Invocation) (asked : SystemCall) (wait : Wait) → IsCalm (Waits wait) →
-      HasReason (calmed w) call.cred asked wait → HasReason w call.cred asked wait
-  same_reason call (Msgrcv id size mtype flags) (OnArrived goal receive) calm r = r
-  same_reason call (Msgsnd id mtype flags text) (OnFreed goal send) calm r = r
-  same_reason call (Msgsnd id mtype flags text) (OnReleased goal send) calm r = absurd calm
-  same_reason call (Msgget key flags) (OnSettled goal get) calm r = changed_there key r
-  same_reason call asked wait calm r = absurd r
+  same_reason : (cred : Cred) (asked : SystemCall) (wait : Wait (kind_of asked)) → IsCalm (Waits wait) →
+      HasReason (calmed w) cred asked wait → HasReason w cred asked wait
+  same_reason cred (Msgrcv id size mtype flags) (OnArrived goal receive) calm r = r
+  same_reason cred (Msgsnd id mtype flags text) (OnFreed goal send) calm r = r
+  same_reason cred (Msgsnd id mtype flags text) (OnReleased goal send) calm r = absurd calm
+  same_reason cred (Msgget key flags) (OnSettled goal get) calm r = changed_there key r
+  same_reason cred asked wait calm r = elim wait [ ]
 
 -- ---- a send that waits for blocks
 
@@ -147,17 +146,6 @@ short_of w legal who goal send (is, (front, ends)) below had =
     let read = had m.before m.after op own m.later_is in
     short_at w.generation w.blocks w.turns legal m.before m.after who (length send.text) own
     (omega (arith, below, is, read))
-
--- The same reason, in the words of what was asked.
-as_asked : (w : World) (cred : Cred) (asked : SystemCall) (goal : ℕ) (send : Sending) →
-    WaitHolds cred asked (OnReleased goal send) →
-    HasTooFewBlocks w (length send.text) × IsToBeWoken w send.id send.cred →
-    HasReason w cred asked (OnReleased goal send)
-as_asked w cred (Msgsnd id mtype flags text) goal send holds r = (
-  subst (λ (t : List ℕ). HasTooFewBlocks w (length t)) holds.text r.0,
-  subst (λ i. IsToBeWoken w i cred) holds.id (subst (IsToBeWoken w send.id) holds.cred r.1),
-)
-as_asked w cred asked goal send holds r = absurd holds
 
 -- ---- the law
 
@@ -177,42 +165,49 @@ module _ (stays : StaysRight) (o : Opening) (w : World) (responses : List Respon
       Plays (begun d.call) (ops_of d.call.who w.turns) d.state
   played place d there = (stands_there w responses i place d there).plays
 
-  none_for_blocks : (place goal : ℕ) (d : Doing) (send : Sending) →
-      slice_get (calmed w).actors place ≡ Some (Some d) → d.state ≡ Waits (OnReleased goal send) → ⊥
-  none_for_blocks place goal d send there is = subst IsCalm is (was_there w place d there).1
-
   all_calm : AreParkedRightly (calmed w)
   all_calm =
       parked_rightly stays.laws (calmed w) i.sound.legal (λ place d there. played place d (was_there w place d there).0)
       stays.no_match stays.full stays.full_for_look stays.counts stays.refused stays.holds
       (tended_calmly w lawful.lives.tended) lawful.lives.removed
       (settled_once_installed w.turns i.lifetime.facts)
-      (λ place d goal send there is below. absurd (none_for_blocks place goal d send there is))
-      (λ place d goal send there is below. absurd (none_for_blocks place goal d send there is))
+      (λ place d there. (calm_below (calmed w) d.state (was_there w place d there).1).0)
+      (λ place d there. (calm_below (calmed w) d.state (was_there w place d there).1).1)
 
-  calm_reason : (place : ℕ) (d : Doing) (wait : Wait) → IsCalm (Waits wait) → IsParked w place d wait →
-      HasReason w d.call.cred d.call.asked wait
+  calm_reason : (place : ℕ) (d : Doing) (wait : Wait (kind_of d.call.asked)) → IsCalm (Waits wait) →
+      IsParked w place d wait → HasReason w d.call.cred d.call.asked wait
   calm_reason place d wait calm p =
-      same_reason w d.call d.call.asked wait calm (all_calm place d wait (record {
+      same_reason w d.call.cred d.call.asked wait calm (all_calm place d wait (record {
         there = is_there w place d p.there (subst IsCalm (sym p.waits) calm);
         waits = p.waits;
         below = p.below;
       }))
 
-  reason : (place : ℕ) (d : Doing) (wait : Wait) → IsParked w place d wait → HasReasonOnThreads w d.call wait
-  reason place d (OnReleased goal send) p =
-      let ops = ops_of d.call.who w.turns in
-      let play = subst (Plays (begun d.call) ops) p.waits (played place d p.there) in
-      let why = stays.refused d.call.cred d.call.asked d.call.released ops (OnReleased goal send) play in
-      let holds = stays.holds d.call.cred d.call.asked d.call.released ops (Waits (OnReleased goal send)) play in
+  reason : (who : Who) (cred : Cred) (asked : SystemCall) (read : ℕ) (wait : Wait (kind_of asked)) →
+      Plays (begin cred asked read) (ops_of who w.turns) (Waits wait) →
+      value_of w.turns (awaited wait) < goal_of wait → (IsCalm (Waits wait) → HasReason w cred asked wait) →
+      HasReasonOnThreads w who cred asked wait
+  reason who cred (Msgsnd id mtype flags text) read (OnReleased goal send) play below calm =
+      let asked = Msgsnd id mtype flags text in
+      let ops = ops_of who w.turns in
+      let why = stays.refused cred asked read ops (OnReleased goal send) play in
+      let holds = stays.holds cred asked read ops (Waits (OnReleased goal send)) play in
+      let short : HasTooFewBlocks w (length send.text) → HasTooFewBlocks w (length text) =
+      subst (λ (t : List ℕ). HasTooFewBlocks w (length t)) holds.text in
       record {
-        short = λ had. short_of w i.sound.legal d.call.who goal send why p.below had;
-        whole = λ had. as_asked w d.call.cred d.call.asked goal send holds
-            (told_so o w responses i lawful d.call goal send play why p.below had);
+        short = λ had. short (short_of w i.sound.legal who goal send why below had);
+        whole = λ had.
+            let told =
+            told_so o w responses i lawful who (begin cred asked read) goal send
+            (begun_elsewhere cred id mtype flags text read (is_refused asked)) play why below had in (
+              short told.0,
+              subst (λ x. IsToBeWoken w x cred) holds.id (subst (IsToBeWoken w send.id) holds.cred told.1),
+            );
       }
-  reason place d (OnSettled goal get) p = calm_reason place d (OnSettled goal get) tt p
-  reason place d (OnFreed goal send) p = calm_reason place d (OnFreed goal send) tt p
-  reason place d (OnArrived goal receive) p = calm_reason place d (OnArrived goal receive) tt p
+  reason who cred (Msgsnd id mtype flags text) read (OnFreed goal send) play below calm = calm tt
+  reason who cred (Msgget key flags) read (OnSettled goal get) play below calm = calm tt
+  reason who cred (Msgrcv id size mtype flags) read (OnArrived goal receive) play below calm = calm tt
+  reason who cred asked read wait play below calm = elim wait [ ]
 
 pub parked_on_threads : StaysRight → EveryThreadedRunObeys →
     ((o : Opening) (list : List Moment) (responses : List Response) (w : World) →
@@ -220,7 +215,12 @@ pub parked_on_threads : StaysRight → EveryThreadedRunObeys →
     Inv IsRowRead w responses) →
     EveryThreadedRunParksRightly
 parked_on_threads stays law keeps o list responses w led place d wait p =
-    reason stays o w responses (keeps o list responses w led) (law o list responses w led) place d wait p
+    let i = keeps o list responses w led in
+    let lawful = law o list responses w led in
+    reason stays o w responses i lawful d.call.who d.call.cred d.call.asked d.call.released wait
+    (subst (Plays (begun d.call) (ops_of d.call.who w.turns)) p.waits
+    (played stays o w responses i lawful place d p.there)) p.below
+    (λ calm. calm_reason stays o w responses i lawful place d wait calm p)
 
 pub parked_in_order : EveryThreadedRunParksRightly → EveryOrderParksRightly
 parked_in_order law generation blocks order calls run place c wait there waits below =

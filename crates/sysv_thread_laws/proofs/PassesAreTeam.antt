@@ -5,6 +5,7 @@ use Rattle.sysv_model.specs.declared.attributes.Row.{Row}
 use Rattle.sysv_model.specs.declared.errno.Errno.{Errno}
 use Rattle.sysv_model.specs.History.{ReadRow, Shown}
 use Rattle.sysv_model.specs.Turn.{OfSlot, AtSlot}
+use Rattle.sysv_steps.specs.Call.{Kind}
 use Rattle.sysv_steps.specs.State.{Phase, State, Goes, Waits}
 use Rattle.sysv_steps.specs.Begin.{begin}
 use Rattle.sysv_model.specs.Members.{Member}
@@ -23,32 +24,32 @@ use Rattle.sysv_service.proofs.PlaysOwnTurns.{plays}
 -- ---- a call of any clock
 
 module _ (may : ℕ → Type 0) where
-  abbrev step_at : (phase : Phase) (before : Pass) (state : State) (after : Pass) → Steps may phase before state after →
-      Steps any_moment phase before state after
+  abbrev step_at : {kind : Kind} (phase : Phase kind) (before : Pass) (state : State kind) (after : Pass) →
+      Steps may phase before state after → Steps any_moment phase before state after
   step_at phase before state after s =
       record { op = s.op; now = s.now; moment = λ e. tt; asked = s.asked; goes = s.goes; makes = s.makes }
 
-  abbrev back_at : (phase : Phase) (before : Pass) (state : State) (after : Pass) →
+  abbrev back_at : {kind : Kind} (phase : Phase kind) (before : Pass) (state : State kind) (after : Pass) →
       FindsNoTurn may phase before state after → FindsNoTurn any_moment phase before state after
   back_at phase before state after s =
       record { ops = s.ops; now = s.now; moment = λ e. tt; there = s.there; worn = s.worn; back = s.back }
 
   pub at_any : EachRunIsAtAnyMoment may
-  at_any from old _ _ _ begins = (begins, λ found. tt)
-  at_any from old _ _ _ (steps {ops} {phase} {mid} state new ran step) =
-      let so = at_any from old ops (Goes phase) mid ran in
+  at_any kind from old _ _ _ begins = (begins, λ found. tt)
+  at_any kind from old _ _ _ (steps {ops} {phase} {mid} state new ran step) =
+      let so = at_any kind from old ops (Goes phase) mid ran in
       (steps state new so.0 (step_at phase mid state new step), so.1)
-  at_any from old _ _ _ (turns_back {ops} {phase} {mid} state new ran step) =
-      let so = at_any from old ops (Goes phase) mid ran in
+  at_any kind from old _ _ _ (turns_back {ops} {phase} {mid} state new ran step) =
+      let so = at_any kind from old ops (Goes phase) mid ran in
       (turns_back state new so.0 (back_at phase mid state new step), λ found. absurd found)
-  at_any from old _ _ _ (reads {ops} {state} {mid} count value new ran r same) =
-      let so = at_any from old ops state mid ran in
+  at_any kind from old _ _ _ (reads {ops} {state} {mid} count value new ran r same) =
+      let so = at_any kind from old ops state mid ran in
       (reads count value new so.0 r same, so.1)
-  at_any from old _ _ _ (resumes {ops} {wait} {mid} value new ran reached r same) =
-      let so = at_any from old ops (Waits wait) mid ran in
+  at_any kind from old _ _ _ (resumes {ops} {wait} {mid} value new ran reached r same) =
+      let so = at_any kind from old ops (Waits wait) mid ran in
       (resumes value new so.0 reached r same, so.1)
-  at_any from old _ _ _ (gives_up {ops} {wait} {mid} value new ran below r same) =
-      let so = at_any from old ops (Waits wait) mid ran in
+  at_any kind from old _ _ _ (gives_up {ops} {wait} {mid} value new ran below r same) =
+      let so = at_any kind from old ops (Waits wait) mid ran in
       (gives_up value new so.0 below r same, λ found. absurd found)
 
 -- ---- the passes

@@ -7,6 +7,7 @@ use Rattle.std.proofs.lemmas.List.Elements.{All-head, All-tail, filter-append}
 use Rattle.std.proofs.lemmas.Bool.{or_cases}
 use Rattle.sysv_model.specs.History.{Who}
 use Rattle.sysv_model.specs.Turn.{Op, asked_by, Turn, is_same, ops_of}
+use Rattle.sysv_steps.specs.Call.{Kind}
 use Rattle.sysv_steps.specs.State.{Phase, State, Goes, Waits}
 use Rattle.sysv_steps.specs.Asks.{asks}
 use Rattle.sysv_steps.specs.Played.{Plays, begins, steps, resumes}
@@ -43,14 +44,14 @@ all_at P (y ∷ front) x back all = all_at P front x back (All-tail P y (front +
 -- ---- a play
 
 -- The call was before a step that requests what the operation requests.
-pub record IsBeforeOp (from : State) (front : List Op) (op : Op) : Type 0 where
-  pub phase : Phase
+pub record IsBeforeOp {kind : Kind} (from : State kind) (front : List Op) (op : Op) : Type 0 where
+  pub phase : Phase kind
   pub now : ℕ
   pub play : Plays from front (Goes phase)
   pub asked : asked_by op ≡ asks phase now
 
-pub play_before : (from : State) (ops : List Op) (state : State) → Plays from ops state → (front : List Op)
-    (op : Op) (back : List Op) → ops ≡ front ++ op ∷ back → IsBeforeOp from front op
+pub play_before : {kind : Kind} (from : State kind) (ops : List Op) (state : State kind) → Plays from ops state →
+    (front : List Op) (op : Op) (back : List Op) → ops ≡ front ++ op ∷ back → IsBeforeOp from front op
 play_before from _ _ begins front op back e = absurd (no_nil front op back e)
 play_before from _ _ (steps {ops} {phase} last now after play asked row) front op back e =
     elim (last_or_before ops last front op back e) [

@@ -91,7 +91,7 @@ module _
   row_sound s = record {
     legal = more w.generation w.blocks w.turns nobody (AtSlot slot ReadRow reply) s.legal legal;
     own = s.own;
-    installs = λ place d get id there is. still (slot_of_id id) (s.installs place d get id there is);
+    installs = λ place d id there is. still (slot_of_id id) (s.installs place d id there is);
     lives =
         all_made w.turns nobody (AtSlot slot ReadRow reply) s.lives (λ at c r is i. let asks = i.asks_it in absurd cc);
     blocks = row_conserves w.turns slot reply kept s.legal.slots legal w.blocks w.actors s.blocks;

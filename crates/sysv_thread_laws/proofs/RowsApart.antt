@@ -4,9 +4,8 @@ use Rattle.std.specs.List.{All}
 use Rattle.std.proofs.lemmas.List.Elements.{All-push, All-nil}
 use Rattle.sysv_model.specs.History.{ReadRow}
 use Rattle.sysv_model.specs.Turn.{Op, OfSlot, asked_by}
-use Rattle.sysv_steps.specs.State.{Phase, State, AtBegin, AtInstall, AtSettle, AtProbe, AtUnmake, AtLook, AtReserve}
-use Rattle.sysv_steps.specs.State.{AtPlace, AtSendGiveback, AtTake, AtReceiveGiveback, AtStat, AtSet, AtSetGiveback}
-use Rattle.sysv_steps.specs.State.{AtRemove, AtForget, AtRemoveGiveback}
+use Rattle.sysv_steps.specs.Call.{Kind}
+use Rattle.sysv_steps.specs.State.{Phase, State, AtBegin}
 use Rattle.sysv_steps.specs.Asks.{asks}
 use Rattle.sysv_steps.specs.Played.{Plays, begins, steps, resumes}
 use Rattle.sysv_thread_laws.specs.Order.{shows_row, NoCallReadsARow}
@@ -15,33 +14,18 @@ use Rattle.sysv_thread_laws.proofs.OrderLeadsOn.{row_form}
 abbrev IsQuiet : Op → Type 0
 IsQuiet op = shows_row op ≡ false
 
-no_step : (phase : Phase) (now slot : ℕ) → ¬ (OfSlot slot ReadRow ≡ asks phase now)
+no_step : {kind : Kind} (phase : Phase kind) (now slot : ℕ) → ¬ (OfSlot slot ReadRow ≡ asks phase now)
 no_step (AtBegin get) now slot e = cc
-no_step (AtInstall get id) now slot e = cc
-no_step (AtSettle id) now slot e = cc
-no_step (AtProbe get id settled) now slot e = cc
-no_step (AtUnmake id) now slot e = cc
-no_step (AtLook send) now slot e = cc
-no_step (AtReserve send) now slot e = cc
-no_step (AtPlace send blocks) now slot e = cc
-no_step (AtSendGiveback blocks afterwards) now slot e = cc
-no_step (AtTake receive) now slot e = cc
-no_step (AtReceiveGiveback blocks mtype text) now slot e = cc
-no_step (AtStat cred id) now slot e = cc
-no_step (AtSet cred id to) now slot e = cc
-no_step AtSetGiveback now slot e = cc
-no_step (AtRemove cred id) now slot e = cc
-no_step (AtForget id blocks) now slot e = cc
-no_step (AtRemoveGiveback blocks) now slot e = cc
+no_step phase now slot e = cc
 
-quiet_step : (op : Op) (phase : Phase) (now : ℕ) (b : Bool) → asked_by op ≡ asks phase now → shows_row op ≡ b →
-    b ≡ false
+quiet_step : {kind : Kind} (op : Op) (phase : Phase kind) (now : ℕ) (b : Bool) → asked_by op ≡ asks phase now →
+    shows_row op ≡ b → b ≡ false
 quiet_step op phase now false asked shows = refl
 quiet_step op phase now true asked shows =
     let form = row_form op shows in
     absurd (no_step phase now form.0 (sym (ap asked_by form.2) ∙ asked))
 
-quiet_play : {from state : State} {ops : List Op} → Plays from ops state → All IsQuiet ops
+quiet_play : {kind : Kind} {from state : State kind} {ops : List Op} → Plays from ops state → All IsQuiet ops
 quiet_play begins = All-nil IsQuiet
 quiet_play (steps {ops = ops} {phase = phase} op now after plays asked goes) =
     All-push IsQuiet ops op (quiet_play plays) (quiet_step op phase now (shows_row op) asked refl)

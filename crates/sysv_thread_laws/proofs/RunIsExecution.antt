@@ -4,7 +4,7 @@ use Rattle.std.proofs.Common.{◌∙◌, arith}
 use Rattle.sysv_model.specs.declared.cred.Cred.{Cred}
 use Rattle.sysv_model.specs.Pool.{released}
 use Rattle.sysv_model.specs.Turn.{pool_history}
-use Rattle.sysv_steps.specs.Call.{SystemCall}
+use Rattle.sysv_steps.specs.Call.{SystemCall, kind_of}
 use Rattle.sysv_steps.specs.State.{State, Goes, Waits, Over}
 use Rattle.sysv_steps.specs.Resume.{awaited}
 use Rattle.sysv_core.specs.World.{World, Invocation, Doing, Response, Transition, Preset, Start, Step, actor_at}
@@ -16,7 +16,8 @@ use Rattle.sysv_thread_laws.specs.RunIsExecution.{IsOfCall, EachRunIsAnExecution
 abbrev IsMoment : World → List Response → World → Type 0
 IsMoment w responses after = StaysWith w responses after ⊎ ((moment : Moment) × Brings w moment responses after)
 
-continues_so : (w after : World) (responses : List Response) (actor now : ℕ) (call : Invocation) (state : State) →
+continues_so : (w after : World) (responses : List Response) (actor now : ℕ) (call : Invocation)
+    (state : State (kind_of call.asked)) →
     actor_at w.actors actor ≡ Some (Some record { call = call; state = state }) →
     Continues w actor now call state responses after → IsMoment w responses after
 continues_so w after responses actor now call (Goes phase) there t = inr (TakesTurn actor now, (call, phase, there, t))

@@ -16,12 +16,13 @@ use Rattle.sysv_model.specs.declared.attributes.SetTo.{SetTo}
 use Rattle.sysv_model.specs.declared.cred.Cred.{Cred}
 use Rattle.sysv_model.specs.declared.errno.Errno.{Errno}
 use Rattle.sysv_model.specs.declared.errno.Errno.TheVariants.{EINVAL}
+use Rattle.sysv_model.specs.declared.flags.Flags.{Flags}
 use Rattle.sysv_model.specs.Message.{Message}
 use Rattle.sysv_model.specs.History.{Who, Call, Install, Look, Place, Take, Set, Remove, Reply, Installed, Full}
-use Rattle.sysv_model.specs.History.{Fits, Accepted, NoMatch, Taken, Done, Discarded, Entry, History}
+use Rattle.sysv_model.specs.History.{Fits, Accepted, Taken, Done, Discarded, Entry, History}
 use Rattle.sysv_model.specs.Live.{live, live_after, sent_to, received_from, HasId}
-use Rattle.sysv_model.specs.Registry.{Changed, Found, Made, Busy, Unbound}
-use Rattle.sysv_model.specs.Pool.{Reserve, Release, PoolReply, Reserved, TooFew, Released, Foreign, PoolEntry}
+use Rattle.sysv_model.specs.Registry.{Changed}
+use Rattle.sysv_model.specs.Pool.{Reserve, Release, PoolReply, TooFew, Released, Foreign, PoolEntry}
 use Rattle.sysv_model.specs.Pool.{PoolHistory, frees, released}
 use Rattle.sysv_model.specs.Turn.{OfSlot, OfPool, Op, AtSlot, AtRegistry, AtPool, asked_by, Turn, slot_entry}
 use Rattle.sysv_model.specs.Turn.{pool_entry, slot_history, pool_history, is_same, ops_of}
@@ -31,12 +32,11 @@ use Rattle.sysv_queue.specs.Granted.{MayWrite}
 use Rattle.sysv_queue.specs.LegalReply.{IsLegalReply}
 use Rattle.sysv_keys.specs.Identifier.{slot_of_id}
 use Rattle.sysv_objects.specs.LegalOp.{AreLegal}
-use Rattle.sysv_steps.specs.Call.{SystemCall, Msgget, Msgsnd, Msgrcv, MsgctlStat, MsgctlSet, MsgctlRmid}
-use Rattle.sysv_steps.specs.State.{Sending, Wait, OnSettled, OnFreed, OnReleased, OnArrived, IsRefused, WaitsOn, Phase}
-use Rattle.sysv_steps.specs.State.{AtBegin, AtSettle, AtUnmake, AtLook, AtReserve, AtSendGiveback, AtTake, AtSet}
-use Rattle.sysv_steps.specs.State.{AtSetGiveback, AtRemove, AtForget}
+use Rattle.sysv_steps.specs.Call.{SystemCall, Msgsnd, MsgctlSet, MsgctlRmid, Kind, Sends, Sets, Removes, kind_of}
+use Rattle.sysv_steps.specs.State.{Sending, Wait, OnFreed, OnReleased, Afterwards, IsRefused, WaitsOn, Phase, AtLook}
+use Rattle.sysv_steps.specs.State.{AtReserve, AtPlace, AtSendGiveback, AtSet, AtSetGiveback, AtRemove, AtForget}
 use Rattle.sysv_steps.specs.State.{AtRemoveGiveback, State, Goes, Waits, Over, Refused}
-use Rattle.sysv_steps.specs.Begin.{is_refused, first, begin}
+use Rattle.sysv_steps.specs.Begin.{first}
 use Rattle.sysv_steps.specs.Asks.{asks}
 use Rattle.sysv_steps.specs.Next.{waits_or, goes_on, next}
 use Rattle.sysv_steps.specs.Resume.{resume}
@@ -44,8 +44,8 @@ use Rattle.sysv_steps.specs.Played.{Plays, begins, steps, resumes}
 use Rattle.sysv_steps.specs.Answers.{is_at_slot}
 use Rattle.sysv_steps.specs.AsksFor.{AsksFor, AllAskFor}
 use Rattle.sysv_steps.specs.WaitsFor.{WaitsFor}
-use Rattle.sysv_core.specs.World.{World, Opening, Invocation, Doing, Response, begun}
-use Rattle.sysv_core.specs.AnswerLaw.{Outcome, stands_in, standing, standing_of, AsksAsItWasAsked}
+use Rattle.sysv_core.specs.World.{World, Opening, Invocation, Doing, Response, doing_in, begun}
+use Rattle.sysv_core.specs.AnswerLaw.{Outcome, stands_in, AsksAsItWasAsked}
 use Rattle.sysv_core.specs.Parked.{HasTooFewBlocks, HasChangeToTell, IsToBeWoken, HasToGiveBack}
 use Rattle.sysv_core.proofs.Histories.{turn_of, slot_more, live_more, one, released_more}
 use Rattle.sysv_core.proofs.PartsOfOneCall.{same_who, same_itself, at_actor}
@@ -63,13 +63,13 @@ waits_so : (b : Bool) (goal more : ℕ) (send s : Sending) (why : Errno) →
 waits_so true goal more send s why e = absurd cc
 waits_so false goal more send s why e = cc
 
-reserve_phase : (phase : Phase) (now size goal : ℕ) (send : Sending) → OfPool (Reserve size) ≡ asks phase now →
+reserve_phase : (phase : Phase Sends) (now size goal : ℕ) (send : Sending) → OfPool (Reserve size) ≡ asks phase now →
     next phase (AtPool (Reserve size) TooFew) ≡ Some (Waits (OnReleased goal send)) → phase ≡ AtReserve send
 reserve_phase (AtReserve s) now size goal send a row = ap AtReserve (waits_so s.nowait goal _ send s _ row)
 reserve_phase phase now size goal send a row = absurd cc
 
-module _ (from : State) (goal size : ℕ) (send : Sending) where
-  before_reserve : (ops : List Op) (state : State) → Plays from ops state → state ≡ Waits (OnReleased goal send) →
+module _ (from : State Sends) (goal size : ℕ) (send : Sending) where
+  before_reserve : (ops : List Op) (state : State Sends) → Plays from ops state → state ≡ Waits (OnReleased goal send) →
       (front : List Op) → ops ≡ front ++ AtPool (Reserve size) TooFew ∷ [] →
       Plays from front (Goes (AtReserve send))
   before_reserve _ _ begins is front e = absurd (no_nil front (AtPool (Reserve size) TooFew) [] e)
@@ -85,67 +85,41 @@ module _ (from : State) (goal size : ℕ) (send : Sending) where
       ]
 
 -- The state is not before a reserve.
-abbrev Elsewhere : Option State → Type 0
+abbrev pub Elsewhere : Option (State Sends) → Type 0
 Elsewhere (Some (Goes (AtReserve send))) = ⊥
 Elsewhere state = Unit {0}
 
-held_up : (nowait : Bool) (wait : Wait) (why : Errno) → Elsewhere (Some (goes_on (waits_or nowait wait why)))
-held_up true wait why = tt
-held_up false wait why = tt
+held_up : (afterwards : Afterwards Sends) → Elsewhere (Some (goes_on afterwards))
+held_up (IsRefused why) = tt
+held_up (WaitsOn wait) = tt
 
 -- The look that found room.
-abbrev IsFitting : Phase → Op → Type 0
+abbrev IsFitting : Phase Sends → Op → Type 0
 IsFitting phase op =
     (s : Sending) × (slot : ℕ) × (c : Call) × (phase ≡ AtLook s) × (op ≡ AtSlot slot c Fits)
 
-elsewhere : (phase : Phase) (op : Op) → Elsewhere (next phase op) ⊎ IsFitting phase op
+elsewhere : (phase : Phase Sends) (op : Op) → Elsewhere (next phase op) ⊎ IsFitting phase op
 elsewhere (AtLook send) (AtSlot slot c Fits) = inr (send, slot, c, refl, refl)
-elsewhere (AtLook send) (AtSlot slot c (Full freed)) = inl (held_up send.nowait _ _)
-elsewhere (AtLook send) (AtSlot slot c reply) = inl tt
-elsewhere (AtReserve send) (AtPool c (Reserved blocks)) = inl tt
-elsewhere (AtReserve send) (AtPool c TooFew) = inl (held_up send.nowait _ _)
-elsewhere (AtReserve send) (AtPool c reply) = inl tt
-elsewhere (AtSendGiveback blocks (WaitsOn wait)) (AtPool c Released) = inl tt
-elsewhere (AtSendGiveback blocks (IsRefused why)) (AtPool c Released) = inl tt
-elsewhere (AtSendGiveback blocks (WaitsOn wait)) (AtPool c Foreign) = inl tt
-elsewhere (AtSendGiveback blocks (IsRefused why)) (AtPool c Foreign) = inl tt
-elsewhere (AtTake receive) (AtSlot slot c (NoMatch arrived)) = inl (held_up receive.nowait _ _)
-elsewhere phase (AtSlot slot c (Installed true)) = inl tt
-elsewhere phase (AtSlot slot c (Installed false)) = inl tt
+elsewhere (AtLook send) (AtSlot slot c (Full freed)) = inl (held_up _)
+elsewhere (AtPlace send blocks) (AtSlot slot c (Full freed)) = inl tt
+elsewhere (AtReserve send) (AtPool c TooFew) = inl (held_up _)
+elsewhere (AtSendGiveback blocks afterwards) (AtPool c Released) = inl (held_up afterwards)
+elsewhere (AtSendGiveback blocks afterwards) (AtPool c Foreign) = inl (held_up afterwards)
 elsewhere phase (AtSlot slot c reply) = inl tt
-elsewhere (AtBegin get) (AtRegistry c (Found id settled)) = inl tt
-elsewhere (AtBegin get) (AtRegistry c (Made id)) = inl tt
-elsewhere (AtBegin get) (AtRegistry c (Busy settled)) = inl tt
-elsewhere (AtBegin get) (AtRegistry c (Unbound why)) = inl tt
-elsewhere (AtSettle id) (AtRegistry c (Changed done)) = inl tt
-elsewhere (AtUnmake id) (AtRegistry c (Changed done)) = inl tt
-elsewhere phase (AtRegistry c (Changed done)) = inl tt
+elsewhere (AtLook send) (AtRegistry c reply) = inl tt
 elsewhere phase (AtRegistry c reply) = inl tt
-elsewhere phase (AtPool c Released) = inl tt
 elsewhere phase (AtPool c reply) = inl tt
 
-begun_elsewhere : (cred : Cred) (asked : SystemCall) (released : ℕ) (b : Bool) →
-    Elsewhere (Some (cond b (Over (Refused EINVAL)) (Goes (first cred asked released))))
-begun_elsewhere cred asked released true = tt
-begun_elsewhere cred (Msgget key flags) released false = tt
-begun_elsewhere cred (Msgsnd id mtype flags text) released false = tt
-begun_elsewhere cred (Msgrcv id size mtype flags) released false = tt
-begun_elsewhere cred (MsgctlStat id) released false = tt
-begun_elsewhere cred (MsgctlSet id to) released false = tt
-begun_elsewhere cred (MsgctlRmid id) released false = tt
-
-resumed_elsewhere : (wait : Wait) (value : ℕ) → Elsewhere (Some (Goes (resume wait value)))
-resumed_elsewhere (OnSettled goal get) value = tt
+resumed_elsewhere : (wait : Wait Sends) (value : ℕ) → Elsewhere (Some (Goes (resume wait value)))
 resumed_elsewhere (OnFreed goal send) value = tt
 resumed_elsewhere (OnReleased goal send) value = tt
-resumed_elsewhere (OnArrived goal receive) value = tt
 
 abbrev look_of : Sending → Op
 look_of send = AtSlot (slot_of_id send.id) (Look send.id send.cred (length send.text)) Fits
 
-is_look : (send s : Sending) (slot : ℕ) (c : Call) (now : ℕ) (after : State) → OfSlot slot c ≡ asks (AtLook s) now →
-    next (AtLook s) (AtSlot slot c Fits) ≡ Some after → after ≡ Goes (AtReserve send) →
-    AtSlot slot c Fits ≡ look_of send
+is_look : (send s : Sending) (slot : ℕ) (c : Call) (now : ℕ) (after : State Sends) →
+    OfSlot slot c ≡ asks (AtLook s) now → next (AtLook s) (AtSlot slot c Fits) ≡ Some after →
+    after ≡ Goes (AtReserve send) → AtSlot slot c Fits ≡ look_of send
 is_look send s slot c now after a row is =
     let kept : record s { seen = true } ≡ send = cc in
     let there : slot ≡ slot_of_id s.id = cc in
@@ -153,11 +127,10 @@ is_look send s slot c now after a row is =
     ap (λ n. AtSlot n c Fits) there
     ∙ (ap (λ x. AtSlot (slot_of_id s.id) x Fits) call ∙ ap look_of kept)
 
-module _ (cred : Cred) (asked : SystemCall) (read : ℕ) (send : Sending) where
-  after_look : (ops : List Op) (state : State) → Plays (begin cred asked read) ops state →
-      state ≡ Goes (AtReserve send) → (front : List Op) × (ops ≡ front ++ look_of send ∷ [])
-  after_look _ _ begins is =
-      absurd (subst Elsewhere (ap (λ s. Some s) is) (begun_elsewhere cred asked read (is_refused asked)))
+module _ (from : State Sends) (start : Elsewhere (Some from)) (send : Sending) where
+  after_look : (ops : List Op) (state : State Sends) → Plays from ops state → state ≡ Goes (AtReserve send) →
+      (front : List Op) × (ops ≡ front ++ look_of send ∷ [])
+  after_look _ _ begins is = absurd (subst Elsewhere (ap (λ s. Some s) is) start)
   after_look _ _ (resumes {ops} {wait} value play least) is =
       absurd (subst Elsewhere (ap (λ s. Some s) is) (resumed_elsewhere wait value))
   after_look _ _ (steps {ops} {phase} op now after play a row) is = elim (elsewhere phase op) [
@@ -167,6 +140,11 @@ module _ (cred : Cred) (asked : SystemCall) (read : ℕ) (send : Sending) where
         (ap (λ p. next p (AtSlot f.1 f.2 Fits)) (sym f.3) ∙ (ap (next phase) (sym f.4) ∙ row)) is in
         (ops, ap (λ d. ops ++ d ∷ []) (f.4 ∙ same))
   ]
+
+pub begun_elsewhere : (cred : Cred) (id mtype : ℤ) (flags : Flags) (text : List ℕ) (read : ℕ) (b : Bool) →
+    Elsewhere (Some (cond b (Over (Refused EINVAL)) (Goes (first cred (Msgsnd id mtype flags text) read))))
+begun_elsewhere cred id mtype flags text read true = tt
+begun_elsewhere cred id mtype flags text read false = tt
 
 -- ---- a queue stays open, or it is changed
 
@@ -317,76 +295,68 @@ some_last rest last some =
     ∙ or_right (list_any releases rest) (list_any releases (last ∷ [])) (or_left (releases last) false some)
 
 -- The state is one after the change, before the giveback.
-abbrev IsTelling : SystemCall → State → Type 0
-IsTelling (MsgctlSet id to) (Goes AtSetGiveback) = Unit {0}
-IsTelling (MsgctlRmid id) (Goes (AtForget removed blocks)) = Unit {0}
-IsTelling (MsgctlRmid id) (Goes (AtRemoveGiveback blocks)) = Unit {0}
-IsTelling asked state = ⊥
+abbrev IsTelling : (kind : Kind) → State kind → Type 0
+IsTelling Sets (Goes AtSetGiveback) = Unit {0}
+IsTelling Removes (Goes (AtForget removed blocks)) = Unit {0}
+IsTelling Removes (Goes (AtRemoveGiveback blocks)) = Unit {0}
+IsTelling kind state = ⊥
 
--- A set or a removal of this queue.
-abbrev Changes : ℤ → SystemCall → Type 0
-Changes id (MsgctlSet at to) = at ≡ id
-Changes id (MsgctlRmid at) = at ≡ id
-Changes id asked = ⊥
+telling_goes : (kind : Kind) (state : State kind) → IsTelling kind state → (phase : Phase kind) × (state ≡ Goes phase)
+telling_goes kind (Goes phase) telling = (phase, refl)
+telling_goes Sets state telling = absurd telling
+telling_goes Removes state telling = absurd telling
+telling_goes kind state telling = absurd telling
 
-set_leads : (slot : ℕ) (id x : ℤ) (by : Cred) (to what : SetTo) (now stamp : ℕ) (phase : Phase) (after : State) →
-    OfSlot slot (Set id by to stamp) ≡ asks phase now →
-    next phase (AtSlot slot (Set id by to stamp) Done) ≡ Some after → IsTelling (MsgctlSet x what) after
-set_leads slot id x by to what now stamp (AtSet c i t) after a row =
-    let is : Goes AtSetGiveback ≡ after = cc in subst (IsTelling (MsgctlSet x what)) is tt
-set_leads slot id x by to what now stamp phase after a row = absurd cc
+-- The change leads there.
+set_leads : {kind : Kind} (slot : ℕ) (id : ℤ) (by : Cred) (to : SetTo) (now stamp : ℕ) (phase : Phase kind)
+    (after : State kind) → OfSlot slot (Set id by to stamp) ≡ asks phase now →
+    next phase (AtSlot slot (Set id by to stamp) Done) ≡ Some after → IsTelling kind after
+set_leads slot id by to now stamp (AtSet c i t) after a row =
+    let is : Goes AtSetGiveback ≡ after = cc in subst (IsTelling Sets) is tt
+set_leads slot id by to now stamp phase after a row = absurd cc
 
-removal_leads : (slot : ℕ) (id x : ℤ) (by : Cred) (messages : List Message) (now : ℕ) (phase : Phase) (after : State) →
-    OfSlot slot (Remove id by) ≡ asks phase now →
-    next phase (AtSlot slot (Remove id by) (Discarded messages)) ≡ Some after → IsTelling (MsgctlRmid x) after
-removal_leads slot id x by messages now (AtRemove c i) after a row =
-    let is : Goes (AtForget i (blocks_of messages)) ≡ after = cc in subst (IsTelling (MsgctlRmid x)) is tt
-removal_leads slot id x by messages now phase after a row = absurd cc
+removal_leads : {kind : Kind} (slot : ℕ) (id : ℤ) (by : Cred) (messages : List Message) (now : ℕ) (phase : Phase kind)
+    (after : State kind) → OfSlot slot (Remove id by) ≡ asks phase now →
+    next phase (AtSlot slot (Remove id by) (Discarded messages)) ≡ Some after → IsTelling kind after
+removal_leads slot id by messages now (AtRemove c i) after a row =
+    let is : Goes (AtForget i (blocks_of messages)) ≡ after = cc in subst (IsTelling Removes) is tt
+removal_leads slot id by messages now phase after a row = absurd cc
+
+change_leads : {kind : Kind} (id : ℤ) (op : Op) → IsChange id op → (phase : Phase kind) (now : ℕ) (after : State kind) →
+    asked_by op ≡ asks phase now → next phase op ≡ Some after → IsTelling kind after
+change_leads id op (inl (slot, by, to, stamp, is)) phase now after a row =
+    set_leads slot id by to now stamp phase after (ap asked_by (sym is) ∙ a) (ap (next phase) (sym is) ∙ row)
+change_leads id op (inr (slot, by, messages, is)) phase now after a row =
+    removal_leads slot id by messages now phase after (ap asked_by (sym is) ∙ a) (ap (next phase) (sym is) ∙ row)
 
 -- The next turn of a call that is telling a change.
-tells_on : (asked : SystemCall) (phase : Phase) (op : Op) (now : ℕ) (after : State) →
-    IsTelling asked (Goes phase) → asked_by op ≡ asks phase now → next phase op ≡ Some after →
-    IsTelling asked after ⊎ (releases op ≡ true)
-tells_on (MsgctlSet id to) AtSetGiveback op now after telling a row = inr (releases_it op 0 a)
-tells_on (MsgctlRmid id) (AtRemoveGiveback blocks) op now after telling a row = inr (releases_it op blocks a)
-tells_on (MsgctlRmid id) (AtForget removed blocks) (AtRegistry call (Changed done)) now after telling a row =
-    let is : Goes (AtRemoveGiveback blocks) ≡ after = cc in inl (subst (IsTelling (MsgctlRmid id)) is tt)
-tells_on (MsgctlRmid id) (AtForget removed blocks) (AtRegistry call (Found x settled)) now after telling a row =
-    absurd cc
-tells_on (MsgctlRmid id) (AtForget removed blocks) (AtRegistry call (Made x)) now after telling a row = absurd cc
-tells_on (MsgctlRmid id) (AtForget removed blocks) (AtRegistry call (Busy settled)) now after telling a row = absurd cc
-tells_on (MsgctlRmid id) (AtForget removed blocks) (AtRegistry call (Unbound why)) now after telling a row = absurd cc
-tells_on (MsgctlRmid id) (AtForget removed blocks) (AtSlot slot call reply) now after telling a row = absurd cc
-tells_on (MsgctlRmid id) (AtForget removed blocks) (AtPool call reply) now after telling a row = absurd cc
-tells_on asked phase op now after telling a row = absurd telling
+tells_on : {kind : Kind} (phase : Phase kind) (op : Op) (now : ℕ) (after : State kind) → IsTelling kind (Goes phase) →
+    asked_by op ≡ asks phase now → next phase op ≡ Some after → IsTelling kind after ⊎ (releases op ≡ true)
+tells_on AtSetGiveback op now after telling a row = inr (releases_it op 0 a)
+tells_on (AtRemoveGiveback blocks) op now after telling a row = inr (releases_it op blocks a)
+tells_on (AtForget removed blocks) (AtRegistry call (Changed done)) now after telling a row =
+    let is : Goes (AtRemoveGiveback blocks) ≡ after = cc in inl (subst (IsTelling Removes) is tt)
+tells_on (AtForget removed blocks) op now after telling a row = absurd cc
+tells_on phase op now after telling a row = absurd telling
 
-waits_not : (asked : SystemCall) (wait : Wait) → IsTelling asked (Waits wait) → ⊥
-waits_not (MsgctlSet id to) wait t = t
-waits_not (MsgctlRmid id) wait t = t
-waits_not (Msgget key flags) wait t = t
-waits_not (Msgsnd id mtype flags text) wait t = t
-waits_not (Msgrcv id size mtype flags) wait t = t
-waits_not (MsgctlStat id) wait t = t
-
-module _ (cred : Cred) (asked : SystemCall) (read : ℕ) (change : Op)
-    (leads : (phase : Phase) (now : ℕ) (after : State) → asked_by change ≡ asks phase now →
-    next phase change ≡ Some after → IsTelling asked after) where
-  tells : (ops : List Op) (state : State) → Plays (begin cred asked read) ops state → (front later : List Op) →
-      ops ≡ front ++ change ∷ later → IsTelling asked state ⊎ (list_any releases later ≡ true)
+module _ {kind : Kind} (from : State kind) (id : ℤ) (change : Op) (is_change : IsChange id change) where
+  tells : (ops : List Op) (state : State kind) → Plays from ops state → (front later : List Op) →
+      ops ≡ front ++ change ∷ later → IsTelling kind state ⊎ (list_any releases later ≡ true)
   tells _ _ begins front later e = absurd (no_nil front change later e)
   tells _ _ (resumes {ops} {wait} value play least) front later e =
       elim (tells ops (Waits wait) play front later e) [
-        | inl telling ↦ absurd (waits_not asked wait telling)
+        | inl telling ↦ let goes = (telling_goes kind (Waits wait) telling).1 in absurd cc
         | inr told ↦ inr told
       ]
   tells _ _ (steps {ops} {phase} op now after play a row) front later e =
       elim (last_or_before ops op front change later e) [
-        | inl here ↦ inl (leads phase now after (ap asked_by here.1 ∙ a) (ap (next phase) here.1 ∙ row))
+        | inl here ↦ inl (change_leads id change is_change phase now after (ap asked_by here.1 ∙ a)
+            (ap (next phase) here.1 ∙ row))
         | inr more ↦
             elim (tells ops (Goes phase) play front more.0 more.1) [
               | inr told ↦ inr (ap (list_any releases) more.2 ∙ some_before more.0 op told)
               | inl telling ↦
-                  elim (tells_on asked phase op now after telling a row) [
+                  elim (tells_on phase op now after telling a row) [
                     | inl still ↦ inl still
                     | inr now_told ↦ inr (ap (list_any releases) more.2 ∙ some_last more.0 op now_told)
                   ]
@@ -395,82 +365,30 @@ module _ (cred : Cred) (asked : SystemCall) (read : ℕ) (change : Op)
 
 -- ---- the call of a change
 
-set_asked : (id : ℤ) (cred by : Cred) (asked : SystemCall) (slot : ℕ) (to : SetTo) (now : ℕ) →
-    AsksFor cred asked (OfSlot slot (Set id by to now)) → (what : SetTo) × (asked ≡ MsgctlSet id what)
-set_asked id cred by (MsgctlSet at what) slot to now (inl (stamp, e)) =
-    let same : id ≡ at = cc in (what, ap (λ i. MsgctlSet i what) (sym same))
-set_asked id cred by (MsgctlSet at what) slot to now (inr (blocks, e)) = absurd cc
-set_asked id cred by (Msgget key flags) slot to now (inl e) = absurd cc
-set_asked id cred by (Msgget key flags) slot to now (inr (inl (x, stamp, e))) = absurd cc
-set_asked id cred by (Msgget key flags) slot to now (inr (inr (inl (x, e)))) = absurd cc
-set_asked id cred by (Msgget key flags) slot to now (inr (inr (inr (inl (x, e))))) = absurd cc
-set_asked id cred by (Msgget key flags) slot to now (inr (inr (inr (inr (x, e))))) = absurd cc
-set_asked id cred by (Msgsnd at mtype flags text) slot to now (inl e) = absurd cc
-set_asked id cred by (Msgsnd at mtype flags text) slot to now (inr (inl e)) = absurd cc
-set_asked id cred by (Msgsnd at mtype flags text) slot to now (inr (inr (inl (stamp, e)))) = absurd cc
-set_asked id cred by (Msgsnd at mtype flags text) slot to now (inr (inr (inr (blocks, e)))) = absurd cc
-set_asked id cred by (Msgrcv at size mtype flags) slot to now (inl (stamp, e)) = absurd cc
-set_asked id cred by (Msgrcv at size mtype flags) slot to now (inr (blocks, e)) = absurd cc
-set_asked id cred by (MsgctlStat at) slot to now e = absurd cc
-set_asked id cred by (MsgctlRmid at) slot to now (inl e) = absurd cc
-set_asked id cred by (MsgctlRmid at) slot to now (inr (inl e)) = absurd cc
-set_asked id cred by (MsgctlRmid at) slot to now (inr (inr (blocks, e))) = absurd cc
+set_names : (id at : ℤ) (cred : Cred) (to : SetTo) (op : Op) → IsChange id op →
+    AsksFor cred (MsgctlSet at to) (asked_by op) → at ≡ id
+set_names id at cred to op (inl (slot, by, what, stamp, is)) (inl (now, e)) = cc
+set_names id at cred to op (inl (slot, by, what, stamp, is)) (inr (blocks, e)) = absurd cc
+set_names id at cred to op (inr (slot, by, messages, is)) (inl (now, e)) = absurd cc
+set_names id at cred to op (inr (slot, by, messages, is)) (inr (blocks, e)) = absurd cc
 
-removal_asked : (id : ℤ) (cred by : Cred) (asked : SystemCall) (slot : ℕ) →
-    AsksFor cred asked (OfSlot slot (Remove id by)) → asked ≡ MsgctlRmid id
-removal_asked id cred by (MsgctlRmid at) slot (inl e) = let same : id ≡ at = cc in ap MsgctlRmid (sym same)
-removal_asked id cred by (MsgctlRmid at) slot (inr (inl e)) = absurd cc
-removal_asked id cred by (MsgctlRmid at) slot (inr (inr (blocks, e))) = absurd cc
-removal_asked id cred by (Msgget key flags) slot (inl e) = absurd cc
-removal_asked id cred by (Msgget key flags) slot (inr (inl (x, stamp, e))) = absurd cc
-removal_asked id cred by (Msgget key flags) slot (inr (inr (inl (x, e)))) = absurd cc
-removal_asked id cred by (Msgget key flags) slot (inr (inr (inr (inl (x, e))))) = absurd cc
-removal_asked id cred by (Msgget key flags) slot (inr (inr (inr (inr (x, e))))) = absurd cc
-removal_asked id cred by (Msgsnd at mtype flags text) slot (inl e) = absurd cc
-removal_asked id cred by (Msgsnd at mtype flags text) slot (inr (inl e)) = absurd cc
-removal_asked id cred by (Msgsnd at mtype flags text) slot (inr (inr (inl (stamp, e)))) = absurd cc
-removal_asked id cred by (Msgsnd at mtype flags text) slot (inr (inr (inr (blocks, e)))) = absurd cc
-removal_asked id cred by (Msgrcv at size mtype flags) slot (inl (stamp, e)) = absurd cc
-removal_asked id cred by (Msgrcv at size mtype flags) slot (inr (blocks, e)) = absurd cc
-removal_asked id cred by (MsgctlStat at) slot e = absurd cc
-removal_asked id cred by (MsgctlSet at what) slot (inl (stamp, e)) = absurd cc
-removal_asked id cred by (MsgctlSet at what) slot (inr (blocks, e)) = absurd cc
+removal_names : (id at : ℤ) (cred : Cred) (op : Op) → IsChange id op → AsksFor cred (MsgctlRmid at) (asked_by op) →
+    at ≡ id
+removal_names id at cred op (inr (slot, by, messages, is)) (inl e) = cc
+removal_names id at cred op (inl (slot, by, what, stamp, is)) (inl e) = absurd cc
+removal_names id at cred op (inl (slot, by, what, stamp, is)) (inr (inl e)) = absurd cc
+removal_names id at cred op (inl (slot, by, what, stamp, is)) (inr (inr (blocks, e))) = absurd cc
+removal_names id at cred op (inr (slot, by, messages, is)) (inr (inl e)) = absurd cc
+removal_names id at cred op (inr (slot, by, messages, is)) (inr (inr (blocks, e))) = absurd cc
 
--- What the call of a change is, and what its change leads to.
-record IsChanging (id : ℤ) (asked : SystemCall) (change : Op) : Type 0 where
-  changes : Changes id asked
-  leads : (phase : Phase) (now : ℕ) (after : State) → asked_by change ≡ asks phase now →
-      next phase change ≡ Some after → IsTelling asked after
-
-changing : (id : ℤ) (cred : Cred) (asked : SystemCall) (change : Op) → IsChange id change →
-    AsksFor cred asked (asked_by change) → IsChanging id asked change
-changing id cred asked change (inl (slot, by, to, stamp, is)) a =
-    let what = set_asked id cred by asked slot to stamp (subst (λ d. AsksFor cred asked (asked_by d)) is a) in
-    subst (λ x. IsChanging id x change) (sym what.1)
-    (subst (IsChanging id (MsgctlSet id what.0)) (sym is) (record {
-      changes = refl;
-      leads = λ phase now after. set_leads slot id id by to what.0 now stamp phase after;
-    }))
-changing id cred asked change (inr (slot, by, messages, is)) a =
-    let what = removal_asked id cred by asked slot (subst (λ d. AsksFor cred asked (asked_by d)) is a) in
-    subst (λ x. IsChanging id x change) (sym what)
-    (subst (IsChanging id (MsgctlRmid id)) (sym is) (record {
-      changes = refl;
-      leads = λ phase now after. removal_leads slot id id by messages now phase after;
-    }))
-
-gives_it : (id : ℤ) (asked : SystemCall) (state : State) → Changes id asked → IsTelling asked state →
-    HasToGiveBack asked state id
-gives_it id (MsgctlSet at to) (Goes AtSetGiveback) changes telling = changes
-gives_it id (MsgctlRmid at) (Goes (AtForget removed blocks)) changes telling = changes
-gives_it id (MsgctlRmid at) (Goes (AtRemoveGiveback blocks)) changes telling = changes
-gives_it id asked state changes telling = absurd telling
-
-telling_goes : (asked : SystemCall) (state : State) → IsTelling asked state → standing state ≡ Some state
-telling_goes (MsgctlSet id to) (Goes AtSetGiveback) telling = refl
-telling_goes (MsgctlRmid id) (Goes (AtForget removed blocks)) telling = refl
-telling_goes (MsgctlRmid id) (Goes (AtRemoveGiveback blocks)) telling = refl
-telling_goes asked state telling = absurd telling
+gives_it : (id : ℤ) (cred : Cred) (asked : SystemCall) (state : State (kind_of asked)) (op : Op) → IsChange id op →
+    AsksFor cred asked (asked_by op) → IsTelling (kind_of asked) state → HasToGiveBack asked state id
+gives_it id cred (MsgctlSet at to) (Goes AtSetGiveback) op change a telling = set_names id at cred to op change a
+gives_it id cred (MsgctlRmid at) (Goes (AtForget removed blocks)) op change a telling =
+    removal_names id at cred op change a
+gives_it id cred (MsgctlRmid at) (Goes (AtRemoveGiveback blocks)) op change a telling =
+    removal_names id at cred op change a
+gives_it id cred asked state op change a telling = absurd telling
 
 -- A turn that changed a queue belongs to a call.
 change_owner : (calls : List Invocation) (who : Who) (id : ℤ) (op : Op) → IsMadeOrRead calls (turn_of who op) →
@@ -481,44 +399,20 @@ change_owner calls who id op (inl (nobody_did, (slot, reply, e))) (inr (at, by, 
 
 -- ---- who is in a call
 
--- The actor of the call is in it, in this state.
-record IsInCall (w : World) (call : Invocation) (state : State) : Type 0 where
-  place : ℕ
-  doing : Doing
-  there : slice_get w.actors place ≡ Some (Some doing)
-  call_is : call ≡ doing.call
-  state_is : state ≡ doing.state
+stands_if : (d e : Doing) (b : Bool) → cond b (Some d) None ≡ Some e → d ≡ e
+stands_if d e true same = cc
+stands_if d e false same = absurd cc
 
-stands_if : (who : Who) (d : Doing) (state : State) (b : Bool) → is_same who d.call.who ≡ b →
-    cond b (Some d.state) None ≡ Some state → (who ≡ d.call.who) × (state ≡ d.state)
-stands_if who d state true same e = (same_who who d.call.who same, cc)
-stands_if who d state false same e = absurd cc
-
-stands_so : (who : Who) (o : Option (Option Doing)) (state : State) → stands_in who o ≡ Some state →
-    (d : Doing) × (o ≡ Some (Some d)) × (who ≡ d.call.who) × (state ≡ d.state)
-stands_so who None state e = absurd cc
-stands_so who (Some None) state e = absurd cc
-stands_so who (Some (Some d)) state e =
-    let s = stands_if who d state (is_same who d.call.who) refl e in (d, refl, s.0, s.1)
+stands_so : (who : Who) (o : Option (Option Doing)) (e : Doing) → stands_in who o ≡ Some e → o ≡ Some (Some e)
+stands_so who None e same = absurd cc
+stands_so who (Some None) e same = absurd cc
+stands_so who (Some (Some d)) e same =
+    ap (λ (x : Doing). Some (Some x)) (stands_if d e (is_same who d.call.who) same)
 
 -- ---- the law
 
 module _ (o : Opening) (w : World) (responses : List Response) (i : Inv IsRowRead w responses)
     (lawful : ObeysOnThreads o w responses) where
-  in_call : (call : Invocation) → Contains w.calls call → (state : State) →
-      standing_of call.who w.actors ≡ Some state → IsInCall w call state
-  in_call call has state e =
-      let name = i.before call has in
-      let s = stands_so call.who (slice_get w.actors name.0) state
-      (sym (at_actor call.who name.0 name.1 w.actors name.2) ∙ e) in
-      record {
-        place = name.0;
-        doing = s.0;
-        there = s.1;
-        call_is = i.named call s.0.call has (i.doing name.0 s.0 s.1).0 s.2;
-        state_is = s.3;
-      }
-
   -- ---- what was released
 
   pool_both : (xs ys : List Turn) → pool_history (xs ++ ys) ≡ pool_history xs ++ pool_history ys
@@ -590,20 +484,19 @@ module _ (o : Opening) (w : World) (responses : List Response) (i : Inv IsRowRea
         All-contains (AsksAsItWasAsked w) w.calls call lawful.calls.asked by.1 in
         let asks_it = all_at (λ (d : Op). AsksFor call.cred call.asked (asked_by d)) front op back
         (subst (All (λ (d : Op). AsksFor call.cred call.asked (asked_by d))) ops_are asks_all) in
-        let c = changing id call.cred call.asked op change asks_it in
         let outcome : Outcome w responses call = i.outcomes call by.1 in
-        elim (tells call.cred call.asked call.released op c.leads (ops_of call.who w.turns) outcome.state outcome.plays
-        front back ops_are) [
+        elim (tells (begun call) id op change (ops_of call.who w.turns) outcome.state outcome.plays front back
+        ops_are) [
           | inl telling ↦
-              let at = in_call call by.1 outcome.state
-              (outcome.stands ∙ telling_goes call.asked outcome.state telling) in
+              let goes = telling_goes (kind_of call.asked) outcome.state telling in
               inl record {
-                place = at.place;
-                doing = at.doing;
-                there = at.there;
-                gives = subst (λ (x : Invocation). HasToGiveBack x.asked at.doing.state id) at.call_is
-                    (subst (λ s. HasToGiveBack call.asked s id) at.state_is
-                    (gives_it id call.asked outcome.state c.changes telling));
+                place = name.0;
+                doing = record { call = call; state = Goes goes.0 };
+                there = stands_so call.who (slice_get w.actors name.0) (record { call = call; state = Goes goes.0 })
+                    (sym (at_actor call.who name.0 name.1 w.actors name.2)
+                    ∙ (outcome.stands ∙ ap (doing_in call) goes.1));
+                gives = subst (λ s. HasToGiveBack call.asked s id) goes.1
+                    (gives_it id call.cred call.asked outcome.state op change asks_it telling);
               }
           | inr told ↦
               let after : w.turns ≡ ((turns ++ more) ++ t ∷ []) ++ rest =
@@ -631,43 +524,41 @@ module _ (o : Opening) (w : World) (responses : List Response) (i : Inv IsRowRea
             ]
       ]
 
-  pub told_so : (call : Invocation) (goal : ℕ) (send : Sending) →
-      Plays (begun call) (ops_of call.who w.turns) (Waits (OnReleased goal send)) →
-      WaitsFor (OnReleased goal send) (ops_of call.who w.turns) → released (pool_history w.turns) < goal →
-      HadReleasedAtSlot w call.who send.released →
+  pub told_so : (who : Who) (from : State Sends) (goal : ℕ) (send : Sending) → Elsewhere (Some from) →
+      Plays from (ops_of who w.turns) (Waits (OnReleased goal send)) →
+      WaitsFor (OnReleased goal send) (ops_of who w.turns) → released (pool_history w.turns) < goal →
+      HadReleasedAtSlot w who send.released →
       HasTooFewBlocks w (length send.text) × IsToBeWoken w send.id send.cred
-  told_so call goal send play (is, (front, ends)) below had =
+  told_so who from goal send start play (is, (front, ends)) below had =
       let size = length send.text in
       let slot = slot_of_id send.id in
       let look = Look send.id send.cred size in
       let reserve = AtPool (Reserve size) TooFew in
       let before_it =
-      before_reserve (begun call) goal size send (ops_of call.who w.turns) (Waits (OnReleased goal send))
-      play refl front ends in
-      let first_look =
-      after_look call.cred call.asked call.released send front (Goes (AtReserve send)) before_it refl in
-      let ops_are : ops_of call.who w.turns ≡ first_look.0 ++ look_of send ∷ reserve ∷ [] =
+      before_reserve from goal size send (ops_of who w.turns) (Waits (OnReleased goal send)) play refl front ends in
+      let first_look = after_look from start send front (Goes (AtReserve send)) before_it refl in
+      let ops_are : ops_of who w.turns ≡ first_look.0 ++ look_of send ∷ reserve ∷ [] =
       ends
       ∙ (ap (λ ds. ds ++ reserve ∷ []) first_look.1 ∙ append_assoc first_look.0 (look_of send ∷ []) (reserve ∷ [])) in
-      let m = made_at call.who w.turns first_look.0 (look_of send) (reserve ∷ []) ops_are in
-      let t = turn_of call.who (look_of send) in
+      let m = made_at who w.turns first_look.0 (look_of send) (reserve ∷ []) ops_are in
+      let t = turn_of who (look_of send) in
       let own : w.turns ≡ m.before ++ t ∷ m.after =
-      m.whole ∙ ap (λ by. m.before ++ turn_of by (look_of send) ∷ m.after) (sym (same_who call.who m.by m.own)) in
+      m.whole ∙ ap (λ by. m.before ++ turn_of by (look_of send) ∷ m.after) (sym (same_who who m.by m.own)) in
       let read = had m.before m.after slot look Fits own (ap (list_any is_at_slot) m.later_is) in
-      let e : Entry = record { who = call.who; call = look; reply = Fits } in
+      let e : Entry = record { who = who; call = look; reply = Fits } in
       let was = i.sound.legal.slots slot (slot_history slot m.before) e (slot_history slot m.after)
-      (ap (slot_history slot) own ∙ slot_around slot m.before m.after call.who look Fits) in
-      let later_reserve = made_at call.who m.after [] reserve [] m.later_is in
-      let r = turn_of call.who reserve in
+      (ap (slot_history slot) own ∙ slot_around slot m.before m.after who look Fits) in
+      let later_reserve = made_at who m.after [] reserve [] m.later_is in
+      let r = turn_of who reserve in
       let since = t ∷ later_reserve.before in
       let again : w.turns ≡ (m.before ++ since) ++ r ∷ later_reserve.after =
       own
       ∙ (ap (λ ts. m.before ++ t ∷ ts) (later_reserve.whole
       ∙ ap (λ by. later_reserve.before ++ turn_of by reserve ∷ later_reserve.after)
-      (sym (same_who call.who later_reserve.by later_reserve.own)))
+      (sym (same_who who later_reserve.by later_reserve.own)))
       ∙ sym (append_assoc m.before since (r ∷ later_reserve.after))) in
       let never = never_less m.before since in
       let short =
-      short_at w.generation w.blocks w.turns i.sound.legal (m.before ++ since) later_reserve.after call.who size
+      short_at w.generation w.blocks w.turns i.sound.legal (m.before ++ since) later_reserve.after who size
       again (omega (arith, below, is, read, never)) in
       (short, woken_so goal send m.before (t ∷ m.after) own (was.0, was.1) (omega (arith, below, is, read)))

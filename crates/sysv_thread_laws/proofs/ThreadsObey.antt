@@ -1,22 +1,23 @@
 -- Every list of moments leads only to worlds that obey the laws of threads.
-use Rattle.std.proofs.Common.{◌≡◌, ◌≤◌, ℕ, zero, suc, List, [], ◌∷◌, ◌++◌, None, Some, refl, sym, subst, ◌∙◌}
-use Rattle.std.proofs.Common.{append_assoc, slice_get}
+use Rattle.std.proofs.Common.{◌≡◌, ◌≤◌, ℕ, zero, suc, Bool, true, false, cond, List, [], ◌∷◌, ◌++◌, None, Some}
+use Rattle.std.proofs.Common.{refl, sym, subst, ◌∙◌, append_assoc, slice_get}
 use Rattle.std.proofs.lemmas.List.{append-nil}
 use Rattle.sysv_model.specs.declared.cred.Cred.{Cred}
+use Rattle.sysv_model.specs.declared.errno.Errno.TheVariants.{EINVAL}
 use Rattle.sysv_model.specs.History.{Who}
 use Rattle.sysv_model.specs.Turn.{Op, Turn}
 use Rattle.sysv_objects.specs.LegalOp.{IsLegalOp, AreLegal}
-use Rattle.sysv_steps.specs.Call.{SystemCall}
-use Rattle.sysv_steps.specs.State.{Wait, State, Goes, Waits}
+use Rattle.sysv_steps.specs.Call.{SystemCall, Msgget, Kind, kind_of}
+use Rattle.sysv_steps.specs.State.{Wait, OnSettled, State, Goes, Waits, Over, Refused}
+use Rattle.sysv_steps.specs.Begin.{is_refused, first}
+use Rattle.sysv_steps.specs.HeldBlocks.{HasItsBlocks}
 use Rattle.sysv_steps.specs.Resume.{goal_of, resume}
 use Rattle.sysv_steps.specs.Played.{resumes}
-use Rattle.sysv_core.specs.Kinds.{kind_of}
 use Rattle.sysv_core.specs.World.{World, Opening, Invocation, Doing, Response, opening, response_in, begun, in_state}
 use Rattle.sysv_core.specs.World.{with_call}
 use Rattle.sysv_core.specs.Sound.{IsSound}
 use Rattle.sysv_core.proofs.Histories.{turn_of}
 use Rattle.sysv_core.proofs.BlocksConserved.{BlockLaws, stands_conserves, resumed_holds, begun_holds}
-use Rattle.sysv_core.proofs.StepKeepsKind.{later_of, blocks_later, begun_later, resumed_later}
 use Rattle.sysv_core.proofs.SoundStays.{own_still, later_installs, turn_sound, look_sound}
 use Rattle.sysv_core.proofs.Lifetime.{begun_none, resumed_none}
 use Rattle.sysv_core.proofs.LifetimeGoesOn.{lives_stand}
@@ -60,6 +61,18 @@ leads_opened w after (x ∷ xs) responses l =
     let rest = leads_opened l.0 after xs l.2 l.4 in
     (rest.0 ∙ first.0, rest.1 ∙ first.1)
 
+-- ---- a call that starts, or whose wait ends, has no chain to place
+
+begun_blocks : (cred : Cred) (asked : SystemCall) (released : ℕ) (b : Bool) →
+    HasItsBlocks (cond b (Over (Refused EINVAL)) (Goes (first cred asked released)))
+begun_blocks cred asked released true = tt
+begun_blocks cred (Msgget key flags) released false = tt
+begun_blocks cred asked released false = tt
+
+resumed_blocks : {kind : Kind} (wait : Wait kind) (value : ℕ) → HasItsBlocks (Goes (resume wait value))
+resumed_blocks (OnSettled goal get) value = tt
+resumed_blocks wait value = tt
+
 module _
     (more : (generation blocks : ℕ) (turns : List Turn) (who : Who) (op : Op) → AreLegal generation blocks turns →
     IsLegalOp generation blocks turns op → AreLegal generation blocks (turns ++ turn_of who op ∷ []))
@@ -75,18 +88,16 @@ module _
     started = in_state (with_call w new_call) (suc place) new_call (begun new_call)
 
     start_sound : IsSound w → IsSound started
-    start_sound s =
-        let l = begun_later cred asked released in
-        record {
-          legal = s.legal;
-          own = own_still w.actors place None new_call (begun new_call) there s.own
-              (later_of (kind_of asked) (begun new_call) l) refl (blocks_later (kind_of asked) (begun new_call) l);
-          installs = later_installs w.turns w.actors place None new_call (begun new_call) there s.installs
-              (begun_none cred asked released);
-          lives = s.lives;
-          blocks = stands_conserves w.blocks w.turns w.actors place None new_call (begun new_call) there
-              (begun_holds cred asked released) s.blocks;
-        }
+    start_sound s = record {
+      legal = s.legal;
+      own = own_still w.actors place None new_call (begun new_call) there s.own refl
+          (begun_blocks cred asked released (is_refused asked));
+      installs = later_installs w.turns w.actors place None new_call (begun new_call) there s.installs
+          (begun_none cred asked released);
+      lives = s.lives;
+      blocks = stands_conserves w.blocks w.turns w.actors place None new_call (begun new_call) there
+          (begun_holds cred asked released) s.blocks;
+    }
 
     start_held : (responses : List Response) → IsHeld w responses →
         IsHeld started (responses ++ response_in new_call (begun new_call))
@@ -112,22 +123,22 @@ module _
   -- ---- a wait ends
 
   module _ (w : World) (responses : List Response) (i : IsHeld w responses) (place value : ℕ) (call : Invocation)
-      (wait : Wait)
+      (wait : Wait (kind_of call.asked))
       (there : slice_get w.actors place ≡ Some (Some record { call = call; state = Waits wait }))
       (reached : goal_of wait ≤ value) where
     abbrev d : Doing
     d = record { call = call; state = Waits wait }
 
-    abbrev on : State
+    abbrev on : State (kind_of call.asked)
     on = Goes (resume wait value)
 
     wake_held : IsHeld (in_state w (suc place) call on) responses
     wake_held =
-        let l = resumed_later (kind_of call.asked) wait value (i.sound.own place d there).0 in
         let here = stands_there w responses i place d there in
         subst (IsHeld (in_state w (suc place) call on)) (append-nil responses)
         (goes_on w responses i place d there w.turns on
-        (look_sound more b w i.sound place call d on refl there l (resumed_none wait value) (resumed_holds wait value))
+        (look_sound more b w i.sound place call (Waits wait) on there (resumed_blocks wait value)
+        (resumed_none wait value) (resumed_holds wait value))
         (lives_stand w.turns w.actors place (Some d) call on there refl (resumed_none wait value) i.lifetime)
         (λ other apart. refl) (record { plays = resumes value here.plays reached; quiet = here.quiet }) i.made)
 

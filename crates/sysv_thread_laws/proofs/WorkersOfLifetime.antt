@@ -195,7 +195,7 @@ slot_removes any slot _ sofar _ old mid _ (stop.tries row there ending new told 
     let from = begin superuser (MsgctlRmid row.id) 0 in
     let call = call_of there superuser (MsgctlRmid row.id) 0 ran.0 (Over ending) in
     let works = working.calls superuser (MsgctlRmid row.id) 0 ran.0 (Over ending) new
-    (working.asks_row slot (Ok (Some row)) there done.1 told) (any from there ran.0 (Over ending) new ran.1).0 in (
+    (working.asks_row slot (Ok (Some row)) there done.1 told) (any _ from there ran.0 (Over ending) new ran.1).0 in (
       done.0 ++ call ∷ [],
       works,
       one_more done.0 call done.2 (refl, (row.id, refl), (ending, refl)),

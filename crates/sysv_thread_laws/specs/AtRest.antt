@@ -8,13 +8,14 @@ use Rattle.sysv_pool.specs.State.{free_after}
 use Rattle.sysv_keys.specs.Identifier.{slot_of_id}
 use Rattle.sysv_keys.specs.Rows.{Row, IsRow}
 use Rattle.sysv_objects.specs.LegalOp.{AreLegal}
+use Rattle.sysv_steps.specs.Call.{Kind}
 use Rattle.sysv_steps.specs.State.{State, Goes, Waits, Over}
 use Rattle.sysv_core.specs.Conserved.{blocks_waiting}
 use Rattle.sysv_model.specs.Turns.{Numbered, turns_of}
 use Rattle.sysv_thread_laws.specs.Order.{Called, AreAll}
 
 -- The call makes no more turns: it is over or in a wait.
-abbrev pub Rests : State → Type 0
+abbrev pub Rests : {kind : Kind} → State kind → Type 0
 Rests (Goes phase) = ⊥
 Rests (Waits wait) = Unit {0}
 Rests (Over ending) = Unit {0}

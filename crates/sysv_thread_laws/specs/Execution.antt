@@ -8,7 +8,7 @@ use Rattle.sysv_model.specs.declared.cred.Cred.{Cred}
 use Rattle.sysv_model.specs.History.{Who, Actor, ReadRow, Reply}
 use Rattle.sysv_model.specs.Turn.{AtSlot}
 use Rattle.sysv_objects.specs.LegalOp.{IsLegalOp}
-use Rattle.sysv_steps.specs.Call.{SystemCall}
+use Rattle.sysv_steps.specs.Call.{SystemCall, kind_of}
 use Rattle.sysv_steps.specs.State.{Phase, Wait, Goes, Waits}
 use Rattle.sysv_steps.specs.Resume.{goal_of, resume}
 use Rattle.sysv_core.specs.World.{World, Invocation, Response, actor_at, in_state, with_turn, Begins, Turns}
@@ -41,14 +41,14 @@ StartsCall w actor cred asked released responses after =
 -- The actor's call is before a step and makes the turn of that step.
 abbrev pub TakesItsTurn : World → ℕ → ℕ → List Response → World → Type 0
 TakesItsTurn w actor now responses after =
-    (call : Invocation) × (phase : Phase)
+    (call : Invocation) × (phase : Phase (kind_of call.asked))
     × (actor_at w.actors actor ≡ Some (Some record { call = call; state = Goes phase }))
     × Turns w actor call phase now responses after
 
 -- The actor's call waits, the value is at least its goal, and the call continues.
 abbrev pub WakesUp : World → ℕ → ℕ → List Response → World → Type 0
 WakesUp w actor value responses after =
-    (call : Invocation) × (wait : Wait)
+    (call : Invocation) × (wait : Wait (kind_of call.asked))
     × (actor_at w.actors actor ≡ Some (Some record { call = call; state = Waits wait }))
     × (goal_of wait ≤ value) × (responses ≡ []) × (after ≡ in_state w actor call (Goes (resume wait value)))
 

@@ -2,7 +2,7 @@
 -- the service is closed with it. This project's profile.
 use Rattle.std.specs.Prelude.{◌≡◌, ◌+◌, ℕ, ℤ, Bool, List, ◌++◌, reverse}
 use Rattle.std.specs.List.{AllByRecursion, FoldsTo, flat_map, sum_by}
-use Rattle.sysv_steps.specs.Call.{MsgctlRmid}
+use Rattle.sysv_steps.specs.Call.{MsgctlRmid, Kind}
 use Rattle.sysv_steps.specs.State.{Ending, State, Over}
 use Rattle.sysv_thread_laws.specs.Order.{Called}
 use Rattle.sysv_thread_laws.specs.Team.{IsServed}
@@ -61,7 +61,7 @@ IsRemoval call = (call.cred ≡ superuser) × ((id : ℤ) × (call.asked ≡ Msg
     × ((ending : Ending) × (call.state ≡ Over ending))
 
 -- The number of queues that a call removed which is in this state: one or none.
-abbrev pub removed_at : State → ℕ
+abbrev pub removed_at : {kind : Kind} → State kind → ℕ
 removed_at (Over ending) = removed_by ending
 removed_at state = 0
 

@@ -6,7 +6,7 @@ use Rattle.sysv_model.specs.declared.attributes.Row.{Row}
 use Rattle.sysv_model.specs.declared.cred.Cred.{Cred}
 use Rattle.sysv_model.specs.declared.errno.Errno.{Errno}
 use Rattle.sysv_model.specs.Turn.{Op}
-use Rattle.sysv_steps.specs.Call.{SystemCall}
+use Rattle.sysv_steps.specs.Call.{SystemCall, Kind, kind_of}
 use Rattle.sysv_steps.specs.State.{State}
 use Rattle.sysv_steps.specs.Begin.{begin}
 use Rattle.sysv_steps.specs.Resume.{Count}
@@ -30,14 +30,14 @@ any_moment now = ⊤
 -- The steps of a call hold too if nothing is stated of its clock. So the calls of a service may
 -- have several clocks.
 abbrev pub EachRunIsAtAnyMoment : (ℕ → Type 0) → Type 0
-EachRunIsAtAnyMoment may = (from : State) (old : Pass) (ops : List Op) (state : State) (new : Pass)
-    (ran : Ran may from old ops state new) →
+EachRunIsAtAnyMoment may = (kind : Kind) (from : State kind) (old : Pass) (ops : List Op) (state : State kind)
+    (new : Pass) (ran : Ran may from old ops state new) →
     (at : Ran any_moment from old ops state new) × (FindsTurns ran → FindsTurns at)
 
 -- ---- the lifetime
 
 -- The call that this pass makes.
-abbrev pub call_of : Pass → Cred → SystemCall → ℕ → List Op → State → Called
+abbrev pub call_of : Pass → Cred → (asked : SystemCall) → ℕ → List Op → State (kind_of asked) → Called
 call_of one cred asked released ops state =
     record {
       by = one.seats.member.number;
@@ -56,7 +56,7 @@ pub data Lives (generation blocks first : ℕ) (gates : Gates) : List Pass → L
       Lives generation blocks first gates (record { seats = all_opened gates; held = 0 } ∷ []) []
   -- The pass made a call, which is over or was left at a wait, and which found no gate worn out.
   calls : {one : Pass} {rest : List Pass} {made : List Called} (cred : Cred) (asked : SystemCall) (released : ℕ)
-      (ops : List Op) (state : State) (after : Pass) →
+      (ops : List Op) (state : State (kind_of asked)) (after : Pass) →
       Lives generation blocks first gates (one ∷ rest) made →
       (ran : Ran any_moment (begin cred asked released) one ops state after) → FindsTurns ran →
       Lives generation blocks first gates (after ∷ rest) (made ++ call_of one cred asked released ops state ∷ [])

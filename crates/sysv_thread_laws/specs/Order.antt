@@ -6,7 +6,7 @@ use Rattle.sysv_model.specs.declared.cred.Cred.{Cred}
 use Rattle.sysv_model.specs.History.{ReadRow}
 use Rattle.sysv_model.specs.Turn.{Op, AtSlot}
 use Rattle.sysv_model.specs.Turns.{Numbered}
-use Rattle.sysv_steps.specs.Call.{SystemCall}
+use Rattle.sysv_steps.specs.Call.{SystemCall, kind_of}
 use Rattle.sysv_steps.specs.State.{State}
 use Rattle.sysv_steps.specs.Begin.{begin}
 use Rattle.sysv_steps.specs.Played.{Plays}
@@ -28,7 +28,7 @@ pub record Called : Type 0 where
   pub asked : SystemCall
   pub released : ℕ
   pub ops : List Op
-  pub state : State
+  pub state : State (kind_of asked)
 
 -- The step table, taken along the call's turns from its start, leads to its state. This does not
 -- hold of a call that found a gate worn out.

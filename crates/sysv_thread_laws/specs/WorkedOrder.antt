@@ -19,7 +19,7 @@ use Rattle.sysv_model.specs.Registry.{Begin, Settle, Forget, Made, Changed}
 use Rattle.sysv_model.specs.Pool.{Reserve, Release, Reserved, Released}
 use Rattle.sysv_model.specs.Turn.{Op, AtSlot, AtRegistry, AtPool}
 use Rattle.sysv_objects.specs.LegalOp.{AreLegal}
-use Rattle.sysv_steps.specs.Call.{Msgget, Msgsnd, Msgrcv, MsgctlRmid}
+use Rattle.sysv_steps.specs.Call.{Msgget, Msgsnd, Msgrcv, MsgctlRmid, Receives}
 use Rattle.sysv_steps.specs.State.{Receiving, OnArrived, Id, Zero, Got, Refused, State, Waits, Over}
 use Rattle.sysv_model.specs.Turns.{Numbered, turns_of}
 use Rattle.sysv_thread_laws.specs.Order.{Called, AreAll}
@@ -132,7 +132,7 @@ the_send = record {
 }
 
 -- The receive of pass 1, in this state.
-abbrev pub the_receive : State → Called
+abbrev pub the_receive : State Receives → Called
 the_receive state = record {
   by = 1;
   cred = receiver;
@@ -178,7 +178,7 @@ the_removal = record {
 }
 
 -- All calls, with this state of the receive of pass 1.
-abbrev pub calls_with : State → List Called
+abbrev pub calls_with : State Receives → List Called
 calls_with state = the_get ∷ the_receive state ∷ the_send ∷ the_left ∷ the_removal ∷ the_refused ∷ []
 
 -- All calls of the order.

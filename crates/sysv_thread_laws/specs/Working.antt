@@ -5,7 +5,7 @@ use Rattle.sysv_model.specs.declared.attributes.Row.{Row}
 use Rattle.sysv_model.specs.declared.cred.Cred.{Cred}
 use Rattle.sysv_model.specs.declared.errno.Errno.{Errno}
 use Rattle.sysv_model.specs.Turn.{Op}
-use Rattle.sysv_steps.specs.Call.{SystemCall}
+use Rattle.sysv_steps.specs.Call.{SystemCall, kind_of}
 use Rattle.sysv_steps.specs.State.{State}
 use Rattle.sysv_steps.specs.Begin.{begin}
 use Rattle.sysv_steps.specs.Resume.{Count}
@@ -21,7 +21,7 @@ pub data Works (old : Pass) : List Called → Pass → Type 0 where
   begins : Works old [] old
   -- It made one more call.
   calls : {made : List Called} {mid : Pass} (cred : Cred) (asked : SystemCall) (released : ℕ) (ops : List Op)
-      (state : State) (new : Pass) →
+      (state : State (kind_of asked)) (new : Pass) →
       Works old made mid → Ran any_moment (begin cred asked released) mid ops state new →
       Works old (made ++ call_of mid cred asked released ops state ∷ []) new
   -- It read a count, as each send does before it starts.

@@ -204,7 +204,6 @@ pub fn each_call_comes_to_rest()
 {
     each_world_is_sound();
     some_step();
-    every_run_obeys();
 }
 
 /// States that a stop leaves no queue and no message, if the service is closed after it and the
