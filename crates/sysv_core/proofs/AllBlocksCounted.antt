@@ -10,8 +10,11 @@ use Rattle.sysv_queue.specs.Slot.{Slot}
 use Rattle.sysv_queue.specs.Blocks.{blocks_of}
 use Rattle.sysv_objects.specs.Objects.{blocks_in}
 use Rattle.sysv_core.specs.World.{World, Opening, Doing, Response, Transition, opening}
-use Rattle.sysv_core.specs.Standing.{pending}
-use Rattle.sysv_core.specs.Kept.{blocks_at, blocks_held}
+use Rattle.sysv_core.specs.Standing.{Pending, pending}
+use Rattle.sysv_core.specs.declared.doing.Doing.{Doing as DoingKept}
+use Rattle.sysv_core.specs.declared.doing.Doing.TheVariants as doing
+use Rattle.sysv_steps.specs.HeldBlocks.{held as held_at}
+use Rattle.sysv_core.specs.Kept.{state_kept, states_kept, blocks_kept_by, blocks_kept}
 use Rattle.sysv_core.specs.Seen.{Seen, state_in, IsSeenAs, Represents}
 use Rattle.sysv_core.specs.Conserved.{blocks_waiting, blocks_in_call, blocks_in_calls}
 use Rattle.sysv_core.proofs.BlocksConserved.{waiting_at, is_sum}
@@ -31,7 +34,11 @@ in_slots f (s ∷ slots) from h =
       in_slots f slots (from + 1) (λ i x e. h (suc i) x e ∙ ap f (omega arith)),
     )
 
-in_calls : (actors : List (Option Doing)) → blocks_held (map state_in actors) ≡ blocks_in_calls actors
+abbrev blocks_at : Option Pending → ℕ
+blocks_at None = 0
+blocks_at (Some p) = held_at p.state
+
+in_calls : (actors : List (Option Doing)) → sum_by blocks_at (map state_in actors) ≡ blocks_in_calls actors
 in_calls [] = refl
 in_calls (None ∷ actors) = omega (
   arith,
@@ -46,6 +53,25 @@ in_calls (Some d ∷ actors) = omega (
   in_calls actors,
 )
 
+one_kept : (x : Option DoingKept) → blocks_kept_by x ≡ blocks_at (state_kept x)
+one_kept None = refl
+one_kept (Some (doing.Get at)) = refl
+one_kept (Some (doing.Send sent)) = refl
+one_kept (Some (doing.Receive at body)) = refl
+one_kept (Some (doing.Stat step)) = refl
+one_kept (Some (doing.Set step)) = refl
+one_kept (Some (doing.Remove step)) = refl
+
+all_kept : (doings : List (Option DoingKept)) → blocks_kept doings ≡ sum_by blocks_at (states_kept doings)
+all_kept [] = refl
+all_kept (x ∷ doings) = omega (
+  arith,
+  sum_by-cons blocks_kept_by x doings,
+  sum_by-cons blocks_at (state_kept x) (states_kept doings),
+  one_kept x,
+  all_kept doings,
+)
+
 module _ (w : World) (seen : Seen) (s : IsSeenAs w seen) where
   waiting : blocks_in seen.objects.slots ≡ blocks_waiting w.turns
   waiting =
@@ -57,17 +83,17 @@ module _ (w : World) (seen : Seen) (s : IsSeenAs w seen) where
   free : seen.objects.pool.free ≡ free_after w.blocks (pool_history w.turns)
   free = sym (ap (λ n. free_after n (pool_history w.turns)) s.blocks ∙ ap (λ (p : Pool). p.free) s.objects.pool.seen)
 
-  held : blocks_held seen.states ≡ blocks_in_calls w.actors
-  held = ap blocks_held (sym s.states) ∙ in_calls w.actors
+  held : blocks_kept seen.doings ≡ blocks_in_calls w.actors
+  held = all_kept seen.doings ∙ (ap (sum_by blocks_at) (sym s.states) ∙ in_calls w.actors)
 
-  all_there : seen.objects.pool.free + (blocks_in seen.objects.slots + blocks_held seen.states) ≡ w.blocks
+  all_there : seen.objects.pool.free + (blocks_in seen.objects.slots + blocks_kept seen.doings) ≡ w.blocks
   all_there = omega (arith, waiting, free, held, s.sound.blocks.whole)
 
 -- The sum of these blocks is the size of the pool with which the world was opened, if all of them
 -- can be put back.
 pub all_free : (o : Opening) (list : List Transition) (responses : List Response) (seen : Seen) (blocks : ℕ) →
-    (seen.objects.pool.free + (blocks_in seen.objects.slots + blocks_held seen.states) ≤ seen.objects.pool.size →
-    blocks ≡ seen.objects.pool.free + (blocks_in seen.objects.slots + blocks_held seen.states)) →
+    (seen.objects.pool.free + (blocks_in seen.objects.slots + blocks_kept seen.doings) ≤ seen.objects.pool.size →
+    blocks ≡ seen.objects.pool.free + (blocks_in seen.objects.slots + blocks_kept seen.doings)) →
     Represents o list responses seen → blocks ≡ o.blocks
 all_free o list responses seen blocks put s =
     let all = all_there s.world seen s.sight in

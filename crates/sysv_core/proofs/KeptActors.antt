@@ -1,9 +1,9 @@
 -- The actors that the code keeps, as the states that are seen.
 use Rattle.std.proofs.Common.{◌≡◌, ℕ, ◌+◌, ◌<◌, ◌≤◌, Bool, true, false, cond, List, Option, None, Some, refl, sym, ap}
-use Rattle.std.proofs.Common.{subst, ◌∙◌, arith, length, slice_get, slice_set, option_map, is_some}
+use Rattle.std.proofs.Common.{subst, ◌∙◌, arith, length, slice_get, slice_set, is_some}
 use Rattle.std.specs.List.{slice_index_or}
-use Rattle.std.proofs.lemmas.List.{length-map, map-set, set-set}
-use Rattle.std.proofs.lemmas.Option.{slice_get-map, slice_get_read}
+use Rattle.std.proofs.lemmas.List.{set-set}
+use Rattle.std.proofs.lemmas.Option.{slice_get_read}
 use Rattle.sysv_objects.specs.Objects.{Objects, CountsUpTo, raises_by, raises}
 use Rattle.sysv_model.specs.History.{Call, Install}
 use Rattle.sysv_model.specs.Pool.{Reserve, Release}
@@ -13,76 +13,54 @@ use Rattle.sysv_steps.specs.State.{State, Goes, Waits, Over}
 use Rattle.sysv_core.specs.declared.doing.Doing.{Doing}
 use Rattle.sysv_core.specs.declared.doing.Led.{Led}
 use Rattle.sysv_core.specs.declared.doing.Led.TheVariants as led
-use Rattle.sysv_core.specs.Standing.{Pending, doing_state}
 use Rattle.sysv_queue.specs.Tally.{Tallied}
-use Rattle.sysv_core.specs.Kept.{state_kept, states_kept, doing_led, kept_led, counted_led, told_by}
+use Rattle.sysv_core.specs.Kept.{doing_led, counted_led, told_by}
 use Rattle.sysv_core.specs.Tallying.{is_got, messages_given}
 use Rattle.sysv_core.specs.Led.{StepLeads}
 use Rattle.sysv_core.specs.Seen.{Seen}
 use Rattle.sysv_core.proofs.Lists.{slice_set-same, get_set_same}
 
-pub kept_some : (x : Option Doing) → is_some x ≡ true → (p : Pending) × (state_kept x ≡ Some p)
+pub kept_some : (x : Option Doing) → is_some x ≡ true → (d : Doing) × (x ≡ Some d)
 kept_some None e = absurd cc
-kept_some (Some d) e = (doing_state d, refl)
+kept_some (Some d) e = (d, refl)
 
-pub kept_none : (x : Option Doing) → is_some x ≡ false → state_kept x ≡ None
+pub kept_none : (x : Option Doing) → is_some x ≡ false → x ≡ None
 kept_none None e = refl
-kept_none (Some p) e = absurd cc
+kept_none (Some d) e = absurd cc
 
-module _ (items : List (Option Doing)) (states : List (Option Pending)) (view : states_kept items ≡ states) (place : ℕ)
-    (within : place < length states) where
-  inside : place < length items
-  inside = omega (arith, length-map items state_kept, ap length view)
+module _ (items doings : List (Option Doing)) (view : items ≡ doings) (place : ℕ) (within : place < length doings) where
+  there : (x : Option Doing) → x ≡ slice_index_or items place x → slice_get items place ≡ Some x
+  there x read = slice_get_read items (length items) place x refl (omega (arith, ap length view)) read
 
-  pub seen_at : (x : Option Doing) → x ≡ slice_index_or items place x → slice_get states place ≡ Some (state_kept x)
-  seen_at x read =
-      sym (ap (λ ps. slice_get ps place) view)
-      ∙ (slice_get-map state_kept items place
-      ∙ ap (option_map state_kept) (slice_get_read items (length items) place x refl inside read))
+  pub seen_at : (x : Option Doing) → x ≡ slice_index_or items place x → slice_get doings place ≡ Some x
+  seen_at x read = sym (ap (λ ps. slice_get ps place) view) ∙ there x read
 
-  pub seen_set : (x : Option Doing) (p : Option Pending) → state_kept x ≡ p →
-      states_kept (slice_set items place x) ≡ slice_set states place p
-  seen_set x p e = map-set state_kept items place x
-      ∙ (ap (λ ps. slice_set ps place (state_kept x)) view ∙ ap (slice_set states place) e)
-
-  pub seen_taken : (x y : Option Doing) (p : Option Pending) → state_kept y ≡ p →
-      states_kept (slice_set (slice_set items place x) place y) ≡ slice_set states place p
-  seen_taken x y p e = ap states_kept (set-set items place x y) ∙ seen_set y p e
-
-  pub seen_same : (x : Option Doing) (p : Option Pending) → state_kept x ≡ p → slice_get states place ≡ Some p →
-      states_kept (slice_set items place x) ≡ states
-  seen_same x p e there = seen_set x p e ∙ slice_set-same states place p there
+  pub seen_same : (x y : Option Doing) → x ≡ y → slice_get doings place ≡ Some y → slice_set items place x ≡ doings
+  seen_same x y e at = ap (λ ps. slice_set ps place x) view
+      ∙ slice_set-same doings place x (at ∙ ap (λ z. Some z) (sym e))
 
   -- What is stored at that place, whether or not something was taken from it.
   pub seen_settled : (new : List (Option Doing)) (l : Led) → new ≡ slice_set items place (doing_led l) →
-      states_kept new ≡ slice_set states place (kept_led l)
-  seen_settled new l e = ap states_kept e ∙ seen_set (doing_led l) (kept_led l) refl
+      new ≡ slice_set doings place (doing_led l)
+  seen_settled new l e = e ∙ ap (λ ps. slice_set ps place (doing_led l)) view
 
   pub seen_resettled : (x : Option Doing) (new : List (Option Doing)) (l : Led) →
-      new ≡ slice_set (slice_set items place x) place (doing_led l) →
-      states_kept new ≡ slice_set states place (kept_led l)
-  seen_resettled x new l e = ap states_kept e ∙ seen_taken x (doing_led l) (kept_led l) refl
-
-  there : (x : Option Doing) → x ≡ slice_index_or items place x → slice_get items place ≡ Some x
-  there x read = slice_get_read items (length items) place x refl inside read
+      new ≡ slice_set (slice_set items place x) place (doing_led l) → new ≡ slice_set doings place (doing_led l)
+  seen_resettled x new l e = seen_settled new l (e ∙ set-set items place x (doing_led l))
 
   -- The actor at that place is in no call.
   pub idle_there : (x : Option Doing) → x ≡ slice_index_or items place x → is_some x ≡ false →
       slice_get items place ≡ Some None
-  idle_there x read e = there x read ∙ ap Some (none_is x e)
-    where
-      none_is : (y : Option Doing) → is_some y ≡ false → y ≡ None
-      none_is None e = refl
-      none_is (Some d) e = absurd cc
+  idle_there x read e = there x read ∙ ap Some (kept_none x e)
 
   -- An actor whose call was taken out is in no call.
   pub taken_there : (x : Option Doing) → x ≡ slice_index_or items place x → (new : Option Doing) → new ≡ None →
       slice_get (slice_set items place new) place ≡ Some None
   taken_there x read new e = get_set_same items place new x (there x read) ∙ ap Some e
 
-pub same_seen : (o p : Objects) (s t : List (Option Pending)) (m n : ℕ) (a b : Tallied) → o ≡ p → s ≡ t → m ≡ n → a ≡ b →
-    let x : Seen = record { objects = o; states = s; steps = m; tally = a } in
-    let y : Seen = record { objects = p; states = t; steps = n; tally = b } in
+pub same_seen : (o p : Objects) (s t : List (Option Doing)) (m n : ℕ) (a b : Tallied) → o ≡ p → s ≡ t → m ≡ n → a ≡ b →
+    let x : Seen = record { objects = o; doings = s; steps = m; tally = a } in
+    let y : Seen = record { objects = p; doings = t; steps = n; tally = b } in
     x ≡ y
 same_seen o p s t m n a b e f g h = cc
 

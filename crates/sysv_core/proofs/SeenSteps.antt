@@ -36,8 +36,8 @@ use Rattle.sysv_core.specs.World.{StartsAt, StepsAt, Presets, with_preset}
 use Rattle.sysv_core.specs.Sound.{IsToCaller, StaysSound}
 use Rattle.sysv_steps.specs.Asked.{asked_of}
 use Rattle.sysv_core.specs.Standing.{Pending, pending, stands_at, doing_state}
-use Rattle.sysv_core.specs.Kept.{kept_led, counted_led, told_by}
-use Rattle.sysv_core.specs.Led.{LeadsTo, TurnLeads, LookLeads, Stays, StepLeads}
+use Rattle.sysv_core.specs.Kept.{state_kept, states_kept, doing_led, kept_led, counted_led, told_by}
+use Rattle.sysv_core.specs.Led.{LeadsTo, TurnLeads, LookLeads, Stays, StepLeads, DoingLeads}
 use Rattle.sysv_core.specs.Preset.{MakesPreset}
 use Rattle.sysv_core.specs.Seen.{Seen, IsSeenAs, Gives, Steps, state_in}
 use Rattle.sysv_core.proofs.Lists.{slice_set-same}
@@ -104,11 +104,20 @@ counts_led state (led.To doing) n h = refl
 counts_led state (led.Over ended) n h = refl
 counts_led state (led.Stays doing) n h = absurd h
 
+pub state_leads : (old : Objects) (d : DoingKept) (now : ℕ) (l : Led) (new : Objects) → DoingLeads old d now l new →
+    StepLeads old (doing_state d).state now l new
+state_leads old (doing.Get at) now l new h = h
+state_leads old (doing.Send sent) now l new h = h
+state_leads old (doing.Receive at body) now l new h = h
+state_leads old (doing.Stat step) now l new h = h
+state_leads old (doing.Set step) now l new h = h
+state_leads old (doing.Remove step) now l new h = h
+
 -- What is seen after the call of a place was led on.
 abbrev led_on : Seen → ℕ → Led → Objects → Seen
 led_on seen place l objects = record {
   objects = objects;
-  states = slice_set seen.states place (kept_led l);
+  doings = slice_set seen.doings place (doing_led l);
   steps = seen.steps + counted_led l;
   tally = seen.tally;
 }
@@ -129,20 +138,23 @@ tallied w event r new t m =
     (m.0, m.1, record { objects = s.objects; states = s.states; sound = s.sound; steps = s.steps; blocks = s.blocks })
 
 module _ (w : World) (seen : Seen) (s : IsSeenAs w seen) (sound : StaysSound) where
-  kept_at : (place : ℕ) → option_map state_in (slice_get w.actors place) ≡ slice_get seen.states place
-  kept_at place = sym (slice_get-map state_in w.actors place) ∙ ap (λ ps. slice_get ps place) s.states
+  kept_at : (place : ℕ) (o : Option DoingKept) → slice_get seen.doings place ≡ Some o →
+      option_map state_in (slice_get w.actors place) ≡ Some (state_kept o)
+  kept_at place o there = sym (slice_get-map state_in w.actors place)
+      ∙ (ap (λ ps. slice_get ps place) s.states
+      ∙ (slice_get-map state_kept seen.doings place ∙ ap (option_map state_kept) there))
 
-  idle_at : (place : ℕ) → slice_get seen.states place ≡ Some None → slice_get w.actors place ≡ Some None
-  idle_at place e = idle_in (slice_get w.actors place) (kept_at place ∙ e)
+  idle_at : (place : ℕ) → slice_get seen.doings place ≡ Some None → slice_get w.actors place ≡ Some None
+  idle_at place there = idle_in (slice_get w.actors place) (kept_at place None there)
 
-  busy_at : (place : ℕ) (p : Pending) → slice_get seen.states place ≡ Some (Some p) →
-      (d : Doing) × (slice_get w.actors place ≡ Some (Some d)) × (pending d.state ≡ p)
-  busy_at place p e = busy_in (slice_get w.actors place) p (kept_at place ∙ e)
+  busy_at : (place : ℕ) (p : DoingKept) → slice_get seen.doings place ≡ Some (Some p) →
+      (d : Doing) × (slice_get w.actors place ≡ Some (Some d)) × (pending d.state ≡ doing_state p)
+  busy_at place p there = busy_in (slice_get w.actors place) (doing_state p) (kept_at place (Some p) there)
 
-  as_many : length w.actors ≡ length seen.states
-  as_many = sym (length-map w.actors state_in) ∙ ap length s.states
+  as_many : length w.actors ≡ length seen.doings
+  as_many = sym (length-map w.actors state_in) ∙ (ap length s.states ∙ length-map seen.doings state_kept)
 
-  absent : (actor : ℕ) → (actor ≡ 0) ⊎ (length seen.states < actor) → actor_at w.actors actor ≡ None
+  absent : (actor : ℕ) → (actor ≡ 0) ⊎ (length seen.doings < actor) → actor_at w.actors actor ≡ None
   absent zero h = refl
   absent (suc place) (inl e) = absurd (omega arith)
   absent (suc place) (inr e) = slice_get_past w.actors place (omega (arith, as_many))
@@ -171,38 +183,39 @@ module _ (w : World) (seen : Seen) (s : IsSeenAs w seen) (sound : StaysSound) wh
       (w, ([], inr (young, subst (λ x. StepsAt w actor now x [] w) (sym is) stays), (young, refl)), s)
 
   pub start_absent : (actor : ℕ) (cred : Cred) (call : Call (List ℕ) (List ℕ)) → seen.steps < WORN →
-      (actor ≡ 0) ⊎ (length seen.states < actor) → Moves w (Start actor cred call) stepped.Nothing seen
+      (actor ≡ 0) ⊎ (length seen.doings < actor) → Moves w (Start actor cred call) stepped.Nothing seen
   start_absent actor cred call h none = none_starts actor cred call None h (absent actor none) (refl, refl)
 
-  pub start_busy : (actor place : ℕ) (cred : Cred) (call : Call (List ℕ) (List ℕ)) (p : Pending) → seen.steps < WORN →
-      actor ≡ place + 1 → slice_get seen.states place ≡ Some (Some p) →
+  pub start_busy : (actor place : ℕ) (cred : Cred) (call : Call (List ℕ) (List ℕ)) (p : DoingKept) → seen.steps < WORN →
+      actor ≡ place + 1 → slice_get seen.doings place ≡ Some (Some p) →
       Moves w (Start actor cred call) stepped.Nothing seen
   start_busy actor place cred call p h e there =
       let d = busy_at place p there in
       none_starts actor cred call (Some (Some d.0)) h (at actor place e ∙ d.1) (refl, refl)
 
-  pub step_absent : (actor now : ℕ) → seen.steps < WORN → (actor ≡ 0) ⊎ (length seen.states < actor) →
+  pub step_absent : (actor now : ℕ) → seen.steps < WORN → (actor ≡ 0) ⊎ (length seen.doings < actor) →
       Moves w (Step actor now) stepped.Nothing seen
   step_absent actor now h none = none_steps actor now None h (absent actor none) (refl, refl)
 
   pub step_idle : (actor place now : ℕ) → seen.steps < WORN → actor ≡ place + 1 →
-      slice_get seen.states place ≡ Some None → Moves w (Step actor now) stepped.Nothing seen
+      slice_get seen.doings place ≡ Some None → Moves w (Step actor now) stepped.Nothing seen
   step_idle actor place now h e there =
       none_steps actor now (Some None) h (at actor place e ∙ idle_at place there) (refl, refl)
 
   -- ---- the start of a call
 
-  set_states : (place : ℕ) (o : Option Doing) (p : Option Pending) → state_in o ≡ p →
-      map state_in (slice_set w.actors place o) ≡ slice_set seen.states place p
+  set_states : (place : ℕ) (o : Option Doing) (p : Option DoingKept) → state_in o ≡ state_kept p →
+      map state_in (slice_set w.actors place o) ≡ states_kept (slice_set seen.doings place p)
   set_states place o p e = map-set state_in w.actors place o
-      ∙ (ap (λ ps. slice_set ps place (state_in o)) s.states ∙ ap (slice_set seen.states place) e)
+      ∙ (ap (λ ps. slice_set ps place (state_in o)) s.states
+      ∙ (ap (slice_set (states_kept seen.doings) place) e ∙ sym (map-set state_kept seen.doings place p)))
 
   start_here : (n place : ℕ) (cred : Cred) (call : Call (List ℕ) (List ℕ)) (count : ℕ) (l : Led) → seen.steps < WORN →
-      n ≡ place → slice_get seen.states place ≡ Some None →
+      n ≡ place → slice_get seen.doings place ≡ Some None →
       LeadsTo (begin cred (asked_of call) count) l →
       count ≡ released (pool_history w.turns) →
       Moves w (Start (suc n) cred call) (told_by (suc n) l)
-      (record seen { states = slice_set seen.states place (kept_led l); steps = seen.steps + 1 })
+      (record seen { doings = slice_set seen.doings place (doing_led l); steps = seen.steps + 1 })
   start_here n place cred call count l h same there leads is =
       let young = young_too h in
       let asked = asked_of call in
@@ -219,8 +232,8 @@ module _ (w : World) (seen : Seen) (s : IsSeenAs w seen) (sound : StaysSound) wh
         (response_in started state, made, tells_led w started (suc n) state l young refl to),
         record {
           objects = s.objects;
-          states = set_states n (doing_in started state) (kept_led l) (state_led started state l to)
-              ∙ ap (λ k. slice_set seen.states k (kept_led l)) same;
+          states = set_states n (doing_in started state) (doing_led l) (state_led started state l to)
+              ∙ ap (λ k. states_kept (slice_set seen.doings k (doing_led l))) same;
           sound = sound w after (Begun (suc n) cred asked) (response_in started state) s.sound made;
           steps = ap (λ k. k + 1) s.steps;
           blocks = s.blocks;
@@ -228,11 +241,11 @@ module _ (w : World) (seen : Seen) (s : IsSeenAs w seen) (sound : StaysSound) wh
       )
 
   pub start_idle : (actor place : ℕ) (cred : Cred) (call : Call (List ℕ) (List ℕ)) (count : ℕ) (l : Led) →
-      seen.steps < WORN → actor ≡ place + 1 → slice_get seen.states place ≡ Some None →
+      seen.steps < WORN → actor ≡ place + 1 → slice_get seen.doings place ≡ Some None →
       LeadsTo (begin cred (asked_of call) count) l →
       count ≡ released (pool_history w.turns) →
       Moves w (Start actor cred call) (told_by actor l)
-      (record seen { states = slice_set seen.states place (kept_led l); steps = seen.steps + 1 })
+      (record seen { doings = slice_set seen.doings place (doing_led l); steps = seen.steps + 1 })
   start_idle zero place cred call count l h e there leads is = absurd (omega arith)
   start_idle (suc n) place cred call count l h e there leads is =
       start_here n place cred call count l h (omega arith) there leads is
@@ -255,8 +268,8 @@ module _ (w : World) (seen : Seen) (s : IsSeenAs w seen) (sound : StaysSound) wh
         (response_in d.call state, made, tells_led w d.call (suc n) state l young own to),
         record {
           objects = stands;
-          states = set_states n (doing_in d.call state) (kept_led l) (state_led d.call state l to)
-              ∙ ap (λ k. slice_set seen.states k (kept_led l)) same;
+          states = set_states n (doing_in d.call state) (doing_led l) (state_led d.call state l to)
+              ∙ ap (λ k. states_kept (slice_set seen.doings k (doing_led l))) same;
           sound = sound w after (Stepping (suc n) now) (response_in d.call state) s.sound made;
           steps = ap (λ k. k + 1) s.steps ∙ counts_led state l seen.steps to;
           blocks = s.blocks ∙ sym size;
@@ -278,60 +291,60 @@ module _ (w : World) (seen : Seen) (s : IsSeenAs w seen) (sound : StaysSound) wh
 
   -- The actor still waits.
   stays_here : (n place now : ℕ) (l : Led) (call : Invocation) (wait : Wait (kind_of call.asked)) → w.steps < WORN →
-      slice_get w.actors n ≡ Some (Some record { call = call; state = Waits wait }) →
-      slice_get seen.states place ≡ Some (Some (pending (Waits wait))) →
+      n ≡ place → slice_get w.actors n ≡ Some (Some record { call = call; state = Waits wait }) →
       Continues w (suc n) now call (Waits wait) [] w → Stays (Waits wait) l →
       Moves w (Step (suc n) now) (told_by (suc n) l) (led_on seen place l seen.objects)
-  stays_here n place now (led.Stays doing) call wait young busy there continues stays = (
+  stays_here n place now (led.Stays doing) call wait young same busy continues stays = (
     w,
     ([], inr (young, subst (λ o. StepsAt w (suc n) now o [] w) (sym busy) continues), (young, refl)),
     record {
       objects = s.objects;
-      states = s.states
-          ∙ sym (slice_set-same seen.states place (kept_led (led.Stays doing)) (there ∙ ap (λ x. Some (Some x)) stays));
+      states = ap (map state_in) (sym (slice_set-same w.actors n (Some record { call = call; state = Waits wait }) busy))
+          ∙ (set_states n (Some record { call = call; state = Waits wait }) (Some doing) (ap Some stays)
+          ∙ ap (λ k. states_kept (slice_set seen.doings k (Some doing))) same);
       sound = s.sound;
       steps = s.steps ∙ sym (add-zero seen.steps);
       blocks = s.blocks;
     },
   )
-  stays_here n place now (led.To doing) call wait young busy there continues stays = absurd stays
-  stays_here n place now (led.Over ended) call wait young busy there continues stays = absurd stays
+  stays_here n place now (led.To doing) call wait young same busy continues stays = absurd stays
+  stays_here n place now (led.Over ended) call wait young same busy continues stays = absurd stays
 
   look_here : (n place now : ℕ) (l : Led) (call : Invocation) (wait : Wait (kind_of call.asked)) → w.steps < WORN →
       n ≡ place → slice_get w.actors n ≡ Some (Some record { call = call; state = Waits wait }) →
-      slice_get seen.states place ≡ Some (Some (pending (Waits wait))) → LookLeads seen.objects wait l →
+      LookLeads seen.objects wait l →
       Moves w (Step (suc n) now) (told_by (suc n) l) (led_on seen place l seen.objects)
-  look_here n place now l call wait young same busy there look = elim (look w.generation w.turns s.objects) [
+  look_here n place now l call wait young same busy look = elim (look w.generation w.turns s.objects) [
     | inl reached ↦
         let d : Doing = record { call = call; state = Waits wait } in
         goes n place now l seen.objects d w.turns (Goes (resume wait (value_of w.turns (awaited wait)))) young same busy
         (s.sound.own n d busy).0 s.objects refl reached.1 (inl (reached.0, refl, refl))
-    | inr below ↦ stays_here n place now l call wait young busy there (inr (below.0, (refl, refl))) below.1
+    | inr below ↦ stays_here n place now l call wait young same busy (inr (below.0, (refl, refl))) below.1
   ]
 
   step_here : (n place now : ℕ) (l : Led) (objects : Objects) (call : Invocation) (state : State (kind_of call.asked)) →
       w.steps < WORN → n ≡ place → slice_get w.actors n ≡ Some (Some record { call = call; state = state }) →
-      slice_get seen.states place ≡ Some (Some (pending state)) → StepLeads seen.objects state now l objects →
+      StepLeads seen.objects state now l objects →
       Moves w (Step (suc n) now) (told_by (suc n) l) (led_on seen place l objects)
-  step_here n place now l objects call (Goes p) young same busy there step =
+  step_here n place now l objects call (Goes p) young same busy step =
       turn_here n place now l objects call p young same busy step
-  step_here n place now l objects call (Waits wait) young same busy there step =
+  step_here n place now l objects call (Waits wait) young same busy step =
       subst (λ o. Moves w (Step (suc n) now) (told_by (suc n) l) (led_on seen place l o)) (sym step.1)
-      (look_here n place now l call wait young same busy there step.0)
-  step_here n place now l objects call (Over ending) young same busy there step = absurd step
+      (look_here n place now l call wait young same busy step.0)
+  step_here n place now l objects call (Over ending) young same busy step = absurd step
 
-  pub step_busy : (actor place now : ℕ) (p : Pending) (l : Led) (objects : Objects) → seen.steps < WORN →
-      actor ≡ place + 1 → slice_get seen.states place ≡ Some (Some p) →
-      StepLeads seen.objects p.state now l objects →
+  pub step_busy : (actor place now : ℕ) (p : DoingKept) (l : Led) (objects : Objects) → seen.steps < WORN →
+      actor ≡ place + 1 → slice_get seen.doings place ≡ Some (Some p) →
+      DoingLeads seen.objects p now l objects →
       Moves w (Step actor now) (told_by actor l) (led_on seen place l objects)
   step_busy zero place now p l objects h e there step = absurd (omega arith)
   step_busy (suc n) place now p l objects h e there step =
       let same : n ≡ place = omega arith in
       let found = busy_at place p there in
-      let d = found.0 in
-      step_here n place now l objects d.call d.state (young_too h) same (ap (slice_get w.actors) same ∙ found.1)
-      (there ∙ ap (λ x. Some (Some x)) (sym found.2))
-      (subst (λ (x : Pending). StepLeads seen.objects x.state now l objects) (sym found.2) step)
+      step_here n place now l objects found.0.call found.0.state (young_too h) same
+      (ap (slice_get w.actors) same ∙ found.1)
+      (subst (λ (x : Pending). StepLeads seen.objects x.state now l objects) (sym found.2)
+      (state_leads seen.objects p now l objects step))
 
   -- ---- a preset
 

@@ -19,7 +19,7 @@ use Rattle.sysv_model.specs.History.{Accepted, Taken, Done, Discarded}
 use Rattle.sysv_model.specs.Live.{live, live_after, HasId}
 use Rattle.sysv_model.specs.Registry.{Changed}
 use Rattle.sysv_model.specs.Pool.{PoolCall, PoolReply, Released, Foreign, PoolEntry, released}
-use Rattle.sysv_model.specs.Turn.{Op, AtSlot, AtRegistry, AtPool, asked_by, Turn, pool_entry, slot_history}
+use Rattle.sysv_model.specs.Turn.{Ask, OfRegistry, OfPool, Op, AtSlot, AtRegistry, AtPool, asked_by, Turn, pool_entry, slot_history}
 use Rattle.sysv_model.specs.Turn.{pool_history}
 use Rattle.sysv_queue.specs.Granted.{MayWrite}
 use Rattle.sysv_queue.specs.Slot.{Slot, slot_of}
@@ -27,7 +27,8 @@ use Rattle.sysv_queue.specs.LegalReply.{Legal, IsLegalReply, IsLegalHistory}
 use Rattle.sysv_keys.specs.Identifier.{slot_of_id}
 use Rattle.sysv_objects.specs.LegalOp.{IsLegalOp}
 use Rattle.sysv_steps.specs.Call.{Kind, Sends, kind_of}
-use Rattle.sysv_steps.specs.Call.{SystemCall, Msgget, MsgctlSet, MsgctlRmid}
+use Rattle.sysv_steps.specs.Call.{SystemCall, Msgget, Msgsnd, Msgrcv, MsgctlStat, MsgctlSet, MsgctlRmid}
+use Rattle.sysv_steps.specs.State.{AtInstall, AtStat, AtTake}
 use Rattle.sysv_steps.specs.State.{Sending, Ending, Wait, OnSettled, OnReleased, Phase, AtLook, AtReserve, AtSet}
 use Rattle.sysv_steps.specs.State.{AtSetGiveback, AtRemove, AtForget, AtRemoveGiveback, State, Goes, Waits, Over}
 use Rattle.sysv_steps.specs.State.{Refused}
@@ -115,6 +116,17 @@ open_past turns who op id by legal kept o =
 
 -- ---- who has still to give back
 
+-- Only a turn at a slot changes a queue.
+abbrev is_at_slot : Op → Bool
+is_at_slot (AtSlot slot c reply) = true
+is_at_slot op = false
+
+elsewhere : (id : ℤ) (ask : Ask) (op : Op) → is_at_slot op ≡ false → changed id (told ask op) ≡ false
+elsewhere id (OfRegistry call) (AtRegistry c reply) e = refl
+elsewhere id (OfPool call) (AtPool c reply) e = refl
+elsewhere id ask (AtSlot slot c reply) e = absurd cc
+elsewhere id ask op e = refl
+
 change_goes : (id : ℤ) (cred : Cred) (asked : SystemCall) (phase : Phase (kind_of asked)) (now : ℕ) (op : Op)
     (state : State (kind_of asked)) → PhaseHolds cred asked phase →
     next phase (told (asks phase now) op) ≡ Some state →
@@ -123,9 +135,15 @@ change_goes id cred (MsgctlSet is to) (AtSet by at what) now (AtSlot slot c Done
     subst (λ t. HasToGiveBack (MsgctlSet is to) t id) (sym (some_is n)) (sym own.1 ∙ (Decides-int_eq at id).0 ch)
 change_goes id cred (MsgctlRmid is) (AtRemove by at) now (AtSlot slot c (Discarded messages)) state own n ch =
     subst (λ t. HasToGiveBack (MsgctlRmid is) t id) (sym (some_is n)) (sym own.1 ∙ (Decides-int_eq at id).0 ch)
+change_goes id cred (Msgget key flags) (AtInstall get made) now (AtSlot slot c reply) state own n ch = absurd cc
+change_goes id cred (Msgsnd at mtype flags text) (AtLook send) now (AtSlot slot c reply) state own n ch = absurd cc
+change_goes id cred (Msgrcv at size mtype flags) (AtTake receive) now (AtSlot slot c reply) state own n ch = absurd cc
+change_goes id cred (MsgctlStat at) (AtStat by of) now (AtSlot slot c reply) state own n ch = absurd cc
 change_goes id cred asked phase now (AtSlot slot c reply) state own n ch = absurd cc
-change_goes id cred asked phase now (AtRegistry c reply) state own n ch = absurd cc
-change_goes id cred asked phase now (AtPool c reply) state own n ch = absurd cc
+change_goes id cred asked phase now (AtRegistry c reply) state own n ch =
+    not_both _ ch (elsewhere id (asks phase now) (AtRegistry c reply) refl)
+change_goes id cred asked phase now (AtPool c reply) state own n ch =
+    not_both _ ch (elsewhere id (asks phase now) (AtPool c reply) refl)
 
 abbrev AtPoolWith : PoolReply → Op → Type 0
 AtPoolWith reply op = (call : PoolCall) × (op ≡ AtPool call reply)

@@ -42,7 +42,7 @@ use Rattle.sysv_core.proofs.Runs.{worn_makes}
 -- ---- a legal reply has a row of the step table
 
 abbrev HasNext : {kind : Kind} → Option (State kind) → Type 0
-HasNext o = (state : State kind) × (o ≡ Some state)
+HasNext {kind} o = (state : State kind) × (o ≡ Some state)
 
 row_told : {kind : Kind} (g blocks : ℕ) (turns : List Turn) (phase : Phase kind) (now : ℕ) (op : Op) →
     IsLegalOp g blocks turns (told (asks phase now) op) → HasNext (next phase (told (asks phase now) op))

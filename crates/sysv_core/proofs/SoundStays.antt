@@ -39,7 +39,7 @@ use Rattle.sysv_core.specs.Sound.{IsToCaller, AreOwn, IsBeforeInstall, IsMadeIn,
 use Rattle.sysv_core.proofs.Lists.{get_set_same, get_set_other, none_busy}
 use Rattle.sysv_core.proofs.Histories.{turn_of, slot_more, registry_more, live_by, live_turn}
 use Rattle.sysv_core.proofs.Told.{told, told_is}
-use Rattle.sysv_core.proofs.Lifetime.{installing, job_at, begun_none, resumed_none, same_int, some_is}
+use Rattle.sysv_core.proofs.Lifetime.{job_at, begun_none, resumed_none, same_int, some_is}
 use Rattle.sysv_core.proofs.BlocksConserved.{BlockLaws, turn_holds, turn_conserves, stands_conserves, resumed_holds, begun_holds}
 use Rattle.sysv_core.proofs.BlocksConserved.{preset_conserves, opening_conserves}
 use Rattle.sysv_core.proofs.Moves.{Move, stood, began, turned, awoke, preset_made, moves}

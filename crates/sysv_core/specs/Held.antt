@@ -1,6 +1,7 @@
 -- The body that a pending send has (this project's profile).
 use Rattle.std.specs.Prelude.{ℕ, List}
 use Rattle.std.proofs.Props.{props}
+use Rattle.std.specs.Coded.{Coded, prop_coded}
 use Rattle.sysv_steps.specs.declared.send.SendStep.{SendStep}
 use Rattle.sysv_steps.specs.declared.send.SendStep.TheVariants as step
 use Rattle.sysv_steps.specs.declared.send.SendWait.{SendWait}
@@ -21,3 +22,7 @@ can_in_one_way (At (step.Reserve send)) body = hlevel props
 can_in_one_way (At (step.Place send chain)) body = hlevel props
 can_in_one_way (At (step.Giveback chain afterwards)) body = hlevel props
 can_in_one_way (Waits wait) body = hlevel props
+
+-- Its code, by which a proof tells pending sends apart.
+abbrev pub can_code : (at : Standing SendStep SendWait) (body : List ℕ) → Coded (CanStillSend at body)
+can_code at body = prop_coded (can_in_one_way at body)

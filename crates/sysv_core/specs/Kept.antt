@@ -7,7 +7,7 @@ use Rattle.sysv_core.specs.declared.doing.Led.{Led}
 use Rattle.sysv_core.specs.declared.doing.Led.TheVariants as led
 use Rattle.sysv_core.specs.declared.event.Stepped.{Stepped}
 use Rattle.sysv_core.specs.declared.event.Stepped.TheVariants as stepped
-use Rattle.sysv_core.specs.Standing.{Pending, doing_state}
+use Rattle.sysv_core.specs.Standing.{Pending, of_state, doing_state}
 
 -- The state of the call that an actor is in, if it is in one.
 abbrev pub state_kept : Option Doing → Option Pending
@@ -17,18 +17,18 @@ state_kept doing = option_map doing_state doing
 abbrev pub states_kept : List (Option Doing) → List (Option Pending)
 states_kept actors = map state_kept actors
 
--- The number of blocks that a call in this state holds.
-abbrev pub blocks_at : Option Pending → ℕ
-blocks_at None = 0
-blocks_at (Some pending) = held pending.state
+-- The number of blocks that this pending call holds.
+abbrev pub blocks_held_by : Doing → ℕ
+blocks_held_by doing = of_state (λ kind state. held state) doing
 
--- The number of blocks that all these calls hold.
-abbrev pub blocks_held : List (Option Pending) → ℕ
-blocks_held states = sum_by blocks_at states
+-- The number of blocks that the actor's call holds.
+abbrev pub blocks_kept_by : Option Doing → ℕ
+blocks_kept_by None = 0
+blocks_kept_by (Some doing) = blocks_held_by doing
 
 -- The number of blocks that the calls of these actors hold.
 abbrev pub blocks_kept : List (Option Doing) → ℕ
-blocks_kept actors = blocks_held (states_kept actors)
+blocks_kept actors = sum_by blocks_kept_by actors
 
 -- What is kept of a call after a start or a step: nothing if it is over.
 abbrev pub doing_led : Led → Option Doing

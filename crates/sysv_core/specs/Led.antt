@@ -1,6 +1,6 @@
 -- The result of a start or a step of a call in the code, as a state of the definitions (this
 -- project's profile).
-use Rattle.std.specs.Prelude.{◌≡◌, ◌<◌, ◌≤◌, ◌⊎◌, ℕ, Bool, List, Some}
+use Rattle.std.specs.Prelude.{◌≡◌, ◌<◌, ◌≤◌, ◌⊎◌, ℕ, List, Some}
 use Rattle.sysv_model.specs.Turn.{Op, Turn, asked_by}
 use Rattle.sysv_objects.specs.Objects.{Objects}
 use Rattle.sysv_objects.specs.Represents.{Represents, MakesTurn}
@@ -9,11 +9,12 @@ use Rattle.sysv_steps.specs.State.{Phase, Wait, State, Goes, Waits, Over}
 use Rattle.sysv_steps.specs.Asks.{asks}
 use Rattle.sysv_steps.specs.Next.{next}
 use Rattle.sysv_steps.specs.Resume.{awaited, goal_of, resume}
+use Rattle.sysv_core.specs.declared.doing.Doing.{Doing}
 use Rattle.sysv_core.specs.declared.doing.Led.{Led}
 use Rattle.sysv_core.specs.declared.doing.Led.TheVariants as led
 use Rattle.sysv_core.specs.Answered.{TellsEnding}
 use Rattle.sysv_core.specs.Kinds.{gives_back}
-use Rattle.sysv_core.specs.Standing.{pending, doing_state}
+use Rattle.sysv_core.specs.Standing.{pending, of_state, doing_state}
 use Rattle.sysv_core.specs.World.{value_of}
 
 -- The code's call continues in the state in which the definitions' call is, or both are over and
@@ -53,3 +54,7 @@ abbrev pub StepLeads : {kind : Kind} → Objects → State kind → ℕ → Led 
 StepLeads old (Goes phase) now result new = TurnLeads old phase now result new
 StepLeads old (Waits wait) now result new = LookLeads old wait result × (new ≡ old)
 StepLeads old (Over ending) now result new = ⊥
+
+-- One step of this pending call.
+abbrev pub DoingLeads : Objects → Doing → ℕ → Led → Objects → Type 0
+DoingLeads old doing now result new = of_state (λ kind state. StepLeads old state now result new) doing

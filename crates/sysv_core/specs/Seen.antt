@@ -1,6 +1,6 @@
 -- The code's data as the definitions': its events, its answers, and what a world of the code is
 -- seen as (this project's profile).
-use Rattle.std.specs.Prelude.{◌≡◌, ℕ, ◌<◌, ◌≤◌, Bool, List, [], ◌∷◌, Option, Some, option_map, map}
+use Rattle.std.specs.Prelude.{◌≡◌, ℕ, ◌<◌, ◌≤◌, Bool, List, [], ◌∷◌, Option, option_map, map}
 use Rattle.sysv_model.specs.declared.limits.TheConstants.{WORN}
 use Rattle.sysv_objects.specs.Objects.{Objects}
 use Rattle.sysv_objects.specs.Represents.{Represents as ObjectsStandFor}
@@ -17,6 +17,8 @@ use Rattle.sysv_steps.specs.Asked.{asked_of}
 use Rattle.sysv_core.specs.Answered.{TellsEnding}
 use Rattle.sysv_core.specs.Kinds.{gives_back}
 use Rattle.sysv_core.specs.Standing.{Pending, pending}
+use Rattle.sysv_core.specs.Kept.{states_kept}
+use Rattle.sysv_core.specs.declared.doing.Doing.{Doing as DoingKept}
 use Rattle.sysv_core.specs.Sound.{IsToCaller, IsSound}
 
 -- ---- events
@@ -56,7 +58,7 @@ Steps w event result after =
 -- What a world of the code is seen as.
 pub record Seen : Type 0 where
   pub objects : Objects
-  pub states : List (Option Pending)
+  pub doings : List (Option DoingKept)  -- the calls of the actors, as the code keeps them
   pub steps : ℕ
   pub tally : Tallied  -- the messages that were answered, as written
 
@@ -67,7 +69,7 @@ state_in doing = option_map (λ (d : Doing). pending d.state) doing
 -- This world of the definitions is what the world of the code is seen as.
 pub record IsSeenAs (w : World) (seen : Seen) : Type 0 where
   pub objects : ObjectsStandFor w.generation w.turns seen.objects
-  pub states : map state_in w.actors ≡ seen.states
+  pub states : map state_in w.actors ≡ states_kept seen.doings
   pub sound : IsSound w
   pub steps : w.steps ≡ seen.steps
   pub blocks : w.blocks ≡ seen.objects.pool.size

@@ -1,6 +1,6 @@
 -- The pending call of an actor, as the code keeps it (this project's profile): the step before
 -- which the call is, or its wait; none if the actor is idle or does not exist. Actors count from 1.
-use Rattle.std.specs.Prelude.{◌≡◌, ℕ, zero, suc, List, Option, Some, None, slice_get, ⊤}
+use Rattle.std.specs.Prelude.{◌≡◌, ℕ, zero, suc, List, Option, Some, None, slice_get, option_map, ⊤}
 use Rattle.sysv_steps.specs.Call.{Kind, Gets, Sends, Receives, Stats, Sets, Removes}
 use Rattle.sysv_steps.specs.State.{Phase, Wait, State, Goes, Waits}
 use Rattle.sysv_steps.specs.Seen.{get_phase, get_wait, send_phase, send_wait, receive_phase, receive_wait, stat_phase}
@@ -24,23 +24,24 @@ abbrev pub stands_at : {kind : Kind} {S W : Type 0} → (S → Phase kind) → (
 stands_at phase wait (standing.At step) = Goes (phase step)
 stands_at phase wait (standing.Waits w) = Waits (wait w)
 
+-- What a function of the state of a call makes of a pending call.
+abbrev pub of_state {ℓ} : {A : Type ℓ} → ((kind : Kind) → State kind → A) → Doing → A
+of_state f (doing.Get at) = f Gets (stands_at get_phase get_wait at)
+of_state f (doing.Send sent) =
+    f Sends (stands_at (λ step. send_phase step sent.body) (λ w. send_wait w sent.body) sent.at)
+of_state f (doing.Receive at body) = f Receives (stands_at (λ step. receive_phase step body) receive_wait at)
+of_state f (doing.Stat step) = f Stats (Goes (stat_phase step))
+of_state f (doing.Set step) = f Sets (Goes (set_phase step))
+of_state f (doing.Remove step) = f Removes (Goes (remove_phase step))
+
 -- The state of a pending call.
 abbrev pub doing_state : Doing → Pending
-doing_state (doing.Get at) = record { kind = Gets; state = stands_at get_phase get_wait at }
-doing_state (doing.Send sent) = record {
-  kind = Sends;
-  state = stands_at (λ step. send_phase step sent.body) (λ w. send_wait w sent.body) sent.at;
-}
-doing_state (doing.Receive at body) =
-    record { kind = Receives; state = stands_at (λ step. receive_phase step body) receive_wait at }
-doing_state (doing.Stat step) = record { kind = Stats; state = Goes (stat_phase step) }
-doing_state (doing.Set step) = record { kind = Sets; state = Goes (set_phase step) }
-doing_state (doing.Remove step) = record { kind = Removes; state = Goes (remove_phase step) }
+doing_state doing = of_state (λ kind state. record { kind = kind; state = state }) doing
 
 -- The state of the actor's call, if there is such an actor and it is in a call.
-abbrev pub state_at : List (Option Pending) → ℕ → Option (Option Pending)
-state_at states zero = None
-state_at states (suc place) = slice_get states place
+abbrev pub state_at : List (Option Doing) → ℕ → Option (Option Pending)
+state_at doings zero = None
+state_at doings (suc place) = option_map (λ d. option_map doing_state d) (slice_get doings place)
 
 -- The actor is in this call.
 abbrev pub StandsThere : Option (Option Pending) → Doing → Type 0

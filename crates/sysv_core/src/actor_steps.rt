@@ -4,9 +4,8 @@ ghost use Rattle.std.specs.Prelude.{◌≡◌, ◌≤◌, ◌^◌, Some};
 ghost use Rattle.sysv_objects.specs.Objects.{CountsUpTo};
 ghost use Rattle.sysv_steps.specs.Begin.{begin as begins};
 ghost use Rattle.sysv_steps.specs.Asked.{asked_of};
-ghost use Rattle.sysv_core.specs.Standing.{doing_state};
 ghost use Rattle.sysv_core.specs.Kept.{counted_led};
-ghost use Rattle.sysv_core.specs.Led.{LeadsTo, StepLeads};
+ghost use Rattle.sysv_core.specs.Led.{LeadsTo, DoingLeads};
 
 use crate::doing::{Doing, Led, Sent, Standing};
 use crate::leading::{get_leads, receive_leads, remove_leads, send_leads, set_leads, stat_leads};
@@ -48,7 +47,7 @@ pub fn begin(cred: Cred, call: Call, released: u64) -> Led
 /// which it waits.
 pub fn advance(objects: &mut Objects, doing: Doing, now: u64) -> Led
     requires { CountsUpTo (2 ^ 62) objects.old }
-    ensures { StepLeads objects.old (doing_state doing).state now result objects.new }
+    ensures { DoingLeads objects.old doing now result objects.new }
 {
     match doing {
         Doing::Get(Standing::At(step)) => get_turn(objects, now, step),

@@ -1,16 +1,14 @@
 //! Ends pending calls and returns the blocks that they hold.
 
 ghost use Rattle.std.specs.Prelude.{◌≡◌};
-ghost use Rattle.sysv_steps.specs.HeldBlocks.{held};
-ghost use Rattle.sysv_core.specs.Kept.{blocks_kept};
-ghost use Rattle.sysv_core.specs.Standing.{doing_state};
+ghost use Rattle.sysv_core.specs.Kept.{blocks_held_by, blocks_kept};
 
 use crate::doing::{Doing, Sent, Standing};
 use sysv_pool::Chain;
 
 /// Ends the call and returns the blocks that it holds. A message that a receive has taken is lost.
 pub(crate) fn chain_in(doing: Doing) -> Chain
-    ensures { result.blocks ≡ held (doing_state doing).state }
+    ensures { result.blocks ≡ blocks_held_by doing }
 {
     match doing {
         Doing::Get(Standing::At(_step)) => Chain::empty(),

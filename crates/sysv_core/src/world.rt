@@ -57,13 +57,17 @@ impl Model for World {
 
     ghost Value = { Seen };
 
+    ghost use Rattle.std.specs.Coded.{codes};
+    ghost use Rattle.sysv_core.specs.Held.{can_code};
+
+    ghost coded = { Prim.hlevel (codes, can_code) };
+
     ghost use Rattle.sysv_objects.specs.Objects.{CountsUpTo};
-    ghost use Rattle.sysv_core.specs.Kept.{states_kept};
     ghost use Rattle.sysv_queue.specs.Tally.{taken_in};
 
     ghost view = { λ w. record {
       objects = w.objects;
-      states = states_kept w.actors.items;
+      doings = w.actors.items;
       steps = w.steps;
       tally = w.tally;
     } };
@@ -72,7 +76,7 @@ impl Model for World {
     ghost invariant = { λ w. (w.steps ≤ 2 ^ 62) × CountsUpTo w.steps w.objects
         × IsSeen (record {
           objects = w.objects;
-          states = states_kept w.actors.items;
+          doings = w.actors.items;
           steps = w.steps;
           tally = w.tally;
         })
@@ -259,8 +263,8 @@ impl World {
     /// Returns the call of `actor` pending: before a step, or in a wait. Returns `None` if the
     /// actor is idle or does not exist. Actors count from 1.
     pub fn doing(&self, actor: u32) -> Option<&Doing>
-        ensures { MatchOption result (StandsNowhere (state_at self.now.states actor)) (λ doing.
-            StandsThere (state_at self.now.states actor) doing.now) }
+        ensures { MatchOption result (StandsNowhere (state_at self.now.doings actor)) (λ doing.
+            StandsThere (state_at self.now.doings actor) doing.now) }
     {
         let place = self.place_of(actor)?;
         match &self.actors[place] {
@@ -345,8 +349,8 @@ impl World {
 
     /// Returns the place of the actor in the list, if the actor exists.
     fn place_of(&self, actor: u32) -> Option<usize>
-        ensures { MatchOption result ((actor ≡ 0) ⊎ (length self.now.states < actor))
-            (λ place. (actor ≡ place + 1) × (place < length self.now.states)) }
+        ensures { MatchOption result ((actor ≡ 0) ⊎ (length self.now.doings < actor))
+            (λ place. (actor ≡ place + 1) × (place < length self.now.doings)) }
     {
         let place = (actor as usize).checked_sub(1)?;
         (place < self.actors.len()).then_some(place)

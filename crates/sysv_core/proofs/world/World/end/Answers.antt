@@ -1,6 +1,6 @@
 use Rattle.std.proofs.Common.{◌≡◌, ◌≤◌, ◌+◌, ◌^◌, subst}
 use Rattle.sysv_objects.specs.Objects.{blocks_in}
-use Rattle.sysv_core.specs.Kept.{states_kept, blocks_held}
+use Rattle.sysv_core.specs.Kept.{blocks_kept}
 use Rattle.sysv_core.specs.Seen.{Seen, AreAllFree}
 use Rattle.sysv_core.proofs.KeptActors.{weaker}
 use Rattle.sysv_core.proofs.AllBlocksCounted.{all_free}
@@ -14,12 +14,12 @@ returns c =
     let o = c.self.inside.objects in
     let seen : Seen = record {
       objects = o;
-      states = states_kept c.self.inside.actors.items;
+      doings = c.self.inside.actors.items;
       steps = c.self.inside.steps;
       tally = c.self.inside.tally;
     } in
-    let freed : o.pool.free + (blocks_in o.slots + blocks_held seen.states) ≤ o.pool.size →
-    c.end.result ≡ o.pool.free + (blocks_in o.slots + blocks_held seen.states) =
+    let freed : o.pool.free + (blocks_in o.slots + blocks_kept seen.doings) ≤ o.pool.size →
+    c.end.result ≡ o.pool.free + (blocks_in o.slots + blocks_kept seen.doings) =
     subst (λ n.
     o.pool.free + (blocks_in o.slots + n) ≤ o.pool.size → c.end.result ≡ o.pool.free + (blocks_in o.slots + n))
     c.end_all.ensures c.end.ensures.own in

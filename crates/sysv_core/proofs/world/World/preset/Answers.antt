@@ -30,7 +30,7 @@ returns-clause-single c = λ w s.
     let made = preset_unused w c.args.self.now s c.each_world_is_sound.ensures.stays c.unused_slots.ensures
     c.preset_queue.result c.preset_queue.new.objects (test.0 yes) makes in
     rw (
-      ap (λ (v : Seen). v.states) c.self.view_is,
+      ap (λ (v : Seen). v.doings) c.self.view_is,
       ap (λ (v : Seen). v.steps) c.self.view_is,
       ap (λ (v : Seen). v.tally) c.self.view_is,
     ) made

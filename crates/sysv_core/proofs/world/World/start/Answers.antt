@@ -15,27 +15,27 @@ returns-in_default-clause-single c = λ w s.
 
 pub returns-then-is_some-clause-single : goal.returns-then-is_some-clause-single
 returns-then-is_some-clause-single c = λ w s.
-    let view = ap (λ (v : Seen). v.states) c.self.view_is in
+    let view = ap (λ (v : Seen). v.doings) c.self.view_is in
     let x = c.index.result.now in
     let busy = kept_some x (sym c.is_some.ensures ∙ c.if-is_some.true) in
-    let there = seen_at c.self.inside.actors.items c.args.self.now.states view c.in-Some.place c.in-Some.ensures.1 x
+    let there = seen_at c.self.inside.actors.items c.args.self.now.doings view c.in-Some.place c.in-Some.ensures.1 x
     c.index.ensures ∙ ap Some busy.1 in
     start_busy w c.args.self.now s c.each_world_is_sound.ensures.stays c.args.actor c.in-Some.place c.args.cred
     c.args.call busy.0 (search rules) c.in-Some.ensures.0 there
 
 pub returns-clause-single : goal.returns-clause-single
 returns-clause-single c = λ w s.
-    let view = ap (λ (v : Seen). v.states) c.self.view_is in
+    let view = ap (λ (v : Seen). v.doings) c.self.view_is in
     let x = c.index.result.now in
     let stands : ObjectsStandFor w.generation w.turns c.self.inside.objects =
     subst (λ (v : Seen). ObjectsStandFor w.generation w.turns v.objects) (sym c.self.view_is) s.objects in
     let idle = kept_none x (sym c.is_some.ensures ∙ c.if-is_some.false) in
-    let there = seen_at c.self.inside.actors.items c.args.self.now.states view c.in-Some.place c.in-Some.ensures.1 x
+    let there = seen_at c.self.inside.actors.items c.args.self.now.doings view c.in-Some.place c.in-Some.ensures.1 x
     c.index.ensures ∙ ap Some idle in
     let begins = start_idle w c.args.self.now s c.each_world_is_sound.ensures.stays c.args.actor c.in-Some.place
     c.args.cred c.args.call c.released-released.result c.begin-led.result (search rules) c.in-Some.ensures.0 there
     c.begin-led.ensures (c.released-released.ensures w.generation w.turns stands) in
-    let states = seen_settled c.self.inside.actors.items c.args.self.now.states view c.in-Some.place c.in-Some.ensures.1
+    let states = seen_settled c.self.inside.actors.items c.args.self.now.doings view c.in-Some.place c.in-Some.ensures.1
     c.settle.new.actors.items c.begin-led.result c.settle.ensures.kept in
     let same = same_seen _ _ _ _ _ _ c.settle.new.tally _ (ap (λ (v : Seen). v.objects) c.self.view_is) states
     (ap (λ (v : Seen). v.steps + 1) c.self.view_is) refl in
@@ -44,8 +44,8 @@ returns-clause-single c = λ w s.
 
 pub settle-requires-clause-idle : goal.settle-requires-clause-idle
 settle-requires-clause-idle c =
-    let view = ap (λ (v : Seen). v.states) c.self.view_is in
-    idle_there c.self.inside.actors.items c.args.self.now.states view c.in-Some.place c.in-Some.ensures.1
+    let view = ap (λ (v : Seen). v.doings) c.self.view_is in
+    idle_there c.self.inside.actors.items c.args.self.now.doings view c.in-Some.place c.in-Some.ensures.1
     c.index.result.now c.index.ensures (sym c.is_some.ensures ∙ c.if-is_some.false)
 
 pub invariant_of-self : goal.invariant_of-self
