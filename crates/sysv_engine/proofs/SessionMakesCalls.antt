@@ -4,7 +4,7 @@ use Rattle.std.proofs.lemmas.List.{append-nil, append_assoc}
 use Rattle.sysv_model.specs.declared.cred.Cred.{Cred}
 use Rattle.sysv_model.specs.Turn.{Op}
 use Rattle.sysv_steps.specs.Begin.{begin}
-use Rattle.sysv_steps.specs.Call.{SystemCall, Msgget, Msgsnd, Msgrcv, MsgctlStat, MsgctlSet, MsgctlRmid}
+use Rattle.sysv_steps.specs.Call.{SystemCall, Msgget, Msgsnd, Msgrcv, MsgctlStat, MsgctlSet, MsgctlRmid, kind_of}
 use Rattle.sysv_steps.specs.Resume.{Released}
 use Rattle.sysv_steps.specs.State.{State, Waits, Over}
 use Rattle.std.specs.List.{AllByRecursion}
@@ -35,11 +35,12 @@ both (x ∷ xs) ys one two = (one.0, both xs ys one.1 two)
 -- One call more.
 one_call : (may : ℕ → Type 0) → EachRunIsAtAnyMoment may →
     (cred : Cred) (asked : SystemCall) (released : ℕ) (start mid : Pass) (made : List Called) (ops : List Op)
-    (state : State) (new : Pass) →
+    (state : State (kind_of asked)) (new : Pass) →
     Ran may (begin cred asked released) mid ops state new → Works start made mid →
     Works start (made ++ call_of mid cred asked released ops state ∷ []) new
 one_call may any cred asked released start mid made ops state new ran works =
-    working.calls cred asked released ops state new works (any (begin cred asked released) mid ops state new ran).0
+    working.calls cred asked released ops state new works
+    (any (kind_of asked) (begin cred asked released) mid ops state new ran).0
 
 module _ (may : ℕ → Type 0) (may_leave : Type 0) (any : EachRunIsAtAnyMoment may)
     (unstamped : EachRunIsAtAnyMoment no_moment) (version : Version) (cred : Cred) where
@@ -54,7 +55,7 @@ module _ (may : ℕ → Type 0) (may_leave : Type 0) (any : EachRunIsAtAnyMoment
         given (log new (made ++ calls))
 
   -- Only this call.
-  abbrev only : Pass → SystemCall → ℕ → List Op → State → List Called
+  abbrev only : Pass → (asked : SystemCall) → ℕ → List Op → State (kind_of asked) → List Called
   only pass asked released ops state = call_of pass cred asked released ops state ∷ []
 
   makes : (ask : Ask) (text : List ℕ) (old : Pass) (outcome : RequestOutcome) (given : List ℕ) (new : Pass) →
