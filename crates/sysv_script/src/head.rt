@@ -1,6 +1,6 @@
 //! The lines that a script prints.
 ghost use Rattle.std.specs.Prelude.{◌≡◌, Some};
-ghost use Rattle.sysv_core.specs.Standing.{doing_state};
+ghost use Rattle.sysv_core.specs.Standing.{of_state};
 ghost use Rattle.sysv_script.specs.Names.{standing_text};
 ghost use Rattle.sysv_script.specs.Heads.{head_text};
 
@@ -50,7 +50,7 @@ pub enum Head {
 impl Head {
     /// Returns the line for an actor that is in this call.
     pub fn of_doing(actor: u32, doing: &Doing) -> Head
-        ensures { head_text result ≡ standing_text actor (doing_state doing.now).state }
+        ensures { head_text result ≡ of_state (λ kind state. standing_text actor state) doing.now }
     {
         let operation = Operation::of_doing(doing);
         match Step::of_doing(doing) {

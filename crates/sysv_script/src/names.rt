@@ -1,7 +1,7 @@
 //! The names of calls and their steps in a script.
 ghost use Rattle.std.specs.Prelude.{◌≡◌, ℕ, List, Some, option_map};
 ghost use Rattle.sysv_steps.specs.Seen.{get_phase, send_phase};
-ghost use Rattle.sysv_core.specs.Standing.{doing_state};
+ghost use Rattle.sysv_core.specs.Standing.{of_state, doing_state};
 ghost use Rattle.sysv_script.specs.Names.{operation_as, operation_of, step_in, step_now};
 ghost use Rattle.sysv_script.specs.SaidBy.{call_asked};
 ghost use Rattle.sysv_script.specs.Heads.{operation_name, step_name};
@@ -107,7 +107,7 @@ pub enum Step {
 impl Step {
     /// Returns the next step of a pending call, or `None` if the call waits.
     pub(crate) fn of_doing(doing: &Doing) -> Option<Step>
-        ensures { option_map step_name result ≡ step_now (doing_state doing.now).state }
+        ensures { option_map step_name result ≡ of_state (λ kind state. step_now state) doing.now }
     {
         match doing {
             Doing::Get(Standing::At(step)) => Some(Step::of_get(step)),
