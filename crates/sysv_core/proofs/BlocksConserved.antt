@@ -196,7 +196,8 @@ no_more actors place was there = omega (arith, sum_set blocks_in_call actors pla
 there_is : (id : ℤ) (slot : ℕ) → slot ≡ slot_of_id id → slot < SLOTS
 there_is id slot e = omega (arith, e, mod-lt (unsigned_abs id) {m = SLOTS} (omega arith))
 
-asks_slot : {kind : Kind} (phase : Phase kind) (now slot : ℕ) (call : Call) → OfSlot slot call ≡ asks phase now → slot < SLOTS
+asks_slot : {kind : Kind} (phase : Phase kind) (now slot : ℕ) (call : Call) → OfSlot slot call ≡ asks phase now →
+    slot < SLOTS
 asks_slot (AtInstall get id) now slot call e = there_is id slot cc
 asks_slot (AtProbe get id settled) now slot call e = there_is id slot cc
 asks_slot (AtLook send) now slot call e = there_is send.id slot cc
@@ -349,7 +350,8 @@ module _ (b : BlockLaws) (generation size : ℕ) (turns : List Turn) (actors : L
 
 -- A call that starts, or whose wait is over, holds what it held.
 pub stands_conserves : (size : ℕ) (turns : List Turn) (actors : List (Option Doing)) (place : ℕ) (was : Option Doing)
-    (call : Invocation) (state : State (kind_of call.asked)) → slice_get actors place ≡ Some was → held state ≡ blocks_in_call was →
+    (call : Invocation) (state : State (kind_of call.asked)) → slice_get actors place ≡ Some was →
+    held state ≡ blocks_in_call was →
     AreConserved size turns actors → AreConserved size turns (slice_set actors place (doing_in call state))
 stands_conserves size turns actors place was call state there same all = record {
   whole = still (free_after size (pool_history turns)) (blocks_waiting turns) (blocks_in_calls actors)

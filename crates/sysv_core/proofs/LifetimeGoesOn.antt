@@ -283,11 +283,13 @@ module _ (registry_law : EachObeys) (generation blocks : ℕ) (turns : List Turn
       next phase op ≡ Some state → IsSeemly op × Step turns op (job_at (Goes phase)) (job_at state)
 
   -- A turn that does no job, and one that does that of the call.
-  quiet : {kind : Kind} (op : Op) (state : State kind) (o : Option (State kind)) → o ≡ Some state → IsSeemly op → job_of op ≡ None →
+  quiet : {kind : Kind} (op : Op) (state : State kind) (o : Option (State kind)) → o ≡ Some state → IsSeemly op →
+      job_of op ≡ None →
       next_job o ≡ None → IsSeemly op × Step turns op None (job_at state)
   quiet op state o n seemly none to = (seemly, rests none (λ j e. absurd cc) (ap next_job (sym n) ∙ to))
 
-  own : {kind : Kind} (j : Job) (op : Op) (state : State kind) (o : Option (State kind)) → o ≡ Some state → IsSeemly op →
+  own : {kind : Kind} (j : Job) (op : Op) (state : State kind) (o : Option (State kind)) → o ≡ Some state →
+      IsSeemly op →
       job_of op ≡ Some j → IsNext j turns → next_job o ≡ follow j →
       IsSeemly op × Step turns op (Some j) (job_at state)
   own j op state o n seemly job is_next to =
@@ -522,7 +524,8 @@ op_legal generation blocks turns who (AtPool call reply) l =
     (pool_more turns (turn_of who (AtPool call reply)))
 
 module _ (law : EachObeys) (generation blocks : ℕ) where
-  preset_turn : {kind : Kind} (turns : List Turn) (was : Option Job) (jobs : List (Option Job)) (phase : Phase kind) (op : Op)
+  preset_turn : {kind : Kind} (turns : List Turn) (was : Option Job) (jobs : List (Option Job)) (phase : Phase kind)
+      (op : Op)
       (state : State kind) → AreLegal generation blocks (turns ++ turn_of preset_who op ∷ []) →
       was ≡ job_at (Goes phase) → asked_by op ≡ asks phase 0 → next phase op ≡ Some state →
       Lifetime turns (was ∷ jobs) → Lifetime (turns ++ turn_of preset_who op ∷ []) (job_at state ∷ jobs)

@@ -31,7 +31,8 @@ use Rattle.sysv_core.proofs.LifetimeGoesOn.{Lives, is_owned, job_there}
 
 -- ---- each row is tended
 
-tends : {kind : Kind} (j : Job) (state : State kind) → job_at state ≡ Some j → HasToSettle state j.id ⊎ HasToForget state j.id
+tends : {kind : Kind} (j : Job) (state : State kind) → job_at state ≡ Some j →
+    HasToSettle state j.id ⊎ HasToForget state j.id
 tends j (Goes (AtInstall get id)) e = inl cc
 tends j (Goes (AtSettle id)) e = inl cc
 tends j (Goes (AtUnmake id)) e = inl cc

@@ -33,7 +33,8 @@ starts_move w after responses place cred asked None there t = stood t
 starts_move w after responses place cred asked (Some None) there t = began place cred asked there t
 starts_move w after responses place cred asked (Some (Some d)) there t = stood t
 
-continues_move : (w after : World) (responses : List Response) (place now : ℕ) (call : Invocation) (state : State (kind_of call.asked)) →
+continues_move : (w after : World) (responses : List Response) (place now : ℕ) (call : Invocation)
+    (state : State (kind_of call.asked)) →
     slice_get w.actors place ≡ Some (Some record { call = call; state = state }) →
     Continues w (suc place) now call state responses after → Move w responses after
 continues_move w after responses place now call (Goes phase) there t = turned place now call phase there t

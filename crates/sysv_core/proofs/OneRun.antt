@@ -41,7 +41,8 @@ one_state : {kind : Kind} (s t : State kind) → Some s ≡ Some t → s ≡ t
 one_state s t e = cc
 
 module _ (one : NoTwoOpsAreLegal) (stays : StaysSound) where
-  turns_once : (w : World) (actor : ℕ) (call : Invocation) (phase : Phase (kind_of call.asked)) (now : ℕ) (r s : List Response)
+  turns_once : (w : World) (actor : ℕ) (call : Invocation) (phase : Phase (kind_of call.asked)) (now : ℕ)
+      (r s : List Response)
       (a b : World) →
       IsSound w → Turns w actor call phase now r a → Turns w actor call phase now s b → Same r s a b
   turns_once w actor call phase now r s a b ok h k =
@@ -52,14 +53,16 @@ module _ (one : NoTwoOpsAreLegal) (stays : StaysSound) where
         h.6 ∙ (ap (λ d. world d h.1) ops ∙ (ap (world k.0) states ∙ sym k.6)),
       )
 
-  looks_once : (w : World) (actor : ℕ) (call : Invocation) (wait : Wait (kind_of call.asked)) (r s : List Response) (a b : World) →
+  looks_once : (w : World) (actor : ℕ) (call : Invocation) (wait : Wait (kind_of call.asked)) (r s : List Response)
+      (a b : World) →
       Looks w actor call wait r a → Looks w actor call wait s b → Same r s a b
   looks_once w actor call wait r s a b (inl h) (inl k) = (h.1 ∙ sym k.1, h.2 ∙ sym k.2)
   looks_once w actor call wait r s a b (inl h) (inr k) = let x = h.0 in let y = k.0 in absurd (omega arith)
   looks_once w actor call wait r s a b (inr h) (inl k) = let x = h.0 in let y = k.0 in absurd (omega arith)
   looks_once w actor call wait r s a b (inr h) (inr k) = both_are r s [] a b w h.1 k.1
 
-  continues_once : (w : World) (actor now : ℕ) (call : Invocation) (state : State (kind_of call.asked)) (r s : List Response) (a b : World) →
+  continues_once : (w : World) (actor now : ℕ) (call : Invocation) (state : State (kind_of call.asked))
+      (r s : List Response) (a b : World) →
       IsSound w → Continues w actor now call state r a → Continues w actor now call state s b → Same r s a b
   continues_once w actor now call (Goes phase) r s a b ok h k = turns_once w actor call phase now r s a b ok h k
   continues_once w actor now call (Waits wait) r s a b ok h k = looks_once w actor call wait r s a b h k

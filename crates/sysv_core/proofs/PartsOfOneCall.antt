@@ -80,7 +80,8 @@ other_endings who responses call (Over ending) e =
     ∙ append-nil (endings_of who responses))
 
 -- A call without an ending has that of its state afterwards.
-pub own_endings : (responses : List Response) (call : Invocation) (state : State (kind_of call.asked)) → is_same call.who call.who ≡ true →
+pub own_endings : (responses : List Response) (call : Invocation) (state : State (kind_of call.asked)) →
+    is_same call.who call.who ≡ true →
     endings_of call.who responses ≡ [] → endings_of call.who (responses ++ response_in call state) ≡ ended state
 own_endings responses call (Goes phase) same none = ap (endings_of call.who) (append-nil responses) ∙ none
 own_endings responses call (Waits wait) same none = ap (endings_of call.who) (append-nil responses) ∙ none
@@ -128,7 +129,8 @@ own_standing actors place start was call state who there =
     ∙ (ap (stands_in call.who) (get_set_same actors place (doing_in call state) was there)
     ∙ own_in call state (same_itself place start call.who who))
 
-elsewhere : (actors : List (Option Doing)) (place : ℕ) (was : Option Doing) (call : Invocation) (state : State (kind_of call.asked))
+elsewhere : (actors : List (Option Doing)) (place : ℕ) (was : Option Doing) (call : Invocation)
+    (state : State (kind_of call.asked))
     (p s : ℕ) →
     is_same (Actor (suc p) s) call.who ≡ false →
     slice_get actors place ≡ Some was → IsIn call.who was →

@@ -299,7 +299,8 @@ module _ (w : World) (seen : Seen) (s : IsSeenAs w seen) (sound : StaysSound) wh
     ([], inr (young, subst (λ o. StepsAt w (suc n) now o [] w) (sym busy) continues), (young, refl)),
     record {
       objects = s.objects;
-      states = ap (map state_in) (sym (slice_set-same w.actors n (Some record { call = call; state = Waits wait }) busy))
+      states =
+          ap (map state_in) (sym (slice_set-same w.actors n (Some record { call = call; state = Waits wait }) busy))
           ∙ (set_states n (Some record { call = call; state = Waits wait }) (Some doing) (ap Some stays)
           ∙ ap (λ k. states_kept (slice_set seen.doings k (Some doing))) same);
       sound = s.sound;

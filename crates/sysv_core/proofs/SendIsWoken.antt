@@ -19,7 +19,8 @@ use Rattle.sysv_model.specs.History.{Accepted, Taken, Done, Discarded}
 use Rattle.sysv_model.specs.Live.{live, live_after, HasId}
 use Rattle.sysv_model.specs.Registry.{Changed}
 use Rattle.sysv_model.specs.Pool.{PoolCall, PoolReply, Released, Foreign, PoolEntry, released}
-use Rattle.sysv_model.specs.Turn.{Ask, OfRegistry, OfPool, Op, AtSlot, AtRegistry, AtPool, asked_by, Turn, pool_entry, slot_history}
+use Rattle.sysv_model.specs.Turn.{Ask, OfRegistry, OfPool, Op, AtSlot, AtRegistry, AtPool, asked_by, Turn, pool_entry}
+use Rattle.sysv_model.specs.Turn.{slot_history}
 use Rattle.sysv_model.specs.Turn.{pool_history}
 use Rattle.sysv_queue.specs.Granted.{MayWrite}
 use Rattle.sysv_queue.specs.Slot.{Slot, slot_of}
@@ -320,7 +321,8 @@ module _ (generation blocks : ℕ) (turns : List Turn) (actors : List (Option Do
     | inl ch ↦
         let is = told_is (asks phase now) op asked in
         inr (gives_now id actors place was call state there
-        (change_goes id call.cred call.asked phase now op state own (ap (next phase) is ∙ goes) (ap (changed id) is ∙ ch)))
+        (change_goes id call.cred call.asked phase now op state own (ap (next phase) is ∙ goes)
+        (ap (changed id) is ∙ ch)))
   ]
 
   woken_on : (s : Sending) → s.released ≤ released (pool_history turns) → Woken turns actors s →

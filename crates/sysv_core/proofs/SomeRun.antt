@@ -91,7 +91,8 @@ row_told g blocks turns phase now (AtSlot at c reply) l = absurd l
 row_told g blocks turns phase now (AtRegistry c reply) l = absurd l
 row_told g blocks turns phase now (AtPool c reply) l = absurd l
 
-row : {kind : Kind} (g blocks : ℕ) (turns : List Turn) (phase : Phase kind) (now : ℕ) (op : Op) → asked_by op ≡ asks phase now →
+row : {kind : Kind} (g blocks : ℕ) (turns : List Turn) (phase : Phase kind) (now : ℕ) (op : Op) →
+    asked_by op ≡ asks phase now →
     IsLegalOp g blocks turns op → HasNext (next phase op)
 row g blocks turns phase now op asked l =
     let is = told_is (asks phase now) op asked in
@@ -106,7 +107,8 @@ record Somewhere (w : World) (x : Transition) : Type 0 where
   makes : Makes w x responses after
   told : w.steps < WORN → (result : Stepped) × Gives w responses result
 
-given_told : (w : World) (call : Invocation) (actor : ℕ) (state : State (kind_of call.asked)) → w.steps < WORN → IsToCaller call.who actor →
+given_told : (w : World) (call : Invocation) (actor : ℕ) (state : State (kind_of call.asked)) → w.steps < WORN →
+    IsToCaller call.who actor →
     (result : Stepped) × Gives w (response_in call state) result
 given_told w call actor (Goes phase) young own = (stepped.Nothing, (young, refl))
 given_told w call actor (Waits wait) young own = (stepped.Nothing, (young, refl))
@@ -142,7 +144,8 @@ starts_somewhere w actor cred asked (Some None) young e =
     }
 
 module _ (some : SomeOpIsLegal) (sound : StaysSound) (unused : UnusedSlots) where
-  continues_somewhere : (w : World) (place now : ℕ) (call : Invocation) (state : State (kind_of call.asked)) → IsSound w → w.steps < WORN →
+  continues_somewhere : (w : World) (place now : ℕ) (call : Invocation) (state : State (kind_of call.asked)) →
+      IsSound w → w.steps < WORN →
       slice_get w.actors place ≡ Some (Some record { call = call; state = state }) → Somewhere w (Step (suc place) now)
   continues_somewhere w place now call (Goes phase) ok young e =
       let d : Doing = record { call = call; state = Goes phase } in

@@ -40,7 +40,8 @@ use Rattle.sysv_core.proofs.Lists.{get_set_same, get_set_other, none_busy}
 use Rattle.sysv_core.proofs.Histories.{turn_of, slot_more, registry_more, live_by, live_turn}
 use Rattle.sysv_core.proofs.Told.{told, told_is}
 use Rattle.sysv_core.proofs.Lifetime.{job_at, begun_none, resumed_none, same_int, some_is}
-use Rattle.sysv_core.proofs.BlocksConserved.{BlockLaws, turn_holds, turn_conserves, stands_conserves, resumed_holds, begun_holds}
+use Rattle.sysv_core.proofs.BlocksConserved.{BlockLaws, turn_holds, turn_conserves, stands_conserves, resumed_holds}
+use Rattle.sysv_core.proofs.BlocksConserved.{begun_holds}
 use Rattle.sysv_core.proofs.BlocksConserved.{preset_conserves, opening_conserves}
 use Rattle.sysv_core.proofs.Moves.{Move, stood, began, turned, awoke, preset_made, moves}
 
@@ -190,7 +191,8 @@ pub data Does (actors : List (Option Doing)) (place : ℕ) (call : Invocation) (
   moved : place ≡ at → d ≡ record { call = call; state = state } → Does actors place call state at d
   other : slice_get actors at ≡ Some (Some d) → Does actors place call state at d
 
-pub does : (actors : List (Option Doing)) (place : ℕ) (was : Option Doing) (call : Invocation) (state : State (kind_of call.asked)) (at : ℕ)
+pub does : (actors : List (Option Doing)) (place : ℕ) (was : Option Doing) (call : Invocation)
+    (state : State (kind_of call.asked)) (at : ℕ)
     (d : Doing) → slice_get actors place ≡ Some was →
     slice_get (slice_set actors place (doing_in call state)) at ≡ Some (Some d) → Does actors place call state at d
 does actors place was call state at d there here = elim (cases_eq place at) [
@@ -202,7 +204,8 @@ does actors place was call state at d there here = elim (cases_eq place at) [
   | inr apart ↦ other (sym (get_set_other actors place at (doing_in call state) apart) ∙ here)
 ]
 
-pub own_still : (actors : List (Option Doing)) (place : ℕ) (was : Option Doing) (call : Invocation) (state : State (kind_of call.asked)) →
+pub own_still : (actors : List (Option Doing)) (place : ℕ) (was : Option Doing) (call : Invocation)
+    (state : State (kind_of call.asked)) →
     slice_get actors place ≡ Some was → AreOwn actors → IsToCaller call.who (suc place) → HasItsBlocks state →
     AreOwn (slice_set actors place (doing_in call state))
 own_still actors place was call state there all own blocks = λ at d here.
@@ -234,7 +237,8 @@ no_install (Goes (AtInstall get made)) id none e = cc
 no_install state id none e = absurd e
 
 pub later_installs : (turns : List Turn) (actors : List (Option Doing)) (place : ℕ) (was : Option Doing)
-    (call : Invocation) (state : State (kind_of call.asked)) → slice_get actors place ≡ Some was → AreInstalled turns actors →
+    (call : Invocation) (state : State (kind_of call.asked)) → slice_get actors place ≡ Some was →
+    AreInstalled turns actors →
     job_at state ≡ None → AreInstalled turns (slice_set actors place (doing_in call state))
 later_installs turns actors place was call state there all none =
     all_installed turns turns actors place was call state there (λ slot m. m) all

@@ -1,5 +1,6 @@
 -- What a turn of a call at the objects themselves leads to.
-use Rattle.std.proofs.Common.{◌≡◌, ◌↔◌, ◌<◌, ◌≤◌, ◌⊎◌, inl, inr, IsTrue, rules, arith, ℕ, Bool, true, false, List, refl, ap}
+use Rattle.std.proofs.Common.{◌≡◌, ◌↔◌, ◌<◌, ◌≤◌, ◌⊎◌, inl, inr, IsTrue, rules, arith, ℕ, Bool, true, false, List, refl}
+use Rattle.std.proofs.Common.{ap}
 use Rattle.std.proofs.Common.{subst, ◌∙◌}
 use Rattle.sysv_model.specs.Turn.{Turn}
 use Rattle.sysv_objects.specs.Objects.{Objects}

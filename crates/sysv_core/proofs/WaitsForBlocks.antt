@@ -79,7 +79,8 @@ short_more size h e send read (inr few) = elim (counts_or_not e.call e.reply) [
   | inr none ↦ inr (omega (arith, few, no_more_free size h e none))
 ]
 
-still_short : {kind : Kind} (size : ℕ) (h : PoolHistory) (e : PoolEntry) (state : State kind) → read_by state ≤ released h →
+still_short : {kind : Kind} (size : ℕ) (h : PoolHistory) (e : PoolEntry) (state : State kind) →
+    read_by state ≤ released h →
     IsShort size h state → IsShort size (h ++ e ∷ []) state
 still_short size h e (Waits (OnReleased goal send)) read s = (s.0, short_more size h e send read s.1)
 still_short size h e (Goes (AtSendGiveback blocks (WaitsOn (OnReleased goal send)))) read s = s
@@ -121,7 +122,8 @@ ComesIn phase None = Unit {0}
 ComesIn phase (Some state) = Comes phase state
 
 -- What the turn leads to, by the released count that the call had read.
-pub record FollowsIn {kind : Kind} (size : ℕ) (h : PoolHistory) (phase : Phase kind) (state : Option (State kind)) : Type 0 where
+pub record FollowsIn {kind : Kind} (size : ℕ) (h : PoolHistory) (phase : Phase kind)
+    (state : Option (State kind)) : Type 0 where
   pub read : read_in state ≤ read_by (Goes phase)
   pub short : IsShortIn size h state
   pub comes : ComesIn phase state
@@ -142,7 +144,8 @@ full_gives_back size h send blocks freed many true why same is = record { read =
 full_gives_back size h send blocks freed many false why same is =
     record { read = omega (arith, is); short = tt; comes = tt }
 
-none_named : {kind : Kind} (size : ℕ) (h : PoolHistory) (phase : Phase kind) (nowait : Bool) (wait : Wait kind) (why : Errno) →
+none_named : {kind : Kind} (size : ℕ) (h : PoolHistory) (phase : Phase kind) (nowait : Bool) (wait : Wait kind)
+    (why : Errno) →
     read_by_wait wait ≡ 0 → IsShort size h (Waits wait) → Comes phase (Waits wait) →
     Follows size h phase (goes_on (waits_or nowait wait why))
 none_named size h phase true wait why none s c = record { read = omega arith; short = tt; comes = tt }
@@ -154,7 +157,8 @@ too_few : (size : ℕ) (h : PoolHistory) (send : Sending) (nowait : Bool) (why :
 too_few size h send true why few = record { read = omega arith; short = tt; comes = tt }
 too_few size h send false why few = record { read = omega arith; short = (refl, inr few); comes = refl }
 
-plain : {kind : Kind} (size : ℕ) (h : PoolHistory) (phase : Phase kind) (state : Option (State kind)) → read_in state ≡ 0 →
+plain : {kind : Kind} (size : ℕ) (h : PoolHistory) (phase : Phase kind) (state : Option (State kind)) →
+    read_in state ≡ 0 →
     IsShortIn size h state → ComesIn phase state → FollowsIn size h phase state
 plain size h phase state none s c = record { read = omega (arith, none); short = s; comes = c }
 
@@ -198,7 +202,8 @@ followed_told g size turns phase now (AtPool c Foreign) s l = plain size _ phase
 followed_told g size turns phase now (AtPool c reply) s l = plain size _ phase _ refl tt tt
 
 -- Where a legal turn leads.
-pub followed : {kind : Kind} (g size : ℕ) (turns : List Turn) (phase : Phase kind) (now : ℕ) (op : Op) (state : State kind) →
+pub followed : {kind : Kind} (g size : ℕ) (turns : List Turn) (phase : Phase kind) (now : ℕ) (op : Op)
+    (state : State kind) →
     IsShort size (pool_history turns) (Goes phase) → asked_by op ≡ asks phase now → IsLegalOp g size turns op →
     next phase op ≡ Some state → Follows size (pool_history turns) phase state
 followed g size turns phase now op state short asked legal goes =
@@ -243,7 +248,8 @@ module _ (w : World) (all : AreRight w.blocks w.turns w.actors) (place : ℕ) (c
     | other old ↦ all at d old
   ]
 
-resumed_right : {kind : Kind} (blocks : ℕ) (turns : List Turn) (wait : Wait kind) → IsRight blocks (pool_history turns) (Waits wait) →
+resumed_right : {kind : Kind} (blocks : ℕ) (turns : List Turn) (wait : Wait kind) →
+    IsRight blocks (pool_history turns) (Waits wait) →
     IsRight blocks (pool_history turns) (Goes (resume wait (value_of turns (awaited wait))))
 resumed_right blocks turns (OnSettled goal get) r = record { read = omega arith; short = tt }
 resumed_right blocks turns (OnFreed goal send) r = record { read = r.read; short = tt }

@@ -13,7 +13,8 @@ use Rattle.sysv_steps.specs.State.{AtPlace, Ending, Zero, Refused, State, Goes, 
 use Rattle.sysv_steps.specs.Played.{Plays, begins, steps}
 use Rattle.sysv_steps.specs.AsksFor.{AsksFor, EachOpIsAskedFor}
 use Rattle.sysv_steps.specs.Answers.{EachAnswerIsRight}
-use Rattle.sysv_core.specs.World.{Invocation, Doing, doing_in, begun, preset_who, preset_cred, preset_begin, preset_install}
+use Rattle.sysv_core.specs.World.{Invocation, Doing, doing_in, begun, preset_who, preset_cred, preset_begin}
+use Rattle.sysv_core.specs.World.{preset_install}
 use Rattle.sysv_core.specs.World.{preset_settle}
 use Rattle.sysv_core.specs.AnswerLaw.{AreInTheirCalls, IsMade, ended}
 use Rattle.sysv_core.specs.WorkedRun.{hello, the_calls, look_for}

@@ -142,7 +142,8 @@ module _ (w : World) (responses : List Response) (turns : List Turn) (calls : Li
     | other old ↦ let mine = own p d old in (more d.call mine.0, mine.1)
   ]
 
-known_more : (calls : List Invocation) (responses : List Response) (call : Invocation) (state : State (kind_of call.asked)) →
+known_more : (calls : List Invocation) (responses : List Response) (call : Invocation)
+    (state : State (kind_of call.asked)) →
     Contains calls call →
     All (λ (g : Response). Contains calls g.call) responses →
     All (λ (g : Response). Contains calls g.call) (responses ++ response_in call state)
@@ -190,7 +191,8 @@ module _ {P : Turn → Type 0} (w : World) (responses : List Response) (i : Inv 
         quiet = f.answered ∙ s.1;
       }
 
-  pub goes_on : (turns : List Turn) (state : State (kind_of d.call.asked)) → IsSound (went w turns w.calls place d.call state) →
+  pub goes_on : (turns : List Turn) (state : State (kind_of d.call.asked)) →
+      IsSound (went w turns w.calls place d.call state) →
       Lives turns (slice_set w.actors place (doing_in d.call state)) → OthersStay d.call.who w.turns turns →
       Stands turns responses d.call state → All (HasMaker P w.calls) turns →
       Inv P (went w turns w.calls place d.call state) (responses ++ response_in d.call state)
@@ -326,7 +328,8 @@ given_is who (x ∷ responses) g (suc k, low, is) same =
     (given_is who responses g (k, omega (arith, low), is) same)
 
 -- An ending that a call had is that of its state, and is right.
-is_right : EachAnswerIsRight → (call : Invocation) (ops : List Op) (state : State (kind_of call.asked)) (ending : Ending) →
+is_right : EachAnswerIsRight →
+    (call : Invocation) (ops : List Op) (state : State (kind_of call.asked)) (ending : Ending) →
     Plays (begun call) ops state → IsAmong ending (ended state) → IsRightAnswer call.asked ops ending
 is_right right call ops (Goes phase) ending plays among = absurd among
 is_right right call ops (Waits wait) ending plays among = absurd among

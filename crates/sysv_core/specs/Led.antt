@@ -27,7 +27,8 @@ LeadsTo (Waits wait) (led.Over ended) = ⊥
 LeadsTo state (led.Stays doing) = ⊥
 
 -- One turn of the call in that phase at its object, and its result.
-pub record TurnLeads {kind : Kind} (old : Objects) (phase : Phase kind) (now : ℕ) (result : Led) (new : Objects) : Type 0 where
+pub record TurnLeads {kind : Kind} (old : Objects) (phase : Phase kind) (now : ℕ) (result : Led)
+    (new : Objects) : Type 0 where
   pub op : Op
   pub state : State kind
   pub asked : asked_by op ≡ asks phase now

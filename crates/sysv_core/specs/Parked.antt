@@ -100,4 +100,5 @@ pub record IsParked (w : World) (place : ℕ) (d : Doing) (wait : Wait (kind_of 
 -- Each call that waits below its goal has its reason.
 abbrev pub AreParkedRightly : World → Type 0
 AreParkedRightly w =
-    (place : ℕ) (d : Doing) (wait : Wait (kind_of d.call.asked)) → IsParked w place d wait → HasReason w d.call.cred d.call.asked wait
+    (place : ℕ) (d : Doing) (wait : Wait (kind_of d.call.asked)) → IsParked w place d wait →
+    HasReason w d.call.cred d.call.asked wait

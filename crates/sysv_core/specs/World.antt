@@ -130,7 +130,8 @@ Begins w actor call responses after =
 -- next state in the step table.
 abbrev pub Turns : World → ℕ → (call : Invocation) → Phase (kind_of call.asked) → ℕ → List Response → World → Type 0
 Turns w actor call phase now responses after =
-    (op : Op) × (state : State (kind_of call.asked)) × (asked_by op ≡ asks phase now) × IsLegalOp w.generation w.blocks w.turns op
+    (op : Op) × (state : State (kind_of call.asked)) × (asked_by op ≡ asks phase now)
+    × IsLegalOp w.generation w.blocks w.turns op
     × (next phase op ≡ Some state)
     × (responses ≡ response_in call state) × (after ≡ in_state (with_turn w call.who op) actor call state)
 

@@ -5,7 +5,8 @@ use Rattle.sysv_model.specs.declared.cred.Cred.{Cred}
 use Rattle.sysv_steps.specs.Call.{SystemCall, kind_of}
 use Rattle.sysv_steps.specs.State.{State, Goes, Waits, Over}
 use Rattle.sysv_steps.specs.Resume.{awaited, resume}
-use Rattle.sysv_core.specs.World.{World, Invocation, Doing, Response, Start, Step, Makes, actor_at, doing_in, response_in}
+use Rattle.sysv_core.specs.World.{World, Invocation, Doing, Response, Start, Step, Makes, actor_at, doing_in}
+use Rattle.sysv_core.specs.World.{response_in}
 use Rattle.sysv_core.specs.World.{begun, starting, value_of, Continues, StartsAt, StepsAt, StaysWith}
 use Rattle.sysv_core.proofs.Lists.{get_set_same}
 use Rattle.sysv_script.specs.declared.names.Operation.{Operation}

@@ -53,7 +53,8 @@ pub going_line : (actor : ℕ) (o : Option (Option Doing)) (told : DoingKept) (l
 going_line actor None told line stands says = absurd stands
 going_line actor (Some None) told line stands says = absurd stands
 going_line actor (Some (Some d)) told line stands says =
-    ap (λ t. t ++ 10 ∷ []) (says ∙ (text_told actor told ∙ sym (ap (λ (p : Pending). standing_text actor p.state) stands)))
+    ap (λ t. t ++ 10 ∷ [])
+    (says ∙ (text_told actor told ∙ sym (ap (λ (p : Pending). standing_text actor p.state) stands)))
 
 pub going_way : (o : Option (Option Doing)) (told : DoingKept) (operation : Operation) →
     StandsThere (option_map state_in o) told →

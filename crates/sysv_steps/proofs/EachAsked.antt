@@ -50,12 +50,14 @@ begun_of cred (MsgctlRmid id) released false = (refl, refl)
 
 module _ (cred : Cred) where
   -- A call that waits holds what it held, at once or after it has released its chain.
-  after_keeps : (asked : SystemCall) (nowait : Bool) (wait : Wait (kind_of asked)) (why : Errno) → WaitHolds cred asked wait →
+  after_keeps : (asked : SystemCall) (nowait : Bool) (wait : Wait (kind_of asked)) (why : Errno) →
+      WaitHolds cred asked wait →
       AfterwardsHolds cred asked (waits_or nowait wait why)
   after_keeps asked true wait why h = tt
   after_keeps asked false wait why h = h
 
-  waits_keep : (asked : SystemCall) (nowait : Bool) (wait : Wait (kind_of asked)) (why : Errno) → WaitHolds cred asked wait →
+  waits_keep : (asked : SystemCall) (nowait : Bool) (wait : Wait (kind_of asked)) (why : Errno) →
+      WaitHolds cred asked wait →
       Holds cred asked (goes_on (waits_or nowait wait why))
   waits_keep asked true wait why h = tt
   waits_keep asked false wait why h = h
@@ -250,7 +252,8 @@ record Asked (cred : Cred) (asked : SystemCall) (ops : List Op) (state : State (
   holds : Holds cred asked state
   all : AllAskFor cred asked ops
 
-after_one : (cred : Cred) (asked : SystemCall) (phase : Phase (kind_of asked)) (op : Op) (now : ℕ) (after : State (kind_of asked))
+after_one : (cred : Cred) (asked : SystemCall) (phase : Phase (kind_of asked)) (op : Op) (now : ℕ)
+    (after : State (kind_of asked))
     (ops : List Op) →
     asked_by op ≡ asks phase now → next phase op ≡ Some after → Asked cred asked ops (Goes phase) →
     Asked cred asked (ops ++ op ∷ []) after
@@ -274,6 +277,7 @@ pub each_asked : (cred : Cred) (asked : SystemCall) (released : ℕ) (ops : List
     Plays (begin cred asked released) ops state → AllAskFor cred asked ops
 each_asked cred asked released ops state p = (along cred asked released ops state p).all
 
-pub each_holds_asked : (cred : Cred) (asked : SystemCall) (released : ℕ) (ops : List Op) (state : State (kind_of asked)) →
+pub each_holds_asked : (cred : Cred) (asked : SystemCall) (released : ℕ) (ops : List Op)
+    (state : State (kind_of asked)) →
     Plays (begin cred asked released) ops state → Holds cred asked state
 each_holds_asked cred asked released ops state p = (along cred asked released ops state p).holds

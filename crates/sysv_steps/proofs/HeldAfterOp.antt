@@ -132,7 +132,8 @@ last_giveback_row kind blocks ending reply = tt
 
 -- ---- the table, by what the call asks there
 
-at_slot : {kind : Kind} (phase : Phase kind) (slot : ℕ) (call : Call) (reply : Reply) (now : ℕ) → HasItsBlocks (Goes phase) →
+at_slot : {kind : Kind} (phase : Phase kind) (slot : ℕ) (call : Call) (reply : Reply) (now : ℕ) →
+    HasItsBlocks (Goes phase) →
     OfSlot slot call ≡ asks phase now → IsKeptIf (held (Goes phase)) (AtSlot slot call reply) (next_of_slot phase reply)
 at_slot (AtInstall get id) slot call reply now h is = install_row id slot call reply
 at_slot (AtProbe get id settled) slot call reply now h is = probe_row get id settled slot call reply
@@ -147,7 +148,8 @@ at_slot (AtSet cred id to) slot call reply now h is = set_row slot call reply
 at_slot (AtRemove cred id) slot call reply now h is = remove_row id slot call reply
 at_slot phase slot call reply now h is = tt
 
-at_registry : {kind : Kind} (phase : Phase kind) (op : Op) (reply : RegistryReply) → left_by op ≡ given_by op → given_by op ≡ 0 →
+at_registry : {kind : Kind} (phase : Phase kind) (op : Op) (reply : RegistryReply) → left_by op ≡ given_by op →
+    given_by op ≡ 0 →
     IsKeptIf (held (Goes phase)) op (next_of_registry phase reply)
 at_registry (AtBegin get) op reply e z = begin_row get op reply e
 at_registry (AtSettle id) op reply e z = settle_row id op reply e
@@ -159,11 +161,13 @@ at_registry phase op reply e z = tt
 abbrev GivesIt : PoolCall → PoolReply → Type 0
 GivesIt call reply = (size blocks : ℕ) → call ≡ Reserve size → reply ≡ Reserved blocks → blocks ≡ blocks_for size
 
-of_release : {kind : Kind} (had : ℕ) (call : PoolCall) (reply : PoolReply) (after : Option (State kind)) → Release had ≡ call →
+of_release : {kind : Kind} (had : ℕ) (call : PoolCall) (reply : PoolReply) (after : Option (State kind)) →
+    Release had ≡ call →
     IsKeptIf had (AtPool (Release had) reply) after → IsKeptIf had (AtPool call reply) after
 of_release had call reply after c h = subst (λ (k : PoolCall). IsKeptIf had (AtPool k reply) after) c h
 
-at_pool : {kind : Kind} (phase : Phase kind) (call : PoolCall) (reply : PoolReply) (now : ℕ) → OfPool call ≡ asks phase now →
+at_pool : {kind : Kind} (phase : Phase kind) (call : PoolCall) (reply : PoolReply) (now : ℕ) →
+    OfPool call ≡ asks phase now →
     GivesIt call reply → IsKeptIf (held (Goes phase)) (AtPool call reply) (next_of_pool phase reply)
 at_pool (AtReserve send) call reply now is g =
     let c : Reserve (length send.text) ≡ call = cc in
@@ -203,7 +207,8 @@ started cred (MsgctlStat id) released false = record { balance = refl; at_place 
 started cred (MsgctlSet id to) released false = record { balance = refl; at_place = tt }
 started cred (MsgctlRmid id) released false = record { balance = refl; at_place = tt }
 
-one_more : {kind : Kind} (ops : List Op) (phase : Phase kind) (op : Op) (after : State kind) → IsKept (held (Goes phase)) op after →
+one_more : {kind : Kind} (ops : List Op) (phase : Phase kind) (op : Op) (after : State kind) →
+    IsKept (held (Goes phase)) op after →
     HoldsItsBlocks ops (Goes phase) → HoldsItsBlocks (ops ++ op ∷ []) after
 one_more ops phase op after k h = record {
   balance = omega (

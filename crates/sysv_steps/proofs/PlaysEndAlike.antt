@@ -54,7 +54,8 @@ core_of (Some state) = Some (core state)
 
 -- ---- the table on it
 
-waits_alike : {kind : Kind} (nowait : Bool) (one other : Wait kind) (why : Errno) → core (Waits one) ≡ core (Waits other) →
+waits_alike : {kind : Kind} (nowait : Bool) (one other : Wait kind) (why : Errno) →
+    core (Waits one) ≡ core (Waits other) →
     core (goes_on (waits_or nowait one why)) ≡ core (goes_on (waits_or nowait other why))
 waits_alike true one other why e = refl
 waits_alike false one other why e = e
@@ -90,7 +91,8 @@ reserve_core send TooFew =
     ap Some (waits_alike send.nowait (OnReleased 1 (bare send)) (OnReleased (send.released + 1) send) EAGAIN refl)
 reserve_core send reply = refl
 
-waits_core : {kind : Kind} (wait : Wait kind) → core (goes_on (bare_after (WaitsOn wait))) ≡ core (goes_on (WaitsOn wait))
+waits_core : {kind : Kind} (wait : Wait kind) →
+    core (goes_on (bare_after (WaitsOn wait))) ≡ core (goes_on (WaitsOn wait))
 waits_core (OnSettled goal get) = refl
 waits_core wait = refl
 

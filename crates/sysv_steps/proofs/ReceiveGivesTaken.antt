@@ -27,7 +27,8 @@ has_last given [] op takes = inl takes
 has_last given (d ∷ ds) op takes = inr (has_last given ds op takes)
 
 -- A receive that took no message has none.
-waits_give_nothing : (nowait : Bool) (wait : Wait Receives) (why : Errno) → GivesNothing (goes_on (waits_or nowait wait why))
+waits_give_nothing : (nowait : Bool) (wait : Wait Receives) (why : Errno) →
+    GivesNothing (goes_on (waits_or nowait wait why))
 waits_give_nothing true wait why = tt
 waits_give_nothing false wait why = tt
 

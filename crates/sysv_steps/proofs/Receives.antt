@@ -330,7 +330,8 @@ module _ (id : ℤ) (size : ℕ) (mtype : ℤ) (flags : Flags) where
   receive_at cred released _ _ (resumes {ops} {wait} value p least) =
       one_wait ops wait value (receive_at cred released ops (Waits wait) p)
 
-  none_gone : (ops : List Op) (phase : Phase Receives) (reply : Reply) (after : State Receives) → ReceiveAt ops (Goes phase) →
+  none_gone : (ops : List Op) (phase : Phase Receives) (reply : Reply) (after : State Receives) →
+      ReceiveAt ops (Goes phase) →
       next_of_slot phase reply ≡ Some after → list_any found_gone ops ≡ false
   none_gone ops (AtTake receive) reply after at n = at.gone
   none_gone ops (AtReceiveGiveback blocks type text) reply after at n = absurd cc

@@ -122,7 +122,8 @@ module _ (cred : Cred) (asked : SystemCall) (released : ℕ) where
   one_step on ops phase (AtRegistry call reply) after p n h = ends_still ops (AtRegistry call reply) refl refl h
   one_step on ops phase (AtPool call reply) after p n h = ends_still ops (AtPool call reply) refl refl h
 
-  ends_at : ComesUngone → (ops : List Op) (state : State (kind_of asked)) → Plays (begin cred asked released) ops state →
+  ends_at : ComesUngone → (ops : List Op) (state : State (kind_of asked)) →
+      Plays (begin cred asked released) ops state →
       Ends ops
   ends_at on _ _ begins = inl refl
   ends_at on _ _ (steps {ops} {phase} op now after p is n) =

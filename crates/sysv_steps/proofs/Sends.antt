@@ -394,7 +394,8 @@ module _ (id mtype : ℤ) (flags : Flags) (text : List ℕ) where
   none_gone ops (AtSendGiveback blocks afterwards) reply after at n = absurd cc
 
   -- A send that comes to a slot has not found its identifier gone before.
-  pub send_goes_on : (cred : Cred) (released : ℕ) (ops : List Op) (phase : Phase Sends) (reply : Reply) (after : State Sends) →
+  pub send_goes_on : (cred : Cred) (released : ℕ) (ops : List Op) (phase : Phase Sends) (reply : Reply)
+      (after : State Sends) →
       Plays (begin cred (Msgsnd id mtype flags text) released) ops (Goes phase) →
       next_of_slot phase reply ≡ Some after → list_any found_gone ops ≡ false
   send_goes_on cred released ops phase reply after p n =

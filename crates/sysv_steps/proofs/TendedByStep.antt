@@ -165,7 +165,8 @@ module _ {kind : Kind} (ops : List Op) (phase : Phase kind) (op : Op) (now : ℕ
   }
 
 -- A call whose wait has just ended has nothing to do at the registry, nor had it in the wait.
-after_wait : {kind : Kind} (ops : List Op) (wait : Wait kind) (state : State kind) → IsTended ops (Waits wait) → IsTended ops state
+after_wait : {kind : Kind} (ops : List Op) (wait : Wait kind) (state : State kind) → IsTended ops (Waits wait) →
+    IsTended ops state
 after_wait ops wait state t = record {
   made = λ before after call id e. elim (t.made before after call id e) [ inl h ↦ absurd h | inr d ↦ inr d ];
   removed = λ before after slot cred messages id e.

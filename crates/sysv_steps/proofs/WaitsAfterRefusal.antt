@@ -215,7 +215,8 @@ at_slot (AtSet cred id to) ops slot call reply now h is = set_step (ops ++ AtSlo
 at_slot (AtRemove cred id) ops slot call reply now h is = remove_step (ops ++ AtSlot slot call reply ∷ []) id reply
 at_slot phase ops slot call reply now h is = tt
 
-at_registry : {kind : Kind} (phase : Phase kind) (ops : List Op) (call : RegistryCall) (reply : RegistryReply) (now : ℕ) →
+at_registry : {kind : Kind} (phase : Phase kind) (ops : List Op) (call : RegistryCall) (reply : RegistryReply)
+    (now : ℕ) →
     Lately ops (Goes phase) → OfRegistry call ≡ asks phase now →
     LatelyIf (ops ++ AtRegistry call reply ∷ []) (next_of_registry phase reply)
 at_registry (AtBegin get) ops call reply now h is =
@@ -239,7 +240,8 @@ at_pool (AtSendGiveback blocks afterwards) ops call reply now h is = send_giveba
 at_pool (AtReceiveGiveback blocks mtype text) ops call reply now h is =
     giveback_step Receives (ops ++ AtPool call reply ∷ []) (Got mtype text) reply
 at_pool AtSetGiveback ops call reply now h is = giveback_step Sets (ops ++ AtPool call reply ∷ []) Zero reply
-at_pool (AtRemoveGiveback blocks) ops call reply now h is = giveback_step Removes (ops ++ AtPool call reply ∷ []) Zero reply
+at_pool (AtRemoveGiveback blocks) ops call reply now h is =
+    giveback_step Removes (ops ++ AtPool call reply ∷ []) Zero reply
 at_pool phase ops call reply now h is = tt
 
 one_more : {kind : Kind} (phase : Phase kind) (ops : List Op) (op : Op) (now : ℕ) → Lately ops (Goes phase) →

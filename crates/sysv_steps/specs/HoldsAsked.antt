@@ -78,5 +78,6 @@ Holds cred asked (Over ending) = Unit {0}
 
 -- This holds in each state to which a call plays.
 abbrev pub EachHoldsWhatItWasAsked : Type 0
-EachHoldsWhatItWasAsked = (cred : Cred) (asked : SystemCall) (released : ℕ) (ops : List Op) (state : State (kind_of asked)) →
+EachHoldsWhatItWasAsked =
+    (cred : Cred) (asked : SystemCall) (released : ℕ) (ops : List Op) (state : State (kind_of asked)) →
     Plays (begin cred asked released) ops state → Holds cred asked state

@@ -16,7 +16,8 @@ read_then (OnReleased goal send) value before = value
 read_then wait value before = before
 
 -- The value that was read last along a play, if the call read `began` at its start.
-abbrev pub read_last : {kind : Kind} (began : ℕ) (from : State kind) (ops : List Op) (state : State kind) → Plays from ops state → ℕ
+abbrev pub read_last : {kind : Kind} (began : ℕ) (from : State kind) (ops : List Op) (state : State kind) →
+    Plays from ops state → ℕ
 read_last began from _ _ begins = began
 read_last began from _ _ (steps {ops} {phase} op now after play asked row) =
     read_last began from ops (Goes phase) play

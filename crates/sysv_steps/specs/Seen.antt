@@ -43,7 +43,8 @@ ending_of ending (Ok told) = ending told
 ending_of ending (Err why) = Refused why
 
 -- The state of a call of the code, by what its steps, its waits and its result mean.
-abbrev pub state_of : {kind : Kind} {S W T : Type 0} → (S → Phase kind) → (W → Wait kind) → (T → Ending) → StateKept S W T → State kind
+abbrev pub state_of : {kind : Kind} {S W T : Type 0} → (S → Phase kind) → (W → Wait kind) → (T → Ending) →
+    StateKept S W T → State kind
 state_of phase wait ending (state.Goes step) = Goes (phase step)
 state_of phase wait ending (state.Waits w) = Waits (wait w)
 state_of phase wait ending (state.Over told) = Over (ending_of ending told)

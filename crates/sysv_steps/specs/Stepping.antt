@@ -91,7 +91,8 @@ module _ {P : Type 0} (takes : P → Op → P → Type 0) (misses : P → Ask �
       (state ≡ when_worn phase) × (ops ≡ []) × (after ≡ before) × (keeps ≡ kept + kept_when_worn phase)
 
   -- A step of a call at a worn-out gate, with the turns that it made at other gates.
-  pub record FindsNoTurn {kind : Kind} (may : ℕ → Type 0) (phase : Phase kind) (before : P) (kept : ℕ) (state : State kind)
+  pub record FindsNoTurn {kind : Kind} (may : ℕ → Type 0) (phase : Phase kind) (before : P) (kept : ℕ)
+      (state : State kind)
       (after : P) (keeps : ℕ) : Type 0 where
     pub ops : List Op
     pub now : ℕ
@@ -123,7 +124,8 @@ module _ {P : Type 0} (takes : P → Op → P → Type 0) (misses : P → Ask �
   -- ---- a step at another clock
 
   -- A step that does not use the time is a step with any clock.
-  pub lifts : {kind : Kind} (may : ℕ → Type 0) (phase : Phase kind) (before : P) (kept : ℕ) (state : State kind) (after : P) (keeps : ℕ) →
+  pub lifts : {kind : Kind} (may : ℕ → Type 0) (phase : Phase kind) (before : P) (kept : ℕ) (state : State kind)
+      (after : P) (keeps : ℕ) →
       StepsOn no_moment phase before kept state after keeps → StepsOn may phase before kept state after keeps
   lifts may phase before kept state after keeps (inl s) = inl (record {
     op = s.op;

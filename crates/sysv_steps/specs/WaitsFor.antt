@@ -59,5 +59,6 @@ WaitsFor (OnArrived goal receive) ops = (arrived : ℕ) × (goal ≡ arrived + 1
 
 -- Each call that plays to a wait has such a cause for it.
 abbrev pub EachWaitsForItsRefusal : Type 0
-EachWaitsForItsRefusal = (cred : Cred) (asked : SystemCall) (released : ℕ) (ops : List Op) (wait : Wait (kind_of asked)) →
+EachWaitsForItsRefusal =
+    (cred : Cred) (asked : SystemCall) (released : ℕ) (ops : List Op) (wait : Wait (kind_of asked)) →
     Plays (begin cred asked released) ops (Waits wait) → WaitsFor wait ops

@@ -1,4 +1,5 @@
-use Rattle.std.proofs.Common.{◌≡◌, ◌+◌, ℕ, suc, ◌<◌, List, Option, Some, None, length, get_or, option_map, sym, refl, ap, subst}
+use Rattle.std.proofs.Common.{◌≡◌, ◌+◌, ℕ, suc, ◌<◌, List, Option, Some, None, length, get_or, option_map, sym, refl}
+use Rattle.std.proofs.Common.{ap, subst}
 use Rattle.std.proofs.Common.{◌∙◌, arith}
 use Rattle.sysv_core.specs.declared.doing.Doing.{Doing}
 use Rattle.sysv_core.specs.Standing.{doing_state, state_at, StandsNowhere, StandsThere}
