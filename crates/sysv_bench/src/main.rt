@@ -9,6 +9,7 @@
 //! numbers.
 #![tactic(auto)]
 
+mod bodies;
 mod buffer;
 mod caller;
 mod eventcount;
@@ -55,7 +56,11 @@ fn status(done: io::Result<()>, then: ExitCode) -> ExitCode {
 
 fn asked<R: Env + AllocGlobal>(rt: &R) -> io::Result<Option<Asked>> {
     let words: Vec<String> = env::args(rt)?.collect(rt.alloc())?;
-    let words: Vec<&str> = words.iter().map(|word| word.as_str()).collect(rt.alloc())?;
+    asked_by(rt.alloc(), &words)
+}
+
+fn asked_by(alloc: Global, words: &[String]) -> io::Result<Option<Asked>> {
+    let words: Vec<&str> = words.iter().map(|word| word.as_str()).collect(alloc)?;
     Ok(read_words(words.get(1..).unwrap_or(&[])))
 }
 

@@ -1,12 +1,13 @@
 //! Chains of a pool beside vectors and a plain copy, for payloads of several sizes.
 mod rounds;
 
+use crate::bodies::Bodies;
 use crate::figures::{show, show_ratio};
 use rounds::{time_of_chains, time_of_copies, time_of_vecs};
 use std::alloc::Global;
 use std::io;
 use std::time::{Clock, CpuClock};
-use sysv_model::{Body, MESSAGE_BYTES};
+use sysv_model::MESSAGE_BYTES;
 use sysv_pool::Pool;
 
 /// The number of rounds of one measurement.
@@ -42,18 +43,30 @@ fn measure_size<R: Clock + CpuClock + Print>(
     what: &str,
     text: &[u8],
 ) -> io::Result<()> {
-    let (Ok(mut body), Ok(mut out)) = (Body::open(alloc), Body::open(alloc)) else {
+    let Some(mut bodies) = Bodies::of(alloc, text) else {
         return println!(rt; "{what}: memory was refused");
     };
-    body.push_piece(text);
-    let chains = time_of_chains(rt, pool, &body, &mut out, ROUNDS);
-    let vecs = time_of_vecs(rt, alloc, text, &mut out, ROUNDS);
+    measure_bodies(rt, alloc, pool, what, text, &mut bodies)
+}
+
+/// Measures payloads of the same bytes in these bodies.
+fn measure_bodies<R: Clock + CpuClock + Print>(
+    rt: &R,
+    alloc: Global,
+    pool: &mut Pool,
+    what: &str,
+    text: &[u8],
+    bodies: &mut Bodies,
+) -> io::Result<()> {
+    let chains = time_of_chains(rt, pool, &bodies.text, &mut bodies.out, ROUNDS);
+    let vecs = time_of_vecs(rt, alloc, text, &mut bodies.out, ROUNDS);
     show_beside(rt, what, chains, vecs)?;
-    if text.len() == TEXT.len() {
-        show_speed(rt, "through a chain", chains)?;
-        show_speed(rt, "plain copy", time_of_copies(rt, text, &mut out, ROUNDS))?;
+    if text.len() != TEXT.len() {
+        return Ok(());
     }
-    Ok(())
+    show_speed(rt, "through a chain", chains)?;
+    let copies = time_of_copies(rt, text, &mut bodies.out, ROUNDS);
+    show_speed(rt, "plain copy", copies)
 }
 
 fn measure_all<R: Clock + CpuClock + Print>(
@@ -78,13 +91,15 @@ pub(crate) fn measure<R: Clock + CpuClock + Print>(rt: &R, alloc: Global) -> io:
 
 /// Returns the nanoseconds of a few rounds with chains.
 pub(crate) fn once<R: Clock + CpuClock>(rt: &R, alloc: Global) -> Option<u64> {
-    let mut text = Body::open(alloc).ok()?;
-    let mut out = Body::open(alloc).ok()?;
     let Ok(mut pool) = Pool::open(alloc, 1024) else {
         return None;
     };
-    text.push_piece(&TEXT);
-    let nanos = time_of_chains(rt, &mut pool, &text, &mut out, 10);
+    let nanos = once_in(rt, alloc, &mut pool);
     pool.end();
     nanos
+}
+
+fn once_in<R: Clock + CpuClock>(rt: &R, alloc: Global, pool: &mut Pool) -> Option<u64> {
+    let mut bodies = Bodies::of(alloc, &TEXT)?;
+    time_of_chains(rt, pool, &bodies.text, &mut bodies.out, 10)
 }

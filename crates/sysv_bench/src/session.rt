@@ -1,11 +1,13 @@
 //! A session over memory beside the calls that it makes: a msgsnd and a msgrcv of 64 bytes in turn,
 //! by one pass of a service.
+ghost use Rattle.sysv_seats.specs.HandlesKept.{KeepsHandles};
+
 mod frames;
 
 use crate::caller::Still;
 use crate::figures::{show, show_ratio};
 use crate::service::time_of_pairs;
-use crate::watch::{Time, Watch};
+use crate::watch::{Time, Watch, nanos_if};
 use frames::{Replies, Requests};
 use std::alloc::Global;
 use std::io;
@@ -50,16 +52,29 @@ fn time_of_session<R: Wait + Clock + CpuClock>(rt: &R, alloc: Global, pairs: u32
         return None;
     };
     let mut handler = ServiceHandler::new(rt, &service, &Still, pass);
+    let nanos = time_by(rt, &mut handler, &mut texts, pairs);
+    let pass = handler.into_pass();
+    service.close(pass);
+    nanos
+}
+
+/// Returns the nanoseconds of a session with this handler.
+fn time_by<R: Wait + Clock + CpuClock>(
+    rt: &R,
+    handler: &mut ServiceHandler<'_, Still, R>,
+    texts: &mut Texts,
+    pairs: u32,
+) -> Option<u64>
+    ensures { KeepsHandles handler.old handler.new }
+{
     let mut requests = Requests::new(pairs);
     let mut replies = Replies::default();
     let mut reader = Instrumented::new(&mut requests);
     let mut writer = Instrumented::new(&mut replies);
     let watch = Watch::start(rt, Time::Passed);
-    let served = handler.serve_instrumented(&mut texts, &mut reader, &mut writer);
-    let nanos = watch.and_then(|watch| watch.nanos(rt));
-    let pass = handler.into_pass();
-    service.close(pass);
-    if served.end == End::Ended && served.tally.written() == u64::from(pairs) {
+    let served = handler.serve_instrumented(texts, &mut reader, &mut writer);
+    let nanos = nanos_if(rt, watch, served.end == End::Ended);
+    if served.tally.written() == u64::from(pairs) {
         nanos
     } else {
         None

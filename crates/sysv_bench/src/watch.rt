@@ -44,3 +44,16 @@ impl Watch {
         Ok(rt.process_cpu_time()?.saturating_sub(self.used))
     }
 }
+
+/// Returns the nanoseconds since the start of a watch. Returns `None` if the watch was not started,
+/// or if what it timed was not done.
+pub(crate) fn nanos_if<R: Clock + CpuClock>(
+    rt: &R,
+    watch: Option<Watch>,
+    done: bool,
+) -> Option<u64> {
+    match watch {
+        Some(watch) if done => watch.nanos(rt),
+        _ => None,
+    }
+}

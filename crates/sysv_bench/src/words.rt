@@ -81,24 +81,27 @@ fn read_wire(words: &[&str]) -> Option<Asked> {
 }
 
 fn read_service(words: &[&str]) -> Option<Asked> {
-    match words {
-        [] => Some(Asked::Service),
-        ["pairs", size, count @ ..] => Some(Asked::Pairs {
-            size: number(&[*size], 64)?,
-            count: number(count, 100_000)?,
+    let [word, rest @ ..] = words else {
+        return Some(Asked::Service);
+    };
+    match *word {
+        "pairs" => read_pairs(rest),
+        "rounds" => Some(Asked::Rounds {
+            count: number(rest, 50_000)?,
         }),
-        ["pairs"] => Some(Asked::Pairs {
-            size: 64,
-            count: 100_000,
-        }),
-        ["rounds", count @ ..] => Some(Asked::Rounds {
-            count: number(count, 50_000)?,
-        }),
-        ["soak", seconds @ ..] => Some(Asked::Soak {
-            seconds: number(seconds, 60)?,
+        "soak" => Some(Asked::Soak {
+            seconds: number(rest, 60)?,
         }),
         _ => None,
     }
+}
+
+fn read_pairs(words: &[&str]) -> Option<Asked> {
+    let (size, count) = words.split_at(words.len().min(1));
+    Some(Asked::Pairs {
+        size: number(size, 64)?,
+        count: number(count, 100_000)?,
+    })
 }
 
 /// Returns the number that is the only word, or `absent` if there is no word.

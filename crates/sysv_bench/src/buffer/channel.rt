@@ -1,5 +1,5 @@
 //! The same measurements through a channel.
-use crate::watch::{Time, Watch};
+use crate::watch::{Time, Watch, nanos_if};
 use crossbeam_channel::{Receiver, Sender, bounded};
 use std::alloc::Global;
 use std::sync::Wait;
@@ -61,12 +61,12 @@ pub(crate) fn time_of_one_to_one<R: Threads + Wait + Clock + CpuClock + Sync>(
     bound: usize,
     items: u64,
 ) -> Option<u64> {
-    let (sender, receiver) = bounded(alloc, bound).ok()?;
-    let watch = Watch::start(rt, Time::Passed)?;
-    if !exchange(rt, &sender, &receiver, items) {
+    let Ok((sender, receiver)) = bounded(alloc, bound) else {
         return None;
-    }
-    watch.nanos(rt)
+    };
+    let watch = Watch::start(rt, Time::Passed);
+    let done = exchange(rt, &sender, &receiver, items);
+    nanos_if(rt, watch, done)
 }
 
 /// Returns the nanoseconds until each of two threads has sent `items` items and each of two others
@@ -77,10 +77,10 @@ pub(crate) fn time_of_two_to_two<R: Threads + Wait + Clock + CpuClock + Sync>(
     bound: usize,
     items: u64,
 ) -> Option<u64> {
-    let (sender, receiver) = bounded(alloc, bound).ok()?;
-    let watch = Watch::start(rt, Time::Passed)?;
-    if !exchange_by_four(rt, &sender, &receiver, items) {
+    let Ok((sender, receiver)) = bounded(alloc, bound) else {
         return None;
-    }
-    watch.nanos(rt)
+    };
+    let watch = Watch::start(rt, Time::Passed);
+    let done = exchange_by_four(rt, &sender, &receiver, items);
+    nanos_if(rt, watch, done)
 }

@@ -1,7 +1,7 @@
 //! Items between threads, through a buffer of many producers and consumers.
 ghost use Rattle.std.specs.Prelude.{◌≡◌};
 
-use crate::watch::{Time, Watch};
+use crate::watch::{Time, Watch, nanos_if};
 use std::alloc::Global;
 use std::sync::Wait;
 use std::thread::{Threads, for_each_mut};
@@ -86,13 +86,10 @@ fn time_of<R: Threads + Wait + Clock + CpuClock + Sync>(
     rt: &R,
     workers: &mut [Worker],
 ) -> Option<u64> {
-    let watch = Watch::start(rt, Time::Passed)?;
+    let watch = Watch::start(rt, Time::Passed);
     for_each_mut(rt, workers, THREADS, &|_, worker| worker.run(rt));
-    if workers.iter().all(|worker| worker.is_done()) {
-        watch.nanos(rt)
-    } else {
-        None
-    }
+    let done = workers.iter().all(|worker| worker.is_done());
+    nanos_if(rt, watch, done)
 }
 
 /// Returns the nanoseconds of items that one thread puts and another takes.
@@ -102,7 +99,9 @@ pub(crate) fn time_of_one_to_one<R: Threads + Wait + Clock + CpuClock + Sync>(
     cells: usize,
     items: u64,
 ) -> Option<u64> {
-    let (buffer, seat) = ManyBuffer::open(alloc, cells).ok()?;
+    let Ok((buffer, seat)) = ManyBuffer::open(alloc, cells) else {
+        return None;
+    };
     let mut one = Worker::new(&buffer, seat, Act::Put, items);
     let other = one.split(Act::Take);
     time_of(rt, &mut [one, other])
@@ -116,7 +115,9 @@ pub(crate) fn time_of_two_to_two<R: Threads + Wait + Clock + CpuClock + Sync>(
     cells: usize,
     items: u64,
 ) -> Option<u64> {
-    let (buffer, seat) = ManyBuffer::open(alloc, cells).ok()?;
+    let Ok((buffer, seat)) = ManyBuffer::open(alloc, cells) else {
+        return None;
+    };
     let mut one = Worker::new(&buffer, seat, Act::Put, items);
     let two = one.split(Act::Take);
     let three = one.split(Act::Put);
@@ -132,13 +133,11 @@ pub(crate) fn time_alone<R: Wait + Clock + CpuClock>(
     cells: usize,
     items: u64,
 ) -> Option<u64> {
-    let (buffer, seat) = ManyBuffer::open(alloc, cells).ok()?;
+    let Ok((buffer, seat)) = ManyBuffer::open(alloc, cells) else {
+        return None;
+    };
     let mut worker = Worker::new(&buffer, seat, Act::PutAndTake, items);
-    let watch = Watch::start(rt, Time::Passed)?;
+    let watch = Watch::start(rt, Time::Passed);
     worker.run(rt);
-    if worker.is_done() {
-        watch.nanos(rt)
-    } else {
-        None
-    }
+    nanos_if(rt, watch, worker.is_done())
 }

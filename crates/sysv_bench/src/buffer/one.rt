@@ -1,7 +1,7 @@
 //! Items from one thread to another through a buffer of one producer and one consumer.
 ghost use Rattle.std.specs.Prelude.{◌≡◌};
 
-use crate::watch::{Time, Watch};
+use crate::watch::{Time, Watch, nanos_if};
 use std::alloc::Global;
 use std::sync::Wait;
 use std::thread::{Threads, join};
@@ -55,12 +55,12 @@ pub(crate) fn time_of_one_to_one<R: Threads + Wait + Clock + CpuClock + Sync>(
     cells: usize,
     items: u64,
 ) -> Option<u64> {
-    let (buffer, puts, takes) = OneBuffer::open(alloc, cells).ok()?;
-    let watch = Watch::start(rt, Time::Passed)?;
-    if !exchange(rt, &buffer, puts, takes, items) {
+    let Ok((buffer, puts, takes)) = OneBuffer::open(alloc, cells) else {
         return None;
-    }
-    watch.nanos(rt)
+    };
+    let watch = Watch::start(rt, Time::Passed);
+    let done = exchange(rt, &buffer, puts, takes, items);
+    nanos_if(rt, watch, done)
 }
 
 fn put_and_take(
@@ -89,10 +89,10 @@ pub(crate) fn time_alone<R: Wait + Clock + CpuClock>(
     cells: usize,
     items: u64,
 ) -> Option<u64> {
-    let (buffer, puts, takes) = OneBuffer::open(alloc, cells).ok()?;
-    let watch = Watch::start(rt, Time::Passed)?;
-    if !put_and_take(rt, &buffer, puts, takes, items) {
+    let Ok((buffer, puts, takes)) = OneBuffer::open(alloc, cells) else {
         return None;
-    }
-    watch.nanos(rt)
+    };
+    let watch = Watch::start(rt, Time::Passed);
+    let done = put_and_take(rt, &buffer, puts, takes, items);
+    nanos_if(rt, watch, done)
 }

@@ -1,7 +1,7 @@
 //! The task of one thread of a measurement, and the time that two threads take together.
 use crate::eventcount::locked::LockedCount;
 use crate::eventcount::place::Place;
-use crate::watch::{Time, Watch};
+use crate::watch::{Time, Watch, nanos_if};
 use std::alloc::Global;
 use std::sync::Wait;
 use std::thread;
@@ -114,12 +114,9 @@ fn time_at<R: Threads + Wait + Clock + CpuClock + Sync>(
     times: u64,
 ) -> Option<u64> {
     let [one, other] = acts;
-    let watch = Watch::start(rt, time)?;
-    let beside = Part {
-        place: place.split()?,
-        locked,
-        act: other,
-        times,
+    let watch = Watch::start(rt, time);
+    let Some(second) = place.split() else {
+        return None;
     };
     let here = Part {
         place,
@@ -127,8 +124,14 @@ fn time_at<R: Threads + Wait + Clock + CpuClock + Sync>(
         act: one,
         times,
     };
+    let beside = Part {
+        place: second,
+        locked,
+        act: other,
+        times,
+    };
     for_each_mut(rt, &mut [here, beside], THREADS, &|_, part| part.run(rt));
-    watch.nanos(rt)
+    nanos_if(rt, watch, true)
 }
 
 /// Has two threads act over a new eventcount and a new locked count, each `times` times if it

@@ -72,15 +72,21 @@ pub(crate) fn act_at_gate<R: Threads + Wait + Clock + CpuClock + Sync>(
     };
     let mut members = split_all(alloc, &gate, &mut seat, tasks);
     let nanos = act_timed(rt, &gate, members.as_mut_slice());
-    let all = members.len() == tasks.len();
-    let stood = members.iter().find_map(|member| member.stood);
     gate.close(seat);
-    let nanos = nanos?;
-    if all {
-        Some(Done { nanos, stood })
+    if members.len() == tasks.len() {
+        done_by(members.as_slice(), nanos)
     } else {
         None
     }
+}
+
+/// Returns what the members have done in this time.
+fn done_by(members: &[Member], nanos: Option<u64>) -> Option<Done> {
+    let stood = members.iter().find_map(|member| member.stood);
+    Some(Done {
+        nanos: nanos?,
+        stood,
+    })
 }
 
 /// Returns a member for each task, fewer if memory runs out.

@@ -101,6 +101,24 @@ fn show_beside<R: Threads + Wait + Clock + CpuClock + Print + Sync>(
     show_ratio(rt, "beside the Mutex", how, gate, lock, "times its time")
 }
 
+/// Measures a gate with and without a count that rises, with this number of threads.
+fn show_gates<R: Threads + Wait + Clock + CpuClock + Print + Sync>(
+    rt: &R,
+    alloc: Global,
+    how: &str,
+    threads: usize,
+) -> io::Result<()> {
+    show_beside(rt, alloc, Raise::Neither, "gate", how, threads)?;
+    show_beside(
+        rt,
+        alloc,
+        Raise::Arrived,
+        "gate whose count rises",
+        how,
+        threads,
+    )
+}
+
 /// Measures threads at places of their own beside one thread.
 fn show_places<R: Threads + Wait + Clock + CpuClock + Print + Sync>(
     rt: &R,
@@ -141,19 +159,19 @@ pub(crate) fn measure<R: Threads + Wait + Clock + CpuClock + Print + Sync>(
     rt: &R,
     alloc: Global,
 ) -> io::Result<()> {
-    for (threads, how) in [(1, "one thread"), (2, "two threads"), (4, "four threads")] {
-        show_beside(rt, alloc, Raise::Neither, "gate", how, threads)?;
-        show_beside(
-            rt,
-            alloc,
-            Raise::Arrived,
-            "gate whose count rises",
-            how,
-            threads,
-        )?;
-    }
+    show_gates(rt, alloc, "one thread", 1)?;
+    show_gates(rt, alloc, "two threads", 2)?;
+    show_gates(rt, alloc, "four threads", 4)?;
     show_places(rt, alloc, "two threads", 2)?;
     show_places(rt, alloc, "four threads", 4)?;
+    show_dialogue(rt, alloc)
+}
+
+/// Measures two threads that wait for each other's counts.
+fn show_dialogue<R: Threads + Wait + Clock + CpuClock + Print + Sync>(
+    rt: &R,
+    alloc: Global,
+) -> io::Result<()> {
     let (dialogue, _) = times_of(rt, alloc, (What::Dialogue, 2), (What::Lock, 1));
     show(
         rt,

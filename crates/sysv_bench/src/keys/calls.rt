@@ -48,12 +48,19 @@ fn time_of<R: Clock + CpuClock>(rt: &R, alloc: Global, key: i32, times: u64) -> 
 /// Prints the time of making, settling and forgetting a queue, and the ratio of ten times that
 /// number to it.
 pub(crate) fn measure<R: Clock + CpuClock + Print>(rt: &R, alloc: Global) -> io::Result<()> {
-    for (what, key) in [("a key", KEY), ("a private key", 0)] {
-        let once = time_of(rt, alloc, key, TIMES);
-        let often = time_of(rt, alloc, key, 10 * TIMES);
-        show(rt, what, "made, settled and forgotten", once, TIMES, "ns")?;
-        let how = "ten times as often";
-        show_ratio(rt, what, how, often, once, "times as long")?;
-    }
-    Ok(())
+    measure_key(rt, alloc, "a key", KEY)?;
+    measure_key(rt, alloc, "a private key", 0)
+}
+
+fn measure_key<R: Clock + CpuClock + Print>(
+    rt: &R,
+    alloc: Global,
+    what: &str,
+    key: i32,
+) -> io::Result<()> {
+    let once = time_of(rt, alloc, key, TIMES);
+    let often = time_of(rt, alloc, key, 10 * TIMES);
+    show(rt, what, "made, settled and forgotten", once, TIMES, "ns")?;
+    let how = "ten times as often";
+    show_ratio(rt, what, how, often, once, "times as long")
 }

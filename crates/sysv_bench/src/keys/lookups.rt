@@ -1,7 +1,7 @@
 //! Look-ups of a key among one key and among 64 keys.
 use crate::figures::{show, show_ratio};
 use crate::keys::calls::CREATING;
-use crate::watch::{Time, Watch};
+use crate::watch::{Time, Watch, nanos_if};
 use std::alloc::Global;
 use std::io;
 use std::time::{Clock, CpuClock};
@@ -28,14 +28,18 @@ fn fill(registry: &mut Registry, keys: i32) -> bool {
     true
 }
 
-/// Looks the keys up in turn. Returns `None` if one was not found.
+/// Gives each key a row and looks the keys up in turn. Returns `None` if a key got no row or was not
+/// found.
 fn look_up<R: Clock + CpuClock>(
     rt: &R,
     registry: &mut Registry,
     keys: i32,
     times: u64,
 ) -> Option<u64> {
-    let watch = Watch::start(rt, Time::Processor)?;
+    if !fill(registry, keys) {
+        return None;
+    }
+    let watch = Watch::start(rt, Time::Processor);
     let mut found: u64 = 0;
     let mut key: i32 = 0;
     for _ in 0..times {
@@ -51,11 +55,7 @@ fn look_up<R: Clock + CpuClock>(
             found = found.wrapping_add(1);
         }
     }
-    if found == times {
-        watch.nanos(rt)
-    } else {
-        None
-    }
+    nanos_if(rt, watch, found == times)
 }
 
 /// Returns the nanoseconds of `times` look-ups among `keys` keys.
@@ -68,21 +68,22 @@ pub(crate) fn time_among<R: Clock + CpuClock>(
     let Ok(mut registry) = Registry::open(alloc) else {
         return None;
     };
-    if !fill(&mut registry, keys) {
-        return None;
-    }
     look_up(rt, &mut registry, keys, times)
 }
 
 /// Prints what a look-up takes among one key and among all, and the ratio.
 pub(crate) fn measure<R: Clock + CpuClock + Print>(rt: &R, alloc: Global) -> io::Result<()> {
     for _ in 0..REPEATS {
-        let one = time_among(rt, alloc, 1, TIMES);
-        let all = time_among(rt, alloc, MOST, TIMES);
-        show(rt, "a look-up", "among 1 key", one, TIMES, "ns")?;
-        show(rt, "a look-up", "among 64 keys", all, TIMES, "ns")?;
-        let how = "among 64 keys beside 1";
-        show_ratio(rt, "a look-up", how, all, one, "times as long")?;
+        measure_in_turn(rt, alloc)?;
     }
     Ok(())
+}
+
+fn measure_in_turn<R: Clock + CpuClock + Print>(rt: &R, alloc: Global) -> io::Result<()> {
+    let one = time_among(rt, alloc, 1, TIMES);
+    let all = time_among(rt, alloc, MOST, TIMES);
+    show(rt, "a look-up", "among 1 key", one, TIMES, "ns")?;
+    show(rt, "a look-up", "among 64 keys", all, TIMES, "ns")?;
+    let how = "among 64 keys beside 1";
+    show_ratio(rt, "a look-up", how, all, one, "times as long")
 }

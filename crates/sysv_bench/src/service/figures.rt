@@ -1,4 +1,5 @@
 //! The figures.
+use crate::bodies::Bodies;
 use crate::figures::{show, show_ratio};
 use crate::service::pairs::Pairs;
 use crate::service::part::Part;
@@ -9,7 +10,6 @@ use std::io;
 use std::sync::Wait;
 use std::thread::Threads;
 use std::time::{Clock, CpuClock};
-use sysv_model::Body;
 
 /// How many pairs each thread makes.
 const PAIRS: u64 = 300_000;
@@ -19,35 +19,53 @@ const ROUNDS: u64 = 50_000;
 
 const BLOCKS: u32 = 1024;
 
-/// Returns a body of `size` bytes, at most 8,192.
-fn body_of(alloc: Global, size: u64) -> Option<Body> {
-    let mut body = Body::open(alloc).ok()?;
-    for _ in 0..size.min(8192) {
-        body.push_piece(b"x");
-    }
-    Some(body)
-}
-
 fn pairs_at(alloc: Global, id: i32, size: u64, times: u64) -> Option<Part<'static>> {
+    let bodies = Bodies::of_size(alloc, size)?;
     Some(Part::Pairs(Pairs {
         id,
         times,
-        text: body_of(alloc, size)?,
-        out: Body::open(alloc).ok()?,
+        bodies,
         done: 0,
     }))
 }
 
 fn player(alloc: Global, serves: bool, hears: i32, says: i32, times: u64) -> Option<Part<'static>> {
+    let bodies = Bodies::of_size(alloc, 64)?;
     Some(Part::Plays(Player {
         serves,
         hears,
         says,
         times,
-        text: body_of(alloc, 64)?,
-        out: Body::open(alloc).ok()?,
+        bodies,
         done: 0,
     }))
+}
+
+/// Adds a part, unless it is `None`. Returns `false` if it is, or if memory is refused.
+fn add<'a>(parts: &mut Vec<Part<'a>>, part: Option<Part<'a>>) -> bool {
+    match part {
+        Some(part) => parts.push(part).is_ok(),
+        None => false,
+    }
+}
+
+/// Returns a part for each thread, or `None` if memory is refused.
+fn all_pairs(alloc: Global, threads: i32, size: u64, times: u64) -> Option<Vec<Part<'static>>> {
+    let mut parts = Vec::new(alloc);
+    for id in 0..threads {
+        if !add(&mut parts, pairs_at(alloc, id, size, times)) {
+            return None;
+        }
+    }
+    Some(parts)
+}
+
+/// Returns both sides of a ping-pong, or `None` if memory is refused.
+fn both_players(alloc: Global, times: u64) -> Option<Vec<Part<'static>>> {
+    let mut parts = Vec::new(alloc);
+    let one = add(&mut parts, player(alloc, true, 1, 0, times));
+    let other = add(&mut parts, player(alloc, false, 0, 1, times));
+    if one && other { Some(parts) } else { None }
 }
 
 /// Returns how many pairs and rounds all of the parts finished.
@@ -73,10 +91,7 @@ pub(crate) fn time_of_pairs<R: Threads + Wait + Clock + CpuClock + Sync>(
     size: u64,
     times: u64,
 ) -> Option<u64> {
-    let mut parts = Vec::new(alloc);
-    for id in 0..threads {
-        parts.push(pairs_at(alloc, id, size, times)?).ok()?;
-    }
+    let parts = all_pairs(alloc, threads, size, times)?;
     let left = run(rt, alloc, BLOCKS, threads, parts)?;
     if done_in(&left.parts) / times.max(1) == u64::from(threads.unsigned_abs()) {
         left.nanos
@@ -91,9 +106,7 @@ fn time_of_rounds<R: Threads + Wait + Clock + CpuClock + Sync>(
     alloc: Global,
     times: u64,
 ) -> Option<u64> {
-    let mut parts = Vec::new(alloc);
-    parts.push(player(alloc, true, 1, 0, times)?).ok()?;
-    parts.push(player(alloc, false, 0, 1, times)?).ok()?;
+    let parts = both_players(alloc, times)?;
     let left = run(rt, alloc, BLOCKS, 2, parts)?;
     if done_in(&left.parts) / 2 == times {
         left.nanos
@@ -142,12 +155,22 @@ fn show_size<R: Threads + Wait + Clock + CpuClock + Print + Sync>(
     what: &str,
     size: u64,
 ) -> io::Result<()> {
-    for (threads, how) in [(1, "one thread"), (2, "two threads"), (4, "four threads")] {
-        let nanos = time_of_pairs(rt, alloc, threads, size, PAIRS);
-        let times = PAIRS.saturating_mul(u64::from(threads.unsigned_abs()));
-        show_rate(rt, what, how, times, nanos, "pairs a second")?;
-    }
-    Ok(())
+    show_threads(rt, alloc, what, size, "one thread", 1)?;
+    show_threads(rt, alloc, what, size, "two threads", 2)?;
+    show_threads(rt, alloc, what, size, "four threads", 4)
+}
+
+fn show_threads<R: Threads + Wait + Clock + CpuClock + Print + Sync>(
+    rt: &R,
+    alloc: Global,
+    what: &str,
+    size: u64,
+    how: &str,
+    threads: i32,
+) -> io::Result<()> {
+    let nanos = time_of_pairs(rt, alloc, threads, size, PAIRS);
+    let times = PAIRS.saturating_mul(u64::from(threads.unsigned_abs()));
+    show_rate(rt, what, how, times, nanos, "pairs a second")
 }
 
 /// Prints all of them.

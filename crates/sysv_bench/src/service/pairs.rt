@@ -1,6 +1,7 @@
 //! Pairs of a msgsnd and a msgrcv.
 ghost use Rattle.sysv_service.specs.Seats.{AreOf};
 
+use crate::bodies::Bodies;
 use crate::caller::{Still, USER};
 use bitflags::Flags as _;
 use std::sync::Wait;
@@ -13,8 +14,7 @@ use sysv_service::{Pass, Service};
 pub(crate) struct Pairs {
     pub(crate) id: i32,
     pub(crate) times: u64,
-    pub(crate) text: Body,
-    pub(crate) out: Body,
+    pub(crate) bodies: Bodies,
     /// How many pairs succeeded.
     pub(crate) done: u64,
 }
@@ -25,10 +25,10 @@ impl Pairs {
         ensures { AreOf service.now pass.new.seats }
     {
         for _ in 0..self.times {
-            if !send(rt, service, pass, self.id, &self.text) {
+            if !send(rt, service, pass, self.id, &self.bodies.text) {
                 return;
             }
-            if !receive(rt, service, pass, self.id, &mut self.out) {
+            if !receive(rt, service, pass, self.id, &mut self.bodies.out) {
                 return;
             }
             self.done = self.done.saturating_add(1);

@@ -1,9 +1,9 @@
 //! A ping-pong.
 ghost use Rattle.sysv_service.specs.Seats.{AreOf};
 
+use crate::bodies::Bodies;
 use crate::service::pairs::{receive, send};
 use std::sync::Wait;
-use sysv_model::Body;
 use sysv_service::{Pass, Service};
 
 /// One side of a ping-pong over two queues.
@@ -14,8 +14,7 @@ pub(crate) struct Player {
     pub(crate) hears: i32,
     pub(crate) says: i32,
     pub(crate) times: u64,
-    pub(crate) text: Body,
-    pub(crate) out: Body,
+    pub(crate) bodies: Bodies,
     /// How many rounds it finished.
     pub(crate) done: u64,
 }
@@ -26,15 +25,15 @@ impl Player {
         ensures { AreOf service.now pass.new.seats }
     {
         if self.serves {
-            send(rt, service, pass, self.says, &self.text);
+            send(rt, service, pass, self.says, &self.bodies.text);
         }
         for _ in 0..self.times {
-            if !receive(rt, service, pass, self.hears, &mut self.out) {
+            if !receive(rt, service, pass, self.hears, &mut self.bodies.out) {
                 return;
             }
             self.done = self.done.saturating_add(1);
             if !(self.serves && self.done == self.times) {
-                send(rt, service, pass, self.says, &self.text);
+                send(rt, service, pass, self.says, &self.bodies.text);
             }
         }
     }

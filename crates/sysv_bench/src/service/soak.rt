@@ -1,7 +1,8 @@
 //! Random calls of eight threads on twenty queues, with a count of the messages.
-ghost use Rattle.std.specs.Prelude.{◌≡◌, ◌<◌};
+ghost use Rattle.std.specs.Prelude.{◌≡◌, ◌<◌, ◌≤◌};
 ghost use Rattle.sysv_service.specs.Seats.{AreOf};
 
+use crate::bodies::Bodies;
 use crate::caller::{Still, USER};
 use crate::service::part::Part;
 use crate::service::tallies::Tallies;
@@ -12,7 +13,7 @@ use std::io;
 use std::sync::Wait;
 use std::thread::{Threads, sleep};
 use std::time::{Clock, CpuClock, Duration};
-use sysv_model::{Body, Cred, Flags, SetTo};
+use sysv_model::{Cred, Flags, SetTo};
 use sysv_queue::Tally;
 use sysv_service::{Pass, Service};
 
@@ -48,12 +49,12 @@ pub(crate) struct Soaker<'a> {
     next: u64,
     received: u64,
     removed: u64,
-    text: Body,
-    out: Body,
+    bodies: Bodies,
 }
 
 impl<'a> Soaker<'a> {
     fn open(alloc: Global, tallies: &'a Tallies, sender: u8) -> Option<Soaker<'a>> {
+        let bodies = Bodies::open(alloc)?;
         Some(Soaker {
             tallies,
             sender,
@@ -61,8 +62,7 @@ impl<'a> Soaker<'a> {
             next: 0,
             received: 0,
             removed: 0,
-            text: Body::open(alloc).ok()?,
-            out: Body::open(alloc).ok()?,
+            bodies,
         })
     }
 
@@ -109,6 +109,16 @@ impl<'a> Soaker<'a> {
         }
     }
 
+    /// Writes the next message, with `size` bytes of padding.
+    fn write(&mut self, size: usize)
+        requires { size ≤ 200 }
+    {
+        self.bodies.text.clear();
+        self.bodies.text.push_piece(&[self.sender]);
+        self.bodies.text.push_piece(&self.next.to_be_bytes());
+        self.bodies.text.push_piece(&PADDING[..size]);
+    }
+
     /// Sends a message with the number of its sender and a number of its own.
     fn send(
         &mut self,
@@ -124,15 +134,12 @@ impl<'a> Soaker<'a> {
     {
         let size = self.below(200) as usize;
         let mtype = 1 + self.below(3) as i64;
-        self.text.clear();
-        self.text.push_piece(&[self.sender]);
-        self.text.push_piece(&self.next.to_be_bytes());
-        self.text.push_piece(&PADDING[..size]);
+        self.write(size);
         let kept = key <= KEPT;
         if !self.tallies.begin_send(kept) {
             return;
         }
-        let text = &self.text;
+        let text = &self.bodies.text;
         let flags = flags_of(nowait);
         let sent = service.msgsnd(rt, pass, &Still, USER, id, mtype, text, flags);
         if sent.is_ok() {
@@ -163,7 +170,7 @@ impl<'a> Soaker<'a> {
             &Still,
             USER,
             id,
-            &mut self.out,
+            &mut self.bodies.out,
             8192,
             mtype,
             flags,
@@ -173,7 +180,7 @@ impl<'a> Soaker<'a> {
         };
         delivery.written(&mut Tally::open());
         self.received = self.received.saturating_add(1);
-        self.tallies.count(&self.out, key <= KEPT);
+        self.tallies.count(&self.bodies.out, key <= KEPT);
     }
 
     /// Sets a limit that each message fits in.
@@ -298,13 +305,42 @@ impl Keeper<'_> {
 fn all_of<'a>(alloc: Global, tallies: &'a Tallies, seconds: u64) -> Option<Vec<Part<'a>>> {
     let mut parts = Vec::new(alloc);
     for sender in 0..SOAKERS as u8 {
-        let soaker = Soaker::open(alloc, tallies, sender)?;
-        parts.push(Part::Soaks(soaker)).ok()?;
+        if !add_soaker(alloc, &mut parts, tallies, sender) {
+            return None;
+        }
     }
-    let soaker = Soaker::open(alloc, tallies, SOAKERS as u8)?;
+    if add_keeper(alloc, &mut parts, tallies, seconds) {
+        Some(parts)
+    } else {
+        None
+    }
+}
+
+/// Adds a thread that makes random calls. Returns `false` if memory is refused.
+fn add_soaker<'a>(
+    alloc: Global,
+    parts: &mut Vec<Part<'a>>,
+    tallies: &'a Tallies,
+    sender: u8,
+) -> bool {
+    match Soaker::open(alloc, tallies, sender) {
+        Some(soaker) => parts.push(Part::Soaks(soaker)).is_ok(),
+        None => false,
+    }
+}
+
+/// Adds the thread that ends the others. Returns `false` if memory is refused.
+fn add_keeper<'a>(
+    alloc: Global,
+    parts: &mut Vec<Part<'a>>,
+    tallies: &'a Tallies,
+    seconds: u64,
+) -> bool {
     let millis = seconds.saturating_mul(1000);
-    parts.push(Part::Keeps(Keeper { soaker, millis })).ok()?;
-    Some(parts)
+    match Soaker::open(alloc, tallies, SOAKERS as u8) {
+        Some(soaker) => parts.push(Part::Keeps(Keeper { soaker, millis })).is_ok(),
+        None => false,
+    }
 }
 
 /// How many messages were sent and received, and how many queues were removed.
@@ -341,14 +377,35 @@ pub(crate) fn soak<R: Threads + Wait + Clock + CpuClock + Print + Sync>(
     alloc: Global,
     seconds: u64,
 ) -> io::Result<()> {
-    let Some(tallies) = Tallies::open(alloc) else {
-        return println!(rt; "soak: no memory");
-    };
-    let Some(parts) = all_of(alloc, &tallies, seconds) else {
-        return println!(rt; "soak: no memory");
-    };
-    let Some(left) = run(rt, alloc, BLOCKS, KEYS, parts) else {
-        return println!(rt; "soak: no memory");
-    };
-    show_left(rt, &left, &tallies)
+    match Tallies::open(alloc) {
+        Some(tallies) => soak_with(rt, alloc, &tallies, seconds),
+        None => tell_refused(rt),
+    }
+}
+
+fn soak_with<R: Threads + Wait + Clock + CpuClock + Print + Sync>(
+    rt: &R,
+    alloc: Global,
+    tallies: &Tallies,
+    seconds: u64,
+) -> io::Result<()> {
+    match left_by(rt, alloc, tallies, seconds) {
+        Some(left) => show_left(rt, &left, tallies),
+        None => tell_refused(rt),
+    }
+}
+
+fn tell_refused(rt: &impl Print) -> io::Result<()> {
+    println!(rt; "soak: no memory")
+}
+
+/// Has the threads call, and returns what is left, or `None` if memory is refused.
+fn left_by<'a, R: Threads + Wait + Clock + CpuClock + Sync>(
+    rt: &R,
+    alloc: Global,
+    tallies: &'a Tallies,
+    seconds: u64,
+) -> Option<Left<'a>> {
+    let parts = all_of(alloc, tallies, seconds)?;
+    run(rt, alloc, BLOCKS, KEYS, parts)
 }

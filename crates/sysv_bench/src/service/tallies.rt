@@ -11,6 +11,17 @@ const NUMBERS: u64 = 1 << 24;
 /// The number of threads: eight, and the one that ends them.
 const SENDERS: u64 = 9;
 
+/// Returns the bits of all messages, none of which is set, or `None` if memory is refused.
+fn no_bits(alloc: Global) -> Option<Vec<AtomicU64>> {
+    let mut bits = Vec::new(alloc);
+    for _ in 0..SENDERS * NUMBERS / 64 {
+        if bits.push(AtomicU64::new(0)).is_err() {
+            return None;
+        }
+    }
+    Some(bits)
+}
+
 /// The counts.
 #[derive(Drop)]
 pub(crate) struct Tallies {
@@ -29,10 +40,7 @@ pub(crate) struct Tallies {
 
 impl Tallies {
     pub(crate) fn open(alloc: Global) -> Option<Tallies> {
-        let mut seen = Vec::new(alloc);
-        for _ in 0..SENDERS * NUMBERS / 64 {
-            seen.push(AtomicU64::new(0)).ok()?;
-        }
+        let seen = no_bits(alloc)?;
         Some(Tallies {
             over: AtomicBool::new(false),
             finished: AtomicU64::new(0),

@@ -40,24 +40,38 @@ pub(crate) fn run<'a, R: Threads + Wait + Clock + CpuClock + Sync>(
     queues: i32,
     parts: Vec<Part<'a>>,
 ) -> Option<Left<'a>> {
-    let room = parts.len();
-    let Ok(members) = Vec::with_capacity(alloc, room) else {
-        return None;
-    };
     let Ok((service, mut pass)) = Service::open(alloc, blocks) else {
-        members.destroy_empty();
         return None;
     };
     make_queues(rt, &service, &mut pass, queues);
-    let mut members = split_all(alloc, &service, &mut pass, parts, members);
-    let nanos = act_timed(rt, &service, &mut members);
-    let parts = join_all(alloc, &service, &mut pass, members);
+    let (parts, nanos) = act_together(rt, alloc, &service, &mut pass, parts);
     let closed = service.close(pass);
     Some(Left {
         parts: parts?,
         nanos,
         closed,
     })
+}
+
+/// Has each part act in a thread of its own, with a pass that is split from this one and joined to
+/// it again. Returns the parts, or `None` if memory is refused, and the nanoseconds.
+fn act_together<'a, R: Threads + Wait + Clock + CpuClock + Sync>(
+    rt: &R,
+    alloc: Global,
+    service: &Service,
+    pass: &mut Pass,
+    parts: Vec<Part<'a>>,
+) -> (Option<Vec<Part<'a>>>, Option<u64>)
+    requires { AreOf service.now pass.old.seats }
+    ensures { AreOf service.now pass.new.seats }
+{
+    let room = parts.len();
+    let Ok(members) = Vec::with_capacity(alloc, room) else {
+        return (None, None);
+    };
+    let mut members = split_all(alloc, service, pass, parts, members);
+    let nanos = act_timed(rt, service, &mut members);
+    (join_all(alloc, service, pass, members), nanos)
 }
 
 fn make_queues(rt: &impl Wait, service: &Service, pass: &mut Pass, queues: i32)

@@ -1,5 +1,5 @@
 //! Reading a send of 64 bytes and writing its reply, over memory.
-use crate::watch::{Time, Watch};
+use crate::watch::{Time, Watch, nanos_if};
 use std::alloc::Global;
 use std::io;
 use std::io::Write;
@@ -35,14 +35,20 @@ pub(crate) fn time_of_turns<R: Clock + CpuClock>(rt: &R, alloc: Global, times: u
     let mut frame = [b'x'; 86];
     frame[..22].copy_from_slice(&HEAD);
     let mut text = Body::open(alloc).ok()?;
+    let watch = Watch::start(rt, Time::Passed);
+    let done = take_turns(&frame, &mut text, times);
+    nanos_if(rt, watch, done)
+}
+
+/// Returns whether all turns succeeded.
+fn take_turns(frame: &[u8], text: &mut Body, times: u64) -> bool {
     let mut slate = Slate { bytes: [0; 128] };
-    let watch = Watch::start(rt, Time::Passed)?;
     for _ in 0..times {
-        if !turn(&frame, &mut text, &mut slate) {
-            return None;
+        if !turn(frame, text, &mut slate) {
+            return false;
         }
     }
-    watch.nanos(rt)
+    true
 }
 
 /// Reads the send and writes its reply. Returns whether both succeeded.
