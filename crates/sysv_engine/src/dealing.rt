@@ -10,14 +10,14 @@ use sysv_workers::Source;
 pub(crate) struct Share {
     /// The number of its places.
     places: u64,
-    /// The number of connections that it was told to take, and the one that it takes untold.
+    /// The number of connections that it was told to take.
     told: u64,
 }
 
 /// Returns the shares of this number of workers of this number of places. Returns `None` if memory
 /// is refused.
 pub(crate) fn shares(alloc: Global, workers: usize, places: usize) -> Option<Vec<Share>> {
-    let none = Share { places: 0, told: 1 };
+    let none = Share { places: 0, told: 0 };
     let mut shares = vec![in alloc; none; workers].ok()?;
     let mut left = places;
     for worker in (0..workers).rev() {
@@ -33,15 +33,13 @@ pub(crate) fn shares(alloc: Global, workers: usize, places: usize) -> Option<Vec
 
 /// A source that tells a worker about each connection that another source returns.
 ///
-/// A worker serves the clients that it has, and takes a connection only if it is told to. The first
-/// connections, one for each worker, need no telling: at first all workers wait for one. For each
-/// later connection the worker with the most vacant places is told, just before the connection is
-/// returned, so that the worker does not wait for it.
+/// A worker takes a connection only if it is told to, just before the connection is returned. The
+/// second of two clients goes to the worker of the first one: they often use the same queue, whose
+/// data then stay at one processor. Each other client goes to the worker with the most vacant
+/// places.
 pub(crate) struct Dealing<'s, 'c, S> {
     source: &'s mut S,
     server: &'c ServerState,
-    /// The number of connections that were returned, up to the number of workers.
-    dealt: usize,
     /// The shares of the workers.
     shares: Vec<Share>,
     /// The worker after the one that was told last.
@@ -61,7 +59,6 @@ impl<'s, 'c, S> Dealing<'s, 'c, S> {
         Dealing {
             source,
             server,
-            dealt: 0,
             shares,
             next: 0,
         }
@@ -75,23 +72,44 @@ impl<'s, 'c, S> Dealing<'s, 'c, S> {
         let Dealing {
             source,
             server: _,
-            dealt: _,
             shares: _,
             next: _,
         } = self;
         source
     }
 
-    /// Tells the worker with the most vacant places to take one more connection.
+    /// Tells a worker to take one more connection.
     fn tell(&mut self)
         ensures { self.new.source ≡ self.old.source }
     {
-        let worker = self.emptiest();
+        let worker = self.only_one().unwrap_or(self.emptiest());
         self.next = self.after(worker);
         if let Some(share) = self.shares.get_mut(worker) {
             share.told = share.told.saturating_add(1);
         }
         self.server.call(worker);
+    }
+
+    /// Returns the worker of the only client, if there is exactly one and its worker has a vacant
+    /// place.
+    fn only_one(&self) -> Option<usize> {
+        let mut found = None;
+        for worker in 0..self.shares.len() {
+            match self.clients(worker) {
+                0 => {}
+                1 if found.is_none() && self.vacant(worker) > 0 => found = Some(worker),
+                _ => return None,
+            }
+        }
+        found
+    }
+
+    /// Returns the number of clients that a worker has or was told to take.
+    fn clients(&self, worker: usize) -> u64 {
+        match self.shares.get(worker) {
+            Some(share) => share.told.saturating_sub(self.server.closed(worker)),
+            None => 0,
+        }
     }
 
     /// Returns the worker with the most vacant places. Of several it returns the first one, and
@@ -114,11 +132,10 @@ impl<'s, 'c, S> Dealing<'s, 'c, S> {
     /// Returns the number of a worker's places that have no client, and for which it was told to
     /// take none.
     fn vacant(&self, worker: usize) -> u64 {
-        let Some(share) = self.shares.get(worker) else {
-            return 0;
-        };
-        let clients = share.told.saturating_sub(self.server.closed(worker));
-        share.places.saturating_sub(clients)
+        match self.shares.get(worker) {
+            Some(share) => share.places.saturating_sub(self.clients(worker)),
+            None => 0,
+        }
     }
 
     /// Returns the worker after this one, or the first worker after the last one.
@@ -137,11 +154,7 @@ impl<T, S: Source<T>> Source<T> for Dealing<'_, '_, S> {
             self.server.finish();
             return None;
         };
-        if self.dealt < self.shares.len() {
-            self.dealt += 1;
-        } else {
-            self.tell();
-        }
+        self.tell();
         self.server.deal();
         Some(connection)
     }

@@ -37,6 +37,14 @@ impl<'a, 'c, R: Wait, T: NonBlocking + Drop, W: Watch<T>> Job<Worker<'a, R, T, W
     ghost runs = { λ job old connection new. AdoptsAt T.incoming T.outgoing T.closes
         job.service.now connection old.places.items new.places.items };
 
+    fn await_first(&self, worker: &Worker<'a, R, T, W>) {
+        self.server.await_call(self.rt, worker.number);
+    }
+
+    fn call_off(&self) {
+        self.server.finish();
+    }
+
     fn run(&self, worker: &mut Worker<'a, R, T, W>, connection: T) {
         self.server.take();
         let place = self.make_room(worker);

@@ -312,6 +312,19 @@ impl ServerState {
         }
     }
 
+    /// Waits until a worker is told to take its first connection, or no more connections come.
+    pub(crate) fn await_call(&self, rt: &impl Wait, worker: usize) {
+        let Some(post) = self.posts.get(worker) else {
+            return;
+        };
+        for _ in rt.forever() {
+            if post.coming.load(Ordering::SeqCst) > 0 || self.is_finished() {
+                return;
+            }
+            post.sleep();
+        }
+    }
+
     /// Counts a connection that is returned to the workers.
     pub(crate) fn deal(&self) {
         self.dealt.fetch_add(1, Ordering::SeqCst);
@@ -449,6 +462,15 @@ impl Post {
     fn wake_up(&self) -> bool {
         self.asleep.store(false, Ordering::SeqCst);
         self.rung.swap(false, Ordering::SeqCst)
+    }
+
+    /// Waits until something comes for the worker, unless something has come since it looked.
+    fn sleep(&self) {
+        if self.fall_asleep() {
+            await_doorbell(self.doorbell.fd(), None);
+            self.doorbell.hush();
+        }
+        self.wake_up();
     }
 
     /// Returns whether envelopes were lost since the last call.

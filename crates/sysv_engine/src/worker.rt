@@ -38,7 +38,7 @@ pub(crate) struct Worker<'a, R: Wait, T: NonBlocking, W> {
     /// What calls may have changed, and was not looked at yet.
     pub(crate) envelopes: VecDeque<Envelope>,
     pub(crate) tools: Tools,
-    /// The number of connections for which the worker has left its clients.
+    /// The number of connections that the worker was told to take, and has taken or goes to take.
     pub(crate) answered: u64,
     /// When to look for clients whose time is over.
     pub(crate) check: Option<Moment>,
@@ -129,7 +129,7 @@ impl<'a, R: Wait, T: NonBlocking, W: Watch<T>> Worker<'a, R, T, W> {
             turns,
             envelopes,
             tools,
-            answered: 0,
+            answered: 1,
             check: None,
             rooms: 0,
             messages: 0,

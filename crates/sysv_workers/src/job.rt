@@ -8,6 +8,12 @@ pub trait Job<W, T> {
     /// The states to which a run over an item may lead from a state.
     ghost runs: { Self → W → T → W → Type 0 };
 
+    /// Waits before a worker with this state takes its first item. By default it returns at once.
+    fn await_first(&self, _state: &W) {}
+
+    /// Ends such waits. It is called if a thread cannot be started: then no items come.
+    fn call_off(&self) {}
+
     /// Runs the job over one item and changes the state accordingly. A job whose type has the
     /// handle for it may wait here.
     ///

@@ -93,6 +93,7 @@ pub(crate) fn start<
         Ok(handle) => Ok(handle),
         Err(refused) => {
             let _put = put_marks(rt, buffer, seat, started + 1);
+            job.call_off();
             Err((refused.value)())
         }
     }

@@ -55,6 +55,7 @@ pub(crate) fn work<W, T: Drop, J: Job<W, T>, R: Wait>(
     ensures { Did (J.runs job.now) (J.fits job.now) buffer.now state result.ended
         (manually_drop_value result.state) result.seat result.ran }
 {
+    job.await_first(&state);
     let mut ran = 0_u64;
     for _ in rt.forever() {
         match buffer.take(rt, &mut seat) {

@@ -9,6 +9,7 @@ use std::sync::Wait;
 use std::thread::Threads;
 use sysv_workers::{Job, Source, WorkersFault, WorkersRefused, run_workers};
 
+mod first;
 mod growths;
 mod marks;
 mod refused;
