@@ -1,6 +1,6 @@
 -- A session of several messages in progress, and how it ends.
 use Rattle.std.proofs.Common.{◌≡◌, ℕ, zero, suc, pos, ◌+◌, ◌-◌, ◌<◌, ◌≤◌, List, [], ◌∷◌, ◌++◌, Option, None}
-use Rattle.std.proofs.Common.{Some}
+use Rattle.std.proofs.Common.{Bool, Some, false}
 use Rattle.std.proofs.Common.{Ok, Err, ◌⊎◌, inl, inr, refl, sym, ap, subst, ◌∙◌, append_assoc, append-nil, arith}
 use Rattle.std.proofs.lemmas.List.{length-append}
 use Rattle.std.proofs.lemmas.List.Concat.{flat_map-append}
@@ -23,6 +23,8 @@ use Rattle.sysv_clients.specs.Dialogue.{Exchanges, HasNoReply, IsDone, id_after,
 use Rattle.sysv_clients.proofs.CallLemmas.{call_of, done_more, none_made, written_more}
 use Rattle.sysv_clients.proofs.SendLemmas.{between, between_first, between_second, each_more, read_so}
 use Rattle.sysv_model.specs.declared.errno.Errno.{Errno}
+use Rattle.sysv_model.specs.declared.instrumented.Instrumented.{Instrumented}
+use Rattle.sysv_model.specs.Instrumented.{KeepsStream, failures_after}
 use Rattle.sysv_model.specs.Writing.{AppendsPrefix}
 use Rattle.sysv_wire.specs.declared.reply.ReplyContent.{ReplyContent}
 use Rattle.sysv_wire.specs.declared.reply.ReplyContent.TheVariants as content
@@ -30,6 +32,14 @@ use Rattle.sysv_wire.specs.declared.request.Ask.{Ask}
 use Rattle.sysv_wire.specs.declared.request.Ask.TheVariants.{Hello}
 use Rattle.sysv_wire.specs.Replies.{reply_encoding}
 use Rattle.sysv_wire.specs.Requests.{request_encoding}
+
+-- A stream that had not failed is the same stream after a further call.
+pub keeps_on : {S : Type 0} {before mid after : Instrumented S} {fails : Bool} → KeepsStream before mid false
+    → KeepsStream mid after fails → KeepsStream before after fails
+keeps_on {fails} first next = record {
+  same = next.same ∙ first.same;
+  failed = next.failed ∙ ap (λ (n : ℕ). failures_after fails n) first.failed;
+}
 
 -- A request that is this one.
 as_ask : (ask of : Ask) (text given : List ℕ) (r : _) (left rest taken more : Option (List ℕ)) → ask ≡ of

@@ -24,7 +24,7 @@ pub struct Refusal {
 }
 
 /// Where an `ipcrm` of all queues is.
-#[derive(Clone, Copy, PartialEq, Eq, Debug)]
+#[derive(Clone, Copy)]
 struct Clearing {
     /// The number of slots.
     slots: u32,

@@ -21,7 +21,7 @@ use sysv_model::{Body, MESSAGE_BYTES, NoMemory};
 const LF: u8 = 10;
 
 /// What was read of an input.
-#[derive(Clone, Copy, PartialEq, Eq, Debug)]
+#[derive(Clone, Copy)]
 pub(crate) enum Fetched {
     /// A line that ended with an LF.
     Line,

@@ -1,9 +1,9 @@
 -- One worker more has a place for each of the last books, as many as its kit has room for. At the end
 -- the workers are in the order of the kits.
-use Rattle.std.proofs.Common.{◌≡◌, ◌∙◌, ◌≤◌, List, [], ◌++◌, map, reverse, ap, append_assoc, arith, subst, sym}
-use Rattle.std.proofs.Common.{vec_capacity, vec_len}
+use Rattle.std.proofs.Common.{◌≡◌, ◌∙◌, ◌≤◌, ℕ, List, [], ◌++◌, map, reverse, ap, append-nil, append_assoc, arith}
+use Rattle.std.proofs.Common.{length, refl, subst, sym, vec_capacity, vec_len}
 use Rattle.std.proofs.lemmas.List.{map-append}
-use Rattle.std.proofs.lemmas.List.Elements.{All-append, All-push}
+use Rattle.std.proofs.lemmas.List.Elements.{All-append, All-nil, All-push}
 use Rattle.std.proofs.lemmas.List.Sums.{sum_by_push}
 use Rattle.std.specs.List.{All, FoldsTo, flat_map, sum_by}
 use Rattle.sysv_service.specs.Ran.{Pass}
@@ -14,7 +14,50 @@ use Rattle.sysv_engine.specs.Places.{IsOpened, Seated}
 use Rattle.sysv_engine.proofs.Reversed.{all_reverse}
 use Rattle.sysv_engine.proofs.SharedOut.{fewer, given_before, one_before}
 use Rattle.sysv_engine.proofs.Shifts.{but_last, the_last}
+use Rattle.sysv_engine.proofs.SumsOfSessions.{emptied}
 use Rattle.sysv_engine.proofs.staff.staff.Goals as goal
+
+-- Once no kits are left, no books are.
+none_left : {K B : Type 0} (room : K → ℕ) (kits : List K) (books : List B) → length kits ≡ 0 →
+    sum_by room kits ≡ length books → books ≡ []
+none_left room kits books none same =
+    let empty = ap (sum_by room) (emptied kits none) in
+    emptied books (omega arith)
+
+pub loop-kit-init : goal.loop-kit-init
+loop-kit-init g c =
+    let W : Type 0 = Worker g.row.R.Denot g.row.T.Denot g.row.W.Denot g.row.T-Book.Denot in
+    let S : Type 0 = Seated g.row.T-Book.Denot g.row.T.Denot in
+    let Q : W → Type 0 = λ w. 1 ≤ vec_len w.places in
+    let O : S → Type 0 = IsOpened c.args.service.now in
+    let places : W → List S = λ w. w.places.items in
+    let of : S → Pass = λ p. p.pass in
+    let book : S → g.row.T-Book.Denot = λ p. p.book in
+    let none = c.requires.none in
+    let no_places = ap (λ l. flat_map places (reverse l)) none in
+    record {
+      count = let len = ap length none in let ok = c.args.workers.now.ok in omega arith;
+      room = c.requires.room;
+      enough = c.requires.shares;
+      kits = c.requires.each;
+      each = subst (All Q) (sym none) (All-nil Q);
+      pass = c.requires.pass;
+      places = subst (All O) (sym no_places) (All-nil O);
+      gives = subst (λ l. FoldsTo Gives c.args.pass.now (reverse (map of l)) c.args.pass.now) (sym no_places) refl;
+      books = sym
+          (ap (λ l. c.args.books.now.items ++ map book l) no_places ∙ append-nil c.args.books.now.items);
+      same = refl;
+    }
+
+pub hire-requires-clause-pass : goal.hire-requires-clause-pass
+hire-requires-clause-pass g c = c.loop-kit.invariant.pass
+
+pub hire-requires-clause-none : goal.hire-requires-clause-none
+hire-requires-clause-none g c =
+    let K : Type 0 = Kit g.row.R.Denot g.row.T.Denot g.row.W.Denot g.row.T-Book.Denot in
+    let P : K → Type 0 = λ k. (k.places.items ≡ []) × (1 ≤ vec_capacity k.places) in
+    (the_last P c.pop.new.self.items c.loop-kit.kits.items c.in-Some.kit c.in-Some.ensures.items
+    c.loop-kit.invariant.kits).0
 
 pub loop-kit-preserved : goal.loop-kit-preserved
 loop-kit-preserved g c =
@@ -69,3 +112,51 @@ returns-clause-each g c =
     let W : Type 0 = Worker g.row.R.Denot g.row.T.Denot g.row.W.Denot g.row.T-Book.Denot in
     let Q : W → Type 0 = λ w. 1 ≤ vec_len w.places in
     subst (All Q) (sym c.reverse.ensures.items) (all_reverse Q c.loop-kit.workers.items c.loop-kit.invariant.each)
+
+pub returns-clause-pass : goal.returns-clause-pass
+returns-clause-pass g c = c.loop-kit.invariant.pass
+
+pub returns-clause-places : goal.returns-clause-places
+returns-clause-places g c =
+    let W : Type 0 = Worker g.row.R.Denot g.row.T.Denot g.row.W.Denot g.row.T-Book.Denot in
+    let S : Type 0 = Seated g.row.T-Book.Denot g.row.T.Denot in
+    let places : W → List S = λ w. w.places.items in
+    let O : S → Type 0 = IsOpened c.args.service.now in
+    subst (λ l. All O (flat_map places l)) (sym c.reverse.ensures.items) c.loop-kit.invariant.places
+
+pub returns-clause-gives : goal.returns-clause-gives
+returns-clause-gives g c =
+    let W : Type 0 = Worker g.row.R.Denot g.row.T.Denot g.row.W.Denot g.row.T-Book.Denot in
+    let S : Type 0 = Seated g.row.T-Book.Denot g.row.T.Denot in
+    let places : W → List S = λ w. w.places.items in
+    let of : S → Pass = λ p. p.pass in
+    subst (λ l. FoldsTo Gives c.args.pass.now (reverse (map of (flat_map places l))) c.loop-kit.pass)
+    (sym c.reverse.ensures.items) c.loop-kit.invariant.gives
+
+pub returns-clause-books : goal.returns-clause-books
+returns-clause-books g c =
+    let K : Type 0 = Kit g.row.R.Denot g.row.T.Denot g.row.W.Denot g.row.T-Book.Denot in
+    let W : Type 0 = Worker g.row.R.Denot g.row.T.Denot g.row.W.Denot g.row.T-Book.Denot in
+    let S : Type 0 = Seated g.row.T-Book.Denot g.row.T.Denot in
+    let places : W → List S = λ w. w.places.items in
+    let book : S → g.row.T-Book.Denot = λ p. p.book in
+    let empty = c.in_default.ensures.cases.0 in
+    let kits = c.loop-kit.kits.ok in
+    let books = c.loop-kit.books.ok in
+    let enough = c.loop-kit.invariant.enough in
+    let none = none_left (λ (k : K). vec_capacity k.places) c.loop-kit.kits.items c.loop-kit.books.items (omega arith)
+    (omega arith) in
+    c.loop-kit.invariant.books
+    ∙ (ap (λ l. l ++ map book (flat_map places (reverse c.loop-kit.workers.items))) none
+    ∙ ap (λ l. map book (flat_map places l)) (sym c.reverse.ensures.items))
+
+pub returns-clause-taken : goal.returns-clause-taken
+returns-clause-taken g c =
+    let K : Type 0 = Kit g.row.R.Denot g.row.T.Denot g.row.W.Denot g.row.T-Book.Denot in
+    let empty = c.in_default.ensures.cases.0 in
+    let kits = c.loop-kit.kits.ok in
+    let books = c.loop-kit.books.ok in
+    let enough = c.loop-kit.invariant.enough in
+    let none = none_left (λ (k : K). vec_capacity k.places) c.loop-kit.kits.items c.loop-kit.books.items (omega arith)
+    (omega arith) in
+    (none, c.loop-kit.invariant.same)

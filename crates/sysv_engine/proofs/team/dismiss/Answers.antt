@@ -1,5 +1,6 @@
 -- The last place's pass is one of the service, its sums are added, and its book is put back.
-use Rattle.std.proofs.Common.{◌≡◌, ◌∙◌, ℕ, ◌+◌, ◌∷◌, [], ◌++◌, map, reverse, ap, arith, length, refl, sym, subst, None}
+use Rattle.std.proofs.Common.{◌≡◌, ◌∙◌, ℕ, ◌+◌, ◌∷◌, [], ◌++◌, map, reverse, ap, append-nil, arith, length, refl, sym}
+use Rattle.std.proofs.Common.{subst, None}
 use Rattle.std.proofs.lemmas.List.{map-append, reverse-append}
 use Rattle.std.proofs.lemmas.List.Sums.{sum_by_push}
 use Rattle.std.specs.List.{FoldsTo, sum_by}
@@ -71,6 +72,20 @@ loop-place-preserved g c =
           let same = c.push_reserved.ensures.capacity in let less = c.in-Some.ensures.cases in
           omega arith;
     }
+
+pub returns-clause-pass : goal.returns-clause-pass
+returns-clause-pass g c = c.loop-place.invariant.pass
+
+pub returns-clause-books : goal.returns-clause-books
+returns-clause-books g c =
+    let book : Seated g.row.T-Book.Denot g.row.T.Denot → g.row.T-Book.Denot = λ p. p.book in
+    let books = c.loop-place.books.items in
+    let len = c.in_default.ensures.cases.0 in
+    let ok = c.loop-place.places.ok in
+    let none : length c.loop-place.places.items ≡ 0 = omega arith in
+    sym (append-nil books)
+    ∙ (ap (λ ps. books ++ reverse (map book ps)) (sym (emptied c.loop-place.places.items none))
+    ∙ c.loop-place.invariant.books)
 
 pub returns-clause-refused : goal.returns-clause-refused
 returns-clause-refused g c =

@@ -10,6 +10,12 @@ returns-in_err-welcome-clause-clears g c =
     (no_hello c.args.cred c.in_err-welcome.field-0.0 c.exchange.new.given c.args.self.now.text _ _ _ _
     c.args.refusals.now.items c.requires c.in_err-welcome.ensures.exchanges)
 
+pub returns-in_err-welcome-clause-same_reader : goal.returns-in_err-welcome-clause-same_reader
+returns-in_err-welcome-clause-same_reader g c = c.exchange.ensures.same_reader
+
+pub returns-in_err-welcome-clause-same_writer : goal.returns-in_err-welcome-clause-same_writer
+returns-in_err-welcome-clause-same_writer g c = c.exchange.ensures.same_writer
+
 pub loop-ask-init : goal.loop-ask-init
 loop-ask-init g c = record {
   clears = rw c.begun-clearing.ensures
@@ -29,6 +35,14 @@ returns-in_err-answer-clause-clears g c =
     c.tried.new.refusals.items c.loop-ask.clearing c.loop-ask.invariant.clears c.in-Some.ensures.ask
     c.loop-ask.invariant.text c.exchange-outcome.ensures.exchanges c.in_err-answer.ensures)
 
+pub returns-in_err-answer-clause-same_reader : goal.returns-in_err-answer-clause-same_reader
+returns-in_err-answer-clause-same_reader g c =
+    c.exchange-outcome.ensures.same_reader ∙ c.loop-ask.invariant.same_reader
+
+pub returns-in_err-answer-clause-same_writer : goal.returns-in_err-answer-clause-same_writer
+returns-in_err-answer-clause-same_writer g c =
+    c.exchange-outcome.ensures.same_writer ∙ c.loop-ask.invariant.same_writer
+
 pub loop-ask-preserved : goal.loop-ask-preserved
 loop-ask-preserved g c = record {
   clears = rw c.moved-clearing.ensures
@@ -45,3 +59,9 @@ pub returns-clause-clears : goal.returns-clause-clears
 returns-clause-clears g c =
     finishes c.args.cred _ _ _ _ _ c.args.refusals.now.items c.loop-ask.refusals.items c.loop-ask.clearing
     c.loop-ask.invariant.clears c.in_default.ensures.ask
+
+pub returns-clause-same_reader : goal.returns-clause-same_reader
+returns-clause-same_reader g c = c.loop-ask.invariant.same_reader
+
+pub returns-clause-same_writer : goal.returns-clause-same_writer
+returns-clause-same_writer g c = c.loop-ask.invariant.same_writer

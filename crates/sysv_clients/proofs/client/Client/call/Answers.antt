@@ -58,6 +58,12 @@ returns-in_err-answer-clause-converses g c =
     c.loop-ask.self.page c.loop-ask.self.page c.loop-ask.self.text c.loop-ask.place _ _
     c.loop-ask.invariant.conversing c.in-Some.ensures.ask c.loop-ask.invariant.text c.in_err-answer.ensures.exchanges)
 
+pub returns-in_err-answer-clause-same_reader : goal.returns-in_err-answer-clause-same_reader
+returns-in_err-answer-clause-same_reader g c = c.exchange.ensures.same_reader ∙ c.loop-ask.invariant.same_reader
+
+pub returns-in_err-answer-clause-same_writer : goal.returns-in_err-answer-clause-same_writer
+returns-in_err-answer-clause-same_writer g c = c.exchange.ensures.same_writer ∙ c.loop-ask.invariant.same_writer
+
 pub returns-in_err-tell-clause-converses : goal.returns-in_err-tell-clause-converses
 returns-in_err-tell-clause-converses g c =
     let p = err_from_is_err_and c.from_residual-in_err-tell.result c.from_residual-in_err-tell.ensures.1 in
@@ -67,6 +73,18 @@ returns-in_err-tell-clause-converses g c =
     c.loop-ask.invariant.conversing c.in-Some.ensures.ask c.loop-ask.invariant.text c.in_ok-answer.ensures.exchanges
     (subst (λ (s : Style). grows s c.in_ok-answer.answer ≡ true) c.of-style.ensures c.in_err-tell.ensures.row))
 
+pub returns-in_err-tell-clause-same_reader : goal.returns-in_err-tell-clause-same_reader
+returns-in_err-tell-clause-same_reader g c = c.exchange.ensures.same_reader ∙ c.loop-ask.invariant.same_reader
+
+pub returns-in_err-tell-clause-same_writer : goal.returns-in_err-tell-clause-same_writer
+returns-in_err-tell-clause-same_writer g c = c.exchange.ensures.same_writer ∙ c.loop-ask.invariant.same_writer
+
+pub returns-in_err-tell-clause-failed : goal.returns-in_err-tell-clause-failed
+returns-in_err-tell-clause-failed g c =
+    let p = err_from_is_err_and c.from_residual-in_err-tell.result c.from_residual-in_err-tell.ensures.1 in
+    let f = c.in_ok-answer.ensures.failed in
+    rw (p.1, p.2) (f.0 ∙ c.loop-ask.invariant.reader_failed, f.1 ∙ c.loop-ask.invariant.writer_failed)
+
 pub returns-in_err-answer-clause-failed : goal.returns-in_err-answer-clause-failed
 returns-in_err-answer-clause-failed g c =
     let p = err_from_is_err_and c.from_residual.result c.from_residual.ensures.1 in
@@ -75,3 +93,12 @@ returns-in_err-answer-clause-failed g c =
     c.loop-ask.place _ _
     c.loop-ask.invariant.conversing c.in-Some.ensures.ask c.loop-ask.invariant.reader_failed
     c.loop-ask.invariant.writer_failed c.in_err-answer.ensures.failed)
+
+pub returns-clause-same_reader : goal.returns-clause-same_reader
+returns-clause-same_reader g c = c.loop-ask.invariant.same_reader
+
+pub returns-clause-same_writer : goal.returns-clause-same_writer
+returns-clause-same_writer g c = c.loop-ask.invariant.same_writer
+
+pub returns-clause-failed : goal.returns-clause-failed
+returns-clause-failed g c = (c.loop-ask.invariant.reader_failed, c.loop-ask.invariant.writer_failed)

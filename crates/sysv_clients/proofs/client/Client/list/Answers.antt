@@ -30,6 +30,12 @@ returns-in_err-welcome-clause-failed g c =
     (blamed command c.in_err-welcome.field-0.0 (Hello command.cred) _ _ _ _ _ _ _ _ _ taken taken page 0 0 (pos 0)
     (begins command _ taken page c.requires.page) refl refl refl c.in_err-welcome.ensures.failed)
 
+pub returns-in_err-welcome-clause-same_reader : goal.returns-in_err-welcome-clause-same_reader
+returns-in_err-welcome-clause-same_reader g c = c.exchange.ensures.same_reader
+
+pub returns-in_err-welcome-clause-same_writer : goal.returns-in_err-welcome-clause-same_writer
+returns-in_err-welcome-clause-same_writer g c = c.exchange.ensures.same_writer
+
 pub loop-slot-init : goal.loop-slot-init
 loop-slot-init g c =
     let command = c.args.command.now in
@@ -64,6 +70,12 @@ returns-in-Err-clause-failed g c =
     c.loop-slot.invariant.reader_failed c.loop-slot.invariant.writer_failed
     (inl (c.in-Err.ensures.stream.failed, refl, refl))
 
+pub returns-in-Err-clause-same_reader : goal.returns-in-Err-clause-same_reader
+returns-in-Err-clause-same_reader g c = c.loop-slot.invariant.same_reader
+
+pub returns-in-Err-clause-same_writer : goal.returns-in-Err-clause-same_writer
+returns-in-Err-clause-same_writer g c = c.in-Err.ensures.stream.same ∙ c.loop-slot.invariant.same_writer
+
 pub returns-in_err-answer-clause-converses : goal.returns-in_err-answer-clause-converses
 returns-in_err-answer-clause-converses g c =
     let command = c.args.command.now in
@@ -87,6 +99,12 @@ returns-in_err-answer-clause-failed g c =
     c.loop-slot.invariant.reader_failed (c.in-Ok.ensures.stream.failed ∙ c.loop-slot.invariant.writer_failed)
     (heard_exchanged (Row c.loop-slot.slot) c.in_err-answer.field-0.0 _ _ _ _ _ c.in_err-answer.ensures.failed))
 
+pub returns-in_err-answer-clause-same_reader : goal.returns-in_err-answer-clause-same_reader
+returns-in_err-answer-clause-same_reader g c = c.hear.ensures.same ∙ c.loop-slot.invariant.same_reader
+
+pub returns-in_err-answer-clause-same_writer : goal.returns-in_err-answer-clause-same_writer
+returns-in_err-answer-clause-same_writer g c = c.in-Ok.ensures.stream.same ∙ c.loop-slot.invariant.same_writer
+
 pub tell-requires-clause-room : goal.tell-requires-clause-room
 tell-requires-clause-room g c =
     has_room (c.loop-slot.slot + 1) (Row c.loop-slot.slot) c.in_ok-answer.answer c.hear.new.given
@@ -106,6 +124,20 @@ returns-in_err-tell-clause-converses g c =
     c.in-Ok.sent _ c.requires.list r.0 (omega (arith, r.1, c.min-rows.ensures)) r.2 listing
     c.in_ok-answer.ensures.hears
     (subst (λ (s : Style). grows s c.in_ok-answer.answer ≡ true) c.of-style.ensures c.in_err-tell.ensures.row))
+
+pub returns-in_err-tell-clause-same_reader : goal.returns-in_err-tell-clause-same_reader
+returns-in_err-tell-clause-same_reader g c = c.hear.ensures.same ∙ c.loop-slot.invariant.same_reader
+
+pub returns-in_err-tell-clause-same_writer : goal.returns-in_err-tell-clause-same_writer
+returns-in_err-tell-clause-same_writer g c = c.in-Ok.ensures.stream.same ∙ c.loop-slot.invariant.same_writer
+
+pub returns-in_err-tell-clause-failed : goal.returns-in_err-tell-clause-failed
+returns-in_err-tell-clause-failed g c =
+    let p = err_from_is_err_and c.from_residual-in_err-tell.result c.from_residual-in_err-tell.ensures.1 in
+    rw (p.1, p.2) (
+      c.in_ok-answer.ensures.failed ∙ c.loop-slot.invariant.reader_failed,
+      c.in-Ok.ensures.stream.failed ∙ c.loop-slot.invariant.writer_failed,
+    )
 
 pub loop-slot-preserved : goal.loop-slot-preserved
 loop-slot-preserved g c =
@@ -134,3 +166,12 @@ pub returns-clause-converses : goal.returns-clause-converses
 returns-clause-converses g c =
     lists_all c.args.command.now _ _ _ _ c.loop-slot.self.page c.loop-slot.slot c.loop-slot.sent _ _ c.requires.list
     (omega (arith, c.loop-slot.invariant.bound)) (omega (arith, c.min-rows.ensures)) c.loop-slot.invariant.listing
+
+pub returns-clause-same_reader : goal.returns-clause-same_reader
+returns-clause-same_reader g c = c.loop-slot.invariant.same_reader
+
+pub returns-clause-same_writer : goal.returns-clause-same_writer
+returns-clause-same_writer g c = c.loop-slot.invariant.same_writer
+
+pub returns-clause-failed : goal.returns-clause-failed
+returns-clause-failed g c = (c.loop-slot.invariant.reader_failed, c.loop-slot.invariant.writer_failed)

@@ -1,7 +1,7 @@
 use Rattle.std.proofs.Common.{[], ◌∙◌, arith, refl, sym}
 use Rattle.std.proofs.lemmas.Result.{err_from_is_err_and}
 use Rattle.sysv_clients.proofs.SendLemmas.{begins, begins_there, ends_unread, is_next, none_after, none_left, not_ahead}
-use Rattle.sysv_clients.proofs.SendLemmas.{has_space, same_ahead, unopened}
+use Rattle.sysv_clients.proofs.SendLemmas.{fails_so, has_space, same_ahead, unopened}
 use Rattle.sysv_clients.proofs.sending.Sender.send_all.Goals as goal
 
 pub returns-in_err-window-clause-sends : goal.returns-in_err-window-clause-sends
@@ -12,6 +12,19 @@ returns-in_err-window-clause-sends g c =
       not_ahead c.args.sending.now _ [] _ _ _ _ _ _ refl
           (unopened c.args.sending.now c.in_err-window.field-0.0 _ _ _ _ _ c.in_err-window.ensures.opens),
     )
+
+pub returns-in_err-window-clause-failed : goal.returns-in_err-window-clause-failed
+returns-in_err-window-clause-failed g c =
+    let p = err_from_is_err_and c.from_residual.result c.from_residual.ensures.1 in rw (p.1, p.2) tt
+
+pub returns-in_err-window-clause-same_input : goal.returns-in_err-window-clause-same_input
+returns-in_err-window-clause-same_input g c = refl
+
+pub returns-in_err-window-clause-same_reader : goal.returns-in_err-window-clause-same_reader
+returns-in_err-window-clause-same_reader g c = c.find.ensures.same_reader
+
+pub returns-in_err-window-clause-same_writer : goal.returns-in_err-window-clause-same_writer
+returns-in_err-window-clause-same_writer g c = c.find.ensures.same_writer
 
 pub loop-lines-init : goal.loop-lines-init
 loop-lines-init g c =
@@ -35,6 +48,15 @@ returns-in-Err-clause-sends g c = (
       c.in-Err.ensures.fetches),
 )
 
+pub returns-in-Err-clause-same_input : goal.returns-in-Err-clause-same_input
+returns-in-Err-clause-same_input g c = c.fetch.ensures.same ∙ c.loop-lines.invariant.same_input
+
+pub returns-in-Err-clause-same_reader : goal.returns-in-Err-clause-same_reader
+returns-in-Err-clause-same_reader g c = c.finish.ensures.same_reader ∙ c.loop-lines.invariant.same_reader
+
+pub returns-in-Err-clause-same_writer : goal.returns-in-Err-clause-same_writer
+returns-in-Err-clause-same_writer g c = c.finish.ensures.same_writer ∙ c.loop-lines.invariant.same_writer
+
 pub returns-then-is_nothing-clause-sends : goal.returns-then-is_nothing-clause-sends
 returns-then-is_nothing-clause-sends g c = (
   c.fetch.new.chunk,
@@ -43,6 +65,20 @@ returns-then-is_nothing-clause-sends g c = (
       (sym c.is_nothing.ensures ∙ c.if-is_nothing.true)
       c.in-Ok.ensures.fetches),
 )
+
+pub returns-then-is_nothing-clause-failed : goal.returns-then-is_nothing-clause-failed
+returns-then-is_nothing-clause-failed g c = fails_so _ _ _ c.finish-then-is_nothing.ensures.same_end tt
+
+pub returns-then-is_nothing-clause-same_input : goal.returns-then-is_nothing-clause-same_input
+returns-then-is_nothing-clause-same_input g c = c.fetch.ensures.same ∙ c.loop-lines.invariant.same_input
+
+pub returns-then-is_nothing-clause-same_reader : goal.returns-then-is_nothing-clause-same_reader
+returns-then-is_nothing-clause-same_reader g c =
+    c.finish-then-is_nothing.ensures.same_reader ∙ c.loop-lines.invariant.same_reader
+
+pub returns-then-is_nothing-clause-same_writer : goal.returns-then-is_nothing-clause-same_writer
+returns-then-is_nothing-clause-same_writer g c =
+    c.finish-then-is_nothing.ensures.same_writer ∙ c.loop-lines.invariant.same_writer
 
 pub returns-in_err-send-clause-sends : goal.returns-in_err-send-clause-sends
 returns-in_err-send-clause-sends g c =
@@ -55,6 +91,15 @@ returns-in_err-send-clause-sends g c =
           c.in-Ok.ensures.fetches)
           c.loop-lines.invariant.room _,
     )
+
+pub returns-in_err-send-clause-same_input : goal.returns-in_err-send-clause-same_input
+returns-in_err-send-clause-same_input g c = c.fetch.ensures.same ∙ c.loop-lines.invariant.same_input
+
+pub returns-in_err-send-clause-same_reader : goal.returns-in_err-send-clause-same_reader
+returns-in_err-send-clause-same_reader g c = c.loop-lines.invariant.same_reader
+
+pub returns-in_err-send-clause-same_writer : goal.returns-in_err-send-clause-same_writer
+returns-in_err-send-clause-same_writer g c = c.send.ensures.same_writer ∙ c.loop-lines.invariant.same_writer
 
 pub returns-then-not-is_line-clause-sends : goal.returns-then-not-is_line-clause-sends
 returns-then-not-is_line-clause-sends g c =
@@ -69,6 +114,20 @@ returns-then-not-is_line-clause-sends g c =
           c.in-Ok.ensures.fetches),
     )
 
+pub returns-then-not-is_line-clause-failed : goal.returns-then-not-is_line-clause-failed
+returns-then-not-is_line-clause-failed g c = fails_so _ _ _ c.finish-then-not-is_line.ensures.same_end tt
+
+pub returns-then-not-is_line-clause-same_input : goal.returns-then-not-is_line-clause-same_input
+returns-then-not-is_line-clause-same_input g c = c.fetch.ensures.same ∙ c.loop-lines.invariant.same_input
+
+pub returns-then-not-is_line-clause-same_reader : goal.returns-then-not-is_line-clause-same_reader
+returns-then-not-is_line-clause-same_reader g c =
+    c.finish-then-not-is_line.ensures.same_reader ∙ c.loop-lines.invariant.same_reader
+
+pub returns-then-not-is_line-clause-same_writer : goal.returns-then-not-is_line-clause-same_writer
+returns-then-not-is_line-clause-same_writer g c =
+    c.finish-then-not-is_line.ensures.same_writer ∙ c.send.ensures.same_writer ∙ c.loop-lines.invariant.same_writer
+
 pub returns-in_err-drain-clause-sends : goal.returns-in_err-drain-clause-sends
 returns-in_err-drain-clause-sends g c =
     let p = err_from_is_err_and c.from_residual-in_err-drain.result c.from_residual-in_err-drain.ensures.1 in
@@ -78,6 +137,16 @@ returns-in_err-drain-clause-sends g c =
     c.loop-lines.invariant.room in
     rw (p.1, p.2)
     (c.fetch.new.chunk, c.in_err-drain.ensures.drains c.args.sending.now _ _ _ _ sent.0 _)
+
+pub returns-in_err-drain-clause-same_input : goal.returns-in_err-drain-clause-same_input
+returns-in_err-drain-clause-same_input g c = c.fetch.ensures.same ∙ c.loop-lines.invariant.same_input
+
+pub returns-in_err-drain-clause-same_reader : goal.returns-in_err-drain-clause-same_reader
+returns-in_err-drain-clause-same_reader g c = c.drain.ensures.same_reader ∙ c.loop-lines.invariant.same_reader
+
+pub returns-in_err-drain-clause-same_writer : goal.returns-in_err-drain-clause-same_writer
+returns-in_err-drain-clause-same_writer g c =
+    c.drain.ensures.same_writer ∙ c.send.ensures.same_writer ∙ c.loop-lines.invariant.same_writer
 
 pub loop-lines-preserved : goal.loop-lines-preserved
 loop-lines-preserved g c =
@@ -110,3 +179,15 @@ returns-clause-sends g c =
       c.finish-2.ensures.ends c.args.sending.now _ _ _ _ _ c.loop-lines.invariant.sends
           (refl, omega (arith, c.loop-lines-test.false, c.loop-lines.invariant.lines, fits)),
     )
+
+pub returns-clause-failed : goal.returns-clause-failed
+returns-clause-failed g c = fails_so _ _ _ c.finish-2.ensures.same_end tt
+
+pub returns-clause-same_input : goal.returns-clause-same_input
+returns-clause-same_input g c = c.loop-lines.invariant.same_input
+
+pub returns-clause-same_reader : goal.returns-clause-same_reader
+returns-clause-same_reader g c = c.finish-2.ensures.same_reader ∙ c.loop-lines.invariant.same_reader
+
+pub returns-clause-same_writer : goal.returns-clause-same_writer
+returns-clause-same_writer g c = c.finish-2.ensures.same_writer ∙ c.loop-lines.invariant.same_writer
