@@ -23,10 +23,8 @@ pub(crate) fn measure<R: Threads + Wait + Clock + CpuClock + Print + Sync>(
 }
 
 fn tell(rt: &impl Print, name: &str, nanos: Option<u64>) -> io::Result<()> {
-    let told = if nanos.is_some() {
-        "measured"
-    } else {
-        "failed"
-    };
-    println!(rt; "{name}: {told}")
+    match nanos {
+        Some(_) => println!(rt; "{name}: measured"),
+        None => println!(rt; "{name}: failed"),
+    }
 }

@@ -30,9 +30,9 @@ fn show_beside<R: Clock + CpuClock + Print>(
 
 /// Prints how many million bytes per second were copied.
 fn show_speed(rt: &impl Print, how: &str, nanos: Option<u64>) -> io::Result<()> {
-    let millions = nanos.map(|_| MESSAGE_BYTES as u64 * 1000 * ROUNDS);
+    let millions = MESSAGE_BYTES as u64 * 1000 * ROUNDS;
     let unit = "million bytes a second";
-    show_ratio(rt, "8192 bytes", how, millions, nanos, unit)
+    show_ratio(rt, "8192 bytes", how, Some(millions), nanos, unit)
 }
 
 /// Measures payloads of one size.

@@ -1,5 +1,6 @@
 //! The service: pairs of a msgsnd and a msgrcv by one thread, by two and by four, a ping-pong of
 //! two threads, and random calls of eight threads, whose messages are counted.
+mod calls;
 mod figures;
 mod pairs;
 mod part;

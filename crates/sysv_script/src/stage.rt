@@ -7,6 +7,7 @@ ghost use Rattle.sysv_model.specs.declared.limits.TheConstants.{BLOCK_BYTES, BOD
 ghost use Rattle.sysv_script.specs.Heads.{head_text};
 ghost use Rattle.sysv_script.specs.ScriptState.{ScriptState, opening_script_state, Advances, LineRuns, LineActs, PoolGiven, StartRuns, StartsAs, call_for, GoesOn, StepsRun, OneRuns, AllRun, printed, standing_line, first_cred as script_cred, pending as doing_at, most_steps as steps_at_start};
 ghost use Rattle.sysv_core.specs.World.{actor_at};
+ghost use Rattle.sysv_core.specs.Seen.{Represents};
 ghost use Rattle.sysv_script.specs.declared.actor.TheConstants.{SCRIPT_ACTORS};
 ghost use Rattle.sysv_script.specs.SaidBy.{CallFits, FitsBody, LineFits, IsOfActors, IsPoolSize, text_bytes, call_asked, said_of};
 ghost use Rattle.sysv_script.specs.Staged.{IsScriptStateOf};
@@ -50,8 +51,10 @@ impl Stage {
     pub fn open(alloc: Global) -> Result<Stage, NoMemory>
         ensures { IfOk result (λ stage. IsScriptStateOf opening_script_state stage) }
     {
-        let spares = Vec::with_capacity(alloc, SCRIPT_ACTORS as usize).map_err(|_| NoMemory)?;
-        let world = World::open(alloc, SCRIPT_ACTORS, SCRIPT_BLOCKS).map_err(|_| NoMemory)?;
+        let Ok(spares) = Vec::with_capacity(alloc, SCRIPT_ACTORS as usize) else {
+            return Err(NoMemory);
+        };
+        let world = open_world(alloc, SCRIPT_BLOCKS)?;
         Ok(Stage {
             world,
             creds: first_creds(),
@@ -119,7 +122,7 @@ impl Stage {
         if !self.fresh {
             return Ok(false);
         }
-        let world = World::open(alloc, SCRIPT_ACTORS, blocks).map_err(|_| NoMemory)?;
+        let world = open_world(alloc, blocks)?;
         let _blocks = mem::replace(&mut self.world, world).end();
         self.fresh = false;
         Ok(true)
@@ -412,6 +415,22 @@ impl Stage {
         if let Some(body) = self.world.spare() {
             let _kept = self.spares.push(body);
         }
+    }
+}
+
+/// Opens a world with `blocks` blocks in which nothing has happened.
+fn open_world(alloc: Global, blocks: u32) -> Result<World, NoMemory>
+    ensures { IfOk result (λ world.
+        Represents record {
+          actors = SCRIPT_ACTORS;
+          blocks = blocks;
+          first = 0;
+          generation = 0;
+        } [] [] world) }
+{
+    match World::open(alloc, SCRIPT_ACTORS, blocks) {
+        Ok(world) => Ok(world),
+        Err(_) => Err(NoMemory),
     }
 }
 

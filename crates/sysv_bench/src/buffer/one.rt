@@ -66,15 +66,15 @@ pub(crate) fn time_of_one_to_one<R: Threads + Wait + Clock + CpuClock + Sync>(
 fn put_and_take(
     rt: &impl Wait,
     buffer: &OneBuffer<u64>,
-    mut puts: Producer<u64>,
-    mut takes: Consumer<u64>,
+    puts: &mut Producer<u64>,
+    takes: &mut Consumer<u64>,
     items: u64,
 ) -> bool
-    requires puts { puts.buffer ≡ buffer.now }
-    requires takes { takes.buffer ≡ buffer.now }
+    requires puts { puts.old.buffer ≡ buffer.now }
+    requires takes { takes.old.buffer ≡ buffer.now }
 {
     for number in 0..items {
-        if buffer.put(rt, &mut puts, number).is_err() || buffer.take(rt, &mut takes).is_err() {
+        if buffer.put(rt, puts, number).is_err() || buffer.take(rt, takes).is_err() {
             return false;
         }
     }
@@ -89,10 +89,10 @@ pub(crate) fn time_alone<R: Wait + Clock + CpuClock>(
     cells: usize,
     items: u64,
 ) -> Option<u64> {
-    let Ok((buffer, puts, takes)) = OneBuffer::open(alloc, cells) else {
+    let Ok((buffer, mut puts, mut takes)) = OneBuffer::open(alloc, cells) else {
         return None;
     };
     let watch = Watch::start(rt, Time::Passed);
-    let done = put_and_take(rt, &buffer, puts, takes, items);
+    let done = put_and_take(rt, &buffer, &mut puts, &mut takes, items);
     nanos_if(rt, watch, done)
 }

@@ -1,7 +1,7 @@
 //! The figures. Each is the median of five, which are taken in turn with those that it is compared
 //! to.
 use crate::figures::{show, show_ratio};
-use crate::gate::calls::{Dialogue, ROUNDS, TIMES, Task, act_at_gate};
+use crate::gate::calls::{Dialogue, Done, ROUNDS, TIMES, Task, act_at_gate};
 use crate::gate::locked::time_at_lock;
 use crate::gate::places::time_at_places;
 use crate::gate::sum::Raise;
@@ -49,8 +49,22 @@ fn time_of_dialogue<R: Threads + Wait + Clock + CpuClock + Sync>(
         rounds,
         pauses: false,
     };
-    let done = act_at_gate(rt, alloc, &[Task::Say(dialogue), Task::Answer(dialogue)]);
-    Some(done?.nanos)
+    Some(act_in_dialogue(rt, alloc, dialogue, 2)?.nanos)
+}
+
+/// Has two threads wait for each other's counts, and a third one watch them if `threads` is 3.
+fn act_in_dialogue<R: Threads + Wait + Clock + CpuClock + Sync>(
+    rt: &R,
+    alloc: Global,
+    dialogue: Dialogue,
+    threads: usize,
+) -> Option<Done> {
+    let tasks = [
+        Task::Say(dialogue),
+        Task::Answer(dialogue),
+        Task::Watch(dialogue.rounds),
+    ];
+    act_at_gate(rt, alloc, &tasks[..threads.min(3)])
 }
 
 /// Returns the median of the times. A time that was not taken counts as 0.
@@ -194,12 +208,7 @@ pub(crate) fn try_wakes<R: Threads + Wait + Clock + CpuClock + Print + Sync>(
         rounds,
         pauses: true,
     };
-    let tasks = [
-        Task::Say(dialogue),
-        Task::Answer(dialogue),
-        Task::Watch(rounds),
-    ];
-    match act_at_gate(rt, alloc, &tasks) {
+    match act_in_dialogue(rt, alloc, dialogue, 3) {
         Some(done) => match done.stood {
             Some(round) => println!(rt; "a wake was lost after round {round}"),
             None => println!(rt; "{rounds} rounds, no wake lost"),

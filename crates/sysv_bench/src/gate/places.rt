@@ -46,11 +46,26 @@ fn split_all(
 {
     let mut seats = Vec::new(alloc);
     for _ in 0..threads {
-        if let Ok(other) = bank.split(alloc, seat) {
-            let _ = seats.push(other);
-        }
+        split_one(alloc, bank, seat, &mut seats);
     }
     seats
+}
+
+/// Adds a seat, unless memory runs out.
+fn split_one(
+    alloc: Global,
+    bank: &Bank<Sum>,
+    seat: &mut BankSeat<Sum>,
+    seats: &mut Vec<BankSeat<Sum>, Global>,
+)
+    requires seat { gates_of seat.old.seats ≡ bank.now }
+    requires seats { All (λ s. gates_of s.seats ≡ bank.now) seats.old.items }
+    ensures seat { gates_of seat.new.seats ≡ bank.now }
+    ensures seats { All (λ s. gates_of s.seats ≡ bank.now) seats.new.items }
+{
+    if let Ok(other) = bank.split(alloc, seat) {
+        let _ = seats.push(other);
+    }
 }
 
 fn call_timed<R: Threads + Wait + Clock + CpuClock + Sync>(

@@ -1,5 +1,6 @@
 //! Queues that are made, settled and forgotten repeatedly.
 use crate::figures::{show, show_ratio};
+use crate::keys::{Act, time_of};
 use crate::watch::{Time, Watch};
 use std::alloc::Global;
 use std::io;
@@ -25,7 +26,8 @@ fn come_and_go(registry: &mut Registry, key: i32) {
     }
 }
 
-fn come_and_go_often<R: Clock + CpuClock>(
+/// Returns the nanoseconds of doing so `times` times.
+pub(crate) fn come_and_go_often<R: Clock + CpuClock>(
     rt: &R,
     registry: &mut Registry,
     key: i32,
@@ -36,13 +38,6 @@ fn come_and_go_often<R: Clock + CpuClock>(
         come_and_go(registry, key);
     }
     watch.nanos(rt)
-}
-
-fn time_of<R: Clock + CpuClock>(rt: &R, alloc: Global, key: i32, times: u64) -> Option<u64> {
-    let Ok(mut registry) = Registry::open(alloc) else {
-        return None;
-    };
-    come_and_go_often(rt, &mut registry, key, times)
 }
 
 /// Prints the time of making, settling and forgetting a queue, and the ratio of ten times that
@@ -58,8 +53,8 @@ fn measure_key<R: Clock + CpuClock + Print>(
     what: &str,
     key: i32,
 ) -> io::Result<()> {
-    let once = time_of(rt, alloc, key, TIMES);
-    let often = time_of(rt, alloc, key, 10 * TIMES);
+    let once = time_of(rt, alloc, Act::ComeAndGo(key), TIMES);
+    let often = time_of(rt, alloc, Act::ComeAndGo(key), 10 * TIMES);
     show(rt, what, "made, settled and forgotten", once, TIMES, "ns")?;
     let how = "ten times as often";
     show_ratio(rt, what, how, often, once, "times as long")

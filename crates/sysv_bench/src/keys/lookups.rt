@@ -1,6 +1,7 @@
 //! Look-ups of a key among one key and among 64 keys.
 use crate::figures::{show, show_ratio};
 use crate::keys::calls::CREATING;
+use crate::keys::{Act, time_of};
 use crate::watch::{Time, Watch, nanos_if};
 use std::alloc::Global;
 use std::io;
@@ -30,7 +31,7 @@ fn fill(registry: &mut Registry, keys: i32) -> bool {
 
 /// Gives each key a row and looks the keys up in turn. Returns `None` if a key got no row or was not
 /// found.
-fn look_up<R: Clock + CpuClock>(
+pub(crate) fn look_up<R: Clock + CpuClock>(
     rt: &R,
     registry: &mut Registry,
     keys: i32,
@@ -58,19 +59,6 @@ fn look_up<R: Clock + CpuClock>(
     nanos_if(rt, watch, found == times)
 }
 
-/// Returns the nanoseconds of `times` look-ups among `keys` keys.
-pub(crate) fn time_among<R: Clock + CpuClock>(
-    rt: &R,
-    alloc: Global,
-    keys: i32,
-    times: u64,
-) -> Option<u64> {
-    let Ok(mut registry) = Registry::open(alloc) else {
-        return None;
-    };
-    look_up(rt, &mut registry, keys, times)
-}
-
 /// Prints what a look-up takes among one key and among all, and the ratio.
 pub(crate) fn measure<R: Clock + CpuClock + Print>(rt: &R, alloc: Global) -> io::Result<()> {
     for _ in 0..REPEATS {
@@ -80,8 +68,8 @@ pub(crate) fn measure<R: Clock + CpuClock + Print>(rt: &R, alloc: Global) -> io:
 }
 
 fn measure_in_turn<R: Clock + CpuClock + Print>(rt: &R, alloc: Global) -> io::Result<()> {
-    let one = time_among(rt, alloc, 1, TIMES);
-    let all = time_among(rt, alloc, MOST, TIMES);
+    let one = time_of(rt, alloc, Act::LookUp(1), TIMES);
+    let all = time_of(rt, alloc, Act::LookUp(MOST), TIMES);
     show(rt, "a look-up", "among 1 key", one, TIMES, "ns")?;
     show(rt, "a look-up", "among 64 keys", all, TIMES, "ns")?;
     let how = "among 64 keys beside 1";

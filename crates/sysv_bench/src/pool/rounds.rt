@@ -28,14 +28,16 @@ fn chain_round(pool: &mut Pool, text: &Body, out: &mut Body) -> bool {
 /// Allocates a vector, fills it with the body, copies the body out and drops the vector. Returns
 /// `false` if memory was refused.
 fn vec_round(alloc: Global, text: &[u8], out: &mut Body) -> bool {
-    let Ok(mut bytes) = Vec::with_capacity(alloc, text.len()) else {
-        return false;
-    };
-    if bytes.extend_from_slice(text).is_err() {
-        return false;
+    match Vec::with_capacity(alloc, text.len()) {
+        Ok(mut bytes) => bytes.extend_from_slice(text).is_ok() && copy(&bytes, out),
+        Err(_) => false,
     }
+}
+
+/// Copies the bytes into the body. Returns whether they fit.
+fn copy(text: &[u8], out: &mut Body) -> bool {
     out.clear();
-    out.push_piece(&bytes)
+    out.push_piece(text)
 }
 
 /// Returns the nanoseconds of all rounds with chains.
@@ -81,8 +83,7 @@ pub(crate) fn time_of_copies<R: Clock + CpuClock>(
 ) -> Option<u64> {
     let watch = Watch::start(rt, Time::Passed)?;
     for _ in 0..rounds {
-        out.clear();
-        if !out.push_piece(text) {
+        if !copy(text, out) {
             return None;
         }
     }

@@ -124,8 +124,8 @@ fn show_rate(
     nanos: Option<u64>,
     unit: &str,
 ) -> io::Result<()> {
-    let scaled = nanos.map(|_| times.saturating_mul(1_000_000_000));
-    show_ratio(rt, what, how, scaled, nanos, unit)
+    let scaled = times.saturating_mul(1_000_000_000);
+    show_ratio(rt, what, how, Some(scaled), nanos, unit)
 }
 
 /// Prints what pairs of one size take one thread.

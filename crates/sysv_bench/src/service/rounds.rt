@@ -2,7 +2,7 @@
 ghost use Rattle.sysv_service.specs.Seats.{AreOf};
 
 use crate::bodies::Bodies;
-use crate::service::pairs::{receive, send};
+use crate::service::calls::{receive, send};
 use std::sync::Wait;
 use sysv_service::{Pass, Service};
 
@@ -25,16 +25,38 @@ impl Player {
         ensures { AreOf service.now pass.new.seats }
     {
         if self.serves {
-            send(rt, service, pass, self.says, &self.bodies.text);
+            self.say(rt, service, pass);
         }
         for _ in 0..self.times {
-            if !receive(rt, service, pass, self.hears, &mut self.bodies.out) {
+            if !self.hear(rt, service, pass) {
                 return;
             }
             self.done = self.done.saturating_add(1);
             if !(self.serves && self.done == self.times) {
-                send(rt, service, pass, self.says, &self.bodies.text);
+                self.say(rt, service, pass);
             }
         }
+    }
+
+    fn say(&self, rt: &impl Wait, service: &Service, pass: &mut Pass)
+        requires { AreOf service.now pass.old.seats }
+        ensures { AreOf service.now pass.new.seats }
+    {
+        send(rt, service, pass, self.says, 1, &self.bodies.text, false);
+    }
+
+    fn hear(&mut self, rt: &impl Wait, service: &Service, pass: &mut Pass) -> bool
+        requires { AreOf service.now pass.old.seats }
+        ensures { AreOf service.now pass.new.seats }
+    {
+        receive(
+            rt,
+            service,
+            pass,
+            self.hears,
+            0,
+            &mut self.bodies.out,
+            false,
+        )
     }
 }

@@ -4,17 +4,16 @@ ghost use Rattle.sysv_service.specs.Seats.{AreOf};
 
 use crate::bodies::Bodies;
 use crate::caller::{Still, USER};
+use crate::service::calls::{id_of, receive, send};
 use crate::service::part::Part;
 use crate::service::tallies::Tallies;
 use crate::service::team::{Left, run};
-use bitflags::Flags as _;
 use std::alloc::Global;
 use std::io;
 use std::sync::Wait;
 use std::thread::{Threads, sleep};
 use std::time::{Clock, CpuClock, Duration};
-use sysv_model::{Cred, Flags, SetTo};
-use sysv_queue::Tally;
+use sysv_model::{Cred, SetTo};
 use sysv_service::{Pass, Service};
 
 /// The keys count from 1. The queues of the keys up to `KEPT` are never removed before the end.
@@ -139,10 +138,7 @@ impl<'a> Soaker<'a> {
         if !self.tallies.begin_send(kept) {
             return;
         }
-        let text = &self.bodies.text;
-        let flags = flags_of(nowait);
-        let sent = service.msgsnd(rt, pass, &Still, USER, id, mtype, text, flags);
-        if sent.is_ok() {
+        if send(rt, service, pass, id, mtype, &self.bodies.text, nowait) {
             self.next = self.next.saturating_add(1);
         } else {
             self.tallies.withdraw(kept);
@@ -163,24 +159,10 @@ impl<'a> Soaker<'a> {
         ensures { AreOf service.now pass.new.seats }
     {
         let mtype = self.below(7) as i64 - 3;
-        let flags = flags_of(nowait);
-        let given = service.msgrcv(
-            rt,
-            pass,
-            &Still,
-            USER,
-            id,
-            &mut self.bodies.out,
-            8192,
-            mtype,
-            flags,
-        );
-        let Ok(delivery) = given else {
-            return;
-        };
-        delivery.written(&mut Tally::open());
-        self.received = self.received.saturating_add(1);
-        self.tallies.count(&self.bodies.out, key <= KEPT);
+        if receive(rt, service, pass, id, mtype, &mut self.bodies.out, nowait) {
+            self.received = self.received.saturating_add(1);
+            self.tallies.count(&self.bodies.out, key <= KEPT);
+        }
     }
 
     /// Sets a limit that each message fits in.
@@ -208,23 +190,6 @@ impl<'a> Soaker<'a> {
     }
 }
 
-fn flags_of(nowait: bool) -> Flags {
-    if nowait {
-        Flags::IPC_NOWAIT
-    } else {
-        Flags::from_bits_retain(0)
-    }
-}
-
-/// Returns the identifier of the queue of this key, which is created if there is none.
-fn id_of(rt: &impl Wait, service: &Service, pass: &mut Pass, key: i32) -> Option<i32>
-    requires { AreOf service.now pass.old.seats }
-    ensures { AreOf service.now pass.new.seats }
-{
-    let flags = Flags::from_bits_retain(512 + 0o600);
-    service.msgget(rt, pass, &Still, USER, key, flags).ok()
-}
-
 /// The thread that ends the others. Until then it now and then sends to each queue and receives
 /// from it, so that not all threads wait.
 #[derive(Drop)]
@@ -241,21 +206,24 @@ impl Keeper<'_> {
     {
         for _ in 0..self.millis {
             sleep(rt, Duration::from_millis(1));
-            self.nudge(rt, service, pass);
+            self.visit_all(rt, service, pass, true);
         }
         self.soaker.tallies.end();
         self.drain(rt, service, pass);
         self.stop(rt, service, pass);
     }
 
-    /// Receives a message from each queue and sends one to it, without waiting.
-    fn nudge(&mut self, rt: &impl Wait, service: &Service, pass: &mut Pass)
+    /// Receives a message from each queue, and sends one to it if `sends`, without waiting.
+    fn visit_all(&mut self, rt: &impl Wait, service: &Service, pass: &mut Pass, sends: bool)
         requires { AreOf service.now pass.old.seats }
         ensures { AreOf service.now pass.new.seats }
     {
         for key in 1..=KEYS {
-            if let Some(id) = id_of(rt, service, pass, key) {
-                self.soaker.receive(rt, service, pass, key, id, true);
+            let Some(id) = id_of(rt, service, pass, key) else {
+                continue;
+            };
+            self.soaker.receive(rt, service, pass, key, id, true);
+            if sends {
                 self.soaker.send(rt, service, pass, key, id, true);
             }
         }
@@ -270,19 +238,7 @@ impl Keeper<'_> {
             if self.soaker.tallies.is_drained() {
                 break;
             }
-            self.receive_from_all(rt, service, pass);
-        }
-    }
-
-    /// Receives a message from each queue, without waiting.
-    fn receive_from_all(&mut self, rt: &impl Wait, service: &Service, pass: &mut Pass)
-        requires { AreOf service.now pass.old.seats }
-        ensures { AreOf service.now pass.new.seats }
-    {
-        for key in 1..=KEYS {
-            if let Some(id) = id_of(rt, service, pass, key) {
-                self.soaker.receive(rt, service, pass, key, id, true);
-            }
+            self.visit_all(rt, service, pass, false);
         }
     }
 
@@ -347,16 +303,22 @@ fn add_keeper<'a>(
 fn sums(parts: &[Part]) -> (u64, u64, u64) {
     let (mut sent, mut received, mut removed): (u64, u64, u64) = (0, 0, 0);
     for part in parts {
-        let soaker = match part {
-            Part::Soaks(soaker) => soaker,
-            Part::Keeps(keeper) => &keeper.soaker,
-            _ => continue,
-        };
-        sent = sent.saturating_add(soaker.next);
-        received = received.saturating_add(soaker.received);
-        removed = removed.saturating_add(soaker.removed);
+        if let Some(soaker) = soaker_of(part) {
+            sent = sent.saturating_add(soaker.next);
+            received = received.saturating_add(soaker.received);
+            removed = removed.saturating_add(soaker.removed);
+        }
     }
     (sent, received, removed)
+}
+
+/// Returns the part's soaker, if it has one.
+fn soaker_of<'p, 'a>(part: &'p Part<'a>) -> Option<&'p Soaker<'a>> {
+    match part {
+        Part::Soaks(soaker) => Some(soaker),
+        Part::Keeps(keeper) => Some(&keeper.soaker),
+        _ => None,
+    }
 }
 
 fn show_left(rt: &impl Print, left: &Left, tallies: &Tallies) -> io::Result<()> {

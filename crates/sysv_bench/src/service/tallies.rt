@@ -104,14 +104,19 @@ impl Tallies {
         let [sender, number @ ..] = text.block(0) else {
             return false;
         };
-        let Some(number) = number.first_chunk::<8>() else {
-            return false;
-        };
-        let number = u64::from_be_bytes(*number);
+        match number.first_chunk::<8>() {
+            Some(number) => self.is_new(*sender, u64::from_be_bytes(*number)),
+            None => false,
+        }
+    }
+
+    /// Notes that the message of this sender with this number was received. Returns whether it is
+    /// received for the first time. Numbers from `NUMBERS` on are not noted.
+    fn is_new(&self, sender: u8, number: u64) -> bool {
         if number >= NUMBERS {
             return true;
         }
-        let place = (u64::from(*sender) * NUMBERS + number) / 64;
+        let place = (u64::from(sender) * NUMBERS + number) / 64;
         let bit = 1 << (number % 64);
         match self.seen.get(place as usize) {
             Some(word) => word.fetch_or(bit, SeqCst) & bit == 0,

@@ -4,15 +4,13 @@ ghost use Rattle.std.specs.List.{All};
 ghost use Rattle.std.specs.Thread.{IsSync};
 ghost use Rattle.sysv_service.specs.Seats.{AreOf};
 
-use crate::caller::{Still, USER};
+use crate::service::calls::id_of;
 use crate::service::part::Part;
 use crate::watch::{Time, Watch};
-use bitflags::Flags as _;
 use std::alloc::Global;
 use std::sync::Wait;
 use std::thread::{Threads, for_each_mut};
 use std::time::{Clock, CpuClock};
-use sysv_model::Flags;
 use sysv_service::{Closed, Pass, Service};
 
 /// What is left of a service.
@@ -78,9 +76,8 @@ fn make_queues(rt: &impl Wait, service: &Service, pass: &mut Pass, queues: i32)
     requires { AreOf service.now pass.old.seats }
     ensures { AreOf service.now pass.new.seats }
 {
-    let flags = Flags::from_bits_retain(512 + 0o600);
     for key in 1..=queues {
-        let _ = service.msgget(rt, pass, &Still, USER, key, flags);
+        id_of(rt, service, pass, key);
     }
 }
 
@@ -167,10 +164,24 @@ fn join_all<'a>(
     let mut parts = Vec::new(alloc);
     let mut whole = true;
     while let Some(member) = members.pop() {
-        let Member { pass: theirs, part } = member;
-        service.join_pass(pass, theirs);
-        whole = parts.push(part).is_ok() && whole;
+        whole &= join_one(service, pass, member, &mut parts);
     }
     members.destroy_empty();
     if whole { Some(parts) } else { None }
+}
+
+/// Joins one pass, and adds its part to the others. Returns `false` if memory is refused.
+fn join_one<'a>(
+    service: &Service,
+    pass: &mut Pass,
+    member: Member<'a>,
+    parts: &mut Vec<Part<'a>>,
+) -> bool
+    requires pass { AreOf service.now pass.old.seats }
+    requires member { AreOf service.now member.pass.seats }
+    ensures { AreOf service.now pass.new.seats }
+{
+    let Member { pass: theirs, part } = member;
+    service.join_pass(pass, theirs);
+    parts.push(part).is_ok()
 }

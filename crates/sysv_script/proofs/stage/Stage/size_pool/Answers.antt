@@ -2,16 +2,13 @@ use Rattle.std.proofs.Common.{◌≡◌, true, [], refl, sym, subst, ◌∙◌, 
 use Rattle.sysv_core.specs.World.{Opening}
 use Rattle.sysv_core.specs.Seen.{IsSeenAs, Represents}
 use Rattle.sysv_script.specs.ScriptState.{in_world, begun_script_state, opening_world}
-use Rattle.sysv_script.proofs.Kept.{IfOk-mapped}
 use Rattle.sysv_script.proofs.stage.Stage.size_pool.Goals as goal
 
 pub returns : goal.returns
 returns c = λ s seen.
     let blocks = c.args.blocks in
     let o : Opening = record { actors = 16; blocks = blocks; first = 0; generation = 0 } in
-    let stands : Represents o [] [] c.in_ok-world.world =
-    IfOk-mapped (λ world. Represents o [] [] world) _ c.open.result c.map_err.result c.in_ok-world.world
-    c.open.ensures.opened c.map_err.ensures.cases c.map_err.ensures.variant c.in_ok-world.was in
+    let stands : Represents o [] [] c.in_ok-world.world = c.in_ok-world.ensures in
     let held : true ≡ c.args.self.now.fresh = search rules in
     let fresh : true ≡ s.fresh = held ∙ sym seen.fresh in
     let after = in_world (begun_script_state s) (opening_world blocks) in

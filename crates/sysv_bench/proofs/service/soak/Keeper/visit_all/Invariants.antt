@@ -1,5 +1,5 @@
 use Rattle.sysv_service.specs.Seats.{AreOf}
-use Rattle.sysv_bench.proofs.service.soak.Keeper.nudge.Given as goal
+use Rattle.sysv_bench.proofs.service.soak.Keeper.visit_all.Given as goal
 
 -- The pass is one of the service.
 abbrev pub invariant-loop-key : goal.invariant-loop-key
