@@ -1,5 +1,5 @@
 //! Lines of a script.
-use crate::parts::assert_is;
+use crate::parts::{assert_is, assert_that};
 use bitflags::Flags as _;
 use std::io::Write;
 use sysv_model::{Errno, Flags};
@@ -13,7 +13,7 @@ fn a_line_says_what_an_actor_starts(rt: HostRuntime) {
         panic!(rt; "no start");
     };
     assert_is(&rt, actor, 2);
-    assert!(rt; goes);
+    assert_that(&rt, goes);
     let Call::Send {
         id,
         mtype,
@@ -35,27 +35,35 @@ fn a_line_says_what_an_actor_starts(rt: HostRuntime) {
         panic!(rt; "no text");
     };
     assert_is(&rt, bytes, b"a b".as_slice());
-    assert!(rt; line_of(b"17 snd 0 1 - =").is_none());
+    assert_that(&rt, line_of(b"17 snd 0 1 - =").is_none());
 }
 
 #[test]
 fn orders_are_understood(rt: HostRuntime) {
-    assert!(rt;
-        matches!(
-            line_of(b"now 18446744073709551615"),
-            Some(Line::Moment(u64::MAX))
-        )
+    let moment = line_of(b"now 18446744073709551615");
+    assert_that(&rt, matches!(moment, Some(Line::Moment(u64::MAX))));
+    assert_that(
+        &rt,
+        matches!(line_of(b"step 16"), Some(Line::Step { actor: 16 })),
     );
-    assert!(rt; matches!(line_of(b"step 16"), Some(Line::Step { actor: 16 })));
-    assert!(rt; matches!(line_of(b"go 01"), Some(Line::Go { actor: 1 })));
-    assert!(rt; matches!(line_of(b"all"), Some(Line::All)));
-    assert!(rt; matches!(line_of(b"pool 128"), Some(Line::Pool { blocks: 128 })));
-    assert!(rt; line_of(b"pool 127").is_none());
-    assert!(rt; line_of(b"pool 65537").is_none());
-    assert!(rt; matches!(line_of(b"as 3 5 6 7"), Some(Line::Cred { actor: 3, .. })));
-    assert!(rt; line_of(b"go 0").is_none());
-    assert!(rt; line_of(b"all ").is_none());
-    assert!(rt; line_of(b"wait 1").is_none());
+    assert_that(
+        &rt,
+        matches!(line_of(b"go 01"), Some(Line::Go { actor: 1 })),
+    );
+    assert_that(&rt, matches!(line_of(b"all"), Some(Line::All)));
+    assert_that(
+        &rt,
+        matches!(line_of(b"pool 128"), Some(Line::Pool { blocks: 128 })),
+    );
+    assert_that(&rt, line_of(b"pool 127").is_none());
+    assert_that(&rt, line_of(b"pool 65537").is_none());
+    assert_that(
+        &rt,
+        matches!(line_of(b"as 3 5 6 7"), Some(Line::Cred { actor: 3, .. })),
+    );
+    assert_that(&rt, line_of(b"go 0").is_none());
+    assert_that(&rt, line_of(b"all ").is_none());
+    assert_that(&rt, line_of(b"wait 1").is_none());
 }
 
 #[test]
@@ -64,8 +72,8 @@ fn each_call_is_understood(rt: HostRuntime) {
     let Some(Line::Start { call, goes, .. }) = get else {
         panic!(rt; "no get");
     };
-    assert!(rt; !goes);
-    assert!(rt; matches!(call, Call::Get { key: -4, .. }));
+    assert_that(&rt, !goes);
+    assert_that(&rt, matches!(call, Call::Get { key: -4, .. }));
     let Some(Line::Start { call, .. }) = line_of(b"1 set 64 5 6 0640 70000") else {
         panic!(rt; "no set");
     };
@@ -80,13 +88,13 @@ fn each_call_is_understood(rt: HostRuntime) {
     let Some(Line::Start { call, .. }) = line_of(b"2 rm 7") else {
         panic!(rt; "no removal");
     };
-    assert!(rt; matches!(call, Call::Remove { id: 7 }));
+    assert_that(&rt, matches!(call, Call::Remove { id: 7 }));
     let Some(Line::Start { call, .. }) = line_of(b"2 stat 8") else {
         panic!(rt; "no stat");
     };
-    assert!(rt; matches!(call, Call::Stat { id: 8 }));
-    assert!(rt; line_of(b"1 set 0 1 1 1000 5").is_none());
-    assert!(rt; line_of(b"1 rm 0 ").is_none());
+    assert_that(&rt, matches!(call, Call::Stat { id: 8 }));
+    assert_that(&rt, line_of(b"1 set 0 1 1 1000 5").is_none());
+    assert_that(&rt, line_of(b"1 rm 0 ").is_none());
 }
 
 #[test]
@@ -111,7 +119,7 @@ fn heads_are_printed(rt: HostRuntime) {
         let Ok(mut printed) = Vec::with_capacity(rt.alloc(), 64) else {
             return;
         };
-        assert!(rt; write!(printed, "{head}").is_ok());
+        assert_that(&rt, write!(printed, "{head}").is_ok());
         assert_is(&rt, printed.as_slice(), line);
     }
 }

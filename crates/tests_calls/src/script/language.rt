@@ -25,7 +25,7 @@ pub(super) fn run(alloc: Global, script: &[u8]) -> Ending {
 }
 
 /// Asserts that a script ends this way, with this output.
-fn assert_runs(
+pub(super) fn assert_runs(
     rt: &(impl Abort + AllocGlobal),
     script: &[u8],
     end: Result<(), ScriptFault>,
@@ -47,10 +47,9 @@ fn after_preset(alloc: Global, line: &[u8]) -> Result<Vec<u8>, Fail> {
 
 /// Returns a line that ends in this number of letters.
 fn lettered(alloc: Global, start: &[u8], letters: usize) -> Result<Vec<u8>, Fail> {
+    let end = Vec::from_elem(alloc, b'a', letters)?;
     let mut line = Vec::from_slice(alloc, start)?;
-    for _ in 0..letters {
-        line.push(b'a')?;
-    }
+    line.extend_from_slice(end.as_slice())?;
     Ok(line)
 }
 
@@ -158,18 +157,23 @@ const BAD: [&[u8]; 101] = [
     b"1 snd 0 1 0-64 =a",
 ];
 
+/// Asserts that this line behind `preset` is bad.
+fn assert_bad(rt: &(impl Abort + AllocGlobal), line: &[u8]) -> Result<(), Fail> {
+    let script = after_preset(rt.alloc(), line)?;
+    let end = Err(ScriptFault::Line(2));
+    assert_runs(rt, script.as_slice(), end, b"line 2: bad\n");
+    Ok(())
+}
+
 #[test]
 fn names_bad_lines(rt: HostRuntime) -> Result<(), Fail> {
-    let bad = b"line 2: bad\n".as_slice();
     for line in BAD.iter() {
-        let script = after_preset(rt.alloc(), line)?;
-        assert_runs(&rt, script.as_slice(), Err(ScriptFault::Line(2)), bad);
+        assert_bad(&rt, line)?;
     }
-    for (start, letters) in [(b"1 snd 0 1 NOWAIT =".as_slice(), 8257), (b"#", 9000)] {
-        let line = lettered(rt.alloc(), start, letters)?;
-        let script = after_preset(rt.alloc(), line.as_slice())?;
-        assert_runs(&rt, script.as_slice(), Err(ScriptFault::Line(2)), bad);
-    }
+    let long_body = lettered(rt.alloc(), b"1 snd 0 1 NOWAIT =", 8257)?;
+    assert_bad(&rt, long_body.as_slice())?;
+    let long_comment = lettered(rt.alloc(), b"#", 9000)?;
+    assert_bad(&rt, long_comment.as_slice())?;
     let script = b"# one\n\n1 rcv 0 1 0 -\n#\nx\n1 rcv 0 1 0 -\n";
     let written = b"1 rcv ! EINVAL\nline 5: bad\n";
     assert_runs(&rt, script, Err(ScriptFault::Line(5)), written);
@@ -299,9 +303,16 @@ fn keeps_the_limits_of_a_queue(rt: HostRuntime) -> Result<(), Fail> {
     Ok(())
 }
 
+/// Returns a script of a receive in the millionth line, and these bytes behind it.
+fn long_script(alloc: Global, behind: &[u8]) -> Result<Vec<u8>, Fail> {
+    let mut script = Vec::from_elem(alloc, b'\n', 999_999)?;
+    script.extend_from_slice(b"1 rcv 0 1 0 -")?;
+    script.extend_from_slice(behind)?;
+    Ok(script)
+}
+
 #[test]
 fn ends_behind_the_millionth_line(rt: HostRuntime) -> Result<(), Fail> {
-    let last = b"1 rcv 0 1 0 -".as_slice();
     let ends = [
         (b"".as_slice(), Ok(())),
         (b"\n".as_slice(), Ok(())),
@@ -310,11 +321,9 @@ fn ends_behind_the_millionth_line(rt: HostRuntime) -> Result<(), Fail> {
         (b"\nx\n".as_slice(), Err(ScriptFault::Bound)),
     ];
     for (behind, end) in ends {
-        let mut script = Vec::from_elem(rt.alloc(), b'\n', 999_999)?;
-        script.extend_from_slice(last)?;
-        script.extend_from_slice(behind)?;
+        let script = long_script(rt.alloc(), behind)?;
         let ending = run(rt.alloc(), script.as_slice());
-        assert_eq!(rt; ending.end, end, "{behind:?}");
+        assert_is(&rt, (behind, ending.end), (behind, end));
         assert_is(
             &rt,
             ending.written.as_slice(),
