@@ -2,6 +2,7 @@
 use crate::parts::{assert_is, assert_that};
 use bitflags::Flags as _;
 use std::io::Write;
+use std::process::Abort;
 use sysv_model::{Errno, Flags};
 use sysv_script::{Head, Line, Operation, Text, line_of};
 use sysv_steps::{Call, Outcome};
@@ -66,6 +67,14 @@ fn orders_are_understood(rt: HostRuntime) {
     assert_that(&rt, line_of(b"wait 1").is_none());
 }
 
+/// Returns the call that a line starts.
+fn call_of<'a>(rt: &impl Abort, line: &'a [u8]) -> Call<Text<'a>, ()> {
+    match line_of(line) {
+        Some(Line::Start { call, .. }) => call,
+        _ => panic!(rt; "no start"),
+    }
+}
+
 #[test]
 fn each_call_is_understood(rt: HostRuntime) {
     let get = line_of(b"+1 get -4 CREAT+0600");
@@ -74,10 +83,7 @@ fn each_call_is_understood(rt: HostRuntime) {
     };
     assert_that(&rt, !goes);
     assert_that(&rt, matches!(call, Call::Get { key: -4, .. }));
-    let Some(Line::Start { call, .. }) = line_of(b"1 set 64 5 6 0640 70000") else {
-        panic!(rt; "no set");
-    };
-    let Call::Set { id, to } = call else {
+    let Call::Set { id, to } = call_of(&rt, b"1 set 64 5 6 0640 70000") else {
         panic!(rt; "no set");
     };
     assert_is(
@@ -85,14 +91,14 @@ fn each_call_is_understood(rt: HostRuntime) {
         (id, to.uid, to.gid, to.mode, to.qbytes),
         (64, 5, 6, 416, 70000),
     );
-    let Some(Line::Start { call, .. }) = line_of(b"2 rm 7") else {
-        panic!(rt; "no removal");
-    };
-    assert_that(&rt, matches!(call, Call::Remove { id: 7 }));
-    let Some(Line::Start { call, .. }) = line_of(b"2 stat 8") else {
-        panic!(rt; "no stat");
-    };
-    assert_that(&rt, matches!(call, Call::Stat { id: 8 }));
+    assert_that(
+        &rt,
+        matches!(call_of(&rt, b"2 rm 7"), Call::Remove { id: 7 }),
+    );
+    assert_that(
+        &rt,
+        matches!(call_of(&rt, b"2 stat 8"), Call::Stat { id: 8 }),
+    );
     assert_that(&rt, line_of(b"1 set 0 1 1 1000 5").is_none());
     assert_that(&rt, line_of(b"1 rm 0 ").is_none());
 }

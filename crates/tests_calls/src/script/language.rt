@@ -32,8 +32,9 @@ pub(super) fn assert_runs(
     written: &[u8],
 ) {
     let ending = run(rt.alloc(), script);
-    assert_eq!(rt; ending.end, end, "{script:?}");
-    assert!(rt; ending.written.as_slice() == written, "{script:?}");
+    assert_is(rt, (script, ending.end), (script, end));
+    let is_written = ending.written.as_slice() == written;
+    assert_is(rt, (script, is_written), (script, true));
 }
 
 /// Returns a script of `preset` and this line.
@@ -47,9 +48,11 @@ fn after_preset(alloc: Global, line: &[u8]) -> Result<Vec<u8>, Fail> {
 
 /// Returns a line that ends in this number of letters.
 fn lettered(alloc: Global, start: &[u8], letters: usize) -> Result<Vec<u8>, Fail> {
-    let end = Vec::from_elem(alloc, b'a', letters)?;
-    let mut line = Vec::from_slice(alloc, start)?;
-    line.extend_from_slice(end.as_slice())?;
+    let mut line = Vec::new(alloc);
+    line.extend_from_slice(start)?;
+    for _ in 0..letters {
+        line.push(b'a')?;
+    }
     Ok(line)
 }
 
@@ -165,15 +168,23 @@ fn assert_bad(rt: &(impl Abort + AllocGlobal), line: &[u8]) -> Result<(), Fail> 
     Ok(())
 }
 
+/// Asserts that a line of this start and this number of letters is bad.
+fn assert_bad_letters(
+    rt: &(impl Abort + AllocGlobal),
+    start: &[u8],
+    letters: usize,
+) -> Result<(), Fail> {
+    let line = lettered(rt.alloc(), start, letters)?;
+    assert_bad(rt, line.as_slice())
+}
+
 #[test]
 fn names_bad_lines(rt: HostRuntime) -> Result<(), Fail> {
     for line in BAD.iter() {
         assert_bad(&rt, line)?;
     }
-    let long_body = lettered(rt.alloc(), b"1 snd 0 1 NOWAIT =", 8257)?;
-    assert_bad(&rt, long_body.as_slice())?;
-    let long_comment = lettered(rt.alloc(), b"#", 9000)?;
-    assert_bad(&rt, long_comment.as_slice())?;
+    assert_bad_letters(&rt, b"1 snd 0 1 NOWAIT =", 8257)?;
+    assert_bad_letters(&rt, b"#", 9000)?;
     let script = b"# one\n\n1 rcv 0 1 0 -\n#\nx\n1 rcv 0 1 0 -\n";
     let written = b"1 rcv ! EINVAL\nline 5: bad\n";
     assert_runs(&rt, script, Err(ScriptFault::Line(5)), written);
@@ -291,8 +302,9 @@ const FULL_OUT: &[u8] = b"1 snd = 0
 #[test]
 fn keeps_the_limits_of_a_queue(rt: HostRuntime) -> Result<(), Fail> {
     assert_runs(&rt, FULL_IN, Ok(()), FULL_OUT);
-    let mut script = Vec::from_slice(rt.alloc(), b"preset\n")?;
+    let mut script = Vec::new(rt.alloc());
     let mut answers = Vec::new(rt.alloc());
+    script.extend_from_slice(b"preset\n")?;
     for _ in 0..256 {
         script.extend_from_slice(b"1 snd 0 1 NOWAIT =\n")?;
         answers.extend_from_slice(b"1 snd = 0\n")?;
@@ -335,8 +347,9 @@ fn ends_behind_the_millionth_line(rt: HostRuntime) -> Result<(), Fail> {
 
 #[test]
 fn gives_long_texts_back(rt: HostRuntime) -> Result<(), Fail> {
-    let mut script = Vec::from_slice(rt.alloc(), b"preset\n")?;
+    let mut script = Vec::new(rt.alloc());
     let mut answers = Vec::new(rt.alloc());
+    script.extend_from_slice(b"preset\n")?;
     for _ in 0..40 {
         script.extend_from_slice(b"1 snd 0 1 NOWAIT *8192\n2 rcv 0 8192 0 NOWAIT\n")?;
         answers.extend_from_slice(b"1 snd = 0\n2 rcv = 8192 type 1 =")?;
